@@ -1,0 +1,50 @@
+-- The bytes of a datum and of a key, in either order.
+use Rattle.std.specs.Prelude.{◌≡◌, ℕ, ◌≤◌, List, [], ◌∷◌, ◌++◌, length}
+use Rattle.std.specs.Int.{w32}
+use Rattle.dds_base.specs.declared.datum.Datum.{Datum}
+use Rattle.dds_base.specs.declared.key.Key.{Key}
+use Rattle.dds_base.specs.declared.endianness.Endianness.{Endianness}
+use Rattle.dds_base.specs.declared.endianness.Endianness.TheVariants.{Big, Little}
+use Rattle.dds_base.specs.Fields.{number}
+
+-- CDR_BE or CDR_LE
+abbrev pub representation : Endianness → List ℕ
+representation Big = 0 ∷ 0 ∷ []
+representation Little = 0 ∷ 1 ∷ []
+
+-- representation, options, key octets
+abbrev pub key_text : Endianness → List ℕ → Key → List ℕ
+key_text order options k = representation order ++ options ++ k.0
+
+-- the key form, the length of the value, the value
+abbrev pub datum_text : Endianness → List ℕ → Datum → List ℕ
+datum_text order options d = key_text order options d.key ++ number order w32 (length d.value) ++ d.value
+
+-- a key of 16 octets, and a value of at most 1,024
+pub record IsDatum (d : Datum) : Type 0 where
+  pub key : length d.key.0 ≡ 16
+  pub value : length d.value ≤ 1024
+
+-- The bytes begin with the datum, in one of the orders, whatever the two option octets, and whatever follows.
+pub record ReadsDatum (bytes : List ℕ) (d : Datum) : Type 0 where
+  pub order : Endianness
+  pub options : List ℕ
+  pub rest : List ℕ
+  pub two : length options ≡ 2
+  pub text : bytes ≡ datum_text order options d ++ rest
+  pub valid : IsDatum d
+
+pub record ReadsKey (bytes : List ℕ) (k : Key) : Type 0 where
+  pub order : Endianness
+  pub options : List ℕ
+  pub rest : List ℕ
+  pub two : length options ≡ 2
+  pub text : bytes ≡ key_text order options k ++ rest
+  pub valid : length k.0 ≡ 16
+
+-- the one written form: little-endian, options zero, nothing after it
+abbrev pub spelled_datum : Datum → List ℕ
+spelled_datum d = datum_text Little (0 ∷ 0 ∷ []) d
+
+abbrev pub spelled_key : Key → List ℕ
+spelled_key k = key_text Little (0 ∷ 0 ∷ []) k

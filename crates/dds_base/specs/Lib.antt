@@ -1,0 +1,4 @@
+pub mod Code
+pub mod Fields
+pub mod DatumText
+pub mod DatumAt

@@ -1,0 +1,48 @@
+//! Names of peers, writers and readers.
+
+ghost use Rattle.std.specs.Prelude.{◌≡◌, ◌++◌, length};
+
+/// What the GUIDs of one peer begin with.
+///
+/// RTPS 2.5, 8.2.4.1 (GuidPrefix_t).
+#[derive(Clone, Copy, Debug, PartialEq, Eq)]
+pub struct GuidPrefix(pub [u8; 12]);
+
+impl GuidPrefix {
+    /// The twelve octets, in their order.
+    pub fn as_slice(&self) -> &[u8]
+        ensures same { result.now ≡ self.now.0 }
+        ensures len { length self.now.0 ≡ 12 }
+    {
+        &self.0
+    }
+}
+
+/// A writer or a reader of a peer: three octets of a key, then the kind.
+///
+/// RTPS 2.5, 8.2.4.2 (EntityId_t) and 9.3.1.2: 0x02 is a writer, 0x07 a reader, each with a key; four zeros are
+/// ENTITYID_UNKNOWN.
+#[derive(Clone, Copy, Debug, PartialEq, Eq)]
+pub struct EntityId(pub [u8; 4]);
+
+impl EntityId {
+    /// No entity in particular: a receiver takes it for all that match.
+    pub const UNKNOWN: EntityId = EntityId([0; 4]);
+
+    /// The four octets, in their order.
+    pub fn as_slice(&self) -> &[u8]
+        ensures same { result.now ≡ self.now.0 }
+        ensures len { length self.now.0 ≡ 4 }
+    {
+        &self.0
+    }
+}
+
+/// The name of a writer or a reader among all peers.
+///
+/// RTPS 2.5, 8.2.4 (GUID_t).
+#[derive(Clone, Copy, Debug, PartialEq, Eq)]
+pub struct Guid {
+    pub prefix: GuidPrefix,
+    pub entity: EntityId,
+}

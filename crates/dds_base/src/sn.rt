@@ -1,0 +1,39 @@
+//! The number of a change.
+
+ghost use Rattle.std.specs.Prelude.{◌≡◌};
+
+use std::marker::Model;
+
+/// The number of a change of one writer, counted from 1.
+///
+/// RTPS 2.5, 8.3.5.4 (SequenceNumber_t).
+#[derive(Clone, Copy, Debug, PartialEq, Eq, PartialOrd, Ord)]
+pub struct Sn {
+    number: u64,
+}
+
+impl Model for Sn {
+    ghost use Rattle.std.specs.Prelude.{ℕ};
+
+    ghost Value = { ℕ };
+
+    ghost view = { λ s. s.number };
+
+    ghost inverse = { λ n. record { number = n } };
+}
+
+impl Sn {
+    /// The change of this number.
+    pub const fn new(number: u64) -> Self
+        ensures { result ≡ number }
+    {
+        Sn { number }
+    }
+
+    /// The number.
+    pub const fn number(self) -> u64
+        ensures { result ≡ self }
+    {
+        self.number
+    }
+}
