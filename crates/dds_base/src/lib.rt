@@ -1,25 +1,43 @@
 //! What every crate of a peer speaks of: keys, values and their bytes, names, numbers, changes, what happens at a
-//! reader and at a writer, and the configuration.
+//! reader, and the configuration.
 //!
-//! `specs/` holds the definitions that the contracts of all crates share.
+//! `specs/` holds the definitions that the contracts of several crates share.
 #![tactic(auto)]
 
+mod change;
 mod code;
+mod config;
 mod datum;
 mod endianness;
 mod field;
 mod guid;
+mod handle;
+mod happening;
 mod key;
+mod mask;
+mod moment;
 mod octets;
+mod qos;
+mod sample;
+mod sequence;
 mod sn;
 #[cfg(test)]
 mod tests;
 
+pub use change::{Change, ChangeKind};
 pub use code::Code;
+pub use config::{Config, PeerConfig, ReaderConfig, WriterConfig};
 pub use datum::{Datum, MAX_VALUE, decode_datum, decode_key, encode_datum, encode_key};
 pub use endianness::Endianness;
 pub use field::{take_octets, take_u16, take_u32};
 pub use guid::{EntityId, Guid, GuidPrefix};
+pub use handle::Handle;
+pub use happening::{Arrival, Happening, SamplePosition, StatusKind};
 pub use key::Key;
+pub use mask::{InstanceStateMask, Masks, SampleStateMask, StatusMask, ViewStateMask};
+pub use moment::Moment;
 pub use octets::Octets;
+pub use qos::{HistoryQos, MatchedWriter, OwnershipQos, ReaderQos};
+pub use sample::{InstanceState, Picked, Sample, SampleInfo, SampleState, ViewState};
+pub use sequence::Sequence;
 pub use sn::Sn;

@@ -1,0 +1,39 @@
+//! The handle of an instance or of a writer.
+
+ghost use Rattle.std.specs.Prelude.{◌≡◌};
+
+use std::marker::Model;
+
+/// The handle of an instance, or of a matched writer, at one reader: both are counted from 1, and 0 names none.
+///
+/// DDS 1.4, 2.2.2.5 (SampleInfo: instance_handle, publication_handle), 2.3.3 (HANDLE_NIL).
+#[derive(Clone, Copy, Debug, PartialEq, Eq, PartialOrd, Ord)]
+pub struct Handle {
+    number: u64,
+}
+
+impl Model for Handle {
+    ghost use Rattle.std.specs.Prelude.{ℕ};
+
+    ghost Value = { ℕ };
+
+    ghost view = { λ s. s.number };
+
+    ghost inverse = { λ n. record { number = n } };
+}
+
+impl Handle {
+    /// The handle of this number.
+    pub const fn new(number: u64) -> Self
+        ensures { result ≡ number }
+    {
+        Handle { number }
+    }
+
+    /// The number.
+    pub const fn number(self) -> u64
+        ensures { result ≡ self }
+    {
+        self.number
+    }
+}

@@ -1,0 +1,39 @@
+//! A moment of a peer.
+
+ghost use Rattle.std.specs.Prelude.{◌≡◌};
+
+use std::marker::Model;
+
+/// A moment, in units of 2^-32 second; a peer begins at 0 and takes moments below 2^63.
+///
+/// DDS 1.4, 2.3.3 (Time_t); RTPS 2.5, 9.3.2.1 (seconds, then a fraction of 2^-32).
+#[derive(Clone, Copy, Debug, PartialEq, Eq, PartialOrd, Ord)]
+pub struct Moment {
+    units: u64,
+}
+
+impl Model for Moment {
+    ghost use Rattle.std.specs.Prelude.{ℕ};
+
+    ghost Value = { ℕ };
+
+    ghost view = { λ s. s.units };
+
+    ghost inverse = { λ n. record { units = n } };
+}
+
+impl Moment {
+    /// The moment of so many units.
+    pub const fn new(units: u64) -> Self
+        ensures { result ≡ units }
+    {
+        Moment { units }
+    }
+
+    /// The units of 2^-32 second.
+    pub const fn units(self) -> u64
+        ensures { result ≡ self }
+    {
+        self.units
+    }
+}
