@@ -2,3 +2,8 @@ pub mod Code
 pub mod Fields
 pub mod DatumText
 pub mod DatumAt
+pub mod Happening
+pub mod Ownership
+pub mod Instance
+pub mod Presence
+pub mod Access
