@@ -1,3 +1,4 @@
 pub mod RegistrationLaws
 pub mod PositionLaws
 pub mod TrackLaws
+pub mod KnownLaws

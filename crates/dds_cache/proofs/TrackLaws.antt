@@ -93,7 +93,8 @@ same-registrations i e h (w ∷ ws) same =
     ap (λ (b : Bool). (record { writer = w; is_registered = b }) ∷ map (registration_of i (e ∷ h)) ws) (same w)
     ∙ ap (λ (rs : List Registration). registration_of i h w ∷ rs) (same-registrations i e h ws same)
 
-accepted-other : (q : ReaderQos) (i : Key) (h : List Happening) (a : Arrival) → same_key a.change.key i ≡ false → accepted_kind q i h (Came a) ≡ None
+-- a change of another instance is not accepted for this one
+pub accepted-other : (q : ReaderQos) (i : Key) (h : List Happening) (a : Arrival) → same_key a.change.key i ≡ false → accepted_kind q i h (Came a) ≡ None
 accepted-other q i h a other = rw other refl
 
 registered-other : (i : Key) (w : ℕ) (h : List Happening) (a : Arrival) → same_key a.change.key i ≡ false → is_registered i w (Came a ∷ h) ≡ is_registered i w h

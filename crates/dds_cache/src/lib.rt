@@ -10,6 +10,8 @@
 
 
 mod history;
+mod instances;
+mod masks;
 mod registration;
 mod track;
 
