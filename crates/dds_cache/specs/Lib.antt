@@ -1,2 +1,3 @@
 pub mod Registration
 pub mod Track
+pub mod Matching

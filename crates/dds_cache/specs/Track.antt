@@ -1,5 +1,5 @@
 -- What is known of one instance when it was followed through what happened so far.
-use Rattle.std.specs.Prelude.{◌≡◌, ℕ, ◌+◌, ◌-◌, ◌≤◌, List, ◌∷◌, length, map, Bool, true, false, ◌&&◌, ◌||◌, not, Option, Some, if◌then◌else◌}
+use Rattle.std.specs.Prelude.{◌≡◌, ℕ, ◌+◌, ◌≤◌, List, ◌∷◌, length, map, Bool, true, false, ◌&&◌, ◌||◌, not, Option, Some, if◌then◌else◌}
 use Rattle.std.specs.List.{list_any}
 use Rattle.dds_base.specs.declared.key.Key.{Key}
 use Rattle.dds_base.specs.declared.happening.Happening.{Happening}
@@ -9,7 +9,7 @@ use Rattle.dds_base.specs.declared.qos.ReaderQos.{ReaderQos}
 use Rattle.dds_base.specs.Happening.{same_key}
 use Rattle.dds_base.specs.Ownership.{publication_handles}
 use Rattle.dds_base.specs.Instance.{or_else, is_write, is_disposed, is_without_writers, last_accepted, state_after, disposed_generations, no_writers_generations, latest_rebirth}
-use Rattle.dds_base.specs.Presence.{becomes_not_alive, last_marker, accepted_writes, ends_with_write, keeps, is_at}
+use Rattle.dds_base.specs.Presence.{becomes_not_alive, last_marker, accepted_writes, ends_with_write}
 use Rattle.dds_cache.specs.declared.track.InstanceTrack.{InstanceTrack}
 use Rattle.dds_cache.specs.Registration.{registration_of, is_there, accepted_among, noted}
 
@@ -38,10 +38,6 @@ state_of_track t = state_after t.last_accepted (not (list_any is_there t.registr
 
 abbrev pub one_if : Bool → ℕ
 one_if b = if b then 1 else 0
-
--- a position with this track is that of a kept write or of the last marker, by the track of all that happened
-abbrev pub is_candidate : ReaderQos → InstanceTrack → InstanceTrack → ℕ → Bool
-is_candidate q track whole position = (track.ends_with_write && keeps q.history (whole.accepted_writes - track.accepted_writes)) || is_at whole.last_marker position
 
 -- a track takes up the entry of position n
 pub record Advances (q : ReaderQos) (i : Key) (e : Happening) (n : ℕ) (old new : InstanceTrack) : Type 0 where

@@ -9,10 +9,13 @@
 
 
 
+mod found;
 mod history;
+mod instance;
 mod instances;
 mod masks;
 mod registration;
+mod returned;
 mod track;
 
 
