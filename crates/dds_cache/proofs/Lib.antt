@@ -2,3 +2,4 @@ pub mod RegistrationLaws
 pub mod PositionLaws
 pub mod TrackLaws
 pub mod KnownLaws
+pub mod MatchingLaws

@@ -9,6 +9,7 @@
 
 
 
+mod access;
 mod found;
 mod history;
 mod instance;

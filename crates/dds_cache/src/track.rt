@@ -120,7 +120,7 @@ fn first_there(first: Option<ChangeKind>, second: Option<ChangeKind>) -> Option<
 
 impl InstanceTrack {
     /// Of an instance of which nothing has come.
-    fn new(alloc: Global, qos: &ReaderQos) -> Result<Self, AllocError>
+    pub fn new(alloc: Global, qos: &ReaderQos) -> Result<Self, AllocError>
         ensures { (key : Key) → IfOk result (λ track. Tracks qos.now key [] track) }
     {
         Ok(InstanceTrack {
