@@ -3,3 +3,4 @@ pub mod PositionLaws
 pub mod TrackLaws
 pub mod KnownLaws
 pub mod MatchingLaws
+pub mod CollectionLaws

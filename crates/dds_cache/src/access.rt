@@ -1,12 +1,11 @@
 //! What a read or a take returns.
 
-ghost use Rattle.std.specs.Prelude.{◌≡◌, ◌++◌, ◌∷◌, ◌<◌, ◌^◌, List, length, drop, IfOk, OnOk};
+ghost use Rattle.std.specs.Prelude.{◌≡◌, ◌++◌, ◌∷◌, ◌<◌, ◌^◌, List, length, map, IfOk, IfErr, OnOk};
 ghost use Rattle.std.specs.List.{flat_map};
 ghost use Rattle.dds_base.specs.declared.happening.Happening.{Happening};
 ghost use Rattle.dds_base.specs.Happening.{as_of};
 ghost use Rattle.dds_base.specs.Instance.{known_instances};
-ghost use Rattle.dds_base.specs.Presence.{ends_with_write};
-ghost use Rattle.dds_base.specs.Access.{at_most, picked_samples, no_filter, collection_of, infos_of, value_of};
+ghost use Rattle.dds_base.specs.Access.{picked_samples, no_filter, picked_of, infos_of, collection_of};
 ghost use Rattle.dds_cache.specs.Matching.{IsInstance, IsDescribed, matching_of, value_if};
 
 use crate::found::Found;
@@ -14,9 +13,8 @@ use crate::history::{history_at, split_at_position};
 use crate::instance::InstanceAtCall;
 use crate::instances::known_keys;
 use crate::track::InstanceTrack;
-use dds_base::{
-    Happening, Key, Masks, Octets, Picked, ReaderQos, Sample, SampleInfo, SamplePosition,
-};
+use dds_base::{Code, Happening, Key, Masks, Octets, ReaderQos, Sample, SampleInfo, SamplePosition};
+use dds_info::fill;
 use std::alloc::{AllocError, Global};
 
 /// Adds the matching samples of one instance, by position.
@@ -100,4 +98,44 @@ fn value_at(
         }
     }
     Ok(Octets::from_vec(value))
+}
+
+/// Samples with their infos, each with its key and its value.
+fn valued(
+    alloc: Global,
+    qos: &ReaderQos,
+    entries: &[Happening],
+    samples: &[SamplePosition],
+    infos: &[SampleInfo],
+) -> Result<Vec<Sample>, AllocError>
+    requires { infos.now ≡ infos_of (map (picked_of qos.now entries.now) samples.now) }
+    ensures { IfOk result (λ collection. collection.items ≡ collection_of qos.now entries.now samples.now) }
+{
+    let mut collection = Vec::with_capacity(alloc, samples.len())?;
+    for at in 0..samples.len() {
+        let sample = samples[at];
+        let info = infos[at];
+        let value = value_at(alloc, entries, sample.position, info.valid_data)?;
+        collection.push(Sample {
+            key: sample.key,
+            value,
+            info,
+        })?;
+    }
+    Ok(collection)
+}
+
+/// The picked samples, each with its key, its value and its info.
+pub fn collect(
+    alloc: Global,
+    qos: &ReaderQos,
+    entries: &[Happening],
+    found: &Found,
+) -> Result<Vec<Sample>, Code>
+    requires { IsDescribed qos.now entries.now found.now }
+    ensures ok { IfOk result (λ samples. samples.items ≡ collection_of qos.now entries.now found.now.samples.items) }
+    ensures memory { IfErr result (λ e. e ≡ Code.Memory) }
+{
+    let infos = fill(alloc, &found.picked)?;
+    Ok(valued(alloc, qos, entries, &found.samples, &infos)?)
 }

@@ -15,9 +15,14 @@ mod history;
 mod instance;
 mod instances;
 mod masks;
+mod reader_cache;
 mod registration;
 mod returned;
 mod track;
 
 
 
+#[cfg(test)]
+mod tests;
+
+pub use reader_cache::ReaderCache;
