@@ -58,10 +58,10 @@ picked-append f (x ∷ xs) s = ap (λ (ps : List Picked). f x ∷ ps) (picked-ap
 pub described-push : (q : ReaderQos) (h : List Happening) (old new : Found) (s : SamplePosition) (p : Picked) → IsDescribed q h old → new.samples.items ≡ old.samples.items ++ s ∷ [] → new.picked.items ≡ old.picked.items ++ p ∷ [] → p ≡ picked_of q h s → own_generations p < 2 ^ 64 → IsDescribed q h new
 described-push q h old new s p before samples picked is small = record {
   described =
-    picked
-    ∙ (ap (λ (ps : List Picked). ps ++ p ∷ []) before.described
-    ∙ (ap (λ (x : Picked). map (picked_of q h) old.samples.items ++ x ∷ []) is
-    ∙ (sym (picked-append (picked_of q h) old.samples.items s) ∙ ap (λ (ss : List SamplePosition). map (picked_of q h) ss) (sym samples))));
+      picked
+      ∙ (ap (λ (ps : List Picked). ps ++ p ∷ []) before.described
+      ∙ (ap (λ (x : Picked). map (picked_of q h) old.samples.items ++ x ∷ []) is
+      ∙ (sym (picked-append (picked_of q h) old.samples.items s) ∙ ap (λ (ss : List SamplePosition). map (picked_of q h) ss) (sym samples))));
   small = subst (λ (ps : List Picked). All (λ p. own_generations p < 2 ^ 64) ps) (sym picked) (All-append (λ p. own_generations p < 2 ^ 64) old.picked.items (p ∷ []) before.small (All-cons (λ p. own_generations p < 2 ^ 64) p [] small (All-nil (λ p. own_generations p < 2 ^ 64))));
 }
 
@@ -82,9 +82,9 @@ at_most-All P (Some n) xs all = All-take P n xs all
 pub described-cut : (q : ReaderQos) (h : List Happening) (old new : Found) (max : Option ℕ) → IsDescribed q h old → new.samples.items ≡ at_most max old.samples.items → new.picked.items ≡ at_most max old.picked.items → IsDescribed q h new
 described-cut q h old new max before samples picked = record {
   described =
-    picked
-    ∙ (ap (λ (ps : List Picked). at_most max ps) before.described
-    ∙ (at_most-map (picked_of q h) max old.samples.items ∙ ap (λ (ss : List SamplePosition). map (picked_of q h) ss) (sym samples)));
+      picked
+      ∙ (ap (λ (ps : List Picked). at_most max ps) before.described
+      ∙ (at_most-map (picked_of q h) max old.samples.items ∙ ap (λ (ss : List SamplePosition). map (picked_of q h) ss) (sym samples)));
   small = subst (λ (ps : List Picked). All (λ p. own_generations p < 2 ^ 64) ps) (sym picked) (at_most-All (λ p. own_generations p < 2 ^ 64) max old.picked.items before.small);
 }
 

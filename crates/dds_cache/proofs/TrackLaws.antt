@@ -64,8 +64,8 @@ tracks-next q i h e old new tracks step =
     let registrations : new.registrations.items ≡ map (registration_of i (e ∷ h)) (publication_handles q) = step.notes ∙ noted-registrations q i h e old.registrations.items tracks.registrations_are in
     let last : new.last_accepted ≡ last_accepted q i (e ∷ h) = step.accepts ∙ (ap (λ (k : Option ChangeKind). or_else k old.last_accepted) kind ∙ ap (λ (k : Option ChangeKind). or_else (accepted_kind q i h e) k) tracks.last_is) in
     let after : state_of_track new ≡ instance_state_of q i (e ∷ h) =
-        ap (λ (k : Option ChangeKind). state_after k (not (list_any is_there new.registrations.items))) last
-        ∙ ap (λ (b : Bool). state_after (last_accepted q i (e ∷ h)) b) (sym (nobody-there q i (e ∷ h) new.registrations.items registrations)) in
+    ap (λ (k : Option ChangeKind). state_after k (not (list_any is_there new.registrations.items))) last
+    ∙ ap (λ (b : Bool). state_after (last_accepted q i (e ∷ h)) b) (sym (nobody-there q i (e ∷ h) new.registrations.items registrations)) in
     let one : one_if (is_write (accepted_among q i old.registrations.items e)) ≤ 1 = one_if-bound (is_write (accepted_among q i old.registrations.items e)) in
     let two : one_if (is_write (accepted_among q i old.registrations.items e) && is_disposed (state_of_track old)) + one_if (is_write (accepted_among q i old.registrations.items e) && is_without_writers (state_of_track old)) ≤ 1 = one-rebirth (is_write (accepted_among q i old.registrations.items e)) (state_of_track old) in
     record {
@@ -127,8 +127,8 @@ tracks-other q i h e t other tracks =
     let last : t.last_accepted ≡ last_accepted q i (e ∷ h) = tracks.last_is ∙ ap (λ (k : Option ChangeKind). or_else k (last_accepted q i h)) none in
     let before : state_of_track t ≡ instance_state_of q i h = state-tracked q i h t tracks in
     let after : state_of_track t ≡ instance_state_of q i (e ∷ h) =
-        ap (λ (k : Option ChangeKind). state_after k (not (list_any is_there t.registrations.items))) last
-        ∙ ap (λ (b : Bool). state_after (last_accepted q i (e ∷ h)) b) (sym (nobody-there q i (e ∷ h) t.registrations.items registrations)) in
+    ap (λ (k : Option ChangeKind). state_after k (not (list_any is_there t.registrations.items))) last
+    ∙ ap (λ (b : Bool). state_after (last_accepted q i (e ∷ h)) b) (sym (nobody-there q i (e ∷ h) t.registrations.items registrations)) in
     record {
       registrations_are = registrations;
       last_is = last;

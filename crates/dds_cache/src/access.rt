@@ -13,7 +13,9 @@ use crate::history::{history_at, split_at_position};
 use crate::instance::InstanceAtCall;
 use crate::instances::known_keys;
 use crate::track::InstanceTrack;
-use dds_base::{Code, Happening, Key, Masks, Octets, ReaderQos, Sample, SampleInfo, SamplePosition};
+use dds_base::{
+    Code, Happening, Key, Masks, Octets, ReaderQos, Sample, SampleInfo, SamplePosition,
+};
 use dds_info::fill;
 use std::alloc::{AllocError, Global};
 

@@ -56,7 +56,10 @@ fn is_kept_position(
     ensures { result ≡ is_candidate qos.now whole.now track.now position }
 {
     track.ends_with_write
-        && is_kept(qos.history, whole.accepted_writes.saturating_sub(track.accepted_writes))
+        && is_kept(
+            qos.history,
+            whole.accepted_writes.saturating_sub(track.accepted_writes),
+        )
         || is_position(whole.last_marker, position)
 }
 
@@ -115,7 +118,12 @@ impl InstanceAtCall {
         let track = InstanceTrack::of(alloc, qos, key, entries)?;
         let view = view_since(entries, key, track.latest_rebirth);
         let handle = Handle::new(handle_number(key, keys));
-        Ok(InstanceAtCall { key, handle, track, view })
+        Ok(InstanceAtCall {
+            key,
+            handle,
+            track,
+            view,
+        })
     }
 
     fn has_present(
@@ -156,8 +164,7 @@ impl InstanceAtCall {
         requires tracked { Tracks qos.now self.now.key (as_of position entries.now) track.now }
         ensures { result ≡ (is_present qos.now entries.now self.now.key position && is_asked_for qos.now entries.now masks (sample_at self.now.key position)) }
     {
-        self.has_present(qos, entries, track, position)
-            && self.meets(qos, entries, masks, position)
+        self.has_present(qos, entries, track, position) && self.meets(qos, entries, masks, position)
     }
 
     /// What is known of the sample of an entry before its ranks, by the track up to it.

@@ -4,11 +4,6 @@
 //! Not here: which changes come, and when (the reader's protocol).
 #![tactic(auto)]
 
-
-
-
-
-
 mod access;
 mod found;
 mod history;
@@ -18,11 +13,8 @@ mod masks;
 mod reader_cache;
 mod registration;
 mod returned;
-mod track;
-
-
-
 #[cfg(test)]
 mod tests;
+mod track;
 
 pub use reader_cache::ReaderCache;

@@ -98,7 +98,10 @@ impl ReaderCache {
     {
         let found = pick(self.alloc, &self.qos, &self.entries, max, masks)?;
         let samples = collect(self.alloc, &self.qos, &self.entries, &found)?;
-        let Found { samples: positions, .. } = found;
+        let Found {
+            samples: positions,
+            ..
+        } = found;
         Ok(Access { positions, samples })
     }
 
