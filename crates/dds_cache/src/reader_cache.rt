@@ -1,9 +1,9 @@
 //! A reader's cache: what happened at the reader, stored.
 
-ghost use Rattle.std.specs.Prelude.{◌≡◌, ◌∷◌, [], List, OnOk, OnErr, IfOk, IfErr};
+ghost use Rattle.std.specs.Prelude.{◌≡◌, ◌∷◌, [], if◌then◌else◌, List, OnOk, OnErr, IfOk, IfErr};
 ghost use Rattle.dds_base.specs.declared.happening.Happening.{Happening};
 ghost use Rattle.dds_base.specs.declared.happening.Happening.TheVariants.{Came, Died, Read, Took};
-ghost use Rattle.dds_base.specs.declared.code.Code.TheVariants.{Memory};
+ghost use Rattle.dds_base.specs.declared.code.Code.TheVariants.{Memory, NoData};
 ghost use Rattle.dds_base.specs.Ownership.{IsMatched};
 ghost use Rattle.dds_base.specs.Access.{picked_samples, no_filter, collection_of};
 ghost use Rattle.dds_cache.specs.Standing.{qos_of, StandsFor, Answers, AfterAccess};
@@ -119,13 +119,10 @@ impl ReaderCache {
         ensures after { (h : List Happening) → StandsFor self.old h → AfterAccess Read self.old h max masks result self.new }
         ensures qos { qos_of self.new ≡ qos_of self.old }
     {
-        let access = self.access(max, masks)?;
-        let is_empty = access.positions.is_empty();
-        self.enter(Happening::Read(Sequence::from_vec(access.positions)))?;
-        if is_empty {
-            return Err(Code::NoData);
-        }
-        Ok(Sequence::from_vec(access.samples))
+        let Access { positions, samples } = self.access(max, masks)?;
+        let is_empty = positions.is_empty();
+        self.enter(Happening::Read(Sequence::from_vec(positions)))?;
+        answer_of(is_empty, samples)
     }
 
     /// Takes the present samples that meet the masks, by instance and then in the order of arrival, `max` at most
@@ -142,13 +139,21 @@ impl ReaderCache {
         ensures after { (h : List Happening) → StandsFor self.old h → AfterAccess Took self.old h max masks result self.new }
         ensures qos { qos_of self.new ≡ qos_of self.old }
     {
-        let access = self.access(max, masks)?;
-        let is_empty = access.positions.is_empty();
-        self.enter(Happening::Took(Sequence::from_vec(access.positions)))?;
-        if is_empty {
-            return Err(Code::NoData);
-        }
-        Ok(Sequence::from_vec(access.samples))
+        let Access { positions, samples } = self.access(max, masks)?;
+        let is_empty = positions.is_empty();
+        self.enter(Happening::Took(Sequence::from_vec(positions)))?;
+        answer_of(is_empty, samples)
+    }
+}
+
+/// The samples of an access, or that there is none.
+fn answer_of(is_empty: bool, samples: Vec<Sample>) -> Result<Sequence<Sample>, Code>
+    ensures { result ≡ (if is_empty then Err NoData else Ok samples.items) }
+{
+    if is_empty {
+        Err(Code::NoData)
+    } else {
+        Ok(Sequence::from_vec(samples))
     }
 }
 
