@@ -1,6 +1,6 @@
 -- The owner among registered writers: there is one, it is the only one, and the definition that computes finds it.
-use Rattle.std.proofs.Common.{◌≡◌, ◌≢◌, ℕ, zero, suc, ◌+◌, ◌<◌, ◌≤◌, List, [], ◌∷◌, length, get_or, Bool, true, false, IsTrue, not, ◌==◌, ◌&&◌, ◌||◌, Option, Some, None, IsSome, ◌⊎◌, inl, inr, ⊎_elim, refl, sym, ap, subst, ◌∙◌, cond, arith, eqb-true, slice_get}
-use Rattle.std.specs.Prelude.{find, Contains, ◌↔◌}
+use Rattle.std.proofs.Common.{◌≡◌, ◌≢◌, ℕ, zero, suc, ◌+◌, ◌<◌, ◌≤◌, List, [], ◌∷◌, length, get_or, Bool, true, false, IsTrue, ◌==◌, ◌||◌, Option, Some, None, IsSome, ◌⊎◌, inl, inr, ⊎_elim, refl, sym, ap, subst, ◌∙◌, cond, arith, eqb-true, slice_get}
+use Rattle.std.specs.Prelude.{find, Contains}
 use Rattle.std.specs.List.{filter, list_any, list_all}
 use Rattle.std.specs.Cmp.{IsTotalOrder}
 use Rattle.std.specs.Cmp.Lexicographic.{slice_cmp}
@@ -16,7 +16,7 @@ use Rattle.dds_base.specs.declared.guid.Guid.{Guid}
 use Rattle.dds_base.specs.declared.happening.Happening.{Happening}
 use Rattle.dds_base.specs.declared.qos.MatchedWriter.{MatchedWriter}
 use Rattle.dds_base.specs.declared.qos.ReaderQos.{ReaderQos}
-use Rattle.dds_base.specs.Ownership.{numbers_from, publication_handles, IsMatched, is_registered, registered_writers, guid_cmp, writer_cmp, writer_of, is_above, outranks, outranks_all, IsOwner, owner_of, HaveOwnGuids}
+use Rattle.dds_base.specs.Ownership.{numbers_from, IsMatched, is_registered, registered_writers, guid_cmp, writer_cmp, writer_of, is_above, outranks, outranks_all, IsOwner, owner_of, HaveOwnGuids}
 
 -- ---- the order of writers
 
@@ -117,10 +117,10 @@ outranks_all-above q [] v w above all = refl
 outranks_all-above q (x ∷ ws) v w above all =
     let parts = and_parts ((x == v) || outranks q v x) (outranks_all q ws v) all in
     let here : ((x == w) || outranks q w x) ≡ true =
-        ⊎_elim
-        (λ same. or_right (x == w) (outranks q w x) (ap (λ (n : ℕ). outranks q w n) (eqb-true x v same) ∙ above))
-        (λ more. or_right (x == w) (outranks q w x) (outranks-trans (writer_of q.writers w) (writer_of q.writers v) (writer_of q.writers x) above more))
-        (or_cases (x == v) (outranks q v x) parts.0) in
+    ⊎_elim
+    (λ same. or_right (x == w) (outranks q w x) (ap (λ (n : ℕ). outranks q w n) (eqb-true x v same) ∙ above))
+    (λ more. or_right (x == w) (outranks q w x) (outranks-trans (writer_of q.writers w) (writer_of q.writers v) (writer_of q.writers x) above more))
+    (or_cases (x == v) (outranks q v x) parts.0) in
     and_from ((x == w) || outranks q w x) (outranks_all q ws w) here (outranks_all-above q ws v w above parts.1)
 
 eqb-refl : (n : ℕ) → (n == n) ≡ true
@@ -146,14 +146,14 @@ greatest q w (v ∷ ws) own matched =
     ⊎_elim
     (λ same. keep (or_left (w == m) (outranks q m w) same))
     (λ other. ⊎_elim
-      (λ above. record {
-        writer = w;
-        matched = matched.0;
-        among = or_left (w == w) (is_one_of (v ∷ ws) w) (eqb-refl w);
-        above = and_from ((w == w) || outranks q w w) (outranks_all q (v ∷ ws) w) (or_left (w == w) (outranks q w w) (eqb-refl w)) (outranks_all-above q (v ∷ ws) m w above rest.above);
-      })
-      (λ below. keep (or_right (w == m) (outranks q m w) below))
-      (outranks-either q w m own matched.0 rest.matched (eqb-false w m other)))
+    (λ above. record {
+      writer = w;
+      matched = matched.0;
+      among = or_left (w == w) (is_one_of (v ∷ ws) w) (eqb-refl w);
+      above = and_from ((w == w) || outranks q w w) (outranks_all q (v ∷ ws) w) (or_left (w == w) (outranks q w w) (eqb-refl w)) (outranks_all-above q (v ∷ ws) m w above rest.above);
+    })
+    (λ below. keep (or_right (w == m) (outranks q m w) below))
+    (outranks-either q w m own matched.0 rest.matched (eqb-false w m other)))
     (cases_Bool (w == m))
 
 -- ---- a search of a list
@@ -254,9 +254,10 @@ owner-exists q i h own some = exists-in q (registered_writers q i h) own (number
 
 -- a writer outranks each other one of a list exactly where it is the owner among them and itself
 pub owner-among : (q : ReaderQos) (ws : List ℕ) (w : ℕ) → (IsTrue (outranks_all q ws w) → IsOwner q (w ∷ ws) w) × (IsOwner q (w ∷ ws) w → IsTrue (outranks_all q ws w))
-owner-among q ws w =
-    (λ above. owner-is q (w ∷ ws) w (or_left (w == w) (is_one_of ws w) (eqb-refl w)) (and_from ((w == w) || outranks q w w) (outranks_all q ws w) (or_left (w == w) (outranks q w w) (eqb-refl w)) above),
-    λ owner. above-each q ws w (λ v among differ. owner.is_greatest v (contains-from (w ∷ ws) v (or_right (w == v) (is_one_of ws v) among)) differ))
+owner-among q ws w = (
+  λ above. owner-is q (w ∷ ws) w (or_left (w == w) (is_one_of ws w) (eqb-refl w)) (and_from ((w == w) || outranks q w w) (outranks_all q ws w) (or_left (w == w) (outranks q w w) (eqb-refl w)) above),
+  λ owner. above-each q ws w (λ v among differ. owner.is_greatest v (contains-from (w ∷ ws) v (or_right (w == v) (is_one_of ws v) among)) differ),
+)
   where
     above-each : (q : ReaderQos) (ws : List ℕ) (w : ℕ) → ((v : ℕ) → is_one_of ws v ≡ true → v ≢ w → outranks q w v ≡ true) → outranks_all q ws w ≡ true
     above-each q [] w each = refl

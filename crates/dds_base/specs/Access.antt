@@ -1,7 +1,7 @@
 -- What a read or a take returns: which samples, and what it says of each.
 --
 -- DDS 1.4, 2.2.2.5 (read, take and their instance forms; SampleInfo).
-use Rattle.std.specs.Prelude.{ℕ, ◌+◌, ◌-◌, List, [], ◌∷◌, length, take, Bool, true, false, ◌&&◌, ◌==◌, nat_lt, Option, None, Some, if◌then◌else◌, filter, map, count_by}
+use Rattle.std.specs.Prelude.{ℕ, ◌+◌, ◌-◌, List, [], ◌∷◌, take, Bool, true, false, ◌&&◌, ◌==◌, nat_lt, Option, None, Some, if◌then◌else◌, filter, map, count_by}
 use Rattle.std.specs.Int.RustNames.{bit_and}
 use Rattle.dds_base.specs.declared.key.Key.{Key}
 use Rattle.dds_base.specs.declared.happening.SamplePosition.{SamplePosition}

@@ -168,3 +168,19 @@ impl Masks {
         instances: InstanceStateMask::ANY,
     };
 }
+
+#[cfg(test)]
+mod tests {
+    use super::*;
+
+    /// DDS 1.4, 2.3.3: the bits of the states, and the groups of them.
+    #[test]
+    fn masks_have_the_bits_of_the_standard(rt: HostRuntime) {
+        assert_eq!(rt; SampleStateMask::NOT_READ.bits(), 2);
+        assert_eq!(rt; ViewStateMask::NOT_NEW.bits(), 2);
+        assert_eq!(rt; InstanceStateMask::NOT_ALIVE.bits(), 6);
+        assert_eq!(rt; StatusMask::LIVELINESS_CHANGED.bits(), 4096);
+        assert!(rt; Masks::ANY.instances.contains(InstanceStateMask::NOT_ALIVE));
+        assert_eq!(rt; SampleStateMask::from_bits_retain(8).bits(), 8);
+    }
+}

@@ -15,5 +15,4 @@ pub fn owner_is_found()
     ensures only { (q : ReaderQos) (ws : List ℕ) (v w : ℕ) → IsOwner q ws v → IsOwner q ws w → v ≡ w }
     ensures exists { (q : ReaderQos) (i : Key) (h : List Happening) → HaveOwnGuids q → registered_writers q i h ≢ [] → IsSome (owner_of q (registered_writers q i h)) }
     ensures among { (q : ReaderQos) (ws : List ℕ) (w : ℕ) → IsTrue (outranks_all q ws w) ↔ IsOwner q (w ∷ ws) w }
-{
-}
+{}

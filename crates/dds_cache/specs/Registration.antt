@@ -1,5 +1,5 @@
 -- Who is registered for an instance, as a list with an entry for each matched writer.
-use Rattle.std.specs.Prelude.{ℕ, List, Bool, true, false, ◌&&◌, ◌||◌, ◌==◌, not, Option, Some, None, if◌then◌else◌}
+use Rattle.std.specs.Prelude.{ℕ, List, Bool, false, ◌&&◌, ◌||◌, ◌==◌, not, Option, Some, None, if◌then◌else◌}
 use Rattle.std.specs.List.{list_all}
 use Rattle.dds_base.specs.declared.key.Key.{Key}
 use Rattle.dds_base.specs.declared.change.ChangeKind.{ChangeKind}
