@@ -9,7 +9,7 @@ use Rattle.dds_base.specs.declared.code.Code.{Code}
 use Rattle.dds_base.specs.declared.code.Code.TheVariants.{OutOfResources, Timeout}
 use Rattle.dds_base.specs.declared.qos.HistoryQos.{HistoryQos}
 use Rattle.dds_base.specs.declared.qos.HistoryQos.TheVariants.{KeepAll, KeepLast}
-use Rattle.dds_base.specs.Written.{is_key}
+use Rattle.dds_base.specs.Happening.{same_key}
 
 -- the history of a writer: its policy and limit, its changes in the order of their numbers, and for each matched
 -- reliable reader the number below which that reader has acknowledged all
@@ -25,7 +25,7 @@ change_at changes number = if nat_lt 0 number then slice_get changes (number - 1
 
 -- how many changes of the key have a greater number
 abbrev pub later_changes : List Change → ℕ → Key → ℕ
-later_changes changes number key = count_by (λ (c : Change). is_key c.key key) (drop number changes)
+later_changes changes number key = count_by (λ (c : Change). same_key c.key key) (drop number changes)
 
 -- KEEP_LAST n has dropped a change once n later changes of its key exist, of any kind; KEEP_ALL drops none
 abbrev pub is_dropped_by : HistoryQos → List Change → ℕ → Bool

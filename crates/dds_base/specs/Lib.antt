@@ -5,3 +5,8 @@ pub mod DatumAt
 pub mod Written
 pub mod Kept
 pub mod Refusal
+pub mod Happening
+pub mod Ownership
+pub mod Instance
+pub mod Presence
+pub mod Access

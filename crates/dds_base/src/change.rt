@@ -6,7 +6,7 @@ use crate::octets::Octets;
 
 /// What a change does to its instance.
 ///
-/// RTPS 2.5, 8.2.2 (ChangeKind_t), with the two of not-alive kinds told apart.
+/// RTPS 2.5, 8.2 (ChangeKind_t), with the two of not-alive kinds told apart.
 #[derive(Clone, Copy, Debug, PartialEq, Eq)]
 pub enum ChangeKind {
     Write,
@@ -18,7 +18,7 @@ pub enum ChangeKind {
 
 /// A change of one instance, as its writer made it.
 ///
-/// RTPS 2.5, 8.2.2 (CacheChange).
+/// RTPS 2.5, 8.2 (CacheChange).
 #[derive(Debug, Drop)]
 pub struct Change {
     pub kind: ChangeKind,

@@ -4,7 +4,7 @@ ghost use Rattle.std.specs.Prelude.{◌≡◌, ◌++◌, length};
 
 /// What the GUIDs of one peer begin with.
 ///
-/// RTPS 2.5, 8.2.4.1 (GuidPrefix_t).
+/// RTPS 2.5, 8.2 (GuidPrefix_t).
 #[derive(Clone, Copy, Debug, PartialEq, Eq)]
 pub struct GuidPrefix(pub [u8; 12]);
 
@@ -20,7 +20,7 @@ impl GuidPrefix {
 
 /// A writer or a reader of a peer: three octets of a key, then the kind.
 ///
-/// RTPS 2.5, 8.2.4.2 (EntityId_t) and 9.3.1.2: 0x02 is a writer, 0x07 a reader, each with a key; four zeros are
+/// RTPS 2.5, 8.2 (EntityId_t) and 9.3: 0x02 is a writer, 0x07 a reader, each with a key; four zeros are
 /// ENTITYID_UNKNOWN.
 #[derive(Clone, Copy, Debug, PartialEq, Eq)]
 pub struct EntityId(pub [u8; 4]);
@@ -40,7 +40,7 @@ impl EntityId {
 
 /// The name of a writer or a reader among all peers.
 ///
-/// RTPS 2.5, 8.2.4 (GUID_t).
+/// RTPS 2.5, 8.2 (GUID_t).
 #[derive(Clone, Copy, Debug, PartialEq, Eq)]
 pub struct Guid {
     pub prefix: GuidPrefix,

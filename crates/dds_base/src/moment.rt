@@ -6,7 +6,7 @@ use std::marker::Model;
 
 /// A moment, in units of 2^-32 second; a peer begins at 0 and takes moments below 2^63.
 ///
-/// DDS 1.4, 2.3.3 (Time_t); RTPS 2.5, 9.3.2.1 (seconds, then a fraction of 2^-32).
+/// DDS 1.4, 2.3.3 (Time_t); RTPS 2.5, 9.3 (seconds, then a fraction of 2^-32).
 #[derive(Clone, Copy, Debug, PartialEq, Eq, PartialOrd, Ord)]
 pub struct Moment {
     units: u64,

@@ -10,13 +10,13 @@ use Rattle.dds_base.specs.declared.key.Key.{Key}
 use Rattle.dds_base.specs.declared.change.Change.{Change}
 use Rattle.dds_base.specs.declared.qos.HistoryQos.{HistoryQos}
 use Rattle.dds_base.specs.declared.qos.HistoryQos.TheVariants.{KeepAll, KeepLast}
-use Rattle.dds_base.specs.Written.{is_key}
+use Rattle.dds_base.specs.Happening.{same_key}
 use Rattle.dds_history.specs.declared.held.HeldChange.{HeldChange}
 use Rattle.dds_history.specs.Held.{aged, with_change}
 use Rattle.dds_history.specs.Standing.{AreAged, change_of}
 
-pub is_key-refl : (a : Key) → is_key a a ≡ true
-is_key-refl a = (slice_eq-Decides {E = nat_eq} Decides-eqb a.0 a.0 (is_key a a) refl).1 refl
+pub same_key-refl : (a : Key) → same_key a a ≡ true
+same_key-refl a = (slice_eq-Decides {E = nat_eq} Decides-eqb a.0 a.0 (same_key a a) refl).1 refl
 
 -- the changes of aged entries
 pub changes-aged : (key : Key) (es : List HeldChange) → map change_of (map (aged key) es) ≡ map change_of es
@@ -25,23 +25,23 @@ changes-aged key (e ∷ es) = ap (λ (cs : List Change). e.change ∷ cs) (chang
 
 -- how many of these changes have the key
 abbrev of_key : Key → List Change → ℕ
-of_key key cs = count_by (λ (c : Change). is_key c.key key) cs
+of_key key cs = count_by (λ (c : Change). same_key c.key key) cs
 
 aged_head : (b : Bool) (remaining depth later : ℕ) → remaining ≡ depth - later → (if b then remaining - 1 else remaining) ≡ depth - (later + cond b 1 0)
 aged_head true remaining depth later h = omega arith
 aged_head false remaining depth later h = omega arith
 
-of_key-append : (key : Key) (cs : List Change) (c : Change) → of_key key (cs ++ c ∷ []) ≡ of_key key cs + cond (is_key c.key key) 1 0
-of_key-append key cs c = let e = sum_by-append (λ (x : Change). cond (is_key x.key key) 1 0) cs (c ∷ []) in omega (arith, e)
+of_key-append : (key : Key) (cs : List Change) (c : Change) → of_key key (cs ++ c ∷ []) ≡ of_key key cs + cond (same_key c.key key) 1 0
+of_key-append key cs c = let e = sum_by-append (λ (x : Change). cond (same_key x.key key) 1 0) cs (c ∷ []) in omega (arith, e)
 
 aged-more : (depth : ℕ) (c : Change) (es : List HeldChange) → AreAged (KeepLast depth) es → AreAged (KeepLast depth) (map (aged c.key) (es ++ record { change = c; remaining = depth + 1 } ∷ []))
-aged-more depth c [] h = (let e = ap (λ (b : Bool). cond b (depth + 1 - 1) (depth + 1)) (is_key-refl c.key) in omega (arith, e), tt)
+aged-more depth c [] h = (let e = ap (λ (b : Bool). cond b (depth + 1 - 1) (depth + 1)) (same_key-refl c.key) in omega (arith, e), tt)
 aged-more depth c (e ∷ es) h =
     let all : map change_of (map (aged c.key) (es ++ record { change = c; remaining = depth + 1 } ∷ [])) ≡ map change_of es ++ c ∷ [] =
     changes-aged c.key (es ++ record { change = c; remaining = depth + 1 } ∷ []) ∙ map-append change_of es (record { change = c; remaining = depth + 1 } ∷ []) in
     let counted = ap (λ (cs : List Change). of_key e.change.key cs) all in
     let more = of_key-append e.change.key (map change_of es) c in
-    let head = aged_head (is_key c.key e.change.key) e.remaining depth (of_key e.change.key (map change_of es)) h.0 in
+    let head = aged_head (same_key c.key e.change.key) e.remaining depth (of_key e.change.key (map change_of es)) h.0 in
     (omega (arith, head, counted, more), aged-more depth c es h.1)
 
 unaged-more : (c : Change) (es : List HeldChange) → AreAged KeepAll es → AreAged KeepAll (es ++ record { change = c; remaining = 1 } ∷ [])
@@ -56,9 +56,3 @@ pub changes-more : (policy : HistoryQos) (c : Change) (es : List HeldChange) →
 changes-more KeepAll c es = map-append change_of es (record { change = c; remaining = 1 } ∷ [])
 changes-more (KeepLast depth) c es =
     changes-aged c.key (es ++ record { change = c; remaining = depth + 1 } ∷ []) ∙ map-append change_of es (record { change = c; remaining = depth + 1 } ∷ [])
-
--- a loop that ages each entry, by what is read
-pub age_step : (key : Key) (xs ys : List HeldChange) (i : ℕ) (d v : HeldChange) → i < length xs → length ys ≡ length xs → ys ≡ map (aged key) (take i xs) ++ drop i xs → v ≡ aged key (get_or ys i d)
-    → set ys i v ≡ map (aged key) (take (i + 1) xs) ++ drop (i + 1) xs
-age_step key xs ys i d v lt len done is =
-    ap (λ (w : HeldChange). set ys i w) is ∙ map_over_more (aged key) xs ys i (get_or ys i d) lt done (get_or_default ys i d (get_or ys i d) (omega arith))

@@ -16,7 +16,7 @@ use Rattle.dds_base.specs.Kept.{WriterHistory, change_at, is_dropped_by, is_kept
 use Rattle.dds_history.specs.declared.held.HeldChange.{HeldChange}
 use Rattle.dds_history.specs.Held.{aged, with_change, kept_after}
 use Rattle.dds_history.specs.Standing.{Held, StandsFor, AreAged, change_of, remaining_before}
-use Rattle.dds_history.proofs.Aging.{is_key-refl, still-aged, changes-more}
+use Rattle.dds_history.proofs.Aging.{same_key-refl, still-aged, changes-more}
 
 -- the history that what is held stands for
 abbrev pub standing : HistoryQos → Option ℕ → List HeldChange → WriterHistory
@@ -109,7 +109,7 @@ kept-more (KeepLast depth) c es h =
     let more = sum_by-append (λ (e : HeldChange). one_if (nat_lt 0 (aged c.key e).remaining)) es (new ∷ []) in
     let full : depth + 1 - 1 ≡ depth = omega arith in
     let last : one_if (nat_lt 0 (aged c.key new).remaining) ≡ one_if (nat_lt 0 depth) =
-    ap (λ (b : Bool). one_if (nat_lt 0 (if b then depth + 1 - 1 else depth + 1))) (is_key-refl c.key) ∙ ap (λ (n : ℕ). one_if (nat_lt 0 n)) full in
+    ap (λ (b : Bool). one_if (nat_lt 0 (if b then depth + 1 - 1 else depth + 1))) (same_key-refl c.key) ∙ ap (λ (n : ℕ). one_if (nat_lt 0 n)) full in
     count_aged c.key (es ++ new ∷ []) ∙ omega (arith, more, last)
 
 -- the history with one more change is what is held with it

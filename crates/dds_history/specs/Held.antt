@@ -4,12 +4,12 @@ use Rattle.dds_base.specs.declared.key.Key.{Key}
 use Rattle.dds_base.specs.declared.change.Change.{Change}
 use Rattle.dds_base.specs.declared.qos.HistoryQos.{HistoryQos}
 use Rattle.dds_base.specs.declared.qos.HistoryQos.TheVariants.{KeepAll, KeepLast}
-use Rattle.dds_base.specs.Written.{is_key}
+use Rattle.dds_base.specs.Happening.{same_key}
 use Rattle.dds_history.specs.declared.held.HeldChange.{HeldChange}
 
 -- the change, once one more of this key was made
 abbrev pub aged : Key → HeldChange → HeldChange
-aged key e = record { change = e.change; remaining = (if is_key key e.change.key then e.remaining - 1 else e.remaining) }
+aged key e = record { change = e.change; remaining = (if same_key key e.change.key then e.remaining - 1 else e.remaining) }
 
 -- the changes, with one more
 abbrev pub with_change : HistoryQos → List HeldChange → Change → List HeldChange

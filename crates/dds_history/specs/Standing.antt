@@ -4,7 +4,7 @@ use Rattle.dds_base.specs.declared.change.Change.{Change}
 use Rattle.dds_base.specs.declared.key.Key.{Key}
 use Rattle.dds_base.specs.declared.qos.HistoryQos.{HistoryQos}
 use Rattle.dds_base.specs.declared.qos.HistoryQos.TheVariants.{KeepAll, KeepLast}
-use Rattle.dds_base.specs.Written.{is_key}
+use Rattle.dds_base.specs.Happening.{same_key}
 use Rattle.dds_base.specs.Kept.{WriterHistory}
 use Rattle.dds_history.specs.declared.held.HeldChange.{HeldChange}
 
@@ -20,7 +20,7 @@ change_of e = e.change
 -- so many more changes of the key drop a change that these follow; 1 where nothing is dropped
 abbrev pub remaining_before : HistoryQos → List Change → Key → ℕ
 remaining_before KeepAll later key = 1
-remaining_before (KeepLast depth) later key = depth - count_by (λ (c : Change). is_key c.key key) later
+remaining_before (KeepLast depth) later key = depth - count_by (λ (c : Change). same_key c.key key) later
 
 -- each change has what the later ones leave it
 abbrev pub AreAged : HistoryQos → List HeldChange → Type 0

@@ -1,0 +1,100 @@
+-- Who is registered for an instance at a reader, who owns it, and which changes are accepted.
+--
+-- DDS 1.4, 2.2.3 (OWNERSHIP, OWNERSHIP_STRENGTH, LIVELINESS), 2.2.2.4 (register_instance,
+-- unregister_instance).
+use Rattle.std.specs.Prelude.{ℕ, zero, suc, ◌+◌, ◌<◌, ◌≤◌, ◌≡◌, ◌≢◌, Contains, IsTrue, List, [], ◌∷◌, length, Bool, true, false, ◌&&◌, ◌||◌, ◌==◌, not, Option, None, Some, if◌then◌else◌, filter, find, slice_get}
+use Rattle.std.specs.List.{list_all}
+use Rattle.std.specs.Ordering.{ordering_then, int_cmp, nat_cmp, is_gt}
+use Rattle.std.specs.Cmp.Lexicographic.{slice_cmp}
+use Rattle.std.specs.declared.cmp.Ordering.{Ordering}
+use Rattle.dds_base.specs.declared.key.Key.{Key}
+use Rattle.dds_base.specs.declared.guid.Guid.{Guid}
+use Rattle.dds_base.specs.declared.change.ChangeKind.{ChangeKind}
+use Rattle.dds_base.specs.declared.happening.Happening.{Happening}
+use Rattle.dds_base.specs.declared.happening.Happening.TheVariants.{Came, Died}
+use Rattle.dds_base.specs.declared.qos.MatchedWriter.{MatchedWriter}
+use Rattle.dds_base.specs.declared.qos.ReaderQos.{ReaderQos}
+use Rattle.dds_base.specs.declared.qos.OwnershipQos.{OwnershipQos}
+use Rattle.dds_base.specs.declared.qos.OwnershipQos.TheVariants.{Shared, Exclusive}
+use Rattle.dds_base.specs.Happening.{same_key, is_write_or_dispose, is_unregister}
+
+-- the numbers of a list's elements, from k on
+abbrev pub numbers_from : {X : Type 0} → ℕ → List X → List ℕ
+numbers_from k [] = []
+numbers_from k (x ∷ xs) = k ∷ numbers_from (k + 1) xs
+
+-- the publication handles of the matched writers: their numbers from 1 (2.2.2.5, publication_handle)
+abbrev pub publication_handles : ReaderQos → List ℕ
+publication_handles q = numbers_from 1 q.writers
+
+-- w is a matched writer's publication handle
+abbrev pub IsMatched : ReaderQos → ℕ → Type 0
+IsMatched q w = (0 < w) × (w ≤ length q.writers)
+
+-- the entry registers writer w for instance i
+abbrev pub registers : Key → ℕ → Happening → Bool
+registers i w (Came a) = (same_key a.change.key i && (a.writer == w)) && is_write_or_dispose a.change.kind
+registers i w _ = false
+
+-- the entry ends w's registration for i: its unregister, or its death
+abbrev pub ends_registration : Key → ℕ → Happening → Bool
+ends_registration i w (Came a) = (same_key a.change.key i && (a.writer == w)) && is_unregister a.change.kind
+ends_registration i w (Died v now) = v == w
+ends_registration i w _ = false
+
+-- w is registered for i: a write or dispose of it came after all its unregisters of i and all its deaths
+abbrev pub is_registered : Key → ℕ → List Happening → Bool
+is_registered i w [] = false
+is_registered i w (e ∷ h) = not (ends_registration i w e) && (registers i w e || is_registered i w h)
+
+-- the writers that are registered for i
+abbrev pub registered_writers : ReaderQos → Key → List Happening → List ℕ
+registered_writers q i h = filter (λ w. is_registered i w h) (publication_handles q)
+
+-- the order of two GUIDs by their sixteen octets: the twelve of the prefix, then the four of the entity (RTPS 2.5, 8.2)
+abbrev pub guid_cmp : Guid → Guid → Ordering
+guid_cmp a b = ordering_then (slice_cmp nat_cmp a.prefix.0 b.prefix.0) (slice_cmp nat_cmp a.entity.0 b.entity.0)
+
+-- the order of two writers: by strength, and of equals the one with the smaller GUID is the greater
+abbrev pub writer_cmp : MatchedWriter → MatchedWriter → Ordering
+writer_cmp a b = ordering_then (int_cmp a.strength b.strength) (guid_cmp b.guid a.guid)
+
+-- the matched writer of a publication handle
+abbrev pub writer_of : List MatchedWriter → ℕ → Option MatchedWriter
+writer_of writers zero = None
+writer_of writers (suc at) = slice_get writers at
+
+abbrev pub is_above : Option MatchedWriter → Option MatchedWriter → Bool
+is_above (Some a) (Some b) = is_gt (writer_cmp a b)
+is_above _ _ = false
+
+-- v is stronger than w, or as strong with a smaller GUID
+abbrev pub outranks : ReaderQos → ℕ → ℕ → Bool
+outranks q v w = is_above (writer_of q.writers v) (writer_of q.writers w)
+
+-- w outranks each other writer of a list
+abbrev pub outranks_all : ReaderQos → List ℕ → ℕ → Bool
+outranks_all q ws w = list_all (λ v. (v == w) || outranks q w v) ws
+
+-- the owner among registered writers: one of them, which outranks each other one
+pub record IsOwner (q : ReaderQos) (ws : List ℕ) (w : ℕ) : Type 0 where
+  pub is_registered : Contains ws w
+  pub is_greatest : (v : ℕ) → Contains ws v → v ≢ w → IsTrue (outranks q w v)
+
+-- the owner, computed
+abbrev pub owner_of : ReaderQos → List ℕ → Option ℕ
+owner_of q ws = find (outranks_all q ws) ws
+
+-- no two matched writers have one GUID, as no two writers of a checked configuration have
+abbrev pub HaveOwnGuids : ReaderQos → Type 0
+HaveOwnGuids q = (v w : ℕ) (a b : MatchedWriter) → writer_of q.writers v ≡ Some a → writer_of q.writers w ≡ Some b → a.guid ≡ b.guid → v ≡ w
+
+-- SHARED lets every writer change an instance, EXCLUSIVE the owner among those registered before and itself
+abbrev pub admits : OwnershipQos → Bool → Bool
+admits Shared is_owner = true
+admits Exclusive is_owner = is_owner
+
+-- the kind of an accepted write or dispose of instance i that comes upon h; none for all else
+abbrev pub accepted_kind : ReaderQos → Key → List Happening → Happening → Option ChangeKind
+accepted_kind q i h (Came a) = if same_key a.change.key i && (is_write_or_dispose a.change.kind && admits q.ownership (outranks_all q (registered_writers q i h) a.writer)) then Some a.change.kind else None
+accepted_kind q i h _ = None

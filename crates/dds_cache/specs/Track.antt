@@ -1,0 +1,44 @@
+-- What is known of one instance when it was followed through what happened so far.
+use Rattle.std.specs.Prelude.{◌≡◌, ℕ, ◌+◌, ◌-◌, ◌≤◌, List, ◌∷◌, length, map, Bool, true, false, ◌&&◌, ◌||◌, not, Option, if◌then◌else◌}
+use Rattle.std.specs.List.{list_any}
+use Rattle.dds_base.specs.declared.key.Key.{Key}
+use Rattle.dds_base.specs.declared.happening.Happening.{Happening}
+use Rattle.dds_base.specs.declared.happening.Happening.TheVariants.{Came, Died}
+use Rattle.dds_base.specs.declared.sample.InstanceState.{InstanceState}
+use Rattle.dds_base.specs.declared.qos.ReaderQos.{ReaderQos}
+use Rattle.dds_base.specs.Happening.{same_key}
+use Rattle.dds_base.specs.Ownership.{publication_handles}
+use Rattle.dds_base.specs.Instance.{last_accepted, state_after, disposed_generations, no_writers_generations, latest_rebirth}
+use Rattle.dds_base.specs.Presence.{last_marker, accepted_writes, ends_with_write, keeps, is_at}
+use Rattle.dds_cache.specs.declared.track.InstanceTrack.{InstanceTrack}
+use Rattle.dds_cache.specs.Registration.{registration_of, is_there}
+
+-- the track has followed instance i through what happened
+pub record Tracks (q : ReaderQos) (i : Key) (h : List Happening) (t : InstanceTrack) : Type 0 where
+  pub registrations_are : t.registrations.items ≡ map (registration_of i h) (publication_handles q)
+  pub last_is : t.last_accepted ≡ last_accepted q i h
+  pub disposed_is : t.disposed_generations ≡ disposed_generations q i h
+  pub no_writers_is : t.no_writers_generations ≡ no_writers_generations q i h
+  pub rebirth_is : t.latest_rebirth ≡ latest_rebirth q i h
+  pub marker_is : t.last_marker ≡ last_marker q i h
+  pub writes_are : t.accepted_writes ≡ accepted_writes q i h
+  pub write_is : t.ends_with_write ≡ ends_with_write q i h
+  pub writes_fit : t.accepted_writes ≤ length h
+  pub generations_fit : t.disposed_generations + t.no_writers_generations ≤ length h
+
+-- the entry may change what is known of i
+abbrev pub concerns : Key → Happening → Bool
+concerns i (Came a) = same_key a.change.key i
+concerns i (Died w now) = true
+concerns i _ = false
+
+-- the state of the instance that a track has followed
+abbrev pub state_of_track : InstanceTrack → Option InstanceState
+state_of_track t = state_after t.last_accepted (not (list_any is_there t.registrations.items))
+
+abbrev pub one_if : Bool → ℕ
+one_if b = if b then 1 else 0
+
+-- a position with this track is that of a kept write or of the last marker, by the track of all that happened
+abbrev pub is_candidate : ReaderQos → InstanceTrack → InstanceTrack → ℕ → Bool
+is_candidate q track whole position = (track.ends_with_write && keeps q.history (whole.accepted_writes - track.accepted_writes)) || is_at whole.last_marker position
