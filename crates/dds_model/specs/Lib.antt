@@ -1,0 +1,12 @@
+pub mod Numbered
+pub mod Part
+pub mod Moves
+pub mod Calls
+pub mod Messages
+pub mod Claims
+pub mod Peer
+pub mod Machine
+pub mod World
+pub mod Runs
+pub mod Opening
+pub mod Laws
