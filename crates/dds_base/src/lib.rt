@@ -16,7 +16,10 @@ mod sn;
 mod tests;
 
 pub use code::Code;
-pub use datum::{Datum, MAX_VALUE, decode_datum, decode_key, encode_datum, encode_key};
+pub use datum::{
+    Datum, MAX_VALUE, decode_datum, decode_datum_key, decode_key, encode_datum, encode_key,
+    take_key,
+};
 pub use endianness::Endianness;
 pub use field::{take_octets, take_u16, take_u32};
 pub use guid::{EntityId, Guid, GuidPrefix};
