@@ -1,5 +1,5 @@
 -- Steps of peers, on claims that are true, are steps of the machine, and leave the claims true.
-use Rattle.std.proofs.Common.{◌≡◌, ◌⊎◌, ℕ, zero, suc, ◌+◌, ◌-◌, ◌<◌, ◌≤◌, List, [], ◌∷◌, ◌++◌, Some, true, Contains, subst, ap, sym, refl, ◌∙◌, inl, inr, ⊎_elim, arith, length, slice_get, map}
+use Rattle.std.proofs.Common.{◌≡◌, ◌⊎◌, ℕ, zero, suc, ◌-◌, ◌<◌, ◌≤◌, List, [], ◌∷◌, ◌++◌, Some, true, Contains, subst, ap, sym, refl, ◌∙◌, inl, inr, ⊎_elim, arith, length, slice_get}
 use Rattle.std.specs.Prelude.{slice_index_or}
 use Rattle.std.proofs.lemmas.List.{length-map}
 use Rattle.std.proofs.lemmas.Option.{same_Some, slice_get_within}
@@ -19,17 +19,17 @@ use Rattle.dds_model.specs.declared.reply.Move.{Move}
 use Rattle.dds_model.specs.declared.reply.Move.TheVariants.{Place, Acknowledged}
 use Rattle.dds_model.specs.declared.reply.PassedRun.{PassedRun}
 use Rattle.dds_model.specs.declared.reply.Reply.{Reply}
-use Rattle.dds_model.specs.declared.reply.Reply.TheVariants.{Done, Samples, Reported, Refused}
-use Rattle.dds_model.specs.Numbered.{numbered, with_numbered, HasNumber}
+use Rattle.dds_model.specs.declared.reply.Reply.TheVariants.{Reported}
+use Rattle.dds_model.specs.Numbered.{with_numbered, HasNumber}
 use Rattle.dds_model.specs.Part.{ReaderProxy, Writer, Part, no_part, no_writer, own_writer, own_proxies, acknowledged_of, with_acknowledged, place_of, writer_changes, history_of}
-use Rattle.dds_model.specs.Moves.{Match, match_of, Position, position_of, Comes, AllCome, ComeTo, Passes, GoesTo, Places, IsMove, AreMoves, DeliveryStep}
+use Rattle.dds_model.specs.Moves.{Match, match_of, Position, position_of, AllCome, ComeTo, Passes, GoesTo, IsMove, AreMoves, DeliveryStep}
 use Rattle.dds_model.specs.Calls.{CallStep}
 use Rattle.dds_model.specs.Claims.{Claim, ChangeIs, MayPass, PlaceReached, Claims, Claimed}
 use Rattle.dds_model.specs.Peer.{Peer, Delivery, PeerStep, EventStep, no_peer, claimed, packets_of, IsTrueAt}
 use Rattle.dds_model.specs.Machine.{Machine, part_at, writer_at, place_at, grounds_of, Step}
-use Rattle.dds_model.specs.World.{WorldState, peer_at, machine_of, PeerSteps, IsRefusedIn, WorldStep, Holds, Sound}
+use Rattle.dds_model.specs.World.{WorldState, peer_at, machine_of, PeerSteps, WorldStep, Holds, Sound}
 use Rattle.dds_model.proofs.Tables.{numbered-cases, numbered-map, numbered-same, map-with_numbered, length-with_numbered, acknowledged-cases}
-use Rattle.dds_model.proofs.Growth.{Grows, IsMove-grows, AreMoves-grows, DeliveryStep-grows, CallStep-grows, CallStep-readers, MachineGrows, with_part, with_part-grows, Holds-grows}
+use Rattle.dds_model.proofs.Growth.{Grows, IsMove-grows, DeliveryStep-grows, CallStep-grows, CallStep-readers, MachineGrows, with_part, with_part-grows, Holds-grows}
 
 abbrev pub AllHold : Config → Machine → List (List ℕ) → Type 0
 AllHold config m packets = (bytes : List ℕ) (claim : Claim) → Contains packets bytes → Claims config bytes claim → Holds m claim
@@ -203,9 +203,10 @@ part_step config m i (event.Deliver packet) before (Reported report) after is at
     let hold : AllHold config m packets = with_packet config m packet (packets_of before.delivered) sent (packets_hold config m before.delivered all) in
     let moves : AreMoves (claimed config packets i) (part_at m i) report.moves after.part =
     subst (λ (q : Part). AreMoves (claimed config packets i) q report.moves after.part) (sym at_i)
-    (subst (λ (j : ℕ). AreMoves (claimed config packets j) before.part report.moves after.part) is h.0) in
-    (sound_moves config m i packets hold (part_at m i) report.moves after.part (above_self m i) moves,
-    subst (λ (ds : List Delivery). DeliveredHold config m ds) (sym h.1) (with_delivery config m (record { packet = packet; report = report }) before.delivered sent all))
+    (subst (λ (j : ℕ). AreMoves (claimed config packets j) before.part report.moves after.part) is h.0) in (
+      sound_moves config m i packets hold (part_at m i) report.moves after.part (above_self m i) moves,
+      subst (λ (ds : List Delivery). DeliveredHold config m ds) (sym h.1) (with_delivery config m (record { packet = packet; report = report }) before.delivered sent all),
+    )
 part_step config m i (event.Deliver packet) before reply after is at_i sent all h = absurd h
 
 parts_at : (ws : WorldState) (i : ℕ) → part_at (machine_of ws) i ≡ (peer_at ws i).part

@@ -1,14 +1,12 @@
 -- Lists and places grow, and what is claimed stays true.
-use Rattle.std.proofs.Common.{◌≡◌, ◌⊎◌, ℕ, ◌+◌, ◌-◌, ◌<◌, ◌≤◌, Bool, true, false, cond, Option, List, [], ◌∷◌, ◌++◌, Some, None, refl, subst, ap, sym, ◌∙◌, inl, inr, ⊎_elim, arith, length, drop, count_by, slice_get, map, append_assoc}
+use Rattle.std.proofs.Common.{◌≡◌, ℕ, ◌+◌, ◌-◌, ◌≤◌, Bool, true, false, cond, Option, List, [], ◌∷◌, ◌++◌, Some, None, refl, subst, ap, sym, ◌∙◌, inl, inr, ⊎_elim, arith, length, drop, count_by, slice_get, append_assoc}
 use Rattle.std.specs.Prelude.{if◌then◌else◌, nat_lt, nat_le}
 use Rattle.std.specs.Option.{option_map_or}
 use Rattle.std.proofs.lemmas.Bool.Decides.{nat_tests}
 use Rattle.std.proofs.lemmas.List.{drop-append-le}
 use Rattle.std.proofs.lemmas.List.Sums.{sum_by-append}
-use Rattle.std.proofs.lemmas.Option.{slice_get_within, same_Some}
+use Rattle.std.proofs.lemmas.Option.{slice_get_within}
 use Rattle.dds_base.specs.declared.change.Change.{Change}
-use Rattle.dds_base.specs.declared.key.Key.{Key}
-use Rattle.dds_base.specs.declared.happening.Happening.{Happening}
 use Rattle.dds_base.specs.declared.qos.HistoryQos.{HistoryQos}
 use Rattle.dds_base.specs.declared.qos.HistoryQos.TheVariants.{KeepAll, KeepLast}
 use Rattle.dds_base.specs.Happening.{same_key}
@@ -20,8 +18,8 @@ use Rattle.dds_model.specs.declared.reply.Move.{Move}
 use Rattle.dds_model.specs.declared.reply.Move.TheVariants.{Place, Acknowledged}
 use Rattle.dds_model.specs.declared.reply.Reply.{Reply}
 use Rattle.dds_model.specs.declared.reply.Reply.TheVariants.{Reported}
-use Rattle.dds_model.specs.Numbered.{numbered, with_numbered, HasNumber}
-use Rattle.dds_model.specs.Part.{WriterProxy, ReaderProxy, Writer, Rtps, Part, no_writer, no_part, own_writer, own_proxies, place_of, with_place, with_acknowledged, writer_changes, history_of}
+use Rattle.dds_model.specs.Numbered.{numbered, with_numbered}
+use Rattle.dds_model.specs.Part.{WriterProxy, Writer, Rtps, Part, no_writer, no_part, own_writer, own_proxies, place_of, with_place, with_acknowledged, writer_changes, history_of}
 use Rattle.dds_model.specs.Moves.{Grounds, IsMove, AreMoves, DeliveryStep}
 use Rattle.dds_model.specs.Calls.{Effect, nothing, writes, effect, effect_of, with_written, CallStep}
 use Rattle.dds_model.specs.Claims.{Claim, ChangeIs, MayPass, PlaceReached}

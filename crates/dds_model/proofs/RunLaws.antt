@@ -1,5 +1,5 @@
 -- Runs of peers are runs of the machine, and runs of the machine pass over no change of a writer that keeps all.
-use Rattle.std.proofs.Common.{◌≡◌, ℕ, ◌≤◌, Bool, true, false, List, [], ◌∷◌, length, refl, subst, ap, sym, ◌∙◌, inl, inr, arith}
+use Rattle.std.proofs.Common.{◌≡◌, ℕ, true, false, List, [], ◌∷◌, length, refl, subst, ap, sym, ◌∙◌, inl, inr, arith}
 use Rattle.dds_base.specs.declared.config.Config.{Config}
 use Rattle.dds_base.specs.declared.qos.HistoryQos.{HistoryQos}
 use Rattle.dds_base.specs.declared.qos.HistoryQos.TheVariants.{KeepAll}
@@ -11,11 +11,10 @@ use Rattle.dds_model.specs.declared.event.WorldEvent.{WorldEvent}
 use Rattle.dds_model.specs.declared.event.WorldEvent.TheVariants as world
 use Rattle.dds_model.specs.declared.reply.Move.{Move}
 use Rattle.dds_model.specs.declared.reply.Move.TheVariants.{Place, Acknowledged}
-use Rattle.dds_model.specs.declared.reply.PassedRun.{PassedRun}
 use Rattle.dds_model.specs.declared.reply.Reply.{Reply}
 use Rattle.dds_model.specs.declared.reply.Reply.TheVariants.{Done, Samples, Reported, Refused}
 use Rattle.dds_model.specs.Part.{Part, writer_changes, history_of}
-use Rattle.dds_model.specs.Moves.{Match, Position, GoesTo, match_of, position_of, AreMoves, DeliveryStep}
+use Rattle.dds_model.specs.Moves.{GoesTo, match_of, position_of, AreMoves, DeliveryStep}
 use Rattle.dds_model.specs.Calls.{CallStep}
 use Rattle.dds_model.specs.Machine.{Machine, part_at, writer_at, grounds_of, Step}
 use Rattle.dds_model.specs.World.{WorldState, machine_of, Sound}

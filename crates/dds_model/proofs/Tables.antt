@@ -1,6 +1,6 @@
 -- Lists with one element changed, and the rows of matched pairs.
-use Rattle.std.proofs.Common.{◌≡◌, ℕ, zero, suc, ◌+◌, ◌≤◌, ◌==◌, ◌⊎◌, Bool, true, false, cond, List, [], ◌∷◌, ◌++◌, Some, refl, ap, sym, ◌∙◌, inl, inr, ⊎_elim, arith, length, slice_get, get_or, set, map, eqb-true, length-set, get_or-set_same, subst}
-use Rattle.std.proofs.lemmas.List.{map-set, length-map}
+use Rattle.std.proofs.Common.{◌≡◌, ℕ, zero, suc, ◌==◌, ◌⊎◌, Bool, true, false, cond, List, [], ◌∷◌, ◌++◌, Some, refl, ap, sym, ◌∙◌, inl, inr, ⊎_elim, arith, length, slice_get, get_or, set, map, eqb-true, length-set, get_or-set_same}
+use Rattle.std.proofs.lemmas.List.{map-set}
 use Rattle.dds_model.specs.declared.endpoint.Endpoint.{Endpoint}
 use Rattle.dds_model.specs.Numbered.{numbered, with_numbered, HasNumber}
 use Rattle.dds_model.specs.Part.{same_endpoint, ReaderProxy, WriterProxy, acknowledged_of, with_acknowledged, place_of, with_place}

@@ -2,7 +2,7 @@
 -- a growth was refused.
 --
 -- DDS 1.4, 2.2.2.4 (write), 2.2.2.5 (take), 2.2.1.1 (return codes).
-use Rattle.std.specs.Prelude.{◌≡◌, ◌≢◌, ℕ, zero, suc, ◌&&◌, ◌||◌, not, Bool, true, false, List, [], ◌∷◌, length, Option, Some, None, nat_le, nat_lt, if◌then◌else◌, ℤ, pos, negsuc}
+use Rattle.std.specs.Prelude.{◌≡◌, ℕ, zero, suc, ◌&&◌, ◌||◌, not, Bool, true, false, List, [], ◌∷◌, length, Option, Some, None, nat_le, nat_lt, if◌then◌else◌, ℤ, pos, negsuc}
 use Rattle.dds_base.specs.declared.key.Key.{Key}
 use Rattle.dds_base.specs.declared.change.Change.{Change}
 use Rattle.dds_base.specs.declared.change.ChangeKind.TheVariants.{Write as WriteKind}
@@ -21,7 +21,7 @@ use Rattle.dds_model.specs.declared.call.Call.TheVariants.{Write, Take}
 use Rattle.dds_model.specs.declared.reply.Reply.{Reply}
 use Rattle.dds_model.specs.declared.reply.Reply.TheVariants.{Done, Samples, Refused}
 use Rattle.dds_model.specs.Numbered.{numbered, with_numbered}
-use Rattle.dds_model.specs.Part.{Part, Rtps, Dds, Writer, Reader, no_writer, own_writer, own_reader, history_of}
+use Rattle.dds_model.specs.Part.{Part, Rtps, Dds, Writer, no_writer, own_writer, own_reader, history_of}
 
 -- there is an element of this number, counted from 1
 abbrev pub has_number : {X : Type 0} → List X → ℕ → Bool

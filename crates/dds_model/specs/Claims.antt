@@ -1,7 +1,7 @@
 -- What packets claim. Bytes enter here alone, by their reading.
 --
 -- RTPS 2.5, 8.3.4 (the receiver of a message), 8.3.8 (what each submessage means).
-use Rattle.std.specs.Prelude.{◌≡◌, ◌⊎◌, ℕ, ◌-◌, ◌^◌, ◌<◌, ◌≤◌, true, false, Some, None, List, [], ◌∷◌, replicate, slice_get, nat_lt, nat_le, ◌&&◌, Bool, slice_index_or, if◌then◌else◌, Contains}
+use Rattle.std.specs.Prelude.{◌≡◌, ◌⊎◌, ℕ, ◌-◌, ◌^◌, ◌<◌, ◌≤◌, true, Some, None, List, [], ◌∷◌, replicate, slice_get, nat_lt, if◌then◌else◌, Contains}
 use Rattle.dds_base.specs.declared.change.Change.{Change}
 use Rattle.dds_base.specs.declared.change.ChangeKind.TheVariants as kind
 use Rattle.dds_base.specs.declared.config.Config.{Config}
@@ -10,7 +10,14 @@ use Rattle.dds_base.specs.declared.config.WriterConfig.{WriterConfig}
 use Rattle.dds_base.specs.declared.config.ReaderConfig.{ReaderConfig}
 use Rattle.dds_base.specs.declared.guid.GuidPrefix.{GuidPrefix}
 use Rattle.dds_base.specs.declared.guid.EntityId.{EntityId}
-use Rattle.dds_model.specs.Messages.{Message, Submessage, InfoDst, InfoTs, Data, Heartbeat, AckNack, Gap, DataContent, Write, Dispose, Unregister, DisposeUnregister, DataMessage, GapMessage, NumberSet, ReadsMessage}
+use Rattle.rtps_sets.specs.NumberSet.{has_number}
+use Rattle.rtps_wire.specs.declared.data.DataContent.{DataContent}
+use Rattle.rtps_wire.specs.declared.data.DataContent.TheVariants.{Write, Dispose, Unregister, DisposeUnregister}
+use Rattle.rtps_wire.specs.declared.gap.Gap.{Gap as GapBody}
+use Rattle.rtps_wire.specs.declared.message.Message.{Message}
+use Rattle.rtps_wire.specs.declared.submessage.Submessage.{Submessage}
+use Rattle.rtps_wire.specs.declared.submessage.Submessage.TheVariants.{InfoDst, InfoTs, Data, Heartbeat, AckNack, Gap}
+use Rattle.rtps_wire.specs.Messages.{ReadsMessage}
 use Rattle.dds_model.specs.declared.endpoint.Endpoint.{Endpoint}
 
 -- one thing that a packet says of far lists and places
@@ -95,12 +102,9 @@ change_in (Dispose key) timestamp = record { kind = kind.Dispose; key = key; val
 change_in (Unregister key) timestamp = record { kind = kind.Unregister; key = key; value = []; source_timestamp = timestamp }
 change_in (DisposeUnregister key) timestamp = record { kind = kind.DisposeUnregister; key = key; value = []; source_timestamp = timestamp }
 
-abbrev pub has_member : NumberSet → ℕ → Bool
-has_member s n = nat_le s.base n && slice_index_or s.members (n - s.base) false
-
 -- the number is one that a GAP names: from gapStart to below the set's base, or in the set
-abbrev pub IsInGap : GapMessage → ℕ → Type 0
-IsInGap g number = ((g.gap_start ≤ number) × (number < g.gap_list.base)) ⊎ (has_member g.gap_list number ≡ true)
+abbrev pub IsInGap : GapBody → ℕ → Type 0
+IsInGap g number = ((g.gap_start ≤ number) × (number < g.gap_list.base)) ⊎ (has_number g.gap_list number ≡ true)
 
 -- what a submessage claims, where the receiver is so
 abbrev pub Says : Config → Receiver → Submessage → Claim → Type 0

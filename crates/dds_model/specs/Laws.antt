@@ -1,5 +1,5 @@
 -- What holds of every network and every run.
-use Rattle.std.specs.Prelude.{◌≡◌, ◌≤◌, ℕ, List, [], ◌∷◌, length}
+use Rattle.std.specs.Prelude.{◌≡◌, ℕ, List, [], ◌∷◌, length}
 use Rattle.dds_base.specs.declared.config.Config.{Config}
 use Rattle.dds_base.specs.declared.qos.HistoryQos.TheVariants.{KeepAll}
 use Rattle.dds_model.specs.declared.endpoint.Endpoint.{Endpoint}
@@ -8,7 +8,6 @@ use Rattle.dds_model.specs.declared.reply.Move.{Move}
 use Rattle.dds_model.specs.declared.reply.Move.TheVariants.{Place}
 use Rattle.dds_model.specs.declared.reply.Reply.{Reply}
 use Rattle.dds_model.specs.declared.reply.Reply.TheVariants.{Reported}
-use Rattle.dds_model.specs.declared.reply.PassedRun.{PassedRun}
 use Rattle.dds_model.specs.Machine.{Machine, writer_at, Step}
 use Rattle.dds_model.specs.World.{WorldState, WorldStep, machine_of, Sound}
 use Rattle.dds_model.specs.Runs.{Traffic, Sends, Run}

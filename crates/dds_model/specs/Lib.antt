@@ -2,7 +2,6 @@ pub mod Numbered
 pub mod Part
 pub mod Moves
 pub mod Calls
-pub mod Messages
 pub mod Claims
 pub mod Peer
 pub mod Machine

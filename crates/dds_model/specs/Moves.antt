@@ -1,6 +1,6 @@
 -- What a delivery may do at a peer: a reader's place goes on over changes that come and changes that are passed over, and
 -- a reader acknowledges changes (RTPS 2.5, 8.4: reliable StatefulWriter and StatefulReader).
-use Rattle.std.specs.Prelude.{◌≡◌, ℕ, ◌+◌, ◌<◌, ◌≤◌, true, List, [], ◌∷◌, length}
+use Rattle.std.specs.Prelude.{◌≡◌, ℕ, ◌+◌, ◌<◌, ◌≤◌, true, List, [], ◌∷◌}
 use Rattle.dds_base.specs.declared.change.Change.{Change}
 use Rattle.dds_base.specs.declared.happening.Happening.{Happening}
 use Rattle.dds_base.specs.declared.happening.Happening.TheVariants.{Came, Passed}
@@ -12,7 +12,7 @@ use Rattle.dds_model.specs.declared.reply.Move.{Move}
 use Rattle.dds_model.specs.declared.reply.Move.TheVariants.{Place, Acknowledged}
 use Rattle.dds_model.specs.declared.reply.Reply.{Reply}
 use Rattle.dds_model.specs.declared.reply.Reply.TheVariants.{Reported}
-use Rattle.dds_model.specs.Part.{Part, Writer, WriterProxy, own_writer, own_proxies, own_reader, acknowledged_of, with_acknowledged, place_of, with_place, publication_from, at_reader, at_writer}
+use Rattle.dds_model.specs.Part.{Part, own_writer, own_proxies, own_reader, acknowledged_of, with_acknowledged, place_of, with_place, publication_from, at_reader, at_writer}
 
 -- What a delivery at one peer may rest on. A far end is an endpoint, an own one a number.
 pub record Grounds : Type 1 where

@@ -1,13 +1,13 @@
 -- The opening of a configuration: writers and readers of equal topic are matched, nothing has happened, each place is 1
 -- and nothing is acknowledged.
-use Rattle.std.specs.Prelude.{ℕ, zero, suc, ◌+◌, ◌==◌, cond, List, [], ◌∷◌, ◌++◌, map, Option, Some, None, ℤ, pos, negsuc}
+use Rattle.std.specs.Prelude.{ℕ, ◌+◌, ◌==◌, cond, List, [], ◌∷◌, ◌++◌, map}
 use Rattle.dds_base.specs.declared.config.Config.{Config}
 use Rattle.dds_base.specs.declared.config.PeerConfig.{PeerConfig}
 use Rattle.dds_base.specs.declared.config.WriterConfig.{WriterConfig}
 use Rattle.dds_base.specs.declared.config.ReaderConfig.{ReaderConfig}
 use Rattle.dds_base.specs.declared.qos.MatchedWriter.{MatchedWriter}
 use Rattle.dds_base.specs.declared.qos.ReaderQos.{ReaderQos}
-use Rattle.dds_model.specs.Part.{ReaderProxy, WriterProxy, Writer, Reader, Part}
+use Rattle.dds_model.specs.Part.{ReaderProxy, WriterProxy, Writer, Part}
 use Rattle.dds_model.specs.Calls.{limit_of}
 use Rattle.dds_model.specs.Peer.{Peer}
 use Rattle.dds_model.specs.Machine.{Machine}

@@ -11,7 +11,7 @@ use Rattle.dds_model.specs.declared.reply.Reply.{Reply}
 use Rattle.dds_model.specs.declared.reply.Reply.TheVariants.{Reported}
 use Rattle.dds_model.specs.declared.reply.Report.{Report}
 use Rattle.dds_model.specs.Part.{Part, no_part, own_writer, own_proxies, acknowledged_of, place_of, writer_changes, history_of}
-use Rattle.dds_model.specs.Moves.{Grounds, DeliveryStep, AreMoves}
+use Rattle.dds_model.specs.Moves.{Grounds, AreMoves}
 use Rattle.dds_model.specs.Calls.{CallStep}
 use Rattle.dds_model.specs.Claims.{Claim, ChangeIs, MayPass, PlaceReached, Claims, Claimed}
 

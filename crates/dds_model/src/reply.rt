@@ -15,9 +15,18 @@ pub struct PassedRun {
 pub enum Move {
     /// The place of the peer's reader in a writer's list is now `to`: the changes before it came, but for those of the
     /// passed runs, which stand in ascending order and apart from one another.
-    Place { writer: Endpoint, reader: u8, to: Sn, passed: Sequence<PassedRun> },
+    Place {
+        writer: Endpoint,
+        reader: u8,
+        to: Sn,
+        passed: Sequence<PassedRun>,
+    },
     /// A reader has acknowledged all changes below `to` of the peer's writer.
-    Acknowledged { writer: u8, reader: Endpoint, to: Sn },
+    Acknowledged {
+        writer: u8,
+        reader: Endpoint,
+        to: Sn,
+    },
 }
 
 /// What a delivery did: its moves in the order in which they were made, and the index, from 0, of the submessage that
