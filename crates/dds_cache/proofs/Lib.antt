@@ -1,2 +1,6 @@
 pub mod RegistrationLaws
 pub mod PositionLaws
+pub mod TrackLaws
+pub mod KnownLaws
+pub mod MatchingLaws
+pub mod CollectionLaws

@@ -1,2 +1,4 @@
 pub mod Registration
 pub mod Track
+pub mod Matching
+pub mod Standing

@@ -4,14 +4,17 @@
 //! Not here: which changes come, and when (the reader's protocol).
 #![tactic(auto)]
 
-
-
-
-
-
+mod access;
+mod found;
 mod history;
+mod instance;
+mod instances;
+mod masks;
+mod reader_cache;
 mod registration;
+mod returned;
+#[cfg(test)]
+mod tests;
 mod track;
 
-
-
+pub use reader_cache::ReaderCache;

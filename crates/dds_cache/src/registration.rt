@@ -7,7 +7,7 @@ ghost use Rattle.dds_base.specs.Ownership.{writer_of, is_above, outranks, admits
 ghost use Rattle.dds_base.specs.declared.key.Key.{Key};
 ghost use Rattle.dds_cache.specs.Registration.{registration_of, is_there, gives_way, accepted_among, noted};
 
-use dds_base::{ChangeKind, Happening, Handle, Key, MatchedWriter, OwnershipQos, ReaderQos};
+use dds_base::{ChangeKind, Handle, Happening, Key, MatchedWriter, OwnershipQos, ReaderQos};
 use std::alloc::{AllocError, Global};
 use std::cmp::Ordering;
 
@@ -76,7 +76,10 @@ fn is_outranking(qos: &ReaderQos, first: Handle, second: Handle) -> bool
     ensures { result ≡ outranks qos.now first second }
 {
     let writers = qos.writers.as_slice();
-    match (matched_writer(writers, first), matched_writer(writers, second)) {
+    match (
+        matched_writer(writers, first),
+        matched_writer(writers, second),
+    ) {
         (Some(a), Some(b)) => is_stronger(a, b),
         _ => false,
     }
@@ -92,7 +95,9 @@ fn is_no_rival(qos: &ReaderQos, writer: Handle, other: &Registration) -> bool
 fn is_first(qos: &ReaderQos, writer: Handle, registrations: &[Registration]) -> bool
     ensures { result ≡ list_all (gives_way qos.now writer) registrations.now }
 {
-    registrations.iter().all(|other| is_no_rival(qos, writer, other))
+    registrations
+        .iter()
+        .all(|other| is_no_rival(qos, writer, other))
 }
 
 fn is_admitted(qos: &ReaderQos, writer: Handle, registrations: &[Registration]) -> bool

@@ -1,0 +1,56 @@
+-- The samples of one instance that an access returns, and what is known of the instance at the call.
+use Rattle.std.specs.Prelude.{◌≡◌, ℕ, ◌+◌, ◌-◌, ◌<◌, ◌^◌, List, [], ◌∷◌, length, Bool, true, false, ◌&&◌, ◌||◌, filter, map, All, Option, if◌then◌else◌}
+use Rattle.dds_base.specs.declared.key.Key.{Key}
+use Rattle.dds_base.specs.declared.happening.SamplePosition.{SamplePosition}
+use Rattle.dds_base.specs.declared.happening.Happening.{Happening}
+use Rattle.dds_base.specs.declared.happening.Happening.TheVariants.{Came}
+use Rattle.dds_base.specs.declared.mask.Masks.{Masks}
+use Rattle.dds_base.specs.declared.sample.SampleState.{SampleState}
+use Rattle.dds_base.specs.declared.sample.ViewState.{ViewState}
+use Rattle.dds_base.specs.declared.sample.InstanceState.{InstanceState}
+use Rattle.dds_base.specs.declared.qos.ReaderQos.{ReaderQos}
+use Rattle.dds_base.specs.Instance.{view_state_of}
+use Rattle.dds_base.specs.Presence.{is_present, up_to, keeps, is_at}
+use Rattle.dds_base.specs.Access.{asks_for_sample_state, asks_for_view_state, asks_for_instance_state, meets, picked_of, own_generations, handle_of}
+use Rattle.dds_cache.specs.declared.track.InstanceTrack.{InstanceTrack}
+use Rattle.dds_cache.specs.declared.instance.InstanceAtCall.{InstanceAtCall}
+use Rattle.dds_cache.specs.declared.found.Found.{Found}
+use Rattle.dds_cache.specs.Track.{Tracks}
+
+-- what is known of an instance at a call
+pub record IsInstance (q : ReaderQos) (h : List Happening) (instance : InstanceAtCall) : Type 0 where
+  pub tracked : Tracks q instance.key h instance.track
+  pub view_is : instance.view ≡ view_state_of q instance.key h
+  pub handle_is : instance.handle ≡ handle_of q h instance.key
+
+abbrev pub sample_at : Key → ℕ → SamplePosition
+sample_at i j = record { key = i; position = j }
+
+-- the masks ask for these states
+abbrev pub are_asked_for : Masks → SampleState → ViewState → Option InstanceState → Bool
+are_asked_for masks sample view instance = asks_for_sample_state masks.samples sample && (asks_for_view_state masks.views view && asks_for_instance_state masks.instances instance)
+
+-- the sample meets the masks; there is no filter
+abbrev pub is_asked_for : ReaderQos → List Happening → Masks → SamplePosition → Bool
+is_asked_for q h masks s = meets q h masks s && true
+
+-- the matching samples of an instance among the first n positions
+abbrev pub matching_up_to : ReaderQos → List Happening → Masks → Key → ℕ → List SamplePosition
+matching_up_to q h masks i n = filter (is_asked_for q h masks) (map (sample_at i) (filter (is_present q h i) (up_to n)))
+
+abbrev pub matching_of : ReaderQos → List Happening → Masks → Key → List SamplePosition
+matching_of q h masks i = matching_up_to q h masks i (length h)
+
+-- a position with this track is that of a kept write, or of the last marker, by the track of all that happened
+abbrev pub is_candidate : ReaderQos → InstanceTrack → InstanceTrack → ℕ → Bool
+is_candidate q whole track position = (track.ends_with_write && keeps q.history (whole.accepted_writes - track.accepted_writes)) || is_at whole.last_marker position
+
+-- each found sample is described, with counts that can be added
+pub record IsDescribed (q : ReaderQos) (h : List Happening) (found : Found) : Type 0 where
+  pub described : found.picked.items ≡ map (picked_of q h) found.samples.items
+  pub small : All (λ p. own_generations p < 2 ^ 64) found.picked.items
+
+-- the value of the newest entry, if it counts
+abbrev pub value_if : Bool → List Happening → List ℕ
+value_if valid (Came a ∷ h) = if valid then a.change.value else []
+value_if valid _ = []

@@ -1,0 +1,160 @@
+//! A reader's cache: what happened at the reader, stored.
+
+ghost use Rattle.std.specs.Prelude.{◌≡◌, ◌∷◌, [], List, OnOk, OnErr, IfOk, IfErr};
+ghost use Rattle.dds_base.specs.declared.happening.Happening.{Happening};
+ghost use Rattle.dds_base.specs.declared.happening.Happening.TheVariants.{Came, Died, Read, Took};
+ghost use Rattle.dds_base.specs.declared.code.Code.TheVariants.{Memory};
+ghost use Rattle.dds_base.specs.Ownership.{IsMatched};
+ghost use Rattle.dds_base.specs.Access.{picked_samples, no_filter, collection_of};
+ghost use Rattle.dds_cache.specs.Standing.{qos_of, StandsFor, Answers, AfterAccess};
+
+use crate::access::{collect, pick};
+use crate::found::Found;
+use dds_base::{
+    Arrival, Code, Handle, Happening, Masks, Moment, ReaderQos, Sample, SamplePosition, Sequence,
+};
+use std::alloc::Global;
+use std::marker::Model;
+
+/// What a reader holds: all that happened at it, the newest first.
+///
+/// A read or a take computes its answer from the whole list, at a cost of about the number of entries times the
+/// number of instances.
+#[derive(Drop)]
+pub struct ReaderCache {
+    alloc: Global,
+    qos: ReaderQos,
+    entries: Vec<Happening>,
+}
+
+impl Model for ReaderCache {
+    ghost use Rattle.dds_cache.specs.Standing.{Kept};
+
+    ghost Value = { Kept };
+
+    ghost view = { λ c. record { qos = c.qos; happenings = c.entries.items } };
+}
+
+impl ReaderCache {
+    /// Of a reader at which nothing has happened.
+    pub fn open(alloc: Global, qos: ReaderQos) -> Self
+        ensures opening { StandsFor result [] }
+        ensures qos { qos_of result ≡ qos }
+    {
+        ReaderCache {
+            alloc,
+            qos,
+            entries: Vec::new(alloc),
+        }
+    }
+
+    fn enter(&mut self, entry: Happening) -> Result<(), Code>
+        ensures ok { OnOk result (self.new ≡ record { qos = self.old.qos; happenings = entry ∷ self.old.happenings }) }
+        ensures err { OnErr result (self.new ≡ self.old) }
+        ensures memory { IfErr result (λ e. e ≡ Memory) }
+    {
+        self.entries.insert(0, entry)?;
+        Ok(())
+    }
+
+    /// Takes up a change that came. Its writer is a matched one.
+    ///
+    /// # Errors
+    ///
+    /// `Memory` where a growth was refused; the cache is then as it was.
+    ///
+    /// RTPS 2.5, 8.2 (HistoryCache, add_change).
+    pub fn come(&mut self, arrival: Arrival) -> Result<(), Code>
+        requires matched { IsMatched (qos_of self.old) arrival.writer }
+        ensures ok { OnOk result ((h : List Happening) → StandsFor self.old h → StandsFor self.new (Came arrival ∷ h)) }
+        ensures qos { qos_of self.new ≡ qos_of self.old }
+        ensures err { OnErr result (self.new ≡ self.old) }
+        ensures memory { IfErr result (λ e. e ≡ Memory) }
+    {
+        self.enter(Happening::Came(arrival))
+    }
+
+    /// Takes up that the lease of a matched writer ran out, at a moment of the reader's peer.
+    ///
+    /// # Errors
+    ///
+    /// `Memory` where a growth was refused; the cache is then as it was.
+    ///
+    /// DDS 1.4, 2.2.3 (LIVELINESS).
+    pub fn died(&mut self, writer: Handle, moment: Moment) -> Result<(), Code>
+        requires matched { IsMatched (qos_of self.old) writer }
+        ensures ok { OnOk result ((h : List Happening) → StandsFor self.old h → StandsFor self.new (Died writer moment ∷ h)) }
+        ensures qos { qos_of self.new ≡ qos_of self.old }
+        ensures err { OnErr result (self.new ≡ self.old) }
+        ensures memory { IfErr result (λ e. e ≡ Memory) }
+    {
+        self.enter(Happening::Died { writer, moment })
+    }
+
+    fn access(&self, max: Option<u32>, masks: Masks) -> Result<Access, Code>
+        ensures positions { IfOk result (λ access. access.positions.items ≡ picked_samples self.now.qos self.now.happenings max masks no_filter) }
+        ensures samples { IfOk result (λ access. access.samples.items ≡ collection_of self.now.qos self.now.happenings access.positions.items) }
+        ensures memory { IfErr result (λ e. e ≡ Memory) }
+    {
+        let found = pick(self.alloc, &self.qos, &self.entries, max, masks)?;
+        let samples = collect(self.alloc, &self.qos, &self.entries, &found)?;
+        let Found {
+            samples: positions,
+            ..
+        } = found;
+        Ok(Access { positions, samples })
+    }
+
+    /// Reads the present samples that meet the masks, by instance and then in the order of arrival, `max` at most
+    /// (`None`: all). They stay, and are READ from then on.
+    ///
+    /// # Errors
+    ///
+    /// `NoData` where there is none; that too is an access, which lowers DATA_AVAILABLE. `Memory` where a growth was
+    /// refused; the cache is then as it was.
+    ///
+    /// DDS 1.4, 2.2.2.5 (read).
+    pub fn read(&mut self, max: Option<u32>, masks: Masks) -> Result<Sequence<Sample>, Code>
+        ensures answer { (h : List Happening) → StandsFor self.old h → Answers self.old h max masks result }
+        ensures after { (h : List Happening) → StandsFor self.old h → AfterAccess Read self.old h max masks result self.new }
+        ensures qos { qos_of self.new ≡ qos_of self.old }
+    {
+        let access = self.access(max, masks)?;
+        let is_empty = access.positions.is_empty();
+        self.enter(Happening::Read(Sequence::from_vec(access.positions)))?;
+        if is_empty {
+            return Err(Code::NoData);
+        }
+        Ok(Sequence::from_vec(access.samples))
+    }
+
+    /// Takes the present samples that meet the masks, by instance and then in the order of arrival, `max` at most
+    /// (`None`: all). They are gone from then on.
+    ///
+    /// # Errors
+    ///
+    /// `NoData` where there is none; that too is an access, which lowers DATA_AVAILABLE. `Memory` where a growth was
+    /// refused; the cache is then as it was.
+    ///
+    /// DDS 1.4, 2.2.2.5 (take).
+    pub fn take(&mut self, max: Option<u32>, masks: Masks) -> Result<Sequence<Sample>, Code>
+        ensures answer { (h : List Happening) → StandsFor self.old h → Answers self.old h max masks result }
+        ensures after { (h : List Happening) → StandsFor self.old h → AfterAccess Took self.old h max masks result self.new }
+        ensures qos { qos_of self.new ≡ qos_of self.old }
+    {
+        let access = self.access(max, masks)?;
+        let is_empty = access.positions.is_empty();
+        self.enter(Happening::Took(Sequence::from_vec(access.positions)))?;
+        if is_empty {
+            return Err(Code::NoData);
+        }
+        Ok(Sequence::from_vec(access.samples))
+    }
+}
+
+/// The samples that an access returns, and where they stand in what happened.
+#[derive(Drop)]
+struct Access {
+    positions: Vec<SamplePosition>,
+    samples: Vec<Sample>,
+}
