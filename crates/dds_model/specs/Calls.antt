@@ -2,7 +2,7 @@
 -- a growth was refused.
 --
 -- DDS 1.4, 2.2.2.4 (write), 2.2.2.5 (take), 2.2.1.1 (return codes).
-use Rattle.std.specs.Prelude.{◌≡◌, ℕ, zero, suc, ◌&&◌, ◌||◌, not, Bool, true, false, List, [], ◌∷◌, length, Option, Some, None, nat_le, nat_lt, if◌then◌else◌, ℤ, pos, negsuc}
+use Rattle.std.specs.Prelude.{◌≡◌, ◌≢◌, ℕ, zero, suc, ◌&&◌, ◌||◌, not, Bool, true, false, List, [], ◌∷◌, length, Option, Some, None, nat_le, nat_lt, if◌then◌else◌, ℤ, pos, negsuc}
 use Rattle.dds_base.specs.declared.key.Key.{Key}
 use Rattle.dds_base.specs.declared.change.Change.{Change}
 use Rattle.dds_base.specs.declared.change.ChangeKind.TheVariants.{Write as WriteKind}
@@ -53,15 +53,9 @@ limit_of (negsuc n) = None
 abbrev pub picked_at : Part → ℕ → ℤ → Masks → List SamplePosition
 picked_at part reader max masks = picked_samples (own_reader part reader).qos (own_reader part reader).happened (limit_of max) masks no_filter
 
-abbrev pub is_empty : {X : Type 0} → List X → Bool
-is_empty [] = true
-is_empty (x ∷ xs) = false
-
--- why an access is refused: no such reader, a max that is neither -1 nor positive, or nothing to return
-abbrev pub access_refusal : Part → ℕ → ℤ → Masks → Option Code
-access_refusal part reader max masks =
-    if not (has_number part.dds.readers reader) || not (is_max max) then Some BadParameter
-    else (if is_empty (picked_at part reader max masks) then Some NoData else None)
+-- why an access is refused: no such reader, or a max that is neither -1 nor positive
+abbrev pub access_refusal : Part → ℕ → ℤ → Option Code
+access_refusal part reader max = if not (has_number part.dds.readers reader) || not (is_max max) then Some BadParameter else None
 
 -- a peer's reader, after one more thing happened there
 abbrev pub with_happening : Part → ℕ → Happening → Dds
@@ -88,16 +82,18 @@ abbrev pub effect_of : Part → Call → Reply → Effect
 effect_of part (Write writer key value) Done = writes writer (Changed (written_change part key value))
 effect_of part call reply = nothing
 
--- What a call answers, and what it does to what the peer's own calls see. A take that finds nothing happened too.
+-- What a call answers, and what it does to what the peer's own calls see. A take that finds nothing happened too; one that
+-- finds no memory to look for samples did not.
 abbrev pub Answers : Part → Call → Reply → Dds → Type 0
 Answers old (Write writer key value) Done dds = (write_refusal old writer key value ≡ None) × (dds ≡ old.dds)
 Answers old (Write writer key value) (Refused code) dds = Refuses (write_refusal old writer key value) code × (dds ≡ old.dds)
 Answers old (Take reader max masks) (Samples samples) dds =
-    (access_refusal old reader max masks ≡ None)
+    (access_refusal old reader max ≡ None) × (picked_at old reader max masks ≢ [])
     × (samples ≡ collection_of (own_reader old reader).qos (own_reader old reader).happened (picked_at old reader max masks))
     × (dds ≡ with_happening old reader (Took (picked_at old reader max masks)))
-Answers old (Take reader max masks) (Refused NoData) dds = (access_refusal old reader max masks ≡ Some NoData) × (dds ≡ with_happening old reader (Took []))
-Answers old (Take reader max masks) (Refused code) dds = Refuses (access_refusal old reader max masks) code × (dds ≡ old.dds)
+Answers old (Take reader max masks) (Refused NoData) dds =
+    (access_refusal old reader max ≡ None) × (picked_at old reader max masks ≡ []) × (dds ≡ with_happening old reader (Took []))
+Answers old (Take reader max masks) (Refused code) dds = Refuses (access_refusal old reader max) code × (dds ≡ old.dds)
 Answers old call reply dds = ⊥
 
 -- one call at a peer
