@@ -1,6 +1,7 @@
 -- What is read is a datum's bytes, and a datum's bytes are read.
-use Rattle.std.proofs.Common.{◌≡◌, ℕ, zero, suc, ◌^◌, ◌<◌, false, cond, ltb, List, [], ◌∷◌, ◌++◌, length, Some, None, refl, sym, ap, subst, ◌∙◌, append_assoc, arith}
+use Rattle.std.proofs.Common.{◌≡◌, ℕ, zero, suc, ◌^◌, ◌<◌, false, cond, ltb, List, [], ◌∷◌, ◌++◌, length, Option, Some, None, refl, sym, ap, subst, ◌∙◌, append_assoc, arith}
 use Rattle.std.specs.Int.{w32}
+use Rattle.std.specs.Option.{option_map}
 use Rattle.std.proofs.lemmas.Bool.{ltb-false, le-ltb}
 use Rattle.dds_base.specs.declared.datum.Datum.{Datum}
 use Rattle.dds_base.specs.declared.key.Key.{Key}
@@ -119,3 +120,16 @@ datum_only bytes d h =
   where
     regroup : (h k n v rest : List ℕ) → ((h ++ k) ++ n ++ v) ++ rest ≡ h ++ (k ++ (n ++ (v ++ rest)))
     regroup h k n v rest = simp append_assoc
+
+-- ---- the key of a datum
+
+key_of_read : (bytes : List ℕ) (k : Key) (o : Option Datum) → AreOctets bytes → datum_at bytes ≡ o → Some k ≡ option_map (λ (d : Datum). d.key) o → (value : List ℕ) × ReadsDatum bytes (record { key = k; value = value })
+key_of_read bytes k None octets read e = absurd cc
+key_of_read bytes k (Some d) octets read e =
+    (d.value, subst (λ (x : Key). ReadsDatum bytes (record { key = x; value = d.value })) (sym (some_is k d.key e)) (datum_found bytes d octets read))
+
+pub datum_key_found : (bytes : List ℕ) (k : Key) → AreOctets bytes → Some k ≡ option_map (λ (d : Datum). d.key) (datum_at bytes) → (value : List ℕ) × ReadsDatum bytes (record { key = k; value = value })
+datum_key_found bytes k octets e = key_of_read bytes k (datum_at bytes) octets refl e
+
+pub datum_key_only : (bytes : List ℕ) (d : Datum) → ReadsDatum bytes d → option_map (λ (x : Datum). x.key) (datum_at bytes) ≡ Some d.key
+datum_key_only bytes d reads = ap (option_map (λ (x : Datum). x.key)) (datum_only bytes d reads)

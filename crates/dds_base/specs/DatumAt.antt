@@ -1,4 +1,5 @@
--- Reading a datum from left to right.
+-- Reading a datum from left to right: what the code does, on lists. Nothing here has to be believed, since
+-- `decode_datum`, `decode_datum_key` and `decode_key` say what they read by `DatumText` alone.
 use Rattle.std.specs.Prelude.{ℕ, zero, suc, List, ◌∷◌, Option, Some, None, nat_lt, if◌then◌else◌}
 use Rattle.std.specs.Int.{w32}
 use Rattle.dds_base.specs.declared.datum.Datum.{Datum}
@@ -7,16 +8,19 @@ use Rattle.dds_base.specs.declared.endianness.Endianness.{Endianness}
 use Rattle.dds_base.specs.declared.endianness.Endianness.TheVariants.{Big, Little}
 use Rattle.dds_base.specs.Fields.{number_at, octets_at, ◌>>=◌}
 
+-- the order that the representation names, and what follows the two option octets
 unfoldable pub representation_at : List ℕ → Option (Endianness × List ℕ)
 representation_at (zero ∷ zero ∷ x ∷ y ∷ rest) = Some (Big, rest)
 representation_at (zero ∷ suc zero ∷ x ∷ y ∷ rest) = Some (Little, rest)
 representation_at _ = None
 
+-- the octets of a key
 unfoldable pub key_at : List ℕ → Option (Key × List ℕ)
 key_at bytes = do
   k ← octets_at 16 bytes
   Some (record { 0 = k.0 }, k.1)
 
+-- a datum, at whose value reading ends
 unfoldable pub datum_at : List ℕ → Option Datum
 datum_at bytes = do
   r ← representation_at bytes
@@ -25,6 +29,7 @@ datum_at bytes = do
   v ← (if nat_lt 1024 n.0 then None else octets_at n.0 n.1)
   Some (record { key = k.0; value = v.0 })
 
+-- a key form
 unfoldable pub key_form_at : List ℕ → Option Key
 key_form_at bytes = do
   r ← representation_at bytes

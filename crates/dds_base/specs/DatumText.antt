@@ -1,4 +1,4 @@
--- The bytes of a datum and of a key, in either order.
+-- The bytes of a datum and of a key, in either order (RTPS 2.5, clause 10: SerializedPayload, CDR_BE and CDR_LE).
 use Rattle.std.specs.Prelude.{◌≡◌, ℕ, ◌≤◌, List, [], ◌∷◌, ◌++◌, length}
 use Rattle.std.specs.Int.{w32}
 use Rattle.dds_base.specs.declared.datum.Datum.{Datum}
@@ -7,7 +7,7 @@ use Rattle.dds_base.specs.declared.endianness.Endianness.{Endianness}
 use Rattle.dds_base.specs.declared.endianness.Endianness.TheVariants.{Big, Little}
 use Rattle.dds_base.specs.Fields.{number}
 
--- CDR_BE or CDR_LE
+-- the representation identifier: CDR_BE is 0x0000, CDR_LE is 0x0001
 abbrev pub representation : Endianness → List ℕ
 representation Big = 0 ∷ 0 ∷ []
 representation Little = 0 ∷ 1 ∷ []
@@ -34,6 +34,7 @@ pub record ReadsDatum (bytes : List ℕ) (d : Datum) : Type 0 where
   pub text : bytes ≡ datum_text order options d ++ rest
   pub valid : IsDatum d
 
+-- The bytes begin with the key form, in the same ways.
 pub record ReadsKey (bytes : List ℕ) (k : Key) : Type 0 where
   pub order : Endianness
   pub options : List ℕ
@@ -43,8 +44,9 @@ pub record ReadsKey (bytes : List ℕ) (k : Key) : Type 0 where
   pub valid : length k.0 ≡ 16
 
 -- the one written form: little-endian, options zero, nothing after it
-abbrev pub spelled_datum : Datum → List ℕ
-spelled_datum d = datum_text Little (0 ∷ 0 ∷ []) d
+abbrev pub spelling_of_datum : Datum → List ℕ
+spelling_of_datum d = datum_text Little (0 ∷ 0 ∷ []) d
 
-abbrev pub spelled_key : Key → List ℕ
-spelled_key k = key_text Little (0 ∷ 0 ∷ []) k
+-- the one written form of a key
+abbrev pub spelling_of_key : Key → List ℕ
+spelling_of_key k = key_text Little (0 ∷ 0 ∷ []) k

@@ -2,6 +2,9 @@ pub mod Code
 pub mod Fields
 pub mod DatumText
 pub mod DatumAt
+pub mod Written
+pub mod Kept
+pub mod Refusal
 pub mod Happening
 pub mod Ownership
 pub mod Instance

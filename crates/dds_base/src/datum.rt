@@ -1,7 +1,10 @@
 //! A key with a value, and their bytes.
+//!
+//! RTPS 2.5, clause 10 (SerializedPayload: a representation identifier, two option octets, the data).
+//! `docs/WIRE.md`, "The datum".
 
 ghost use Rattle.std.specs.Prelude.{◌≡◌, ◌≤◌, ℕ, List, length, IfOk, IfErr, IfSome, MatchResult, Some};
-ghost use Rattle.dds_base.specs.DatumText.{ReadsDatum, ReadsKey, IsDatum, spelled_datum, spelled_key};
+ghost use Rattle.dds_base.specs.DatumText.{ReadsDatum, ReadsKey, IsDatum, spelling_of_datum, spelling_of_key};
 ghost use Rattle.dds_base.specs.DatumAt.{datum_at, key_at, key_form_at, representation_at};
 ghost use Rattle.std.specs.Option.{option_map};
 ghost use Rattle.dds_base.specs.declared.datum.Datum.{Datum};
@@ -17,10 +20,11 @@ use std::alloc::Global;
 /// The longest value, in octets.
 pub const MAX_VALUE: usize = 1024;
 
-/// A sample of the topic type.
+/// A sample of the topic type: the key of its instance, and a value.
 #[derive(Debug, Drop)]
 pub struct Datum {
     pub key: Key,
+    /// At most `MAX_VALUE` octets, where it has a written form.
     pub value: Octets,
 }
 
@@ -36,8 +40,9 @@ fn take_representation(bytes: &[u8]) -> Option<(Endianness, &[u8])>
     }
 }
 
+/// The sixteen octets of a key, and the bytes after them. `None` where there are fewer.
 #[tactic(auto, unfolding(crate::specs::DatumAt::key_at))]
-fn take_key(bytes: &[u8]) -> Option<(Key, &[u8])>
+pub fn take_key(bytes: &[u8]) -> Option<(Key, &[u8])>
     ensures { option_map (λ x. (x.0, x.1.now)) result ≡ key_at bytes.now }
 {
     let (octets, rest) = take_octets(bytes, 16)?;
@@ -46,28 +51,37 @@ fn take_key(bytes: &[u8]) -> Option<(Key, &[u8])>
     Some((Key(key), rest))
 }
 
+/// The key and the value of the datum that the bytes begin with.
 #[tactic(auto, unfolding(crate::specs::DatumAt::datum_at))]
+fn datum_parts(bytes: &[u8]) -> Option<(Key, &[u8])>
+    ensures { option_map (λ x. record { key = x.0; value = x.1.now }) result ≡ datum_at bytes.now }
+{
+    let (order, rest) = take_representation(bytes)?;
+    let (key, rest) = take_key(rest)?;
+    let (count, rest) = take_u32(order, rest)?;
+    let count = count as usize;
+    if MAX_VALUE < count {
+        return None;
+    }
+    let (value, _) = take_octets(rest, count)?;
+    Some((key, value))
+}
+
 fn datum_of(alloc: Global, bytes: &[u8]) -> Result<Option<Datum>, Code>
     ensures { MatchResult result (λ read. read ≡ datum_at bytes.now) (λ e. e ≡ Code.Memory) }
 {
-    let Some((order, rest)) = take_representation(bytes) else {
-        return Ok(None);
-    };
-    let Some((key, rest)) = take_key(rest) else {
-        return Ok(None);
-    };
-    let Some((count, rest)) = take_u32(order, rest) else {
-        return Ok(None);
-    };
-    let count = count as usize;
-    if MAX_VALUE < count {
-        return Ok(None);
-    }
-    let Some((value, _)) = take_octets(rest, count) else {
+    let Some((key, value)) = datum_parts(bytes) else {
         return Ok(None);
     };
     let value = Octets::from_vec(Vec::from_slice(alloc, value)?);
     Ok(Some(Datum { key, value }))
+}
+
+fn datum_key_of(bytes: &[u8]) -> Option<Key>
+    ensures { result ≡ option_map (λ d. d.key) (datum_at bytes.now) }
+{
+    let (key, _) = datum_parts(bytes)?;
+    Some(key)
 }
 
 #[tactic(auto, unfolding(crate::specs::DatumAt::key_form_at))]
@@ -80,6 +94,14 @@ fn key_of(bytes: &[u8]) -> Option<Key>
 }
 
 /// The datum that the bytes begin with, in either order of bytes. `None` where they begin with none.
+///
+/// The value is copied. What follows the datum is not looked at.
+///
+/// # Errors
+///
+/// `Memory` where no memory was found for the value.
+///
+/// RTPS 2.5, clause 10.
 pub fn decode_datum(alloc: Global, bytes: &[u8]) -> Result<Option<Datum>, Code>
     // What is read is spelled so.
     ensures found { IfOk result (λ read. IfSome read (λ d. ReadsDatum bytes.now d)) }
@@ -91,10 +113,27 @@ pub fn decode_datum(alloc: Global, bytes: &[u8]) -> Result<Option<Datum>, Code>
     datum_of(alloc, bytes)
 }
 
-/// The one written form of a datum.
+/// The key of the datum that the bytes begin with. `None` where they begin with none.
+///
+/// The value has to be there, and is not copied: no memory is taken.
+pub fn decode_datum_key(bytes: &[u8]) -> Option<Key>
+    ensures found { IfSome result (λ k. (value : List ℕ) × ReadsDatum bytes.now (record { key = k; value = value })) }
+    ensures only { (d : Datum) → ReadsDatum bytes.now d → result ≡ Some d.key }
+    ensures exact { result ≡ option_map (λ d. d.key) (datum_at bytes.now) }
+{
+    datum_key_of(bytes)
+}
+
+/// The one written form of a datum: little-endian, with nothing after it.
+///
+/// # Errors
+///
+/// `Memory` where no memory was found for the bytes.
+///
+/// RTPS 2.5, clause 10.
 pub fn encode_datum(alloc: Global, datum: &Datum) -> Result<Vec<u8>, Code>
     requires { length datum.now.value ≤ MAX_VALUE }
-    ensures ok { IfOk result (λ bytes. bytes.items ≡ spelled_datum datum.now) }
+    ensures ok { IfOk result (λ bytes. bytes.items ≡ spelling_of_datum datum.now) }
     ensures memory { IfErr result (λ e. e ≡ Code.Memory) }
 {
     let mut out = Vec::new(alloc);
@@ -106,7 +145,9 @@ pub fn encode_datum(alloc: Global, datum: &Datum) -> Result<Vec<u8>, Code>
     Ok(out)
 }
 
-/// The key of a key form, or that a datum begins with.
+/// The key of the key form that the bytes begin with. `None` where they begin with none.
+///
+/// A datum begins with a key form, so its key is found too.
 pub fn decode_key(bytes: &[u8]) -> Option<Key>
     ensures found { IfSome result (λ k. ReadsKey bytes.now k) }
     ensures only { (k : Key) → ReadsKey bytes.now k → result ≡ Some k }
@@ -115,9 +156,15 @@ pub fn decode_key(bytes: &[u8]) -> Option<Key>
     key_of(bytes)
 }
 
-/// The one written form of a key.
+/// The one written form of a key: little-endian, with nothing after it.
+///
+/// # Errors
+///
+/// `Memory` where no memory was found for the bytes.
+///
+/// RTPS 2.5, clause 10.
 pub fn encode_key(alloc: Global, key: &Key) -> Result<Vec<u8>, Code>
-    ensures ok { IfOk result (λ bytes. bytes.items ≡ spelled_key key.now) }
+    ensures ok { IfOk result (λ bytes. bytes.items ≡ spelling_of_key key.now) }
     ensures memory { IfErr result (λ e. e ≡ Code.Memory) }
 {
     let mut out = Vec::new(alloc);
@@ -127,9 +174,9 @@ pub fn encode_key(alloc: Global, key: &Key) -> Result<Vec<u8>, Code>
 }
 
 /// What is written is read as itself, and no bytes are read as two.
-pub fn spelled_is_read()
+pub fn spelling_is_read()
     ensures one_datum { (bytes : List ℕ) (d e : Datum) → ReadsDatum bytes d → ReadsDatum bytes e → d ≡ e }
     ensures one_key { (bytes : List ℕ) (k l : Key) → ReadsKey bytes k → ReadsKey bytes l → k ≡ l }
-    ensures datum { (d : Datum) → IsDatum d → ReadsDatum (spelled_datum d) d }
-    ensures key { (k : Key) → length k.0 ≡ 16 → ReadsKey (spelled_key k) k }
+    ensures datum { (d : Datum) → IsDatum d → ReadsDatum (spelling_of_datum d) d }
+    ensures key { (k : Key) → length k.0 ≡ 16 → ReadsKey (spelling_of_key k) k }
 {}

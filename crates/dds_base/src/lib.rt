@@ -28,7 +28,10 @@ mod tests;
 pub use change::{Change, ChangeKind};
 pub use code::Code;
 pub use config::{Config, PeerConfig, ReaderConfig, WriterConfig};
-pub use datum::{Datum, MAX_VALUE, decode_datum, decode_key, encode_datum, encode_key};
+pub use datum::{
+    Datum, MAX_VALUE, decode_datum, decode_datum_key, decode_key, encode_datum, encode_key,
+    take_key,
+};
 pub use endianness::Endianness;
 pub use field::{take_octets, take_u16, take_u32};
 pub use guid::{EntityId, Guid, GuidPrefix};

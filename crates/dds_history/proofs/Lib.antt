@@ -1,0 +1,2 @@
+pub mod Aging
+pub mod Keeping

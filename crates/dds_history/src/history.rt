@@ -1,0 +1,106 @@
+//! The history of a writer.
+
+ghost use Rattle.std.specs.Prelude.{◌≡◌, ◌+◌, ◌^◌, ◌<◌, [], ◌∷◌, length, IfOk, IfErr, OnErr, nat_lt};
+ghost use Rattle.std.specs.Option.{option_copied};
+ghost use Rattle.dds_base.specs.Kept.{WriterHistory, appended, append_refusal, exceeds, kept_change};
+ghost use Rattle.dds_base.specs.Refusal.{Refuses};
+ghost use Rattle.dds_history.specs.Held.{kept_after};
+ghost use Rattle.dds_history.specs.Standing.{StandsFor};
+
+use crate::held::{HeldChange, add, kept_with};
+use dds_base::{Change, Code, HistoryQos, Key, Sn};
+use std::alloc::Global;
+use std::marker::Model;
+
+/// A writer makes this many changes.
+const MAX_CHANGES: usize = 1 << 48;
+
+/// The changes of a writer, numbered from 1, of which it keeps those that its policy has not dropped.
+///
+/// It has one matched reliable reader, which has acknowledged nothing.
+///
+/// DDS 1.4, 2.2.3 (HISTORY, RESOURCE_LIMITS); RTPS 2.5, 8.2 (HistoryCache).
+#[derive(Drop)]
+pub struct History {
+    policy: HistoryQos,
+    max_samples: Option<u32>,
+    entries: Vec<HeldChange>,
+}
+
+impl Model for History {
+    ghost use Rattle.dds_history.specs.Standing.{Held};
+
+    ghost Value = { Held };
+
+    ghost view = { λ h. record { policy = h.policy; max_samples = h.max_samples; entries = h.entries.items } };
+}
+
+impl History {
+    /// The history of a writer that has made no change. `max_samples` is how many numbers it may keep, `None` any.
+    pub fn open(alloc: Global, policy: HistoryQos, max_samples: Option<u32>) -> History
+        ensures { StandsFor result (record { policy = policy; max_samples = max_samples; changes = []; acknowledged = 1 ∷ [] }) }
+    {
+        History {
+            policy,
+            max_samples,
+            entries: Vec::new(alloc),
+        }
+    }
+
+    /// Appends a change and gives its number, counted from 1.
+    ///
+    /// # Errors
+    ///
+    /// In this order, and each leaves the history as it was: `OutOfResources` after 2^48 changes, `Timeout` where
+    /// more than `max_samples` numbers would be kept (max_blocking_time is 0), `Memory` where a growth was refused.
+    ///
+    /// DDS 1.4, 2.2.3 (RESOURCE_LIMITS).
+    pub fn append(&mut self, change: Change) -> Result<Sn, Code>
+        ensures ok { (w : WriterHistory) → StandsFor self.old w → IfOk result (λ number.
+            (append_refusal w change ≡ None) × (number ≡ length w.changes + 1) × StandsFor self.new (appended w change)) }
+        ensures refused { (w : WriterHistory) → StandsFor self.old w → IfErr result (Refuses (append_refusal w change)) }
+        ensures err { OnErr result (self.new ≡ self.old) }
+    {
+        if MAX_CHANGES <= self.entries.len() {
+            return Err(Code::OutOfResources);
+        }
+        if self.is_full(&change.key) {
+            return Err(Code::Timeout);
+        }
+        add(&mut self.entries, self.policy, change)?;
+        Ok(Sn::new(self.entries.len() as u64))
+    }
+
+    /// Whether one more change of this key would exceed the limit.
+    fn is_full(&self, key: &Key) -> bool
+        requires { length self.now.entries < 2 ^ 48 }
+        ensures { result ≡ exceeds self.now.max_samples (kept_after self.now.policy self.now.entries key.now) }
+    {
+        match self.max_samples {
+            Some(most) => (most as usize) < kept_with(&self.entries, self.policy, key),
+            None => false,
+        }
+    }
+
+    /// The change of a kept number; `None` where the number is not kept.
+    pub fn get(&self, number: Sn) -> Option<&Change>
+        ensures { (w : WriterHistory) → StandsFor self.now w → option_copied result ≡ kept_change w number }
+    {
+        let number = number.number();
+        if number == 0 {
+            return None;
+        }
+        let entry = self.entries.get((number - 1) as usize)?;
+        if entry.remaining == 0 {
+            return None;
+        }
+        Some(&entry.change)
+    }
+
+    /// The number of the last change; 0 before the first.
+    pub fn last(&self) -> Sn
+        ensures { (w : WriterHistory) → StandsFor self.now w → result ≡ length w.changes }
+    {
+        Sn::new(self.entries.len() as u64)
+    }
+}

@@ -1,0 +1,5 @@
+pub mod Tables
+pub mod Growth
+pub mod Composed
+pub mod RunLaws
+pub mod Opened

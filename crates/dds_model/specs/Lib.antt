@@ -1,0 +1,11 @@
+pub mod Numbered
+pub mod Part
+pub mod Moves
+pub mod Calls
+pub mod Claims
+pub mod Peer
+pub mod Machine
+pub mod World
+pub mod Runs
+pub mod Opening
+pub mod Laws

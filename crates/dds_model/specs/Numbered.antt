@@ -1,0 +1,16 @@
+-- Lists whose elements are numbered from 1.
+use Rattle.std.specs.Prelude.{ℕ, zero, suc, ◌≤◌, List, get_or, set, length}
+
+-- the element of this number, or the one given where there is none
+abbrev pub numbered : {X : Type 0} → List X → ℕ → X → X
+numbered xs zero none = none
+numbered xs (suc n) none = get_or xs n none
+
+-- the list with another element of this number
+abbrev pub with_numbered : {X : Type 0} → List X → ℕ → X → List X
+with_numbered xs zero x = xs
+with_numbered xs (suc n) x = set xs n x
+
+-- there is an element of this number
+abbrev pub HasNumber : {X : Type 0} → List X → ℕ → Type 0
+HasNumber xs n = (1 ≤ n) × (n ≤ length xs)

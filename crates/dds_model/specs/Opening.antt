@@ -1,0 +1,70 @@
+-- The opening of a configuration: writers and readers of equal topic are matched, nothing has happened, each place is 1
+-- and nothing is acknowledged.
+use Rattle.std.specs.Prelude.{ℕ, ◌+◌, ◌==◌, cond, List, [], ◌∷◌, ◌++◌, map}
+use Rattle.dds_base.specs.declared.config.Config.{Config}
+use Rattle.dds_base.specs.declared.config.PeerConfig.{PeerConfig}
+use Rattle.dds_base.specs.declared.config.WriterConfig.{WriterConfig}
+use Rattle.dds_base.specs.declared.config.ReaderConfig.{ReaderConfig}
+use Rattle.dds_base.specs.declared.qos.MatchedWriter.{MatchedWriter}
+use Rattle.dds_base.specs.declared.qos.ReaderQos.{ReaderQos}
+use Rattle.dds_model.specs.Part.{ReaderProxy, WriterProxy, Writer, Part}
+use Rattle.dds_model.specs.Calls.{limit_of}
+use Rattle.dds_model.specs.Peer.{Peer}
+use Rattle.dds_model.specs.Machine.{Machine}
+use Rattle.dds_model.specs.World.{WorldState, machine_of}
+
+-- the readers of the topic among these, of which the first has this number
+abbrev pub readers_in : ℕ → ℕ → ℕ → List ReaderConfig → List ReaderProxy
+readers_in topic peer number [] = []
+readers_in topic peer number (r ∷ rs) =
+    cond (r.topic == topic) (record { reader = record { peer = peer; number = number }; acknowledged = 1 } ∷ readers_in topic peer (number + 1) rs) (readers_in topic peer (number + 1) rs)
+
+-- the same of these peers
+abbrev pub matched_readers : ℕ → ℕ → List PeerConfig → List ReaderProxy
+matched_readers topic peer [] = []
+matched_readers topic peer (p ∷ ps) = readers_in topic peer 1 p.readers ++ matched_readers topic (peer + 1) ps
+
+-- the writers of the topic among these, of which the first has this number
+abbrev pub writers_in : ℕ → ℕ → ℕ → List WriterConfig → List WriterProxy
+writers_in topic peer number [] = []
+writers_in topic peer number (w ∷ ws) =
+    cond (w.topic == topic) (record { writer = record { peer = peer; number = number }; place = 1 } ∷ writers_in topic peer (number + 1) ws) (writers_in topic peer (number + 1) ws)
+
+-- the same of these peers, in the order of publication handles: by peer, then by writer
+abbrev pub matched_writers : ℕ → ℕ → List PeerConfig → List WriterProxy
+matched_writers topic peer [] = []
+matched_writers topic peer (p ∷ ps) = writers_in topic peer 1 p.writers ++ matched_writers topic (peer + 1) ps
+
+-- what a reader's QoS says of the writers of the topic among a peer's
+abbrev pub writer_qos_in : ℕ → PeerConfig → List WriterConfig → List MatchedWriter
+writer_qos_in topic peer [] = []
+writer_qos_in topic peer (w ∷ ws) =
+    cond (w.topic == topic) (record { guid = record { prefix = peer.prefix; entity = w.entity }; strength = w.strength; lease = w.lease } ∷ writer_qos_in topic peer ws) (writer_qos_in topic peer ws)
+
+abbrev pub writer_qos : ℕ → List PeerConfig → List MatchedWriter
+writer_qos topic [] = []
+writer_qos topic (p ∷ ps) = writer_qos_in topic p p.writers ++ writer_qos topic ps
+
+abbrev pub reader_qos : List PeerConfig → ReaderConfig → ReaderQos
+reader_qos peers r = record { ownership = r.ownership; history = r.history; max_samples = limit_of r.max_samples; max_instances = limit_of r.max_instances; writers = writer_qos r.topic peers }
+
+abbrev pub opening_writer : List PeerConfig → WriterConfig → Writer
+opening_writer peers w = record { policy = w.history; max_samples = limit_of w.max_samples; written = []; readers = matched_readers w.topic 1 peers }
+
+abbrev pub opening_part : List PeerConfig → PeerConfig → Part
+opening_part peers p = record {
+  rtps = record { writers = map (opening_writer peers) p.writers; readers = map (λ (r : ReaderConfig). matched_writers r.topic 1 peers) p.readers };
+  dds = record { moment = 0; readers = map (λ (r : ReaderConfig). record { qos = reader_qos peers r; happened = [] }) p.readers };
+}
+
+abbrev pub opening_peers : List PeerConfig → ℕ → List PeerConfig → List Peer
+opening_peers peers number [] = []
+opening_peers peers number (p ∷ ps) = record { number = number; part = opening_part peers p; delivered = [] } ∷ opening_peers peers (number + 1) ps
+
+-- the network at its opening
+abbrev pub opening_world : Config → WorldState
+opening_world config = record { peers = opening_peers config.peers 1 config.peers; sent = [] }
+
+-- the machine at its opening
+abbrev pub opening : Config → Machine
+opening config = machine_of (opening_world config)

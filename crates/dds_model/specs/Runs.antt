@@ -1,0 +1,58 @@
+-- Runs: replies to lists of events, with the packets that are sent meanwhile.
+use Rattle.std.specs.Prelude.{◌≡◌, ◌≢◌, ◌⊎◌, ℕ, ◌+◌, ◌-◌, ◌^◌, ◌≤◌, List, [], ◌∷◌, ◌++◌, length, ◌==◌, if◌then◌else◌, Contains, AllPairs}
+use Rattle.std.specs.List.{list_any}
+use Rattle.dds_base.specs.declared.change.Change.{Change}
+use Rattle.dds_base.specs.declared.config.Config.{Config}
+use Rattle.dds_model.specs.declared.call.Call.TheVariants.{Write}
+use Rattle.dds_model.specs.declared.endpoint.Endpoint.{Endpoint}
+use Rattle.dds_model.specs.declared.event.WorldEvent.{WorldEvent}
+use Rattle.dds_model.specs.declared.event.WorldEvent.TheVariants as world
+use Rattle.dds_model.specs.declared.event.Packet.{Packet}
+use Rattle.dds_model.specs.declared.reply.Reply.{Reply}
+use Rattle.dds_model.specs.declared.reply.Reply.TheVariants.{Done}
+use Rattle.dds_model.specs.Part.{ReaderProxy, acknowledged_of, writer_changes}
+use Rattle.dds_model.specs.Calls.{written_change}
+use Rattle.dds_model.specs.Claims.{ChangeIs, Claims}
+use Rattle.dds_model.specs.Machine.{Machine, part_at, writer_at, Step}
+
+-- the packets that were sent, and how many found no memory, which stays at its greatest value
+pub record Traffic : Type 0 where
+  pub sent : List Packet
+  pub unsent : ℕ
+
+-- the peers of these readers, each once
+abbrev pub peers_of : List ReaderProxy → List ℕ
+peers_of [] = []
+peers_of (p ∷ ps) = if list_any (λ peer. peer == p.reader.peer) (peers_of ps) then peers_of ps else p.reader.peer ∷ peers_of ps
+
+-- A change of a writer is announced: each peer with a matched reader is sent one packet, in which the change is for each
+-- such reader, or the packet is counted as unsent.
+pub record Announced (config : Config) (old : Traffic) (writer : Endpoint) (readers : List ReaderProxy) (number : ℕ) (change : Change) (new : Traffic) : Type 0 where
+  pub packets : List Packet
+  pub sent : new.sent ≡ old.sent ++ packets
+  pub to_peers : (packet : Packet) → Contains packets packet → Contains (peers_of readers) packet.to
+  pub says : (packet : Packet) (reader : Endpoint) → Contains packets packet → reader.peer ≡ packet.to → 1 ≤ acknowledged_of readers reader → Claims config packet.bytes (ChangeIs writer reader number change)
+  pub different : AllPairs (λ (a b : Packet). a.to ≢ b.to) packets
+  pub counted : (length packets + new.unsent ≡ length (peers_of readers) + old.unsent) ⊎ (new.unsent ≡ 2 ^ 64 - 1)
+
+-- packets were sent, and none was taken back
+pub record SendsMore (old new : Traffic) : Type 0 where
+  pub packets : List Packet
+  pub sent : new.sent ≡ old.sent ++ packets
+  pub unsent : old.unsent ≤ new.unsent
+
+-- What is sent at an event: an accepted change is announced; another call, or a refused one, sends nothing.
+abbrev pub Sends : Config → Traffic → Machine → WorldEvent → Reply → Traffic → Type 0
+Sends config old m (world.Call peer (Write writer key value)) Done new =
+    Announced config old (record { peer = peer; number = writer }) (writer_at m (record { peer = peer; number = writer })).readers
+    (length (writer_changes (writer_at m (record { peer = peer; number = writer }))) + 1) (written_change (part_at m peer) key value) new
+Sends config old m (world.Call peer call) reply new = new ≡ old
+Sends config old m (world.Deliver peer packet) reply new = SendsMore old new
+
+-- Replies to a list of events, one step after another, with the packets before and after.
+abbrev pub Run : Config → Traffic → Machine → List WorldEvent → List Reply → Traffic → Machine → Type 0
+Run config sent old [] [] last new = (new ≡ old) × (last ≡ sent)
+Run config sent old (event ∷ events) (reply ∷ replies) last new =
+    (mid : Machine) × (next : Traffic) × Step (length sent.sent) old event reply mid × Sends config sent old event reply next × Run config next mid events replies last new
+Run config sent old [] (reply ∷ replies) last new = ⊥
+Run config sent old (event ∷ events) [] last new = ⊥

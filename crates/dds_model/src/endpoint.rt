@@ -1,0 +1,10 @@
+//! The names of writers and readers among all peers.
+
+/// A writer or a reader, by its peer and by its number there; both count from 1, in the order of the configuration.
+///
+/// RTPS 2.5, 8.2 (Endpoint).
+#[derive(Clone, Copy, Debug, PartialEq, Eq)]
+pub struct Endpoint {
+    pub peer: u8,
+    pub number: u8,
+}

@@ -1,0 +1,36 @@
+//! What happens to a peer, and to a network of peers.
+
+use crate::call::Call;
+use crate::reply::Reply;
+use dds_base::{Octets, Sequence};
+
+/// The bytes of a packet, and the number of the peer that it goes to.
+#[derive(Debug, Drop)]
+pub struct Packet {
+    pub to: u8,
+    pub bytes: Octets,
+}
+
+/// What happens to one peer.
+#[derive(Debug, Drop)]
+pub enum Event {
+    Call(Call),
+    /// The bytes of a packet come.
+    Deliver(Octets),
+}
+
+/// What a peer gives back: its answer, the packets that it sends, and how many it could not make for want of memory.
+#[derive(Debug, Drop)]
+pub struct Output {
+    pub reply: Reply,
+    pub packets: Sequence<Packet>,
+    pub unsent: u64,
+}
+
+/// What happens to a network of peers, which are numbered from 1.
+#[derive(Debug, Drop)]
+pub enum WorldEvent {
+    Call { peer: u8, call: Call },
+    /// The packet of this number, counted from 1 among all that were ever sent, comes at a peer.
+    Deliver { peer: u8, packet: u64 },
+}

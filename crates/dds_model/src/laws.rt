@@ -1,0 +1,23 @@
+//! What holds of every network and every run.
+
+ghost use Rattle.dds_model.specs.Laws.{Composes, ComposesRuns, KeepAllIsKept, OpensSound};
+
+/// All that packets claim is true at the opening of every configuration.
+pub fn opens_sound()
+    ensures { OpensSound }
+{}
+
+/// A step of a network's peers, on packets that were sent, is a step of the machine, and leaves all claims true.
+pub fn composes()
+    ensures { Composes }
+{}
+
+/// A run of a network's peers is a run of the machine.
+pub fn composes_runs()
+    ensures { ComposesRuns }
+{}
+
+/// No run passes over a change of a writer that keeps all.
+pub fn keep_all_is_kept()
+    ensures { KeepAllIsKept }
+{}

@@ -1,0 +1,17 @@
+//! The machine without packets, the world of peers, and the laws between them: what a peer's events and replies are,
+//! and which replies are right.
+//!
+//! It has no code that runs: its functions are laws, and `specs/` holds the definitions that the contracts of peers and
+//! of networks cite.
+#![tactic(auto)]
+
+mod call;
+mod endpoint;
+mod event;
+pub mod laws;
+mod reply;
+
+pub use call::Call;
+pub use endpoint::Endpoint;
+pub use event::{Event, Output, Packet, WorldEvent};
+pub use reply::{Move, PassedRun, Reply, Report};

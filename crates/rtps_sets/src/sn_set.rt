@@ -1,0 +1,103 @@
+//! A set of sequence numbers from its base on.
+
+ghost use Rattle.std.specs.Prelude.{◌≡◌, ◌≤◌, ◌<◌, ◌+◌, ◌-◌, ◌==◌, ◌||◌, ℕ, false, true, IsTrue, length, slice_set};
+ghost use Rattle.rtps_sets.specs.NumberSet.{empty_from, has_number, span};
+
+use dds_base::Sn;
+use std::marker::Model;
+
+/// How many numbers, from its base on, a set can have.
+///
+/// RTPS 2.5, 8.3.5.5: the members of a SequenceNumberSet lie within 256 numbers.
+pub const MAX_BITS: usize = 256;
+
+/// A set of numbers, each from the base to the base plus 255. It takes no memory.
+///
+/// RTPS 2.5, 8.3.5.5 (SequenceNumberSet).
+#[derive(Clone, Copy, Debug)]
+pub struct SnSet {
+    base: u64,
+    members: [bool; 256],
+}
+
+impl Model for SnSet {
+    ghost use Rattle.rtps_sets.specs.NumberSet.{NumberSet};
+
+    ghost Value = { NumberSet };
+
+    ghost view = { λ s. record { base = s.base; members = s.members } };
+
+    ghost inverse = { λ s. record { base = s.base; members = s.members } };
+}
+
+impl SnSet {
+    /// The empty set from a base on.
+    pub fn new(base: Sn) -> SnSet
+        ensures empty { result ≡ empty_from base }
+        ensures none { (n : ℕ) → has_number result n ≡ false }
+    {
+        SnSet {
+            base: base.number(),
+            members: [false; 256],
+        }
+    }
+
+    /// The number from which on the members lie.
+    pub fn base(&self) -> Sn
+        ensures base { result ≡ self.now.base }
+        ensures places { length self.now.members ≡ 256 }
+    {
+        let members: &[bool] = &self.members;
+        let _places = members.len();
+        Sn::new(self.base)
+    }
+
+    /// Makes a number a member, whether or not it is one.
+    pub fn insert(&mut self, number: Sn)
+        requires from { self.old.base ≤ number }
+        requires to { number < self.old.base + 256 }
+        ensures base { self.new.base ≡ self.old.base }
+        ensures member { (n : ℕ) → has_number self.new n ≡ (has_number self.old n || n == number) }
+        ensures members { self.new.members ≡ slice_set self.old.members (number - self.old.base) true }
+    {
+        self.members[(number.number() - self.base) as usize] = true;
+    }
+
+    /// Whether a number is a member. Every number may be asked for.
+    pub fn has(&self, number: Sn) -> bool
+        ensures { result ≡ has_number self.now number }
+    {
+        let number = number.number();
+        if number < self.base {
+            return false;
+        }
+        let place = number - self.base;
+        place < 256 && self.members[place as usize]
+    }
+
+    /// The greatest member minus the base plus 1, and 0 for the empty set: from 0 to 256.
+    ///
+    /// RTPS 2.5, 9.4.2.6 (numBits): the least that names each member.
+    pub fn bits(&self) -> usize
+        ensures bits { result ≡ span self.now.members }
+        ensures within { result ≤ 256 }
+        ensures last { 0 < result → IsTrue (has_number self.now (self.now.base + result - 1)) }
+        ensures past { (n : ℕ) → self.now.base + result ≤ n → has_number self.now n ≡ false }
+    {
+        span_of(&self.members)
+    }
+}
+
+/// One more than the last place that is true, or 0.
+fn span_of(members: &[bool]) -> usize
+    ensures bits { result ≡ span members.now }
+    ensures within { result ≤ length members.now }
+{
+    let mut bits = 0;
+    for (place, is_member) in members.iter().enumerate() {
+        if *is_member {
+            bits = place + 1;
+        }
+    }
+    bits
+}

@@ -1,0 +1,256 @@
+-- What is read of a DATA is what it says, and what it says is read.
+use Rattle.std.proofs.Common.{◌≡◌, ℕ, ◌+◌, ◌-◌, ◌^◌, ◌<◌, ◌≤◌, Bool, true, false, cond, ltb, List, [], ◌++◌, length, Option, Some, None, refl, sym, ap, subst, ◌∙◌, arith}
+use Rattle.std.specs.Prelude.{MatchBool, slice_index, unwrap_or}
+use Rattle.std.specs.Option.{option_map, option_or}
+use Rattle.std.specs.Int.{w16}
+use Rattle.std.proofs.lemmas.Bool.{ltb-false, le-ltb}
+use Rattle.std.proofs.lemmas.Option.{option_and_then_some}
+use Rattle.dds_base.specs.declared.endianness.Endianness.{Endianness}
+use Rattle.dds_base.specs.declared.guid.EntityId.{EntityId}
+use Rattle.dds_base.specs.declared.key.Key.{Key}
+use Rattle.dds_base.specs.Fields.{number_at, octets_at, both, ◌>>=◌}
+use Rattle.dds_base.specs.DatumText.{ReadsDatum}
+use Rattle.dds_base.specs.DatumAt.{datum_at}
+use Rattle.dds_base.proofs.FieldLaws.{AreOctets, guard_some, some_is, cond_is, field_u16, field_octets, field_both}
+use Rattle.dds_base.proofs.DatumLaws.{datum_found, datum_only, datum_key_found, datum_key_only, key_form_found, key_form_only}
+use Rattle.rtps_wire.specs.declared.data.Data.{Data}
+use Rattle.rtps_wire.specs.declared.data.DataContent.{DataContent}
+use Rattle.rtps_wire.specs.declared.data.DataContent.TheVariants.{Write, Dispose, Unregister, DisposeUnregister}
+use Rattle.rtps_wire.specs.declared.parameters.Parameters.{Parameters}
+use Rattle.rtps_wire.specs.Fields.{has_flag, order_of}
+use Rattle.rtps_wire.specs.FieldAt.{entity_id_at, sn_at}
+use Rattle.rtps_wire.specs.Parameters.{Parameter, ReadsParameters, value_of, status_of}
+use Rattle.rtps_wire.specs.Data.{data_head, ShowsKey, SaysContent, ReadsData, IsData}
+use Rattle.rtps_wire.specs.DataAt.{data_head_at, shown_key_at, ended_at, content_by, content_at, inline_at, data_at}
+use Rattle.rtps_wire.proofs.WireFields.{field_entity_id, field_sn}
+use Rattle.rtps_wire.proofs.ParameterLaws.{summed, nothing, parameters_found, parameters_only}
+
+-- ---- the key
+
+abbrev hash_in : List Parameter → Option Key
+hash_in ps = (summed nothing ps).key_hash
+
+hash_is : (o : Option (List ℕ)) (k : Key) → option_map (λ (v : List ℕ). record { 0 = v }) o ≡ Some k → o ≡ Some k.0
+hash_is None k e = absurd cc
+hash_is (Some v) k e = ap (λ (x : Key). Some x.0) (some_is _ k e)
+
+hash_again : (o : Option (List ℕ)) (k : Key) → o ≡ Some k.0 → option_map (λ (v : List ℕ). record { 0 = v }) o ≡ Some k
+hash_again o k e = ap (option_map (λ (v : List ℕ). record { 0 = v })) e
+
+key_found : (datum key : Bool) (ps : List Parameter) (payload : List ℕ) (k : Key) → AreOctets payload → shown_key_at datum key (hash_in ps) payload ≡ Some k → ShowsKey datum key ps payload k
+unfolding shown_key_at
+key_found true true ps payload k octets e = absurd cc
+key_found true false ps payload k octets e = datum_key_found payload k octets (sym e)
+key_found false true ps payload k octets e = key_form_found payload k octets e
+key_found false false ps payload k octets e = hash_is (value_of 112 ps) k e
+
+key_only : (datum key : Bool) (ps : List Parameter) (payload : List ℕ) (k : Key) → ShowsKey datum key ps payload k → shown_key_at datum key (hash_in ps) payload ≡ Some k
+unfolding shown_key_at
+key_only true true ps payload k shows = absurd shows
+key_only true false ps payload k shows = datum_key_only payload (record { key = k; value = shows.0 }) shows.1
+key_only false true ps payload k shows = key_form_only payload k shows
+key_only false false ps payload k shows = hash_again (value_of 112 ps) k shows
+
+-- ---- what is said
+
+-- `SaysContent`, by disposed, unregistered, D and K
+abbrev Says : Bool → Bool → Bool → Bool → List Parameter → List ℕ → DataContent → Type 0
+Says disposed unregistered datum key ps payload (Write d) = ((disposed ≡ false) × (unregistered ≡ false)) × (datum ≡ true) × (key ≡ false) × ReadsDatum payload d
+Says disposed unregistered datum key ps payload (Dispose k) = ((disposed ≡ true) × (unregistered ≡ false)) × ShowsKey datum key ps payload k
+Says disposed unregistered datum key ps payload (Unregister k) = ((disposed ≡ false) × (unregistered ≡ true)) × ShowsKey datum key ps payload k
+Says disposed unregistered datum key ps payload (DisposeUnregister k) = ((disposed ≡ true) × (unregistered ≡ true)) × ShowsKey datum key ps payload k
+
+pub mapped_some : {A B P : Type 0} (f : A → B) (o : Option A) (y : B) → option_map f o ≡ Some y → ((x : A) → o ≡ Some x → f x ≡ y → P) → P
+mapped_some f None y e go = absurd cc
+mapped_some f (Some x) y e go = go x refl (some_is (f x) y e)
+
+says_found : (disposed unregistered datum key : Bool) (ps : List Parameter) (payload : List ℕ) (c : DataContent) → AreOctets payload → content_by disposed unregistered datum key (hash_in ps) payload ≡ Some c → Says disposed unregistered datum key ps payload c
+unfolding content_by ended_at
+says_found false false true false ps payload c octets e = mapped_some Write (datum_at payload) c e (λ d q r.
+    subst (λ (x : DataContent). Says false false true false ps payload x) r ((refl, refl), refl, refl, datum_found payload d octets q))
+says_found false false true true ps payload c octets e = absurd cc
+says_found false false false key ps payload c octets e = absurd cc
+says_found true true datum key ps payload c octets e = mapped_some DisposeUnregister (shown_key_at datum key (hash_in ps) payload) c e (λ k q r.
+    subst (λ (x : DataContent). Says true true datum key ps payload x) r ((refl, refl), key_found datum key ps payload k octets q))
+says_found true false datum key ps payload c octets e = mapped_some Dispose (shown_key_at datum key (hash_in ps) payload) c e (λ k q r.
+    subst (λ (x : DataContent). Says true false datum key ps payload x) r ((refl, refl), key_found datum key ps payload k octets q))
+says_found false true datum key ps payload c octets e = mapped_some Unregister (shown_key_at datum key (hash_in ps) payload) c e (λ k q r.
+    subst (λ (x : DataContent). Says false true datum key ps payload x) r ((refl, refl), key_found datum key ps payload k octets q))
+
+says_only : (disposed unregistered datum key : Bool) (ps : List Parameter) (payload : List ℕ) (c : DataContent) → Says disposed unregistered datum key ps payload c → content_by disposed unregistered datum key (hash_in ps) payload ≡ Some c
+unfolding content_by ended_at
+says_only disposed unregistered datum key ps payload (Write d) says = rw (says.0.0, says.0.1, says.1, says.2, datum_only payload d says.3) refl
+says_only disposed unregistered datum key ps payload (Dispose k) says = rw (says.0.0, says.0.1, key_only datum key ps payload k says.1) refl
+says_only disposed unregistered datum key ps payload (Unregister k) says = rw (says.0.0, says.0.1, key_only datum key ps payload k says.1) refl
+says_only disposed unregistered datum key ps payload (DisposeUnregister k) says = rw (says.0.0, says.0.1, key_only datum key ps payload k says.1) refl
+
+-- the status that is found is that of the status info
+status_is : (o : Option (List ℕ)) → unwrap_or (option_or None (option_map (λ (v : List ℕ). slice_index v 3) o)) 0 ≡ slice_index (unwrap_or o []) 3
+status_is None = refl
+status_is (Some v) = refl
+
+content_found : (flags : ℕ) (ps : List Parameter) (payload : List ℕ) (c : DataContent) → AreOctets payload → content_at flags (summed nothing ps) payload ≡ Some c → SaysContent flags ps payload c
+unfolding content_at
+content_found flags ps payload c octets e =
+    let said : Says (has_flag (status_of ps) 1) (has_flag (status_of ps) 2) (has_flag flags 4) (has_flag flags 8) ps payload c =
+    says_found (has_flag (status_of ps) 1) (has_flag (status_of ps) 2) (has_flag flags 4) (has_flag flags 8) ps payload c octets (rw (status_is (value_of 113 ps)) at e) in
+    as_said c said
+  where
+    as_said : (x : DataContent) → Says (has_flag (status_of ps) 1) (has_flag (status_of ps) 2) (has_flag flags 4) (has_flag flags 8) ps payload x → SaysContent flags ps payload x
+    as_said (Write d) s = s
+    as_said (Dispose k) s = s
+    as_said (Unregister k) s = s
+    as_said (DisposeUnregister k) s = s
+
+content_only : (flags : ℕ) (ps : List Parameter) (payload : List ℕ) (c : DataContent) → SaysContent flags ps payload c → content_at flags (summed nothing ps) payload ≡ Some c
+unfolding content_at
+content_only flags ps payload c says =
+    rw (status_is (value_of 113 ps)) (says_only (has_flag (status_of ps) 1) (has_flag (status_of ps) 2) (has_flag flags 4) (has_flag flags 8) ps payload c (as_said c says))
+  where
+    as_said : (x : DataContent) → SaysContent flags ps payload x → Says (has_flag (status_of ps) 1) (has_flag (status_of ps) 2) (has_flag flags 4) (has_flag flags 8) ps payload x
+    as_said (Write d) s = s
+    as_said (Dispose k) s = s
+    as_said (Unregister k) s = s
+    as_said (DisposeUnregister k) s = s
+
+-- ---- the parameters, where there are any
+
+abbrev IsInline : Bool → Endianness → List ℕ → List Parameter → List ℕ → Type 0
+IsInline b order bytes ps payload = MatchBool b (ReadsParameters order bytes ps payload) ((ps ≡ []) × (payload ≡ bytes))
+
+record FindsInline (flags : ℕ) (bytes : List ℕ) (x : Parameters × List ℕ) : Type 0 where
+  parameters : List Parameter
+  inline : IsInline (has_flag flags 2) (order_of flags) bytes parameters x.1
+  sum : x.0 ≡ summed nothing parameters
+  octets : AreOctets x.1
+
+match_true : (b : Bool) (P Q : Type 0) → b ≡ true → P → MatchBool b P Q
+match_true true P Q e p = p
+match_true false P Q e p = absurd cc
+
+match_false : (b : Bool) (P Q : Type 0) → b ≡ false → Q → MatchBool b P Q
+match_false true P Q e q = absurd cc
+match_false false P Q e q = q
+
+inline_found : (flags : ℕ) (bytes : List ℕ) (x : Parameters × List ℕ) → AreOctets bytes → inline_at flags bytes ≡ Some x → FindsInline flags bytes x
+unfolding inline_at
+inline_found flags bytes x octets e =
+    let order = order_of flags in
+    let whole : Parameters × List ℕ = (nothing, bytes) in
+    cond_is {P = FindsInline flags bytes x} (has_flag flags 2) _ (Some whole) (Some x) e
+    (λ set p.
+    let f = parameters_found order bytes x octets p in
+    record { parameters = f.parameters; inline = match_true (has_flag flags 2) (ReadsParameters (order_of flags) bytes f.parameters x.1) ((f.parameters ≡ []) × (x.1 ≡ bytes)) set f.reads; sum = f.sum; octets = f.octets })
+    (λ clear p. subst (λ (y : Parameters × List ℕ). FindsInline flags bytes y) (some_is whole x p) (record {
+      parameters = [];
+      inline = match_false (has_flag flags 2) (ReadsParameters (order_of flags) bytes [] bytes) (([] ≡ []) × (bytes ≡ bytes)) clear (refl, refl);
+      sum = refl;
+      octets = octets;
+    }))
+
+inline_by : (b : Bool) (order : Endianness) (bytes : List ℕ) (ps : List Parameter) (payload : List ℕ) (read : Option (Parameters × List ℕ)) → (ReadsParameters order bytes ps payload → read ≡ Some (summed nothing ps, payload)) → IsInline b order bytes ps payload
+    → cond b read (Some (nothing, bytes)) ≡ Some (summed nothing ps, payload)
+inline_by true order bytes ps payload read again i = again i
+inline_by false order bytes ps payload read again i = rw (i.0, i.1) refl
+
+inline_only : (flags : ℕ) (bytes : List ℕ) (ps : List Parameter) (payload : List ℕ) → IsInline (has_flag flags 2) (order_of flags) bytes ps payload → inline_at flags bytes ≡ Some (summed nothing ps, payload)
+unfolding inline_at
+inline_only flags bytes ps payload i = inline_by (has_flag flags 2) (order_of flags) bytes ps payload _ (parameters_only (order_of flags) bytes ps payload) i
+
+-- ---- the head
+
+record HasHead (order : Endianness) (body : List ℕ) (x : ℕ × EntityId × EntityId × ℕ × List ℕ) : Type 0 where
+  extra : ℕ
+  extra_small : extra < 2 ^ 16
+  way_small : x.0 < 2 ^ 16
+  reader : length x.1.0 ≡ 4
+  writer : length x.2.0 ≡ 4
+  small : x.3 ≤ 2 ^ 62
+  text : body ≡ data_head order extra x.0 x.1 x.2 x.3 ++ x.4
+  octets : AreOctets x.4
+
+abbrev head_fields : Endianness → List ℕ → Option (((((ℕ × ℕ) × EntityId) × EntityId) × ℕ) × List ℕ)
+head_fields order = both (both (both (both (number_at order w16) (number_at order w16)) entity_id_at) entity_id_at) (sn_at order)
+
+head_found : (order : Endianness) (body : List ℕ) (x : ℕ × EntityId × EntityId × ℕ × List ℕ) → AreOctets body → data_head_at order body ≡ Some x → HasHead order body x
+unfolding data_head_at
+head_found order body x octets e = option_and_then_some (λ y. Some (y.0.0.0.0.1, y.0.0.0.1, y.0.0.1, y.0.1, y.1)) (head_fields order body) x e (λ y q r.
+    let t = (field_both (field_both (field_both (field_both (field_u16 order) (field_u16 order)) field_entity_id) field_entity_id) (field_sn order)).takes body y.0 y.1 octets q in
+    subst (λ (z : ℕ × EntityId × EntityId × ℕ × List ℕ). HasHead order body z) (some_is (y.0.0.0.0.1, y.0.0.0.1, y.0.0.1, y.0.1, y.1) x r) (record {
+      extra = y.0.0.0.0.0;
+      extra_small = t.1.0.0.0.0;
+      way_small = t.1.0.0.0.1;
+      reader = t.1.0.0.1;
+      writer = t.1.0.1;
+      small = t.1.1;
+      text = t.0.parts;
+      octets = t.0.octets;
+    }))
+
+head_only : (order : Endianness) (extra way : ℕ) (reader writer : EntityId) (n : ℕ) (rest : List ℕ) → extra < 2 ^ 16 → way < 2 ^ 16 → length reader.0 ≡ 4 → length writer.0 ≡ 4 → n ≤ 2 ^ 62
+    → data_head_at order (data_head order extra way reader writer n ++ rest) ≡ Some (way, reader, writer, n, rest)
+unfolding data_head_at
+head_only order extra way reader writer n rest p q r s t =
+    rw ((field_both (field_both (field_both (field_both (field_u16 order) (field_u16 order)) field_entity_id) field_entity_id) (field_sn order)).again ((((extra, way), reader), writer), n) rest ((((p, q), r), s), t)) refl
+
+-- ---- the whole
+
+pub record FindsData (flags : ℕ) (body : List ℕ) (d : Data) : Type 0 where
+  pub standard : has_flag flags 16 ≡ false
+  pub reads : ReadsData flags body d
+  pub valid : IsData d
+
+pub data_found : (flags : ℕ) (body : List ℕ) (d : Data) → AreOctets body → data_at flags body ≡ Some d → FindsData flags body d
+unfolding data_at
+data_found flags body d octets e =
+    let order = order_of flags in
+    let after : ℕ × EntityId × EntityId × ℕ × List ℕ → Option Data = λ x. cond (ltb x.0 16) None (octets_at (x.0 - 16) x.4) >>= λ s. inline_at flags s.1 >>= λ p. content_at flags p.0 p.1 >>= λ c. cond (ltb x.3 1) None (Some (record { reader_id = x.1; writer_id = x.2; writer_sn = x.3; content = c })) in
+    let g = guard_some (has_flag flags 16) (data_head_at (order_of flags) body >>= after) d e in
+    option_and_then_some after (data_head_at (order_of flags) body) d g.1 (λ x q r.
+    let head = head_found order body x octets q in
+    option_and_then_some (λ s. inline_at flags s.1 >>= λ p. content_at flags p.0 p.1 >>= λ c. cond (ltb x.3 1) None (Some (record { reader_id = x.1; writer_id = x.2; writer_sn = x.3; content = c }))) (cond (ltb x.0 16) None (octets_at (x.0 - 16) x.4)) d r (λ s q2 r2.
+    let long = guard_some (ltb x.0 16) (octets_at (x.0 - 16) x.4) s q2 in
+    let way : 16 ≤ x.0 = ltb-false _ _ long.0 in
+    let skipped = (field_octets (x.0 - 16)).takes x.4 s.0 s.1 head.octets long.1 in
+    option_and_then_some (λ p. content_at flags p.0 p.1 >>= λ c. cond (ltb x.3 1) None (Some (record { reader_id = x.1; writer_id = x.2; writer_sn = x.3; content = c }))) (inline_at flags s.1) d r2 (λ p q3 r3.
+    let inline = inline_found flags s.1 p skipped.0.octets q3 in
+    option_and_then_some (λ c. cond (ltb x.3 1) None (Some (record { reader_id = x.1; writer_id = x.2; writer_sn = x.3; content = c }))) (content_at flags p.0 p.1) d r3 (λ c q4 r4.
+    let made : Data = record { reader_id = x.1; writer_id = x.2; writer_sn = x.3; content = c } in
+    let first = guard_some (ltb x.3 1) (Some made) d r4 in
+    let way-is : x.0 ≡ 16 + length s.0 = omega (arith, skipped.1) in
+    let same : content_at flags (summed nothing inline.parameters) p.1 ≡ Some c = rw (← inline.sum) q4 in
+    subst (λ (y : Data). FindsData flags body y) (some_is made d first.1) (record {
+      standard = g.0;
+      reads = record {
+        extra = head.extra;
+        skipped = s.0;
+        from_parameters = s.1;
+        parameters = inline.parameters;
+        payload = p.1;
+        extra_small = head.extra_small;
+        skipped_small = rw (← way-is) head.way_small;
+        text = head.text ∙ ap (λ (w : ℕ). data_head order head.extra w x.1 x.2 x.3 ++ x.4) way-is ∙ ap (λ (z : List ℕ). data_head order head.extra (16 + length s.0) x.1 x.2 x.3 ++ z) skipped.0.parts;
+        inline = inline.inline;
+        says = content_found flags inline.parameters p.1 c inline.octets same;
+      };
+      valid = record { reader = head.reader; writer = head.writer; first = ltb-false _ _ first.0; small = head.small };
+    })))))
+
+pub data_only : (flags : ℕ) (d : Data) (body : List ℕ) → has_flag flags 16 ≡ false → ReadsData flags body d → IsData d → data_at flags body ≡ Some d
+unfolding data_at
+data_only flags d body standard x valid =
+    let order = order_of flags in
+    let way : ltb (16 + length x.skipped) 16 ≡ false = le-ltb _ _ (omega arith) in
+    let sub : 16 + length x.skipped - 16 ≡ length x.skipped = omega arith in
+    let first : ltb d.writer_sn 1 ≡ false = le-ltb _ _ valid.first in
+    ap (data_at flags) x.text
+    ∙ rw (
+      standard,
+      head_only (order_of flags) x.extra (16 + length x.skipped) d.reader_id d.writer_id d.writer_sn (x.skipped ++ x.from_parameters) x.extra_small x.skipped_small valid.reader valid.writer valid.small,
+      way,
+      sub,
+      (field_octets (length x.skipped)).again x.skipped x.from_parameters refl,
+      inline_only flags x.from_parameters x.parameters x.payload x.inline,
+      content_only flags x.parameters x.payload d.content x.says,
+      first,
+    ) refl

@@ -1,0 +1,9 @@
+pub mod WireFields
+pub mod FrameLaws
+pub mod SetLaws
+pub mod SetSpelling
+pub mod ParameterLaws
+pub mod DataLaws
+pub mod SubmessageLaws
+pub mod MessageLaws
+pub mod SpellingLaws

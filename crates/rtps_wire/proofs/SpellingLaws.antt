@@ -1,0 +1,305 @@
+-- What is written is read as itself.
+use Rattle.std.proofs.Common.{◌≡◌, ℕ, zero, suc, ◌+◌, ◌^◌, ◌<◌, ◌≤◌, Bool, true, false, cond, eqb, ◌&&◌, not, List, [], ◌∷◌, ◌++◌, length, get_or, take, Some, None, refl, sym, subst, append_assoc, arith, ◌⊎◌, inl, inr}
+use Rattle.std.specs.List.{flat_map, AllByRecursion}
+use Rattle.std.specs.Int.{w16}
+use Rattle.std.proofs.lemmas.List.{length-append}
+use Rattle.dds_base.specs.declared.endianness.Endianness.TheVariants.{Little}
+use Rattle.dds_base.specs.declared.key.Key.{Key}
+use Rattle.dds_base.specs.Fields.{number}
+use Rattle.dds_base.specs.DatumText.{spelling_of_key}
+use Rattle.rtps_wire.specs.declared.data.Data.{Data}
+use Rattle.rtps_wire.specs.declared.data.DataContent.{DataContent}
+use Rattle.rtps_wire.specs.declared.data.DataContent.TheVariants.{Write, Dispose, Unregister, DisposeUnregister}
+use Rattle.rtps_wire.specs.declared.message.Message.{Message}
+use Rattle.rtps_wire.specs.declared.submessage.Submessage.{Submessage}
+use Rattle.rtps_wire.specs.declared.submessage.Submessage.TheVariants as submessages
+use Rattle.rtps_wire.specs.Fields.{has_flag, order_of, sn_text, count_text}
+use Rattle.rtps_wire.specs.Frames.{runs_to_end, IsFrame}
+use Rattle.rtps_wire.specs.Sets.{spelling_of_set, set_field_of}
+use Rattle.rtps_wire.specs.Parameters.{Parameter, parameter_text, ReadsParameters}
+use Rattle.rtps_wire.specs.Heartbeat.{heartbeat_text}
+use Rattle.rtps_wire.specs.Gap.{gap_head}
+use Rattle.rtps_wire.specs.AckNack.{spelling_of_acknack}
+use Rattle.rtps_wire.specs.Data.{data_head, ReadsData, IsContent, content_flags, spelling_of_end, spelling_of_content}
+use Rattle.rtps_wire.specs.Submessages.{id_of, flags_of, body_of, padding, IsSpellable, IsKnown, spelling_of_submessage}
+use Rattle.rtps_wire.specs.Messages.{ReadsAll, ReadsMessage, IsWritable, spelling_of, header_text}
+use Rattle.rtps_wire.proofs.SetSpelling.{set_field_valid, set_again, spelling_of_set_len}
+use Rattle.rtps_wire.proofs.FrameLaws.{to_end_len, match_false}
+use Rattle.rtps_wire.proofs.SubmessageLaws.{Reads-from_known}
+use Rattle.rtps_wire.proofs.MessageLaws.{header_length}
+
+-- ---- flags
+
+final_flag : (a b : Bool) → has_flag (1 + cond a 2 0 + cond b 4 0) 2 ≡ a
+final_flag true true = refl
+final_flag true false = refl
+final_flag false true = refl
+final_flag false false = refl
+
+liveliness_flag : (a b : Bool) → has_flag (1 + cond a 2 0 + cond b 4 0) 4 ≡ b
+liveliness_flag true true = refl
+liveliness_flag true false = refl
+liveliness_flag false true = refl
+liveliness_flag false false = refl
+
+is_little : (a b : Bool) → order_of (1 + cond a 2 0 + cond b 4 0) ≡ Little
+is_little true true = refl
+is_little true false = refl
+is_little false true = refl
+is_little false false = refl
+
+one_flag : (a : Bool) → has_flag (1 + cond a 2 0) 2 ≡ a
+one_flag true = refl
+one_flag false = refl
+
+one_little : (a : Bool) → order_of (1 + cond a 2 0) ≡ Little
+one_little true = refl
+one_little false = refl
+
+-- ---- DATA
+
+-- the parameters of a change that is no write
+abbrev parameters_of : ℕ → Key → List Parameter
+parameters_of status k = record { id = 112; value = k.0 } ∷ record { id = 113; value = 0 ∷ 0 ∷ 0 ∷ status ∷ [] } ∷ []
+
+end_parameters : (status : ℕ) (k : Key) (rest : List ℕ) → length k.0 ≡ 16 → ReadsParameters Little (spelling_of_end status k ++ rest) (parameters_of status k) (spelling_of_key k ++ rest)
+end_parameters status k rest len =
+    let hash : Parameter = record { id = 112; value = k.0 } in
+    let info : Parameter = record { id = 113; value = 0 ∷ 0 ∷ 0 ∷ status ∷ [] } in
+    let sentinel = number Little w16 1 ++ number Little w16 0 in
+    let after : List ℕ = parameter_text Little info ++ (sentinel ++ (spelling_of_key k ++ rest)) in (
+      after,
+      record { small = omega arith; no_sentinel = λ e. omega (arith, e); short = omega (arith, len); whole = rw len refl; key_hash = λ e. len; status = λ e. omega (arith, e) },
+      regroup (parameter_text Little hash) (parameter_text Little info) sentinel (spelling_of_key k) rest,
+      (
+        sentinel ++ (spelling_of_key k ++ rest),
+        record { small = omega arith; no_sentinel = λ e. omega (arith, e); short = omega arith; whole = refl; key_hash = λ e. omega (arith, e); status = λ e. refl },
+        refl,
+        (0, omega arith, refl),
+      ),
+    )
+  where
+    regroup : (a b c d e : List ℕ) → (a ++ b ++ c ++ d) ++ e ≡ a ++ (b ++ (c ++ (d ++ e)))
+    regroup a b c d e = simp append_assoc
+
+content_known : (d : Data) (zeros : List ℕ) (c : DataContent) → d.content ≡ c → IsContent c → ReadsData (content_flags c) (data_head Little 0 16 d.reader_id d.writer_id d.writer_sn ++ (spelling_of_content c ++ zeros)) d
+content_known d zeros (Write x) is valid = record {
+  extra = 0;
+  skipped = [];
+  from_parameters = spelling_of_content (Write x) ++ zeros;
+  parameters = [];
+  payload = spelling_of_content (Write x) ++ zeros;
+  extra_small = omega arith;
+  skipped_small = omega arith;
+  text = refl;
+  inline = (refl, refl);
+  says = rw is ((refl, refl), refl, refl, record { order = Little; options = 0 ∷ 0 ∷ []; rest = zeros; two = refl; text = refl; valid = valid });
+}
+content_known d zeros (Dispose k) is valid = record {
+  extra = 0;
+  skipped = [];
+  from_parameters = spelling_of_end 1 k ++ zeros;
+  parameters = parameters_of 1 k;
+  payload = spelling_of_key k ++ zeros;
+  extra_small = omega arith;
+  skipped_small = omega arith;
+  text = refl;
+  inline = end_parameters 1 k zeros valid;
+  says = rw is ((refl, refl), record { order = Little; options = 0 ∷ 0 ∷ []; rest = zeros; two = refl; text = refl; valid = valid });
+}
+content_known d zeros (Unregister k) is valid = record {
+  extra = 0;
+  skipped = [];
+  from_parameters = spelling_of_end 2 k ++ zeros;
+  parameters = parameters_of 2 k;
+  payload = spelling_of_key k ++ zeros;
+  extra_small = omega arith;
+  skipped_small = omega arith;
+  text = refl;
+  inline = end_parameters 2 k zeros valid;
+  says = rw is ((refl, refl), record { order = Little; options = 0 ∷ 0 ∷ []; rest = zeros; two = refl; text = refl; valid = valid });
+}
+content_known d zeros (DisposeUnregister k) is valid = record {
+  extra = 0;
+  skipped = [];
+  from_parameters = spelling_of_end 3 k ++ zeros;
+  parameters = parameters_of 3 k;
+  payload = spelling_of_key k ++ zeros;
+  extra_small = omega arith;
+  skipped_small = omega arith;
+  text = refl;
+  inline = end_parameters 3 k zeros valid;
+  says = rw is ((refl, refl), record { order = Little; options = 0 ∷ 0 ∷ []; rest = zeros; two = refl; text = refl; valid = valid });
+}
+
+standard : (c : DataContent) → has_flag (content_flags c) 16 ≡ false
+standard (Write d) = refl
+standard (Dispose k) = refl
+standard (Unregister k) = refl
+standard (DisposeUnregister k) = refl
+
+-- ---- each submessage
+
+spelled_known : (s : Submessage) → IsSpellable s → IsKnown (id_of s) (flags_of s) (body_of s) s
+spelled_known submessages.Pad valid = record { kind = refl; flags_are = tt; body_is = tt; valid = tt }
+spelled_known (submessages.InfoDst prefix) valid = record { kind = refl; flags_are = tt; body_is = (padding (length prefix.0), refl); valid = valid }
+spelled_known (submessages.InfoTs None) valid = record { kind = refl; flags_are = refl; body_is = tt; valid = tt }
+spelled_known (submessages.InfoTs (Some n)) valid = record { kind = refl; flags_are = refl; body_is = (padding 8, refl); valid = valid }
+spelled_known (submessages.Heartbeat h) valid = record {
+  kind = refl;
+  flags_are = (final_flag h.final_flag h.liveliness_flag, liveliness_flag h.final_flag h.liveliness_flag);
+  body_is = (padding (length (heartbeat_text Little h)), rw (is_little h.final_flag h.liveliness_flag) refl);
+  valid = valid;
+}
+spelled_known (submessages.Data d) valid =
+    let head = data_head Little 0 16 d.reader_id d.writer_id d.writer_sn in
+    let zeros = padding (length (data_head Little 0 16 d.reader_id d.writer_id d.writer_sn ++ spelling_of_content d.content)) in
+    record {
+      kind = refl;
+      flags_are = standard d.content;
+      body_is = subst (λ (z : List ℕ). ReadsData (content_flags d.content) z d) (sym (append_assoc head (spelling_of_content d.content) zeros)) (content_known d zeros d.content refl valid.1);
+      valid = valid.0;
+    }
+spelled_known (submessages.AckNack a) valid =
+    let ids = a.reader_id.0 ++ a.writer_id.0 in
+    let set = spelling_of_set a.reader_sn_state in
+    let n = count_text Little a.count in
+    let zeros = padding (length (spelling_of_acknack a)) in
+    record {
+      kind = refl;
+      flags_are = one_flag a.final_flag;
+      body_is = record {
+        from_set = (set ++ n) ++ zeros;
+        from_count = n ++ zeros;
+        rest = zeros;
+        ids = append_assoc ids (set ++ n) zeros;
+        set = rw (one_little a.final_flag) (record { field = set_field_of a.reader_sn_state; valid = set_field_valid a.reader_sn_state valid.1; text = append_assoc set n zeros; set = set_again a.reader_sn_state valid.1 });
+        count = rw (one_little a.final_flag) refl;
+      };
+      valid = valid.0;
+    }
+spelled_known (submessages.Gap g) valid =
+    let head = gap_head Little g in
+    let set = spelling_of_set g.gap_list in
+    let zeros = padding (length (gap_head Little g ++ spelling_of_set g.gap_list)) in
+    record {
+      kind = refl;
+      flags_are = tt;
+      body_is = record {
+        from_set = set ++ zeros;
+        rest = zeros;
+        head = append_assoc head set zeros;
+        set = record { field = set_field_of g.gap_list; valid = set_field_valid g.gap_list valid.1; text = refl; set = set_again g.gap_list valid.1 };
+      };
+      valid = valid.0;
+    }
+spelled_known (submessages.Other id) valid = absurd valid
+
+-- ---- frames
+
+-- a body is empty only at PAD and INFO_TS
+body_positive : (s : Submessage) → IsSpellable s → ((id_of s ≡ 1) ⊎ (id_of s ≡ 9)) ⊎ (0 < length (body_of s))
+body_positive submessages.Pad valid = inl (inl refl)
+body_positive (submessages.InfoDst prefix) valid = inr (omega (arith, valid, length-append prefix.0 (padding (length prefix.0))))
+body_positive (submessages.InfoTs moment) valid = inl (inr refl)
+body_positive (submessages.Heartbeat h) valid =
+    inr (omega (arith, length-append (heartbeat_text Little h) (padding (length (heartbeat_text Little h))), length-append (h.reader_id.0 ++ h.writer_id.0 ++ sn_text Little h.first_sn ++ sn_text Little h.last_sn) (count_text Little h.count)))
+body_positive (submessages.Data d) valid = inr (omega arith)
+body_positive (submessages.AckNack a) valid =
+    let text = spelling_of_acknack a in
+    inr (omega (arith, valid.0.reader, length-append text (padding (length text)), length-append (a.reader_id.0 ++ a.writer_id.0) (spelling_of_set a.reader_sn_state ++ count_text Little a.count), length-append a.reader_id.0 a.writer_id.0))
+body_positive (submessages.Gap g) valid =
+    let text = gap_head Little g ++ spelling_of_set g.gap_list in
+    inr (omega (arith, length-append text (padding (length text)), length-append (gap_head Little g) (spelling_of_set g.gap_list), spelling_of_set_len g.gap_list))
+body_positive (submessages.Other id) valid = absurd valid
+
+and_left : (a b : Bool) → (a && b) ≡ true → a ≡ true
+and_left true b e = refl
+and_left false b e = absurd cc
+
+and_right : (a b : Bool) → (a && b) ≡ true → b ≡ true
+and_right true b e = e
+and_right false b e = absurd cc
+
+stays_within : (s : Submessage) (b : Bool) → IsSpellable s → runs_to_end (id_of s) (length (body_of s)) ≡ b → b ≡ false
+stays_within s false valid e = refl
+stays_within s true valid e =
+    let front = and_left (eqb (length (body_of s)) 0 && not (eqb (id_of s) 1)) (not (eqb (id_of s) 9)) e in
+    elim (body_positive s valid) [
+      | inl ids ↦ elim ids [
+        | inl is ↦
+            let no_pad : not (eqb (id_of s) 1) ≡ true = and_right (eqb (length (body_of s)) 0) (not (eqb (id_of s) 1)) front in
+            let one : false ≡ true = rw is at no_pad in
+            absurd cc
+        | inr is ↦
+            let no_ts : not (eqb (id_of s) 9) ≡ true = and_right (eqb (length (body_of s)) 0 && not (eqb (id_of s) 1)) (not (eqb (id_of s) 9)) e in
+            let one : false ≡ true = rw is at no_ts in
+            absurd cc
+      ]
+      | inr lt ↦ absurd (omega (arith, lt, to_end_len (id_of s) (length (body_of s)) e))
+    ]
+
+spelled_frame : (s : Submessage) (rest : List ℕ) → IsSpellable s → length (body_of s) < 2 ^ 16 → IsFrame (spelling_of_submessage s ++ rest) (id_of s) (flags_of s) (body_of s) rest
+spelled_frame s rest valid lt =
+    let len = length (body_of s) in
+    record { len = length (body_of s); small = lt; text = refl; extent = match_false (runs_to_end (id_of s) len) (rest ≡ []) (length (body_of s) ≡ length (body_of s)) (stays_within s (runs_to_end (id_of s) (length (body_of s))) valid refl) refl }
+
+body_le : (s : Submessage) → length (body_of s) ≤ length (spelling_of_submessage s)
+body_le s = omega (arith, length-append (number (order_of (flags_of s)) w16 (length (body_of s))) (body_of s))
+
+-- ---- messages
+
+spelled_all : (ss : List Submessage) → AllByRecursion IsSpellable ss → length (flat_map spelling_of_submessage ss) ≤ 65535 → ReadsAll (flat_map spelling_of_submessage ss) ss []
+spelled_all [] valid short = (inl (omega arith), refl)
+spelled_all (s ∷ ss) valid short =
+    let len = length-append (spelling_of_submessage s) (flat_map spelling_of_submessage ss) in (
+      id_of s,
+      flags_of s,
+      body_of s,
+      flat_map spelling_of_submessage ss,
+      spelled_frame s (flat_map spelling_of_submessage ss) valid.0 (omega (arith, short, body_le s)),
+      Reads-from_known (id_of s) (flags_of s) (body_of s) s (spelled_known s valid.0),
+      spelled_all ss valid.1 (omega (arith, short)),
+    )
+
+pub message_again : (m : Message) → IsWritable m → ReadsMessage (spelling_of m) m (length (spelling_of m))
+message_again m w =
+    let len = length-append (header_text 5 (0 ∷ 0 ∷ []) m.prefix) (flat_map spelling_of_submessage m.submessages) in
+    record { minor = 5; vendor = 0 ∷ 0 ∷ []; body = flat_map spelling_of_submessage m.submessages; left = []; two = refl; prefix = w.prefix; header = refl; submessages = spelled_all m.submessages w.submessages (omega (arith, w.short)); stop = omega arith; short = w.short }
+
+-- ---- what the writer of one asks
+
+piece_at : (ss : List Submessage) (i : ℕ) (s : Submessage) → AllByRecursion IsSpellable ss → i < length ss → s ≡ get_or ss i s → IsSpellable s × (length (body_of s) ≤ length (flat_map spelling_of_submessage ss))
+piece_at [] i s valid lt e = absurd (omega arith)
+piece_at (x ∷ ss) zero s valid lt e =
+    let len = length-append (spelling_of_submessage x) (flat_map spelling_of_submessage ss) in
+    subst (λ (y : Submessage). IsSpellable y × (length (body_of y) ≤ length (flat_map spelling_of_submessage (x ∷ ss)))) (sym e) (valid.0, omega (arith, body_le x))
+piece_at (x ∷ ss) (suc i) s valid lt e =
+    let len = length-append (spelling_of_submessage x) (flat_map spelling_of_submessage ss) in
+    let p = piece_at ss i s valid.1 (omega arith) e in
+    (p.0, omega (arith, p.1))
+
+pub writable_at : (m : Message) (i : ℕ) (s : Submessage) → IsWritable m → i < length m.submessages → s ≡ get_or m.submessages i s → IsSpellable s × (length (body_of s) < 2 ^ 16)
+writable_at m i s w lt e =
+    let len = length-append (header_text 5 (0 ∷ 0 ∷ []) m.prefix) (flat_map spelling_of_submessage m.submessages) in
+    let p = piece_at m.submessages i s w.submessages lt e in
+    (p.0, omega (arith, p.1, w.short))
+
+-- ---- what the test asks
+
+-- the submessages up to one take no more than all of them
+front_le : (ss : List Submessage) (i : ℕ) (s : Submessage) → i < length ss → s ≡ get_or ss i s → length (flat_map spelling_of_submessage (take i ss)) + length (spelling_of_submessage s) ≤ length (flat_map spelling_of_submessage ss)
+front_le [] i s lt e = absurd (omega arith)
+front_le (x ∷ ss) zero s lt e =
+    let len = length-append (spelling_of_submessage x) (flat_map spelling_of_submessage ss) in
+    subst (λ (y : Submessage). length (flat_map spelling_of_submessage (take zero (x ∷ ss))) + length (spelling_of_submessage y) ≤ length (flat_map spelling_of_submessage (x ∷ ss))) (sym e) (omega arith)
+front_le (x ∷ ss) (suc i) s lt e =
+    let len = length-append (spelling_of_submessage x) (flat_map spelling_of_submessage ss) in
+    let front = length-append (spelling_of_submessage x) (flat_map spelling_of_submessage (take i ss)) in
+    omega (arith, front_le ss i s (omega arith) e)
+
+pub too_long : (m : Message) (i : ℕ) (s : Submessage) → i < length m.submessages → s ≡ get_or m.submessages i s → 65535 < 20 + length (flat_map spelling_of_submessage (take i m.submessages)) + length (spelling_of_submessage s) → IsWritable m → ⊥
+too_long m i s lt e past w =
+    let all = length-append (header_text 5 (0 ∷ 0 ∷ []) m.prefix) (flat_map spelling_of_submessage m.submessages) in
+    let header = header_length 5 (0 ∷ 0 ∷ []) m.prefix refl w.prefix in
+    omega (arith, w.short, front_le m.submessages i s lt e)

@@ -1,0 +1,16 @@
+use Rattle.std.proofs.Common.{List, ℕ, ◌++◌, ◌≤◌, length}
+use Rattle.dds_base.proofs.FieldLaws.{AreOctets}
+use Rattle.rtps_wire.specs.declared.submessage.Submessage.{Submessage}
+use Rattle.rtps_wire.specs.Messages.{ReadsAll}
+use Rattle.rtps_wire.proofs.read.submessages_of.Given as goal
+
+-- what is left may be read on
+abbrev pub invariant-loop-frame : goal.invariant-loop-frame
+invariant-loop-frame l = record {
+  on : (ss : List Submessage) (end : List ℕ) → ReadsAll l.left ss end → ReadsAll l.bytes (l.submessages.items ++ ss) end;
+  shorter : length l.left ≤ length l.bytes;
+  octets : AreOctets l.left;
+}
+
+abbrev pub decreases-loop-frame : goal.decreases-loop-frame
+decreases-loop-frame l = length l.left

@@ -1,0 +1,25 @@
+-- ACKNACK: what a reader has, and what it misses (RTPS 2.5, 9.4.5: AckNack).
+use Rattle.std.specs.Prelude.{◌≡◌, ℕ, List, ◌++◌, FitsSigned}
+use Rattle.std.specs.Int.{w32}
+use Rattle.dds_base.specs.declared.endianness.Endianness.TheVariants.{Little}
+use Rattle.rtps_wire.specs.declared.acknack.AckNack.{AckNack}
+use Rattle.rtps_wire.specs.Fields.{order_of, count_text, IsEntityId}
+use Rattle.rtps_wire.specs.Sets.{ReadsSet, spelling_of_set}
+
+-- readerId, writerId, readerSNState, count
+pub record ReadsAckNack (flags : ℕ) (body : List ℕ) (a : AckNack) : Type 0 where
+  pub from_set : List ℕ
+  pub from_count : List ℕ
+  pub rest : List ℕ
+  pub ids : body ≡ (a.reader_id.0 ++ a.writer_id.0) ++ from_set
+  pub set : ReadsSet (order_of flags) from_set a.reader_sn_state from_count
+  pub count : from_count ≡ count_text (order_of flags) a.count ++ rest
+
+pub record IsAckNack (a : AckNack) : Type 0 where
+  pub reader : IsEntityId a.reader_id
+  pub writer : IsEntityId a.writer_id
+  pub count : FitsSigned w32 a.count
+
+-- the body as written
+abbrev pub spelling_of_acknack : AckNack → List ℕ
+spelling_of_acknack a = (a.reader_id.0 ++ a.writer_id.0) ++ (spelling_of_set a.reader_sn_state ++ count_text Little a.count)

@@ -1,0 +1,60 @@
+-- Reading a DATA from left to right: what the code does, on lists. Nothing here has to be believed, since
+-- `read_message` says what it reads by `Data`.
+use Rattle.std.specs.Prelude.{ℕ, ◌-◌, Bool, true, false, List, Option, Some, None, nat_lt, if◌then◌else◌, unwrap_or}
+use Rattle.std.specs.Option.{option_map}
+use Rattle.std.specs.Int.{w16}
+use Rattle.dds_base.specs.declared.endianness.Endianness.{Endianness}
+use Rattle.dds_base.specs.declared.guid.EntityId.{EntityId}
+use Rattle.dds_base.specs.declared.key.Key.{Key}
+use Rattle.dds_base.specs.Fields.{number_at, both, octets_at, ◌>>=◌}
+use Rattle.dds_base.specs.DatumAt.{datum_at, key_form_at}
+use Rattle.rtps_wire.specs.declared.data.DataContent.{DataContent}
+use Rattle.rtps_wire.specs.declared.data.DataContent.TheVariants.{Write, Dispose, Unregister, DisposeUnregister}
+use Rattle.rtps_wire.specs.declared.data.Data.{Data}
+use Rattle.rtps_wire.specs.declared.parameters.Parameters.{Parameters}
+use Rattle.rtps_wire.specs.Fields.{has_flag, order_of}
+use Rattle.rtps_wire.specs.FieldAt.{entity_id_at, sn_at}
+use Rattle.rtps_wire.specs.ParametersAt.{parameters_at}
+
+-- octetsToInlineQos, readerId, writerId, writerSN, and what follows
+unfoldable pub data_head_at : Endianness → List ℕ → Option (ℕ × EntityId × EntityId × ℕ × List ℕ)
+data_head_at order body = do
+  x ← both (both (both (both (number_at order w16) (number_at order w16)) entity_id_at) entity_id_at) (sn_at order) body
+  Some (x.0.0.0.0.1, x.0.0.0.1, x.0.0.1, x.0.1, x.1)
+
+-- the key, by the flags D and K
+unfoldable pub shown_key_at : Bool → Bool → Option Key → List ℕ → Option Key
+shown_key_at true true hash payload = None
+shown_key_at true false hash payload = option_map (λ d. d.key) (datum_at payload)
+shown_key_at false true hash payload = key_form_at payload
+shown_key_at false false hash payload = hash
+
+-- what the status says of the key, where it says anything
+unfoldable pub ended_at : Bool → Bool → Key → DataContent
+ended_at true true k = DisposeUnregister k
+ended_at true false k = Dispose k
+ended_at false unregistered k = Unregister k
+
+-- what is said, by disposed, unregistered, D and K
+unfoldable pub content_by : Bool → Bool → Bool → Bool → Option Key → List ℕ → Option DataContent
+content_by false false true false hash payload = option_map Write (datum_at payload)
+content_by false false true true hash payload = None
+content_by false false false key hash payload = None
+content_by true unregistered datum key hash payload = option_map (ended_at true unregistered) (shown_key_at datum key hash payload)
+content_by false true datum key hash payload = option_map (ended_at false true) (shown_key_at datum key hash payload)
+
+-- the same, by the flags and the parameters
+unfoldable pub content_at : ℕ → Parameters → List ℕ → Option DataContent
+content_at flags found payload = content_by (has_flag (unwrap_or found.status 0) 1) (has_flag (unwrap_or found.status 0) 2) (has_flag flags 4) (has_flag flags 8) found.key_hash payload
+
+-- the parameters, where flag Q is set, and the payload
+unfoldable pub inline_at : ℕ → List ℕ → Option (Parameters × List ℕ)
+inline_at flags bytes = if has_flag flags 2 then parameters_at (order_of flags) bytes else Some (record { key_hash = None; status = None }, bytes)
+
+unfoldable pub data_at : ℕ → List ℕ → Option Data
+data_at flags body = if has_flag flags 16 then None else (do
+  x ← data_head_at (order_of flags) body
+  s ← (if nat_lt x.0 16 then None else octets_at (x.0 - 16) x.4)
+  p ← inline_at flags s.1
+  c ← content_at flags p.0 p.1
+  if nat_lt x.3 1 then None else Some (record { reader_id = x.1; writer_id = x.2; writer_sn = x.3; content = c }))

@@ -1,0 +1,33 @@
+-- Reading fields from left to right: what the code does, on lists. Nothing here has to be believed, since
+-- `read_message` says what it reads by the texts of `Fields`.
+use Rattle.std.specs.Prelude.{ℕ, ◌+◌, ◌*◌, ◌^◌, List, Option, Some, None, nat_lt, if◌then◌else◌, ℤ}
+use Rattle.std.specs.Int.{w32, cast_signed}
+use Rattle.dds_base.specs.declared.endianness.Endianness.{Endianness}
+use Rattle.dds_base.specs.declared.guid.EntityId.{EntityId}
+use Rattle.dds_base.specs.declared.guid.GuidPrefix.{GuidPrefix}
+use Rattle.dds_base.specs.Fields.{number_at, octets_at, ◌>>=◌}
+
+-- four octets
+unfoldable pub entity_id_at : List ℕ → Option (EntityId × List ℕ)
+entity_id_at bytes = do
+  x ← octets_at 4 bytes
+  Some (record { 0 = x.0 }, x.1)
+
+-- twelve octets
+unfoldable pub prefix_at : List ℕ → Option (GuidPrefix × List ℕ)
+prefix_at bytes = do
+  x ← octets_at 12 bytes
+  Some (record { 0 = x.0 }, x.1)
+
+-- a sequence number of at most 2^62
+unfoldable pub sn_at : Endianness → List ℕ → Option (ℕ × List ℕ)
+sn_at order bytes = do
+  high ← number_at order w32 bytes
+  low ← number_at order w32 high.1
+  if nat_lt (2 ^ 62) (high.0 * 2 ^ 32 + low.0) then None else Some (high.0 * 2 ^ 32 + low.0, low.1)
+
+-- a count
+unfoldable pub count_at : Endianness → List ℕ → Option (ℤ × List ℕ)
+count_at order bytes = do
+  n ← number_at order w32 bytes
+  Some (cast_signed w32 n.0, n.1)

@@ -1,0 +1,10 @@
+-- Reading the header of a message from left to right: what the code does, on lists. Nothing here has to be
+-- believed, since `read_message` says what it reads by `Messages`.
+use Rattle.std.specs.Prelude.{ℕ, ◌==◌, ◌&&◌, List, ◌∷◌, Option, None, if◌then◌else◌}
+use Rattle.dds_base.specs.declared.guid.GuidPrefix.{GuidPrefix}
+use Rattle.rtps_wire.specs.FieldAt.{prefix_at}
+
+-- the prefix, and what follows
+unfoldable pub header_at : List ℕ → Option (GuidPrefix × List ℕ)
+header_at (r ∷ t ∷ p ∷ s ∷ major ∷ minor ∷ v ∷ w ∷ rest) = if r == 82 && t == 84 && p == 80 && s == 83 && major == 2 then prefix_at rest else None
+header_at _ = None

@@ -1,0 +1,20 @@
+-- HEARTBEAT: which numbers a writer still has (RTPS 2.5, 9.4.5: Heartbeat).
+use Rattle.std.specs.Prelude.{ℕ, ◌+◌, ◌≤◌, ◌^◌, List, ◌++◌, FitsSigned}
+use Rattle.std.specs.Int.{w32}
+use Rattle.dds_base.specs.declared.endianness.Endianness.{Endianness}
+use Rattle.rtps_wire.specs.declared.heartbeat.Heartbeat.{Heartbeat}
+use Rattle.rtps_wire.specs.Fields.{sn_text, count_text, IsEntityId}
+
+-- readerId, writerId, firstSN, lastSN, count
+abbrev pub heartbeat_text : Endianness → Heartbeat → List ℕ
+heartbeat_text order h = h.reader_id.0 ++ h.writer_id.0 ++ sn_text order h.first_sn ++ sn_text order h.last_sn ++ count_text order h.count
+
+-- The first number is from 1 to one more than the last; each is at most 2^62.
+pub record IsHeartbeat (h : Heartbeat) : Type 0 where
+  pub reader : IsEntityId h.reader_id
+  pub writer : IsEntityId h.writer_id
+  pub first : 1 ≤ h.first_sn
+  pub not_past : h.first_sn ≤ h.last_sn + 1
+  pub first_small : h.first_sn ≤ 2 ^ 62
+  pub last_small : h.last_sn ≤ 2 ^ 62
+  pub count : FitsSigned w32 h.count

@@ -1,0 +1,40 @@
+-- Messages: which bytes are which message, and the one written form of a message (RTPS 2.5, 8.3.2 and 9.4.4).
+use Rattle.std.specs.Prelude.{◌≡◌, ℕ, ◌+◌, ◌≤◌, List, [], ◌∷◌, ◌++◌, length, codes}
+use Rattle.std.specs.List.{flat_map, AllByRecursion}
+use Rattle.dds_base.specs.declared.guid.GuidPrefix.{GuidPrefix}
+use Rattle.rtps_wire.specs.declared.message.Message.{Message}
+use Rattle.rtps_wire.specs.declared.submessage.Submessage.{Submessage}
+use Rattle.rtps_wire.specs.Frames.{IsFrame, IsEnd}
+use Rattle.rtps_wire.specs.Submessages.{Reads, IsSpellable, spelling_of_submessage}
+
+-- The bytes are these submessages, up to where reading ends, and left is what stands there.
+abbrev pub ReadsAll : List ℕ → List Submessage → List ℕ → Type 0
+ReadsAll bytes [] left = IsEnd bytes × (left ≡ bytes)
+ReadsAll bytes (s ∷ ss) left = (id : ℕ) × (flags : ℕ) × (body : List ℕ) × (rest : List ℕ) × IsFrame bytes id flags body rest × Reads id flags body s × ReadsAll rest ss left
+
+-- RTPS, version 2 with a minor one, vendor id, GUID prefix of the sender
+abbrev pub header_text : ℕ → List ℕ → GuidPrefix → List ℕ
+header_text minor vendor prefix = codes "RTPS" ++ 2 ∷ minor ∷ [] ++ vendor ++ prefix.0
+
+-- The bytes are a message of at most 65,535 octets, of which reading ends at this offset.
+pub record ReadsMessage (bytes : List ℕ) (m : Message) (offset : ℕ) : Type 0 where
+  pub minor : ℕ
+  pub vendor : List ℕ
+  pub body : List ℕ
+  pub left : List ℕ
+  pub two : length vendor ≡ 2
+  pub prefix : length m.prefix.0 ≡ 12
+  pub header : bytes ≡ header_text minor vendor m.prefix ++ body
+  pub submessages : ReadsAll body m.submessages left
+  pub stop : offset + length left ≡ length bytes
+  pub short : length bytes ≤ 65535
+
+-- the one written form: version 2.5, vendor id 0
+abbrev pub spelling_of : Message → List ℕ
+spelling_of m = header_text 5 (0 ∷ 0 ∷ []) m.prefix ++ flat_map spelling_of_submessage m.submessages
+
+-- what has a written form
+pub record IsWritable (m : Message) : Type 0 where
+  pub prefix : length m.prefix.0 ≡ 12
+  pub submessages : AllByRecursion IsSpellable m.submessages
+  pub short : length (spelling_of m) ≤ 65535

@@ -1,0 +1,62 @@
+-- Reading the body of a submessage from left to right: what the code does, on lists. Nothing here has to be
+-- believed, since `read_message` says what it reads by `Submessages`.
+use Rattle.std.specs.Prelude.{ℕ, ◌+◌, ◌*◌, ◌^◌, ◌==◌, ◌||◌, List, Option, Some, None, nat_lt, if◌then◌else◌}
+use Rattle.std.specs.Option.{option_map}
+use Rattle.std.specs.Int.{w32}
+use Rattle.dds_base.specs.Fields.{number_at, both, ◌>>=◌}
+use Rattle.dds_base.specs.declared.guid.GuidPrefix.{GuidPrefix}
+use Rattle.rtps_wire.specs.declared.acknack.AckNack.{AckNack}
+use Rattle.rtps_wire.specs.declared.gap.Gap.{Gap}
+use Rattle.rtps_wire.specs.declared.heartbeat.Heartbeat.{Heartbeat}
+use Rattle.rtps_wire.specs.declared.submessage.Submessage.{Submessage}
+use Rattle.rtps_wire.specs.declared.submessage.Submessage.TheVariants as submessages
+use Rattle.rtps_wire.specs.Fields.{has_flag, order_of}
+use Rattle.rtps_wire.specs.FieldAt.{entity_id_at, prefix_at, sn_at, count_at}
+use Rattle.rtps_wire.specs.SetAt.{set_at}
+use Rattle.rtps_wire.specs.DataAt.{data_at}
+
+unfoldable pub info_dst_at : List ℕ → Option GuidPrefix
+info_dst_at body = do
+  prefix ← prefix_at body
+  Some prefix.0
+
+unfoldable pub info_ts_at : ℕ → List ℕ → Option (Option ℕ)
+info_ts_at flags body = if has_flag flags 2 then Some None else (do
+  x ← both (number_at (order_of flags) w32) (number_at (order_of flags) w32) body
+  Some (Some (x.0.0 * 2 ^ 32 + x.0.1)))
+
+unfoldable pub heartbeat_at : ℕ → List ℕ → Option Heartbeat
+heartbeat_at flags body = do
+  x ← both (both (both (both entity_id_at entity_id_at) (sn_at (order_of flags))) (sn_at (order_of flags))) (count_at (order_of flags)) body
+  if nat_lt x.0.0.0.1 1 || nat_lt (x.0.0.1 + 1) x.0.0.0.1 then None else Some (record {
+    reader_id = x.0.0.0.0.0;
+    writer_id = x.0.0.0.0.1;
+    first_sn = x.0.0.0.1;
+    last_sn = x.0.0.1;
+    count = x.0.1;
+    final_flag = has_flag flags 2;
+    liveliness_flag = has_flag flags 4;
+  })
+
+unfoldable pub acknack_at : ℕ → List ℕ → Option AckNack
+acknack_at flags body = do
+  ids ← both entity_id_at entity_id_at body
+  set ← set_at (order_of flags) ids.1
+  n ← count_at (order_of flags) set.1
+  Some (record { reader_id = ids.0.0; writer_id = ids.0.1; reader_sn_state = set.0; count = n.0; final_flag = has_flag flags 2 })
+
+unfoldable pub gap_at : ℕ → List ℕ → Option Gap
+gap_at flags body = do
+  x ← both (both entity_id_at entity_id_at) (sn_at (order_of flags)) body
+  set ← set_at (order_of flags) x.1
+  if nat_lt x.0.1 1 then None else Some (record { reader_id = x.0.0.0; writer_id = x.0.0.1; gap_start = x.0.1; gap_list = set.0 })
+
+unfoldable pub known_at : ℕ → ℕ → List ℕ → Option Submessage
+known_at id flags body =
+    if id == 1 then Some submessages.Pad else
+    (if id == 14 then option_map submessages.InfoDst (info_dst_at body) else
+    (if id == 9 then option_map submessages.InfoTs (info_ts_at flags body) else
+    (if id == 7 then option_map submessages.Heartbeat (heartbeat_at flags body) else
+    (if id == 21 then option_map submessages.Data (data_at flags body) else
+    (if id == 6 then option_map submessages.AckNack (acknack_at flags body) else
+    (if id == 8 then option_map submessages.Gap (gap_at flags body) else None))))))

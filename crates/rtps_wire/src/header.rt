@@ -1,0 +1,35 @@
+//! The header of a message.
+//!
+//! ```text
+//! 0...............8...............16..............24.............31
+//! |      'R'      |      'T'      |      'P'      |      'S'      |
+//! |   major: 2    |     minor     |           vendor id           |
+//! |             GUID prefix of the sender, 12 octets              |
+//! ```
+//!
+//! RTPS 2.5, 9.4.4.
+
+ghost use Rattle.std.specs.Prelude.{◌≡◌, ◌≤◌, length, IfSome};
+ghost use Rattle.std.specs.Option.{option_map};
+ghost use Rattle.rtps_wire.specs.HeaderAt.{header_at};
+
+use crate::field::take_prefix;
+use dds_base::GuidPrefix;
+
+/// The longest message, in octets: no UDP datagram over IPv4 is longer.
+pub const MAX_MESSAGE: usize = 65_535;
+
+/// The sender's prefix, and the bytes after the header. `None` where there is no header of this protocol.
+#[tactic(auto, unfolding(crate::specs::HeaderAt::header_at))]
+pub fn take_header(bytes: &[u8]) -> Option<(GuidPrefix, &[u8])>
+    ensures value { option_map (λ x. (x.0, x.1.now)) result ≡ header_at bytes.now }
+    ensures left { IfSome result (λ x. length x.1.now ≤ length bytes.now) }
+{
+    let [r, t, p, s, major, _minor, _vendor, _product, rest @ ..] = bytes else {
+        return None;
+    };
+    if *r == b'R' && *t == b'T' && *p == b'P' && *s == b'S' && *major == 2 {
+        return take_prefix(rest);
+    }
+    None
+}

@@ -1,0 +1,23 @@
+//! What a peer sends in one packet.
+
+use crate::submessage::Submessages;
+use dds_base::GuidPrefix;
+
+/// The sender, and what it says.
+///
+/// RTPS 2.5, 8.3.2.
+#[derive(Debug, Drop)]
+pub struct Message {
+    /// The sender's.
+    pub prefix: GuidPrefix,
+    pub submessages: Submessages,
+}
+
+/// A message, and where its reading ended.
+#[derive(Debug, Drop)]
+pub struct Read {
+    pub message: Message,
+    /// An offset into the bytes: their length, or where a submessage stands whose length passes the end, or where
+    /// fewer than 4 bytes are left.
+    pub stop: usize,
+}

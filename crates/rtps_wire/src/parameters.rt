@@ -1,0 +1,110 @@
+//! The inline parameters of a DATA.
+//!
+//! ```text
+//! 0...............8...............16..............24.............31
+//! |              id               |            length             |
+//! |            value: as many octets, a multiple of 4             |
+//! |                             ...                               |
+//! |       PID_SENTINEL 0x0001     |        not looked at          |
+//! ```
+//!
+//! RTPS 2.5, 9.4.2 (ParameterList) and 9.6 (key hash, status info).
+
+ghost use Rattle.std.specs.Prelude.{◌≡◌, ◌<◌, length, IfSome};
+ghost use Rattle.std.specs.Option.{option_map};
+ghost use Rattle.rtps_wire.specs.ParametersAt.{parameter_at, noted_at, parameters_at};
+
+use dds_base::{Endianness, Key, take_key, take_octets, take_u16};
+
+/// Ends the parameters.
+const PID_SENTINEL: u16 = 0x0001;
+
+/// The key, in 16 octets.
+const PID_KEY_HASH: u16 = 0x0070;
+
+/// What is said of the instance, in the last of 4 octets.
+const PID_STATUS_INFO: u16 = 0x0071;
+
+/// What the parameters of a DATA say.
+#[derive(Clone, Copy)]
+pub struct Parameters {
+    pub key_hash: Option<Key>,
+    /// The last octet of the status info.
+    pub status: Option<u8>,
+}
+
+impl Parameters {
+    /// Nothing is said.
+    pub const NONE: Parameters = Parameters {
+        key_hash: None,
+        status: None,
+    };
+}
+
+/// One parameter.
+#[derive(Clone, Copy)]
+struct Parameter<'a> {
+    id: u16,
+    /// Empty for the sentinel.
+    value: &'a [u8],
+}
+
+/// The parameter at the front, and the bytes after it.
+#[tactic(auto, unfolding(crate::specs::ParametersAt::parameter_at))]
+fn take_parameter(order: Endianness, bytes: &[u8]) -> Option<(Parameter<'_>, &[u8])>
+    ensures value { option_map (λ x. (x.0.id, x.0.value.now, x.1.now)) result ≡ parameter_at order bytes.now }
+    ensures rest { IfSome result (λ x. length x.1.now < length bytes.now) }
+{
+    let (id, rest) = take_u16(order, bytes)?;
+    let (len, rest) = take_u16(order, rest)?;
+    let len = if id == PID_SENTINEL { 0 } else { len as usize };
+    let (value, rest) = take_octets(rest, len)?;
+    Some((Parameter { id, value }, rest))
+}
+
+/// What was found, with one more parameter: of a repeated one the first counts. `None` where it is not valid.
+#[tactic(auto, unfolding(crate::specs::ParametersAt::noted_at))]
+fn noted(found: Parameters, id: u16, value: &[u8]) -> Option<Parameters>
+    ensures { result ≡ noted_at found id value.now }
+{
+    if value.len() % 4 != 0 {
+        return None;
+    }
+    if id == PID_KEY_HASH {
+        if value.len() != 16 {
+            return None;
+        }
+        let (key, _) = take_key(value)?;
+        return Some(Parameters {
+            key_hash: found.key_hash.or(Some(key)),
+            status: found.status,
+        });
+    }
+    if id == PID_STATUS_INFO {
+        if value.len() != 4 {
+            return None;
+        }
+        return Some(Parameters {
+            key_hash: found.key_hash,
+            status: found.status.or(Some(value[3])),
+        });
+    }
+    Some(found)
+}
+
+/// What the parameters up to the sentinel say, and the bytes after it. `None` where one is not valid, or there is no
+/// sentinel.
+pub fn take_parameters(order: Endianness, bytes: &[u8]) -> Option<(Parameters, &[u8])>
+    ensures { option_map (λ x. (x.0, x.1.now)) result ≡ parameters_at order bytes.now }
+{
+    let mut found = Parameters::NONE;
+    let mut left = bytes;
+    while let Some((parameter, rest)) = take_parameter(order, left) {
+        if parameter.id == PID_SENTINEL {
+            return Some((found, rest));
+        }
+        found = noted(found, parameter.id, parameter.value)?;
+        left = rest;
+    }
+    None
+}

@@ -1,0 +1,108 @@
+//! Bytes to messages.
+
+ghost use Rattle.std.specs.Prelude.{◌≡◌, ◌≤◌, ◌<◌, ℕ, List, length, IfOk, IfErr, IfSome, MatchResult, Some};
+ghost use Rattle.rtps_wire.specs.SubmessageAt.{known_at};
+ghost use Rattle.rtps_wire.specs.Submessages.{Reads};
+ghost use Rattle.rtps_wire.specs.Messages.{ReadsAll, ReadsMessage};
+ghost use Rattle.rtps_wire.specs.declared.message.Message.{Message};
+
+use crate::acknack::acknack_of;
+use crate::data::data_of;
+use crate::frame::take_frame;
+use crate::gap::gap_of;
+use crate::header::{MAX_MESSAGE, take_header};
+use crate::heartbeat::heartbeat_of;
+use crate::info::{info_dst_of, info_ts_of};
+use crate::message::{Message, Read};
+use crate::submessage::{
+    ACKNACK, DATA, GAP, HEARTBEAT, INFO_DST, INFO_TS, PAD, Submessage, Submessages,
+};
+use dds_base::Code;
+use std::alloc::Global;
+
+/// The submessage of a known kind, where it is valid.
+#[tactic(auto, unfolding(crate::specs::SubmessageAt::known_at))]
+fn known_of(alloc: Global, id: u8, flags: u8, body: &[u8]) -> Result<Option<Submessage>, Code>
+    ensures { MatchResult result (λ s. s ≡ known_at id flags body.now) (λ e. e ≡ Code.Memory) }
+{
+    if id == PAD {
+        return Ok(Some(Submessage::Pad));
+    }
+    if id == INFO_DST {
+        return Ok(info_dst_of(body).map(Submessage::InfoDst));
+    }
+    if id == INFO_TS {
+        return Ok(info_ts_of(flags, body).map(Submessage::InfoTs));
+    }
+    if id == HEARTBEAT {
+        return Ok(heartbeat_of(flags, body).map(Submessage::Heartbeat));
+    }
+    if id == DATA {
+        return Ok(data_of(alloc, flags, body)?.map(Submessage::Data));
+    }
+    if id == ACKNACK {
+        return Ok(acknack_of(flags, body).map(Submessage::AckNack));
+    }
+    if id == GAP {
+        return Ok(gap_of(flags, body).map(Submessage::Gap));
+    }
+    Ok(None)
+}
+
+/// The submessage of an id, flags and a body.
+fn submessage_of(alloc: Global, id: u8, flags: u8, body: &[u8]) -> Result<Submessage, Code>
+    ensures { MatchResult result (λ s. Reads id flags body.now s) (λ e. e ≡ Code.Memory) }
+{
+    let known = known_of(alloc, id, flags, body)?;
+    Ok(known.unwrap_or(Submessage::Other(id)))
+}
+
+/// The submessages up to where reading ends, and what stands there.
+fn submessages_of(alloc: Global, bytes: &[u8]) -> Result<(Vec<Submessage>, &[u8]), Code>
+    ensures { MatchResult result (λ x. ReadsAll bytes.now x.0.items x.1.now × (length x.1.now ≤ length bytes.now)) (λ e. e ≡ Code.Memory) }
+{
+    let mut submessages = Vec::new(alloc);
+    let mut left = bytes;
+    while let Some((frame, rest)) = take_frame(left) {
+        submessages.push(submessage_of(alloc, frame.id, frame.flags, frame.body)?)?;
+        left = rest;
+    }
+    Ok((submessages, left))
+}
+
+/// The message that the bytes are. `None` where they are none: without the header of this protocol, or longer than
+/// `MAX_MESSAGE`.
+///
+/// Each submessage stands in its order, one that is not known or not valid as `Submessage::Other` with its id. The
+/// bytes are gone over once, and only the values of data are copied.
+///
+/// # Errors
+///
+/// `Memory` where no memory was found for a submessage or a value.
+///
+/// RTPS 2.5, 8.3.4 and 9.4.
+pub fn read_message(alloc: Global, bytes: &[u8]) -> Result<Option<Read>, Code>
+    // What is read is the message of these bytes, and reading ends there.
+    ensures found { IfOk result (λ read. IfSome read (λ r. ReadsMessage bytes.now r.message r.stop)) }
+    // The message of these bytes is read, and no other.
+    ensures only { (m : Message) (stop : ℕ) → ReadsMessage bytes.now m stop
+        → IfOk result (λ read. read ≡ Some (record { message = m; stop = stop })) }
+    ensures memory { IfErr result (λ e. e ≡ Code.Memory) }
+{
+    if MAX_MESSAGE < bytes.len() {
+        return Ok(None);
+    }
+    let Some((prefix, rest)) = take_header(bytes) else {
+        return Ok(None);
+    };
+    let (submessages, left) = submessages_of(alloc, rest)?;
+    let stop = bytes.len() - left.len();
+    let submessages = Submessages::from_vec(submessages);
+    Ok(Some(Read {
+        message: Message {
+            prefix,
+            submessages,
+        },
+        stop,
+    }))
+}

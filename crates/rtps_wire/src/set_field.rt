@@ -1,0 +1,128 @@
+//! Sets of sequence numbers in bytes.
+//!
+//! ```text
+//! 0...............8...............16..............24.............31
+//! |                   base: high half, low half                   |
+//! |                 number of bits, at most 256                   |
+//! |       a word for each 32 bits begun, highest bit first        |
+//! ```
+//!
+//! RTPS 2.5, 9.4.2 (SequenceNumberSet).
+
+ghost use Rattle.std.specs.Prelude.{◌≡◌, ◌≤◌, ◌^◌, ◌++◌, length, drop, IfSome, OnOk, IfErr, IsTrue, ◌↔◌};
+ghost use Rattle.std.specs.Option.{option_map};
+ghost use Rattle.std.specs.List.{flat_map};
+ghost use Rattle.std.specs.Int.{w32};
+ghost use Rattle.dds_base.specs.Fields.{number};
+ghost use Rattle.dds_base.specs.declared.endianness.Endianness.TheVariants.{Little};
+ghost use Rattle.rtps_wire.specs.Sets.{words_for, set_of, SetField, word_of, words_of, spelling_of_set, IsSet};
+ghost use Rattle.rtps_wire.specs.SetAt.{words_at, set_field_at, set_at};
+
+use crate::field::{MAX_SN, put_u64, take_sn};
+use arrayvec::ArrayVec;
+use dds_base::{Code, Endianness, Sn, take_u32};
+use rtps_sets::{MAX_BITS, SnSet};
+
+fn take_words(order: Endianness, count: usize, bytes: &[u8]) -> Option<(ArrayVec<u32, 8>, &[u8])>
+    requires { count ≤ 8 }
+    ensures value { option_map (λ x. (x.0.items, x.1.now)) result ≡ words_at order count bytes.now }
+    ensures len { IfSome result (λ x. length x.0.items ≡ count) }
+{
+    let mut words = ArrayVec::new();
+    let mut rest = bytes;
+    for _ in 0..count {
+        let (word, after) = take_u32(order, rest)?;
+        words.push(word);
+        rest = after;
+    }
+    Some((words, rest))
+}
+
+/// The set whose members the bits name.
+fn set_from(base: u64, count: usize, words: &[u32]) -> SnSet
+    requires base { base ≤ 2 ^ 62 }
+    requires count { count ≤ 256 }
+    requires words { length words.now ≡ words_for count }
+    ensures { result ≡ set_of (record { base = base; num_bits = count; words = words.now }) }
+{
+    let mut set = SnSet::new(Sn::new(base));
+    for i in 0..count {
+        let word = words[i / 32];
+        if (word >> (31 - i % 32)) & 1 == 1 {
+            set.insert(Sn::new(base + i as u64));
+        }
+    }
+    set
+}
+
+/// The set at the front, and the bytes after it. `None` where there is no valid one.
+#[tactic(auto, unfolding(crate::specs::SetAt::set_field_at, crate::specs::SetAt::set_at))]
+pub fn take_set(order: Endianness, bytes: &[u8]) -> Option<(SnSet, &[u8])>
+    ensures { option_map (λ x. (x.0, x.1.now)) result ≡ set_at order bytes.now }
+{
+    let (base, rest) = take_sn(order, bytes)?;
+    let (count, rest) = take_u32(order, rest)?;
+    let count = count as usize;
+    if base < 1 || MAX_BITS < count {
+        return None;
+    }
+    let (words, rest) = take_words(order, (count + 31) / 32, rest)?;
+    Some((set_from(base, count, words.as_slice()), rest))
+}
+
+/// The word of the 32 places from this one on.
+fn word_from(set: &SnSet, place: usize) -> u32
+    requires base { set.now.base ≤ 2 ^ 62 }
+    requires place { place ≤ 256 }
+    ensures { result ≡ word_of 32 (drop place set.now.members) }
+{
+    let base = set.base().number();
+    let mut word = 0u32;
+    for k in 0..32 {
+        if set.has(Sn::new(base + place as u64 + k)) {
+            word += 1 << (31 - k);
+        }
+    }
+    word
+}
+
+fn put_words(out: &mut Vec<u8>, set: &SnSet, count: usize) -> Result<(), Code>
+    requires base { set.now.base ≤ 2 ^ 62 }
+    requires count { count ≤ 8 }
+    ensures ok { OnOk result (out.new.items ≡ out.old.items ++ flat_map (number Little w32) (words_of count set.now.members)) }
+    ensures memory { IfErr result (λ e. e ≡ Code.Memory) }
+{
+    for j in 0..count {
+        out.extend_from_slice(&word_from(set, 32 * j).to_le_bytes())?;
+    }
+    Ok(())
+}
+
+/// Appends the written form of a set: the least number of bits, those past it zero.
+pub fn put_set(out: &mut Vec<u8>, set: &SnSet) -> Result<(), Code>
+    requires { IsSet set.now }
+    ensures ok { OnOk result (out.new.items ≡ out.old.items ++ spelling_of_set set.now) }
+    ensures memory { IfErr result (λ e. e ≡ Code.Memory) }
+{
+    let bits = set.bits();
+    put_u64(out, set.base().number())?;
+    out.extend_from_slice(&(bits as u32).to_le_bytes())?;
+    put_words(out, set, (bits + 31) / 32)?;
+    Ok(())
+}
+
+/// Whether a set has a written form.
+pub fn is_set(set: &SnSet) -> bool
+    ensures { IsTrue result ↔ IsSet set.now }
+{
+    let base = set.base().number();
+    1 <= base && base <= MAX_SN
+}
+
+/// How many octets a set takes.
+pub fn set_len(set: &SnSet) -> usize
+    ensures len { result ≡ length (spelling_of_set set.now) }
+    ensures small { result ≤ 44 }
+{
+    12 + 4 * ((set.bits() + 31) / 32)
+}

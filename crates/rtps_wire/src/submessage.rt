@@ -1,0 +1,82 @@
+//! What a message is made of.
+
+ghost use Rattle.std.specs.Prelude.{◌≡◌};
+
+use crate::acknack::AckNack;
+use crate::data::Data;
+use crate::gap::Gap;
+use crate::heartbeat::Heartbeat;
+use dds_base::GuidPrefix;
+use std::marker::Model;
+
+pub const PAD: u8 = 0x01;
+
+pub const ACKNACK: u8 = 0x06;
+
+pub const HEARTBEAT: u8 = 0x07;
+
+pub const GAP: u8 = 0x08;
+
+pub const INFO_TS: u8 = 0x09;
+
+pub const INFO_DST: u8 = 0x0e;
+
+pub const DATA: u8 = 0x15;
+
+/// One part of a message.
+///
+/// RTPS 2.5, 8.3.4 and 9.4.5.
+#[derive(Debug, Drop)]
+pub enum Submessage {
+    /// Nothing: it only takes room.
+    Pad,
+    /// What follows is for the peer with this prefix; the zero prefix names every peer.
+    InfoDst(GuidPrefix),
+    /// What follows has this source timestamp, in units of 2^-32 second, or none.
+    InfoTs(Option<u64>),
+    Data(Data),
+    Heartbeat(Heartbeat),
+    AckNack(AckNack),
+    Gap(Gap),
+    /// One that is not known or not valid, by its id. It is never written.
+    Other(u8),
+}
+
+/// Submessages, in the order in which they stand.
+#[derive(Debug, Drop)]
+pub struct Submessages {
+    items: Vec<Submessage>,
+}
+
+impl Model for Submessages {
+    ghost use Rattle.std.specs.Prelude.{List};
+    ghost use Rattle.rtps_wire.specs.declared.submessage.Submessage.{Submessage};
+
+    ghost Value = { List Submessage };
+
+    ghost view = { λ s. s.items.items };
+}
+
+impl Submessages {
+    /// The submessages of a `Vec`, as they stand there.
+    pub fn from_vec(items: Vec<Submessage>) -> Submessages
+        ensures { result ≡ items.items }
+    {
+        Submessages { items }
+    }
+
+    /// The submessages, in their order.
+    pub fn as_slice(&self) -> &[Submessage]
+        ensures { result.now ≡ self.now }
+    {
+        self.items.as_slice()
+    }
+
+    /// The `Vec` that holds the submessages.
+    pub fn into_vec(self) -> Vec<Submessage>
+        ensures { result.items ≡ self }
+    {
+        let Submessages { items } = self;
+        items
+    }
+}
