@@ -32,7 +32,7 @@ pub enum Code {
     Memory,
     /// A socket failed.
     Link,
-    /// What a pass carries differs from what was kept.
+    /// What a thread recorded of its calls differs from what the peer recorded.
     Mismatch,
 }
 

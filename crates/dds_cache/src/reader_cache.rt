@@ -28,9 +28,9 @@ pub struct ReaderCache {
 }
 
 impl Model for ReaderCache {
-    ghost use Rattle.dds_cache.specs.Standing.{Kept};
+    ghost use Rattle.dds_cache.specs.Standing.{Stored};
 
-    ghost Value = { Kept };
+    ghost Value = { Stored };
 
     ghost view = { λ c. record { qos = c.qos; happenings = c.entries.items } };
 }
@@ -57,7 +57,8 @@ impl ReaderCache {
         Ok(())
     }
 
-    /// Takes up a change that came. Its writer is a matched one.
+    /// Takes up a change that came. Its writer is a matched one. Room is the caller's affair: a change is taken up also
+    /// where the limits of the policies are then exceeded.
     ///
     /// # Errors
     ///
@@ -105,8 +106,9 @@ impl ReaderCache {
         Ok(Access { positions, samples })
     }
 
-    /// Reads the present samples that meet the masks, by instance and then in the order of arrival, `max` at most
-    /// (`None`: all). They stay, and are READ from then on.
+    /// Reads the present samples that meet the masks, by instance handle and then in the order in which their changes
+    /// and deaths came, the first `max` of them (`None`: all; `Some(0)` finds nothing). They stay, and are READ from then
+    /// on.
     ///
     /// # Errors
     ///
@@ -125,8 +127,8 @@ impl ReaderCache {
         answer_of(is_empty, samples)
     }
 
-    /// Takes the present samples that meet the masks, by instance and then in the order of arrival, `max` at most
-    /// (`None`: all). They are gone from then on.
+    /// Takes the present samples that meet the masks, by instance handle and then in the order in which their changes
+    /// and deaths came, the first `max` of them (`None`: all; `Some(0)` finds nothing). They are gone from then on.
     ///
     /// # Errors
     ///
