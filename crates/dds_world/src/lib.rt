@@ -1,0 +1,9 @@
+//! Peers in a simulated network, which delivers any packet that was ever sent, at any peer, any number of times or never.
+//!
+//! Two peers so far: the first has a writer, the second a reader of its topic.
+#![tactic(auto)]
+
+mod answer;
+mod writing;
+
+pub use writing::WritingPeer;
