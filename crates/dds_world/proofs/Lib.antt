@@ -1,3 +1,4 @@
 pub mod Names
 pub mod Announced
 pub mod WritingSteps
+pub mod ReadingSteps

@@ -4,6 +4,9 @@
 #![tactic(auto)]
 
 mod answer;
+mod reading;
+mod receiver;
 mod writing;
 
+pub use reading::ReadingPeer;
 pub use writing::WritingPeer;
