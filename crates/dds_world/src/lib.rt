@@ -6,7 +6,9 @@
 mod answer;
 mod reading;
 mod receiver;
+mod world;
 mod writing;
 
 pub use reading::ReadingPeer;
+pub use world::World;
 pub use writing::WritingPeer;

@@ -184,10 +184,11 @@ impl ReadingPeer {
         }
     }
 
-    fn deliver(&mut self, packet: Octets) -> Output
-        ensures { ReadingSteps self.old (event.Deliver packet) result self.new }
+    /// The bytes of a packet come.
+    pub fn deliver(&mut self, packet: &Octets) -> Output
+        ensures { ReadingSteps self.old (event.Deliver packet.now) result self.new }
     {
-        let report = self.receive(&packet);
+        let report = self.receive(packet);
         answered(self.alloc, Reply::Reported(report))
     }
 
@@ -219,7 +220,7 @@ impl ReadingPeer {
     {
         match event {
             Event::Call(call) => self.call(call),
-            Event::Deliver(packet) => self.deliver(packet),
+            Event::Deliver(packet) => self.deliver(&packet),
         }
     }
 }

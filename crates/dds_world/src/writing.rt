@@ -55,12 +55,13 @@ impl WritingPeer {
             Event::Call(Call::Take { .. }) => {
                 answered(self.alloc, Reply::Refused(Code::BadParameter))
             }
-            Event::Deliver(packet) => self.deliver(packet),
+            Event::Deliver(packet) => self.deliver(&packet),
         }
     }
 
-    fn deliver(&mut self, packet: Octets) -> Output
-        ensures { WritingSteps self.old (event.Deliver packet) result self.new }
+    /// The bytes of a packet come.
+    pub fn deliver(&mut self, packet: &Octets) -> Output
+        ensures { WritingSteps self.old (event.Deliver packet.now) result self.new }
     {
         answered(self.alloc, nothing_moved(self.alloc))
     }

@@ -7,5 +7,5 @@ use Rattle.dds_world.proofs.reading.ReadingPeer.deliver.Goals as goal
 
 pub returns : goal.returns
 returns c =
-    subst (λ (o : Output). ReadingSteps c.args.self.now (event.Deliver c.args.packet) o c.receive-report.new.self) (sym c.answered.ensures)
-    (delivers c.args.self.now c.receive-report.new.self c.args.packet c.receive-report.result c.receive-report.ensures)
+    subst (λ (o : Output). ReadingSteps c.args.self.now (event.Deliver c.args.packet.now) o c.receive-report.new.self) (sym c.answered.ensures)
+    (delivers c.args.self.now c.receive-report.new.self c.args.packet.now c.receive-report.result c.receive-report.ensures)

@@ -8,4 +8,4 @@ use Rattle.dds_world.proofs.writing.WritingPeer.deliver.Goals as goal
 
 pub returns : goal.returns
 returns c =
-    subst (λ (o : Output). WritingSteps c.args.self.now (event.Deliver c.args.packet) o c.args.self.now) (sym (c.answered.ensures ∙ ap silent c.nothing_moved.ensures)) (nothing_delivered c.args.self.now c.args.packet)
+    subst (λ (o : Output). WritingSteps c.args.self.now (event.Deliver c.args.packet.now) o c.args.self.now) (sym (c.answered.ensures ∙ ap silent c.nothing_moved.ensures)) (nothing_delivered c.args.self.now c.args.packet.now)
