@@ -57,7 +57,10 @@ fn transcript_of(alloc: Global, world: &mut World, line: Line) -> Result<String,
     let mut text = String::new(alloc);
     match line {
         Line::Event(event) => push_event(&mut text, world, event)?,
-        Line::Packet(number) => push_packet(&mut text, number, world.packet(number))?,
+        Line::Packet(number) => {
+            let packet = world.packet(number).map(|packet| packet.bytes.as_slice());
+            push_packet(&mut text, number, packet)?;
+        }
         Line::Skipped | Line::Setup(_) => {}
     }
     text.push('\n')?;

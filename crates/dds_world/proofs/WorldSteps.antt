@@ -1,0 +1,168 @@
+-- The steps of a network.
+use Rattle.std.proofs.Common.{◌≡◌, ◌⊎◌, ℕ, zero, suc, ◌+◌, ◌-◌, ◌<◌, ◌≤◌, Bool, true, false, List, [], ◌∷◌, ◌++◌, Some, length, slice_get, Contains, subst, ap, sym, ◌∙◌, refl, inl, inr, ⊎_elim, arith, append_assoc, length-append}
+use Rattle.std.specs.Prelude.{if◌then◌else◌}
+use Rattle.std.proofs.lemmas.List.Elements.{Contains-append_left, Contains-append_right, Contains-append_cases}
+use Rattle.dds_base.specs.declared.config.Config.{Config}
+use Rattle.dds_model.specs.declared.event.Packet.{Packet}
+use Rattle.dds_model.proofs.Tables.{append_nothing}
+use Rattle.dds_base.specs.declared.code.Code.TheVariants.{BadParameter}
+use Rattle.dds_model.specs.declared.call.Call.{Call}
+use Rattle.dds_model.specs.declared.event.Event.{Event}
+use Rattle.dds_model.specs.declared.event.Event.TheVariants as event
+use Rattle.dds_model.specs.declared.event.Output.{Output}
+use Rattle.dds_model.specs.declared.event.WorldEvent.{WorldEvent}
+use Rattle.dds_model.specs.declared.event.WorldEvent.TheVariants as world
+use Rattle.dds_model.specs.declared.reply.Reply.{Reply}
+use Rattle.dds_model.specs.declared.reply.Reply.TheVariants.{Refused}
+use Rattle.dds_model.specs.Machine.{Machine, Step}
+use Rattle.dds_model.specs.Numbered.{HasNumber}
+use Rattle.dds_model.specs.Peer.{Peer, PeerStep}
+use Rattle.dds_model.specs.World.{WorldState, WorldStep, PeerSteps, machine_of, Sound}
+use Rattle.dds_model.proofs.Composed.{composes}
+use Rattle.dds_world.specs.Standing.{WritingKept, ReadingKept, WritingStandsFor, ReadingStandsFor, WritingSteps, ReadingSteps}
+use Rattle.dds_world.specs.WorldStanding.{WorldKept, StandsFor, Steps, Posts, world_of}
+
+-- nothing was sent yet
+pub posts_none : (old : List Packet) → Posts old [] old
+posts_none old = record { posted = []; sent = sym (append_nothing old); of_packets = λ p c. c; fewer = omega arith }
+
+-- one more packet was sent, or found no memory
+pub posts_more : (old packets now new : List Packet) (packet : Packet) (b : Bool) → Posts old packets now → new ≡ (if b then now ++ packet ∷ [] else now) → Posts old (packets ++ packet ∷ []) new
+posts_more old packets now new packet true h is =
+    let count = length-append h.posted (packet ∷ []) in
+    let total = length-append packets (packet ∷ []) in
+    let fewer = h.fewer in
+    record {
+      posted = h.posted ++ packet ∷ [];
+      sent = is ∙ (ap (λ (xs : List Packet). xs ++ packet ∷ []) h.sent ∙ append_assoc old h.posted (packet ∷ []));
+      of_packets = λ p c. ⊎_elim (λ o. Contains-append_left packets (packet ∷ []) p (h.of_packets p o)) (λ o. Contains-append_right packets (packet ∷ []) p o) (Contains-append_cases h.posted (packet ∷ []) p c);
+      fewer = omega (arith, count, total, fewer);
+    }
+posts_more old packets now new packet false h is =
+    let total = length-append packets (packet ∷ []) in
+    let fewer = h.fewer in
+    record { posted = h.posted; sent = is ∙ h.sent; of_packets = λ p c. Contains-append_left packets (packet ∷ []) p (h.of_packets p c); fewer = omega (arith, total, fewer) }
+
+-- what the first peer does, by its step
+
+abbrev FirstAfter : WorldKept → WritingKept → List Packet → ℕ → WorldKept
+FirstAfter kept writing sent unsent = record { writing = writing; reading = kept.reading; sent = sent; unsent = unsent }
+
+abbrev SecondAfter : WorldKept → ReadingKept → List Packet → ℕ → WorldKept
+SecondAfter kept reading sent unsent = record { writing = kept.writing; reading = reading; sent = sent; unsent = unsent }
+
+first_steps : (config : Config) (first second after : Peer) (sent : List Packet) (ev : Event) (output : Output) (new : List Packet) (posts : Posts sent output.packets new) → PeerStep config first ev output after
+    → PeerSteps config (world_of first second sent) 1 ev output.reply (world_of after second new)
+first_steps config first second after sent ev output new posts step = record {
+  within = (omega arith, omega arith);
+  output = output;
+  replies = refl;
+  after = after;
+  step = step;
+  posted = posts.posted;
+  of_packets = posts.of_packets;
+  changed = ap (λ (xs : List Packet). world_of after second xs) posts.sent;
+}
+
+second_steps : (config : Config) (first second after : Peer) (sent : List Packet) (ev : Event) (output : Output) (new : List Packet) (posts : Posts sent output.packets new) → PeerStep config second ev output after
+    → PeerSteps config (world_of first second sent) 2 ev output.reply (world_of first after new)
+second_steps config first second after sent ev output new posts step = record {
+  within = (omega arith, omega arith);
+  output = output;
+  replies = refl;
+  after = after;
+  step = step;
+  posted = posts.posted;
+  of_packets = posts.of_packets;
+  changed = ap (λ (xs : List Packet). world_of first after xs) posts.sent;
+}
+
+-- a step of the network from a machine that it stands for
+abbrev Goes : List Packet → Config → Machine → WorldEvent → Reply → WorldKept → Type 0
+Goes sent config m ev reply new = (after : Machine) × Step (length sent) m ev reply after × StandsFor new config after
+
+goes : (kept new : WorldKept) (config : Config) (m : Machine) (s : StandsFor kept config m) (first second : Peer) (ev : WorldEvent) (reply : Reply) → WritingStandsFor new.writing config first → ReadingStandsFor new.reading config second
+    → WorldStep config (world_of s.first s.second kept.sent) ev reply (world_of first second new.sent) → Goes kept.sent config m ev reply new
+goes kept new config m s first second ev reply writing reading step =
+    let old : WorldState = world_of s.first s.second kept.sent in
+    let next : WorldState = world_of first second new.sent in
+    let r : Step (length old.sent) (machine_of old) ev reply (machine_of next) × Sound config next = composes config old next ev reply s.sound step in
+    (machine_of next, subst (λ (x : Machine). Step (length kept.sent) x ev reply (machine_of next)) (sym s.machine) r.0, record { first = first; second = second; writing = writing; reading = reading; sound = r.1; machine = refl })
+
+pub first_calls : (kept : WorldKept) (writing : WritingKept) (call : Call) (output : Output) (sent : List Packet) (unsent : ℕ) → WritingSteps kept.writing (event.Call call) output writing → Posts kept.sent output.packets sent
+    → Steps kept (world.Call 1 call) output.reply (FirstAfter kept writing sent unsent)
+first_calls kept writing call output sent unsent steps posts config m s =
+    let r = steps config s.first s.writing in
+    goes kept (FirstAfter kept writing sent unsent) config m s r.0 s.second (world.Call 1 call) output.reply r.2 s.reading (inl (first_steps config s.first s.second r.0 kept.sent (event.Call call) output sent posts r.1))
+
+pub second_calls : (kept : WorldKept) (reading : ReadingKept) (call : Call) (output : Output) (sent : List Packet) (unsent : ℕ) → ReadingSteps kept.reading (event.Call call) output reading → Posts kept.sent output.packets sent
+    → Steps kept (world.Call 2 call) output.reply (SecondAfter kept reading sent unsent)
+second_calls kept reading call output sent unsent steps posts config m s =
+    let r = steps config s.second s.reading in
+    goes kept (SecondAfter kept reading sent unsent) config m s s.first r.0 (world.Call 2 call) output.reply s.writing r.2 (inl (second_steps config s.first s.second r.0 kept.sent (event.Call call) output sent posts r.1))
+
+pub first_delivers : (kept : WorldKept) (writing : WritingKept) (number : ℕ) (packet : Packet) (output : Output) (sent : List Packet) (unsent : ℕ) → 1 ≤ number → slice_get kept.sent (number - 1) ≡ Some packet
+    → WritingSteps kept.writing (event.Deliver packet.bytes) output writing → Posts kept.sent output.packets sent → Steps kept (world.Deliver 1 number) output.reply (FirstAfter kept writing sent unsent)
+first_delivers kept writing number packet output sent unsent low found steps posts config m s =
+    let r = steps config s.first s.writing in
+    goes kept (FirstAfter kept writing sent unsent) config m s r.0 s.second (world.Deliver 1 number) output.reply r.2 s.reading
+    (inl (packet, low, found, first_steps config s.first s.second r.0 kept.sent (event.Deliver packet.bytes) output sent posts r.1))
+
+pub second_delivers : (kept : WorldKept) (reading : ReadingKept) (number : ℕ) (packet : Packet) (output : Output) (sent : List Packet) (unsent : ℕ) → 1 ≤ number → slice_get kept.sent (number - 1) ≡ Some packet
+    → ReadingSteps kept.reading (event.Deliver packet.bytes) output reading → Posts kept.sent output.packets sent → Steps kept (world.Deliver 2 number) output.reply (SecondAfter kept reading sent unsent)
+second_delivers kept reading number packet output sent unsent low found steps posts config m s =
+    let r = steps config s.second s.reading in
+    goes kept (SecondAfter kept reading sent unsent) config m s s.first r.0 (world.Deliver 2 number) output.reply s.writing r.2
+    (inl (packet, low, found, second_steps config s.first s.second r.0 kept.sent (event.Deliver packet.bytes) output sent posts r.1))
+
+-- nobody has the number
+no_peer : (first second : Peer) (n : ℕ) → (n ≡ 1 → ⊥) → (n ≡ 2 → ⊥) → HasNumber (first ∷ second ∷ []) n → ⊥
+no_peer first second zero a b h = absurd (omega (arith, h.0))
+no_peer first second (suc zero) a b h = a refl
+no_peer first second (suc (suc zero)) a b h = b refl
+no_peer first second (suc (suc (suc n))) a b h = absurd (omega (arith, h.1))
+
+pub unknown_call : (kept : WorldKept) (peer : ℕ) (call : Call) → (peer ≡ 1 → ⊥) → (peer ≡ 2 → ⊥) → Steps kept (world.Call peer call) (Refused BadParameter) kept
+unknown_call kept peer call a b config m s =
+    goes kept kept config m s s.first s.second (world.Call peer call) (Refused BadParameter) s.writing s.reading (inr (no_peer s.first s.second peer a b, record { is_refused = refl; after = refl }))
+
+pub unknown_delivery : (kept : WorldKept) (peer number : ℕ) → (number ≡ 0) ⊎ (length kept.sent < number) ⊎ ((peer ≡ 1 → ⊥) × (peer ≡ 2 → ⊥)) → Steps kept (world.Deliver peer number) (Refused BadParameter) kept
+unknown_delivery kept peer number why config m s =
+    goes kept kept config m s s.first s.second (world.Deliver peer number) (Refused BadParameter) s.writing s.reading
+    (inr (⊎_elim (λ z. inl z) (λ o. ⊎_elim (λ l. inr (inl l)) (λ n. inr (inr (no_peer s.first s.second peer n.0 n.1))) o) why, record { is_refused = refl; after = refl }))
+
+-- the same, of what is kept under other names
+
+kept_as : (a b : WritingKept) (c d : ReadingKept) (sent : List Packet) (unsent : ℕ) → a ≡ b → c ≡ d
+    → ◌≡◌ {A = WorldKept} (record { writing = a; reading = c; sent = sent; unsent = unsent }) (record { writing = b; reading = d; sent = sent; unsent = unsent })
+kept_as a b c d sent unsent e f = cc
+
+steps_as : (kept now new new' : WorldKept) (ev ev' : WorldEvent) (reply reply' : Reply) → kept ≡ now → ev ≡ ev' → reply ≡ reply' → new ≡ new' → Steps kept ev reply new → Steps now ev' reply' new'
+steps_as kept now new new' ev ev' reply reply' e f g h s =
+    subst (λ (k : WorldKept). Steps k ev' reply' new') e (subst (λ (v : WorldEvent). Steps kept v reply' new') f (subst (λ (r : Reply). Steps kept ev r new') g (subst (λ (k : WorldKept). Steps kept ev reply k) h s)))
+
+pub called_first : (kept now new : WorldKept) (writing : WritingKept) (peer : ℕ) (call : Call) (output : Output) (reply : Reply) → kept ≡ now → peer ≡ 1 → WritingSteps kept.writing (event.Call call) output writing
+    → reply ≡ output.reply → new.writing ≡ writing → new.reading ≡ kept.reading → Posts kept.sent output.packets new.sent → Steps now (world.Call peer call) reply new
+called_first kept now new writing peer call output reply same one steps is w r posts =
+    steps_as kept now (FirstAfter kept writing new.sent new.unsent) new (world.Call 1 call) (world.Call peer call) output.reply reply same (ap (λ (n : ℕ). world.Call n call) (sym one)) (sym is)
+    (kept_as writing new.writing kept.reading new.reading new.sent new.unsent (sym w) (sym r)) (first_calls kept writing call output new.sent new.unsent steps posts)
+
+pub called_second : (kept now new : WorldKept) (reading : ReadingKept) (peer : ℕ) (call : Call) (output : Output) (reply : Reply) → kept ≡ now → peer ≡ 2 → ReadingSteps kept.reading (event.Call call) output reading
+    → reply ≡ output.reply → new.writing ≡ kept.writing → new.reading ≡ reading → Posts kept.sent output.packets new.sent → Steps now (world.Call peer call) reply new
+called_second kept now new reading peer call output reply same two steps is w r posts =
+    steps_as kept now (SecondAfter kept reading new.sent new.unsent) new (world.Call 2 call) (world.Call peer call) output.reply reply same (ap (λ (n : ℕ). world.Call n call) (sym two)) (sym is)
+    (kept_as kept.writing new.writing reading new.reading new.sent new.unsent (sym w) (sym r)) (second_calls kept reading call output new.sent new.unsent steps posts)
+
+pub delivered_first : (kept now new : WorldKept) (writing : WritingKept) (peer number : ℕ) (packet : Packet) (output : Output) (reply : Reply) → kept ≡ now → peer ≡ 1 → 1 ≤ number → slice_get kept.sent (number - 1) ≡ Some packet
+    → WritingSteps kept.writing (event.Deliver packet.bytes) output writing → reply ≡ output.reply → new.writing ≡ writing → new.reading ≡ kept.reading → Posts kept.sent output.packets new.sent
+    → Steps now (world.Deliver peer number) reply new
+delivered_first kept now new writing peer number packet output reply same one low found steps is w r posts =
+    steps_as kept now (FirstAfter kept writing new.sent new.unsent) new (world.Deliver 1 number) (world.Deliver peer number) output.reply reply same (ap (λ (n : ℕ). world.Deliver n number) (sym one)) (sym is)
+    (kept_as writing new.writing kept.reading new.reading new.sent new.unsent (sym w) (sym r)) (first_delivers kept writing number packet output new.sent new.unsent low found steps posts)
+
+pub delivered_second : (kept now new : WorldKept) (reading : ReadingKept) (peer number : ℕ) (packet : Packet) (output : Output) (reply : Reply) → kept ≡ now → peer ≡ 2 → 1 ≤ number → slice_get kept.sent (number - 1) ≡ Some packet
+    → ReadingSteps kept.reading (event.Deliver packet.bytes) output reading → reply ≡ output.reply → new.writing ≡ kept.writing → new.reading ≡ reading → Posts kept.sent output.packets new.sent
+    → Steps now (world.Deliver peer number) reply new
+delivered_second kept now new reading peer number packet output reply same two low found steps is w r posts =
+    steps_as kept now (SecondAfter kept reading new.sent new.unsent) new (world.Deliver 2 number) (world.Deliver peer number) output.reply reply same (ap (λ (n : ℕ). world.Deliver n number) (sym two)) (sym is)
+    (kept_as kept.writing new.writing reading new.reading new.sent new.unsent (sym w) (sym r)) (second_delivers kept reading number packet output new.sent new.unsent low found steps posts)

@@ -1,0 +1,19 @@
+use Rattle.std.proofs.Common.{arith}
+use Rattle.dds_world.specs.WorldStanding.{WorldKept}
+use Rattle.dds_world.proofs.WorldSteps.{called_first, called_second}
+use Rattle.dds_world.proofs.world.World.call.Goals as goal
+
+pub returns-then-peer-eq-WRITING : goal.returns-then-peer-eq-WRITING
+returns-then-peer-eq-WRITING c =
+    let kept : WorldKept = record { writing = c.self.inside.writing; reading = c.self.inside.reading; sent = c.self.inside.sent.items; unsent = c.self.inside.unsent } in
+    called_first kept c.args.self.now c.posted.new.self c.step-output.new.self c.args.peer c.args.call c.step-output.result c.posted.result c.self.view_is c.if-peer-eq-WRITING.true c.step-output.ensures
+    c.posted.ensures.reply c.posted.ensures.writing c.posted.ensures.reading c.posted.ensures.posted
+
+pub returns-then-peer-eq-READING : goal.returns-then-peer-eq-READING
+returns-then-peer-eq-READING c =
+    let inside = c.self-then-peer-eq-READING.inside in
+    let kept : WorldKept = record { writing = inside.writing; reading = inside.reading; sent = inside.sent.items; unsent = inside.unsent } in
+    let posted = c.posted-then-peer-eq-READING in
+    let output = c.step-output-then-peer-eq-READING in
+    called_second kept c.args.self.now posted.new.self output.new.self c.args.peer c.args.call output.result posted.result c.self-then-peer-eq-READING.view_is c.if-peer-eq-READING.true output.ensures
+    posted.ensures.reply posted.ensures.writing posted.ensures.reading posted.ensures.posted

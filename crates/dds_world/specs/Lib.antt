@@ -1,0 +1,4 @@
+pub mod Thin
+pub mod Standing
+pub mod Receiving
+pub mod WorldStanding

@@ -1,0 +1,122 @@
+-- What a peer stands for.
+use Rattle.std.specs.Prelude.{◌≡◌, ℕ, ◌≤◌, List, [], ◌∷◌, None, Some, Result, Ok, Err}
+use Rattle.std.specs.declared.alloc.AllocError.{AllocError}
+use Rattle.dds_base.specs.declared.change.ChangeKind.TheVariants as kind
+use Rattle.dds_base.specs.declared.config.Config.{Config}
+use Rattle.dds_base.specs.declared.config.PeerConfig.{PeerConfig}
+use Rattle.dds_base.specs.declared.config.WriterConfig.{WriterConfig}
+use Rattle.dds_base.specs.declared.config.ReaderConfig.{ReaderConfig}
+use Rattle.dds_base.specs.declared.guid.GuidPrefix.{GuidPrefix}
+use Rattle.dds_base.specs.declared.guid.EntityId.{EntityId}
+use Rattle.dds_base.specs.declared.happening.Happening.{Happening}
+use Rattle.dds_base.specs.declared.key.Key.{Key}
+use Rattle.dds_base.specs.declared.qos.HistoryQos.TheVariants.{KeepAll}
+use Rattle.dds_base.specs.declared.qos.ReaderQos.{ReaderQos}
+use Rattle.dds_base.specs.Happening.{arrivals}
+use Rattle.dds_base.specs.Written.{Written}
+use Rattle.dds_history.specs.Standing.{Held, StandsFor as HistoryStandsFor}
+use Rattle.dds_cache.specs.Standing.{Kept as CacheKept, qos_of, StandsFor as CacheStandsFor}
+use Rattle.rtps_wire.specs.declared.data.Data.{Data as DataBody}
+use Rattle.rtps_wire.specs.declared.data.DataContent.TheVariants as content
+use Rattle.rtps_wire.specs.declared.message.Message.{Message}
+use Rattle.rtps_wire.specs.declared.submessage.Submessage.TheVariants.{InfoDst, InfoTs, Data}
+use Rattle.dds_model.specs.declared.event.Event.{Event}
+use Rattle.dds_model.specs.declared.event.Output.{Output}
+use Rattle.dds_model.specs.declared.event.Packet.{Packet}
+use Rattle.rtps_wire.specs.Messages.{IsWritable, spelling_of}
+use Rattle.dds_model.specs.Part.{Part, Writer, history_of}
+use Rattle.dds_model.specs.Peer.{Peer, PeerStep}
+use Rattle.dds_world.specs.Thin.{IsPair}
+
+-- what a peer that writes keeps: its prefix, its writer's entity id, the prefix of the reader's peer, and the history
+pub record WritingKept : Type 0 where
+  pub prefix : GuidPrefix
+  pub entity : EntityId
+  pub to : GuidPrefix
+  pub history : Held
+
+-- what a peer that reads keeps: its prefix, its reader's entity id, the writer's name, the next number, and what happened
+pub record ReadingKept : Type 0 where
+  pub prefix : GuidPrefix
+  pub entity : EntityId
+  pub writer_prefix : GuidPrefix
+  pub writer_entity : EntityId
+  pub place : ℕ
+  pub arrivals : ℕ
+  pub cache : CacheKept
+
+-- the writer of the first peer, where this has happened at it
+abbrev pub thin_writer : List Written → Writer
+thin_writer written = record { policy = KeepAll; max_samples = None; written = written; readers = record { reader = record { peer = 2; number = 1 }; acknowledged = 1 } ∷ [] }
+
+-- the part of a peer with that writer
+abbrev pub writing_part : List Written → Part
+writing_part written = record { rtps = record { writers = thin_writer written ∷ []; readers = [] }; dds = record { moment = 0; readers = [] } }
+
+-- the part of a peer with one reader, which is at this place, and at which this happened
+abbrev pub reading_part : ReaderQos → ℕ → List Happening → Part
+reading_part qos place happened = record {
+  rtps = record { writers = []; readers = (record { writer = record { peer = 1; number = 1 }; place = place } ∷ []) ∷ [] };
+  dds = record { moment = 0; readers = record { qos = qos; happened = happened } ∷ [] };
+}
+
+-- a state of the peer that writes for which what it keeps stands
+pub record WritingStandsFor (kept : WritingKept) (config : Config) (peer : Peer) : Type 0 where
+  pub first : PeerConfig
+  pub second : PeerConfig
+  pub writer : WriterConfig
+  pub reader : ReaderConfig
+  pub pair : IsPair config first second writer reader
+  pub prefix : first.prefix ≡ kept.prefix
+  pub entity : writer.entity ≡ kept.entity
+  pub to : second.prefix ≡ kept.to
+  pub number : peer.number ≡ 1
+  pub written : List Written
+  pub part : peer.part ≡ writing_part written
+  pub history : HistoryStandsFor kept.history (history_of (thin_writer written))
+
+-- a state of the peer that reads for which what it keeps stands
+pub record ReadingStandsFor (kept : ReadingKept) (config : Config) (peer : Peer) : Type 0 where
+  pub first : PeerConfig
+  pub second : PeerConfig
+  pub writer : WriterConfig
+  pub reader : ReaderConfig
+  pub pair : IsPair config first second writer reader
+  pub prefix : second.prefix ≡ kept.prefix
+  pub entity : reader.entity ≡ kept.entity
+  pub writer_prefix : first.prefix ≡ kept.writer_prefix
+  pub writer_entity : writer.entity ≡ kept.writer_entity
+  pub number : peer.number ≡ 2
+  pub happened : List Happening
+  pub part : peer.part ≡ reading_part (qos_of kept.cache) kept.place happened
+  pub arrivals_are : kept.arrivals ≡ arrivals happened
+  pub no_samples_limit : (qos_of kept.cache).max_samples ≡ None
+  pub no_instances_limit : (qos_of kept.cache).max_instances ≡ None
+  pub begun : 1 ≤ kept.place
+  pub cache : CacheStandsFor kept.cache happened
+
+-- the message that announces a write of the first peer
+abbrev pub announcement : WritingKept → ℕ → Key → List ℕ → Message
+announcement kept number key value = record {
+  prefix = kept.prefix;
+  submessages = InfoDst kept.to ∷ InfoTs (Some 0)
+  ∷ Data (record { reader_id = record { 0 = 0 ∷ 0 ∷ 0 ∷ 0 ∷ [] }; writer_id = kept.entity; writer_sn = number; content = content.Write (record { key = key; value = value }) }) ∷ [];
+}
+
+-- the packet is the announcement of a write of this number
+pub record IsAnnouncement (kept : WritingKept) (number : ℕ) (key : Key) (value : List ℕ) (packet : Packet) : Type 0 where
+  pub to : packet.to ≡ 2
+  pub writable : IsWritable (announcement kept number key value)
+  pub bytes : packet.bytes ≡ spelling_of (announcement kept number key value)
+
+-- the same of a value that was copied
+abbrev pub AnnouncesWrite : WritingKept → ℕ → Key → Result (List ℕ) AllocError → Packet → Type 0
+AnnouncesWrite kept number key (Ok value) packet = IsAnnouncement kept number key value packet
+AnnouncesWrite kept number key (Err e) packet = ⊥
+
+-- for each state that the old values stand for, the event is a step to one that the new values stand for
+abbrev pub WritingSteps : WritingKept → Event → Output → WritingKept → Type 0
+WritingSteps old event output new = (config : Config) (peer : Peer) → WritingStandsFor old config peer → (after : Peer) × PeerStep config peer event output after × WritingStandsFor new config after
+
+abbrev pub ReadingSteps : ReadingKept → Event → Output → ReadingKept → Type 0
+ReadingSteps old event output new = (config : Config) (peer : Peer) → ReadingStandsFor old config peer → (after : Peer) × PeerStep config peer event output after × ReadingStandsFor new config after

@@ -1,0 +1,42 @@
+-- What a network stands for.
+use Rattle.std.specs.Prelude.{◌≡◌, ℕ, ◌≤◌, List, [], ◌∷◌, ◌++◌, length, Contains}
+use Rattle.dds_base.specs.declared.config.Config.{Config}
+use Rattle.dds_model.specs.declared.event.Packet.{Packet}
+use Rattle.dds_model.specs.declared.event.WorldEvent.{WorldEvent}
+use Rattle.dds_model.specs.declared.reply.Reply.{Reply}
+use Rattle.dds_model.specs.Machine.{Machine, Step}
+use Rattle.dds_model.specs.Peer.{Peer}
+use Rattle.dds_model.specs.World.{WorldState, machine_of, Sound}
+use Rattle.dds_world.specs.Standing.{WritingKept, ReadingKept, WritingStandsFor, ReadingStandsFor}
+
+-- the two peers, every packet that was sent, and how many found no memory
+pub record WorldKept : Type 0 where
+  pub writing : WritingKept
+  pub reading : ReadingKept
+  pub sent : List Packet
+  pub unsent : ℕ
+
+-- the network of two peers and these packets
+abbrev pub world_of : Peer → Peer → List Packet → WorldState
+world_of first second sent = record { peers = first ∷ second ∷ []; sent = sent }
+
+-- a machine for which the network stands: its peers stand for states that the machine is made of, and all claims are true
+pub record StandsFor (kept : WorldKept) (config : Config) (m : Machine) : Type 0 where
+  pub first : Peer
+  pub second : Peer
+  pub writing : WritingStandsFor kept.writing config first
+  pub reading : ReadingStandsFor kept.reading config second
+  pub sound : Sound config (world_of first second kept.sent)
+  pub machine : m ≡ machine_of (world_of first second kept.sent)
+
+-- of these packets some were sent
+pub record Posts (old : List Packet) (packets : List Packet) (new : List Packet) : Type 0 where
+  pub posted : List Packet
+  pub sent : new ≡ old ++ posted
+  pub of_packets : (packet : Packet) → Contains posted packet → Contains packets packet
+  pub fewer : length posted ≤ length packets
+
+-- For each machine that the old network stands for, the reply is one that the machine gives to the event, and the new
+-- network stands for the machine afterwards.
+abbrev pub Steps : WorldKept → WorldEvent → Reply → WorldKept → Type 0
+Steps old event reply new = (config : Config) (m : Machine) → StandsFor old config m → (after : Machine) × Step (length old.sent) m event reply after × StandsFor new config after

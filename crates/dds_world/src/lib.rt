@@ -1,0 +1,14 @@
+//! Peers in a simulated network, which delivers any packet that was ever sent, at any peer, any number of times or never.
+//!
+//! Two peers so far: the first has a writer, the second a reader of its topic.
+#![tactic(auto)]
+
+mod answer;
+mod reading;
+mod receiver;
+mod world;
+mod writing;
+
+pub use reading::ReadingPeer;
+pub use world::World;
+pub use writing::WritingPeer;

@@ -1,0 +1,136 @@
+//! The network.
+
+ghost use Rattle.std.specs.Prelude.{◌≡◌, ◌+◌, ◌-◌, ◌≤◌, length, slice_get, None};
+ghost use Rattle.std.specs.Option.{option_copied};
+ghost use Rattle.dds_model.specs.declared.event.WorldEvent.TheVariants as event;
+ghost use Rattle.dds_world.specs.WorldStanding.{Posts, Steps};
+
+use crate::reading::ReadingPeer;
+use crate::writing::WritingPeer;
+use dds_base::{Code, Sequence};
+use dds_model::{Call, Event, Output, Packet, Reply, WorldEvent};
+use std::alloc::Global;
+use std::marker::Model;
+
+/// The number of the peer that writes.
+const WRITING: u8 = 1;
+
+/// The number of the peer that reads.
+const READING: u8 = 2;
+
+/// Two peers, and all packets that they ever sent.
+#[derive(Drop)]
+pub struct World {
+    alloc: Global,
+    writing: WritingPeer,
+    reading: ReadingPeer,
+    sent: Vec<Packet>,
+    unsent: u64,
+}
+
+impl Model for World {
+    ghost use Rattle.dds_world.specs.WorldStanding.{WorldKept};
+
+    ghost Value = { WorldKept };
+
+    ghost view = { λ w. record { writing = w.writing; reading = w.reading; sent = w.sent.items; unsent = w.unsent } };
+}
+
+/// Sends packets, and gives how many found no memory.
+fn post(sent: &mut Vec<Packet>, packets: Sequence<Packet>) -> u64
+    ensures posted { Posts sent.old.items packets sent.new.items }
+    ensures counted { length sent.new.items + result ≡ length sent.old.items + length packets }
+{
+    let before = sent.len();
+    let total = packets.as_slice().len();
+    for packet in packets.into_vec() {
+        let _ = sent.push(packet);
+    }
+    (total - (sent.len() - before)) as u64
+}
+
+impl World {
+    /// One event: a call at a peer, or the delivery of a packet that was sent, at a peer.
+    pub fn step(&mut self, event: WorldEvent) -> Reply
+        ensures { Steps self.old event result self.new }
+    {
+        match event {
+            WorldEvent::Call { peer, call } => self.call(peer, call),
+            WorldEvent::Deliver { peer, packet } => self.deliver(peer, packet),
+        }
+    }
+
+    fn call(&mut self, peer: u8, call: Call) -> Reply
+        ensures { Steps self.old (event.Call peer call) result self.new }
+    {
+        if peer == WRITING {
+            let output = self.writing.step(Event::Call(call));
+            return self.posted(output);
+        }
+        if peer == READING {
+            let output = self.reading.step(Event::Call(call));
+            return self.posted(output);
+        }
+        Reply::Refused(Code::BadParameter)
+    }
+
+    fn deliver(&mut self, peer: u8, packet: u64) -> Reply
+        ensures { Steps self.old (event.Deliver peer packet) result self.new }
+    {
+        if packet == 0 || (self.sent.len() as u64) < packet {
+            return Reply::Refused(Code::BadParameter);
+        }
+        let index = (packet - 1) as usize;
+        if peer == WRITING {
+            let output = self.writing.deliver(&self.sent[index].bytes);
+            return self.posted(output);
+        }
+        if peer == READING {
+            let output = self.reading.deliver(&self.sent[index].bytes);
+            return self.posted(output);
+        }
+        Reply::Refused(Code::BadParameter)
+    }
+
+    /// Sends what a peer gives back, and gives its answer.
+    fn posted(&mut self, output: Output) -> Reply
+        ensures reply { result ≡ output.reply }
+        ensures writing { self.new.writing ≡ self.old.writing }
+        ensures reading { self.new.reading ≡ self.old.reading }
+        ensures posted { Posts self.old.sent output.packets self.new.sent }
+    {
+        let Output {
+            reply,
+            packets,
+            unsent,
+        } = output;
+        let lost = post(&mut self.sent, packets);
+        self.unsent = self.unsent.saturating_add(unsent).saturating_add(lost);
+        reply
+    }
+
+    /// The packet of this number, counted from 1 among all that were sent.
+    pub fn packet(&self, number: u64) -> Option<&Packet>
+        ensures found { 1 ≤ number → option_copied result ≡ slice_get self.now.sent (number - 1) }
+        ensures none { number ≡ 0 → result ≡ None }
+    {
+        if number == 0 {
+            return None;
+        }
+        self.sent.get((number - 1) as usize)
+    }
+
+    /// How many packets were sent.
+    pub fn sent(&self) -> u64
+        ensures { result ≡ length self.now.sent }
+    {
+        self.sent.len() as u64
+    }
+
+    /// How many packets found no memory; it stays at its greatest value.
+    pub fn unsent(&self) -> u64
+        ensures { result ≡ self.now.unsent }
+    {
+        self.unsent
+    }
+}
