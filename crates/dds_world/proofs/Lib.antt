@@ -1,4 +1,6 @@
 pub mod Names
+pub mod Ends
+pub mod Opened
 pub mod Announced
 pub mod WritingSteps
 pub mod ReadingSteps

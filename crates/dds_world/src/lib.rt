@@ -6,6 +6,7 @@
 mod answer;
 mod reading;
 mod receiver;
+mod thin;
 mod world;
 mod writing;
 

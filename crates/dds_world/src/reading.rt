@@ -7,12 +7,14 @@ ghost use Rattle.dds_model.specs.declared.event.Event.TheVariants as event;
 ghost use Rattle.dds_model.specs.Calls.{is_max, limit_of};
 ghost use Rattle.dds_model.specs.Claims.{change_in};
 ghost use Rattle.dds_world.specs.Receiving.{receiver_at, IsNext, StandsNext, BringsNext, ReadingMoves, place_moves, access_reply};
+ghost use Rattle.dds_base.specs.Ownership.{IsMatched};
+ghost use Rattle.dds_world.specs.Begun.{HasReadNothing};
 ghost use Rattle.dds_world.specs.Standing.{ReadingSteps};
 
 use crate::answer::answered;
 use crate::receiver::{EVERY_PEER, MessageReceiver, is_entity, is_prefix, receiver_after, receiver_for};
 use dds_base::{
-    Arrival, Change, ChangeKind, Code, EntityId, GuidPrefix, Handle, Masks, Moment, Octets, Sample, Sequence, Sn,
+    Arrival, Change, ChangeKind, Code, EntityId, Guid, GuidPrefix, Handle, Masks, Moment, Octets, ReaderQos, Sample, Sequence, Sn,
 };
 use dds_cache::ReaderCache;
 use dds_model::{Call, Endpoint, Event, Move, Output, Reply, Report};
@@ -101,6 +103,29 @@ fn change_from(alloc: Global, content: &DataContent, timestamp: u64) -> Result<C
 }
 
 impl ReadingPeer {
+    /// A peer of this prefix whose reader, of this entity id, is matched with this writer; nothing has happened there.
+    pub fn open(
+        alloc: Global,
+        prefix: GuidPrefix,
+        entity: EntityId,
+        writer: Guid,
+        qos: ReaderQos,
+    ) -> ReadingPeer
+        requires { IsMatched qos 1 }
+        ensures { HasReadNothing result prefix entity writer.prefix writer.entity qos }
+    {
+        ReadingPeer {
+            alloc,
+            prefix,
+            entity,
+            writer_prefix: writer.prefix,
+            writer_entity: writer.entity,
+            place: 1,
+            arrivals: 0,
+            cache: ReaderCache::open(alloc, qos),
+        }
+    }
+
     /// Whether the DATA has the next change of the reader's writer, for this reader.
     fn is_next(&self, receiver: &MessageReceiver, body: &Data) -> bool
         ensures { IsTrue result → IsNext self.now (receiver_at receiver.now) body.now }

@@ -1,15 +1,19 @@
 //! The network.
 
-ghost use Rattle.std.specs.Prelude.{◌≡◌, ◌+◌, ◌-◌, ◌≤◌, length, slice_get, None};
+ghost use Rattle.std.specs.Prelude.{◌≡◌, ◌⊎◌, ◌+◌, ◌-◌, ◌≤◌, IsOk, IfOk, IfErr, length, slice_get, None};
 ghost use Rattle.std.specs.Option.{option_copied};
 ghost use Rattle.dds_model.specs.declared.event.WorldEvent.TheVariants as event;
-ghost use Rattle.dds_world.specs.WorldStanding.{Posts, Steps};
+ghost use Rattle.dds_world.specs.WorldStanding.{Posts, StandsFor, Steps};
+ghost use Rattle.dds_model.specs.Opening.{opening};
+ghost use Rattle.dds_base.specs.declared.code.Code.TheVariants.{BadParameter, Memory};
+ghost use Rattle.dds_world.specs.Thin.{IsThin, thin_qos};
 
 use crate::reading::ReadingPeer;
 use crate::writing::WritingPeer;
-use dds_base::{Code, Sequence};
+use crate::thin::{Ends, ends_of};
+use dds_base::{Code, Config, Guid, MatchedWriter, ReaderQos, Sequence};
 use dds_model::{Call, Event, Output, Packet, Reply, WorldEvent};
-use std::alloc::Global;
+use std::alloc::{AllocError, Global};
 use std::marker::Model;
 
 /// The number of the peer that writes.
@@ -49,7 +53,59 @@ fn post(sent: &mut Vec<Packet>, packets: Sequence<Packet>) -> u64
     (total - (sent.len() - before)) as u64
 }
 
+/// The QoS of the reader.
+fn reader_qos(alloc: Global, ends: &Ends) -> Result<ReaderQos, AllocError>
+    ensures { IfOk result (λ qos. qos ≡ thin_qos ends.now.first ends.now.writer ends.now.reader) }
+{
+    let writer = MatchedWriter {
+        guid: Guid {
+            prefix: ends.first,
+            entity: ends.writer.entity,
+        },
+        strength: ends.writer.strength,
+        lease: ends.writer.lease,
+    };
+    Ok(ReaderQos {
+        ownership: ends.reader.ownership,
+        history: ends.reader.history,
+        max_samples: None,
+        max_instances: None,
+        writers: Sequence::from_vec(vec![in alloc; writer]?),
+    })
+}
+
 impl World {
+    /// The network of a configuration, at its opening.
+    ///
+    /// # Errors
+    ///
+    /// `BadParameter` for a configuration that is no pair of a peer with one writer and a peer with one reader of its
+    /// topic, both shared, keeping all, without limits and leases; `Memory` where a growth was refused.
+    pub fn open(alloc: Global, config: &Config) -> Result<World, Code>
+        ensures opening { IfOk result (λ world. StandsFor world config.now (opening config.now)) }
+        ensures thin { IsOk result → IsThin config.now }
+        ensures refused { result ≡ Err BadParameter → IsThin config.now → ⊥ }
+        ensures codes { IfErr result (λ code. (code ≡ BadParameter) ⊎ (code ≡ Memory)) }
+    {
+        let Some(ends) = ends_of(config) else {
+            return Err(Code::BadParameter);
+        };
+        let Ok(qos) = reader_qos(alloc, &ends) else {
+            return Err(Code::Memory);
+        };
+        let writer = Guid {
+            prefix: ends.first,
+            entity: ends.writer.entity,
+        };
+        Ok(World {
+            alloc,
+            writing: WritingPeer::open(alloc, ends.first, ends.writer.entity, ends.second),
+            reading: ReadingPeer::open(alloc, ends.second, ends.reader.entity, writer, qos),
+            sent: Vec::new(alloc),
+            unsent: 0,
+        })
+    }
+
     /// One event: a call at a peer, or the delivery of a packet that was sent, at a peer.
     pub fn step(&mut self, event: WorldEvent) -> Reply
         ensures { Steps self.old event result self.new }

@@ -5,6 +5,7 @@ ghost use Rattle.dds_model.specs.declared.event.Packet.{Packet};
 ghost use Rattle.dds_model.specs.declared.reply.Reply.TheVariants.{Done};
 ghost use Rattle.dds_model.specs.declared.event.Event.TheVariants as event;
 ghost use Rattle.dds_model.specs.declared.call.Call.TheVariants as call;
+ghost use Rattle.dds_world.specs.Begun.{HasWrittenNothing};
 ghost use Rattle.dds_world.specs.Standing.{WritingSteps, AnnouncesWrite};
 
 use crate::answer::{answered, nothing_moved};
@@ -46,6 +47,19 @@ fn copy_of(alloc: Global, value: &[u8]) -> Result<Octets, AllocError>
 }
 
 impl WritingPeer {
+    /// A peer of this prefix whose writer, of this entity id, has written nothing. `to` is the reader's peer.
+    pub fn open(alloc: Global, prefix: GuidPrefix, entity: EntityId, to: GuidPrefix) -> WritingPeer
+        ensures { HasWrittenNothing result prefix entity to }
+    {
+        WritingPeer {
+            alloc,
+            prefix,
+            entity,
+            to,
+            history: History::open(alloc, HistoryQos::KeepAll, None),
+        }
+    }
+
     /// One event.
     pub fn step(&mut self, event: Event) -> Output
         ensures { WritingSteps self.old event result self.new }

@@ -1,0 +1,94 @@
+//! The configurations that a network takes so far.
+
+ghost use Rattle.std.specs.Prelude.{◌≡◌, ◌≢◌, ◌↔◌, IsTrue, IfSome, IfNone};
+ghost use Rattle.dds_world.specs.Thin.{IsThin, IsThinWriter, IsThinReader, HasEnds, no_prefix};
+
+use crate::receiver::EVERY_PEER;
+use dds_base::{Config, GuidPrefix, HistoryQos, OwnershipQos, PeerConfig, ReaderConfig, WriterConfig};
+
+/// The kind of a writer's entity id.
+const WRITER_KIND: u8 = 0x02;
+
+/// The kind of a reader's entity id.
+const READER_KIND: u8 = 0x07;
+
+/// Whether a writer is one that a network takes.
+pub fn is_thin_writer(w: &WriterConfig) -> bool
+    ensures { IsTrue result ↔ IsThinWriter w.now }
+{
+    let _lease = w.lease;
+    w.entity.0[3] == WRITER_KIND
+        && matches!(w.ownership, OwnershipQos::Shared)
+        && matches!(w.history, HistoryQos::KeepAll)
+        && w.max_samples == -1
+        && w.lease.is_none()
+}
+
+/// Whether a reader is one that a network takes.
+pub fn is_thin_reader(r: &ReaderConfig) -> bool
+    ensures { IsTrue result ↔ IsThinReader r.now }
+{
+    r.entity.0[3] == READER_KIND
+        && matches!(r.ownership, OwnershipQos::Shared)
+        && matches!(r.history, HistoryQos::KeepAll)
+        && r.max_samples == -1
+        && r.max_instances == -1
+        && r.lease.is_none()
+}
+
+/// The prefixes and ends of two peers.
+#[derive(Clone, Copy)]
+pub struct Ends {
+    pub first: GuidPrefix,
+    pub second: GuidPrefix,
+    pub writer: WriterConfig,
+    pub reader: ReaderConfig,
+}
+
+/// Whether two prefixes are those of two peers.
+fn are_apart(first: &GuidPrefix, second: &GuidPrefix) -> bool
+    ensures { IsTrue result ↔ ((first.now ≢ second.now) × (first.now ≢ no_prefix) × (second.now ≢ no_prefix)) }
+{
+    *first != *second && *first != EVERY_PEER && *second != EVERY_PEER
+}
+
+/// Whether two ends are of one topic, and each is one that a network takes.
+fn are_thin(writer: &WriterConfig, reader: &ReaderConfig) -> bool
+    ensures { IsTrue result ↔ (IsThinWriter writer.now × IsThinReader reader.now × (reader.now.topic ≡ writer.now.topic)) }
+{
+    is_thin_writer(writer) && is_thin_reader(reader) && reader.topic == writer.topic
+}
+
+/// The prefixes and ends of the two peers of a configuration that a network takes.
+pub fn ends_of(config: &Config) -> Option<Ends>
+    ensures found { IfSome result (λ e. HasEnds config.now e.first e.second e.writer e.reader) }
+    ensures none { IfNone result (IsThin config.now → ⊥) }
+{
+    let [first, second] = config.peers.as_slice() else {
+        return None;
+    };
+    let [writer] = first.writers.as_slice() else {
+        return None;
+    };
+    let [reader] = second.readers.as_slice() else {
+        return None;
+    };
+    let [] = first.readers.as_slice() else {
+        return None;
+    };
+    let [] = second.writers.as_slice() else {
+        return None;
+    };
+    if !are_apart(&first.prefix, &second.prefix) {
+        return None;
+    }
+    if !are_thin(writer, reader) {
+        return None;
+    }
+    Some(Ends {
+        first: first.prefix,
+        second: second.prefix,
+        writer: *writer,
+        reader: *reader,
+    })
+}
