@@ -2,7 +2,7 @@
 
 use crate::simulation::sim;
 use crate::words::{Task, read_words};
-use clap::ErrorKind;
+use clap::error::ErrorKind;
 use std::alloc::Global;
 use std::io::{Read, Write};
 
