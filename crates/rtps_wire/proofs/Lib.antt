@@ -1,3 +1,4 @@
+pub mod TestLaws
 pub mod WireFields
 pub mod FrameLaws
 pub mod SetLaws
