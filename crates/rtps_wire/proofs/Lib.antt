@@ -8,3 +8,4 @@ pub mod DataLaws
 pub mod SubmessageLaws
 pub mod MessageLaws
 pub mod SpellingLaws
+pub mod LengthLaws
