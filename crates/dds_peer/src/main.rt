@@ -11,14 +11,13 @@ mod script;
 mod setup;
 mod simulation;
 mod stream;
-mod words;
 #[cfg(test)]
 mod tests;
+mod words;
 
 use entry::program;
-use std::env;
-use std::io;
 use std::process::ExitCode;
+use std::{env, io};
 
 fn main(rt: HostRuntime) -> io::Result<ExitCode> {
     let alloc = rt.alloc();

@@ -17,9 +17,7 @@ pub fn decimal(word: &[u8]) -> Option<u64> {
     }
     let mut number = 0u64;
     for digit in word {
-        number = number
-            .checked_mul(10)?
-            .checked_add(decimal_digit(*digit)?)?;
+        number = number.checked_mul(10)?.checked_add(decimal_digit(*digit)?)?;
     }
     Some(number)
 }

@@ -1,8 +1,6 @@
 //! What a simulation prints.
 
-use dds_base::{
-    Code, InstanceState, Key, Sample, SampleInfo, SampleState, Sequence, ViewState,
-};
+use dds_base::{Code, InstanceState, Key, Sample, SampleInfo, SampleState, Sequence, ViewState};
 use dds_model::{Endpoint, Move, PassedRun, Reply, Report};
 use std::alloc::AllocError;
 

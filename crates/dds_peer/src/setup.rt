@@ -59,7 +59,18 @@ impl Options {
                 self.autodispose = false;
                 Some(())
             }
-            [b's', b't', b'r', b'e', b'n', b'g', b't', b'h', b'=', strength @ ..] => {
+            [
+                b's',
+                b't',
+                b'r',
+                b'e',
+                b'n',
+                b'g',
+                b't',
+                b'h',
+                b'=',
+                strength @ ..,
+            ] => {
                 self.strength = decimal_i32(strength)?;
                 Some(())
             }
@@ -70,7 +81,19 @@ impl Options {
     /// Takes up an option of a reader, if it is one.
     pub fn take_reader(&mut self, word: &[u8]) -> Option<()> {
         match word {
-            [b'i', b'n', b's', b't', b'a', b'n', b'c', b'e', b's', b'=', max @ ..] => {
+            [
+                b'i',
+                b'n',
+                b's',
+                b't',
+                b'a',
+                b'n',
+                b'c',
+                b'e',
+                b's',
+                b'=',
+                max @ ..,
+            ] => {
                 self.max_instances = decimal_i32(max)?;
                 Some(())
             }

@@ -10,7 +10,8 @@ use std::test::Fail;
 /// Two peers, a writer at the first and a reader at the second.
 const SETUP: &str = "peer\nwriter all\npeer\nreader all\n";
 
-const ONE_SAMPLE: &str = "ok sent 1-1\npacket 1 52545053020500000000000000000000000000010e010c0000000000000000000000000209010800000000000000000015053000000010000000000000000102000000000100000000010000000000000000000000000000000000010200000061620000\nreport [place 1.w1 r1 2]\nsamples 1 [1 6162 N N A 0 0 0 0 0 0 1 1]\n";
+const ONE_SAMPLE: &str =
+    "ok sent 1-1\npacket 1 52545053020500000000000000000000000000010e010c0000000000000000000000000209010800000000000000000015053000000010000000000000000102000000000100000000010000000000000000000000000000000000010200000061620000\nreport [place 1.w1 r1 2]\nsamples 1 [1 6162 N N A 0 0 0 0 0 0 1 1]\n";
 
 /// What a script prints, on both streams, and its exit status.
 #[derive(Drop)]
@@ -37,8 +38,16 @@ fn after_setup(alloc: Global, lines: &str) -> Result<String, AllocError> {
 }
 
 fn expect(rt: &impl Abort, script: &[u8], ran: Ran, output: &str, errors: &str) {
-    assert_eq!(rt; ran.errors.as_slice(), errors.as_bytes(), "after {script:?}");
-    assert_eq!(rt; ran.output.as_slice(), output.as_bytes(), "after {script:?}");
+    assert_eq!(rt;
+        ran.errors.as_slice(),
+        errors.as_bytes(),
+        "after {script:?}"
+    );
+    assert_eq!(rt;
+        ran.output.as_slice(),
+        output.as_bytes(),
+        "after {script:?}"
+    );
     let status = if errors.is_empty() { 0 } else { 1 };
     assert_eq!(rt; ran.exit, status, "after {script:?}");
 }
@@ -59,18 +68,42 @@ fn lines_are_judged_one_by_one(rt: HostRuntime) -> Result<(), Fail> {
     let cases = [
         ("", "", ""),
         ("# a comment\n\n1 write w1 1 -", "ok sent 1-1\n", ""),
-        ("1 write w2 1 61\n3 take r1\ndeliver 2 2\npacket 0\n", "code 3\ncode 3\ncode 3\ncode 3\n", ""),
-        ("2 take r1 0\n2 take r1 -2 any any any\n2 take r1 5 2 1 4\n", "code 3\ncode 3\ncode 11\n", ""),
+        (
+            "1 write w2 1 61\n3 take r1\ndeliver 2 2\npacket 0\n",
+            "code 3\ncode 3\ncode 3\ncode 3\n",
+            "",
+        ),
+        (
+            "2 take r1 0\n2 take r1 -2 any any any\n2 take r1 5 2 1 4\n",
+            "code 3\ncode 3\ncode 11\n",
+            "",
+        ),
         ("2 take r1\r\n", "", "line 5: not a command\n"),
-        ("2 take r1\n\n2 take r1 1 1\n", "code 11\n", "line 7: not a command\n"),
-        ("2 take r1 -1 any any any any\n", "", "line 5: not a command\n"),
+        (
+            "2 take r1\n\n2 take r1 1 1\n",
+            "code 11\n",
+            "line 7: not a command\n",
+        ),
+        (
+            "2 take r1 -1 any any any any\n",
+            "",
+            "line 5: not a command\n",
+        ),
         ("2 take r256\n", "", "line 5: not a command\n"),
         ("2 take r1 2147483648\n", "", "line 5: not a command\n"),
         ("2 take r1 +1\n", "", "line 5: not a command\n"),
-        ("packet 18446744073709551616\n", "", "line 5: not a command\n"),
+        (
+            "packet 18446744073709551616\n",
+            "",
+            "line 5: not a command\n",
+        ),
         ("1 write w1 1 616\n", "", "line 5: not a command\n"),
         ("1 write w1 1 6g\n", "", "line 5: not a command\n"),
-        ("1 write w1 100000000000000000000000000000000 61\n", "", "line 5: not a command\n"),
+        (
+            "1 write w1 100000000000000000000000000000000 61\n",
+            "",
+            "line 5: not a command\n",
+        ),
         ("1 write w1  61\n", "", "line 5: not a command\n"),
         (" 2 take r1\n", "", "line 5: not a command\n"),
         ("2 take r1 \n", "", "line 5: not a command\n"),
@@ -164,10 +197,26 @@ fn streams_that_fail_end_the_run(rt: HostRuntime) -> Result<(), Fail> {
     let mut output = Vec::new(alloc);
     let octets = script.as_bytes();
     let status = sim(alloc, FailsAfter { octets }, &mut output);
-    assert!(rt; matches!(status, Status { exit: 1, fault: Some(Fault::InputFailed) }));
+    assert!(rt;
+        matches!(
+            status,
+            Status {
+                exit: 1,
+                fault: Some(Fault::InputFailed)
+            }
+        )
+    );
     assert_eq!(rt; output.as_slice(), b"code 11\n".as_slice());
     let status = sim(alloc, octets, Closed);
-    assert!(rt; matches!(status, Status { exit: 1, fault: Some(Fault::OutputFailed) }));
+    assert!(rt;
+        matches!(
+            status,
+            Status {
+                exit: 1,
+                fault: Some(Fault::OutputFailed)
+            }
+        )
+    );
     Ok(())
 }
 
@@ -182,6 +231,12 @@ fn a_line_past_the_end_of_the_input_is_not_run(rt: HostRuntime) -> Result<(), Fa
     expect(&rt, b"of the greatest length", ran, "code 11\n", "");
     script.push(b'\n')?;
     let ran = run(alloc, &script);
-    expect(&rt, b"one octet longer", ran, "code 11\n", "input too long\n");
+    expect(
+        &rt,
+        b"one octet longer",
+        ran,
+        "code 11\n",
+        "input too long\n",
+    );
     Ok(())
 }
