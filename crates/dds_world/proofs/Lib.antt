@@ -5,3 +5,4 @@ pub mod Announced
 pub mod WritingSteps
 pub mod ReadingSteps
 pub mod WorldSteps
+pub mod Sends

@@ -6,10 +6,10 @@
 mod answer;
 mod reading;
 mod receiver;
+#[cfg(test)]
+mod tests;
 mod thin;
 mod world;
 mod writing;
 
-pub use reading::ReadingPeer;
 pub use world::World;
-pub use writing::WritingPeer;

@@ -9,12 +9,15 @@ ghost use Rattle.dds_model.specs.Claims.{change_in};
 ghost use Rattle.dds_world.specs.Receiving.{receiver_at, IsNext, StandsNext, BringsNext, ReadingMoves, place_moves, access_reply};
 ghost use Rattle.dds_base.specs.Ownership.{IsMatched};
 ghost use Rattle.dds_world.specs.Begun.{HasReadNothing};
-ghost use Rattle.dds_world.specs.Standing.{ReadingSteps};
+ghost use Rattle.dds_world.specs.Standing.{ReadingSteps, SendsNothing};
 
 use crate::answer::answered;
-use crate::receiver::{EVERY_PEER, MessageReceiver, is_entity, is_prefix, receiver_after, receiver_for};
+use crate::receiver::{
+    EVERY_PEER, MessageReceiver, is_entity, is_prefix, receiver_after, receiver_for,
+};
 use dds_base::{
-    Arrival, Change, ChangeKind, Code, EntityId, Guid, GuidPrefix, Handle, Masks, Moment, Octets, ReaderQos, Sample, Sequence, Sn,
+    Arrival, Change, ChangeKind, Code, EntityId, Guid, GuidPrefix, Handle, Masks, Moment, Octets,
+    ReaderQos, Sample, Sequence, Sn,
 };
 use dds_cache::ReaderCache;
 use dds_model::{Call, Endpoint, Event, Move, Output, Reply, Report};
@@ -211,14 +214,16 @@ impl ReadingPeer {
 
     /// The bytes of a packet come.
     pub fn deliver(&mut self, packet: &Octets) -> Output
-        ensures { ReadingSteps self.old (event.Deliver packet.now) result self.new }
+        ensures step { ReadingSteps self.old (event.Deliver packet.now) result self.new }
+        ensures sends { SendsNothing result }
     {
         let report = self.receive(packet);
         answered(self.alloc, Reply::Reported(report))
     }
 
     fn take(&mut self, reader: u8, max: i32, masks: Masks) -> Output
-        ensures { ReadingSteps self.old (event.Call (call.Take reader max masks)) result self.new }
+        ensures step { ReadingSteps self.old (event.Call (call.Take reader max masks)) result self.new }
+        ensures sends { SendsNothing result }
     {
         if reader != READER {
             return answered(self.alloc, Reply::Refused(Code::BadParameter));
@@ -231,7 +236,8 @@ impl ReadingPeer {
     }
 
     fn call(&mut self, call: Call) -> Output
-        ensures { ReadingSteps self.old (event.Call call) result self.new }
+        ensures step { ReadingSteps self.old (event.Call call) result self.new }
+        ensures sends { SendsNothing result }
     {
         let Call::Take { reader, max, masks } = call else {
             return answered(self.alloc, Reply::Refused(Code::BadParameter));
@@ -241,7 +247,8 @@ impl ReadingPeer {
 
     /// One event.
     pub fn step(&mut self, event: Event) -> Output
-        ensures { ReadingSteps self.old event result self.new }
+        ensures step { ReadingSteps self.old event result self.new }
+        ensures sends { SendsNothing result }
     {
         match event {
             Event::Call(call) => self.call(call),
