@@ -6,3 +6,4 @@ pub mod WritingSteps
 pub mod ReadingSteps
 pub mod WorldSteps
 pub mod Sends
+pub mod RunSteps

@@ -12,4 +12,7 @@ mod thin;
 mod world;
 mod writing;
 
+pub use dds_model::{
+    Call, Endpoint, Event, Move, Output, Packet, PassedRun, Reply, Report, WorldEvent,
+};
 pub use world::World;

@@ -1,9 +1,8 @@
-use crate::World;
+use crate::{Call, Endpoint, Move, Reply, World, WorldEvent};
 use dds_base::{
     Code, Config, EntityId, GuidPrefix, HistoryQos, Key, Masks, Octets, OwnershipQos, PeerConfig,
     ReaderConfig, Sequence, Sn, WriterConfig,
 };
-use dds_model::{Call, Endpoint, Move, Reply, WorldEvent};
 use std::alloc::Global;
 use std::test::Fail;
 
@@ -164,5 +163,24 @@ fn a_long_value_is_refused(rt: HostRuntime) -> Result<(), Fail> {
     let longer = world.step(write(alloc, [7; 1025].as_slice())?);
     assert!(rt; matches!(&longer, Reply::Refused(Code::BadParameter)));
     assert_eq!(rt; world.sent(), 1);
+    Ok(())
+}
+
+#[test]
+fn a_run_answers_as_its_steps_do(rt: HostRuntime) -> Result<(), Fail> {
+    let alloc = rt.alloc();
+    let mut world = World::open(alloc, &config(alloc)?)?;
+    let events = vec![in alloc;
+        write(alloc, b"ab")?,
+        WorldEvent::Deliver { peer: 2, packet: 1 },
+        WorldEvent::Deliver { peer: 2, packet: 2 },
+        take(),
+    ]?;
+    let replies = world.run(events)?.into_vec();
+    assert_eq!(rt; replies.len(), 4);
+    assert!(rt; matches!(&replies[0], Reply::Done));
+    assert!(rt; is_place(&replies[1], 2));
+    assert!(rt; matches!(&replies[2], Reply::Refused(Code::BadParameter)));
+    assert!(rt; matches!(&replies[3], Reply::Samples(_)));
     Ok(())
 }

@@ -1,9 +1,9 @@
 //! The network.
 
-ghost use Rattle.std.specs.Prelude.{◌≡◌, ◌⊎◌, ℕ, ◌+◌, ◌-◌, ◌^◌, ◌≤◌, min, IsOk, IfOk, IfErr, length, slice_get, None};
+ghost use Rattle.std.specs.Prelude.{◌≡◌, ◌⊎◌, ℕ, ◌+◌, ◌-◌, ◌^◌, ◌≤◌, min, IsOk, IfOk, IfErr, OnErr, length, slice_get, None};
 ghost use Rattle.std.specs.Option.{option_copied};
 ghost use Rattle.dds_model.specs.declared.event.WorldEvent.TheVariants as event;
-ghost use Rattle.dds_world.specs.WorldStanding.{Announces, Posts, StandsFor, Steps};
+ghost use Rattle.dds_world.specs.WorldStanding.{Announces, Posts, Runs, StandsFor, Steps};
 ghost use Rattle.dds_world.specs.Standing.{SendsNothing};
 ghost use Rattle.dds_model.specs.Opening.{opening};
 ghost use Rattle.dds_base.specs.declared.code.Code.TheVariants.{BadParameter, Memory};
@@ -116,6 +116,26 @@ impl World {
             WorldEvent::Call { peer, call } => self.call(peer, call),
             WorldEvent::Deliver { peer, packet } => self.deliver(peer, packet),
         }
+    }
+
+    /// Events one after the other, and the reply to each.
+    ///
+    /// # Errors
+    ///
+    /// `Memory` where no memory was found for the replies; nothing was done then.
+    pub fn run(&mut self, events: Vec<WorldEvent>) -> Result<Sequence<Reply>, Code>
+        ensures run { IfOk result (λ replies. Runs self.old events.items replies self.new) }
+        ensures memory { IfErr result (λ code. code ≡ Memory) }
+        ensures err { OnErr result (self.new ≡ self.old) }
+    {
+        let mut replies = Vec::with_capacity(self.alloc, events.len())?;
+        for event in events {
+            let reply = self.step(event);
+            if replies.push(reply).is_err() {
+                unreachable!();
+            }
+        }
+        Ok(Sequence::from_vec(replies))
     }
 
     fn call(&mut self, peer: u8, call: Call) -> Reply
