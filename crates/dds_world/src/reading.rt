@@ -1,12 +1,12 @@
 //! A peer that reads.
 
-ghost use Rattle.std.specs.Prelude.{◌≡◌, ℕ, ◌+◌, ◌-◌, ◌^◌, ◌<◌, List, [], ◌∷◌, IfSome, IfOk, OnOk, OnErr, IsTrue, MatchOption, true, false, Some};
+ghost use Rattle.std.specs.Prelude.{◌≡◌, ◌↔◌, ℕ, ◌+◌, ◌-◌, ◌^◌, ◌<◌, List, [], ◌∷◌, IfSome, IfNone, IfOk, OnOk, OnErr, IsTrue, MatchOption, true, false, Some};
 ghost use Rattle.rtps_wire.specs.declared.data.Data.{Data};
 ghost use Rattle.dds_model.specs.declared.call.Call.TheVariants as call;
 ghost use Rattle.dds_model.specs.declared.event.Event.TheVariants as event;
 ghost use Rattle.dds_model.specs.Calls.{is_max, limit_of};
 ghost use Rattle.dds_model.specs.Claims.{change_in};
-ghost use Rattle.dds_world.specs.Receiving.{receiver_at, IsNext, StandsNext, BringsNext, ReadingMoves, place_moves, access_reply};
+ghost use Rattle.dds_world.specs.Receiving.{receiver_at, IsNext, StandsNext, HasNoNext, Advances, BringsNext, ReadingMoves, place_moves, access_reply};
 ghost use Rattle.dds_base.specs.Ownership.{IsMatched};
 ghost use Rattle.dds_world.specs.Begun.{HasReadNothing};
 ghost use Rattle.dds_world.specs.Standing.{ReadingSteps, SendsNothing};
@@ -131,7 +131,7 @@ impl ReadingPeer {
 
     /// Whether the DATA has the next change of the reader's writer, for this reader.
     fn is_next(&self, receiver: &MessageReceiver, body: &Data) -> bool
-        ensures { IsTrue result → IsNext self.now (receiver_at receiver.now) body.now }
+        ensures { IsTrue result ↔ IsNext self.now (receiver_at receiver.now) body.now }
     {
         is_prefix(&receiver.source, &self.writer_prefix)
             && (is_prefix(&receiver.dest, &self.prefix) || is_prefix(&receiver.dest, &EVERY_PEER))
@@ -143,7 +143,8 @@ impl ReadingPeer {
 
     /// The first DATA of a message with the next change: its index, when it was made, and itself.
     fn next_in<'a>(&self, message: &'a Message) -> Option<(u32, u64, &'a Data)>
-        ensures { IfSome result (λ found. StandsNext self.now message.now found.1 found.2.now) }
+        ensures found { IfSome result (λ found. StandsNext self.now message.now found.1 found.2.now) }
+        ensures none { IfNone result (HasNoNext self.now message.now) }
     {
         let mut receiver = receiver_for(message.prefix);
         for (index, submessage) in message.submessages.as_slice().iter().enumerate() {
@@ -179,7 +180,8 @@ impl ReadingPeer {
 
     /// Takes up the change of a DATA, the next one.
     fn take_up(&mut self, index: u32, timestamp: u64, body: &Data) -> Report
-        ensures { (bytes : List ℕ) → BringsNext self.old bytes timestamp body.now → ReadingMoves self.old bytes result.moves self.new }
+        ensures moves { (bytes : List ℕ) → BringsNext self.old bytes timestamp body.now → ReadingMoves self.old bytes result.moves self.new }
+        ensures advances { Advances self.old result }
     {
         let Ok(change) = change_from(self.alloc, &body.content, timestamp) else {
             return unmoved(self.alloc, Some(index));
