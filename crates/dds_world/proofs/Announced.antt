@@ -39,7 +39,7 @@ change_at-last cs c =
 abbrev pub written_at : Key → List ℕ → Change
 written_at key value = record { kind = kind.Write; key = key; value = value; source_timestamp = 0 }
 
-abbrev data_of : WritingKept → ℕ → Key → List ℕ → Submessage
+abbrev pub data_of : WritingKept → ℕ → Key → List ℕ → Submessage
 data_of kept number key value = Data (record { reader_id = record { 0 = 0 ∷ 0 ∷ 0 ∷ 0 ∷ [] }; writer_id = kept.entity; writer_sn = number; content = content.Write (record { key = key; value = value }) })
 
 -- what the DATA says is true

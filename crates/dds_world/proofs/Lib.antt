@@ -5,3 +5,5 @@ pub mod Announced
 pub mod WritingSteps
 pub mod ReadingSteps
 pub mod WorldSteps
+pub mod Sends
+pub mod RunSteps

@@ -75,9 +75,11 @@ delivers old new bytes report moves config peer s =
     let r = moves config (packets_of peer.delivered) peer s in
     let after : Peer = record { number = peer.number; part = r.0; delivered = record { packet = bytes; report = report } ∷ peer.delivered } in
     let legal : AreMoves (claimed config (bytes ∷ packets_of peer.delivered) peer.number) peer.part report.moves r.0 =
-    subst (λ (n : ℕ). AreMoves (claimed config (bytes ∷ packets_of peer.delivered) n) peer.part report.moves r.0) (sym s.number) r.1 in
-    (after, record { same_number = refl; step = (legal, refl); sent = λ p c m h. absurd (omega (arith, m.1)) },
-    stands_with new config (record { number = peer.number; part = r.0; delivered = peer.delivered }) (record { packet = bytes; report = report } ∷ peer.delivered) r.2)
+    subst (λ (n : ℕ). AreMoves (claimed config (bytes ∷ packets_of peer.delivered) n) peer.part report.moves r.0) (sym s.number) r.1 in (
+      after,
+      record { same_number = refl; step = (legal, refl); sent = λ p c m h. absurd (omega (arith, m.1)) },
+      stands_with new config (record { number = peer.number; part = r.0; delivered = peer.delivered }) (record { packet = bytes; report = report } ∷ peer.delivered) r.2,
+    )
 
 -- what the DATA claims
 claimed_next : (kept : ReadingKept) (config : Config) (peer : Peer) (s : ReadingStandsFor kept config peer) (bytes : List ℕ) (others : List (List ℕ)) (timestamp : ℕ) (body : DataBody) → BringsNext kept bytes timestamp body
@@ -164,26 +166,29 @@ comes_next kept cache bytes timestamp body change few same more brings change_is
     let grounds : Grounds = claimed config (bytes ∷ others) 2 in
     let after : Part = reading_part q (kept.place + 1) (arrival_of kept.place change ∷ h) in
     let moved : Places grounds peer.part (record { peer = 1; number = 1 }) 1 (kept.place + 1) [] after =
-    subst (λ (p : Part). Places grounds p (record { peer = 1; number = 1 }) 1 (kept.place + 1) [] after) (sym s.part) (one_place grounds q kept.place h change s.begun room claim) in
-    (after, (after, moved, refl), record {
-      first = s.first;
-      second = s.second;
-      writer = s.writer;
-      reader = s.reader;
-      pair = s.pair;
-      prefix = s.prefix;
-      entity = s.entity;
-      writer_prefix = s.writer_prefix;
-      writer_entity = s.writer_entity;
-      number = s.number;
-      happened = arrival_of kept.place change ∷ h;
-      part = ap (λ (x : ReaderQos). reading_part x (kept.place + 1) (arrival_of kept.place change ∷ h)) (sym same);
-      arrivals_are = ap (λ (n : ℕ). n + 1) s.arrivals_are;
-      no_samples_limit = ap (λ (x : ReaderQos). x.max_samples) same ∙ s.no_samples_limit;
-      no_instances_limit = ap (λ (x : ReaderQos). x.max_instances) same ∙ s.no_instances_limit;
-      begun = omega arith;
-      cache = more h s.cache;
-    })
+    subst (λ (p : Part). Places grounds p (record { peer = 1; number = 1 }) 1 (kept.place + 1) [] after) (sym s.part) (one_place grounds q kept.place h change s.begun room claim) in (
+      after,
+      (after, moved, refl),
+      record {
+        first = s.first;
+        second = s.second;
+        writer = s.writer;
+        reader = s.reader;
+        pair = s.pair;
+        prefix = s.prefix;
+        entity = s.entity;
+        writer_prefix = s.writer_prefix;
+        writer_entity = s.writer_entity;
+        number = s.number;
+        happened = arrival_of kept.place change ∷ h;
+        part = ap (λ (x : ReaderQos). reading_part x (kept.place + 1) (arrival_of kept.place change ∷ h)) (sym same);
+        arrivals_are = ap (λ (n : ℕ). n + 1) s.arrivals_are;
+        no_samples_limit = ap (λ (x : ReaderQos). x.max_samples) same ∙ s.no_samples_limit;
+        no_instances_limit = ap (λ (x : ReaderQos). x.max_instances) same ∙ s.no_instances_limit;
+        begun = omega arith;
+        cache = more h s.cache;
+      },
+    )
 
 pub arrival_as : (w n m place : ℕ) (change : Change) → w ≡ 1 → n ≡ place → m ≡ 0 → Came (record { writer = w; number = n; change = change; moment = m }) ≡ arrival_of place change
 arrival_as w n m place change p q r = cc

@@ -47,9 +47,9 @@ nothing_taken kept reader max masks config peer s =
     let is : Refuses (access_refusal peer.part reader max) BadParameter = subst (λ (b : Bool). Refuses (if not b || not (is_max max) then Some BadParameter else None) BadParameter) (sym none) refl in
     (peer, record { same_number = refl; step = (record { answers = (is, refl); rtps = refl }, refl); sent = λ p c m h. absurd (omega (arith, m.1)) }, s)
   where
-  no_number : (n : ℕ) → (nat_lt 0 n && nat_le n 0) ≡ false
-  no_number zero = refl
-  no_number (suc n) = grind (arith, nat_tests)
+    no_number : (n : ℕ) → (nat_lt 0 n && nat_le n 0) ≡ false
+    no_number zero = refl
+    no_number (suc n) = grind (arith, nat_tests)
 
 pub nothing_delivered : (kept : WritingKept) (packet : List ℕ) → WritingSteps kept (event.Deliver packet) (silent (Reported (record { moves = []; refused = None }))) kept
 nothing_delivered kept packet config peer s = (
@@ -94,9 +94,9 @@ bad_write kept config peer s writer key value bad =
     subst (λ (b : Bool). Refuses (if b then Some BadParameter else append_refusal (history_of (own_writer (writing_part s.written) writer)) (written_at key value)) BadParameter) (sym both) refl)
     bad))
   where
-  or_true : (a b : Bool) → b ≡ true → (a || b) ≡ true
-  or_true true b h = refl
-  or_true false b h = h
+    or_true : (a b : Bool) → b ≡ true → (a || b) ≡ true
+    or_true true b h = refl
+    or_true false b h = h
 
 -- a good write is refused as its history says
 good_refusal : (written : List Written) (key : Key) (value : List ℕ) → length value ≤ 1024 → write_refusal (writing_part written) 1 key value ≡ append_refusal (history_of (thin_writer written)) (written_at key value)

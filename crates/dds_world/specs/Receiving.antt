@@ -1,11 +1,12 @@
 -- The change in a message that a reader takes up next.
-use Rattle.std.specs.Prelude.{◌≡◌, ◌⊎◌, ℕ, List, [], ◌∷◌, replicate, Result, Ok, Err}
+use Rattle.std.specs.Prelude.{◌≡◌, ◌⊎◌, ◌+◌, ◌-◌, ◌^◌, ◌≤◌, IsSome, ℕ, List, [], ◌∷◌, replicate, Result, Ok, Err}
 use Rattle.dds_base.specs.declared.code.Code.{Code}
 use Rattle.dds_base.specs.declared.config.Config.{Config}
 use Rattle.dds_base.specs.declared.sample.Sample.{Sample}
 use Rattle.dds_model.specs.declared.reply.Move.{Move}
 use Rattle.dds_model.specs.declared.reply.Move.TheVariants.{Place}
 use Rattle.dds_model.specs.declared.reply.Reply.{Reply}
+use Rattle.dds_model.specs.declared.reply.Report.{Report}
 use Rattle.dds_model.specs.declared.reply.Reply.TheVariants.{Samples, Refused}
 use Rattle.rtps_wire.specs.declared.data.Data.{Data as DataBody}
 use Rattle.rtps_wire.specs.declared.message.Message.{Message}
@@ -57,3 +58,11 @@ ReadingMoves old bytes moves new = (config : Config) (others : List (List ℕ)) 
 abbrev pub access_reply : Result (List Sample) Code → Reply
 access_reply (Ok samples) = Samples samples
 access_reply (Err code) = Refused code
+
+-- no DATA in the message has the next change
+abbrev pub HasNoNext : ReadingKept → Message → Type 0
+HasNoNext kept message = (at : Receiver) (body : DataBody) → StandsIn (receiver_of message.prefix) message.submessages at (Data body) → IsNext kept at body → ⊥
+
+-- the place goes over the next change, unless memory was refused, or there is no room for a change or a number
+abbrev pub Advances : ReadingKept → Report → Type 0
+Advances old report = (report.moves ≡ place_moves (old.place + 1) ∷ []) ⊎ IsSome report.refused ⊎ (2 ^ 31 - 2 ≤ old.arrivals) ⊎ (old.place ≡ 2 ^ 64 - 1)

@@ -1,5 +1,5 @@
 -- What a peer stands for.
-use Rattle.std.specs.Prelude.{◌≡◌, ℕ, ◌≤◌, List, [], ◌∷◌, None, Some, Result, Ok, Err}
+use Rattle.std.specs.Prelude.{◌≡◌, ℕ, ◌+◌, ◌≤◌, length, Contains, List, [], ◌∷◌, None, Some, Result, Ok, Err}
 use Rattle.std.specs.declared.alloc.AllocError.{AllocError}
 use Rattle.dds_base.specs.declared.change.ChangeKind.TheVariants as kind
 use Rattle.dds_base.specs.declared.config.Config.{Config}
@@ -24,7 +24,11 @@ use Rattle.dds_model.specs.declared.event.Event.{Event}
 use Rattle.dds_model.specs.declared.event.Output.{Output}
 use Rattle.dds_model.specs.declared.event.Packet.{Packet}
 use Rattle.rtps_wire.specs.Messages.{IsWritable, spelling_of}
-use Rattle.dds_model.specs.Part.{Part, Writer, history_of}
+use Rattle.dds_model.specs.declared.call.Call.TheVariants as call
+use Rattle.dds_model.specs.declared.event.Event.TheVariants as event
+use Rattle.dds_model.specs.declared.reply.Reply.{Reply}
+use Rattle.dds_model.specs.declared.reply.Reply.TheVariants.{Done}
+use Rattle.dds_model.specs.Part.{Part, Writer, own_writer, writer_changes, history_of}
 use Rattle.dds_model.specs.Peer.{Peer, PeerStep}
 use Rattle.dds_world.specs.Thin.{IsPair}
 
@@ -100,7 +104,7 @@ abbrev pub announcement : WritingKept → ℕ → Key → List ℕ → Message
 announcement kept number key value = record {
   prefix = kept.prefix;
   submessages = InfoDst kept.to ∷ InfoTs (Some 0)
-  ∷ Data (record { reader_id = record { 0 = 0 ∷ 0 ∷ 0 ∷ 0 ∷ [] }; writer_id = kept.entity; writer_sn = number; content = content.Write (record { key = key; value = value }) }) ∷ [];
+      ∷ Data (record { reader_id = record { 0 = 0 ∷ 0 ∷ 0 ∷ 0 ∷ [] }; writer_id = kept.entity; writer_sn = number; content = content.Write (record { key = key; value = value }) }) ∷ [];
 }
 
 -- the packet is the announcement of a write of this number
@@ -120,3 +124,19 @@ WritingSteps old event output new = (config : Config) (peer : Peer) → WritingS
 
 abbrev pub ReadingSteps : ReadingKept → Event → Output → ReadingKept → Type 0
 ReadingSteps old event output new = (config : Config) (peer : Peer) → ReadingStandsFor old config peer → (after : Peer) × PeerStep config peer event output after × ReadingStandsFor new config after
+
+-- nothing is sent, and nothing found no memory
+pub record SendsNothing (output : Output) : Type 0 where
+  pub packets : output.packets ≡ []
+  pub unsent : output.unsent ≡ 0
+
+-- one packet, which announces the write, is sent or found no memory
+pub record SendsOne (kept : WritingKept) (peer : Peer) (writer : ℕ) (key : Key) (value : List ℕ) (output : Output) : Type 0 where
+  pub is_writer : writer ≡ 1
+  pub counted : length output.packets + output.unsent ≡ 1
+  pub each : (packet : Packet) → Contains output.packets packet → IsAnnouncement kept (length (writer_changes (own_writer peer.part 1)) + 1) key value packet
+
+-- what a peer that writes sends
+abbrev pub WritingSends : WritingKept → Event → Reply → Output → Type 0
+WritingSends old (event.Call (call.Write writer key value)) Done output = (config : Config) (peer : Peer) → WritingStandsFor old config peer → SendsOne old peer writer key value output
+WritingSends old ev reply output = SendsNothing output

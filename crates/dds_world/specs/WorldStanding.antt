@@ -5,6 +5,7 @@ use Rattle.dds_model.specs.declared.event.Packet.{Packet}
 use Rattle.dds_model.specs.declared.event.WorldEvent.{WorldEvent}
 use Rattle.dds_model.specs.declared.reply.Reply.{Reply}
 use Rattle.dds_model.specs.Machine.{Machine, Step}
+use Rattle.dds_model.specs.Runs.{Traffic, Sends, Run}
 use Rattle.dds_model.specs.Peer.{Peer}
 use Rattle.dds_model.specs.World.{WorldState, machine_of, Sound}
 use Rattle.dds_world.specs.Standing.{WritingKept, ReadingKept, WritingStandsFor, ReadingStandsFor}
@@ -40,3 +41,16 @@ pub record Posts (old : List Packet) (packets : List Packet) (new : List Packet)
 -- network stands for the machine afterwards.
 abbrev pub Steps : WorldKept → WorldEvent → Reply → WorldKept → Type 0
 Steps old event reply new = (config : Config) (m : Machine) → StandsFor old config m → (after : Machine) × Step (length old.sent) m event reply after × StandsFor new config after
+
+-- the packets that were sent, and how many were not
+abbrev pub traffic : WorldKept → Traffic
+traffic kept = record { sent = kept.sent; unsent = kept.unsent }
+
+-- For each machine that the old network stands for, this is what is sent at the event.
+abbrev pub Announces : WorldKept → WorldEvent → Reply → WorldKept → Type 0
+Announces old event reply new = (config : Config) (m : Machine) → StandsFor old config m → Sends config (traffic old) m event reply (traffic new)
+
+-- For each machine that the old network stands for, these replies are a run of it over the events, with what is sent
+-- meanwhile, and the new network stands for the machine afterwards.
+pub record Runs (old : WorldKept) (events : List WorldEvent) (replies : List Reply) (new : WorldKept) : Type 0 where
+  pub run : (config : Config) (m : Machine) → StandsFor old config m → (after : Machine) × Run config (traffic old) m events replies (traffic new) after × StandsFor new config after

@@ -3,8 +3,8 @@
 ghost use Rattle.std.specs.Prelude.{◌≡◌, [], None};
 ghost use Rattle.dds_model.specs.declared.reply.Reply.TheVariants.{Reported};
 
-use dds_model::{Output, Reply, Report};
 use dds_base::Sequence;
+use dds_model::{Output, Reply, Report};
 use std::alloc::Global;
 
 /// An answer with nothing to send.

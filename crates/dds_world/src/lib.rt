@@ -6,10 +6,13 @@
 mod answer;
 mod reading;
 mod receiver;
+#[cfg(test)]
+mod tests;
 mod thin;
 mod world;
 mod writing;
 
-pub use reading::ReadingPeer;
+pub use dds_model::{
+    Call, Endpoint, Event, Move, Output, Packet, PassedRun, Reply, Report, WorldEvent,
+};
 pub use world::World;
-pub use writing::WritingPeer;

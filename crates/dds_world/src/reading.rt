@@ -1,20 +1,23 @@
 //! A peer that reads.
 
-ghost use Rattle.std.specs.Prelude.{◌≡◌, ℕ, ◌+◌, ◌-◌, ◌^◌, ◌<◌, List, [], ◌∷◌, IfSome, IfOk, OnOk, OnErr, IsTrue, MatchOption, true, false, Some};
+ghost use Rattle.std.specs.Prelude.{◌≡◌, ◌↔◌, ℕ, ◌+◌, ◌-◌, ◌^◌, ◌<◌, List, [], ◌∷◌, IfSome, IfNone, IfOk, OnOk, OnErr, IsTrue, MatchOption, true, false, Some};
 ghost use Rattle.rtps_wire.specs.declared.data.Data.{Data};
 ghost use Rattle.dds_model.specs.declared.call.Call.TheVariants as call;
 ghost use Rattle.dds_model.specs.declared.event.Event.TheVariants as event;
 ghost use Rattle.dds_model.specs.Calls.{is_max, limit_of};
 ghost use Rattle.dds_model.specs.Claims.{change_in};
-ghost use Rattle.dds_world.specs.Receiving.{receiver_at, IsNext, StandsNext, BringsNext, ReadingMoves, place_moves, access_reply};
+ghost use Rattle.dds_world.specs.Receiving.{receiver_at, IsNext, StandsNext, HasNoNext, Advances, BringsNext, ReadingMoves, place_moves, access_reply};
 ghost use Rattle.dds_base.specs.Ownership.{IsMatched};
 ghost use Rattle.dds_world.specs.Begun.{HasReadNothing};
-ghost use Rattle.dds_world.specs.Standing.{ReadingSteps};
+ghost use Rattle.dds_world.specs.Standing.{ReadingSteps, SendsNothing};
 
 use crate::answer::answered;
-use crate::receiver::{EVERY_PEER, MessageReceiver, is_entity, is_prefix, receiver_after, receiver_for};
+use crate::receiver::{
+    EVERY_PEER, MessageReceiver, is_entity, is_prefix, receiver_after, receiver_for,
+};
 use dds_base::{
-    Arrival, Change, ChangeKind, Code, EntityId, Guid, GuidPrefix, Handle, Masks, Moment, Octets, ReaderQos, Sample, Sequence, Sn,
+    Arrival, Change, ChangeKind, Code, EntityId, Guid, GuidPrefix, Handle, Masks, Moment, Octets,
+    ReaderQos, Sample, Sequence, Sn,
 };
 use dds_cache::ReaderCache;
 use dds_model::{Call, Endpoint, Event, Move, Output, Reply, Report};
@@ -128,7 +131,7 @@ impl ReadingPeer {
 
     /// Whether the DATA has the next change of the reader's writer, for this reader.
     fn is_next(&self, receiver: &MessageReceiver, body: &Data) -> bool
-        ensures { IsTrue result → IsNext self.now (receiver_at receiver.now) body.now }
+        ensures { IsTrue result ↔ IsNext self.now (receiver_at receiver.now) body.now }
     {
         is_prefix(&receiver.source, &self.writer_prefix)
             && (is_prefix(&receiver.dest, &self.prefix) || is_prefix(&receiver.dest, &EVERY_PEER))
@@ -140,7 +143,8 @@ impl ReadingPeer {
 
     /// The first DATA of a message with the next change: its index, when it was made, and itself.
     fn next_in<'a>(&self, message: &'a Message) -> Option<(u32, u64, &'a Data)>
-        ensures { IfSome result (λ found. StandsNext self.now message.now found.1 found.2.now) }
+        ensures found { IfSome result (λ found. StandsNext self.now message.now found.1 found.2.now) }
+        ensures none { IfNone result (HasNoNext self.now message.now) }
     {
         let mut receiver = receiver_for(message.prefix);
         for (index, submessage) in message.submessages.as_slice().iter().enumerate() {
@@ -176,7 +180,8 @@ impl ReadingPeer {
 
     /// Takes up the change of a DATA, the next one.
     fn take_up(&mut self, index: u32, timestamp: u64, body: &Data) -> Report
-        ensures { (bytes : List ℕ) → BringsNext self.old bytes timestamp body.now → ReadingMoves self.old bytes result.moves self.new }
+        ensures moves { (bytes : List ℕ) → BringsNext self.old bytes timestamp body.now → ReadingMoves self.old bytes result.moves self.new }
+        ensures advances { Advances self.old result }
     {
         let Ok(change) = change_from(self.alloc, &body.content, timestamp) else {
             return unmoved(self.alloc, Some(index));
@@ -211,14 +216,16 @@ impl ReadingPeer {
 
     /// The bytes of a packet come.
     pub fn deliver(&mut self, packet: &Octets) -> Output
-        ensures { ReadingSteps self.old (event.Deliver packet.now) result self.new }
+        ensures step { ReadingSteps self.old (event.Deliver packet.now) result self.new }
+        ensures sends { SendsNothing result }
     {
         let report = self.receive(packet);
         answered(self.alloc, Reply::Reported(report))
     }
 
     fn take(&mut self, reader: u8, max: i32, masks: Masks) -> Output
-        ensures { ReadingSteps self.old (event.Call (call.Take reader max masks)) result self.new }
+        ensures step { ReadingSteps self.old (event.Call (call.Take reader max masks)) result self.new }
+        ensures sends { SendsNothing result }
     {
         if reader != READER {
             return answered(self.alloc, Reply::Refused(Code::BadParameter));
@@ -231,7 +238,8 @@ impl ReadingPeer {
     }
 
     fn call(&mut self, call: Call) -> Output
-        ensures { ReadingSteps self.old (event.Call call) result self.new }
+        ensures step { ReadingSteps self.old (event.Call call) result self.new }
+        ensures sends { SendsNothing result }
     {
         let Call::Take { reader, max, masks } = call else {
             return answered(self.alloc, Reply::Refused(Code::BadParameter));
@@ -241,7 +249,8 @@ impl ReadingPeer {
 
     /// One event.
     pub fn step(&mut self, event: Event) -> Output
-        ensures { ReadingSteps self.old event result self.new }
+        ensures step { ReadingSteps self.old event result self.new }
+        ensures sends { SendsNothing result }
     {
         match event {
             Event::Call(call) => self.call(call),

@@ -1,6 +1,6 @@
 //! Whom the rest of a message is for, and when its changes were made.
 
-ghost use Rattle.std.specs.Prelude.{◌≡◌, IsTrue};
+ghost use Rattle.std.specs.Prelude.{◌≡◌, ◌↔◌, IsTrue};
 ghost use Rattle.dds_model.specs.Claims.{receiver_of, after_submessage};
 ghost use Rattle.dds_world.specs.Receiving.{receiver_at};
 
@@ -66,14 +66,14 @@ pub fn receiver_after(receiver: MessageReceiver, submessage: &Submessage) -> Mes
 
 /// Whether two prefixes are one.
 pub fn is_prefix(a: &GuidPrefix, b: &GuidPrefix) -> bool
-    ensures { IsTrue result → a.now ≡ b.now }
+    ensures { IsTrue result ↔ (a.now ≡ b.now) }
 {
     *a == *b
 }
 
 /// Whether two entity ids are one.
 pub fn is_entity(a: &EntityId, b: &EntityId) -> bool
-    ensures { IsTrue result → a.now ≡ b.now }
+    ensures { IsTrue result ↔ (a.now ≡ b.now) }
 {
     *a == *b
 }

@@ -4,7 +4,9 @@ ghost use Rattle.std.specs.Prelude.{◌≡◌, ◌≢◌, ◌↔◌, IsTrue, IfS
 ghost use Rattle.dds_world.specs.Thin.{IsThin, IsThinWriter, IsThinReader, HasEnds, no_prefix};
 
 use crate::receiver::EVERY_PEER;
-use dds_base::{Config, GuidPrefix, HistoryQos, OwnershipQos, PeerConfig, ReaderConfig, WriterConfig};
+use dds_base::{
+    Config, GuidPrefix, HistoryQos, OwnershipQos, PeerConfig, ReaderConfig, WriterConfig,
+};
 
 /// The kind of a writer's entity id.
 const WRITER_KIND: u8 = 0x02;

@@ -1,16 +1,17 @@
 //! The network.
 
-ghost use Rattle.std.specs.Prelude.{◌≡◌, ◌⊎◌, ◌+◌, ◌-◌, ◌≤◌, IsOk, IfOk, IfErr, length, slice_get, None};
+ghost use Rattle.std.specs.Prelude.{◌≡◌, ◌⊎◌, ℕ, ◌+◌, ◌-◌, ◌^◌, ◌≤◌, min, IsOk, IfOk, IfErr, OnErr, length, slice_get, None};
 ghost use Rattle.std.specs.Option.{option_copied};
 ghost use Rattle.dds_model.specs.declared.event.WorldEvent.TheVariants as event;
-ghost use Rattle.dds_world.specs.WorldStanding.{Posts, StandsFor, Steps};
+ghost use Rattle.dds_world.specs.WorldStanding.{Announces, Posts, Runs, StandsFor, Steps};
+ghost use Rattle.dds_world.specs.Standing.{SendsNothing};
 ghost use Rattle.dds_model.specs.Opening.{opening};
 ghost use Rattle.dds_base.specs.declared.code.Code.TheVariants.{BadParameter, Memory};
 ghost use Rattle.dds_world.specs.Thin.{IsThin, thin_qos};
 
 use crate::reading::ReadingPeer;
-use crate::writing::WritingPeer;
 use crate::thin::{Ends, ends_of};
+use crate::writing::WritingPeer;
 use dds_base::{Code, Config, Guid, MatchedWriter, ReaderQos, Sequence};
 use dds_model::{Call, Event, Output, Packet, Reply, WorldEvent};
 use std::alloc::{AllocError, Global};
@@ -108,7 +109,8 @@ impl World {
 
     /// One event: a call at a peer, or the delivery of a packet that was sent, at a peer.
     pub fn step(&mut self, event: WorldEvent) -> Reply
-        ensures { Steps self.old event result self.new }
+        ensures step { Steps self.old event result self.new }
+        ensures sends { Announces self.old event result self.new }
     {
         match event {
             WorldEvent::Call { peer, call } => self.call(peer, call),
@@ -116,8 +118,29 @@ impl World {
         }
     }
 
+    /// Events one after the other, and the reply to each.
+    ///
+    /// # Errors
+    ///
+    /// `Memory` where no memory was found for the replies; nothing was done then.
+    pub fn run(&mut self, events: Vec<WorldEvent>) -> Result<Sequence<Reply>, Code>
+        ensures run { IfOk result (λ replies. Runs self.old events.items replies self.new) }
+        ensures memory { IfErr result (λ code. code ≡ Memory) }
+        ensures err { OnErr result (self.new ≡ self.old) }
+    {
+        let mut replies = Vec::with_capacity(self.alloc, events.len())?;
+        for event in events {
+            let reply = self.step(event);
+            if replies.push(reply).is_err() {
+                unreachable!();
+            }
+        }
+        Ok(Sequence::from_vec(replies))
+    }
+
     fn call(&mut self, peer: u8, call: Call) -> Reply
-        ensures { Steps self.old (event.Call peer call) result self.new }
+        ensures step { Steps self.old (event.Call peer call) result self.new }
+        ensures sends { Announces self.old (event.Call peer call) result self.new }
     {
         if peer == WRITING {
             let output = self.writing.step(Event::Call(call));
@@ -131,7 +154,8 @@ impl World {
     }
 
     fn deliver(&mut self, peer: u8, packet: u64) -> Reply
-        ensures { Steps self.old (event.Deliver peer packet) result self.new }
+        ensures step { Steps self.old (event.Deliver peer packet) result self.new }
+        ensures sends { Announces self.old (event.Deliver peer packet) result self.new }
     {
         if packet == 0 || (self.sent.len() as u64) < packet {
             return Reply::Refused(Code::BadParameter);
@@ -154,6 +178,9 @@ impl World {
         ensures writing { self.new.writing ≡ self.old.writing }
         ensures reading { self.new.reading ≡ self.old.reading }
         ensures posted { Posts self.old.sent output.packets self.new.sent }
+        ensures unsent { (lost : ℕ) × (length self.new.sent + lost ≡ length self.old.sent + length output.packets)
+            × (self.new.unsent ≡ min (self.old.unsent + output.unsent + lost) (2 ^ 64 - 1)) }
+        ensures quiet { SendsNothing output → (self.new.sent ≡ self.old.sent) × (self.new.unsent ≡ self.old.unsent) }
     {
         let Output {
             reply,

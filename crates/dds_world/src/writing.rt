@@ -6,11 +6,12 @@ ghost use Rattle.dds_model.specs.declared.reply.Reply.TheVariants.{Done};
 ghost use Rattle.dds_model.specs.declared.event.Event.TheVariants as event;
 ghost use Rattle.dds_model.specs.declared.call.Call.TheVariants as call;
 ghost use Rattle.dds_world.specs.Begun.{HasWrittenNothing};
-ghost use Rattle.dds_world.specs.Standing.{WritingSteps, AnnouncesWrite};
+ghost use Rattle.dds_world.specs.Standing.{WritingSteps, WritingSends, SendsNothing, AnnouncesWrite};
 
 use crate::answer::{answered, nothing_moved};
 use dds_base::{
-    Change, ChangeKind, Code, Datum, EntityId, GuidPrefix, HistoryQos, Key, MAX_VALUE, Moment, Octets, Sequence, Sn,
+    Change, ChangeKind, Code, Datum, EntityId, GuidPrefix, HistoryQos, Key, MAX_VALUE, Moment,
+    Octets, Sequence, Sn,
 };
 use dds_history::History;
 use dds_model::{Call, Event, Output, Packet, Reply};
@@ -62,7 +63,8 @@ impl WritingPeer {
 
     /// One event.
     pub fn step(&mut self, event: Event) -> Output
-        ensures { WritingSteps self.old event result self.new }
+        ensures step { WritingSteps self.old event result self.new }
+        ensures sends { WritingSends self.old event result.reply result }
     {
         match event {
             Event::Call(Call::Write { writer, key, value }) => self.write(writer, key, value),
@@ -75,13 +77,15 @@ impl WritingPeer {
 
     /// The bytes of a packet come.
     pub fn deliver(&mut self, packet: &Octets) -> Output
-        ensures { WritingSteps self.old (event.Deliver packet.now) result self.new }
+        ensures step { WritingSteps self.old (event.Deliver packet.now) result self.new }
+        ensures sends { SendsNothing result }
     {
         answered(self.alloc, nothing_moved(self.alloc))
     }
 
     fn write(&mut self, writer: u8, key: Key, value: Octets) -> Output
-        ensures { WritingSteps self.old (event.Call (call.Write writer key value)) result self.new }
+        ensures step { WritingSteps self.old (event.Call (call.Write writer key value)) result self.new }
+        ensures sends { WritingSends self.old (event.Call (call.Write writer key value)) result.reply result }
     {
         if writer != 1 || MAX_VALUE < value.as_slice().len() {
             return answered(self.alloc, Reply::Refused(Code::BadParameter));
@@ -132,7 +136,12 @@ impl WritingPeer {
     }
 
     /// The packet that announces a write of this number.
-    fn announce(&self, number: Sn, key: Key, value: Result<Octets, AllocError>) -> Result<Packet, Code>
+    fn announce(
+        &self,
+        number: Sn,
+        key: Key,
+        value: Result<Octets, AllocError>,
+    ) -> Result<Packet, Code>
         ensures { IfOk result (AnnouncesWrite self.now number key value) }
     {
         let value = value?;
@@ -145,7 +154,8 @@ impl WritingPeer {
         let submessages = vec![in self.alloc;
             Submessage::InfoDst(self.to),
             Submessage::InfoTs(Some(0)),
-            Submessage::Data(data)]?;
+            Submessage::Data(data),
+        ]?;
         let message = Message {
             prefix: self.prefix,
             submessages: Submessages::from_vec(submessages),

@@ -12,8 +12,8 @@ use Rattle.dds_world.specs.Standing.{ReadingKept, ReadingStandsFor}
 use Rattle.dds_world.proofs.ReadingSteps.{took, Follows, silent, with_cache}
 use Rattle.dds_world.proofs.reading.ReadingPeer.take.Goals as goal
 
-pub returns : goal.returns
-returns c = λ config peer given.
+pub returns-clause-step : goal.returns-clause-step
+returns-clause-step c = λ config peer given.
     let kept : ReadingKept = record {
       prefix = c.self.inside.prefix;
       entity = c.self.inside.entity;

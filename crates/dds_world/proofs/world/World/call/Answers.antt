@@ -1,19 +1,26 @@
+use Rattle.dds_world.proofs.Sends.{called_first_sends}
 use Rattle.std.proofs.Common.{arith}
 use Rattle.dds_world.specs.WorldStanding.{WorldKept}
 use Rattle.dds_world.proofs.WorldSteps.{called_first, called_second}
 use Rattle.dds_world.proofs.world.World.call.Goals as goal
 
-pub returns-then-peer-eq-WRITING : goal.returns-then-peer-eq-WRITING
-returns-then-peer-eq-WRITING c =
+pub returns-then-peer-eq-WRITING-clause-step : goal.returns-then-peer-eq-WRITING-clause-step
+returns-then-peer-eq-WRITING-clause-step c =
     let kept : WorldKept = record { writing = c.self.inside.writing; reading = c.self.inside.reading; sent = c.self.inside.sent.items; unsent = c.self.inside.unsent } in
-    called_first kept c.args.self.now c.posted.new.self c.step-output.new.self c.args.peer c.args.call c.step-output.result c.posted.result c.self.view_is c.if-peer-eq-WRITING.true c.step-output.ensures
+    called_first kept c.args.self.now c.posted.new.self c.step-output.new.self c.args.peer c.args.call c.step-output.result c.posted.result c.self.view_is c.if-peer-eq-WRITING.true c.step-output.ensures.step
     c.posted.ensures.reply c.posted.ensures.writing c.posted.ensures.reading c.posted.ensures.posted
 
-pub returns-then-peer-eq-READING : goal.returns-then-peer-eq-READING
-returns-then-peer-eq-READING c =
+pub returns-then-peer-eq-READING-clause-step : goal.returns-then-peer-eq-READING-clause-step
+returns-then-peer-eq-READING-clause-step c =
     let inside = c.self-then-peer-eq-READING.inside in
     let kept : WorldKept = record { writing = inside.writing; reading = inside.reading; sent = inside.sent.items; unsent = inside.unsent } in
     let posted = c.posted-then-peer-eq-READING in
     let output = c.step-output-then-peer-eq-READING in
-    called_second kept c.args.self.now posted.new.self output.new.self c.args.peer c.args.call output.result posted.result c.self-then-peer-eq-READING.view_is c.if-peer-eq-READING.true output.ensures
+    called_second kept c.args.self.now posted.new.self output.new.self c.args.peer c.args.call output.result posted.result c.self-then-peer-eq-READING.view_is c.if-peer-eq-READING.true output.ensures.step
     posted.ensures.reply posted.ensures.writing posted.ensures.reading posted.ensures.posted
+
+pub returns-then-peer-eq-WRITING-clause-sends : goal.returns-then-peer-eq-WRITING-clause-sends
+returns-then-peer-eq-WRITING-clause-sends c =
+    let kept : WorldKept = record { writing = c.self.inside.writing; reading = c.self.inside.reading; sent = c.self.inside.sent.items; unsent = c.self.inside.unsent } in
+    called_first_sends kept c.args.self.now c.posted.new.self c.args.peer c.args.call c.posted.result c.step-output.result c.self.view_is c.if-peer-eq-WRITING.true c.posted.ensures.reply c.posted.ensures.posted
+    c.posted.ensures.unsent c.posted.ensures.quiet c.step-output.ensures.sends

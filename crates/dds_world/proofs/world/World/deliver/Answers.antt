@@ -5,17 +5,17 @@ use Rattle.dds_world.specs.WorldStanding.{WorldKept}
 use Rattle.dds_world.proofs.WorldSteps.{delivered_first, delivered_second}
 use Rattle.dds_world.proofs.world.World.deliver.Goals as goal
 
-pub returns-then-peer-eq-WRITING : goal.returns-then-peer-eq-WRITING
-returns-then-peer-eq-WRITING c =
+pub returns-then-peer-eq-WRITING-clause-step : goal.returns-then-peer-eq-WRITING-clause-step
+returns-then-peer-eq-WRITING-clause-step c =
     let inside = c.self.inside in
     let kept : WorldKept = record { writing = inside.writing; reading = inside.reading; sent = inside.sent.items; unsent = inside.unsent } in
     let within : c.args.packet - 1 < length kept.sent = omega arith in
     let found : slice_get kept.sent (c.args.packet - 1) ≡ Some c.index.result.now = slice_get-get_or kept.sent (c.args.packet - 1) c.index.result.now within ∙ ap (λ (p : Packet). Some p) (sym c.index.ensures) in
     delivered_first kept c.args.self.now c.posted.new.self c.deliver-output.new.self c.args.peer c.args.packet c.index.result.now c.deliver-output.result c.posted.result c.self.view_is c.if-peer-eq-WRITING.true (omega arith) found
-    c.deliver-output.ensures c.posted.ensures.reply c.posted.ensures.writing c.posted.ensures.reading c.posted.ensures.posted
+    c.deliver-output.ensures.step c.posted.ensures.reply c.posted.ensures.writing c.posted.ensures.reading c.posted.ensures.posted
 
-pub returns-then-peer-eq-READING : goal.returns-then-peer-eq-READING
-returns-then-peer-eq-READING c =
+pub returns-then-peer-eq-READING-clause-step : goal.returns-then-peer-eq-READING-clause-step
+returns-then-peer-eq-READING-clause-step c =
     let inside = c.self.inside in
     let kept : WorldKept = record { writing = inside.writing; reading = inside.reading; sent = inside.sent.items; unsent = inside.unsent } in
     let posted = c.posted-then-peer-eq-READING in
@@ -23,5 +23,5 @@ returns-then-peer-eq-READING c =
     let index = c.index-then-peer-eq-READING in
     let within : c.args.packet - 1 < length kept.sent = omega arith in
     let found : slice_get kept.sent (c.args.packet - 1) ≡ Some index.result.now = slice_get-get_or kept.sent (c.args.packet - 1) index.result.now within ∙ ap (λ (p : Packet). Some p) (sym index.ensures) in
-    delivered_second kept c.args.self.now posted.new.self output.new.self c.args.peer c.args.packet index.result.now output.result posted.result c.self.view_is c.if-peer-eq-READING.true (omega arith) found output.ensures
+    delivered_second kept c.args.self.now posted.new.self output.new.self c.args.peer c.args.packet index.result.now output.result posted.result c.self.view_is c.if-peer-eq-READING.true (omega arith) found output.ensures.step
     posted.ensures.reply posted.ensures.writing posted.ensures.reading posted.ensures.posted

@@ -3,8 +3,8 @@ use Rattle.dds_model.specs.declared.event.WorldEvent.{WorldEvent}
 use Rattle.dds_world.specs.WorldStanding.{Steps}
 use Rattle.dds_world.proofs.world.World.step.Goals as goal
 
-pub returns-in-Call : goal.returns-in-Call
-returns-in-Call c = subst (λ (e : WorldEvent). Steps c.args.self.now e c.call.result c.call.new.self) (sym c.in-Call.is) c.call.ensures
+pub returns-in-Call-clause-step : goal.returns-in-Call-clause-step
+returns-in-Call-clause-step c = subst (λ (e : WorldEvent). Steps c.args.self.now e c.call.result c.call.new.self) (sym c.in-Call.is) c.call.ensures.step
 
-pub returns-in-Deliver : goal.returns-in-Deliver
-returns-in-Deliver c = subst (λ (e : WorldEvent). Steps c.args.self.now e c.deliver.result c.deliver.new.self) (sym c.in-Deliver.is) c.deliver.ensures
+pub returns-in-Deliver-clause-step : goal.returns-in-Deliver-clause-step
+returns-in-Deliver-clause-step c = subst (λ (e : WorldEvent). Steps c.args.self.now e c.deliver.result c.deliver.new.self) (sym c.in-Deliver.is) c.deliver.ensures.step

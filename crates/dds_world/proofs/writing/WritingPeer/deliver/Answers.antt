@@ -6,6 +6,6 @@ use Rattle.dds_world.specs.Standing.{WritingSteps}
 use Rattle.dds_world.proofs.WritingSteps.{nothing_delivered, silent}
 use Rattle.dds_world.proofs.writing.WritingPeer.deliver.Goals as goal
 
-pub returns : goal.returns
-returns c =
+pub returns-clause-step : goal.returns-clause-step
+returns-clause-step c =
     subst (λ (o : Output). WritingSteps c.args.self.now (event.Deliver c.args.packet.now) o c.args.self.now) (sym (c.answered.ensures ∙ ap silent c.nothing_moved.ensures)) (nothing_delivered c.args.self.now c.args.packet.now)
