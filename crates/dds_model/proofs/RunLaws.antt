@@ -38,7 +38,7 @@ composes_runs config old new unsent last [] (r ∷ rs) sound run = absurd run
 composes_runs config old new unsent last (e ∷ es) [] sound run = absurd run
 
 -- a writer that keeps all has dropped nothing
-keeps_all : (policy : HistoryQos) (m : Machine) (w : Endpoint) (n : ℕ) → (writer_at m w).policy ≡ policy → policy ≡ KeepAll → is_dropped (history_of (writer_at m w)) n ≡ true → ⊥
+pub keeps_all : (policy : HistoryQos) (m : Machine) (w : Endpoint) (n : ℕ) → (writer_at m w).policy ≡ policy → policy ≡ KeepAll → is_dropped (history_of (writer_at m w)) n ≡ true → ⊥
 keeps_all policy m w n is all h =
     let none : is_dropped (history_of (writer_at m w)) n ≡ false = ap (λ (p : HistoryQos). is_dropped_by p (writer_changes (writer_at m w)) n) (is ∙ all) in cc
 
@@ -72,7 +72,7 @@ Step-loses w sent m (world.Call peer call) reply new replies all (inr h) rest = 
 Step-loses w sent m (world.Deliver peer packet) reply new replies all (inl h) rest = loses_delivery m peer w (part_at m peer) reply h.2.after replies all h.2.step rest
 Step-loses w sent m (world.Deliver peer packet) reply new replies all (inr h) rest = subst (λ (r : Reply). LosesNone w (r ∷ replies)) (sym h.1.0) rest
 
-Step-policy : (w : Endpoint) (sent : ℕ) (m : Machine) (ev : WorldEvent) (reply : Reply) (new : Machine) → Step sent m ev reply new → (writer_at new w).policy ≡ (writer_at m w).policy
+pub Step-policy : (w : Endpoint) (sent : ℕ) (m : Machine) (ev : WorldEvent) (reply : Reply) (new : Machine) → Step sent m ev reply new → (writer_at new w).policy ≡ (writer_at m w).policy
 Step-policy w sent m (world.Call peer call) reply new (inl h) =
     ap (λ (x : Machine). (writer_at x w).policy) h.changed ∙ ((with_part-grows m peer h.after (CallStep-grows (part_at m peer) call reply h.after h.step)).writers w).policy
 Step-policy w sent m (world.Call peer call) reply new (inr h) = ap (λ (x : Machine). (writer_at x w).policy) h.1.1

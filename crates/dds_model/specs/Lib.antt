@@ -9,3 +9,4 @@ pub mod World
 pub mod Runs
 pub mod Opening
 pub mod Laws
+pub mod InOrder

@@ -1,5 +1,6 @@
 //! What holds of every network and every run.
 
+ghost use Rattle.dds_model.specs.InOrder.{ChangesComeInOrder};
 ghost use Rattle.dds_model.specs.Laws.{Composes, ComposesRuns, KeepAllIsKept, OpensSound};
 
 /// All that packets claim is true at the opening of every configuration.
@@ -20,4 +21,10 @@ pub fn composes_runs()
 /// No run passes over a change of a writer that keeps all.
 pub fn keep_all_is_kept()
     ensures { KeepAllIsKept }
+{}
+
+/// After every run, the changes of a writer that keeps all that came at a matched reader are the first ones of its list,
+/// as many as lie before the reader's place there.
+pub fn changes_come_in_order()
+    ensures { ChangesComeInOrder }
 {}
