@@ -7,5 +7,6 @@ pub mod Peer
 pub mod Machine
 pub mod World
 pub mod Runs
+pub mod Progress
 pub mod Opening
 pub mod Laws
