@@ -1,8 +1,8 @@
 -- A delivery of the change that the reader comes to next moves its place.
-use Rattle.std.proofs.Common.{◌≡◌, ◌⊎◌, ℕ, zero, suc, ◌+◌, ◌-◌, ◌^◌, ◌<◌, ◌≤◌, ◌==◌, Bool, true, false, cond, ◌&&◌, ◌||◌, not, Option, List, [], ◌∷◌, Some, length, slice_get, refl, subst, ap, sym, ◌∙◌, inl, inr, ⊎_elim, arith}
-use Rattle.std.specs.Prelude.{nat_lt, IsSome}
+use Rattle.std.proofs.Common.{◌≡◌, ℕ, zero, suc, ◌+◌, ◌-◌, ◌^◌, ◌≤◌, Bool, true, false, cond, ◌&&◌, ◌||◌, not, List, [], ◌∷◌, length, refl, subst, ap, sym, ◌∙◌, inl, inr, ⊎_elim, arith}
+use Rattle.std.specs.Prelude.{nat_lt}
 use Rattle.std.proofs.lemmas.Bool.Decides.{nat_tests}
-use Rattle.std.proofs.lemmas.Option.{slice_get_within, same_Some}
+use Rattle.std.proofs.lemmas.Option.{same_Some}
 use Rattle.dds_base.specs.declared.change.Change.{Change}
 use Rattle.dds_base.specs.declared.config.Config.{Config}
 use Rattle.dds_base.specs.declared.config.PeerConfig.{PeerConfig}
@@ -25,15 +25,15 @@ use Rattle.dds_model.specs.declared.reply.Reply.{Reply}
 use Rattle.dds_model.specs.declared.reply.Reply.TheVariants.{Done, Samples, Reported, Refused}
 use Rattle.dds_model.specs.declared.reply.Report.{Report}
 use Rattle.dds_model.specs.Part.{Part, same_endpoint, own_proxies, place_of}
-use Rattle.dds_model.specs.Claims.{Claim, ChangeIs, Claims, Receiver, IsFor, IsNumbered, IsWriter, IsReader, IsForReader, Says}
+use Rattle.dds_model.specs.Claims.{ChangeIs, Claims, Receiver, IsFor, IsNumbered, IsWriter, IsReader, Says}
 use Rattle.dds_model.specs.Machine.{Machine, part_at, place_at}
 use Rattle.dds_cache.specs.Standing.{qos_of}
 use Rattle.dds_model.specs.Peer.{Peer}
-use Rattle.dds_model.specs.Progress.{GoesOver, HasNoRoom, MovesOver}
+use Rattle.dds_model.specs.Progress.{GoesOver, MovesOver}
 use Rattle.dds_model.proofs.Tables.{same_is}
 use Rattle.dds_world.specs.Thin.{IsPair}
 use Rattle.dds_world.specs.Standing.{ReadingKept, ReadingStandsFor, reading_part, writing_part}
-use Rattle.dds_world.specs.Receiving.{IsNext, Advances, AdvancesOn, ReplyAdvances, place_moves}
+use Rattle.dds_world.specs.Receiving.{IsNext, Advances, ReplyAdvances}
 use Rattle.dds_base.specs.Written.{Written}
 use Rattle.dds_model.specs.Part.{no_part}
 use Rattle.dds_model.specs.Claims.{receiver_of, StandsIn}

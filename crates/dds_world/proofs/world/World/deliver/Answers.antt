@@ -1,5 +1,5 @@
 use Rattle.dds_world.proofs.Progressed.{second_moves}
-use Rattle.std.proofs.Common.{◌≡◌, ℕ, subst, ◌-◌, ◌<◌, ◌≤◌, Some, length, slice_get, sym, ◌∙◌, ap, arith}
+use Rattle.std.proofs.Common.{◌≡◌, ℕ, subst, ◌-◌, ◌<◌, Some, length, slice_get, sym, ◌∙◌, ap, arith}
 use Rattle.std.proofs.lemmas.Option.{slice_get-get_or, same_Some}
 use Rattle.dds_model.specs.declared.event.Packet.{Packet}
 use Rattle.dds_model.specs.declared.reply.Reply.{Reply}
