@@ -11,7 +11,7 @@ use Rattle.dds_base.specs.declared.sample.SampleInfo.{SampleInfo}
 use Rattle.dds_base.specs.declared.sample.Sample.{Sample}
 use Rattle.dds_base.specs.declared.sample.SampleState.TheVariants.{Read as R, NotRead as NR}
 use Rattle.dds_base.specs.declared.sample.ViewState.TheVariants.{New, NotNew}
-use Rattle.dds_base.specs.declared.sample.InstanceState.TheVariants.{Alive, NotAliveNoWriters}
+use Rattle.dds_base.specs.declared.sample.InstanceState.TheVariants.{Alive, NotAliveNoWriters, NotAliveDisposed}
 use Rattle.dds_base.specs.declared.sample.SampleState.{SampleState}
 use Rattle.dds_base.specs.declared.sample.ViewState.{ViewState}
 use Rattle.dds_base.specs.declared.sample.InstanceState.{InstanceState}
@@ -109,6 +109,14 @@ take-no_writers = refl
 -- a dispose of an instance without writers raises no count, and its marker replaces the older one
 take-dispose_abandoned : answer shared (came 1 4 Write (2 ∷ []) ∷ came 1 3 Dispose [] ∷ came 1 2 Unregister [] ∷ came 1 1 Write (1 ∷ []) ∷ []) None any ≡ info NR New Alive 0 0 2 1 1 true 1 ∷ info NR New Alive 0 0 1 1 1 false 1 ∷ info NR New Alive 1 0 0 0 0 true 1 ∷ []
 take-dispose_abandoned = refl
+
+-- a dispose with unregister leaves the instance DISPOSED, with one marker
+take-dispose_unregister : answer shared (came 1 2 DisposeUnregister [] ∷ came 1 1 Write (1 ∷ []) ∷ []) None any ≡ info NR New NotAliveDisposed 0 0 1 0 0 true 1 ∷ info NR New NotAliveDisposed 0 0 0 0 0 false 1 ∷ []
+take-dispose_unregister = refl
+
+-- of two deaths in one tick the second turns the instance, and the marker names that writer
+publications-two_deaths : map (λ (i : SampleInfo). i.publication_handle) (answer exclusive (Died 2 7 ∷ Died 1 7 ∷ came 2 1 Write (2 ∷ []) ∷ came 1 1 Write (1 ∷ []) ∷ []) None any) ≡ 1 ∷ 2 ∷ []
+publications-two_deaths = refl
 
 -- a writer's death leaves a sample without data, of the moment of the death
 timestamps-death : map (λ (i : SampleInfo). i.source_timestamp) (answer shared (Died 1 7 ∷ came 1 1 Write (1 ∷ []) ∷ []) None any) ≡ 0 ∷ 7 ∷ []

@@ -1,7 +1,7 @@
 -- What a read or a take returns: which samples, and what it says of each.
 --
 -- DDS 1.4, 2.2.2.5 (read, take and their instance forms; SampleInfo).
-use Rattle.std.specs.Prelude.{ℕ, ◌+◌, ◌-◌, List, [], ◌∷◌, length, take, Bool, true, false, ◌&&◌, ◌==◌, nat_lt, Option, None, Some, if◌then◌else◌, filter, map, count_by}
+use Rattle.std.specs.Prelude.{ℕ, zero, suc, slice_get, ◌+◌, ◌-◌, List, [], ◌∷◌, take, Bool, true, false, ◌&&◌, ◌==◌, nat_lt, Option, None, Some, if◌then◌else◌, filter, map, count_by}
 use Rattle.std.specs.Int.RustNames.{bit_and}
 use Rattle.dds_base.specs.declared.key.Key.{Key}
 use Rattle.dds_base.specs.declared.happening.SamplePosition.{SamplePosition}
@@ -44,6 +44,7 @@ instance_state_bit Alive = 1
 instance_state_bit NotAliveDisposed = 2
 instance_state_bit NotAliveNoWriters = 4
 
+-- the mask has the bit
 abbrev pub has_bit : ℕ → ℕ → Bool
 has_bit mask bit = bit_and mask bit == bit
 
@@ -64,6 +65,7 @@ meets q h masks s =
     asks_for_sample_state masks.samples (sample_state_of h s)
     && (asks_for_view_state masks.views (view_state_of q s.key h) && asks_for_instance_state masks.instances (instance_state_of q s.key h))
 
+-- the value of the newest entry, if it is an accepted write of i, else the empty one
 abbrev pub newest_value : ReaderQos → Key → List Happening → List ℕ
 newest_value q i (Came a ∷ h) = if is_write (accepted_kind q i h (Came a)) then a.change.value else []
 newest_value q i _ = []
@@ -89,6 +91,19 @@ picked_samples q h max masks passes = at_most max (matching_samples q h masks pa
 abbrev pub no_filter : Key → List ℕ → Bool
 no_filter key value = true
 
+-- not read before, of any instance
+abbrev pub not_read : Masks
+not_read = record { samples = record { 0 = 2 }; views = record { 0 = 65535 }; instances = record { 0 = 65535 } }
+
+-- the next sample that was not read (2.2.2.5, read_next_sample and take_next_sample)
+abbrev pub picked_next_sample : ReaderQos → List Happening → List SamplePosition
+picked_next_sample q h = picked_samples q h (Some 1) not_read no_filter
+
+-- the instance of a handle, none for an unknown one (2.2.2.5, get_key_value)
+abbrev pub instance_of : ReaderQos → List Happening → ℕ → Option Key
+instance_of q h zero = None
+instance_of q h (suc at) = slice_get (known_instances q h) at
+
 -- the first number of the key in a list that is numbered from n on, 0 for none
 abbrev pub number_from : ℕ → Key → List Key → ℕ
 number_from n i [] = 0
@@ -111,13 +126,13 @@ next_handle q h n (s ∷ ss) = if nat_lt n (handle_of q h s.key) then handle_of 
 abbrev pub picked_of_next_instance : ReaderQos → List Happening → Option ℕ → Masks → (Key → List ℕ → Bool) → ℕ → List SamplePosition
 picked_of_next_instance q h max masks passes handle = picked_of_instance q h max masks passes (next_handle q h handle (matching_samples q h masks passes))
 
--- the source timestamp of the newest entry: the change's, or the moment of the death (2.2.2.5, source_timestamp)
+-- the source timestamp of the newest entry: the change's, or the moment of the death (2.2.2.5, source_timestamp); no other entry leaves a sample
 abbrev pub timestamp_of : List Happening → ℕ
 timestamp_of (Came a ∷ h) = a.change.source_timestamp
 timestamp_of (Died w now ∷ h) = now
 timestamp_of _ = 0
 
--- the publication handle of the newest entry's writer (2.2.2.5, publication_handle)
+-- the publication handle of the newest entry's writer (2.2.2.5, publication_handle); no other entry leaves a sample
 abbrev pub publication_of : List Happening → ℕ
 publication_of (Came a ∷ h) = a.writer
 publication_of (Died w now ∷ h) = w

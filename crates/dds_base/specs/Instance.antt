@@ -27,6 +27,7 @@ abbrev pub last_accepted : ReaderQos → Key → List Happening → Option Chang
 last_accepted q i [] = None
 last_accepted q i (e ∷ h) = or_else (accepted_kind q i h e) (last_accepted q i h)
 
+-- nobody is in the list
 abbrev pub is_nobody : List ℕ → Bool
 is_nobody [] = true
 is_nobody (w ∷ ws) = false
@@ -41,14 +42,17 @@ state_after (Some _) nobody = Some NotAliveDisposed
 abbrev pub instance_state_of : ReaderQos → Key → List Happening → Option InstanceState
 instance_state_of q i h = state_after (last_accepted q i h) (is_nobody (registered_writers q i h))
 
+-- an accepted write
 abbrev pub is_write : Option ChangeKind → Bool
 is_write (Some Write) = true
 is_write _ = false
 
+-- the state is NOT_ALIVE_DISPOSED
 abbrev pub is_disposed : Option InstanceState → Bool
 is_disposed (Some NotAliveDisposed) = true
 is_disposed _ = false
 
+-- the state is NOT_ALIVE_NO_WRITERS
 abbrev pub is_without_writers : Option InstanceState → Bool
 is_without_writers (Some NotAliveNoWriters) = true
 is_without_writers _ = false
@@ -100,6 +104,7 @@ view_state_of q i h = if list_any (accesses i (latest_rebirth q i h)) h then Not
 abbrev pub introduces : ReaderQos → Key → List Happening → Happening → Bool
 introduces q i h e = not (is_some (last_accepted q i h)) && is_some (accepted_kind q i h e)
 
+-- the key that the entry makes known, if there is one
 abbrev pub introduced_by : ReaderQos → List Happening → Happening → List Key
 introduced_by q h (Came a) = if introduces q a.change.key h (Came a) then a.change.key ∷ [] else []
 introduced_by q h _ = []

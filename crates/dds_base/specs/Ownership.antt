@@ -42,7 +42,7 @@ ends_registration i w (Came a) = (same_key a.change.key i && (a.writer == w)) &&
 ends_registration i w (Died v now) = v == w
 ends_registration i w _ = false
 
--- w is registered for i: a write or dispose of it came after all its unregisters of i and all its deaths
+-- w is registered for i: a write or dispose of it came after all its unregisters of i and all its deaths (2.2.2.4)
 abbrev pub is_registered : Key → ℕ → List Happening → Bool
 is_registered i w [] = false
 is_registered i w (e ∷ h) = not (ends_registration i w e) && (registers i w e || is_registered i w h)
@@ -51,11 +51,11 @@ is_registered i w (e ∷ h) = not (ends_registration i w e) && (registers i w e 
 abbrev pub registered_writers : ReaderQos → Key → List Happening → List ℕ
 registered_writers q i h = filter (λ w. is_registered i w h) (publication_handles q)
 
--- the order of two GUIDs by their sixteen octets: the twelve of the prefix, then the four of the entity (RTPS 2.5, 8.2)
+-- the order of two GUIDs by their sixteen octets: the twelve of the prefix, then the four of the entity (RTPS 2.5, 8.2: GUID_t; the order is ours)
 abbrev pub guid_cmp : Guid → Guid → Ordering
 guid_cmp a b = ordering_then (slice_cmp nat_cmp a.prefix.0 b.prefix.0) (slice_cmp nat_cmp a.entity.0 b.entity.0)
 
--- the order of two writers: by strength, and of equals the one with the smaller GUID is the greater
+-- the order of two writers: by strength, and of equals the one with the smaller GUID is the greater (2.2.3, OWNERSHIP_STRENGTH)
 abbrev pub writer_cmp : MatchedWriter → MatchedWriter → Ordering
 writer_cmp a b = ordering_then (int_cmp a.strength b.strength) (guid_cmp b.guid a.guid)
 
@@ -64,6 +64,7 @@ abbrev pub writer_of : List MatchedWriter → ℕ → Option MatchedWriter
 writer_of writers zero = None
 writer_of writers (suc at) = slice_get writers at
 
+-- both are there, and the first is the greater
 abbrev pub is_above : Option MatchedWriter → Option MatchedWriter → Bool
 is_above (Some a) (Some b) = is_gt (writer_cmp a b)
 is_above _ _ = false
@@ -76,7 +77,7 @@ outranks q v w = is_above (writer_of q.writers v) (writer_of q.writers w)
 abbrev pub outranks_all : ReaderQos → List ℕ → ℕ → Bool
 outranks_all q ws w = list_all (λ v. (v == w) || outranks q w v) ws
 
--- the owner among registered writers: one of them, which outranks each other one
+-- the owner among registered writers: one of them, which outranks each other one (2.2.3, OWNERSHIP)
 pub record IsOwner (q : ReaderQos) (ws : List ℕ) (w : ℕ) : Type 0 where
   pub is_registered : Contains ws w
   pub is_greatest : (v : ℕ) → Contains ws v → v ≢ w → IsTrue (outranks q w v)
@@ -89,7 +90,7 @@ owner_of q ws = find (outranks_all q ws) ws
 abbrev pub HaveOwnGuids : ReaderQos → Type 0
 HaveOwnGuids q = (v w : ℕ) (a b : MatchedWriter) → writer_of q.writers v ≡ Some a → writer_of q.writers w ≡ Some b → a.guid ≡ b.guid → v ≡ w
 
--- SHARED lets every writer change an instance, EXCLUSIVE the owner among those registered before and itself
+-- SHARED lets every writer change an instance, EXCLUSIVE the owner among those registered before and itself (2.2.3, OWNERSHIP)
 abbrev pub admits : OwnershipQos → Bool → Bool
 admits Shared is_owner = true
 admits Exclusive is_owner = is_owner

@@ -24,7 +24,7 @@ becomes_not_alive _ (Some NotAliveDisposed) = true
 becomes_not_alive _ (Some NotAliveNoWriters) = true
 becomes_not_alive _ _ = false
 
--- the entry turns i to a not-alive state, from another one or from unknown: it leaves a marker, a sample without data
+-- the entry turns i to a not-alive state, from another one or from unknown: it leaves a marker, a sample without data (2.2.2.5, valid_data)
 abbrev pub marks : ReaderQos → Key → List Happening → Happening → Bool
 marks q i h e = becomes_not_alive (instance_state_of q i h) (instance_state_of q i (e ∷ h))
 
@@ -43,7 +43,7 @@ abbrev pub ends_with_write : ReaderQos → Key → List Happening → Bool
 ends_with_write q i [] = false
 ends_with_write q i (e ∷ h) = is_write (accepted_kind q i h e)
 
--- the history keeps a sample that so many later ones of its instance have followed (HISTORY)
+-- KEEP_ALL keeps every write; KEEP_LAST keeps one that fewer than depth accepted writes of its instance have followed (2.2.3, HISTORY)
 abbrev pub keeps : HistoryQos → ℕ → Bool
 keeps KeepAll later = true
 keeps (KeepLast depth) later = nat_lt later depth
@@ -56,11 +56,12 @@ later_writes q h i j = accepted_writes q i h - accepted_writes q i (as_of j h)
 abbrev pub is_kept_write : ReaderQos → List Happening → Key → ℕ → Bool
 is_kept_write q h i j = ends_with_write q i (as_of j h) && keeps q.history (later_writes q h i j)
 
+-- the position is this one
 abbrev pub is_at : Option ℕ → ℕ → Bool
 is_at None j = false
 is_at (Some at) j = at == j
 
--- the sample of i at position j is present: not taken, and a write that the history keeps or i's last marker
+-- the sample of i at position j is present: not taken, and a write that the history keeps or i's last marker (2.2.2.5; 2.2.3, HISTORY)
 abbrev pub is_present : ReaderQos → List Happening → Key → ℕ → Bool
 is_present q h i j = not (is_taken (record { key = i; position = j }) h) && (is_kept_write q h i j || is_at (last_marker q i h) j)
 
@@ -81,10 +82,12 @@ present_samples q h = flat_map (present_of q h) (known_instances q h)
 abbrev pub present_writes : ReaderQos → List Happening → ℕ
 present_writes q h = count_by (λ (s : SamplePosition). ends_with_write q s.key (as_of s.position h)) (present_samples q h)
 
+-- the number keeps to the limit, if there is one
 abbrev pub is_within : Option ℕ → ℕ → Bool
 is_within None n = true
 is_within (Some limit) n = nat_le n limit
 
+-- the entry is an accepted write or dispose
 abbrev pub is_accepted : ReaderQos → List Happening → Happening → Bool
 is_accepted q h (Came a) = is_some (accepted_kind q a.change.key h (Came a))
 is_accepted q h _ = false

@@ -1,23 +1,53 @@
 -- What happened at a writer, the newest first, and its changes in the order of their numbers
--- (DDS 1.4, 2.2.2.4: register_instance, write, dispose, unregister_instance; RTPS 2.5, 8.2: HistoryCache, CacheChange).
-use Rattle.std.specs.Prelude.{List, [], ◌∷◌, ◌++◌, Bool, false, ◌||◌, not, if◌then◌else◌}
+-- (DDS 1.4, 2.2.2.4: register_instance, write, dispose, unregister_instance, assert_liveliness; 2.2.3: LIVELINESS;
+-- RTPS 2.5, 8.2: HistoryCache, CacheChange).
+use Rattle.std.specs.Prelude.{ℕ, ◌+◌, nat_le, Option, Some, None, List, [], ◌∷◌, ◌++◌, Bool, false, ◌||◌, not, if◌then◌else◌}
 use Rattle.dds_base.specs.declared.key.Key.{Key}
 use Rattle.dds_base.specs.declared.change.Change.{Change}
 use Rattle.dds_base.specs.Happening.{same_key, is_unregister}
 
--- one accepted call of a writer: it registered an instance, or made a change of one
+-- one thing that happened at a writer: an accepted call, a look at LIVELINESS_LOST, or a tick of its peer
 pub data Written : Type 0 where
   Registered : (key : Key) → Written
   Changed : (change : Change) → Written
+  Asserted : (moment : ℕ) → Written
+  LookedAt : Written
+  Ticked : (now : ℕ) → (behind : Bool) → Written  -- behind: some matched reliable reader had not acknowledged all
 
 -- the changes, in the order of their numbers, which count from 1
 abbrev pub changes_of : List Written → List Change
 changes_of [] = []
-changes_of (Registered key ∷ c) = changes_of c
 changes_of (Changed change ∷ c) = changes_of c ++ change ∷ []
+changes_of (_ ∷ c) = changes_of c
 
 -- the writer has registered the instance: by a register, a write or a dispose of it that no unregister has followed
 abbrev pub is_key_registered : Key → List Written → Bool
 is_key_registered i [] = false
 is_key_registered i (Registered key ∷ c) = same_key key i || is_key_registered i c
 is_key_registered i (Changed change ∷ c) = if same_key change.key i then not (is_unregister change.kind) else is_key_registered i c
+is_key_registered i (_ ∷ c) = is_key_registered i c
+
+-- how often the application asserted the writer's liveliness (2.2.2.4, assert_liveliness)
+abbrev pub assertions : List Written → ℕ
+assertions [] = 0
+assertions (Asserted moment ∷ c) = assertions c + 1
+assertions (_ ∷ c) = assertions c
+
+-- the lease of a writer that was asserted last at this moment has run out (2.2.3, LIVELINESS)
+abbrev pub is_over : Option ℕ → Option ℕ → ℕ → Bool
+is_over (Some lease) (Some asserted) now = nat_le (asserted + lease) now
+is_over _ _ now = false
+
+-- the moment of the newest change or assertion that no loss has followed
+abbrev pub live_since : Option ℕ → List Written → Option ℕ
+live_since lease [] = None
+live_since lease (Changed change ∷ c) = Some change.source_timestamp
+live_since lease (Asserted moment ∷ c) = Some moment
+live_since lease (Ticked now behind ∷ c) = if is_over lease (live_since lease c) now then None else live_since lease c
+live_since lease (_ ∷ c) = live_since lease c
+
+-- how often the writer's liveliness was lost (2.2.4.1, LIVELINESS_LOST)
+abbrev pub losses : Option ℕ → List Written → ℕ
+losses lease [] = 0
+losses lease (Ticked now behind ∷ c) = losses lease c + (if is_over lease (live_since lease c) now then 1 else 0)
+losses lease (_ ∷ c) = losses lease c

@@ -6,11 +6,14 @@ use crate::octets::Octets;
 
 /// What a change does to its instance.
 ///
-/// RTPS 2.5, 8.2 (ChangeKind_t), with the two of not-alive kinds told apart.
+/// RTPS 2.5, 8.2 (ChangeKind_t: ALIVE, NOT_ALIVE_DISPOSED, NOT_ALIVE_UNREGISTERED), and both of the last at once.
 #[derive(Clone, Copy, Debug, PartialEq, Eq)]
 pub enum ChangeKind {
+    /// Gives the instance a value.
     Write,
+    /// Says that the instance exists no more.
     Dispose,
+    /// Says that the writer has nothing more to say of the instance.
     Unregister,
     /// Disposes and unregisters at once: what an unregister is at a writer that disposes on its own.
     DisposeUnregister,
@@ -25,6 +28,6 @@ pub struct Change {
     pub key: Key,
     /// The octets of the topic type's value; empty for all kinds but a write.
     pub value: Octets,
-    /// The moment of the writer's peer at which the change was made.
+    /// The moment of the writer's peer at which the change was made, below 2^63.
     pub source_timestamp: Moment,
 }

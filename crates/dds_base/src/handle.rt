@@ -23,6 +23,9 @@ impl Model for Handle {
 }
 
 impl Handle {
+    /// HANDLE_NIL: it names nothing.
+    pub const NIL: Handle = Handle { number: 0 };
+
     /// The handle of this number.
     pub const fn new(number: u64) -> Self
         ensures { result ≡ number }

@@ -31,14 +31,18 @@ pub struct SamplePosition {
 /// DDS 1.4, 2.2.4.1 (communication statuses).
 #[derive(Clone, Copy, Debug, PartialEq, Eq)]
 pub enum StatusKind {
+    /// DATA_AVAILABLE.
     DataAvailable,
+    /// SAMPLE_LOST.
     SampleLost,
+    /// LIVELINESS_CHANGED.
     LivelinessChanged,
 }
 
 /// One thing that happened at a reader. Writers are named by their publication handles.
 #[derive(Debug, Drop)]
 pub enum Happening {
+    /// A change came.
     Came(Arrival),
     /// The changes from `first` to `last` of a writer were passed over.
     Passed { writer: Handle, first: Sn, last: Sn },

@@ -32,7 +32,7 @@ pub struct MatchedWriter {
     pub lease: Option<u64>,
 }
 
-/// What a reader keeps to. `None` is no limit.
+/// A reader's policies and its matched writers. `None` is no limit.
 #[derive(Debug, Drop)]
 pub struct ReaderQos {
     pub ownership: OwnershipQos,

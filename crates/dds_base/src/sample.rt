@@ -38,32 +38,54 @@ pub enum InstanceState {
 /// DDS 1.4, 2.2.2.5 (SampleInfo).
 #[derive(Clone, Copy, Debug, PartialEq, Eq)]
 pub struct SampleInfo {
+    /// Whether it was read before the call.
     pub sample_state: SampleState,
+    /// Whether its instance was new before the call.
     pub view_state: ViewState,
+    /// Whether its instance was alive before the call.
     pub instance_state: InstanceState,
+    /// How often its instance had been reborn after a dispose, when it came.
     pub disposed_generation_count: u64,
+    /// How often its instance had been reborn after it had no writers, when it came.
     pub no_writers_generation_count: u64,
+    /// How many samples of its instance follow in the collection.
     pub sample_rank: u64,
+    /// How many generations later the last sample of its instance in the collection is.
     pub generation_rank: u64,
+    /// How many generations later its instance is by now.
     pub absolute_generation_rank: u64,
+    /// Of the change, or the moment of the death, in units of 2^-32 second.
     pub source_timestamp: Moment,
+    /// The handle of its instance, from 1.
     pub instance_handle: Handle,
+    /// The handle of the writer whose change or death it is, from 1.
     pub publication_handle: Handle,
+    /// Whether it has a value, or only tells of a state.
     pub valid_data: bool,
 }
 
 /// A picked sample before its ranks are known, with the sum of its instance's generation counts at the call.
 #[derive(Clone, Copy, Debug, PartialEq, Eq)]
 pub struct Picked {
+    /// Whether it was read before the call.
     pub sample_state: SampleState,
+    /// Whether its instance was new before the call.
     pub view_state: ViewState,
+    /// Whether its instance was alive before the call.
     pub instance_state: InstanceState,
+    /// How often its instance had been reborn after a dispose, when it came.
     pub disposed_generation_count: u64,
+    /// How often its instance had been reborn after it had no writers, when it came.
     pub no_writers_generation_count: u64,
+    /// The sum of its instance's two generation counts at the call.
     pub instance_generations: u64,
+    /// Of the change, or the moment of the death, in units of 2^-32 second.
     pub source_timestamp: Moment,
+    /// The handle of its instance, from 1.
     pub instance_handle: Handle,
+    /// The handle of the writer whose change or death it is, from 1.
     pub publication_handle: Handle,
+    /// Whether it has a value, or only tells of a state.
     pub valid_data: bool,
 }
 

@@ -6,7 +6,7 @@ use std::marker::Model;
 
 /// The number of a change of one writer, counted from 1.
 ///
-/// RTPS 2.5, 8.3 (SequenceNumber_t).
+/// RTPS 2.5, 8.2 (SequenceNumber_t).
 #[derive(Clone, Copy, Debug, PartialEq, Eq, PartialOrd, Ord)]
 pub struct Sn {
     number: u64,

@@ -1,5 +1,5 @@
 -- The collection of picked samples, one sample after another.
-use Rattle.std.proofs.Common.{◌≡◌, ℕ, ◌+◌, ◌<◌, List, [], ◌∷◌, ◌++◌, length, get_or, map, drop, Bool, true, false, sym, ap, ◌∙◌, refl, cond, Option, Some, None, arith, zero, suc, append_assoc, subst, add-one}
+use Rattle.std.proofs.Common.{◌≡◌, ℕ, ◌+◌, ◌<◌, List, [], ◌∷◌, ◌++◌, length, get_or, map, drop, Bool, sym, ap, ◌∙◌, refl, arith, zero, suc, append_assoc}
 use Rattle.dds_base.specs.declared.key.Key.{Key}
 use Rattle.dds_base.specs.declared.happening.SamplePosition.{SamplePosition}
 use Rattle.dds_base.specs.declared.happening.Happening.{Happening}

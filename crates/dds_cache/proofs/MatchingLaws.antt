@@ -1,5 +1,5 @@
 -- The matching samples of one instance, one position after another, and of all instances.
-use Rattle.std.proofs.Common.{◌≡◌, ℕ, ◌+◌, ◌<◌, ◌^◌, List, [], ◌∷◌, ◌++◌, length, map, take, Bool, true, false, ◌&&◌, sym, ap, ◌∙◌, refl, cond, Option, Some, None, filter, arith, zero, suc, add-one, append_assoc, subst}
+use Rattle.std.proofs.Common.{◌≡◌, ℕ, ◌+◌, ◌<◌, ◌^◌, List, [], ◌∷◌, ◌++◌, map, take, Bool, true, false, ◌&&◌, sym, ap, ◌∙◌, refl, cond, Option, Some, None, filter, zero, suc, add-one, append_assoc, subst}
 use Rattle.std.specs.List.{flat_map, All}
 use Rattle.std.proofs.lemmas.List.{append-nil}
 use Rattle.std.proofs.lemmas.List.Elements.{filter-append, All-append, All-cons, All-nil, All-take}

@@ -1,5 +1,5 @@
 -- A track that takes up one more entry has followed its instance through it.
-use Rattle.std.proofs.Common.{◌≡◌, ℕ, ◌+◌, ◌≤◌, List, [], ◌∷◌, length, map, Bool, true, false, not, ◌&&◌, ◌||◌, sym, ap, ◌∙◌, refl, cond, Option, Some, None, arith}
+use Rattle.std.proofs.Common.{◌≡◌, ℕ, ◌+◌, ◌≤◌, List, [], ◌∷◌, length, map, Bool, true, false, not, ◌&&◌, ◌||◌, sym, ap, ◌∙◌, refl, Option, Some, None, arith}
 use Rattle.std.specs.Prelude.{if◌then◌else◌}
 use Rattle.std.specs.List.{list_any}
 use Rattle.dds_base.specs.declared.key.Key.{Key}
@@ -11,12 +11,12 @@ use Rattle.dds_base.specs.declared.sample.InstanceState.{InstanceState}
 use Rattle.dds_base.specs.declared.sample.InstanceState.TheVariants.{Alive, NotAliveDisposed, NotAliveNoWriters}
 use Rattle.dds_base.specs.declared.qos.ReaderQos.{ReaderQos}
 use Rattle.dds_base.specs.Happening.{same_key}
-use Rattle.dds_base.specs.Ownership.{publication_handles, is_registered, registered_writers, accepted_kind}
-use Rattle.dds_base.specs.Instance.{or_else, is_write, is_disposed, is_without_writers, is_nobody, last_accepted, state_after, instance_state_of, disposed_generations, no_writers_generations, latest_rebirth}
-use Rattle.dds_base.specs.Presence.{becomes_not_alive, last_marker, accepted_writes, ends_with_write}
+use Rattle.dds_base.specs.Ownership.{publication_handles, is_registered, accepted_kind}
+use Rattle.dds_base.specs.Instance.{or_else, is_write, is_disposed, is_without_writers, last_accepted, state_after, instance_state_of, disposed_generations, no_writers_generations}
+use Rattle.dds_base.specs.Presence.{becomes_not_alive, accepted_writes}
 use Rattle.dds_cache.specs.declared.registration.Registration.{Registration}
 use Rattle.dds_cache.specs.declared.track.InstanceTrack.{InstanceTrack}
-use Rattle.dds_cache.specs.Registration.{registration_of, is_there, accepted_among, noted}
+use Rattle.dds_cache.specs.Registration.{registration_of, is_there, accepted_among}
 use Rattle.dds_cache.specs.Track.{Tracks, Advances, concerns, state_of_track, one_if}
 use Rattle.dds_cache.proofs.RegistrationLaws.{nobody-there, accepted-among, noted-registrations}
 

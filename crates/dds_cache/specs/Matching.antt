@@ -1,5 +1,6 @@
--- The samples of one instance that an access returns, and what is known of the instance at the call.
-use Rattle.std.specs.Prelude.{◌≡◌, ℕ, ◌+◌, ◌-◌, ◌<◌, ◌^◌, List, [], ◌∷◌, length, Bool, true, false, ◌&&◌, ◌||◌, filter, map, All, Option, if◌then◌else◌}
+-- The samples of one instance that an access returns, and what is known of the instance at the call. Inner functions
+-- alone cite this: nothing here has to be believed.
+use Rattle.std.specs.Prelude.{◌≡◌, ℕ, ◌-◌, ◌<◌, ◌^◌, List, [], ◌∷◌, length, Bool, ◌&&◌, ◌||◌, filter, map, All, Option, if◌then◌else◌}
 use Rattle.dds_base.specs.declared.key.Key.{Key}
 use Rattle.dds_base.specs.declared.happening.SamplePosition.{SamplePosition}
 use Rattle.dds_base.specs.declared.happening.Happening.{Happening}
@@ -11,7 +12,7 @@ use Rattle.dds_base.specs.declared.sample.InstanceState.{InstanceState}
 use Rattle.dds_base.specs.declared.qos.ReaderQos.{ReaderQos}
 use Rattle.dds_base.specs.Instance.{view_state_of}
 use Rattle.dds_base.specs.Presence.{is_present, up_to, keeps, is_at}
-use Rattle.dds_base.specs.Access.{asks_for_sample_state, asks_for_view_state, asks_for_instance_state, meets, picked_of, own_generations, handle_of}
+use Rattle.dds_base.specs.Access.{asks_for_sample_state, asks_for_view_state, asks_for_instance_state, meets, picked_of, own_generations, handle_of, no_filter, value_of}
 use Rattle.dds_cache.specs.declared.track.InstanceTrack.{InstanceTrack}
 use Rattle.dds_cache.specs.declared.instance.InstanceAtCall.{InstanceAtCall}
 use Rattle.dds_cache.specs.declared.found.Found.{Found}
@@ -23,6 +24,7 @@ pub record IsInstance (q : ReaderQos) (h : List Happening) (instance : InstanceA
   pub view_is : instance.view ≡ view_state_of q instance.key h
   pub handle_is : instance.handle ≡ handle_of q h instance.key
 
+-- the sample of i at a position
 abbrev pub sample_at : Key → ℕ → SamplePosition
 sample_at i j = record { key = i; position = j }
 
@@ -32,12 +34,13 @@ are_asked_for masks sample view instance = asks_for_sample_state masks.samples s
 
 -- the sample meets the masks; there is no filter
 abbrev pub is_asked_for : ReaderQos → List Happening → Masks → SamplePosition → Bool
-is_asked_for q h masks s = meets q h masks s && true
+is_asked_for q h masks s = meets q h masks s && no_filter s.key (value_of q h s)
 
 -- the matching samples of an instance among the first n positions
 abbrev pub matching_up_to : ReaderQos → List Happening → Masks → Key → ℕ → List SamplePosition
 matching_up_to q h masks i n = filter (is_asked_for q h masks) (map (sample_at i) (filter (is_present q h i) (up_to n)))
 
+-- the matching samples of an instance
 abbrev pub matching_of : ReaderQos → List Happening → Masks → Key → List SamplePosition
 matching_of q h masks i = matching_up_to q h masks i (length h)
 

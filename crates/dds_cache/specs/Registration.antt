@@ -1,5 +1,6 @@
--- Who is registered for an instance, as a list with an entry for each matched writer.
-use Rattle.std.specs.Prelude.{ℕ, List, Bool, true, false, ◌&&◌, ◌||◌, ◌==◌, not, Option, Some, None, if◌then◌else◌}
+-- Who is registered for an instance, as a list with an entry for each matched writer. Inner functions
+-- alone cite this: nothing here has to be believed.
+use Rattle.std.specs.Prelude.{ℕ, List, Bool, false, ◌&&◌, ◌||◌, ◌==◌, not, Option, Some, None, if◌then◌else◌}
 use Rattle.std.specs.List.{list_all}
 use Rattle.dds_base.specs.declared.key.Key.{Key}
 use Rattle.dds_base.specs.declared.change.ChangeKind.{ChangeKind}
@@ -14,6 +15,7 @@ use Rattle.dds_cache.specs.declared.registration.Registration.{Registration}
 abbrev pub registration_of : Key → List Happening → ℕ → Registration
 registration_of i h w = record { writer = w; is_registered = is_registered i w h }
 
+-- the writer is registered
 abbrev pub is_there : Registration → Bool
 is_there r = r.is_registered
 

@@ -1,5 +1,6 @@
--- What is known of one instance when it was followed through what happened so far.
-use Rattle.std.specs.Prelude.{◌≡◌, ℕ, ◌+◌, ◌≤◌, List, ◌∷◌, length, map, Bool, true, false, ◌&&◌, ◌||◌, not, Option, Some, if◌then◌else◌}
+-- What is known of one instance when it was followed through what happened so far. Inner functions
+-- alone cite this: nothing here has to be believed.
+use Rattle.std.specs.Prelude.{◌≡◌, ℕ, ◌+◌, ◌≤◌, List, length, map, Bool, true, false, ◌&&◌, ◌||◌, not, Option, Some, if◌then◌else◌}
 use Rattle.std.specs.List.{list_any}
 use Rattle.dds_base.specs.declared.key.Key.{Key}
 use Rattle.dds_base.specs.declared.happening.Happening.{Happening}
@@ -26,7 +27,7 @@ pub record Tracks (q : ReaderQos) (i : Key) (h : List Happening) (t : InstanceTr
   pub writes_fit : t.accepted_writes ≤ length h
   pub generations_fit : t.disposed_generations + t.no_writers_generations ≤ length h
 
--- the entry may change what is known of i
+-- the entry speaks of i: a change of it, or a death
 abbrev pub concerns : Key → Happening → Bool
 concerns i (Came a) = same_key a.change.key i
 concerns i (Died w now) = true
@@ -36,6 +37,7 @@ concerns i _ = false
 abbrev pub state_of_track : InstanceTrack → Option InstanceState
 state_of_track t = state_after t.last_accepted (not (list_any is_there t.registrations.items))
 
+-- 1 where the test holds
 abbrev pub one_if : Bool → ℕ
 one_if b = if b then 1 else 0
 

@@ -98,7 +98,7 @@ fn publication(entry: &Happening) -> Handle
     match entry {
         Happening::Came(a) => a.writer,
         Happening::Died { writer, .. } => *writer,
-        _ => Handle::new(0),
+        _ => Handle::NIL,
     }
 }
 

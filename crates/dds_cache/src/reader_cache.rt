@@ -1,9 +1,9 @@
 //! A reader's cache: what happened at the reader, stored.
 
-ghost use Rattle.std.specs.Prelude.{◌≡◌, ◌∷◌, [], List, OnOk, OnErr, IfOk, IfErr};
+ghost use Rattle.std.specs.Prelude.{◌≡◌, ◌∷◌, [], if◌then◌else◌, List, OnOk, OnErr, IfOk, IfErr};
 ghost use Rattle.dds_base.specs.declared.happening.Happening.{Happening};
 ghost use Rattle.dds_base.specs.declared.happening.Happening.TheVariants.{Came, Died, Read, Took};
-ghost use Rattle.dds_base.specs.declared.code.Code.TheVariants.{Memory};
+ghost use Rattle.dds_base.specs.declared.code.Code.TheVariants.{Memory, NoData};
 ghost use Rattle.dds_base.specs.Ownership.{IsMatched};
 ghost use Rattle.dds_base.specs.Access.{picked_samples, no_filter, collection_of};
 ghost use Rattle.dds_cache.specs.Standing.{qos_of, StandsFor, Answers, AfterAccess};
@@ -28,9 +28,9 @@ pub struct ReaderCache {
 }
 
 impl Model for ReaderCache {
-    ghost use Rattle.dds_cache.specs.Standing.{Kept};
+    ghost use Rattle.dds_cache.specs.Standing.{Stored};
 
-    ghost Value = { Kept };
+    ghost Value = { Stored };
 
     ghost view = { λ c. record { qos = c.qos; happenings = c.entries.items } };
 }
@@ -57,7 +57,8 @@ impl ReaderCache {
         Ok(())
     }
 
-    /// Takes up a change that came. Its writer is a matched one.
+    /// Takes up a change that came. Its writer is a matched one. Room is the caller's affair: a change is taken up also
+    /// where the limits of the policies are then exceeded.
     ///
     /// # Errors
     ///
@@ -105,8 +106,9 @@ impl ReaderCache {
         Ok(Access { positions, samples })
     }
 
-    /// Reads the present samples that meet the masks, by instance and then in the order of arrival, `max` at most
-    /// (`None`: all). They stay, and are READ from then on.
+    /// Reads the present samples that meet the masks, by instance handle and then in the order in which their changes
+    /// and deaths came, the first `max` of them (`None`: all; `Some(0)` finds nothing). They stay, and are READ from then
+    /// on.
     ///
     /// # Errors
     ///
@@ -119,17 +121,14 @@ impl ReaderCache {
         ensures after { (h : List Happening) → StandsFor self.old h → AfterAccess Read self.old h max masks result self.new }
         ensures qos { qos_of self.new ≡ qos_of self.old }
     {
-        let access = self.access(max, masks)?;
-        let is_empty = access.positions.is_empty();
-        self.enter(Happening::Read(Sequence::from_vec(access.positions)))?;
-        if is_empty {
-            return Err(Code::NoData);
-        }
-        Ok(Sequence::from_vec(access.samples))
+        let Access { positions, samples } = self.access(max, masks)?;
+        let is_empty = positions.is_empty();
+        self.enter(Happening::Read(Sequence::from_vec(positions)))?;
+        answer_of(is_empty, samples)
     }
 
-    /// Takes the present samples that meet the masks, by instance and then in the order of arrival, `max` at most
-    /// (`None`: all). They are gone from then on.
+    /// Takes the present samples that meet the masks, by instance handle and then in the order in which their changes
+    /// and deaths came, the first `max` of them (`None`: all; `Some(0)` finds nothing). They are gone from then on.
     ///
     /// # Errors
     ///
@@ -142,13 +141,21 @@ impl ReaderCache {
         ensures after { (h : List Happening) → StandsFor self.old h → AfterAccess Took self.old h max masks result self.new }
         ensures qos { qos_of self.new ≡ qos_of self.old }
     {
-        let access = self.access(max, masks)?;
-        let is_empty = access.positions.is_empty();
-        self.enter(Happening::Took(Sequence::from_vec(access.positions)))?;
-        if is_empty {
-            return Err(Code::NoData);
-        }
-        Ok(Sequence::from_vec(access.samples))
+        let Access { positions, samples } = self.access(max, masks)?;
+        let is_empty = positions.is_empty();
+        self.enter(Happening::Took(Sequence::from_vec(positions)))?;
+        answer_of(is_empty, samples)
+    }
+}
+
+/// The samples of an access, or that there is none.
+fn answer_of(is_empty: bool, samples: Vec<Sample>) -> Result<Sequence<Sample>, Code>
+    ensures { result ≡ (if is_empty then Err NoData else Ok samples.items) }
+{
+    if is_empty {
+        Err(Code::NoData)
+    } else {
+        Ok(Sequence::from_vec(samples))
     }
 }
 

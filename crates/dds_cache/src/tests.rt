@@ -95,11 +95,14 @@ fn letter_of_states(info: &SampleInfo) -> (char, char, char) {
     (sample, view, instance)
 }
 
-/// A sample as text: value (`!` without data), states, counts, ranks, moment, handles.
+/// A sample as text: key, value (`!` without data), states, counts, ranks, moment, handles. The states are letters: R read
+/// or N not read; N new or O not new; A alive, D disposed or W without writers.
 fn text_of(alloc: Global, sample: &Sample) -> Result<String, AllocError> {
     let info = &sample.info;
     let (state, view, instance) = letter_of_states(info);
     let mut text = String::new(alloc);
+    let [.., last] = sample.key.0;
+    write!(text, "{last} ")?;
     if info.valid_data {
         for octet in sample.value.as_slice() {
             write!(text, "{octet:02x}")?;
@@ -143,9 +146,9 @@ fn expect(
 }
 
 const REBORN: [&str; 3] = [
-    "01 N N A 0 0 2 1 1 0 1 1",
-    "! N N A 0 0 1 1 1 0 1 1",
-    "02 N N A 1 0 0 0 0 0 1 1",
+    "1 01 N N A 0 0 2 1 1 0 1 1",
+    "1 ! N N A 0 0 1 1 1 0 1 1",
+    "1 02 N N A 1 0 0 0 0 0 1 1",
 ];
 
 #[test]
@@ -167,12 +170,12 @@ fn a_read_of_an_older_generation_leaves_the_instance_new(rt: HostRuntime) -> Res
     come(alloc, &mut cache, 1, ChangeKind::Write, &[1])?;
     come(alloc, &mut cache, 1, ChangeKind::Dispose, &[])?;
     come(alloc, &mut cache, 1, ChangeKind::Write, &[2])?;
-    let first = ["01 N N A 0 0 0 0 1 0 1 1"];
+    let first = ["1 01 N N A 0 0 0 0 1 0 1 1"];
     expect(&rt, alloc, cache.read(Some(1), Masks::ANY), &first)?;
     let all = [
-        "01 R N A 0 0 2 1 1 0 1 1",
-        "! N N A 0 0 1 1 1 0 1 1",
-        "02 N N A 1 0 0 0 0 0 1 1",
+        "1 01 R N A 0 0 2 1 1 0 1 1",
+        "1 ! N N A 0 0 1 1 1 0 1 1",
+        "1 02 N N A 1 0 0 0 0 0 1 1",
     ];
     expect(&rt, alloc, cache.read(None, Masks::ANY), &all)?;
     Ok(())
@@ -185,10 +188,10 @@ fn the_owner_alone_changes_an_exclusive_instance(rt: HostRuntime) -> Result<(), 
     come(alloc, &mut cache, 2, ChangeKind::Write, &[0xb1])?;
     come(alloc, &mut cache, 1, ChangeKind::Write, &[0xa1])?;
     come(alloc, &mut cache, 2, ChangeKind::Write, &[0xb2])?;
-    let new = ["b1 N N A 0 0 1 0 0 0 1 2", "a1 N N A 0 0 0 0 0 0 1 1"];
+    let new = ["1 b1 N N A 0 0 1 0 0 0 1 2", "1 a1 N N A 0 0 0 0 0 0 1 1"];
     expect(&rt, alloc, cache.read(None, Masks::ANY), &new)?;
     come(alloc, &mut cache, 1, ChangeKind::Unregister, &[])?;
-    let old = ["b1 R O A 0 0 1 0 0 0 1 2", "a1 R O A 0 0 0 0 0 0 1 1"];
+    let old = ["1 b1 R O A 0 0 1 0 0 0 1 2", "1 a1 R O A 0 0 0 0 0 0 1 1"];
     expect(&rt, alloc, cache.read(None, Masks::ANY), &old)?;
     Ok(())
 }
@@ -200,8 +203,8 @@ fn a_death_leaves_a_sample_without_data(rt: HostRuntime) -> Result<(), Fail> {
     come(alloc, &mut cache, 1, ChangeKind::Write, &[1])?;
     cache.died(Handle::new(1), Moment::new(LEASE))?;
     let both = [
-        "01 N N W 0 0 1 0 0 0 1 1",
-        "! N N W 0 0 0 0 0 42949672960 1 1",
+        "1 01 N N W 0 0 1 0 0 0 1 1",
+        "1 ! N N W 0 0 0 0 0 42949672960 1 1",
     ];
     expect(&rt, alloc, cache.read(None, Masks::ANY), &both)?;
     Ok(())
@@ -213,14 +216,14 @@ fn a_taken_sample_lets_no_older_one_back(rt: HostRuntime) -> Result<(), Fail> {
     let mut cache = open(alloc, OwnershipQos::Shared, HistoryQos::KeepLast(2))?;
     come(alloc, &mut cache, 1, ChangeKind::Write, &[1])?;
     come(alloc, &mut cache, 1, ChangeKind::Write, &[2])?;
-    let first = ["01 N N A 0 0 0 0 0 0 1 1"];
+    let first = ["1 01 N N A 0 0 0 0 0 0 1 1"];
     expect(&rt, alloc, cache.read(Some(1), Masks::ANY), &first)?;
     let mut masks = Masks::ANY;
     masks.samples = SampleStateMask::NOT_READ;
-    let unread = ["02 N O A 0 0 0 0 0 0 1 1"];
+    let unread = ["1 02 N O A 0 0 0 0 0 0 1 1"];
     expect(&rt, alloc, cache.take(None, masks), &unread)?;
     come(alloc, &mut cache, 1, ChangeKind::Write, &[3])?;
-    let last = ["03 N O A 0 0 0 0 0 0 1 1"];
+    let last = ["1 03 N O A 0 0 0 0 0 0 1 1"];
     expect(&rt, alloc, cache.read(None, Masks::ANY), &last)?;
     Ok(())
 }
@@ -233,9 +236,9 @@ fn a_write_upon_an_instance_without_writers_is_a_rebirth(rt: HostRuntime) -> Res
     come(alloc, &mut cache, 1, ChangeKind::Unregister, &[])?;
     come(alloc, &mut cache, 1, ChangeKind::Write, &[2])?;
     let all = [
-        "01 N N A 0 0 2 1 1 0 1 1",
-        "! N N A 0 0 1 1 1 0 1 1",
-        "02 N N A 0 1 0 0 0 0 1 1",
+        "1 01 N N A 0 0 2 1 1 0 1 1",
+        "1 ! N N A 0 0 1 1 1 0 1 1",
+        "1 02 N N A 0 1 0 0 0 0 1 1",
     ];
     expect(&rt, alloc, cache.take(None, Masks::ANY), &all)?;
     Ok(())

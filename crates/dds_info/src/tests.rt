@@ -27,7 +27,12 @@ fn sample(handle: u64, disposed: u64, now: u64) -> Picked
 /// sample stands between. The ranks are those that DDS 1.4, 2.2.2.5, defines.
 #[test]
 fn ranks_count_samples_and_generations_of_the_instance(rt: HostRuntime) -> Result<(), Fail> {
-    let collection = [sample(1, 0, 2), sample(2, 5, 5), sample(1, 0, 2), sample(1, 1, 2)];
+    let collection = [
+        sample(1, 0, 2),
+        sample(2, 5, 5),
+        sample(1, 0, 2),
+        sample(1, 1, 2),
+    ];
     let infos = fill(rt.alloc(), &collection)?;
     let expected = [(2, 1, 2), (0, 0, 0), (1, 1, 2), (0, 0, 1)];
     assert_eq!(rt; infos.len(), expected.len());

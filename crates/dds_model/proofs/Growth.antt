@@ -10,7 +10,7 @@ use Rattle.dds_base.specs.declared.change.Change.{Change}
 use Rattle.dds_base.specs.declared.qos.HistoryQos.{HistoryQos}
 use Rattle.dds_base.specs.declared.qos.HistoryQos.TheVariants.{KeepAll, KeepLast}
 use Rattle.dds_base.specs.Happening.{same_key}
-use Rattle.dds_base.specs.Written.{Written, Registered, Changed, changes_of}
+use Rattle.dds_base.specs.Written.{Written, Registered, Changed, Asserted, LookedAt, Ticked, changes_of}
 use Rattle.dds_base.specs.Kept.{change_at, is_dropped, is_dropped_by, later_changes}
 use Rattle.dds_model.specs.declared.call.Call.{Call}
 use Rattle.dds_model.specs.declared.endpoint.Endpoint.{Endpoint}
@@ -121,6 +121,9 @@ CallStep-readers old call reply new h k = ap (λ (r : Rtps). (numbered r.writers
 pub changes-more : (more written : List Written) → (later : List Change) × (changes_of (more ++ written) ≡ changes_of written ++ later)
 changes-more [] written = ([], sym (append_nothing (changes_of written)))
 changes-more (Registered key ∷ more) written = changes-more more written
+changes-more (Asserted moment ∷ more) written = changes-more more written
+changes-more (LookedAt ∷ more) written = changes-more more written
+changes-more (Ticked now behind ∷ more) written = changes-more more written
 changes-more (Changed change ∷ more) written =
     let r = changes-more more written in
     (r.0 ++ change ∷ [], ap (λ (cs : List Change). cs ++ change ∷ []) r.1 ∙ append_assoc (changes_of written) r.0 (change ∷ []))

@@ -18,7 +18,7 @@ use Rattle.dds_base.specs.Happening.{arrivals}
 use Rattle.dds_base.specs.Instance.{known_instances}
 use Rattle.dds_base.specs.Presence.{has_room, is_accepted, is_within, present_writes}
 use Rattle.dds_base.specs.Refusal.{Refuses}
-use Rattle.dds_cache.specs.Standing.{Kept as CacheKept, qos_of, StandsFor as CacheStandsFor, Answers, AfterAccess, picked}
+use Rattle.dds_cache.specs.Standing.{Stored as CacheKept, qos_of, StandsFor as CacheStandsFor, Answers, AfterAccess, picked}
 use Rattle.rtps_wire.specs.declared.data.Data.{Data as DataBody}
 use Rattle.rtps_wire.specs.declared.submessage.Submessage.TheVariants.{Data}
 use Rattle.dds_model.specs.declared.call.Call.TheVariants as call

@@ -14,7 +14,7 @@ use Rattle.dds_base.specs.declared.qos.ReaderQos.{ReaderQos}
 use Rattle.dds_base.specs.Happening.{arrivals}
 use Rattle.dds_base.specs.Written.{Written}
 use Rattle.dds_history.specs.Standing.{Held, StandsFor as HistoryStandsFor}
-use Rattle.dds_cache.specs.Standing.{Kept as CacheKept, qos_of, StandsFor as CacheStandsFor}
+use Rattle.dds_cache.specs.Standing.{Stored as CacheKept, qos_of, StandsFor as CacheStandsFor}
 use Rattle.rtps_wire.specs.declared.data.DataContent.TheVariants as content
 use Rattle.rtps_wire.specs.declared.message.Message.{Message}
 use Rattle.rtps_wire.specs.declared.submessage.Submessage.TheVariants.{InfoDst, InfoTs, Data}

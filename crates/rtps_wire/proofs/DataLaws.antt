@@ -23,6 +23,7 @@ use Rattle.rtps_wire.specs.Parameters.{Parameter, ReadsParameters, value_of, sta
 use Rattle.rtps_wire.specs.Data.{data_head, ShowsKey, SaysContent, ReadsData, IsData}
 use Rattle.rtps_wire.specs.DataAt.{data_head_at, shown_key_at, ended_at, content_by, content_at, inline_at, data_at}
 use Rattle.rtps_wire.proofs.WireFields.{field_entity_id, field_sn}
+use Rattle.rtps_wire.proofs.TestLaws.{match_true, match_false}
 use Rattle.rtps_wire.proofs.ParameterLaws.{summed, nothing, parameters_found, parameters_only}
 
 -- ---- the key
@@ -123,14 +124,6 @@ record FindsInline (flags : ℕ) (bytes : List ℕ) (x : Parameters × List ℕ)
   inline : IsInline (has_flag flags 2) (order_of flags) bytes parameters x.1
   sum : x.0 ≡ summed nothing parameters
   octets : AreOctets x.1
-
-match_true : (b : Bool) (P Q : Type 0) → b ≡ true → P → MatchBool b P Q
-match_true true P Q e p = p
-match_true false P Q e p = absurd cc
-
-match_false : (b : Bool) (P Q : Type 0) → b ≡ false → Q → MatchBool b P Q
-match_false true P Q e q = absurd cc
-match_false false P Q e q = q
 
 inline_found : (flags : ℕ) (bytes : List ℕ) (x : Parameters × List ℕ) → AreOctets bytes → inline_at flags bytes ≡ Some x → FindsInline flags bytes x
 unfolding inline_at

@@ -5,13 +5,13 @@ use Rattle.std.specs.Int.{w16}
 use Rattle.std.proofs.lemmas.Bool.{eqb-true, lt-ltb}
 use Rattle.std.proofs.lemmas.List.{append-nil, length-append}
 use Rattle.std.proofs.lemmas.Option.{option_and_then_some}
-use Rattle.dds_base.specs.declared.endianness.Endianness.{Endianness}
-use Rattle.dds_base.specs.declared.endianness.Endianness.TheVariants.{Big, Little}
 use Rattle.dds_base.specs.Fields.{number, number_at, octets_at, ◌>>=◌}
 use Rattle.dds_base.proofs.FieldLaws.{AreOctets, AreOctets-front, bind_none, cond_is, some_is, field_u16, field_octets, u16_none, octets_none}
 use Rattle.rtps_wire.specs.Fields.{order_of}
 use Rattle.rtps_wire.specs.Frames.{runs_to_end, IsFrame, IsTooLong, IsEnd}
 use Rattle.rtps_wire.specs.FrameAt.{frame_at}
+use Rattle.rtps_wire.proofs.WireFields.{len_16}
+use Rattle.rtps_wire.proofs.TestLaws.{both_hold, match_true, match_false}
 
 abbrev Parts : Type 0
 Parts = ℕ × ℕ × List ℕ × List ℕ
@@ -22,21 +22,9 @@ pub record Frames (bytes : List ℕ) (f : ℕ × ℕ × List ℕ × List ℕ) : 
   pub body : AreOctets f.2
   pub octets : AreOctets f.3
 
-len_16 : (order : Endianness) (n : ℕ) → length (number order w16 n) ≡ 2
-len_16 Big n = refl
-len_16 Little n = refl
-
 pub frame_length : (bytes : List ℕ) (id flags : ℕ) (body rest : List ℕ) → IsFrame bytes id flags body rest → length bytes ≡ 4 + length body + length rest
 frame_length bytes id flags body rest f =
     rw f.text (omega (arith, length-append (number (order_of flags) w16 f.len ++ body) rest, length-append (number (order_of flags) w16 f.len) body, len_16 (order_of flags) f.len))
-
-match_true : (b : Bool) (P Q : Type 0) → b ≡ true → P → MatchBool b P Q
-match_true true P Q e p = p
-match_true false P Q e p = absurd cc
-
-pub match_false : (b : Bool) (P Q : Type 0) → b ≡ false → Q → MatchBool b P Q
-match_false true P Q e q = absurd cc
-match_false false P Q e q = q
 
 pub frame_found : (bytes : List ℕ) (f : ℕ × ℕ × List ℕ × List ℕ) → AreOctets bytes → frame_at bytes ≡ Some f → Frames bytes f
 unfolding frame_at
@@ -76,12 +64,8 @@ frame_only bytes id flags body rest f =
     let regrouped : bytes ≡ id ∷ flags ∷ (number (order_of flags) w16 f.len ++ (body ++ rest)) = f.text ∙ ap (λ (z : List ℕ). id ∷ flags ∷ z) (append_assoc (number (order_of flags) w16 f.len) body rest) in
     ap frame_at regrouped ∙ rw ((field_u16 (order_of flags)).again f.len (body ++ rest) f.small) (rest_of_frame (runs_to_end id f.len) id flags f.len body rest f.extent)
 
-and_left : (a b : Bool) → (a && b) ≡ true → a ≡ true
-and_left true b e = refl
-and_left false b e = absurd cc
-
 pub to_end_len : (id len : ℕ) → runs_to_end id len ≡ true → len ≡ 0
-to_end_len id len e = eqb-true len 0 (and_left (eqb len 0) (not (eqb id 1)) (and_left (eqb len 0 && not (eqb id 1)) (not (eqb id 9)) e))
+to_end_len id len e = eqb-true len 0 (both_hold (eqb len 0) (not (eqb id 1)) (both_hold (eqb len 0 && not (eqb id 1)) (not (eqb id 9)) e).0).0
 
 pub frame_none : (bytes : List ℕ) → AreOctets bytes → frame_at bytes ≡ None → IsEnd bytes
 unfolding frame_at

@@ -1,3 +1,4 @@
+pub mod TestLaws
 pub mod WireFields
 pub mod FrameLaws
 pub mod SetLaws
@@ -7,3 +8,4 @@ pub mod DataLaws
 pub mod SubmessageLaws
 pub mod MessageLaws
 pub mod SpellingLaws
+pub mod LengthLaws

@@ -1,5 +1,5 @@
 -- A message has one reading, and what is written is read.
-use Rattle.std.proofs.Common.{◌≡◌, ℕ, suc, ◌≤◌, Bool, true, false, eqb, ◌&&◌, List, [], ◌∷◌, ◌++◌, length, Some, None, refl, sym, ap, subst, ◌∙◌, arith}
+use Rattle.std.proofs.Common.{◌≡◌, ℕ, suc, ◌≤◌, eqb, ◌&&◌, List, [], ◌∷◌, ◌++◌, length, Some, None, refl, sym, ap, subst, ◌∙◌, arith}
 use Rattle.std.proofs.lemmas.Bool.{eqb-true}
 use Rattle.std.proofs.lemmas.List.{length-append}
 use Rattle.dds_base.specs.declared.guid.GuidPrefix.{GuidPrefix}
@@ -11,6 +11,7 @@ use Rattle.rtps_wire.specs.Submessages.{Reads}
 use Rattle.rtps_wire.specs.Messages.{ReadsAll, header_text, ReadsMessage}
 use Rattle.rtps_wire.specs.HeaderAt.{header_at}
 use Rattle.rtps_wire.proofs.WireFields.{field_prefix}
+use Rattle.rtps_wire.proofs.TestLaws.{both_hold}
 use Rattle.rtps_wire.proofs.FrameLaws.{frame_length, frame_only, frame_apart}
 use Rattle.rtps_wire.proofs.SubmessageLaws.{reads_one}
 
@@ -29,10 +30,6 @@ all_one bytes (s ∷ ss) (t ∷ ts) l m p q =
     let rest = all_one p.3 ss ts l m p.6 turned.1 in
     (cc, rest.1)
 
-and_both : (a b : Bool) → (a && b) ≡ true → (a ≡ true) × (b ≡ true)
-and_both true b e = (refl, e)
-and_both false b e = absurd cc
-
 pub record HasHeader (bytes : List ℕ) (x : GuidPrefix × List ℕ) : Type 0 where
   pub minor : ℕ
   pub vendor : List ℕ
@@ -45,10 +42,10 @@ unfolding header_at
 header_found (r ∷ t ∷ p ∷ s ∷ major ∷ minor ∷ v ∷ w ∷ rest) x octets e =
     cond_is {P = HasHeader (r ∷ t ∷ p ∷ s ∷ major ∷ minor ∷ v ∷ w ∷ rest) x} (eqb r 82 && eqb t 84 && eqb p 80 && eqb s 83 && eqb major 2) (prefix_at rest) None (Some x) e
     (λ all q.
-    let a = and_both (eqb r 82 && eqb t 84 && eqb p 80 && eqb s 83) (eqb major 2) all in
-    let b = and_both (eqb r 82 && eqb t 84 && eqb p 80) (eqb s 83) a.0 in
-    let c = and_both (eqb r 82 && eqb t 84) (eqb p 80) b.0 in
-    let d = and_both (eqb r 82) (eqb t 84) c.0 in
+    let a = both_hold (eqb r 82 && eqb t 84 && eqb p 80 && eqb s 83) (eqb major 2) all in
+    let b = both_hold (eqb r 82 && eqb t 84 && eqb p 80) (eqb s 83) a.0 in
+    let c = both_hold (eqb r 82 && eqb t 84) (eqb p 80) b.0 in
+    let d = both_hold (eqb r 82) (eqb t 84) c.0 in
     let e0 : r ≡ 82 = eqb-true r 82 d.0 in
     let e1 : t ≡ 84 = eqb-true t 84 d.1 in
     let e2 : p ≡ 80 = eqb-true p 80 c.1 in

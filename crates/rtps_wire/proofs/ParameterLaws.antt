@@ -7,7 +7,6 @@ use Rattle.std.proofs.lemmas.Bool.{eqb-true, eqb-false, ne_eqb}
 use Rattle.std.proofs.lemmas.List.{length-append, append-nil}
 use Rattle.std.proofs.lemmas.Option.{option_and_then_some}
 use Rattle.dds_base.specs.declared.endianness.Endianness.{Endianness}
-use Rattle.dds_base.specs.declared.endianness.Endianness.TheVariants.{Big, Little}
 use Rattle.dds_base.specs.declared.key.Key.{Key}
 use Rattle.dds_base.specs.Fields.{number, number_at, octets_at, ◌>>=◌}
 use Rattle.dds_base.specs.DatumAt.{key_at}
@@ -16,6 +15,7 @@ use Rattle.dds_base.proofs.DatumLaws.{field_key}
 use Rattle.rtps_wire.specs.declared.parameters.Parameters.{Parameters}
 use Rattle.rtps_wire.specs.Parameters.{Parameter, parameter_text, IsParameter, ReadsParameters, value_of}
 use Rattle.rtps_wire.specs.ParametersAt.{parameter_at, noted_at, parameters_from, parameters_at}
+use Rattle.rtps_wire.proofs.WireFields.{len_16}
 
 -- ---- what parameters say
 
@@ -208,10 +208,6 @@ from_found (suc fuel) order found bytes x octets e =
       sum = rest.sum ∙ ap (λ (y : Parameters). summed y rest.parameters) more-is ∙ summed_more found parameter rest.parameters;
       octets = rest.octets;
     })))
-
-len_16 : (order : Endianness) (n : ℕ) → length (number order w16 n) ≡ 2
-len_16 Big n = refl
-len_16 Little n = refl
 
 shorter : (order : Endianness) (p : Parameter) (bytes after : List ℕ) → bytes ≡ parameter_text order p ++ after → length after < length bytes
 shorter order p bytes after e =

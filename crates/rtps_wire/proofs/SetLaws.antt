@@ -16,6 +16,7 @@ use Rattle.rtps_wire.specs.FieldAt.{sn_at}
 use Rattle.rtps_wire.specs.Sets.{bits_below, word_bits, SetField, set_text, words_for, IsSetField, set_of, ReadsSet}
 use Rattle.rtps_wire.specs.SetAt.{words_at, set_field_at, set_at}
 use Rattle.rtps_wire.proofs.WireFields.{field_sn}
+use Rattle.rtps_wire.proofs.TestLaws.{neither}
 
 -- ---- the words, one after another
 
@@ -75,10 +76,6 @@ words_again order (suc n) [] rest fits = absurd (omega (arith, fits.0))
 words_again order (suc n) (w ∷ ws) rest fits =
     ap (words_at order (suc n)) (append_assoc (number order w32 w) (flat_map (number order w32) ws) rest)
     ∙ rw ((field_u32 order).again w (flat_map (number order w32) ws ++ rest) fits.1.0, words_again order n ws rest (omega (arith, fits.0), fits.1.1)) refl
-
-neither : (a b : Bool) → (a || b) ≡ false → (a ≡ false) × (b ≡ false)
-neither true b e = absurd cc
-neither false b e = (refl, e)
 
 set_field_takes : (order : Endianness) (bytes : List ℕ) (r : SetField) (rest : List ℕ) → AreOctets bytes → set_field_at order bytes ≡ Some (r, rest) → Takes bytes (set_text order r) rest × IsSetField r
 unfolding set_field_at

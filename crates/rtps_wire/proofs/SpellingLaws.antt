@@ -6,7 +6,7 @@ use Rattle.std.proofs.lemmas.List.{length-append}
 use Rattle.dds_base.specs.declared.endianness.Endianness.TheVariants.{Little}
 use Rattle.dds_base.specs.declared.key.Key.{Key}
 use Rattle.dds_base.specs.Fields.{number}
-use Rattle.dds_base.specs.DatumText.{spelling_of_key}
+use Rattle.dds_base.specs.DatumText.{ReadsKey, spelling_of_key}
 use Rattle.rtps_wire.specs.declared.data.Data.{Data}
 use Rattle.rtps_wire.specs.declared.data.DataContent.{DataContent}
 use Rattle.rtps_wire.specs.declared.data.DataContent.TheVariants.{Write, Dispose, Unregister, DisposeUnregister}
@@ -20,11 +20,12 @@ use Rattle.rtps_wire.specs.Parameters.{Parameter, parameter_text, ReadsParameter
 use Rattle.rtps_wire.specs.Heartbeat.{heartbeat_text}
 use Rattle.rtps_wire.specs.Gap.{gap_head}
 use Rattle.rtps_wire.specs.AckNack.{spelling_of_acknack}
-use Rattle.rtps_wire.specs.Data.{data_head, ReadsData, IsContent, content_flags, spelling_of_end, spelling_of_content}
+use Rattle.rtps_wire.specs.Data.{data_head, SaysContent, ReadsData, IsContent, content_flags, spelling_of_end, spelling_of_content}
 use Rattle.rtps_wire.specs.Submessages.{id_of, flags_of, body_of, padding, IsSpellable, IsKnown, spelling_of_submessage}
 use Rattle.rtps_wire.specs.Messages.{ReadsAll, ReadsMessage, IsWritable, spelling_of, header_text}
 use Rattle.rtps_wire.proofs.SetSpelling.{set_field_valid, set_again, spelling_of_set_len}
-use Rattle.rtps_wire.proofs.FrameLaws.{to_end_len, match_false}
+use Rattle.rtps_wire.proofs.TestLaws.{both_hold, match_false}
+use Rattle.rtps_wire.proofs.FrameLaws.{to_end_len}
 use Rattle.rtps_wire.proofs.SubmessageLaws.{Reads-from_known}
 use Rattle.rtps_wire.proofs.MessageLaws.{header_length}
 
@@ -82,6 +83,24 @@ end_parameters status k rest len =
     regroup : (a b c d e : List ℕ) → (a ++ b ++ c ++ d) ++ e ≡ a ++ (b ++ (c ++ (d ++ e)))
     regroup a b c d e = simp append_assoc
 
+-- what a change that is no write says, where its status is as meant
+end_known : (d : Data) (zeros : List ℕ) (status : ℕ) (k : Key) → length k.0 ≡ 16 → SaysContent 11 (parameters_of status k) (spelling_of_key k ++ zeros) d.content → ReadsData 11 (data_head Little 0 16 d.reader_id d.writer_id d.writer_sn ++ (spelling_of_end status k ++ zeros)) d
+end_known d zeros status k len says = record {
+  extra = 0;
+  skipped = [];
+  from_parameters = spelling_of_end status k ++ zeros;
+  parameters = parameters_of status k;
+  payload = spelling_of_key k ++ zeros;
+  extra_small = omega arith;
+  skipped_small = omega arith;
+  text = refl;
+  inline = end_parameters status k zeros len;
+  says = says;
+}
+
+key_known : (k : Key) (zeros : List ℕ) → length k.0 ≡ 16 → ReadsKey (spelling_of_key k ++ zeros) k
+key_known k zeros len = record { order = Little; options = 0 ∷ 0 ∷ []; rest = zeros; two = refl; text = refl; valid = len }
+
 content_known : (d : Data) (zeros : List ℕ) (c : DataContent) → d.content ≡ c → IsContent c → ReadsData (content_flags c) (data_head Little 0 16 d.reader_id d.writer_id d.writer_sn ++ (spelling_of_content c ++ zeros)) d
 content_known d zeros (Write x) is valid = record {
   extra = 0;
@@ -95,42 +114,9 @@ content_known d zeros (Write x) is valid = record {
   inline = (refl, refl);
   says = rw is ((refl, refl), refl, refl, record { order = Little; options = 0 ∷ 0 ∷ []; rest = zeros; two = refl; text = refl; valid = valid });
 }
-content_known d zeros (Dispose k) is valid = record {
-  extra = 0;
-  skipped = [];
-  from_parameters = spelling_of_end 1 k ++ zeros;
-  parameters = parameters_of 1 k;
-  payload = spelling_of_key k ++ zeros;
-  extra_small = omega arith;
-  skipped_small = omega arith;
-  text = refl;
-  inline = end_parameters 1 k zeros valid;
-  says = rw is ((refl, refl), record { order = Little; options = 0 ∷ 0 ∷ []; rest = zeros; two = refl; text = refl; valid = valid });
-}
-content_known d zeros (Unregister k) is valid = record {
-  extra = 0;
-  skipped = [];
-  from_parameters = spelling_of_end 2 k ++ zeros;
-  parameters = parameters_of 2 k;
-  payload = spelling_of_key k ++ zeros;
-  extra_small = omega arith;
-  skipped_small = omega arith;
-  text = refl;
-  inline = end_parameters 2 k zeros valid;
-  says = rw is ((refl, refl), record { order = Little; options = 0 ∷ 0 ∷ []; rest = zeros; two = refl; text = refl; valid = valid });
-}
-content_known d zeros (DisposeUnregister k) is valid = record {
-  extra = 0;
-  skipped = [];
-  from_parameters = spelling_of_end 3 k ++ zeros;
-  parameters = parameters_of 3 k;
-  payload = spelling_of_key k ++ zeros;
-  extra_small = omega arith;
-  skipped_small = omega arith;
-  text = refl;
-  inline = end_parameters 3 k zeros valid;
-  says = rw is ((refl, refl), record { order = Little; options = 0 ∷ 0 ∷ []; rest = zeros; two = refl; text = refl; valid = valid });
-}
+content_known d zeros (Dispose k) is valid = end_known d zeros 1 k valid (rw is ((refl, refl), key_known k zeros valid))
+content_known d zeros (Unregister k) is valid = end_known d zeros 2 k valid (rw is ((refl, refl), key_known k zeros valid))
+content_known d zeros (DisposeUnregister k) is valid = end_known d zeros 3 k valid (rw is ((refl, refl), key_known k zeros valid))
 
 standard : (c : DataContent) → has_flag (content_flags c) 16 ≡ false
 standard (Write d) = refl
@@ -213,26 +199,18 @@ body_positive (submessages.Gap g) valid =
     inr (omega (arith, length-append text (padding (length text)), length-append (gap_head Little g) (spelling_of_set g.gap_list), spelling_of_set_len g.gap_list))
 body_positive (submessages.Other id) valid = absurd valid
 
-and_left : (a b : Bool) → (a && b) ≡ true → a ≡ true
-and_left true b e = refl
-and_left false b e = absurd cc
-
-and_right : (a b : Bool) → (a && b) ≡ true → b ≡ true
-and_right true b e = e
-and_right false b e = absurd cc
-
 stays_within : (s : Submessage) (b : Bool) → IsSpellable s → runs_to_end (id_of s) (length (body_of s)) ≡ b → b ≡ false
 stays_within s false valid e = refl
 stays_within s true valid e =
-    let front = and_left (eqb (length (body_of s)) 0 && not (eqb (id_of s) 1)) (not (eqb (id_of s) 9)) e in
+    let front = both_hold (eqb (length (body_of s)) 0 && not (eqb (id_of s) 1)) (not (eqb (id_of s) 9)) e in
     elim (body_positive s valid) [
       | inl ids ↦ elim ids [
         | inl is ↦
-            let no_pad : not (eqb (id_of s) 1) ≡ true = and_right (eqb (length (body_of s)) 0) (not (eqb (id_of s) 1)) front in
+            let no_pad : not (eqb (id_of s) 1) ≡ true = (both_hold (eqb (length (body_of s)) 0) (not (eqb (id_of s) 1)) front.0).1 in
             let one : false ≡ true = rw is at no_pad in
             absurd cc
         | inr is ↦
-            let no_ts : not (eqb (id_of s) 9) ≡ true = and_right (eqb (length (body_of s)) 0 && not (eqb (id_of s) 1)) (not (eqb (id_of s) 9)) e in
+            let no_ts : not (eqb (id_of s) 9) ≡ true = front.1 in
             let one : false ≡ true = rw is at no_ts in
             absurd cc
       ]

@@ -1,5 +1,5 @@
 -- What is read of a body is the submessage that it shows, and what it shows is read.
-use Rattle.std.proofs.Common.{◌≡◌, ℕ, ◌+◌, ◌*◌, ◌/◌, ◌%◌, ◌^◌, ◌<◌, Bool, true, false, cond, eqb, ltb, ◌||◌, List, ◌++◌, Option, Some, None, refl, sym, ap, subst, ◌∙◌, arith, ◌⊎◌, inl, inr, ℤ}
+use Rattle.std.proofs.Common.{◌≡◌, ℕ, ◌+◌, ◌*◌, ◌/◌, ◌%◌, ◌^◌, ◌<◌, Bool, false, cond, eqb, ltb, ◌||◌, List, ◌++◌, Option, Some, None, refl, sym, ap, subst, ◌∙◌, arith, ◌⊎◌, inl, inr, ℤ}
 use Rattle.std.specs.Prelude.{unwrap_or}
 use Rattle.std.specs.Option.{option_map}
 use Rattle.std.specs.Int.{w32}
@@ -23,12 +23,9 @@ use Rattle.rtps_wire.specs.DataAt.{data_at}
 use Rattle.rtps_wire.specs.Submessages.{IsKnown, Reads}
 use Rattle.rtps_wire.specs.SubmessageAt.{info_dst_at, info_ts_at, heartbeat_at, acknack_at, gap_at, known_at}
 use Rattle.rtps_wire.proofs.WireFields.{field_entity_id, field_prefix, field_sn, field_count, halves_text, halves_are}
+use Rattle.rtps_wire.proofs.TestLaws.{neither}
 use Rattle.rtps_wire.proofs.SetLaws.{set_found, set_only}
 use Rattle.rtps_wire.proofs.DataLaws.{data_found, data_only, mapped_some}
-
-neither : (a b : Bool) → (a || b) ≡ false → (a ≡ false) × (b ≡ false)
-neither true b e = absurd cc
-neither false b e = (refl, e)
 
 -- ---- INFO_DST
 

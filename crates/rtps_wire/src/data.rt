@@ -79,7 +79,8 @@ struct DataHead {
 
 #[tactic(auto, unfolding(crate::specs::DataAt::data_head_at))]
 fn take_data_head(order: Endianness, body: &[u8]) -> Option<(DataHead, &[u8])>
-    ensures { option_map (λ x. (x.0.octets_to_inline_qos, x.0.reader_id, x.0.writer_id, x.0.writer_sn, x.1.now)) result ≡ data_head_at order body.now }
+    ensures { option_map (λ x. (x.0.octets_to_inline_qos, x.0.reader_id, x.0.writer_id, x.0.writer_sn, x.1.now)) result
+        ≡ data_head_at order body.now }
 {
     let (_, rest) = take_u16(order, body)?;
     let (octets_to_inline_qos, rest) = take_u16(order, rest)?;

@@ -59,7 +59,8 @@ fn submessage_of(alloc: Global, id: u8, flags: u8, body: &[u8]) -> Result<Submes
 
 /// The submessages up to where reading ends, and what stands there.
 fn submessages_of(alloc: Global, bytes: &[u8]) -> Result<(Vec<Submessage>, &[u8]), Code>
-    ensures { MatchResult result (λ x. ReadsAll bytes.now x.0.items x.1.now × (length x.1.now ≤ length bytes.now)) (λ e. e ≡ Code.Memory) }
+    ensures { MatchResult result (λ x. ReadsAll bytes.now x.0.items x.1.now × (length x.1.now ≤ length bytes.now))
+        (λ e. e ≡ Code.Memory) }
 {
     let mut submessages = Vec::new(alloc);
     let mut left = bytes;

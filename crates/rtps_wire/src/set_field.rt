@@ -89,7 +89,8 @@ fn word_from(set: &SnSet, place: usize) -> u32
 fn put_words(out: &mut Vec<u8>, set: &SnSet, count: usize) -> Result<(), Code>
     requires base { set.now.base ≤ 2 ^ 62 }
     requires count { count ≤ 8 }
-    ensures ok { OnOk result (out.new.items ≡ out.old.items ++ flat_map (number Little w32) (words_of count set.now.members)) }
+    ensures ok { OnOk result
+        (out.new.items ≡ out.old.items ++ flat_map (number Little w32) (words_of count set.now.members)) }
     ensures memory { IfErr result (λ e. e ≡ Code.Memory) }
 {
     for j in 0..count {

@@ -1,9 +1,11 @@
 //! Messages to bytes.
 
-ghost use Rattle.std.specs.Prelude.{◌≡◌, ◌<◌, ◌^◌, ◌++◌, ℕ, List, length, OnOk, IfOk, IfErr, IsTrue, ◌↔◌};
+ghost use Rattle.std.specs.List.{AllByRecursion};
+ghost use Rattle.std.specs.Prelude.{◌≡◌, ◌<◌, ◌≤◌, ◌^◌, ◌++◌, ℕ, List, length, OnOk, IfOk, IfErr, IsTrue, ◌↔◌};
 ghost use Rattle.rtps_wire.specs.Submessages.{id_of, flags_of, text_of, body_of, IsSpellable, spelling_of_submessage};
 ghost use Rattle.rtps_wire.specs.Messages.{IsWritable, ReadsMessage, spelling_of};
 ghost use Rattle.rtps_wire.specs.declared.message.Message.{Message};
+ghost use Rattle.rtps_wire.specs.declared.submessage.Submessage.{Submessage};
 
 use crate::acknack::{is_acknack, put_acknack};
 use crate::data::{content_flags, content_len, is_content, is_data, put_data};
@@ -187,5 +189,13 @@ pub fn write_message(alloc: Global, message: &Message) -> Result<Vec<u8>, Code>
 /// What is written is read as itself to its end, and no bytes are read as two messages.
 pub fn spelling_is_read()
     ensures again { (m : Message) → IsWritable m → ReadsMessage (spelling_of m) m (length (spelling_of m)) }
-    ensures one { (bytes : List ℕ) (m n : Message) (o p : ℕ) → ReadsMessage bytes m o → ReadsMessage bytes n p → (m ≡ n) × (o ≡ p) }
+    ensures one { (bytes : List ℕ) (m n : Message) (o p : ℕ) → ReadsMessage bytes m o → ReadsMessage bytes n p
+        → (m ≡ n) × (o ≡ p) }
+{}
+
+/// At most 61 submessages that can be written one by one can be written together: each takes at most 1,072 octets.
+pub fn few_are_writable()
+    ensures each { (s : Submessage) → IsSpellable s → length (spelling_of_submessage s) ≤ 1072 }
+    ensures few { (m : Message) → length m.prefix.0 ≡ 12 → AllByRecursion IsSpellable m.submessages → length m.submessages ≤ 61
+        → IsWritable m }
 {}

@@ -1,7 +1,6 @@
-use Rattle.std.proofs.Common.{◌≡◌, ℕ, ◌+◌, ◌-◌, ◌<◌, List, ◌∷◌, length, take, get_or, ap, sym, ◌∙◌, arith}
+use Rattle.std.proofs.Common.{◌≡◌, ℕ, ◌-◌, ◌<◌, List, ◌∷◌, length, get_or, ap, sym, ◌∙◌, arith}
 use Rattle.std.proofs.lemmas.List.{get_or-take}
 use Rattle.dds_base.specs.declared.happening.Happening.{Happening}
-use Rattle.dds_base.specs.Happening.{as_of}
 use Rattle.dds_cache.proofs.PositionLaws.{drop-as_of, as_of-step}
 use Rattle.dds_cache.proofs.history.split_at_position.Goals as goal
 

@@ -1,5 +1,5 @@
 -- those so far and those of the writers that are left are all
-use Rattle.std.proofs.Common.{◌≡◌, ◌+◌, ◌++◌, [], map, drop}
+use Rattle.std.proofs.Common.{◌≡◌, ◌+◌, ◌++◌, map, drop}
 use Rattle.dds_base.specs.Ownership.{numbers_from}
 use Rattle.dds_cache.specs.Registration.{unregistered}
 use Rattle.dds_cache.proofs.registration.no_registrations.Given as goal

@@ -1,0 +1,46 @@
+//! What the program does with its words and its streams.
+
+use crate::simulation::sim;
+use crate::words::{Task, read_words};
+use clap::error::ErrorKind;
+use std::alloc::Global;
+use std::io::{Read, Write};
+
+/// What is printed where the words name no task.
+pub const USAGE: &str = "usage: dds_peer sim | dds_peer pair [--count N]";
+
+/// Prints a line, and does nothing more about a stream that takes none.
+fn tell(errors: &mut impl Write, text: &str) {
+    let _ = errors.write_all(text.as_bytes());
+    let _ = errors.write_all(b"\n");
+    let _ = errors.flush();
+}
+
+/// Does what the words ask for, prints a fault on `errors`, and answers the exit status: 0 where all went well, 1 after
+/// a fault, 2 for wrong words. The first word is the name of the program.
+pub fn program<'a, R: Read + Drop, W: Write + Drop>(
+    alloc: Global,
+    words: &'a [&'a str],
+    input: R,
+    output: W,
+    errors: &mut impl Write,
+) -> u8 {
+    match read_words(alloc, words) {
+        Ok(Task::Simulate) => {
+            let status = sim(alloc, input, output);
+            if let Some(fault) = status.fault {
+                let _ = errors.writeln(fault);
+                let _ = errors.flush();
+            }
+            status.exit
+        }
+        Err(error) if error.kind() == ErrorKind::OutOfMemory => {
+            tell(errors, "memory");
+            1
+        }
+        _ => {
+            tell(errors, USAGE);
+            2
+        }
+    }
+}

@@ -1,0 +1,34 @@
+//! The program: a network of peers in memory, run from a script.
+//!
+//! Nothing is claimed by contracts here: what is printed is tested. What the network answers is proved in `dds_world`.
+#![tactic(auto)]
+
+mod entry;
+mod fault;
+mod number;
+mod printing;
+mod script;
+mod setup;
+mod simulation;
+mod stream;
+#[cfg(test)]
+mod tests;
+mod words;
+
+use entry::program;
+use std::process::ExitCode;
+use std::{env, io};
+
+fn main(rt: HostRuntime) -> io::Result<ExitCode> {
+    let alloc = rt.alloc();
+    let words: Vec<String> = env::args(&rt)?.collect(alloc)?;
+    let words: Vec<&str> = words.iter().map(|word| word.as_str()).collect(alloc)?;
+    let exit = program(
+        alloc,
+        &words,
+        rt.reader(),
+        io::writer(&rt),
+        &mut rt.stderr(),
+    );
+    Ok(ExitCode::from(exit))
+}
