@@ -7,6 +7,7 @@ pub mod Peer
 pub mod Machine
 pub mod World
 pub mod Runs
+pub mod Progress
 pub mod Opening
 pub mod Laws
 pub mod InOrder

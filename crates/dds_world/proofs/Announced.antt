@@ -1,5 +1,5 @@
 -- What the announcement of a write claims is true of the writer's list.
-use Rattle.std.proofs.Common.{◌≡◌, ◌⊎◌, ℕ, zero, suc, ◌+◌, ◌-◌, ◌<◌, List, [], ◌∷◌, ◌++◌, Option, Some, None, length, slice_get, subst, ap, sym, ◌∙◌, refl, inl, inr, ⊎_elim, arith, true}
+use Rattle.std.proofs.Common.{◌≡◌, ℕ, ◌+◌, ◌-◌, List, [], ◌∷◌, ◌++◌, Option, Some, None, length, slice_get, subst, ap, sym, ◌∙◌, refl, inl, inr, arith, true}
 use Rattle.std.specs.Prelude.{nat_lt, if◌then◌else◌}
 use Rattle.std.proofs.lemmas.Bool.Decides.{nat_tests}
 use Rattle.dds_base.specs.declared.change.Change.{Change}
@@ -11,7 +11,7 @@ use Rattle.dds_base.specs.Written.{Written, changes_of}
 use Rattle.rtps_wire.specs.declared.message.Message.{Message}
 use Rattle.rtps_wire.specs.declared.submessage.Submessage.{Submessage}
 use Rattle.rtps_wire.specs.declared.submessage.Submessage.TheVariants.{InfoDst, InfoTs, Data}
-use Rattle.rtps_wire.specs.Messages.{IsWritable, ReadsMessage, spelling_of}
+use Rattle.rtps_wire.specs.Messages.{ReadsMessage, spelling_of}
 use Rattle.rtps_wire.proofs.MessageLaws.{message_one}
 use Rattle.rtps_wire.proofs.SpellingLaws.{message_again}
 use Rattle.dds_base.specs.declared.guid.GuidPrefix.{GuidPrefix}
@@ -19,9 +19,8 @@ use Rattle.rtps_wire.specs.declared.data.DataContent.TheVariants as content
 use Rattle.dds_model.specs.declared.endpoint.Endpoint.{Endpoint}
 use Rattle.dds_model.specs.declared.event.Packet.{Packet}
 use Rattle.dds_model.specs.Part.{own_writer, writer_changes}
-use Rattle.dds_model.specs.Claims.{Claim, ChangeIs, MayPass, PlaceReached, Receiver, receiver_of, after_submessage, StandsIn, IsWriter, change_in, Says, Claims}
+use Rattle.dds_model.specs.Claims.{Claim, ChangeIs, MayPass, PlaceReached, Receiver, receiver_of, StandsIn, IsWriter, change_in, Says, Claims}
 use Rattle.dds_model.specs.Peer.{Peer, IsTrueAt}
-use Rattle.dds_world.specs.Thin.{IsPair}
 use Rattle.dds_world.specs.Standing.{WritingKept, WritingStandsFor, writing_part, IsAnnouncement, announcement}
 use Rattle.dds_world.proofs.Names.{only_writer}
 

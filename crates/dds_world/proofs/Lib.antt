@@ -7,3 +7,4 @@ pub mod ReadingSteps
 pub mod WorldSteps
 pub mod Sends
 pub mod RunSteps
+pub mod Progressed

@@ -1,5 +1,5 @@
 -- What the peers of a configuration that is taken stand for at the opening.
-use Rattle.std.proofs.Common.{◌≡◌, ℕ, ◌+◌, ◌≤◌, ◌==◌, Bool, true, cond, List, [], ◌∷◌, ◌++◌, Option, None, map, refl, ap, sym, ◌∙◌, subst, eq-eqb, arith}
+use Rattle.std.proofs.Common.{◌≡◌, ℕ, Bool, cond, List, [], ◌∷◌, ◌++◌, Option, None, map, refl, ap, sym, ◌∙◌, subst, eq-eqb, arith}
 use Rattle.dds_base.specs.declared.config.Config.{Config}
 use Rattle.dds_base.specs.declared.config.PeerConfig.{PeerConfig}
 use Rattle.dds_base.specs.declared.config.WriterConfig.{WriterConfig}

@@ -1,17 +1,15 @@
 -- The steps of a peer that reads.
-use Rattle.std.proofs.Common.{◌≡◌, ◌≢◌, ◌⊎◌, ℕ, zero, suc, ◌+◌, ◌-◌, ◌^◌, ◌<◌, ◌≤◌, Bool, true, false, not, ◌&&◌, ◌||◌, Option, Some, None, List, [], ◌∷◌, length, Contains, subst, ap, sym, ◌∙◌, refl, inl, inr, ⊎_elim, arith}
-use Rattle.std.specs.Prelude.{nat_lt, nat_le, if◌then◌else◌, ℤ, Result, Ok, Err, replicate}
+use Rattle.std.proofs.Common.{◌≡◌, ◌≢◌, ℕ, ◌+◌, ◌-◌, ◌^◌, ◌<◌, ◌≤◌, Bool, true, false, not, ◌&&◌, ◌||◌, Option, Some, None, List, [], ◌∷◌, length, subst, ap, sym, ◌∙◌, refl, inl, inr, ⊎_elim, arith}
+use Rattle.std.specs.Prelude.{nat_lt, if◌then◌else◌, ℤ, Result, Ok, Err}
 use Rattle.std.proofs.lemmas.Bool.Decides.{nat_tests}
 use Rattle.dds_base.specs.declared.change.Change.{Change}
 use Rattle.dds_base.specs.declared.code.Code.{Code}
-use Rattle.dds_base.specs.declared.code.Code.TheVariants.{BadParameter, NoData, Memory, Error, Unsupported, PreconditionNotMet, OutOfResources, NotEnabled, ImmutablePolicy, InconsistentPolicy, AlreadyDeleted, Timeout, IllegalOperation, Link, Mismatch}
-use Rattle.dds_base.specs.declared.code.Code.TheVariants as code
+use Rattle.dds_base.specs.declared.code.Code.TheVariants.{BadParameter, NoData, Memory}
 use Rattle.dds_base.specs.declared.config.Config.{Config}
 use Rattle.dds_base.specs.declared.guid.GuidPrefix.{GuidPrefix}
 use Rattle.dds_base.specs.declared.guid.EntityId.{EntityId}
 use Rattle.dds_base.specs.declared.happening.Happening.{Happening}
 use Rattle.dds_base.specs.declared.happening.Happening.TheVariants.{Came, Took}
-use Rattle.dds_base.specs.declared.key.Key.{Key}
 use Rattle.dds_base.specs.declared.mask.Masks.{Masks}
 use Rattle.dds_base.specs.declared.qos.ReaderQos.{ReaderQos}
 use Rattle.dds_base.specs.declared.sample.Sample.{Sample}
@@ -27,17 +25,16 @@ use Rattle.dds_model.specs.declared.call.Call.TheVariants as call
 use Rattle.dds_model.specs.declared.event.Event.{Event}
 use Rattle.dds_model.specs.declared.event.Event.TheVariants as event
 use Rattle.dds_model.specs.declared.event.Output.{Output}
-use Rattle.dds_model.specs.declared.reply.Move.{Move}
 use Rattle.dds_model.specs.declared.reply.Reply.{Reply}
 use Rattle.dds_model.specs.declared.reply.Reply.TheVariants.{Samples, Refused, Reported}
 use Rattle.dds_model.specs.declared.reply.Report.{Report}
 use Rattle.dds_model.specs.Part.{Part}
-use Rattle.dds_model.specs.Moves.{Grounds, Position, match_of, position_of, coming, Comes, Places, AreMoves}
-use Rattle.dds_model.specs.Calls.{CallStep, write_refusal, access_refusal, has_number, is_max, limit_of, picked_at}
-use Rattle.dds_model.specs.Claims.{Receiver, IsFor, IsWriter, IsReader, IsForReader, ChangeIs, Claimed, change_in}
+use Rattle.dds_model.specs.Moves.{Grounds, Position, match_of, position_of, Comes, Places, AreMoves}
+use Rattle.dds_model.specs.Calls.{CallStep, access_refusal, is_max, limit_of}
+use Rattle.dds_model.specs.Claims.{IsFor, IsWriter, IsForReader, ChangeIs, Claimed, change_in}
 use Rattle.dds_model.specs.Peer.{Peer, PeerStep, Delivery, claimed, packets_of}
 use Rattle.dds_world.specs.Standing.{ReadingKept, ReadingStandsFor, ReadingSteps, reading_part}
-use Rattle.dds_world.specs.Receiving.{IsNext, StandsNext, BringsNext, ReadingMoves, place_moves, access_reply}
+use Rattle.dds_world.specs.Receiving.{IsNext, BringsNext, ReadingMoves, place_moves, access_reply}
 use Rattle.dds_world.proofs.Names.{is_writer, is_reader}
 
 abbrev pub silent : Reply → Output

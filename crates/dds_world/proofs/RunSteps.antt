@@ -1,11 +1,11 @@
 -- Runs of a network, one step after another.
-use Rattle.std.proofs.Common.{◌≡◌, List, [], ◌∷◌, ◌++◌, refl, subst, sym, length}
+use Rattle.std.proofs.Common.{List, [], ◌∷◌, ◌++◌, refl, subst, length}
 use Rattle.dds_base.specs.declared.config.Config.{Config}
 use Rattle.dds_model.specs.declared.event.WorldEvent.{WorldEvent}
 use Rattle.dds_model.specs.declared.reply.Reply.{Reply}
 use Rattle.dds_model.specs.Machine.{Machine, Step}
 use Rattle.dds_model.specs.Runs.{Traffic, Sends, Run}
-use Rattle.dds_world.specs.WorldStanding.{WorldKept, StandsFor, Steps, Announces, Runs, traffic}
+use Rattle.dds_world.specs.WorldStanding.{WorldKept, Steps, Announces, Runs, traffic}
 
 -- a run with one more step
 run_more : (config : Config) (a b c : Traffic) (m n o : Machine) (events : List WorldEvent) (replies : List Reply) (ev : WorldEvent) (reply : Reply) → Run config a m events replies b n → Step (length b.sent) n ev reply o

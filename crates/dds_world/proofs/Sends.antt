@@ -1,5 +1,5 @@
 -- What a network sends at an event.
-use Rattle.std.proofs.Common.{◌≡◌, ◌≢◌, ◌⊎◌, ℕ, zero, suc, ◌+◌, ◌-◌, ◌^◌, ◌<◌, ◌≤◌, min, Bool, true, false, cond, List, [], ◌∷◌, ◌++◌, Some, None, length, Contains, subst, ap, sym, ◌∙◌, refl, inl, inr, ⊎_elim, arith, length-append}
+use Rattle.std.proofs.Common.{◌≡◌, ◌≢◌, ◌⊎◌, ℕ, ◌+◌, ◌-◌, ◌^◌, ◌≤◌, min, Bool, true, false, cond, List, [], ◌∷◌, Some, length, Contains, subst, ap, sym, refl, inl, inr, ⊎_elim, arith, length-append}
 use Rattle.std.specs.Prelude.{AllPairs}
 use Rattle.std.proofs.lemmas.Bool.{cases_lt}
 use Rattle.dds_base.specs.declared.config.Config.{Config}
@@ -20,15 +20,15 @@ use Rattle.dds_model.specs.declared.event.Packet.{Packet}
 use Rattle.dds_model.specs.declared.event.WorldEvent.TheVariants as world
 use Rattle.dds_model.specs.declared.reply.Reply.{Reply}
 use Rattle.dds_model.specs.declared.reply.Reply.TheVariants.{Done, Samples, Reported, Refused}
-use Rattle.dds_model.specs.Part.{Part, ReaderProxy, same_endpoint, acknowledged_of, own_writer, writer_changes}
+use Rattle.dds_model.specs.Part.{Part, ReaderProxy, same_endpoint, own_writer, writer_changes}
 use Rattle.dds_model.specs.Calls.{written_change}
 use Rattle.dds_model.specs.Claims.{Receiver, receiver_of, after_submessage, IsWriter, IsForReader, ChangeIs, Claims}
-use Rattle.dds_model.specs.Machine.{Machine, part_at, writer_at}
+use Rattle.dds_model.specs.Machine.{Machine}
 use Rattle.dds_model.specs.Peer.{Peer}
-use Rattle.dds_model.specs.Runs.{Traffic, Announced, Sends, peers_of}
+use Rattle.dds_model.specs.Runs.{Traffic, Announced, Sends}
 use Rattle.dds_model.proofs.Tables.{same_is}
-use Rattle.dds_world.specs.Standing.{WritingKept, WritingStandsFor, WritingSends, SendsNothing, SendsOne, IsAnnouncement, announcement, writing_part}
-use Rattle.dds_world.specs.WorldStanding.{WorldKept, StandsFor, Posts, Announces, traffic}
+use Rattle.dds_world.specs.Standing.{WritingKept, WritingStandsFor, WritingSends, SendsNothing, SendsOne, IsAnnouncement, announcement}
+use Rattle.dds_world.specs.WorldStanding.{WorldKept, Posts, Announces, traffic}
 use Rattle.dds_world.proofs.Announced.{data_of, written_at}
 use Rattle.dds_world.proofs.Names.{is_writer, is_reader}
 

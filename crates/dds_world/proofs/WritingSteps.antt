@@ -1,5 +1,5 @@
 -- The steps of a peer that writes.
-use Rattle.std.proofs.Common.{◌≡◌, ◌⊎◌, ℕ, zero, suc, ◌+◌, ◌<◌, ◌≤◌, Bool, true, false, not, ◌&&◌, ◌||◌, List, [], ◌∷◌, Some, None, length, Contains, subst, ap, sym, ◌∙◌, refl, inl, inr, ⊎_elim, arith}
+use Rattle.std.proofs.Common.{◌≡◌, ◌⊎◌, ℕ, zero, suc, ◌+◌, ◌<◌, ◌≤◌, Bool, true, false, not, ◌&&◌, ◌||◌, List, [], ◌∷◌, Some, None, length, Contains, subst, ap, sym, ◌∙◌, refl, ⊎_elim, arith}
 use Rattle.std.specs.Prelude.{nat_lt, nat_le, if◌then◌else◌, ℤ, Result, Ok, Err, IfOk}
 use Rattle.std.specs.declared.alloc.AllocError.{AllocError}
 use Rattle.std.proofs.lemmas.Bool.Decides.{nat_tests}
@@ -13,7 +13,6 @@ use Rattle.dds_base.specs.Kept.{append_refusal, appended}
 use Rattle.dds_base.specs.Refusal.{Refuses}
 use Rattle.dds_base.specs.Written.{Written, Changed, changes_of}
 use Rattle.dds_history.specs.Standing.{Held, StandsFor as HistoryStandsFor}
-use Rattle.dds_model.specs.declared.call.Call.{Call}
 use Rattle.dds_model.specs.declared.call.Call.TheVariants as call
 use Rattle.dds_model.specs.declared.event.Event.{Event}
 use Rattle.dds_model.specs.declared.event.Event.TheVariants as event

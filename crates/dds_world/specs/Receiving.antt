@@ -7,7 +7,7 @@ use Rattle.dds_model.specs.declared.reply.Move.{Move}
 use Rattle.dds_model.specs.declared.reply.Move.TheVariants.{Place}
 use Rattle.dds_model.specs.declared.reply.Reply.{Reply}
 use Rattle.dds_model.specs.declared.reply.Report.{Report}
-use Rattle.dds_model.specs.declared.reply.Reply.TheVariants.{Samples, Refused}
+use Rattle.dds_model.specs.declared.reply.Reply.TheVariants.{Samples, Refused, Reported}
 use Rattle.rtps_wire.specs.declared.data.Data.{Data as DataBody}
 use Rattle.rtps_wire.specs.declared.message.Message.{Message}
 use Rattle.rtps_wire.specs.declared.submessage.Submessage.TheVariants.{Data}
@@ -66,3 +66,12 @@ HasNoNext kept message = (at : Receiver) (body : DataBody) → StandsIn (receive
 -- the place goes over the next change, unless memory was refused, or there is no room for a change or a number
 abbrev pub Advances : ReadingKept → Report → Type 0
 Advances old report = (report.moves ≡ place_moves (old.place + 1) ∷ []) ⊎ IsSome report.refused ⊎ (2 ^ 31 - 2 ≤ old.arrivals) ⊎ (old.place ≡ 2 ^ 64 - 1)
+
+-- the same, if the bytes have the next change
+abbrev pub AdvancesOn : ReadingKept → List ℕ → Report → Type 0
+AdvancesOn old bytes report = (message : Message) (offset : ℕ) (at : Receiver) (body : DataBody) → ReadsMessage bytes message offset → StandsIn (receiver_of message.prefix) message.submessages at (Data body)
+    → IsNext old at body → Advances old report
+
+abbrev pub ReplyAdvances : ReadingKept → List ℕ → Reply → Type 0
+ReplyAdvances old bytes (Reported report) = AdvancesOn old bytes report
+ReplyAdvances old bytes reply = ⊥

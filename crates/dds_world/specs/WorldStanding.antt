@@ -5,6 +5,7 @@ use Rattle.dds_model.specs.declared.event.Packet.{Packet}
 use Rattle.dds_model.specs.declared.event.WorldEvent.{WorldEvent}
 use Rattle.dds_model.specs.declared.reply.Reply.{Reply}
 use Rattle.dds_model.specs.Machine.{Machine, Step}
+use Rattle.dds_model.specs.Progress.{Progresses}
 use Rattle.dds_model.specs.Runs.{Traffic, Sends, Run}
 use Rattle.dds_model.specs.Peer.{Peer}
 use Rattle.dds_model.specs.World.{WorldState, machine_of, Sound}
@@ -49,6 +50,10 @@ traffic kept = record { sent = kept.sent; unsent = kept.unsent }
 -- For each machine that the old network stands for, this is what is sent at the event.
 abbrev pub Announces : WorldKept → WorldEvent → Reply → WorldKept → Type 0
 Announces old event reply new = (config : Config) (m : Machine) → StandsFor old config m → Sends config (traffic old) m event reply (traffic new)
+
+-- For each machine that the old network stands for, a packet with the change at a reader's place moves that place.
+abbrev pub MovesOn : WorldKept → WorldEvent → Reply → Type 0
+MovesOn old event reply = (config : Config) (m : Machine) → StandsFor old config m → Progresses config old.sent m event reply
 
 -- For each machine that the old network stands for, these replies are a run of it over the events, with what is sent
 -- meanwhile, and the new network stands for the machine afterwards.

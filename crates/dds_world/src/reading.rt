@@ -6,7 +6,7 @@ ghost use Rattle.dds_model.specs.declared.call.Call.TheVariants as call;
 ghost use Rattle.dds_model.specs.declared.event.Event.TheVariants as event;
 ghost use Rattle.dds_model.specs.Calls.{is_max, limit_of};
 ghost use Rattle.dds_model.specs.Claims.{change_in};
-ghost use Rattle.dds_world.specs.Receiving.{receiver_at, IsNext, StandsNext, HasNoNext, Advances, BringsNext, ReadingMoves, place_moves, access_reply};
+ghost use Rattle.dds_world.specs.Receiving.{receiver_at, IsNext, StandsNext, HasNoNext, Advances, AdvancesOn, ReplyAdvances, BringsNext, ReadingMoves, place_moves, access_reply};
 ghost use Rattle.dds_base.specs.Ownership.{IsMatched};
 ghost use Rattle.dds_world.specs.Begun.{HasReadNothing};
 ghost use Rattle.dds_world.specs.Standing.{ReadingSteps, SendsNothing};
@@ -202,7 +202,8 @@ impl ReadingPeer {
     }
 
     fn receive(&mut self, packet: &Octets) -> Report
-        ensures { ReadingMoves self.old packet.now result.moves self.new }
+        ensures moves { ReadingMoves self.old packet.now result.moves self.new }
+        ensures advances { AdvancesOn self.old packet.now result }
     {
         match read_message(self.alloc, packet.as_slice()) {
             Ok(Some(read)) => match self.next_in(&read.message) {
@@ -217,6 +218,7 @@ impl ReadingPeer {
     /// The bytes of a packet come.
     pub fn deliver(&mut self, packet: &Octets) -> Output
         ensures step { ReadingSteps self.old (event.Deliver packet.now) result self.new }
+        ensures advances { ReplyAdvances self.old packet.now result.reply }
         ensures sends { SendsNothing result }
     {
         let report = self.receive(packet);

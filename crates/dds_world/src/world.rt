@@ -3,7 +3,7 @@
 ghost use Rattle.std.specs.Prelude.{◌≡◌, ◌⊎◌, ℕ, ◌+◌, ◌-◌, ◌^◌, ◌≤◌, min, IsOk, IfOk, IfErr, OnErr, length, slice_get, None};
 ghost use Rattle.std.specs.Option.{option_copied};
 ghost use Rattle.dds_model.specs.declared.event.WorldEvent.TheVariants as event;
-ghost use Rattle.dds_world.specs.WorldStanding.{Announces, Posts, Runs, StandsFor, Steps};
+ghost use Rattle.dds_world.specs.WorldStanding.{Announces, MovesOn, Posts, Runs, StandsFor, Steps};
 ghost use Rattle.dds_world.specs.Standing.{SendsNothing};
 ghost use Rattle.dds_model.specs.Opening.{opening};
 ghost use Rattle.dds_base.specs.declared.code.Code.TheVariants.{BadParameter, Memory};
@@ -111,6 +111,7 @@ impl World {
     pub fn step(&mut self, event: WorldEvent) -> Reply
         ensures step { Steps self.old event result self.new }
         ensures sends { Announces self.old event result self.new }
+        ensures progress { MovesOn self.old event result }
     {
         match event {
             WorldEvent::Call { peer, call } => self.call(peer, call),
@@ -156,6 +157,7 @@ impl World {
     fn deliver(&mut self, peer: u8, packet: u64) -> Reply
         ensures step { Steps self.old (event.Deliver peer packet) result self.new }
         ensures sends { Announces self.old (event.Deliver peer packet) result self.new }
+        ensures progress { MovesOn self.old (event.Deliver peer packet) result }
     {
         if packet == 0 || (self.sent.len() as u64) < packet {
             return Reply::Refused(Code::BadParameter);

@@ -1,9 +1,6 @@
-use Rattle.std.proofs.Common.{◌≡◌, ◌≢◌, length, [], ◌∷◌, refl, sym, ◌∙◌, arith, rules}
-use Rattle.std.proofs.lemmas.Grind.{common_steps}
+use Rattle.std.proofs.Common.{◌≢◌, refl, sym, ◌∙◌, arith}
 use Rattle.dds_base.specs.declared.config.PeerConfig.{PeerConfig}
-use Rattle.dds_base.specs.declared.config.WriterConfig.{WriterConfig}
-use Rattle.dds_base.specs.declared.config.ReaderConfig.{ReaderConfig}
-use Rattle.dds_world.specs.Thin.{IsPair, IsThinPair, no_prefix}
+use Rattle.dds_world.specs.Thin.{no_prefix}
 use Rattle.dds_world.proofs.Ends.{one_item, two_items, no_item}
 use Rattle.dds_world.proofs.thin.ends_of.Goals as goal
 

@@ -1,5 +1,5 @@
 use Rattle.std.specs.Prelude.{is_ok}
-use Rattle.dds_world.proofs.WorldSteps.{posts_none, posts_more}
+use Rattle.dds_world.proofs.WorldSteps.{posts_more}
 use Rattle.dds_world.proofs.world.post.Goals as goal
 
 pub loop-packet-preserved : goal.loop-packet-preserved

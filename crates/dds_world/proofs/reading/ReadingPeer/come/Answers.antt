@@ -1,4 +1,4 @@
-use Rattle.std.proofs.Common.{ℕ, ◌+◌, ◌-◌, ◌^◌, ◌<◌, List, [], ◌∷◌, ap, subst, arith}
+use Rattle.std.proofs.Common.{◌+◌, ◌-◌, ◌^◌, ◌<◌, List, [], ◌∷◌, ap, subst, arith}
 use Rattle.dds_base.specs.declared.happening.Happening.{Happening}
 use Rattle.dds_cache.specs.Standing.{StandsFor as CacheStandsFor}
 use Rattle.dds_world.specs.Standing.{ReadingKept}

@@ -1,4 +1,4 @@
-use Rattle.std.proofs.Common.{ℕ, ◌+◌, List, [], ◌∷◌, Some, None, ap, sym, subst, refl, ◌∙◌}
+use Rattle.std.proofs.Common.{◌+◌, List, [], ◌∷◌, Some, None, ap, sym, subst, refl, ◌∙◌}
 use Rattle.dds_model.specs.declared.reply.Move.{Move}
 use Rattle.dds_world.specs.Standing.{ReadingKept}
 use Rattle.dds_world.specs.Receiving.{ReadingMoves, place_moves}

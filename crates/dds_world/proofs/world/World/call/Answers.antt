@@ -1,5 +1,4 @@
 use Rattle.dds_world.proofs.Sends.{called_first_sends}
-use Rattle.std.proofs.Common.{arith}
 use Rattle.dds_world.specs.WorldStanding.{WorldKept}
 use Rattle.dds_world.proofs.WorldSteps.{called_first, called_second}
 use Rattle.dds_world.proofs.world.World.call.Goals as goal

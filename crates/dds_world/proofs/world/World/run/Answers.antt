@@ -1,9 +1,7 @@
-use Rattle.std.proofs.Common.{◌≡◌, ◌≤◌, List, [], ◌∷◌, ◌++◌, length, vec_len, sym, subst, ◌∙◌, rules, arith}
-use Rattle.std.specs.Prelude.{vec_capacity}
+use Rattle.std.proofs.Common.{◌≡◌, List, [], ◌∷◌, ◌++◌, sym, subst, arith}
 use Rattle.std.proofs.lemmas.Grind.{common_steps}
-use Rattle.dds_model.specs.declared.event.WorldEvent.{WorldEvent}
 use Rattle.dds_model.specs.declared.reply.Reply.{Reply}
-use Rattle.dds_world.specs.WorldStanding.{WorldKept, Runs}
+use Rattle.dds_world.specs.WorldStanding.{Runs}
 use Rattle.dds_world.proofs.RunSteps.{runs_more}
 use Rattle.dds_world.proofs.world.World.run.Goals as goal
 

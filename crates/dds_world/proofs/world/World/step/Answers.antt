@@ -1,6 +1,6 @@
 use Rattle.std.proofs.Common.{sym, subst}
 use Rattle.dds_model.specs.declared.event.WorldEvent.{WorldEvent}
-use Rattle.dds_world.specs.WorldStanding.{Steps}
+use Rattle.dds_world.specs.WorldStanding.{MovesOn, Steps}
 use Rattle.dds_world.proofs.world.World.step.Goals as goal
 
 pub returns-in-Call-clause-step : goal.returns-in-Call-clause-step
@@ -8,3 +8,6 @@ returns-in-Call-clause-step c = subst (λ (e : WorldEvent). Steps c.args.self.no
 
 pub returns-in-Deliver-clause-step : goal.returns-in-Deliver-clause-step
 returns-in-Deliver-clause-step c = subst (λ (e : WorldEvent). Steps c.args.self.now e c.deliver.result c.deliver.new.self) (sym c.in-Deliver.is) c.deliver.ensures.step
+
+pub returns-in-Deliver-clause-progress : goal.returns-in-Deliver-clause-progress
+returns-in-Deliver-clause-progress c = subst (λ (e : WorldEvent). MovesOn c.args.self.now e c.deliver.result) (sym c.in-Deliver.is) c.deliver.ensures.progress

@@ -1,7 +1,6 @@
 use Rattle.std.proofs.Common.{ap, sym, ◌∙◌, subst}
 use Rattle.dds_model.specs.declared.event.Event.TheVariants as event
 use Rattle.dds_model.specs.declared.event.Output.{Output}
-use Rattle.dds_model.specs.declared.reply.Reply.{Reply}
 use Rattle.dds_world.specs.Standing.{WritingSteps}
 use Rattle.dds_world.proofs.WritingSteps.{nothing_delivered, silent}
 use Rattle.dds_world.proofs.writing.WritingPeer.deliver.Goals as goal

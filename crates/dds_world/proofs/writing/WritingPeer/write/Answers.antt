@@ -1,4 +1,4 @@
-use Rattle.std.proofs.Common.{◌≡◌, ℕ, ◌+◌, ◌≤◌, Option, List, None, IfOk, length, ap, sym, ◌∙◌, subst, refl, arith}
+use Rattle.std.proofs.Common.{◌≡◌, ℕ, ◌+◌, ◌≤◌, Option, List, None, IfOk, length, ap, sym, subst, arith}
 use Rattle.dds_base.specs.declared.change.Change.{Change}
 use Rattle.dds_base.specs.declared.change.ChangeKind.TheVariants as kind
 use Rattle.dds_base.specs.declared.code.Code.{Code}
@@ -15,7 +15,7 @@ use Rattle.dds_model.specs.declared.event.Event.{Event}
 use Rattle.dds_model.specs.declared.reply.Reply.{Reply}
 use Rattle.dds_model.specs.Peer.{Peer}
 use Rattle.dds_world.specs.Standing.{WritingKept, WritingStandsFor, WritingSends, SendsOne, IsAnnouncement, thin_writer}
-use Rattle.dds_world.proofs.WritingSteps.{silent, Follows, follows_as, refused_write, good_write, done_write, announces_copy}
+use Rattle.dds_world.proofs.WritingSteps.{silent, follows_as, refused_write, good_write, done_write, announces_copy}
 use Rattle.dds_world.proofs.writing.WritingPeer.write.Goals as goal
 
 pub returns-in-Err-clause-step : goal.returns-in-Err-clause-step
