@@ -3,7 +3,8 @@
 ghost use Rattle.std.specs.Prelude.{◌≡◌, ◌⊎◌, ℕ, ◌+◌, ◌-◌, ◌^◌, ◌≤◌, min, IsOk, IfOk, IfErr, OnErr, length, slice_get, None};
 ghost use Rattle.std.specs.Option.{option_copied};
 ghost use Rattle.dds_model.specs.declared.event.WorldEvent.TheVariants as event;
-ghost use Rattle.dds_world.specs.WorldStanding.{Announces, MovesOn, Posts, Runs, StandsFor, Steps};
+ghost use Rattle.dds_model.specs.InOrder.{no_traffic};
+ghost use Rattle.dds_world.specs.WorldStanding.{traffic, Announces, MovesOn, Posts, Runs, StandsFor, Steps};
 ghost use Rattle.dds_world.specs.Standing.{SendsNothing};
 ghost use Rattle.dds_model.specs.Opening.{opening};
 ghost use Rattle.dds_base.specs.declared.code.Code.TheVariants.{BadParameter, Memory};
@@ -84,6 +85,7 @@ impl World {
     /// topic, both shared, keeping all, without limits and leases; `Memory` where a growth was refused.
     pub fn open(alloc: Global, config: &Config) -> Result<World, Code>
         ensures opening { IfOk result (λ world. StandsFor world config.now (opening config.now)) }
+        ensures quiet { IfOk result (λ world. traffic world ≡ no_traffic) }
         ensures thin { IsOk result → IsThin config.now }
         ensures refused { result ≡ Err BadParameter → IsThin config.now → ⊥ }
         ensures codes { IfErr result (λ code. (code ≡ BadParameter) ⊎ (code ≡ Memory)) }
