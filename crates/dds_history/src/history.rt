@@ -1,6 +1,6 @@
 //! The history of a writer.
 
-ghost use Rattle.std.specs.Prelude.{◌≡◌, ◌+◌, ◌^◌, ◌<◌, [], ◌∷◌, length, IfOk, IfErr, OnErr, nat_lt};
+ghost use Rattle.std.specs.Prelude.{◌≡◌, ◌+◌, ◌^◌, ◌<◌, ◌≤◌, [], ◌∷◌, length, IfOk, IfErr, OnErr, nat_lt};
 ghost use Rattle.std.specs.Option.{option_copied};
 ghost use Rattle.dds_base.specs.Kept.{WriterHistory, appended, append_refusal, exceeds, kept_change};
 ghost use Rattle.dds_base.specs.Refusal.{Refuses};
@@ -59,6 +59,7 @@ impl History {
         ensures ok { (w : WriterHistory) → StandsFor self.old w → IfOk result (λ number.
             (append_refusal w change ≡ None) × (number ≡ length w.changes + 1) × StandsFor self.new (appended w change)) }
         ensures refused { (w : WriterHistory) → StandsFor self.old w → IfErr result (Refuses (append_refusal w change)) }
+        ensures number { IfOk result (λ number. (1 ≤ number) × (number ≤ 2 ^ 48)) }
         ensures err { OnErr result (self.new ≡ self.old) }
     {
         if MAX_CHANGES <= self.entries.len() {

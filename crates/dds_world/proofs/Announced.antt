@@ -1,5 +1,5 @@
 -- What the announcement of a write claims is true of the writer's list.
-use Rattle.std.proofs.Common.{◌≡◌, ℕ, ◌+◌, ◌-◌, List, [], ◌∷◌, ◌++◌, Option, Some, None, length, slice_get, subst, ap, sym, ◌∙◌, refl, inl, inr, arith, true}
+use Rattle.std.proofs.Common.{◌≡◌, ℕ, ◌+◌, ◌-◌, ◌^◌, ◌≤◌, List, [], ◌∷◌, ◌++◌, Option, Some, None, length, slice_get, subst, ap, sym, ◌∙◌, refl, inl, inr, arith, true}
 use Rattle.std.specs.Prelude.{nat_lt, if◌then◌else◌}
 use Rattle.std.proofs.lemmas.Bool.Decides.{nat_tests}
 use Rattle.dds_base.specs.declared.change.Change.{Change}
@@ -11,8 +11,9 @@ use Rattle.dds_base.specs.Written.{Written, changes_of}
 use Rattle.rtps_wire.specs.declared.message.Message.{Message}
 use Rattle.rtps_wire.specs.declared.submessage.Submessage.{Submessage}
 use Rattle.rtps_wire.specs.declared.submessage.Submessage.TheVariants.{InfoDst, InfoTs, Data}
-use Rattle.rtps_wire.specs.Messages.{ReadsMessage, spelling_of}
+use Rattle.rtps_wire.specs.Messages.{IsWritable, ReadsMessage, spelling_of}
 use Rattle.rtps_wire.proofs.MessageLaws.{message_one}
+use Rattle.rtps_wire.proofs.LengthLaws.{short_writable}
 use Rattle.rtps_wire.proofs.SpellingLaws.{message_again}
 use Rattle.dds_base.specs.declared.guid.GuidPrefix.{GuidPrefix}
 use Rattle.rtps_wire.specs.declared.data.DataContent.TheVariants as content
@@ -90,3 +91,10 @@ announcement_true kept config peer s written number key value packet claim is st
     let same : h.message ≡ m = (message_one (spelling_of m) h.message m h.offset (length (spelling_of m)) read own).0 in
     message_says kept config peer s h.at h.submessage written number key value claim stands
     (subst (λ (x : Message). StandsIn (receiver_of x.prefix) x.submessages h.at h.submessage) same h.stands) h.says
+
+-- the announcement of a write can be written
+pub announcement_writable : (kept : WritingKept) (number : ℕ) (key : Key) (value : List ℕ) → length kept.prefix.0 ≡ 12 → length kept.to.0 ≡ 12 → length kept.entity.0 ≡ 4 → length key.0 ≡ 16 → length value ≤ 1024 → 1 ≤ number → number ≤ 2 ^ 48
+    → IsWritable (announcement kept number key value)
+announcement_writable kept number key value prefix to entity of_key short first small =
+    short_writable (announcement kept number key value) prefix
+    (to, (omega arith, ((record { reader = refl; writer = entity; first = first; small = omega arith }, record { key = of_key; value = short }), tt))) (omega arith)

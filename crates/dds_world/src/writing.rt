@@ -1,6 +1,7 @@
 //! A peer that writes.
 
-ghost use Rattle.std.specs.Prelude.{◌≡◌, ◌+◌, length, IfOk, Contains};
+ghost use Rattle.std.specs.Prelude.{◌≡◌, ◌+◌, ◌^◌, ◌≤◌, length, IfOk, Contains};
+ghost use Rattle.std.specs.Result.{ForOk};
 ghost use Rattle.dds_model.specs.declared.event.Packet.{Packet};
 ghost use Rattle.dds_model.specs.declared.reply.Reply.TheVariants.{Done};
 ghost use Rattle.dds_model.specs.declared.event.Event.TheVariants as event;
@@ -15,7 +16,7 @@ use dds_base::{
 };
 use dds_history::History;
 use dds_model::{Call, Event, Output, Packet, Reply};
-use rtps_wire::{Data, DataContent, Message, Submessage, Submessages, is_writable, write_message};
+use rtps_wire::{Data, DataContent, Message, Submessage, Submessages, write_message};
 use std::alloc::{AllocError, Global};
 use std::marker::Model;
 
@@ -106,6 +107,9 @@ impl WritingPeer {
 
     /// The answer to a write of this number, with the packet that announces it, or one that found no memory.
     fn announced(&self, number: Sn, key: Key, value: Result<Octets, AllocError>) -> Output
+        requires first { 1 ≤ number }
+        requires small { number ≤ 2 ^ 48 }
+        requires short { ForOk value (λ v. length v ≤ 1024) }
         ensures reply { result.reply ≡ Done }
         ensures counted { length result.packets + result.unsent ≡ 1 }
         ensures packets { (packet : Packet) → Contains result.packets packet → AnnouncesWrite self.now number key value packet }
@@ -142,9 +146,16 @@ impl WritingPeer {
         key: Key,
         value: Result<Octets, AllocError>,
     ) -> Result<Packet, Code>
+        requires first { 1 ≤ number }
+        requires small { number ≤ 2 ^ 48 }
+        requires short { ForOk value (λ v. length v ≤ 1024) }
         ensures { IfOk result (AnnouncesWrite self.now number key value) }
     {
         let value = value?;
+        let _prefix = self.prefix.as_slice();
+        let _to = self.to.as_slice();
+        let _entity = self.entity.as_slice();
+        let _key = key.as_slice();
         let data = Data {
             reader_id: EntityId::UNKNOWN,
             writer_id: self.entity,
@@ -160,9 +171,6 @@ impl WritingPeer {
             prefix: self.prefix,
             submessages: Submessages::from_vec(submessages),
         };
-        if !is_writable(&message) {
-            return Err(Code::BadParameter);
-        }
         let bytes = Octets::from_vec(write_message(self.alloc, &message)?);
         Ok(Packet { to: READING, bytes })
     }
