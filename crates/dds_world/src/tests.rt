@@ -4,6 +4,7 @@ use dds_base::{
     ReaderConfig, Sequence, Sn, WriterConfig,
 };
 use std::alloc::Global;
+use std::process::Abort;
 use std::test::Fail;
 
 const KEY: Key = Key([0, 0, 0, 0, 0, 0, 0, 0, 0, 0, 0, 0, 0, 0, 0, 1]);
@@ -166,21 +167,42 @@ fn a_long_value_is_refused(rt: HostRuntime) -> Result<(), Fail> {
     Ok(())
 }
 
-#[test]
-fn a_run_answers_as_its_steps_do(rt: HostRuntime) -> Result<(), Fail> {
-    let alloc = rt.alloc();
-    let mut world = World::open(alloc, &config(alloc)?)?;
+/// A write, its delivery, a delivery of a packet that was never sent, and a take.
+fn events(alloc: Global) -> Result<Vec<WorldEvent>, Fail> {
     let events = vec![in alloc;
         write(alloc, b"ab")?,
         WorldEvent::Deliver { peer: 2, packet: 1 },
         WorldEvent::Deliver { peer: 2, packet: 2 },
         take(),
     ]?;
-    let replies = world.run(events)?.into_vec();
+    Ok(events)
+}
+
+/// That these are the replies to the events.
+fn are_replies(rt: &impl Abort, replies: &[Reply]) {
     assert_eq!(rt; replies.len(), 4);
     assert!(rt; matches!(&replies[0], Reply::Done));
     assert!(rt; is_place(&replies[1], 2));
     assert!(rt; matches!(&replies[2], Reply::Refused(Code::BadParameter)));
-    assert!(rt; matches!(&replies[3], Reply::Samples(_)));
+    assert!(rt; matches!(&replies[3], Reply::Samples(samples) if samples.as_slice().len() == 1));
+}
+
+#[test]
+fn a_run_answers_as_its_steps_do(rt: HostRuntime) -> Result<(), Fail> {
+    let alloc = rt.alloc();
+    let mut run = World::open(alloc, &config(alloc)?)?;
+    let replies = run.run(events(alloc)?)?;
+    are_replies(&rt, replies.as_slice());
+    let mut stepped = World::open(alloc, &config(alloc)?)?;
+    let mut answers = Vec::new(alloc);
+    for event in events(alloc)? {
+        answers.push(stepped.step(event))?;
+    }
+    are_replies(&rt, &answers);
+    assert_eq!(rt; run.sent(), stepped.sent());
+    assert_eq!(rt; run.unsent(), stepped.unsent());
+    let ran = run.packet(1).ok_or("a run sends the packet")?;
+    let sent = stepped.packet(1).ok_or("a step sends the packet")?;
+    assert_eq!(rt; ran.bytes.as_slice(), sent.bytes.as_slice());
     Ok(())
 }
