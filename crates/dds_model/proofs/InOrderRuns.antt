@@ -236,7 +236,7 @@ step_in_order sent m (world.Deliver peer packet) reply new w r (inr h) o = subst
 
 run_in_order : (config : Config) (m after : Machine) (events : List WorldEvent) (replies : List Reply) (sent last : Traffic) (w r : Endpoint) → Run config sent m events replies last after → InOrder m w r → InOrder after w r
 run_in_order config m after [] [] sent last w r run o = subst (λ (x : Machine). InOrder x w r) (sym run.0) o
-run_in_order config m after (e ∷ es) (p ∷ ps) sent last w r run o = run_in_order config run.0 after es ps run.1 last w r run.4 (step_in_order (length sent.sent) m e p run.0 w r run.2 o)
+run_in_order config m after (e ∷ es) (p ∷ ps) sent last w r run o = run_in_order config run.0 after es ps run.1 last w r run.5 (step_in_order (length sent.sent) m e p run.0 w r run.2 o)
 run_in_order config m after [] (p ∷ ps) sent last w r run o = absurd run
 run_in_order config m after (e ∷ es) [] sent last w r run o = absurd run
 

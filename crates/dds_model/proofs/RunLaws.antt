@@ -32,8 +32,8 @@ composes_runs config old new unsent last [] [] sound run =
     ((ap machine_of run.0, ap (λ (w : WorldState). traffic_of w last) run.0 ∙ ap (λ (n : ℕ). traffic_of old n) run.1), subst (λ (w : WorldState). Sound config w) (sym run.0) sound)
 composes_runs config old new unsent last (e ∷ es) (r ∷ rs) sound run =
     let s = composes config old run.0 e r sound run.2 in
-    let t = composes_runs config run.0 new run.1 last es rs s.1 run.4 in
-    ((machine_of run.0, traffic_of run.0 run.1, s.0, run.3, t.0), t.1)
+    let t = composes_runs config run.0 new run.1 last es rs s.1 run.5 in
+    ((machine_of run.0, traffic_of run.0 run.1, s.0, run.3, run.4, t.0), t.1)
 composes_runs config old new unsent last [] (r ∷ rs) sound run = absurd run
 composes_runs config old new unsent last (e ∷ es) [] sound run = absurd run
 
@@ -85,6 +85,6 @@ pub keep_all_is_kept : (config : Config) (w : Endpoint) (m after : Machine) (eve
     → Run config sent m events replies last after → LosesNone w replies
 keep_all_is_kept config w m after [] [] sent last all run = tt
 keep_all_is_kept config w m after (e ∷ es) (r ∷ rs) sent last all run =
-    Step-loses w (length sent.sent) m e r run.0 rs all run.2 (keep_all_is_kept config w run.0 after es rs run.1 last (Step-policy w (length sent.sent) m e r run.0 run.2 ∙ all) run.4)
+    Step-loses w (length sent.sent) m e r run.0 rs all run.2 (keep_all_is_kept config w run.0 after es rs run.1 last (Step-policy w (length sent.sent) m e r run.0 run.2 ∙ all) run.5)
 keep_all_is_kept config w m after [] (r ∷ rs) sent last all run = absurd run
 keep_all_is_kept config w m after (e ∷ es) [] sent last all run = absurd run

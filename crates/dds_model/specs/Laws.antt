@@ -10,6 +10,7 @@ use Rattle.dds_model.specs.declared.reply.Reply.{Reply}
 use Rattle.dds_model.specs.declared.reply.Reply.TheVariants.{Reported}
 use Rattle.dds_model.specs.Machine.{Machine, writer_at, Step}
 use Rattle.dds_model.specs.World.{WorldState, WorldStep, machine_of, Sound}
+use Rattle.dds_model.specs.Progress.{Progresses}
 use Rattle.dds_model.specs.Runs.{Traffic, Sends, Run}
 use Rattle.dds_model.specs.Opening.{opening_world}
 
@@ -28,7 +29,7 @@ WorldRun config old unsent [] [] new last = (new ≡ old) × (last ≡ unsent)
 WorldRun config old unsent (event ∷ events) (reply ∷ replies) new last =
     (mid : WorldState) × (next : ℕ) × WorldStep config old event reply mid
     × Sends config (record { sent = old.sent; unsent = unsent }) (machine_of old) event reply (record { sent = mid.sent; unsent = next })
-    × WorldRun config mid next events replies new last
+    × Progresses config old.sent (machine_of old) event reply × WorldRun config mid next events replies new last
 WorldRun config old unsent [] (reply ∷ replies) new last = ⊥
 WorldRun config old unsent (event ∷ events) [] new last = ⊥
 

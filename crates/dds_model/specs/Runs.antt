@@ -14,6 +14,7 @@ use Rattle.dds_model.specs.Part.{ReaderProxy, acknowledged_of, writer_changes}
 use Rattle.dds_model.specs.Calls.{written_change}
 use Rattle.dds_model.specs.Claims.{ChangeIs, Claims}
 use Rattle.dds_model.specs.Machine.{Machine, part_at, writer_at, Step}
+use Rattle.dds_model.specs.Progress.{Progresses}
 
 -- the packets that were sent, and how many found no memory, which stays at its greatest value
 pub record Traffic : Type 0 where
@@ -53,6 +54,7 @@ Sends config old m (world.Deliver peer packet) reply new = SendsMore old new
 abbrev pub Run : Config → Traffic → Machine → List WorldEvent → List Reply → Traffic → Machine → Type 0
 Run config sent old [] [] last new = (new ≡ old) × (last ≡ sent)
 Run config sent old (event ∷ events) (reply ∷ replies) last new =
-    (mid : Machine) × (next : Traffic) × Step (length sent.sent) old event reply mid × Sends config sent old event reply next × Run config next mid events replies last new
+    (mid : Machine) × (next : Traffic) × Step (length sent.sent) old event reply mid × Sends config sent old event reply next × Progresses config sent.sent old event reply
+    × Run config next mid events replies last new
 Run config sent old [] (reply ∷ replies) last new = ⊥
 Run config sent old (event ∷ events) [] last new = ⊥
