@@ -1,6 +1,7 @@
 //! The history of a writer.
 
-ghost use Rattle.std.specs.Prelude.{◌≡◌, ◌+◌, ◌^◌, ◌<◌, ◌≤◌, [], ◌∷◌, length, IfOk, IfErr, OnErr, nat_lt};
+ghost use Rattle.std.specs.Prelude.{◌≡◌, ◌+◌, ◌^◌, ◌<◌, ◌≤◌, None, [], ◌∷◌, length, IfOk, IfErr, OnErr, nat_lt};
+ghost use Rattle.dds_base.specs.declared.change.Change.{Change};
 ghost use Rattle.std.specs.Option.{option_copied};
 ghost use Rattle.dds_base.specs.Kept.{WriterHistory, appended, append_refusal, exceeds, kept_change};
 ghost use Rattle.dds_base.specs.Refusal.{Refuses};
@@ -62,14 +63,34 @@ impl History {
         ensures number { IfOk result (λ number. (1 ≤ number) × (number ≤ 2 ^ 48)) }
         ensures err { OnErr result (self.new ≡ self.old) }
     {
-        if MAX_CHANGES <= self.entries.len() {
-            return Err(Code::OutOfResources);
-        }
-        if self.is_full(&change.key) {
-            return Err(Code::Timeout);
+        if let Some(code) = self.cause(&change.key) {
+            return Err(code);
         }
         add(&mut self.entries, self.policy, change)?;
         Ok(Sn::new(self.entries.len() as u64))
+    }
+
+    /// Why one more change would be refused, but for want of memory: the code that `append` would answer.
+    ///
+    /// DDS 1.4, 2.2.3 (RESOURCE_LIMITS).
+    pub fn refusal(&self, change: &Change) -> Option<Code>
+        ensures { (w : WriterHistory) → StandsFor self.now w → result ≡ append_refusal w change.now }
+    {
+        self.cause(&change.key)
+    }
+
+    /// Why one more change of this key is refused.
+    fn cause(&self, key: &Key) -> Option<Code>
+        ensures refusal { (w : WriterHistory) (change : Change) → StandsFor self.now w → change.key ≡ key.now → result ≡ append_refusal w change }
+        ensures few { result ≡ None → length self.now.entries < 2 ^ 48 }
+    {
+        if MAX_CHANGES <= self.entries.len() {
+            return Some(Code::OutOfResources);
+        }
+        if self.is_full(key) {
+            return Some(Code::Timeout);
+        }
+        None
     }
 
     /// Whether one more change of this key would exceed the limit.

@@ -20,16 +20,16 @@ use Rattle.dds_model.specs.declared.reply.Move.TheVariants.{Place, Acknowledged}
 use Rattle.dds_model.specs.declared.reply.PassedRun.{PassedRun}
 use Rattle.dds_model.specs.declared.reply.Reply.{Reply}
 use Rattle.dds_model.specs.declared.reply.Reply.TheVariants.{Reported}
-use Rattle.dds_model.specs.Numbered.{with_numbered, HasNumber}
-use Rattle.dds_model.specs.Part.{ReaderProxy, Writer, Part, no_part, no_writer, own_writer, own_proxies, acknowledged_of, with_acknowledged, place_of, writer_changes, history_of}
+use Rattle.dds_model.specs.Numbered.{numbered, with_numbered, HasNumber}
+use Rattle.dds_model.specs.Part.{ReaderProxy, Writer, Rtps, Part, no_part, no_writer, own_writer, own_proxies, acknowledged_of, with_acknowledged, place_of, writer_changes, history_of}
 use Rattle.dds_model.specs.Moves.{Match, match_of, Position, position_of, AllCome, ComeTo, Passes, GoesTo, IsMove, AreMoves, DeliveryStep}
-use Rattle.dds_model.specs.Calls.{CallStep}
+use Rattle.dds_model.specs.Calls.{CallStep, TickStep}
 use Rattle.dds_model.specs.Claims.{Claim, ChangeIs, MayPass, PlaceReached, Claims, Claimed}
 use Rattle.dds_model.specs.Peer.{Peer, Delivery, PeerStep, EventStep, no_peer, claimed, packets_of, IsTrueAt}
-use Rattle.dds_model.specs.Machine.{Machine, part_at, writer_at, place_at, grounds_of, Step}
+use Rattle.dds_model.specs.Machine.{Machine, part_at, writer_at, place_at, grounds_of, AtPeer, Step}
 use Rattle.dds_model.specs.World.{WorldState, peer_at, machine_of, PeerSteps, WorldStep, Holds, Sound}
 use Rattle.dds_model.proofs.Tables.{numbered-cases, numbered-map, numbered-same, map-with_numbered, length-with_numbered, acknowledged-cases}
-use Rattle.dds_model.proofs.Growth.{Grows, IsMove-grows, DeliveryStep-grows, CallStep-grows, CallStep-readers, MachineGrows, with_part, with_part-grows, Holds-grows}
+use Rattle.dds_model.proofs.Growth.{Grows, IsMove-grows, DeliveryStep-grows, CallStep-grows, CallStep-readers, TickStep-rtps, TickStep-grows, MachineGrows, with_part, with_part-grows, Holds-grows}
 
 abbrev pub AllHold : Config → Machine → List (List ℕ) → Type 0
 AllHold config m packets = (bytes : List ℕ) (claim : Claim) → Contains packets bytes → Claims config bytes claim → Holds m claim
@@ -116,7 +116,7 @@ acked_move : (m : Machine) (i : ℕ) (old : Part) (mv : Move) (new : Part) → I
 acked_move m i old (Place w r to passed) new h le = subst (λ (q : Part). AckedBelow m i q) (sym h.after) le
 acked_move m i old (Acknowledged w r to) new h le =
     let before = own_writer old w in
-    let after : Writer = record { policy = before.policy; max_samples = before.max_samples; written = before.written; readers = with_acknowledged before.readers r to } in
+    let after : Writer = record { policy = before.policy; max_samples = before.max_samples; autodispose = before.autodispose; written = before.written; readers = with_acknowledged before.readers r to } in
     subst (λ (q : Part). AckedBelow m i q) (sym h.after)
     (λ k v.
     ⊎_elim (λ e. let f = ap (λ (x : Writer). acknowledged_of x.readers v) e in omega (arith, f, le k v))
@@ -133,10 +133,12 @@ acked_moves m i old (mv ∷ ms) new h le = acked_moves m i h.0 ms new h.2 (acked
 -- what an event at a peer does to its part of the machine, whatever packet it delivers
 abbrev pub PartStep : Machine → ℕ → Event → Reply → Part → Type 0
 PartStep m peer (event.Call call) reply after = CallStep (part_at m peer) call reply after
+PartStep m peer (event.Tick now) reply after = TickStep (part_at m peer) now reply after
 PartStep m peer (event.Deliver packet) reply after = DeliveryStep (grounds_of m peer) (part_at m peer) reply after
 
 pub PartStep-grows : (m : Machine) (i : ℕ) (ev : Event) (reply : Reply) (after : Part) → PartStep m i ev reply after → Grows (part_at m i).rtps after.rtps
 PartStep-grows m i (event.Call call) reply after h = CallStep-grows (part_at m i) call reply after h
+PartStep-grows m i (event.Tick now) reply after h = TickStep-grows (part_at m i) now reply after h
 PartStep-grows m i (event.Deliver packet) reply after h = DeliveryStep-grows (grounds_of m i) (part_at m i) reply after h
 
 acked_delivery : (m : Machine) (i : ℕ) (old : Part) (reply : Reply) (new : Part) → DeliveryStep (grounds_of m i) old reply new → AckedBelow m i old → AckedBelow m i new
@@ -145,6 +147,8 @@ acked_delivery m i old reply new h le = absurd h
 
 PartStep-acked : (m : Machine) (i : ℕ) (ev : Event) (reply : Reply) (after : Part) → PartStep m i ev reply after → AckedBelow m i (part_at m i) → AckedBelow m i after
 PartStep-acked m i (event.Call call) reply after h le = λ w r. let e = ap (λ (xs : List ReaderProxy). acknowledged_of xs r) (CallStep-readers (part_at m i) call reply after h w) in omega (arith, e, le w r)
+PartStep-acked m i (event.Tick now) reply after h le = λ w r.
+    let e = ap (λ (x : Rtps). acknowledged_of (numbered x.writers w no_writer).readers r) (TickStep-rtps (part_at m i) now reply after h) in omega (arith, e, le w r)
 PartStep-acked m i (event.Deliver packet) reply after h le = acked_delivery m i (part_at m i) reply after h le
 
 -- what a peer sends is true of the machine
@@ -162,6 +166,7 @@ true_holds m i part is le (PlaceReached w r base) h =
 -- the step of a peer, on packets that were sent, is one of the machine's part, and what was delivered stays true
 abbrev EventHolds : Config → Machine → Event → Type 0
 EventHolds config m (event.Call call) = Unit {0}
+EventHolds config m (event.Tick now) = Unit {0}
 EventHolds config m (event.Deliver packet) = (c : Claim) → Claims config packet c → Holds m c
 
 abbrev DeliveredHold : Config → Machine → List Delivery → Type 0
@@ -198,6 +203,8 @@ part_step : (config : Config) (m : Machine) (i : ℕ) (ev : Event) (before : Pee
     → PartStep m i ev reply after.part × DeliveredHold config m after.delivered
 part_step config m i (event.Call call) before reply after is at_i sent all h =
     (subst (λ (q : Part). CallStep q call reply after.part) (sym at_i) h.0, subst (λ (ds : List Delivery). DeliveredHold config m ds) (sym h.1) all)
+part_step config m i (event.Tick now) before reply after is at_i sent all h =
+    (subst (λ (q : Part). TickStep q now reply after.part) (sym at_i) h.0, subst (λ (ds : List Delivery). DeliveredHold config m ds) (sym h.1) all)
 part_step config m i (event.Deliver packet) before (Reported report) after is at_i sent all h =
     let packets : List (List ℕ) = packet ∷ packets_of before.delivered in
     let hold : AllHold config m packets = with_packet config m packet (packets_of before.delivered) sent (packets_hold config m before.delivered all) in
@@ -279,32 +286,33 @@ contains_at [] i x h = cc
 contains_at (y ∷ ys) zero x h = (0, omega arith, same_Some y x h)
 contains_at (y ∷ ys) (suc i) x h = let r = contains_at ys i x h in (suc r.0, omega (arith, r.1), r.2)
 
-composed_call : (config : Config) (old new : WorldState) (peer : ℕ) (call : Call) (reply : Reply) → Sound config old → PeerSteps config old peer (event.Call call) reply new → Composed config old (world.Call peer call) reply new
-composed_call config old new peer call reply sound h =
-    let r = happens config old peer (event.Call call) h.output h.after h.posted sound h.within h.step tt h.of_packets in
-    let s : CallStep (part_at (machine_of old) peer) call reply h.after.part = subst (λ (x : Reply). CallStep (part_at (machine_of old) peer) call x h.after.part) h.replies r.0 in
-    subst (λ (w : WorldState). Composed config old (world.Call peer call) reply w) (sym h.changed)
-    (inl (record { within = part_number old peer h.within; after = h.after.part; step = s; changed = machine_after old peer h.after h.posted }), r.1)
+-- an event of one peer
+composed : (config : Config) (old new : WorldState) (peer : ℕ) (ev : Event) (whole : WorldEvent) (reply : Reply) → Sound config old → EventHolds config (machine_of old) ev → PeerSteps config old peer ev reply new
+    → ((m : Machine) → AtPeer (machine_of old) peer (λ after. PartStep (machine_of old) peer ev reply after) m → Step (length old.sent) (machine_of old) whole reply m) → Composed config old whole reply new
+composed config old new peer ev whole reply sound holds h step =
+    let r = happens config old peer ev h.output h.after h.posted sound h.within h.step holds h.of_packets in
+    let s : PartStep (machine_of old) peer ev reply h.after.part = subst (λ (x : Reply). PartStep (machine_of old) peer ev x h.after.part) h.replies r.0 in
+    subst (λ (w : WorldState). Composed config old whole reply w) (sym h.changed) (
+      step (machine_of (world_after old peer h.after h.posted)) (record { within = part_number old peer h.within; after = h.after.part; step = s; changed = machine_after old peer h.after h.posted }),
+      r.1,
+    )
 
 composed_delivery : (config : Config) (old new : WorldState) (peer number : ℕ) (packet : Packet) (reply : Reply) → Sound config old → 1 ≤ number → slice_get old.sent (number - 1) ≡ Some packet
     → PeerSteps config old peer (event.Deliver packet.bytes) reply new → Composed config old (world.Deliver peer number) reply new
 composed_delivery config old new peer number packet reply sound low found h =
-    let holds : EventHolds config (machine_of old) (event.Deliver packet.bytes) = λ c s. sound.sent packet c (contains_at old.sent (number - 1) packet found) s in
-    let r = happens config old peer (event.Deliver packet.bytes) h.output h.after h.posted sound h.within h.step holds h.of_packets in
-    let s : DeliveryStep (grounds_of (machine_of old) peer) (part_at (machine_of old) peer) reply h.after.part =
-    subst (λ (x : Reply). DeliveryStep (grounds_of (machine_of old) peer) (part_at (machine_of old) peer) x h.after.part) h.replies r.0 in
     let within = slice_get_within old.sent (number - 1) packet found in
-    subst (λ (w : WorldState). Composed config old (world.Deliver peer number) reply w) (sym h.changed) (
-      inl (low, omega (arith, within), record { within = part_number old peer h.within; after = h.after.part; step = s; changed = machine_after old peer h.after h.posted }),
-      r.1,
-    )
+    composed config old new peer (event.Deliver packet.bytes) (world.Deliver peer number) reply sound (λ c s. sound.sent packet c (contains_at old.sent (number - 1) packet found) s) h
+    (λ m at. inl (low, omega (arith, within), record { within = at.within; after = at.after; step = at.step; changed = at.changed }))
 
 no_part_number : (ws : WorldState) (i : ℕ) → (HasNumber ws.peers i → ⊥) → HasNumber (machine_of ws).parts i → ⊥
 no_part_number ws i none h = none (peer_number ws i h)
 
 pub composes : (config : Config) (old new : WorldState) (ev : WorldEvent) (reply : Reply) → Sound config old → WorldStep config old ev reply new → Composed config old ev reply new
-composes config old new (world.Call peer call) reply sound (inl h) = composed_call config old new peer call reply sound h
+composes config old new (world.Call peer call) reply sound (inl h) = composed config old new peer (event.Call call) (world.Call peer call) reply sound tt h (λ m at. inl at)
 composes config old new (world.Call peer call) reply sound (inr h) =
+    (inr (no_part_number old peer h.0, (h.1.is_refused, ap machine_of h.1.after)), subst (λ (w : WorldState). Sound config w) (sym h.1.after) sound)
+composes config old new (world.Tick peer now) reply sound (inl h) = composed config old new peer (event.Tick now) (world.Tick peer now) reply sound tt h (λ m at. inl at)
+composes config old new (world.Tick peer now) reply sound (inr h) =
     (inr (no_part_number old peer h.0, (h.1.is_refused, ap machine_of h.1.after)), subst (λ (w : WorldState). Sound config w) (sym h.1.after) sound)
 composes config old new (world.Deliver peer number) reply sound (inl h) = composed_delivery config old new peer number h.0 reply sound h.1 h.2 h.3
 composes config old new (world.Deliver peer number) reply sound (inr h) = (

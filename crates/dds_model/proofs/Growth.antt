@@ -17,11 +17,12 @@ use Rattle.dds_model.specs.declared.endpoint.Endpoint.{Endpoint}
 use Rattle.dds_model.specs.declared.reply.Move.{Move}
 use Rattle.dds_model.specs.declared.reply.Move.TheVariants.{Place, Acknowledged}
 use Rattle.dds_model.specs.declared.reply.Reply.{Reply}
-use Rattle.dds_model.specs.declared.reply.Reply.TheVariants.{Reported}
+use Rattle.dds_base.specs.declared.code.Code.{Code}
+use Rattle.dds_model.specs.declared.reply.Reply.TheVariants.{Done, Samples, Refused, Reported}
 use Rattle.dds_model.specs.Numbered.{numbered, with_numbered}
 use Rattle.dds_model.specs.Part.{WriterProxy, Writer, Rtps, Part, no_writer, no_part, own_writer, own_proxies, place_of, with_place, with_acknowledged, writer_changes, history_of}
 use Rattle.dds_model.specs.Moves.{Grounds, IsMove, AreMoves, DeliveryStep}
-use Rattle.dds_model.specs.Calls.{Effect, nothing, writes, effect, effect_of, with_written, CallStep}
+use Rattle.dds_model.specs.Calls.{Effect, nothing, writes, effect, effect_of, with_written, CallStep, TickStep}
 use Rattle.dds_model.specs.Claims.{Claim, ChangeIs, MayPass, PlaceReached}
 use Rattle.dds_model.specs.Machine.{Machine, part_at, writer_at, place_at}
 use Rattle.dds_model.specs.World.{Holds}
@@ -86,7 +87,7 @@ IsMove-grows g old (Place w r to passed) new h =
     (set_reader-grows old.rtps r (with_place (own_proxies old r) w to) (place_forward (own_proxies old r) w to (omega (arith, forward))))
 IsMove-grows g old (Acknowledged w r to) new h =
     let before = own_writer old w in
-    let after : Writer = record { policy = before.policy; max_samples = before.max_samples; written = before.written; readers = with_acknowledged before.readers r to } in
+    let after : Writer = record { policy = before.policy; max_samples = before.max_samples; autodispose = before.autodispose; written = before.written; readers = with_acknowledged before.readers r to } in
     subst (λ (q : Part). Grows old.rtps q.rtps) (sym h.after) (set_writer-grows old.rtps w after (record { policy = refl; more = []; written = refl }))
 
 pub AreMoves-grows : (g : Grounds) (old : Part) (ms : List Move) (new : Part) → AreMoves g old ms new → Grows old.rtps new.rtps
@@ -115,6 +116,22 @@ CallStep-grows old call reply new h = subst (λ (r : Rtps). Grows old.rtps r) (s
 
 pub CallStep-readers : (old : Part) (call : Call) (reply : Reply) (new : Part) → CallStep old call reply new → (k : ℕ) → (own_writer new k).readers ≡ (own_writer old k).readers
 CallStep-readers old call reply new h k = ap (λ (r : Rtps). (numbered r.writers k no_writer).readers) h.rtps ∙ effect-readers old.rtps (effect_of old call reply) k
+
+-- what a tick does: lists and acknowledgements stay
+pub TickStep-rtps : (old : Part) (now : ℕ) (reply : Reply) (new : Part) → TickStep old now reply new → new.rtps ≡ old.rtps
+TickStep-rtps old now Done new h = ap (λ (p : Part). p.rtps) h.1
+TickStep-rtps old now (Refused code) new h = ap (λ (p : Part). p.rtps) h.1
+TickStep-rtps old now (Samples samples) new h = absurd h
+TickStep-rtps old now (Reported report) new h = absurd h
+
+pub TickStep-readers : (old : Part) (now : ℕ) (reply : Reply) (new : Part) → TickStep old now reply new → new.dds.readers ≡ old.dds.readers
+TickStep-readers old now Done new h = ap (λ (p : Part). p.dds.readers) h.1
+TickStep-readers old now (Refused code) new h = ap (λ (p : Part). p.dds.readers) h.1
+TickStep-readers old now (Samples samples) new h = absurd h
+TickStep-readers old now (Reported report) new h = absurd h
+
+pub TickStep-grows : (old : Part) (now : ℕ) (reply : Reply) (new : Part) → TickStep old now reply new → Grows old.rtps new.rtps
+TickStep-grows old now reply new h = subst (λ (r : Rtps). Grows old.rtps r) (sym (TickStep-rtps old now reply new h)) (grows_same old.rtps)
 
 -- changes grow at their end
 

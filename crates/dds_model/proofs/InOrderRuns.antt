@@ -1,5 +1,6 @@
 -- In every run, the changes that came at a reader are the first ones of the list of a writer that keeps all.
-use Rattle.std.proofs.Common.{◌≡◌, ℕ, zero, suc, ◌+◌, ◌≤◌, ◌==◌, ◌⊎◌, Bool, true, false, List, [], ◌∷◌, ◌++◌, refl, subst, ap, sym, ◌∙◌, inl, inr, ⊎_elim, arith, length, get_or, map, cond, eq-eqb, eqb-true, append_assoc}
+use Rattle.std.proofs.Common.{◌≡◌, ℕ, zero, suc, ◌+◌, ◌≤◌, ◌==◌, ◌⊎◌, Bool, true, false, List, [], ◌∷◌, ◌++◌, refl, subst, ap, sym, ◌∙◌, inl, inr, ⊎_elim, arith, length, get_or, map, cond, eq-eqb, eqb-true, append_assoc, Option}
+use Rattle.std.specs.Prelude.{ℤ}
 use Rattle.std.proofs.lemmas.List.{length-map}
 use Rattle.dds_base.specs.declared.change.Change.{Change}
 use Rattle.dds_base.specs.declared.code.Code.{Code}
@@ -11,9 +12,10 @@ use Rattle.dds_base.specs.declared.config.ReaderConfig.{ReaderConfig}
 use Rattle.dds_base.specs.declared.happening.Happening.{Happening}
 use Rattle.dds_base.specs.declared.happening.Happening.TheVariants.{Took}
 use Rattle.dds_base.specs.declared.happening.SamplePosition.{SamplePosition}
+use Rattle.dds_base.specs.declared.mask.Masks.{Masks}
 use Rattle.dds_base.specs.declared.qos.HistoryQos.TheVariants.{KeepAll}
 use Rattle.dds_model.specs.declared.call.Call.{Call}
-use Rattle.dds_model.specs.declared.call.Call.TheVariants.{Write, Take}
+use Rattle.dds_model.specs.declared.call.Call.TheVariants.{Register, Write, Dispose, Unregister, Take}
 use Rattle.dds_model.specs.declared.endpoint.Endpoint.{Endpoint}
 use Rattle.dds_model.specs.declared.event.WorldEvent.{WorldEvent}
 use Rattle.dds_model.specs.declared.event.WorldEvent.TheVariants as world
@@ -23,16 +25,16 @@ use Rattle.dds_model.specs.declared.reply.PassedRun.{PassedRun}
 use Rattle.dds_model.specs.declared.reply.Reply.{Reply}
 use Rattle.dds_model.specs.declared.reply.Reply.TheVariants.{Done, Samples, Reported, Refused}
 use Rattle.dds_model.specs.Numbered.{numbered, with_numbered, HasNumber}
-use Rattle.dds_model.specs.Part.{same_endpoint, WriterProxy, Reader, Dds, Part, no_reader, no_part, own_proxies, own_reader, place_of, with_place, publication_from, writer_changes}
+use Rattle.dds_model.specs.Part.{same_endpoint, WriterProxy, Rtps, Reader, Dds, Part, no_reader, no_part, own_proxies, own_reader, place_of, with_place, publication_from, writer_changes}
 use Rattle.dds_model.specs.Moves.{Grounds, match_of, position_of, AreMoves, Places, DeliveryStep}
-use Rattle.dds_model.specs.Calls.{Effect, nothing, writes, effect, effect_of, with_happening, Answers, CallStep}
+use Rattle.dds_model.specs.Calls.{Effect, nothing, writes, effect, effect_of, with_happening, register_refusal, write_refusal, dispose_refusal, unregister_refusal, IsDoneUnless, Answers, CallStep, TickStep}
 use Rattle.dds_model.specs.Machine.{Machine, part_at, writer_at, place_at, grounds_of, Step}
 use Rattle.dds_model.specs.Runs.{Traffic, Run}
 use Rattle.dds_model.specs.InOrder.{came_from, CameInOrder, no_traffic}
 use Rattle.dds_model.specs.Opening.{writers_in, matched_writers, reader_qos, opening_part, opening_peers, opening}
 use Rattle.dds_model.specs.Peer.{Peer}
 use Rattle.dds_model.proofs.Tables.{numbered-cases, numbered-same, length-with_numbered, place-cases, same_is}
-use Rattle.dds_model.proofs.Growth.{CallStep-grows, DeliveryStep-grows, MachineGrows, with_part-grows, writer-changes}
+use Rattle.dds_model.proofs.Growth.{CallStep-grows, TickStep-rtps, TickStep-readers, TickStep-grows, DeliveryStep-grows, MachineGrows, with_part-grows, writer-changes}
 use Rattle.dds_model.proofs.RunLaws.{keeps_all, Step-policy}
 use Rattle.dds_model.proofs.InOrder.{same_self, publication_kept, place_hits, Along, along_as, RestsOn, goes_along, others_go, different}
 
@@ -161,17 +163,23 @@ took old new k samples r h e =
           ∙ ⊎_elim (λ s. ap (λ (x : Reader). came_from p x.happened) s) (λ o. ap (λ (x : Reader). came_from p x.happened) o.1 ∙ ap (λ (j : ℕ). came_from p (own_reader old j).happened) (sym o.0)) (numbered-cases old.dds.readers k reader r no_reader),
     )
 
-take_refused : (old : Part) (k : ℕ) (c : Call) (code : Code) (new : Dds) (r : ℕ) → HasNumber old.dds.readers r → Answers old c (Refused code) new → SameCame old.dds new r
-take_refused old k (Write v key value) code new r h a = same_came old.dds new r h a.1
-take_refused old k (Take v max masks) code.NoData new r h a = took old new v [] r h a.2
-take_refused old k (Take v max masks) code new r h a = same_came old.dds new r h a.1
+take_refused : (old : Part) (k : ℕ) (max : ℤ) (masks : Masks) (code : Code) (new : Dds) (r : ℕ) → HasNumber old.dds.readers r → Answers old (Take k max masks) (Refused code) new → SameCame old.dds new r
+take_refused old k max masks code.NoData new r h a = took old new k [] r h a.2
+take_refused old k max masks code new r h a = same_came old.dds new r h a.1
+
+done_or_not : (refusal : Option Code) (reply : Reply) (old new : Dds) (r : ℕ) → HasNumber old.readers r → IsDoneUnless refusal reply old old new → SameCame old new r
+done_or_not refusal Done old new r h a = same_came old new r h a.1
+done_or_not refusal (Refused code) old new r h a = same_came old new r h a.1
+done_or_not refusal (Samples samples) old new r h a = absurd a
+done_or_not refusal (Reported report) old new r h a = absurd a
 
 answers_came : (old : Part) (c : Call) (reply : Reply) (new : Dds) (r : ℕ) → HasNumber old.dds.readers r → Answers old c reply new → SameCame old.dds new r
-answers_came old (Write v key value) Done new r h a = same_came old.dds new r h a.1
+answers_came old (Register v key) reply new r h a = done_or_not (register_refusal old v) reply old.dds new r h a
+answers_came old (Write v key value) reply new r h a = done_or_not (write_refusal old v key value) reply old.dds new r h a
+answers_came old (Dispose v key) reply new r h a = done_or_not (dispose_refusal old v key) reply old.dds new r h a
+answers_came old (Unregister v key) reply new r h a = done_or_not (unregister_refusal old v key) reply old.dds new r h a
 answers_came old (Take v max masks) (Samples samples) new r h a = took old new v _ r h a.3
-answers_came old c (Refused code) new r h a = take_refused old 0 c code new r h a
-answers_came old (Write v key value) (Samples samples) new r h a = absurd a
-answers_came old (Write v key value) (Reported report) new r h a = absurd a
+answers_came old (Take v max masks) (Refused code) new r h a = take_refused old v max masks code new r h a
 answers_came old (Take v max masks) Done new r h a = absurd a
 answers_came old (Take v max masks) (Reported report) new r h a = absurd a
 
@@ -185,6 +193,14 @@ lane_call changes old w r c reply new l h =
     let came = answers_came old c reply new.dds r l.own h.answers in
     lane_as changes old new w r l (subst (λ (x : List (List WriterProxy)). HasNumber x r) (sym rows) l.rows) came.0 (ap (λ (x : List (List WriterProxy)). numbered x r []) rows)
     (came.1 (publication_from 1 (own_proxies old r) w))
+
+-- a tick
+lane_tick : (changes : List Change) (old : Part) (w : Endpoint) (r now : ℕ) (reply : Reply) (new : Part) → Lane changes old w r → TickStep old now reply new → Lane changes new w r
+lane_tick changes old w r now reply new l h =
+    let rows : new.rtps.readers ≡ old.rtps.readers = ap (λ (x : Rtps). x.readers) (TickStep-rtps old now reply new h) in
+    let same : new.dds.readers ≡ old.dds.readers = TickStep-readers old now reply new h in
+    lane_as changes old new w r l (subst (λ (x : List (List WriterProxy)). HasNumber x r) (sym rows) l.rows) (subst (λ (x : List Reader). HasNumber x r) (sym same) l.own) (ap (λ (x : List (List WriterProxy)). numbered x r []) rows)
+    (ap (λ (x : List Reader). came_from (publication_from 1 (own_proxies old r) w) (numbered x r no_reader).happened) same)
 
 -- more changes are written
 lane_longer : (changes later : List Change) (part : Part) (w : Endpoint) (r : ℕ) → Lane changes part w r → Lane (changes ++ later) part w r
@@ -228,6 +244,10 @@ step_in_order sent m (world.Call peer c) reply new w r (inl h) o =
     at_peer m peer h.after new w r h.changed (with_part-grows m peer h.after (CallStep-grows (part_at m peer) c reply h.after h.step)) (Step-policy w sent m (world.Call peer c) reply new (inl h))
     (λ k l. lane_call (writer_changes (writer_at m w)) (part_at m peer) w k c reply h.after l h.step) o
 step_in_order sent m (world.Call peer c) reply new w r (inr h) o = subst (λ (x : Machine). InOrder x w r) (sym h.1.1) o
+step_in_order sent m (world.Tick peer now) reply new w r (inl h) o =
+    at_peer m peer h.after new w r h.changed (with_part-grows m peer h.after (TickStep-grows (part_at m peer) now reply h.after h.step)) (Step-policy w sent m (world.Tick peer now) reply new (inl h))
+    (λ k l. lane_tick (writer_changes (writer_at m w)) (part_at m peer) w k now reply h.after l h.step) o
+step_in_order sent m (world.Tick peer now) reply new w r (inr h) o = subst (λ (x : Machine). InOrder x w r) (sym h.1.1) o
 step_in_order sent m (world.Deliver peer packet) reply new w r (inl h) o =
     at_peer m peer h.2.after new w r h.2.changed (with_part-grows m peer h.2.after (DeliveryStep-grows (grounds_of m peer) (part_at m peer) reply h.2.after h.2.step))
     (Step-policy w sent m (world.Deliver peer packet) reply new (inl h))

@@ -5,7 +5,7 @@ use Rattle.dds_base.specs.declared.qos.HistoryQos.{HistoryQos}
 use Rattle.dds_base.specs.declared.qos.HistoryQos.TheVariants.{KeepAll}
 use Rattle.dds_base.specs.Kept.{is_dropped, is_dropped_by}
 use Rattle.dds_model.specs.declared.call.Call.{Call}
-use Rattle.dds_model.specs.declared.call.Call.TheVariants.{Write, Take}
+use Rattle.dds_model.specs.declared.call.Call.TheVariants.{Register, Write, Dispose, Unregister, Take}
 use Rattle.dds_model.specs.declared.endpoint.Endpoint.{Endpoint}
 use Rattle.dds_model.specs.declared.event.WorldEvent.{WorldEvent}
 use Rattle.dds_model.specs.declared.event.WorldEvent.TheVariants as world
@@ -15,12 +15,12 @@ use Rattle.dds_model.specs.declared.reply.Reply.{Reply}
 use Rattle.dds_model.specs.declared.reply.Reply.TheVariants.{Done, Samples, Reported, Refused}
 use Rattle.dds_model.specs.Part.{Part, writer_changes, history_of}
 use Rattle.dds_model.specs.Moves.{GoesTo, match_of, position_of, AreMoves, DeliveryStep}
-use Rattle.dds_model.specs.Calls.{CallStep}
+use Rattle.dds_model.specs.Calls.{CallStep, TickStep}
 use Rattle.dds_model.specs.Machine.{Machine, part_at, writer_at, grounds_of, Step}
 use Rattle.dds_model.specs.World.{WorldState, machine_of, Sound}
 use Rattle.dds_model.specs.Runs.{Traffic, Run}
 use Rattle.dds_model.specs.Laws.{WorldRun, PassesNone, LosesNone}
-use Rattle.dds_model.proofs.Growth.{CallStep-grows, DeliveryStep-grows, with_part-grows}
+use Rattle.dds_model.proofs.Growth.{CallStep-grows, TickStep-grows, DeliveryStep-grows, with_part-grows}
 use Rattle.dds_model.proofs.Composed.{composes}
 
 abbrev traffic_of : WorldState → ℕ → Traffic
@@ -62,13 +62,24 @@ loses_call : (w : Endpoint) (old : Part) (call : Call) (reply : Reply) (new : Pa
 loses_call w old call Done new replies h rest = rest
 loses_call w old call (Samples samples) new replies h rest = rest
 loses_call w old call (Refused code) new replies h rest = rest
+loses_call w old (Register v k) (Reported report) new replies h rest = absurd h.answers
 loses_call w old (Write v k c) (Reported report) new replies h rest = absurd h.answers
+loses_call w old (Dispose v k) (Reported report) new replies h rest = absurd h.answers
+loses_call w old (Unregister v k) (Reported report) new replies h rest = absurd h.answers
 loses_call w old (Take r n k) (Reported report) new replies h rest = absurd h.answers
+
+loses_tick : (w : Endpoint) (old : Part) (now : ℕ) (reply : Reply) (new : Part) (replies : List Reply) → TickStep old now reply new → LosesNone w replies → LosesNone w (reply ∷ replies)
+loses_tick w old now Done new replies h rest = rest
+loses_tick w old now (Refused code) new replies h rest = rest
+loses_tick w old now (Samples samples) new replies h rest = absurd h
+loses_tick w old now (Reported report) new replies h rest = absurd h
 
 Step-loses : (w : Endpoint) (sent : ℕ) (m : Machine) (ev : WorldEvent) (reply : Reply) (new : Machine) (replies : List Reply) → (writer_at m w).policy ≡ KeepAll → Step sent m ev reply new → LosesNone w replies
     → LosesNone w (reply ∷ replies)
 Step-loses w sent m (world.Call peer call) reply new replies all (inl h) rest = loses_call w (part_at m peer) call reply h.after replies h.step rest
 Step-loses w sent m (world.Call peer call) reply new replies all (inr h) rest = subst (λ (r : Reply). LosesNone w (r ∷ replies)) (sym h.1.0) rest
+Step-loses w sent m (world.Tick peer now) reply new replies all (inl h) rest = loses_tick w (part_at m peer) now reply h.after replies h.step rest
+Step-loses w sent m (world.Tick peer now) reply new replies all (inr h) rest = subst (λ (r : Reply). LosesNone w (r ∷ replies)) (sym h.1.0) rest
 Step-loses w sent m (world.Deliver peer packet) reply new replies all (inl h) rest = loses_delivery m peer w (part_at m peer) reply h.2.after replies all h.2.step rest
 Step-loses w sent m (world.Deliver peer packet) reply new replies all (inr h) rest = subst (λ (r : Reply). LosesNone w (r ∷ replies)) (sym h.1.0) rest
 
@@ -76,6 +87,9 @@ pub Step-policy : (w : Endpoint) (sent : ℕ) (m : Machine) (ev : WorldEvent) (r
 Step-policy w sent m (world.Call peer call) reply new (inl h) =
     ap (λ (x : Machine). (writer_at x w).policy) h.changed ∙ ((with_part-grows m peer h.after (CallStep-grows (part_at m peer) call reply h.after h.step)).writers w).policy
 Step-policy w sent m (world.Call peer call) reply new (inr h) = ap (λ (x : Machine). (writer_at x w).policy) h.1.1
+Step-policy w sent m (world.Tick peer now) reply new (inl h) =
+    ap (λ (x : Machine). (writer_at x w).policy) h.changed ∙ ((with_part-grows m peer h.after (TickStep-grows (part_at m peer) now reply h.after h.step)).writers w).policy
+Step-policy w sent m (world.Tick peer now) reply new (inr h) = ap (λ (x : Machine). (writer_at x w).policy) h.1.1
 Step-policy w sent m (world.Deliver peer packet) reply new (inl h) =
     ap (λ (x : Machine). (writer_at x w).policy) h.2.changed
     ∙ ((with_part-grows m peer h.2.after (DeliveryStep-grows (grounds_of m peer) (part_at m peer) reply h.2.after h.2.step)).writers w).policy

@@ -1,13 +1,14 @@
 -- What a peer answers to a call, and what the call does: the first cause that holds refuses it, else it is done, unless
 -- a growth was refused.
 --
--- DDS 1.4, 2.2.2.4 (write), 2.2.2.5 (take), 2.2.1.1 (return codes).
-use Rattle.std.specs.Prelude.{◌≡◌, ◌≢◌, ℕ, zero, suc, ◌&&◌, ◌||◌, not, Bool, true, false, List, [], ◌∷◌, length, Option, Some, None, nat_le, nat_lt, if◌then◌else◌, ℤ, pos, negsuc}
+-- DDS 1.4, 2.2.2.4 (register_instance, write, dispose, unregister_instance), 2.2.2.5 (take), 2.2.1.1 (return codes).
+use Rattle.std.specs.Prelude.{◌≡◌, ◌≢◌, ℕ, zero, suc, ◌^◌, ◌&&◌, ◌||◌, not, Bool, true, false, List, [], ◌∷◌, length, Option, Some, None, nat_le, nat_lt, if◌then◌else◌, ℤ, pos, negsuc}
 use Rattle.dds_base.specs.declared.key.Key.{Key}
 use Rattle.dds_base.specs.declared.change.Change.{Change}
-use Rattle.dds_base.specs.declared.change.ChangeKind.TheVariants.{Write as WriteKind}
+use Rattle.dds_base.specs.declared.change.ChangeKind.{ChangeKind}
+use Rattle.dds_base.specs.declared.change.ChangeKind.TheVariants as kind
 use Rattle.dds_base.specs.declared.code.Code.{Code}
-use Rattle.dds_base.specs.declared.code.Code.TheVariants.{BadParameter, NoData}
+use Rattle.dds_base.specs.declared.code.Code.TheVariants.{BadParameter, PreconditionNotMet, NoData}
 use Rattle.dds_base.specs.declared.happening.Happening.{Happening}
 use Rattle.dds_base.specs.declared.happening.Happening.TheVariants.{Took}
 use Rattle.dds_base.specs.declared.happening.SamplePosition.{SamplePosition}
@@ -15,9 +16,9 @@ use Rattle.dds_base.specs.declared.mask.Masks.{Masks}
 use Rattle.dds_base.specs.Access.{picked_samples, no_filter, collection_of}
 use Rattle.dds_base.specs.Kept.{append_refusal}
 use Rattle.dds_base.specs.Refusal.{Refuses}
-use Rattle.dds_base.specs.Written.{Written, Changed}
+use Rattle.dds_base.specs.Written.{Written, Registered, Changed, is_key_registered}
 use Rattle.dds_model.specs.declared.call.Call.{Call}
-use Rattle.dds_model.specs.declared.call.Call.TheVariants.{Write, Take}
+use Rattle.dds_model.specs.declared.call.Call.TheVariants.{Register, Write, Dispose, Unregister, Take}
 use Rattle.dds_model.specs.declared.reply.Reply.{Reply}
 use Rattle.dds_model.specs.declared.reply.Reply.TheVariants.{Done, Samples, Refused}
 use Rattle.dds_model.specs.Numbered.{numbered, with_numbered}
@@ -27,15 +28,37 @@ use Rattle.dds_model.specs.Part.{Part, Rtps, Dds, Writer, no_writer, own_writer,
 abbrev pub has_number : {X : Type 0} → List X → ℕ → Bool
 has_number xs n = nat_lt 0 n && nat_le n (length xs)
 
--- the change that a write makes at the peer's moment
-abbrev pub written_change : Part → Key → List ℕ → Change
-written_change part key value = record { kind = WriteKind; key = key; value = value; source_timestamp = part.dds.moment }
+-- the change that a call makes at the peer's moment
+abbrev pub change_made : Part → ChangeKind → Key → List ℕ → Change
+change_made part kind key value = record { kind = kind; key = key; value = value; source_timestamp = part.dds.moment }
+
+-- what an unregister makes: with autodispose the instance is disposed too (2.2.3, WRITER_DATA_LIFECYCLE)
+abbrev pub unregister_kind : Writer → ChangeKind
+unregister_kind w = if w.autodispose then kind.DisposeUnregister else kind.Unregister
+
+-- why a change of the peer's writer is refused, as its history says
+abbrev pub change_refusal : Part → ℕ → Change → Option Code
+change_refusal part writer change = append_refusal (history_of (own_writer part writer)) change
+
+-- why a register is refused: no such writer
+abbrev pub register_refusal : Part → ℕ → Option Code
+register_refusal part writer = if not (has_number part.rtps.writers writer) then Some BadParameter else None
 
 -- why a write is refused: no such writer, a value above 1,024 octets, or as its history says
 abbrev pub write_refusal : Part → ℕ → Key → List ℕ → Option Code
 write_refusal part writer key value =
-    if not (has_number part.rtps.writers writer) || nat_lt 1024 (length value) then Some BadParameter
-    else append_refusal (history_of (own_writer part writer)) (written_change part key value)
+    if not (has_number part.rtps.writers writer) || nat_lt 1024 (length value) then Some BadParameter else change_refusal part writer (change_made part kind.Write key value)
+
+-- why a dispose is refused: no such writer, or as its history says
+abbrev pub dispose_refusal : Part → ℕ → Key → Option Code
+dispose_refusal part writer key = if not (has_number part.rtps.writers writer) then Some BadParameter else change_refusal part writer (change_made part kind.Dispose key [])
+
+-- why an unregister is refused: no such writer, the instance is not registered there, or as its history says
+abbrev pub unregister_refusal : Part → ℕ → Key → Option Code
+unregister_refusal part writer key =
+    if not (has_number part.rtps.writers writer) then Some BadParameter
+    else (if not (is_key_registered key (own_writer part writer).written) then Some PreconditionNotMet
+    else change_refusal part writer (change_made part (unregister_kind (own_writer part writer)) key []))
 
 -- -1, or a positive number
 abbrev pub is_max : ℤ → Bool
@@ -71,22 +94,38 @@ pub data Effect : Type 0 where
 
 -- a writer, after one more thing happened there
 abbrev pub with_written : Writer → Written → Writer
-with_written w entry = record { policy = w.policy; max_samples = w.max_samples; written = entry ∷ w.written; readers = w.readers }
+with_written w entry = record { policy = w.policy; max_samples = w.max_samples; autodispose = w.autodispose; written = entry ∷ w.written; readers = w.readers }
 
 abbrev pub effect : Rtps → Effect → Rtps
 effect old nothing = old
 effect old (writes writer entry) = record { writers = with_numbered old.writers writer (with_written (numbered old.writers writer no_writer) entry); readers = old.readers }
 
+-- what a call that is done enters at the peer's writer
+abbrev pub entered : Part → Call → Effect
+entered part (Register writer key) = writes writer (Registered key)
+entered part (Write writer key value) = writes writer (Changed (change_made part kind.Write key value))
+entered part (Dispose writer key) = writes writer (Changed (change_made part kind.Dispose key []))
+entered part (Unregister writer key) = writes writer (Changed (change_made part (unregister_kind (own_writer part writer)) key []))
+entered part (Take reader max masks) = nothing
+
 -- the effect of a call that is answered so
 abbrev pub effect_of : Part → Call → Reply → Effect
-effect_of part (Write writer key value) Done = writes writer (Changed (written_change part key value))
+effect_of part call Done = entered part call
 effect_of part call reply = nothing
+
+-- what was is now so, unless this refuses it, which changes nothing
+abbrev pub IsDoneUnless : {X : Type 0} → Option Code → Reply → X → X → X → Type 0
+IsDoneUnless refusal Done old done new = (refusal ≡ None) × (new ≡ done)
+IsDoneUnless refusal (Refused code) old done new = Refuses refusal code × (new ≡ old)
+IsDoneUnless refusal reply old done new = ⊥
 
 -- What a call answers, and what it does to what the peer's own calls see. A take that finds nothing happened too; one that
 -- finds no memory to look for samples did not.
 abbrev pub Answers : Part → Call → Reply → Dds → Type 0
-Answers old (Write writer key value) Done dds = (write_refusal old writer key value ≡ None) × (dds ≡ old.dds)
-Answers old (Write writer key value) (Refused code) dds = Refuses (write_refusal old writer key value) code × (dds ≡ old.dds)
+Answers old (Register writer key) reply dds = IsDoneUnless (register_refusal old writer) reply old.dds old.dds dds
+Answers old (Write writer key value) reply dds = IsDoneUnless (write_refusal old writer key value) reply old.dds old.dds dds
+Answers old (Dispose writer key) reply dds = IsDoneUnless (dispose_refusal old writer key) reply old.dds old.dds dds
+Answers old (Unregister writer key) reply dds = IsDoneUnless (unregister_refusal old writer key) reply old.dds old.dds dds
 Answers old (Take reader max masks) (Samples samples) dds =
     (access_refusal old reader max ≡ None) × (picked_at old reader max masks ≢ [])
     × (samples ≡ collection_of (own_reader old reader).qos (own_reader old reader).happened (picked_at old reader max masks))
@@ -94,9 +133,17 @@ Answers old (Take reader max masks) (Samples samples) dds =
 Answers old (Take reader max masks) (Refused NoData) dds =
     (access_refusal old reader max ≡ None) × (picked_at old reader max masks ≡ []) × (dds ≡ with_happening old reader (Took []))
 Answers old (Take reader max masks) (Refused code) dds = Refuses (access_refusal old reader max) code × (dds ≡ old.dds)
-Answers old call reply dds = ⊥
+Answers old (Take reader max masks) reply dds = ⊥
 
 -- one call at a peer
 pub record CallStep (old : Part) (call : Call) (reply : Reply) (new : Part) : Type 0 where
   pub answers : Answers old call reply new.dds
   pub rtps : new.rtps ≡ effect old.rtps (effect_of old call reply)
+
+-- why a moment is refused: it lies before the peer's, or is none, from 2^63 on
+abbrev pub tick_refusal : Part → ℕ → Option Code
+tick_refusal part now = if nat_lt now part.dds.moment || nat_le (2 ^ 63) now then Some BadParameter else None
+
+-- the time of a peer goes on to this moment
+abbrev pub TickStep : Part → ℕ → Reply → Part → Type 0
+TickStep old now reply new = IsDoneUnless (tick_refusal old now) reply old (record { rtps = old.rtps; dds = record { moment = now; readers = old.dds.readers } }) new

@@ -11,7 +11,7 @@ use Rattle.dds_model.specs.declared.reply.Reply.TheVariants.{Refused}
 use Rattle.dds_model.specs.Numbered.{numbered, with_numbered, HasNumber}
 use Rattle.dds_model.specs.Part.{Part, Writer, no_part, own_writer, own_proxies, place_of, writer_changes, history_of}
 use Rattle.dds_model.specs.Moves.{Grounds, DeliveryStep}
-use Rattle.dds_model.specs.Calls.{CallStep}
+use Rattle.dds_model.specs.Calls.{CallStep, TickStep}
 
 -- the peers' parts, which are numbered from 1
 pub record Machine : Type 0 where
@@ -51,6 +51,8 @@ IsRefused old reply new = (reply ≡ Refused BadParameter) × (new ≡ old)
 abbrev pub Step : ℕ → Machine → WorldEvent → Reply → Machine → Type 0
 Step sent old (event.Call peer call) reply new =
     AtPeer old peer (λ after. CallStep (part_at old peer) call reply after) new ⊎ ((HasNumber old.parts peer → ⊥) × IsRefused old reply new)
+Step sent old (event.Tick peer now) reply new =
+    AtPeer old peer (λ after. TickStep (part_at old peer) now reply after) new ⊎ ((HasNumber old.parts peer → ⊥) × IsRefused old reply new)
 Step sent old (event.Deliver peer packet) reply new =
     ((1 ≤ packet) × (packet ≤ sent) × AtPeer old peer (λ after. DeliveryStep (grounds_of old peer) (part_at old peer) reply after) new)
     ⊎ (((packet ≡ 0) ⊎ (sent < packet) ⊎ (HasNumber old.parts peer → ⊥)) × IsRefused old reply new)

@@ -101,6 +101,7 @@ pub record Acknowledges (grounds : Grounds) (old : Part) (writer : ℕ) (reader 
   pub after : new ≡ at_writer old writer (record {
     policy = (own_writer old writer).policy;
     max_samples = (own_writer old writer).max_samples;
+    autodispose = (own_writer old writer).autodispose;
     written = (own_writer old writer).written;
     readers = with_acknowledged (own_writer old writer).readers reader to;
   })

@@ -28,10 +28,12 @@ pub record WriterProxy : Type 0 where
   pub writer : Endpoint
   pub place : ℕ
 
--- a writer: its policy and limit, what happened there, the newest first, and its matched reliable readers
+-- a writer: its policy and limit, whether an unregister disposes too, what happened there, the newest first, and its
+-- matched reliable readers
 pub record Writer : Type 0 where
   pub policy : HistoryQos
   pub max_samples : Option ℕ
+  pub autodispose : Bool
   pub written : List Written
   pub readers : List ReaderProxy
 
@@ -55,7 +57,7 @@ pub record Part : Type 0 where
   pub dds : Dds
 
 abbrev pub no_writer : Writer
-no_writer = record { policy = KeepAll; max_samples = None; written = []; readers = [] }
+no_writer = record { policy = KeepAll; max_samples = None; autodispose = false; written = []; readers = [] }
 
 abbrev pub no_reader : Reader
 no_reader = record { qos = record { ownership = Shared; history = KeepAll; max_samples = None; max_instances = None; writers = [] }; happened = [] }

@@ -12,7 +12,7 @@ use Rattle.dds_model.specs.declared.reply.Reply.TheVariants.{Reported}
 use Rattle.dds_model.specs.declared.reply.Report.{Report}
 use Rattle.dds_model.specs.Part.{Part, no_part, own_writer, own_proxies, acknowledged_of, place_of, writer_changes, history_of}
 use Rattle.dds_model.specs.Moves.{Grounds, AreMoves}
-use Rattle.dds_model.specs.Calls.{CallStep}
+use Rattle.dds_model.specs.Calls.{CallStep, TickStep}
 use Rattle.dds_model.specs.Claims.{Claim, ChangeIs, MayPass, PlaceReached, Claims, Claimed}
 
 -- a packet that was delivered, and what it did
@@ -50,6 +50,7 @@ IsTrueAt peer part (PlaceReached writer reader base) = (reader.peer ≡ peer) ×
 -- an event of a peer: a delivery rests on the claims of this and of earlier packets
 abbrev pub EventStep : Config → Peer → Event → Reply → Peer → Type 0
 EventStep config old (event.Call call) reply new = CallStep old.part call reply new.part × (new.delivered ≡ old.delivered)
+EventStep config old (event.Tick now) reply new = TickStep old.part now reply new.part × (new.delivered ≡ old.delivered)
 EventStep config old (event.Deliver packet) (Reported report) new =
     AreMoves (claimed config (packet ∷ packets_of old.delivered) old.number) old.part report.moves new.part × (new.delivered ≡ record { packet = packet; report = report } ∷ old.delivered)
 EventStep config old (event.Deliver packet) reply new = ⊥

@@ -3,15 +3,14 @@ use Rattle.std.specs.Prelude.{◌≡◌, ◌≢◌, ◌⊎◌, ℕ, ◌+◌, ◌
 use Rattle.std.specs.List.{list_any}
 use Rattle.dds_base.specs.declared.change.Change.{Change}
 use Rattle.dds_base.specs.declared.config.Config.{Config}
-use Rattle.dds_model.specs.declared.call.Call.TheVariants.{Write}
+use Rattle.dds_base.specs.Written.{Changed}
 use Rattle.dds_model.specs.declared.endpoint.Endpoint.{Endpoint}
 use Rattle.dds_model.specs.declared.event.WorldEvent.{WorldEvent}
 use Rattle.dds_model.specs.declared.event.WorldEvent.TheVariants as world
 use Rattle.dds_model.specs.declared.event.Packet.{Packet}
 use Rattle.dds_model.specs.declared.reply.Reply.{Reply}
-use Rattle.dds_model.specs.declared.reply.Reply.TheVariants.{Done}
 use Rattle.dds_model.specs.Part.{ReaderProxy, acknowledged_of, writer_changes}
-use Rattle.dds_model.specs.Calls.{written_change}
+use Rattle.dds_model.specs.Calls.{Effect, writes, effect_of}
 use Rattle.dds_model.specs.Claims.{ChangeIs, Claims}
 use Rattle.dds_model.specs.Machine.{Machine, part_at, writer_at, Step}
 use Rattle.dds_model.specs.Progress.{Progresses}
@@ -42,12 +41,17 @@ pub record SendsMore (old new : Traffic) : Type 0 where
   pub sent : new.sent ≡ old.sent ++ packets
   pub unsent : old.unsent ≤ new.unsent
 
--- What is sent at an event: an accepted change is announced; another call, or a refused one, sends nothing.
-abbrev pub Sends : Config → Traffic → Machine → WorldEvent → Reply → Traffic → Type 0
-Sends config old m (world.Call peer (Write writer key value)) Done new =
+-- what a call with this effect sends: a change is announced, with the next number; else nothing is sent
+abbrev pub SendsOf : Config → Traffic → Machine → ℕ → Effect → Traffic → Type 0
+SendsOf config old m peer (writes writer (Changed change)) new =
     Announced config old (record { peer = peer; number = writer }) (writer_at m (record { peer = peer; number = writer })).readers
-    (length (writer_changes (writer_at m (record { peer = peer; number = writer }))) + 1) (written_change (part_at m peer) key value) new
-Sends config old m (world.Call peer call) reply new = new ≡ old
+    (length (writer_changes (writer_at m (record { peer = peer; number = writer }))) + 1) change new
+SendsOf config old m peer other new = new ≡ old
+
+-- What is sent at an event: an accepted change is announced; another call, a refused one, and a tick send nothing.
+abbrev pub Sends : Config → Traffic → Machine → WorldEvent → Reply → Traffic → Type 0
+Sends config old m (world.Call peer call) reply new = SendsOf config old m peer (effect_of (part_at m peer) call reply) new
+Sends config old m (world.Tick peer now) reply new = new ≡ old
 Sends config old m (world.Deliver peer packet) reply new = SendsMore old new
 
 -- Replies to a list of events, one step after another, with the packets before and after.

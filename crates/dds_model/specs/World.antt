@@ -49,6 +49,7 @@ pub record IsRefusedIn (old : WorldState) (reply : Reply) (new : WorldState) : T
 -- one event of the network
 abbrev pub WorldStep : Config → WorldState → WorldEvent → Reply → WorldState → Type 0
 WorldStep config old (world.Call peer call) reply new = PeerSteps config old peer (event.Call call) reply new ⊎ ((HasNumber old.peers peer → ⊥) × IsRefusedIn old reply new)
+WorldStep config old (world.Tick peer now) reply new = PeerSteps config old peer (event.Tick now) reply new ⊎ ((HasNumber old.peers peer → ⊥) × IsRefusedIn old reply new)
 WorldStep config old (world.Deliver peer number) reply new =
     ((packet : Packet) × (1 ≤ number) × (slice_get old.sent (number - 1) ≡ Some packet) × PeerSteps config old peer (event.Deliver packet.bytes) reply new)
     ⊎ (((number ≡ 0) ⊎ (length old.sent < number) ⊎ (HasNumber old.peers peer → ⊥)) × IsRefusedIn old reply new)

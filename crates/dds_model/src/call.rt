@@ -5,8 +5,15 @@ use dds_base::{Key, Masks, Octets};
 /// A call at a peer. Writers and readers are named by their numbers there, which count from 1.
 #[derive(Debug, Drop)]
 pub enum Call {
-    /// Writes a value of an instance (DDS 1.4, 2.2.2.4, write).
+    /// Registers an instance, of which no other peer learns (DDS 1.4, 2.2.2.4, register_instance).
+    Register { writer: u8, key: Key },
+    /// Writes a value of an instance, and registers it (DDS 1.4, 2.2.2.4, write).
     Write { writer: u8, key: Key, value: Octets },
+    /// Disposes an instance, and registers it (DDS 1.4, 2.2.2.4, dispose).
+    Dispose { writer: u8, key: Key },
+    /// Ends the registration of an instance (DDS 1.4, 2.2.2.4, unregister_instance), and disposes it too where the
+    /// writer does so by itself (2.2.3, WRITER_DATA_LIFECYCLE).
+    Unregister { writer: u8, key: Key },
     /// Takes samples that meet the masks, `max` at most, -1 for all of them (DDS 1.4, 2.2.2.5, take).
     Take { reader: u8, max: i32, masks: Masks },
 }

@@ -2,7 +2,7 @@
 
 use crate::call::Call;
 use crate::reply::Reply;
-use dds_base::{Octets, Sequence};
+use dds_base::{Moment, Octets, Sequence};
 
 /// The bytes of a packet, and the number of the peer that it goes to.
 #[derive(Debug, Drop)]
@@ -15,6 +15,8 @@ pub struct Packet {
 #[derive(Debug, Drop)]
 pub enum Event {
     Call(Call),
+    /// The time goes on to this moment.
+    Tick(Moment),
     /// The bytes of a packet come.
     Deliver(Octets),
 }
@@ -31,6 +33,8 @@ pub struct Output {
 #[derive(Debug, Drop)]
 pub enum WorldEvent {
     Call { peer: u8, call: Call },
+    /// The time of a peer goes on to this moment.
+    Tick { peer: u8, now: Moment },
     /// The packet of this number, counted from 1 among all that were ever sent, comes at a peer.
     Deliver { peer: u8, packet: u64 },
 }
