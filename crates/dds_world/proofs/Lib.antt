@@ -1,4 +1,5 @@
 pub mod Names
+pub mod Registrations
 pub mod Ends
 pub mod Opened
 pub mod Announced

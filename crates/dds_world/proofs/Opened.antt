@@ -17,6 +17,8 @@ use Rattle.dds_model.specs.declared.event.Packet.{Packet}
 use Rattle.dds_model.specs.Peer.{Peer}
 use Rattle.dds_model.specs.World.{WorldState, machine_of, Sound}
 use Rattle.dds_model.proofs.Opened.{opens_sound}
+use Rattle.dds_base.specs.declared.key.Key.{Key}
+use Rattle.dds_world.specs.Registered.{is_among}
 use Rattle.dds_world.specs.Thin.{IsThinPair, HasEnds, thin_qos}
 use Rattle.dds_world.specs.Begun.{HasWrittenNothing, HasReadNothing}
 use Rattle.dds_world.specs.WorldStanding.{WorldKept, StandsFor, world_of}
@@ -47,17 +49,17 @@ qos_of_writer topic first second writer one none same =
     ap (λ (ws : List WriterConfig). writer_qos_in topic first first.writers ++ (writer_qos_in topic second ws ++ [])) none
     ∙ (ap (λ (ws : List WriterConfig). writer_qos_in topic first ws ++ []) one ∙ ap (λ (b : Bool). cond b (writer_is first writer ∷ []) [] ++ []) (eq-eqb writer.topic topic same))
 
-writer_made : (p q : HistoryQos) (m n : Option ℕ) (a b : List ReaderProxy) → p ≡ q → m ≡ n → a ≡ b
-    → ◌≡◌ {A = Writer} (record { policy = p; max_samples = m; written = []; readers = a }) (record { policy = q; max_samples = n; written = []; readers = b })
-writer_made p q m n a b e f g = cc
+writer_made : (p q : HistoryQos) (m n : Option ℕ) (autodispose : Bool) (a b : List ReaderProxy) → p ≡ q → m ≡ n → a ≡ b
+    → ◌≡◌ {A = Writer} (record { policy = p; max_samples = m; autodispose = autodispose; written = []; readers = a }) (record { policy = q; max_samples = n; autodispose = autodispose; written = []; readers = b })
+writer_made p q m n autodispose a b e f g = cc
 
 -- the first peer's part
-pub first_part : (config : Config) (first second : PeerConfig) (writer : WriterConfig) (reader : ReaderConfig) → IsThinPair config first second writer reader → opening_part (first ∷ second ∷ []) first ≡ writing_part []
+pub first_part : (config : Config) (first second : PeerConfig) (writer : WriterConfig) (reader : ReaderConfig) → IsThinPair config first second writer reader → opening_part (first ∷ second ∷ []) first ≡ writing_part writer.autodispose 0 []
 first_part config first second writer reader t =
     let peers : List PeerConfig = first ∷ second ∷ [] in
     let part : List Writer → List (List WriterProxy) → List Reader → Part = λ ws rs ds. record { rtps = record { writers = ws; readers = rs }; dds = record { moment = 0; readers = ds } } in
-    let own : opening_writer peers writer ≡ thin_writer [] =
-    writer_made writer.history _ (limit_of writer.max_samples) _ (matched_readers writer.topic 1 peers) _ t.writer_is.history (ap limit_of t.writer_is.max_samples)
+    let own : opening_writer peers writer ≡ thin_writer writer.autodispose [] =
+    writer_made writer.history _ (limit_of writer.max_samples) _ writer.autodispose (matched_readers writer.topic 1 peers) _ t.writer_is.history (ap limit_of t.writer_is.max_samples)
     (rows_of writer.topic first second reader t.pair.no_readers t.pair.readers t.topic) in
     ap (λ (ws : List WriterConfig). part (map (opening_writer peers) ws) (map (λ (r : ReaderConfig). matched_writers r.topic 1 peers) first.readers) (map (λ (r : ReaderConfig). record { qos = reader_qos peers r; happened = [] }) first.readers)) t.pair.writers
     ∙ (ap (λ (rs : List ReaderConfig). part (opening_writer peers writer ∷ []) (map (λ (r : ReaderConfig). matched_writers r.topic 1 peers) rs) (map (λ (r : ReaderConfig). record { qos = reader_qos peers r; happened = [] }) rs)) t.pair.no_readers
@@ -65,7 +67,7 @@ first_part config first second writer reader t =
 
 -- the second peer's part
 pub second_part : (config : Config) (first second : PeerConfig) (writer : WriterConfig) (reader : ReaderConfig) → IsThinPair config first second writer reader
-    → opening_part (first ∷ second ∷ []) second ≡ reading_part (reader_qos (first ∷ second ∷ []) reader) 1 []
+    → opening_part (first ∷ second ∷ []) second ≡ reading_part (reader_qos (first ∷ second ∷ []) reader) 0 1 []
 second_part config first second writer reader t =
     let peers : List PeerConfig = first ∷ second ∷ [] in
     let part : List Writer → List (List WriterProxy) → List Reader → Part = λ ws rs ds. record { rtps = record { writers = ws; readers = rs }; dds = record { moment = 0; readers = ds } } in
@@ -79,12 +81,15 @@ qos_made config first second writer reader t =
     ap (λ (ws : List MatchedWriter). made (limit_of reader.max_samples) (limit_of reader.max_instances) ws) (qos_of_writer reader.topic first second writer t.pair.writers t.pair.no_writers (sym t.topic))
     ∙ (ap (λ (z : ℤ). made (limit_of z) (limit_of reader.max_instances) (writer_is first writer ∷ [])) t.reader_is.max_samples ∙ ap (λ (z : ℤ). made None (limit_of z) (writer_is first writer ∷ [])) t.reader_is.max_instances)
 
-reading_as : (p q : ReaderQos) (m n : ℕ) → p ≡ q → m ≡ n → reading_part p m [] ≡ reading_part q n []
-reading_as p q m n e f = ap (λ (x : ReaderQos). reading_part x m []) e ∙ ap (λ (k : ℕ). reading_part q k []) f
+reading_as : (p q : ReaderQos) (j k m n : ℕ) → p ≡ q → j ≡ k → m ≡ n → reading_part p j m [] ≡ reading_part q k n []
+reading_as p q j k m n e f g = cc
+
+writing_as : (a b : Bool) (m n : ℕ) → a ≡ b → m ≡ n → writing_part a m [] ≡ writing_part b n []
+writing_as a b m n e f = cc
 
 -- a network in which nothing has happened stands for the opening
 pub opened : (config : Config) (kept : WorldKept) (first_prefix second_prefix : GuidPrefix) (writer : WriterConfig) (reader : ReaderConfig) → HasEnds config first_prefix second_prefix writer reader
-    → HasWrittenNothing kept.writing first_prefix writer.entity second_prefix → HasReadNothing kept.reading second_prefix reader.entity first_prefix writer.entity (thin_qos first_prefix writer reader) → kept.sent ≡ []
+    → HasWrittenNothing kept.writing first_prefix writer.entity writer.autodispose second_prefix → HasReadNothing kept.reading second_prefix reader.entity first_prefix writer.entity (thin_qos first_prefix writer reader) → kept.sent ≡ []
     → StandsFor kept config (opening config)
 opened config kept first_prefix second_prefix writer reader e w r none =
     let peers : List PeerConfig = e.first ∷ e.second ∷ [] in
@@ -107,7 +112,9 @@ opened config kept first_prefix second_prefix writer reader e w r none =
         to = e.second_is ∙ sym w.to_is;
         number = refl;
         written = [];
-        part = first_part config e.first e.second writer reader e.thin;
+        part = first_part config e.first e.second writer reader e.thin ∙ writing_as writer.autodispose kept.writing.autodispose 0 kept.writing.moment (sym w.autodispose_is) (sym w.moment_is);
+        early = let moment = w.moment_is in omega (arith, moment);
+        registered = λ k. ap (λ (keys : List Key). is_among keys k) w.none_registered;
         history = w.history;
       };
       reading = record {
@@ -122,7 +129,7 @@ opened config kept first_prefix second_prefix writer reader e w r none =
         writer_entity = sym r.writer_entity_is;
         number = refl;
         happened = [];
-        part = second_part config e.first e.second writer reader e.thin ∙ reading_as (reader_qos peers reader) (qos_of kept.reading.cache) 1 kept.reading.place (sym qos) (sym r.place_is);
+        part = second_part config e.first e.second writer reader e.thin ∙ reading_as (reader_qos peers reader) (qos_of kept.reading.cache) 0 kept.reading.moment 1 kept.reading.place (sym qos) (sym r.moment_is) (sym r.place_is);
         arrivals_are = r.arrivals_are;
         no_samples_limit = ap (λ (q : ReaderQos). q.max_samples) r.qos_is;
         no_instances_limit = ap (λ (q : ReaderQos). q.max_instances) r.qos_is;

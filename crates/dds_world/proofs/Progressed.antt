@@ -74,19 +74,20 @@ is_next kept config peer s at body number change says here =
     }
 
 -- where nothing is left of the numbers of arrivals there is no room
-no_room : (q : ReaderQos) (h : List Happening) (place : ℕ) (change : Change) → 2 ^ 31 - 2 ≤ arrivals h → has_room q h (arrival_of place change) ≡ false
-no_room q h place change many =
+no_room : (q : ReaderQos) (h : List Happening) (moment place : ℕ) (change : Change) → 2 ^ 31 - 2 ≤ arrivals h → has_room q h (arrival_of moment place change) ≡ false
+no_room q h moment place change many =
+    let e : Happening = arrival_of moment place change in
     let full : nat_lt (arrivals h + 1) (2 ^ 31 - 1) ≡ false = grind (arith, nat_tests) in
-    ap (λ (b : Bool). b && (not (is_accepted q h (arrival_of place change)) || (is_within q.max_samples (present_writes q (arrival_of place change ∷ h)) && is_within q.max_instances (length (known_instances q (arrival_of place change ∷ h)))))) full
+    ap (λ (b : Bool). b && (not (is_accepted q h e) || (is_within q.max_samples (present_writes q (e ∷ h)) && is_within q.max_instances (length (known_instances q (e ∷ h)))))) full
 
 -- how a report goes over the change
 pub moves_over : (kept : ReadingKept) (config : Config) (peer : Peer) (s : ReadingStandsFor kept config peer) (change : Change) (report : Report) → kept.place ≤ 2 ^ 62 → Advances kept report
-    → MovesOver (reading_part (qos_of kept.cache) kept.place s.happened) (record { peer = 1; number = 1 }) 1 kept.place change (Reported report)
+    → MovesOver (reading_part (qos_of kept.cache) kept.moment kept.place s.happened) (record { peer = 1; number = 1 }) 1 kept.place change (Reported report)
 moves_over kept config peer s change report small advances =
     ⊎_elim
     (λ moves. inl (subst (λ (ms : List Move). GoesOver (record { peer = 1; number = 1 }) 1 kept.place ms) (sym moves) (inl (refl, refl, omega arith))))
     (λ o. ⊎_elim (λ refused. inr (inl refused))
-    (λ p. ⊎_elim (λ many. inr (inr (no_room (qos_of kept.cache) s.happened kept.place change (let a = s.arrivals_are in omega (arith, a, many))))) (λ last. absurd (omega (arith, last, small))) p) o)
+    (λ p. ⊎_elim (λ many. inr (inr (no_room (qos_of kept.cache) s.happened kept.moment kept.place change (let a = s.arrivals_are in omega (arith, a, many))))) (λ last. absurd (omega (arith, last, small))) p) o)
     advances
 
 -- the row of the one reader
@@ -94,14 +95,14 @@ row_at : (b : Bool) (w : Endpoint) (n place : ℕ) → same_endpoint (record { p
 row_at true w n place e h low = (same_is (record { peer = 1; number = 1 }) w e, h)
 row_at false w n place e h low = absurd (omega (arith, h, low))
 
-row_is : (q : ReaderQos) (place : ℕ) (h : List Happening) (k : ℕ) (w : Endpoint) (n : ℕ) → n ≡ place_of (own_proxies (reading_part q place h) k) w → 1 ≤ n → (k ≡ 1) × (record { peer = 1; number = 1 } ≡ w) × (n ≡ place)
-row_is q place h zero w n e low = absurd (omega (arith, e, low))
-row_is q place h (suc zero) w n e low = let r = row_at (same_endpoint (record { peer = 1; number = 1 }) w) w n place refl e low in (refl, r.0, r.1)
-row_is q place h (suc (suc k)) w n e low = absurd (omega (arith, e, low))
+row_is : (q : ReaderQos) (moment place : ℕ) (h : List Happening) (k : ℕ) (w : Endpoint) (n : ℕ) → n ≡ place_of (own_proxies (reading_part q moment place h) k) w → 1 ≤ n → (k ≡ 1) × (record { peer = 1; number = 1 } ≡ w) × (n ≡ place)
+row_is q moment place h zero w n e low = absurd (omega (arith, e, low))
+row_is q moment place h (suc zero) w n e low = let r = row_at (same_endpoint (record { peer = 1; number = 1 }) w) w n place refl e low in (refl, r.0, r.1)
+row_is q moment place h (suc (suc k)) w n e low = absurd (omega (arith, e, low))
 
-no_row : (written : List Written) (k : ℕ) (w : Endpoint) (n : ℕ) → n ≡ place_of (own_proxies (writing_part written) k) w → 1 ≤ n → ⊥
-no_row written zero w n e low = omega (arith, e, low)
-no_row written (suc k) w n e low = omega (arith, e, low)
+no_row : (autodispose : Bool) (moment : ℕ) (written : List Written) (k : ℕ) (w : Endpoint) (n : ℕ) → n ≡ place_of (own_proxies (writing_part autodispose moment written) k) w → 1 ≤ n → ⊥
+no_row autodispose moment written zero w n e low = omega (arith, e, low)
+no_row autodispose moment written (suc k) w n e low = omega (arith, e, low)
 
 -- a change is claimed by a DATA
 data_of_claim : (config : Config) (at : Receiver) (sub : Submessage) (w r : Endpoint) (n : ℕ) (change : Change) → Says config at sub (ChangeIs w r n change) → (body : DataBody) × (sub ≡ Data body) × Says config at (Data body) (ChangeIs w r n change)
@@ -124,7 +125,7 @@ reply_moves kept config peer s bytes n change (Reported report) c here small adv
     let stands : StandsIn (receiver_of c.message.prefix) c.message.submessages c.at (Data d.0) = subst (λ (x : Submessage). StandsIn (receiver_of c.message.prefix) c.message.submessages c.at x) d.1 c.stands in
     let a : Advances kept report = advances c.message c.offset c.at d.0 c.is_read stands next in
     subst (λ (p : Part). MovesOver p (record { peer = 1; number = 1 }) 1 n change (Reported report)) (sym s.part)
-    (subst (λ (k : ℕ). MovesOver (reading_part (qos_of kept.cache) kept.place s.happened) (record { peer = 1; number = 1 }) 1 k change (Reported report)) (sym here)
+    (subst (λ (k : ℕ). MovesOver (reading_part (qos_of kept.cache) kept.moment kept.place s.happened) (record { peer = 1; number = 1 }) 1 k change (Reported report)) (sym here)
     (moves_over kept config peer s change report (omega (arith, here, small)) a))
 reply_moves kept config peer s bytes n change Done c here small advances = absurd advances
 reply_moves kept config peer s bytes n change (Samples samples) c here small advances = absurd advances
@@ -137,7 +138,7 @@ pub second_moves : (kept : WorldKept) (config : Config) (m : Machine) (s : Stand
 second_moves kept config m s bytes w r n change reply advances c two low small at =
     let at_part : n ≡ place_of (own_proxies s.second.part r.number) w =
     at ∙ (ap (λ (x : Machine). place_at x r w) s.machine ∙ ap (λ (i : ℕ). place_of (own_proxies (part_at (machine_of (world_of s.first s.second kept.sent)) i) r.number) w) two) in
-    let row = row_is (qos_of kept.reading.cache) kept.reading.place s.reading.happened r.number w n (at_part ∙ ap (λ (p : Part). place_of (own_proxies p r.number) w) s.reading.part) low in
+    let row = row_is (qos_of kept.reading.cache) kept.reading.moment kept.reading.place s.reading.happened r.number w n (at_part ∙ ap (λ (p : Part). place_of (own_proxies p r.number) w) s.reading.part) low in
     let reader : record { peer = 2; number = 1 } ≡ r = sym (endpoint_is r 2 1 two row.0) in
     let claim : Claims config bytes (ChangeIs (record { peer = 1; number = 1 }) (record { peer = 2; number = 1 }) n change) =
     subst (λ (e : Endpoint). Claims config bytes (ChangeIs e (record { peer = 2; number = 1 }) n change)) (sym row.1) (subst (λ (e : Endpoint). Claims config bytes (ChangeIs w e n change)) (sym reader) c) in
@@ -149,7 +150,7 @@ pub first_never : (kept : WorldKept) (config : Config) (m : Machine) (s : Stands
 first_never kept config m s w r n one low at =
     let at_part : n ≡ place_of (own_proxies s.first.part r.number) w =
     at ∙ (ap (λ (x : Machine). place_at x r w) s.machine ∙ ap (λ (i : ℕ). place_of (own_proxies (part_at (machine_of (world_of s.first s.second kept.sent)) i) r.number) w) one) in
-    no_row s.writing.written r.number w n (at_part ∙ ap (λ (p : Part). place_of (own_proxies p r.number) w) s.writing.part) low
+    no_row kept.writing.autodispose kept.writing.moment s.writing.written r.number w n (at_part ∙ ap (λ (p : Part). place_of (own_proxies p r.number) w) s.writing.part) low
 
 no_part_row : (k : ℕ) (w : Endpoint) (n : ℕ) → n ≡ place_of (own_proxies no_part k) w → 1 ≤ n → ⊥
 no_part_row zero w n e low = omega (arith, e, low)

@@ -89,31 +89,32 @@ goes kept new config m s first second ev reply writing reading step =
     let r : Step (length old.sent) (machine_of old) ev reply (machine_of next) × Sound config next = composes config old next ev reply s.sound step in
     (machine_of next, subst (λ (x : Machine). Step (length kept.sent) x ev reply (machine_of next)) (sym s.machine) r.0, record { first = first; second = second; writing = writing; reading = reading; sound = r.1; machine = refl })
 
-pub first_calls : (kept : WorldKept) (writing : WritingKept) (call : Call) (output : Output) (sent : List Packet) (unsent : ℕ) → WritingSteps kept.writing (event.Call call) output writing → Posts kept.sent output.packets sent
-    → Steps kept (world.Call 1 call) output.reply (FirstAfter kept writing sent unsent)
-first_calls kept writing call output sent unsent steps posts config m s =
+-- how an event of a peer of this number is one of the network
+abbrev pub IsEventOf : List Packet → Event → ℕ → WorldEvent → Type 0
+IsEventOf sent ev peer whole = (config : Config) (old new : WorldState) (reply : Reply) → old.sent ≡ sent → PeerSteps config old peer ev reply new → WorldStep config old whole reply new
+
+pub calls_at : (sent : List Packet) (peer : ℕ) (call : Call) → IsEventOf sent (event.Call call) peer (world.Call peer call)
+calls_at sent peer call config old new reply same step = inl step
+
+pub ticks_at : (sent : List Packet) (peer now : ℕ) → IsEventOf sent (event.Tick now) peer (world.Tick peer now)
+ticks_at sent peer now config old new reply same step = inl step
+
+pub delivers_at : (sent : List Packet) (peer number : ℕ) (packet : Packet) → 1 ≤ number → slice_get sent (number - 1) ≡ Some packet → IsEventOf sent (event.Deliver packet.bytes) peer (world.Deliver peer number)
+delivers_at sent peer number packet low found config old new reply same step = inl (packet, low, subst (λ (ps : List Packet). slice_get ps (number - 1) ≡ Some packet) (sym same) found, step)
+
+first_acts : (kept : WorldKept) (writing : WritingKept) (ev : Event) (whole : WorldEvent) (output : Output) (sent : List Packet) (unsent : ℕ) → IsEventOf kept.sent ev 1 whole → WritingSteps kept.writing ev output writing → Posts kept.sent output.packets sent
+    → Steps kept whole output.reply (FirstAfter kept writing sent unsent)
+first_acts kept writing ev whole output sent unsent into steps posts config m s =
     let r = steps config s.first s.writing in
-    goes kept (FirstAfter kept writing sent unsent) config m s r.0 s.second (world.Call 1 call) output.reply r.2 s.reading (inl (first_steps config s.first s.second r.0 kept.sent (event.Call call) output sent posts r.1))
+    goes kept (FirstAfter kept writing sent unsent) config m s r.0 s.second whole output.reply r.2 s.reading
+    (into config (world_of s.first s.second kept.sent) (world_of r.0 s.second sent) output.reply refl (first_steps config s.first s.second r.0 kept.sent ev output sent posts r.1))
 
-pub second_calls : (kept : WorldKept) (reading : ReadingKept) (call : Call) (output : Output) (sent : List Packet) (unsent : ℕ) → ReadingSteps kept.reading (event.Call call) output reading → Posts kept.sent output.packets sent
-    → Steps kept (world.Call 2 call) output.reply (SecondAfter kept reading sent unsent)
-second_calls kept reading call output sent unsent steps posts config m s =
+second_acts : (kept : WorldKept) (reading : ReadingKept) (ev : Event) (whole : WorldEvent) (output : Output) (sent : List Packet) (unsent : ℕ) → IsEventOf kept.sent ev 2 whole → ReadingSteps kept.reading ev output reading → Posts kept.sent output.packets sent
+    → Steps kept whole output.reply (SecondAfter kept reading sent unsent)
+second_acts kept reading ev whole output sent unsent into steps posts config m s =
     let r = steps config s.second s.reading in
-    goes kept (SecondAfter kept reading sent unsent) config m s s.first r.0 (world.Call 2 call) output.reply s.writing r.2 (inl (second_steps config s.first s.second r.0 kept.sent (event.Call call) output sent posts r.1))
-
-pub first_delivers : (kept : WorldKept) (writing : WritingKept) (number : ℕ) (packet : Packet) (output : Output) (sent : List Packet) (unsent : ℕ) → 1 ≤ number → slice_get kept.sent (number - 1) ≡ Some packet
-    → WritingSteps kept.writing (event.Deliver packet.bytes) output writing → Posts kept.sent output.packets sent → Steps kept (world.Deliver 1 number) output.reply (FirstAfter kept writing sent unsent)
-first_delivers kept writing number packet output sent unsent low found steps posts config m s =
-    let r = steps config s.first s.writing in
-    goes kept (FirstAfter kept writing sent unsent) config m s r.0 s.second (world.Deliver 1 number) output.reply r.2 s.reading
-    (inl (packet, low, found, first_steps config s.first s.second r.0 kept.sent (event.Deliver packet.bytes) output sent posts r.1))
-
-pub second_delivers : (kept : WorldKept) (reading : ReadingKept) (number : ℕ) (packet : Packet) (output : Output) (sent : List Packet) (unsent : ℕ) → 1 ≤ number → slice_get kept.sent (number - 1) ≡ Some packet
-    → ReadingSteps kept.reading (event.Deliver packet.bytes) output reading → Posts kept.sent output.packets sent → Steps kept (world.Deliver 2 number) output.reply (SecondAfter kept reading sent unsent)
-second_delivers kept reading number packet output sent unsent low found steps posts config m s =
-    let r = steps config s.second s.reading in
-    goes kept (SecondAfter kept reading sent unsent) config m s s.first r.0 (world.Deliver 2 number) output.reply s.writing r.2
-    (inl (packet, low, found, second_steps config s.first s.second r.0 kept.sent (event.Deliver packet.bytes) output sent posts r.1))
+    goes kept (SecondAfter kept reading sent unsent) config m s s.first r.0 whole output.reply s.writing r.2
+    (into config (world_of s.first s.second kept.sent) (world_of s.first r.0 sent) output.reply refl (second_steps config s.first s.second r.0 kept.sent ev output sent posts r.1))
 
 -- nobody has the number
 no_peer : (first second : Peer) (n : ℕ) → (n ≡ 1 → ⊥) → (n ≡ 2 → ⊥) → HasNumber (first ∷ second ∷ []) n → ⊥
@@ -125,6 +126,10 @@ no_peer first second (suc (suc (suc n))) a b h = absurd (omega (arith, h.1))
 pub unknown_call : (kept : WorldKept) (peer : ℕ) (call : Call) → (peer ≡ 1 → ⊥) → (peer ≡ 2 → ⊥) → Steps kept (world.Call peer call) (Refused BadParameter) kept
 unknown_call kept peer call a b config m s =
     goes kept kept config m s s.first s.second (world.Call peer call) (Refused BadParameter) s.writing s.reading (inr (no_peer s.first s.second peer a b, record { is_refused = refl; after = refl }))
+
+pub unknown_tick : (kept : WorldKept) (peer now : ℕ) → (peer ≡ 1 → ⊥) → (peer ≡ 2 → ⊥) → Steps kept (world.Tick peer now) (Refused BadParameter) kept
+unknown_tick kept peer now a b config m s =
+    goes kept kept config m s s.first s.second (world.Tick peer now) (Refused BadParameter) s.writing s.reading (inr (no_peer s.first s.second peer a b, record { is_refused = refl; after = refl }))
 
 pub unknown_delivery : (kept : WorldKept) (peer number : ℕ) → (number ≡ 0) ⊎ (length kept.sent < number) ⊎ ((peer ≡ 1 → ⊥) × (peer ≡ 2 → ⊥)) → Steps kept (world.Deliver peer number) (Refused BadParameter) kept
 unknown_delivery kept peer number why config m s =
@@ -141,28 +146,16 @@ steps_as : (kept now new new' : WorldKept) (ev ev' : WorldEvent) (reply reply' :
 steps_as kept now new new' ev ev' reply reply' e f g h s =
     subst (λ (k : WorldKept). Steps k ev' reply' new') e (subst (λ (v : WorldEvent). Steps kept v reply' new') f (subst (λ (r : Reply). Steps kept ev r new') g (subst (λ (k : WorldKept). Steps kept ev reply k) h s)))
 
-pub called_first : (kept now new : WorldKept) (writing : WritingKept) (peer : ℕ) (call : Call) (output : Output) (reply : Reply) → kept ≡ now → peer ≡ 1 → WritingSteps kept.writing (event.Call call) output writing
-    → reply ≡ output.reply → new.writing ≡ writing → new.reading ≡ kept.reading → Posts kept.sent output.packets new.sent → Steps now (world.Call peer call) reply new
-called_first kept now new writing peer call output reply same one steps is w r posts =
-    steps_as kept now (FirstAfter kept writing new.sent new.unsent) new (world.Call 1 call) (world.Call peer call) output.reply reply same (ap (λ (n : ℕ). world.Call n call) (sym one)) (sym is)
-    (kept_as writing new.writing kept.reading new.reading new.sent new.unsent (sym w) (sym r)) (first_calls kept writing call output new.sent new.unsent steps posts)
+-- the events of the first peer, and of the second
 
-pub called_second : (kept now new : WorldKept) (reading : ReadingKept) (peer : ℕ) (call : Call) (output : Output) (reply : Reply) → kept ≡ now → peer ≡ 2 → ReadingSteps kept.reading (event.Call call) output reading
-    → reply ≡ output.reply → new.writing ≡ kept.writing → new.reading ≡ reading → Posts kept.sent output.packets new.sent → Steps now (world.Call peer call) reply new
-called_second kept now new reading peer call output reply same two steps is w r posts =
-    steps_as kept now (SecondAfter kept reading new.sent new.unsent) new (world.Call 2 call) (world.Call peer call) output.reply reply same (ap (λ (n : ℕ). world.Call n call) (sym two)) (sym is)
-    (kept_as kept.writing new.writing reading new.reading new.sent new.unsent (sym w) (sym r)) (second_calls kept reading call output new.sent new.unsent steps posts)
+pub first_goes : (kept now new : WorldKept) (writing : WritingKept) (peer : ℕ) (ev : Event) (whole : ℕ → WorldEvent) (output : Output) (reply : Reply) → kept ≡ now → peer ≡ 1 → IsEventOf kept.sent ev 1 (whole 1)
+    → WritingSteps kept.writing ev output writing → reply ≡ output.reply → new.writing ≡ writing → new.reading ≡ kept.reading → Posts kept.sent output.packets new.sent → Steps now (whole peer) reply new
+first_goes kept now new writing peer ev whole output reply same one into steps is w r posts =
+    steps_as kept now (FirstAfter kept writing new.sent new.unsent) new (whole 1) (whole peer) output.reply reply same (ap whole (sym one)) (sym is)
+    (kept_as writing new.writing kept.reading new.reading new.sent new.unsent (sym w) (sym r)) (first_acts kept writing ev (whole 1) output new.sent new.unsent into steps posts)
 
-pub delivered_first : (kept now new : WorldKept) (writing : WritingKept) (peer number : ℕ) (packet : Packet) (output : Output) (reply : Reply) → kept ≡ now → peer ≡ 1 → 1 ≤ number → slice_get kept.sent (number - 1) ≡ Some packet
-    → WritingSteps kept.writing (event.Deliver packet.bytes) output writing → reply ≡ output.reply → new.writing ≡ writing → new.reading ≡ kept.reading → Posts kept.sent output.packets new.sent
-    → Steps now (world.Deliver peer number) reply new
-delivered_first kept now new writing peer number packet output reply same one low found steps is w r posts =
-    steps_as kept now (FirstAfter kept writing new.sent new.unsent) new (world.Deliver 1 number) (world.Deliver peer number) output.reply reply same (ap (λ (n : ℕ). world.Deliver n number) (sym one)) (sym is)
-    (kept_as writing new.writing kept.reading new.reading new.sent new.unsent (sym w) (sym r)) (first_delivers kept writing number packet output new.sent new.unsent low found steps posts)
-
-pub delivered_second : (kept now new : WorldKept) (reading : ReadingKept) (peer number : ℕ) (packet : Packet) (output : Output) (reply : Reply) → kept ≡ now → peer ≡ 2 → 1 ≤ number → slice_get kept.sent (number - 1) ≡ Some packet
-    → ReadingSteps kept.reading (event.Deliver packet.bytes) output reading → reply ≡ output.reply → new.writing ≡ kept.writing → new.reading ≡ reading → Posts kept.sent output.packets new.sent
-    → Steps now (world.Deliver peer number) reply new
-delivered_second kept now new reading peer number packet output reply same two low found steps is w r posts =
-    steps_as kept now (SecondAfter kept reading new.sent new.unsent) new (world.Deliver 2 number) (world.Deliver peer number) output.reply reply same (ap (λ (n : ℕ). world.Deliver n number) (sym two)) (sym is)
-    (kept_as kept.writing new.writing reading new.reading new.sent new.unsent (sym w) (sym r)) (second_delivers kept reading number packet output new.sent new.unsent low found steps posts)
+pub second_goes : (kept now new : WorldKept) (reading : ReadingKept) (peer : ℕ) (ev : Event) (whole : ℕ → WorldEvent) (output : Output) (reply : Reply) → kept ≡ now → peer ≡ 2 → IsEventOf kept.sent ev 2 (whole 2)
+    → ReadingSteps kept.reading ev output reading → reply ≡ output.reply → new.writing ≡ kept.writing → new.reading ≡ reading → Posts kept.sent output.packets new.sent → Steps now (whole peer) reply new
+second_goes kept now new reading peer ev whole output reply same two into steps is w r posts =
+    steps_as kept now (SecondAfter kept reading new.sent new.unsent) new (whole 2) (whole peer) output.reply reply same (ap whole (sym two)) (sym is)
+    (kept_as kept.writing new.writing reading new.reading new.sent new.unsent (sym w) (sym r)) (second_acts kept reading ev (whole 2) output new.sent new.unsent into steps posts)

@@ -4,8 +4,10 @@
 #![tactic(auto)]
 
 mod answer;
+mod clock;
 mod reading;
 mod receiver;
+mod registration;
 #[cfg(test)]
 mod tests;
 mod thin;

@@ -12,6 +12,7 @@ ghost use Rattle.dds_world.specs.Begun.{HasReadNothing};
 ghost use Rattle.dds_world.specs.Standing.{ReadingSteps, SendsNothing};
 
 use crate::answer::answered;
+use crate::clock::goes_on;
 use crate::receiver::{
     EVERY_PEER, MessageReceiver, is_entity, is_prefix, receiver_after, receiver_for,
 };
@@ -42,6 +43,7 @@ pub struct ReadingPeer {
     entity: EntityId,
     writer_prefix: GuidPrefix,
     writer_entity: EntityId,
+    moment: Moment,
     place: u64,
     arrivals: u32,
     cache: ReaderCache,
@@ -59,6 +61,7 @@ impl Model for ReadingPeer {
       entity = p.entity;
       writer_prefix = p.writer_prefix;
       writer_entity = p.writer_entity;
+      moment = p.moment;
       place = p.place;
       arrivals = p.arrivals;
       cache = p.cache;
@@ -123,6 +126,7 @@ impl ReadingPeer {
             entity,
             writer_prefix: writer.prefix,
             writer_entity: writer.entity,
+            moment: Moment::new(0),
             place: 1,
             arrivals: 0,
             cache: ReaderCache::open(alloc, qos),
@@ -171,7 +175,7 @@ impl ReadingPeer {
             writer: Handle::new(1),
             number: Sn::new(self.place),
             change,
-            moment: Moment::new(0),
+            moment: self.moment,
         })?;
         self.place += 1;
         self.arrivals += 1;
@@ -249,6 +253,17 @@ impl ReadingPeer {
         self.take(reader, max, masks)
     }
 
+    fn tick(&mut self, now: Moment) -> Output
+        ensures step { ReadingSteps self.old (event.Tick now) result self.new }
+        ensures sends { SendsNothing result }
+    {
+        if !goes_on(self.moment, now) {
+            return answered(self.alloc, Reply::Refused(Code::BadParameter));
+        }
+        self.moment = now;
+        answered(self.alloc, Reply::Done)
+    }
+
     /// One event.
     pub fn step(&mut self, event: Event) -> Output
         ensures step { ReadingSteps self.old event result self.new }
@@ -256,6 +271,7 @@ impl ReadingPeer {
     {
         match event {
             Event::Call(call) => self.call(call),
+            Event::Tick(now) => self.tick(now),
             Event::Deliver(packet) => self.deliver(&packet),
         }
     }

@@ -4,14 +4,12 @@ ghost use Rattle.std.specs.Prelude.{◌≡◌, ◌↔◌, IsTrue};
 ghost use Rattle.dds_model.specs.Claims.{receiver_of, after_submessage};
 ghost use Rattle.dds_world.specs.Receiving.{receiver_at};
 
+use crate::clock::NO_MOMENT;
 use dds_base::{EntityId, GuidPrefix};
 use rtps_wire::Submessage;
 
 /// The prefix that names every peer.
 pub const EVERY_PEER: GuidPrefix = GuidPrefix([0; 12]);
-
-/// A moment from here on is none.
-const NO_MOMENT: u64 = 1 << 63;
 
 /// What a receiver knows of what follows in a message.
 ///

@@ -13,7 +13,7 @@ ghost use Rattle.dds_world.specs.Thin.{IsThin, thin_qos};
 use crate::reading::ReadingPeer;
 use crate::thin::{Ends, ends_of};
 use crate::writing::WritingPeer;
-use dds_base::{Code, Config, Guid, MatchedWriter, ReaderQos, Sequence};
+use dds_base::{Code, Config, Guid, MatchedWriter, Moment, ReaderQos, Sequence};
 use dds_model::{Call, Event, Output, Packet, Reply, WorldEvent};
 use std::alloc::{AllocError, Global};
 use std::marker::Model;
@@ -102,14 +102,20 @@ impl World {
         };
         Ok(World {
             alloc,
-            writing: WritingPeer::open(alloc, ends.first, ends.writer.entity, ends.second),
+            writing: WritingPeer::open(
+                alloc,
+                ends.first,
+                ends.writer.entity,
+                ends.writer.autodispose,
+                ends.second,
+            ),
             reading: ReadingPeer::open(alloc, ends.second, ends.reader.entity, writer, qos),
             sent: Vec::new(alloc),
             unsent: 0,
         })
     }
 
-    /// One event: a call at a peer, or the delivery of a packet that was sent, at a peer.
+    /// One event: a call at a peer, its time that goes on, or the delivery of a packet that was sent, at a peer.
     pub fn step(&mut self, event: WorldEvent) -> Reply
         ensures step { Steps self.old event result self.new }
         ensures sends { Announces self.old event result self.new }
@@ -117,6 +123,7 @@ impl World {
     {
         match event {
             WorldEvent::Call { peer, call } => self.call(peer, call),
+            WorldEvent::Tick { peer, now } => self.tick(peer, now),
             WorldEvent::Deliver { peer, packet } => self.deliver(peer, packet),
         }
     }
@@ -151,6 +158,21 @@ impl World {
         }
         if peer == READING {
             let output = self.reading.step(Event::Call(call));
+            return self.posted(output);
+        }
+        Reply::Refused(Code::BadParameter)
+    }
+
+    fn tick(&mut self, peer: u8, now: Moment) -> Reply
+        ensures step { Steps self.old (event.Tick peer now) result self.new }
+        ensures sends { Announces self.old (event.Tick peer now) result self.new }
+    {
+        if peer == WRITING {
+            let output = self.writing.step(Event::Tick(now));
+            return self.posted(output);
+        }
+        if peer == READING {
+            let output = self.reading.step(Event::Tick(now));
             return self.posted(output);
         }
         Reply::Refused(Code::BadParameter)

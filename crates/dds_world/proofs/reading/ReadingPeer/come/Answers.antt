@@ -13,15 +13,16 @@ returns-clause-ok c = λ bytes timestamp body brings change_is.
       entity = c.self.inside.entity;
       writer_prefix = c.self.inside.writer_prefix;
       writer_entity = c.self.inside.writer_entity;
+      moment = c.self.inside.moment;
       place = c.self.inside.place;
       arrivals = c.self.inside.arrivals;
       cache = c.self.inside.cache;
     } in
     let room = c.requires.room in
     let few : kept.arrivals < 2 ^ 31 - 2 = omega (arith, room, ap (λ (k : ReadingKept). k.arrivals) c.self.view_is) in
-    let more : (h : List Happening) → CacheStandsFor kept.cache h → CacheStandsFor c.come.new.self (arrival_of kept.place c.args.change ∷ h) =
+    let more : (h : List Happening) → CacheStandsFor kept.cache h → CacheStandsFor c.come.new.self (arrival_of kept.moment kept.place c.args.change ∷ h) =
     λ h stands.
-    subst (λ (e : Happening). CacheStandsFor c.come.new.self (e ∷ h)) (arrival_as c.new.result c.new-2.result c.new-3.result kept.place c.args.change c.new.ensures c.new-2.ensures c.new-3.ensures)
+    subst (λ (e : Happening). CacheStandsFor c.come.new.self (e ∷ h)) (arrival_as c.new.result c.new-2.result kept.moment kept.place c.args.change c.new.ensures c.new-2.ensures)
     (c.in_ok-come.ensures.ok h stands) in
     let moves : BringsNext kept bytes timestamp body → ReadingMoves kept bytes (place_moves (kept.place + 1) ∷ []) (came kept c.come.new.self) =
     λ b. comes_next kept c.come.new.self bytes timestamp body c.args.change few c.in_ok-come.ensures.qos more b change_is in

@@ -8,3 +8,6 @@ returns-in-Call-clause-step c = subst (λ (e : Event). ReadingSteps c.args.self.
 
 pub returns-in-Deliver-clause-step : goal.returns-in-Deliver-clause-step
 returns-in-Deliver-clause-step c = subst (λ (e : Event). ReadingSteps c.args.self.now e c.deliver.result c.deliver.new.self) (sym c.in-Deliver.is) c.deliver.ensures.step
+
+pub returns-in-Tick-clause-step : goal.returns-in-Tick-clause-step
+returns-in-Tick-clause-step c = subst (λ (e : Event). ReadingSteps c.args.self.now e c.tick.result c.tick.new.self) (sym c.in-Tick.is) c.tick.ensures.step

@@ -19,6 +19,7 @@ returns-clause-step c = λ config peer given.
       entity = c.self.inside.entity;
       writer_prefix = c.self.inside.writer_prefix;
       writer_entity = c.self.inside.writer_entity;
+      moment = c.self.inside.moment;
       place = c.self.inside.place;
       arrivals = c.self.inside.arrivals;
       cache = c.self.inside.cache;

@@ -7,7 +7,9 @@ use Rattle.dds_model.specs.Machine.{part_at}
 use Rattle.dds_model.specs.Progress.{MovesOver}
 use Rattle.dds_world.specs.Receiving.{ReplyAdvances}
 use Rattle.dds_world.specs.WorldStanding.{WorldKept, StandsFor}
-use Rattle.dds_world.proofs.WorldSteps.{delivered_first, delivered_second}
+use Rattle.dds_model.specs.declared.event.Event.TheVariants as event
+use Rattle.dds_model.specs.declared.event.WorldEvent.TheVariants as world
+use Rattle.dds_world.proofs.WorldSteps.{delivers_at, first_goes, second_goes}
 use Rattle.dds_world.proofs.world.World.deliver.Goals as goal
 
 pub returns-then-peer-eq-WRITING-clause-step : goal.returns-then-peer-eq-WRITING-clause-step
@@ -16,8 +18,8 @@ returns-then-peer-eq-WRITING-clause-step c =
     let kept : WorldKept = record { writing = inside.writing; reading = inside.reading; sent = inside.sent.items; unsent = inside.unsent } in
     let within : c.args.packet - 1 < length kept.sent = omega arith in
     let found : slice_get kept.sent (c.args.packet - 1) ≡ Some c.index.result.now = slice_get-get_or kept.sent (c.args.packet - 1) c.index.result.now within ∙ ap (λ (p : Packet). Some p) (sym c.index.ensures) in
-    delivered_first kept c.args.self.now c.posted.new.self c.deliver-output.new.self c.args.peer c.args.packet c.index.result.now c.deliver-output.result c.posted.result c.self.view_is c.if-peer-eq-WRITING.true (omega arith) found
-    c.deliver-output.ensures.step c.posted.ensures.reply c.posted.ensures.writing c.posted.ensures.reading c.posted.ensures.posted
+    first_goes kept c.args.self.now c.posted.new.self c.deliver-output.new.self c.args.peer (event.Deliver c.index.result.now.bytes) (λ (n : ℕ). world.Deliver n c.args.packet) c.deliver-output.result c.posted.result c.self.view_is c.if-peer-eq-WRITING.true
+    (delivers_at kept.sent 1 c.args.packet c.index.result.now (omega arith) found) c.deliver-output.ensures.step c.posted.ensures.reply c.posted.ensures.writing c.posted.ensures.reading c.posted.ensures.posted
 
 pub returns-then-peer-eq-READING-clause-step : goal.returns-then-peer-eq-READING-clause-step
 returns-then-peer-eq-READING-clause-step c =
@@ -28,7 +30,8 @@ returns-then-peer-eq-READING-clause-step c =
     let index = c.index-then-peer-eq-READING in
     let within : c.args.packet - 1 < length kept.sent = omega arith in
     let found : slice_get kept.sent (c.args.packet - 1) ≡ Some index.result.now = slice_get-get_or kept.sent (c.args.packet - 1) index.result.now within ∙ ap (λ (p : Packet). Some p) (sym index.ensures) in
-    delivered_second kept c.args.self.now posted.new.self output.new.self c.args.peer c.args.packet index.result.now output.result posted.result c.self.view_is c.if-peer-eq-READING.true (omega arith) found output.ensures.step
+    second_goes kept c.args.self.now posted.new.self output.new.self c.args.peer (event.Deliver index.result.now.bytes) (λ (n : ℕ). world.Deliver n c.args.packet) output.result posted.result c.self.view_is c.if-peer-eq-READING.true
+    (delivers_at kept.sent 2 c.args.packet index.result.now (omega arith) found) output.ensures.step
     posted.ensures.reply posted.ensures.writing posted.ensures.reading posted.ensures.posted
 
 pub returns-then-peer-eq-READING-clause-progress : goal.returns-then-peer-eq-READING-clause-progress

@@ -11,3 +11,6 @@ returns-in-Deliver-clause-step c = subst (λ (e : WorldEvent). Steps c.args.self
 
 pub returns-in-Deliver-clause-progress : goal.returns-in-Deliver-clause-progress
 returns-in-Deliver-clause-progress c = subst (λ (e : WorldEvent). MovesOn c.args.self.now e c.deliver.result) (sym c.in-Deliver.is) c.deliver.ensures.progress
+
+pub returns-in-Tick-clause-step : goal.returns-in-Tick-clause-step
+returns-in-Tick-clause-step c = subst (λ (e : WorldEvent). Steps c.args.self.now e c.tick.result c.tick.new.self) (sym c.in-Tick.is) c.tick.ensures.step
