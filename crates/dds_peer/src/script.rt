@@ -3,7 +3,7 @@
 use crate::number::{decimal, decimal_i32, decimal_u8, decimal_u32, key, value};
 use crate::setup::{Options, SetupLine};
 use bitflags::Flags;
-use dds_base::{InstanceStateMask, Masks, SampleStateMask, ViewStateMask};
+use dds_base::{InstanceStateMask, Key, Masks, Moment, SampleStateMask, ViewStateMask};
 use dds_model::{Call, WorldEvent};
 use std::alloc::{AllocError, Global};
 
@@ -76,6 +76,10 @@ fn network_line(words: &[&[u8]]) -> Option<Line> {
             packet: decimal(packet)?,
         })),
         [b"packet", packet] => Some(Line::Packet(decimal(packet)?)),
+        [peer, b"tick", now] => Some(Line::Event(WorldEvent::Tick {
+            peer: decimal_u8(peer)?,
+            now: Moment::new(decimal(now)?),
+        })),
         _ => None,
     }
 }
@@ -101,11 +105,16 @@ fn take_call(words: &[&[u8]]) -> Option<Call> {
     }
 }
 
+/// A writer and an instance.
+fn writer_and_key(writer: &[u8], key_word: &[u8]) -> Option<(u8, Key)> {
+    Some((writer_number(writer)?, key(key_word)?))
+}
+
 fn write_call(alloc: Global, words: &[&[u8]]) -> Result<Option<Call>, AllocError> {
     let [writer, key_word, value_word] = words else {
         return Ok(None);
     };
-    let (Some(writer), Some(key)) = (writer_number(writer), key(key_word)) else {
+    let Some((writer, key)) = writer_and_key(writer, key_word) else {
         return Ok(None);
     };
     match value(alloc, value_word)? {
@@ -114,11 +123,30 @@ fn write_call(alloc: Global, words: &[&[u8]]) -> Result<Option<Call>, AllocError
     }
 }
 
+/// A call that names a writer and an instance, and no more.
+fn instance_call(words: &[&[u8]]) -> Option<Call> {
+    match words {
+        [b"register", writer, key_word] => {
+            let (writer, key) = writer_and_key(writer, key_word)?;
+            Some(Call::Register { writer, key })
+        }
+        [b"dispose", writer, key_word] => {
+            let (writer, key) = writer_and_key(writer, key_word)?;
+            Some(Call::Dispose { writer, key })
+        }
+        [b"unregister", writer, key_word] => {
+            let (writer, key) = writer_and_key(writer, key_word)?;
+            Some(Call::Unregister { writer, key })
+        }
+        _ => None,
+    }
+}
+
 fn call(alloc: Global, words: &[&[u8]]) -> Result<Option<Call>, AllocError> {
     match words {
         [b"write", operands @ ..] => write_call(alloc, operands),
         [b"take", operands @ ..] => Ok(take_call(operands)),
-        _ => Ok(None),
+        _ => Ok(instance_call(words)),
     }
 }
 

@@ -1,3 +1,5 @@
+mod instances;
+
 use crate::entry::program;
 use crate::fault::{Fault, Status};
 use crate::simulation::sim;
@@ -108,7 +110,15 @@ fn lines_are_judged_one_by_one(rt: HostRuntime) -> Result<(), Fail> {
         (" 2 take r1\n", "", "line 5: not a command\n"),
         ("2 take r1 \n", "", "line 5: not a command\n"),
         ("2 take r1\npeer\n", "code 11\n", "line 6: not a command\n"),
-        ("1 tick 0\n", "", "line 5: not a command\n"),
+        ("1 tick 0\n", "ok\n", ""),
+        ("1 read r1\n", "", "line 5: not a command\n"),
+        ("1 dispose w1\n", "", "line 5: not a command\n"),
+        ("1 register w1 1 61\n", "", "line 5: not a command\n"),
+        (
+            "1 tick 18446744073709551616\n",
+            "",
+            "line 5: not a command\n",
+        ),
     ];
     for (lines, output, errors) in cases {
         let script = after_setup(alloc, lines)?;

@@ -1,4 +1,4 @@
-use Rattle.std.proofs.Common.{◌≡◌, ◌+◌, List, Option, None, sym, ◌∙◌, ap, refl, subst, length}
+use Rattle.std.proofs.Common.{◌≡◌, ◌+◌, List, Option, None, sym, ◌∙◌, ap, refl, subst, length, rules}
 use Rattle.std.specs.Prelude.{not, if◌then◌else◌}
 use Rattle.dds_base.specs.declared.code.Code.{Code}
 use Rattle.dds_base.specs.declared.code.Code.TheVariants.{Memory}
@@ -11,7 +11,6 @@ use Rattle.dds_world.specs.Making.{Makes}
 use Rattle.dds_world.specs.Registered.{is_among}
 use Rattle.dds_world.specs.Standing.{WritingKept}
 use Rattle.dds_world.proofs.WritingSteps.{refused_so, with_made, made_so, with_registered}
-use Rattle.dds_world.proofs.writing.WritingPeer.make.Goals.{in-Ok+in-Write-1, in-Ok+in-Dispose-1, in-Err-1}
 use Rattle.dds_world.proofs.writing.WritingPeer.make.Goals as goal
 
 pub returns-in-Some : goal.returns-in-Some
@@ -45,8 +44,5 @@ returns-in-Err c =
     let same : new ≡ kept = ap (λ (ks : List Key). with_made kept ks c.append.new.self) c.reserve.ensures.keys ∙ ap (λ (h : Held). with_made kept kept.registered h) c.in-Err.ensures.err in
     let refused : Makes c.args.self.now c.args.change c.answered-in-Err.result new =
     subst (λ (k : WritingKept). Makes k c.args.change c.answered-in-Err.result new) c.self.view_is (refused_so kept new c.args.change c.in-Err.code c.answered-in-Err.result (λ w h. c.in-Err.ensures.refused w h) c.answered-in-Err.ensures same) in
-    elim c.match-content.branch [
-      in-Ok+in-Write-1 w ↦ subst (λ (k : WritingKept). Makes c.args.self.now c.args.change c.answered-in-Err.result k) (sym w.self-is) refused
-    | in-Ok+in-Dispose-1 w ↦ subst (λ (k : WritingKept). Makes c.args.self.now c.args.change c.answered-in-Err.result k) (sym w.self-is) refused
-    | in-Err-1 w ↦ subst (λ (k : WritingKept). Makes c.args.self.now c.args.change c.answered-in-Err.result k) (sym w.self-is) refused
-    ]
+    let is : c.match-content.self ≡ new = search rules in
+    subst (λ (k : WritingKept). Makes c.args.self.now c.args.change c.answered-in-Err.result k) (sym is) refused
