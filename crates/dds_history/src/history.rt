@@ -76,7 +76,8 @@ impl History {
     pub fn refusal(&self, change: &Change) -> Option<Code>
         ensures { (w : WriterHistory) → StandsFor self.now w → result ≡ append_refusal w change.now }
     {
-        self.cause(&change.key)
+        let key = &change.key;
+        self.cause(key)
     }
 
     /// Why one more change of this key is refused.

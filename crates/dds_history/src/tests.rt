@@ -45,8 +45,12 @@ fn a_full_history_refuses_a_change_that_drops_none(rt: HostRuntime) -> Result<()
     let mut history = History::open(rt.alloc(), HistoryQos::KeepLast(1), Some(2));
     history.append(write(rt.alloc(), 1, 1)?)?;
     history.append(write(rt.alloc(), 2, 2)?)?;
-    let refused = history.append(write(rt.alloc(), 3, 3)?);
+    let third = write(rt.alloc(), 3, 3)?;
+    assert!(rt; matches!(history.refusal(&third), Some(Code::Timeout)));
+    let refused = history.append(third);
     assert!(rt; matches!(&refused, Err(Code::Timeout)));
-    assert_eq!(rt; history.append(write(rt.alloc(), 2, 4)?)?, Sn::new(3));
+    let fourth = write(rt.alloc(), 2, 4)?;
+    assert!(rt; history.refusal(&fourth).is_none());
+    assert_eq!(rt; history.append(fourth)?, Sn::new(3));
     Ok(())
 }

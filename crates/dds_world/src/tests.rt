@@ -1,7 +1,9 @@
+mod instances;
+
 use crate::{Call, Endpoint, Move, Reply, World, WorldEvent};
 use dds_base::{
-    Code, Config, EntityId, GuidPrefix, HistoryQos, Key, Masks, Octets, OwnershipQos, PeerConfig,
-    ReaderConfig, Sequence, Sn, WriterConfig,
+    Code, Config, EntityId, GuidPrefix, HistoryQos, Key, Masks, Moment, Octets, OwnershipQos,
+    PeerConfig, ReaderConfig, Sequence, Sn, WriterConfig,
 };
 use std::alloc::Global;
 use std::process::Abort;
@@ -63,6 +65,11 @@ fn write(alloc: Global, value: &[u8]) -> Result<WorldEvent, Fail> {
             value,
         },
     })
+}
+
+/// A call at the first peer.
+fn at_writer(call: Call) -> WorldEvent {
+    WorldEvent::Call { peer: 1, call }
 }
 
 fn take() -> WorldEvent {
@@ -167,12 +174,24 @@ fn a_long_value_is_refused(rt: HostRuntime) -> Result<(), Fail> {
     Ok(())
 }
 
-/// A write, its delivery, a delivery of a packet that was never sent, and a take.
+/// A tick, a register, a write, its delivery, a delivery of a packet that was never sent, an unregister, and a take.
 fn events(alloc: Global) -> Result<Vec<WorldEvent>, Fail> {
     let events = vec![in alloc;
+        WorldEvent::Tick {
+            peer: 1,
+            now: Moment::new(5)
+        },
+        at_writer(Call::Register {
+            writer: 1,
+            key: KEY
+        }),
         write(alloc, b"ab")?,
         WorldEvent::Deliver { peer: 2, packet: 1 },
         WorldEvent::Deliver { peer: 2, packet: 2 },
+        at_writer(Call::Unregister {
+            writer: 1,
+            key: KEY
+        }),
         take(),
     ]?;
     Ok(events)
@@ -180,11 +199,14 @@ fn events(alloc: Global) -> Result<Vec<WorldEvent>, Fail> {
 
 /// That these are the replies to the events.
 fn are_replies(rt: &impl Abort, replies: &[Reply]) {
-    assert_eq!(rt; replies.len(), 4);
+    assert_eq!(rt; replies.len(), 7);
     assert!(rt; matches!(&replies[0], Reply::Done));
-    assert!(rt; is_place(&replies[1], 2));
-    assert!(rt; matches!(&replies[2], Reply::Refused(Code::BadParameter)));
-    assert!(rt; matches!(&replies[3], Reply::Samples(samples) if samples.as_slice().len() == 1));
+    assert!(rt; matches!(&replies[1], Reply::Done));
+    assert!(rt; matches!(&replies[2], Reply::Done));
+    assert!(rt; is_place(&replies[3], 2));
+    assert!(rt; matches!(&replies[4], Reply::Refused(Code::BadParameter)));
+    assert!(rt; matches!(&replies[5], Reply::Done));
+    assert!(rt; matches!(&replies[6], Reply::Samples(samples) if samples.as_slice().len() == 1));
 }
 
 #[test]

@@ -276,11 +276,7 @@ impl WritingPeer {
     }
 
     /// The packet that announces the change of this number.
-    fn announce(
-        &self,
-        number: Sn,
-        content: Result<DataContent, AllocError>,
-    ) -> Result<Packet, Code>
+    fn announce(&self, number: Sn, content: Result<DataContent, AllocError>) -> Result<Packet, Code>
         requires first { 1 ≤ number }
         requires small { number ≤ 2 ^ 48 }
         requires valid { ForOk content (λ c. IsContent c) }
