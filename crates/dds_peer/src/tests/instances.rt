@@ -93,3 +93,14 @@ fn early_and_late_moments_and_long_values_are_refused(rt: HostRuntime) -> Result
     expect(&rt, script.as_bytes(), ran, output, "");
     Ok(())
 }
+
+#[test]
+fn an_instance_is_disposed_reborn_and_abandoned(rt: HostRuntime) -> Result<(), Fail> {
+    let alloc = rt.alloc();
+    let lines = "1 write w1 1 6162\ndeliver 2 1\n2 take r1\n1 dispose w1 1\npacket 2\ndeliver 2 2\n2 take r1\n1 tick 7\n1 write w1 1 63\ndeliver 2 3\n2 take r1\n1 unregister w1 1\ndeliver 2 4\n2 take r1\n1 unregister w1 1\n2 take r1\n1 tick 6\n";
+    let output = "ok sent 1-1\nreport [place 1.w1 r1 2]\nsamples 1 [1 6162 N N A 0 0 0 0 0 0 1 1]\nok sent 2-2\npacket 2 52545053020500000000000000000000000000010e010c00000000000000000000000002090108000000000000000000150b4800000010000000000000000102000000000200000070001000000000000000000000000000000000017100040000000001010000000001000000000000000000000000000000000001\nreport [place 1.w1 r1 3]\nsamples 1 [1 ! N O D 0 0 0 0 0 0 1 1]\nok\nok sent 3-3\nreport [place 1.w1 r1 4]\nsamples 1 [1 63 N N A 1 0 0 0 0 7 1 1]\nok sent 4-4\nreport [place 1.w1 r1 5]\nsamples 1 [1 ! N O W 1 0 0 0 0 7 1 1]\ncode 4\ncode 11\ncode 3\n";
+    let script = format!(in alloc; "{SETUP_NOAUTO}{lines}")?;
+    let ran = run(alloc, script.as_bytes());
+    expect(&rt, script.as_bytes(), ran, output, "");
+    Ok(())
+}
