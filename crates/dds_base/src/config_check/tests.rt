@@ -91,7 +91,7 @@ fn check_peers(alloc: Global, count: u8, contradicts: bool) -> Result<Result<(),
     .check())
 }
 
-/// One of an exclusive writer and a shared reader.
+/// The ownership that the other ends do not have.
 const EXCLUSIVE: OwnershipQos = OwnershipQos::Exclusive;
 
 #[test]
