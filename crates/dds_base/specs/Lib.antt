@@ -10,3 +10,5 @@ pub mod Ownership
 pub mod Instance
 pub mod Presence
 pub mod Access
+pub mod Matched
+pub mod Checked

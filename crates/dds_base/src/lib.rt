@@ -7,6 +7,7 @@
 mod change;
 mod code;
 mod config;
+mod config_check;
 mod datum;
 mod endianness;
 mod field;

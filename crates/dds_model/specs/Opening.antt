@@ -1,12 +1,13 @@
 -- The opening of a configuration: writers and readers of equal topic are matched, nothing has happened, each place is 1
 -- and nothing is acknowledged.
-use Rattle.std.specs.Prelude.{ℕ, ◌+◌, ◌==◌, cond, List, [], ◌∷◌, ◌++◌, map}
+use Rattle.std.specs.Prelude.{ℕ, ◌+◌, List, [], ◌∷◌, map}
 use Rattle.dds_base.specs.declared.config.Config.{Config}
 use Rattle.dds_base.specs.declared.config.PeerConfig.{PeerConfig}
 use Rattle.dds_base.specs.declared.config.WriterConfig.{WriterConfig}
 use Rattle.dds_base.specs.declared.config.ReaderConfig.{ReaderConfig}
 use Rattle.dds_base.specs.declared.qos.MatchedWriter.{MatchedWriter}
 use Rattle.dds_base.specs.declared.qos.ReaderQos.{ReaderQos}
+use Rattle.dds_base.specs.Matched.{of_writers_in, of_matched_writers, of_readers_in, of_matched_readers}
 use Rattle.dds_model.specs.Part.{ReaderProxy, WriterProxy, Writer, Part}
 use Rattle.dds_model.specs.Calls.{limit_of}
 use Rattle.dds_model.specs.Peer.{Peer}
@@ -15,35 +16,24 @@ use Rattle.dds_model.specs.World.{WorldState, machine_of}
 
 -- the readers of the topic among these, of which the first has this number
 abbrev pub readers_in : ℕ → ℕ → ℕ → List ReaderConfig → List ReaderProxy
-readers_in topic peer number [] = []
-readers_in topic peer number (r ∷ rs) =
-    cond (r.topic == topic) (record { reader = record { peer = peer; number = number }; acknowledged = 1 } ∷ readers_in topic peer (number + 1) rs) (readers_in topic peer (number + 1) rs)
+readers_in topic peer number rs = of_readers_in (λ n r. record { reader = record { peer = peer; number = n }; acknowledged = 1 }) topic number rs
 
--- the same of these peers
+-- what a writer of the topic has of its matched readers; the first of these peers has this number
 abbrev pub matched_readers : ℕ → ℕ → List PeerConfig → List ReaderProxy
-matched_readers topic peer [] = []
-matched_readers topic peer (p ∷ ps) = readers_in topic peer 1 p.readers ++ matched_readers topic (peer + 1) ps
+matched_readers topic peer ps = of_matched_readers (λ i p n r. record { reader = record { peer = i; number = n }; acknowledged = 1 }) topic peer ps
 
 -- the writers of the topic among these, of which the first has this number
 abbrev pub writers_in : ℕ → ℕ → ℕ → List WriterConfig → List WriterProxy
-writers_in topic peer number [] = []
-writers_in topic peer number (w ∷ ws) =
-    cond (w.topic == topic) (record { writer = record { peer = peer; number = number }; place = 1 } ∷ writers_in topic peer (number + 1) ws) (writers_in topic peer (number + 1) ws)
+writers_in topic peer number ws = of_writers_in (λ n w. record { writer = record { peer = peer; number = n }; place = 1 }) topic number ws
 
--- the same of these peers, in the order of publication handles: by peer, then by writer
+-- what a reader of the topic has of its matched writers, in the order of publication handles; the first of these peers
+-- has this number
 abbrev pub matched_writers : ℕ → ℕ → List PeerConfig → List WriterProxy
-matched_writers topic peer [] = []
-matched_writers topic peer (p ∷ ps) = writers_in topic peer 1 p.writers ++ matched_writers topic (peer + 1) ps
+matched_writers topic peer ps = of_matched_writers (λ i p n w. record { writer = record { peer = i; number = n }; place = 1 }) topic peer ps
 
--- what a reader's QoS says of the writers of the topic among a peer's
-abbrev pub writer_qos_in : ℕ → PeerConfig → List WriterConfig → List MatchedWriter
-writer_qos_in topic peer [] = []
-writer_qos_in topic peer (w ∷ ws) =
-    cond (w.topic == topic) (record { guid = record { prefix = peer.prefix; entity = w.entity }; strength = w.strength; lease = w.lease } ∷ writer_qos_in topic peer ws) (writer_qos_in topic peer ws)
-
+-- what a reader's QoS says of the matched writers of the topic
 abbrev pub writer_qos : ℕ → List PeerConfig → List MatchedWriter
-writer_qos topic [] = []
-writer_qos topic (p ∷ ps) = writer_qos_in topic p p.writers ++ writer_qos topic ps
+writer_qos topic ps = of_matched_writers (λ i p n w. record { guid = record { prefix = p.prefix; entity = w.entity }; strength = w.strength; lease = w.lease }) topic 1 ps
 
 abbrev pub reader_qos : List PeerConfig → ReaderConfig → ReaderQos
 reader_qos peers r = record { ownership = r.ownership; history = r.history; max_samples = limit_of r.max_samples; max_instances = limit_of r.max_instances; writers = writer_qos r.topic peers }

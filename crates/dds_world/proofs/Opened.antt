@@ -6,9 +6,10 @@ use Rattle.dds_base.specs.declared.config.WriterConfig.{WriterConfig}
 use Rattle.dds_base.specs.declared.config.ReaderConfig.{ReaderConfig}
 use Rattle.dds_base.specs.declared.qos.HistoryQos.{HistoryQos}
 use Rattle.dds_base.specs.declared.qos.MatchedWriter.{MatchedWriter}
+use Rattle.dds_base.specs.Matched.{of_writers_in}
 use Rattle.dds_model.specs.Part.{Part, Writer, Reader, ReaderProxy, WriterProxy}
 use Rattle.dds_model.specs.Calls.{limit_of}
-use Rattle.dds_model.specs.Opening.{readers_in, matched_readers, writers_in, matched_writers, writer_qos_in, writer_qos, reader_qos, opening_writer, opening_part, opening_peers, opening_world, opening}
+use Rattle.dds_model.specs.Opening.{readers_in, matched_readers, writers_in, matched_writers, writer_qos, reader_qos, opening_writer, opening_part, opening_peers, opening_world, opening}
 use Rattle.std.specs.Prelude.{ℤ}
 use Rattle.dds_base.specs.declared.guid.GuidPrefix.{GuidPrefix}
 use Rattle.dds_base.specs.declared.qos.ReaderQos.{ReaderQos}
@@ -44,10 +45,14 @@ places_of topic first second writer one none same =
 abbrev pub writer_is : PeerConfig → WriterConfig → MatchedWriter
 writer_is first writer = record { guid = record { prefix = first.prefix; entity = writer.entity }; strength = writer.strength; lease = writer.lease }
 
+-- the same of a peer's writers of the topic
+abbrev qos_in : ℕ → PeerConfig → List WriterConfig → List MatchedWriter
+qos_in topic p ws = of_writers_in (λ n w. writer_is p w) topic 1 ws
+
 qos_of_writer : (topic : ℕ) (first second : PeerConfig) (writer : WriterConfig) → first.writers ≡ writer ∷ [] → second.writers ≡ [] → writer.topic ≡ topic → writer_qos topic (first ∷ second ∷ []) ≡ writer_is first writer ∷ []
 qos_of_writer topic first second writer one none same =
-    ap (λ (ws : List WriterConfig). writer_qos_in topic first first.writers ++ (writer_qos_in topic second ws ++ [])) none
-    ∙ (ap (λ (ws : List WriterConfig). writer_qos_in topic first ws ++ []) one ∙ ap (λ (b : Bool). cond b (writer_is first writer ∷ []) [] ++ []) (eq-eqb writer.topic topic same))
+    ap (λ (ws : List WriterConfig). qos_in topic first first.writers ++ (qos_in topic second ws ++ [])) none
+    ∙ (ap (λ (ws : List WriterConfig). qos_in topic first ws ++ []) one ∙ ap (λ (b : Bool). cond b (writer_is first writer ∷ []) [] ++ []) (eq-eqb writer.topic topic same))
 
 writer_made : (p q : HistoryQos) (m n : Option ℕ) (autodispose : Bool) (a b : List ReaderProxy) → p ≡ q → m ≡ n → a ≡ b
     → ◌≡◌ {A = Writer} (record { policy = p; max_samples = m; autodispose = autodispose; written = []; readers = a }) (record { policy = q; max_samples = n; autodispose = autodispose; written = []; readers = b })

@@ -1,10 +1,12 @@
-//! Sets of sequence numbers, as messages carry them.
+//! Sets of sequence numbers, as messages carry them, and the window in which a reader keeps what it heard of.
 //!
-//! RTPS 2.5, 8.3.5.5 (SequenceNumberSet).
+//! RTPS 2.5, 8.3.5.5 (SequenceNumberSet), 8.4.12 (reliable StatefulReader).
 #![tactic(auto)]
 
 mod sn_set;
 #[cfg(test)]
 mod tests;
+mod window;
 
 pub use sn_set::{MAX_BITS, SnSet};
+pub use window::{Mark, Window};

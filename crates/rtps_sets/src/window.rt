@@ -1,0 +1,182 @@
+//! The numbers of one writer that a reader has heard of but not yet passed.
+
+ghost use Rattle.std.specs.Prelude.{◌≡◌, ◌≤◌, ◌<◌, ◌+◌, ◌&&◌, ◌==◌, ℕ, false, nat_le, is_none, max, Some, None, Ok, IsTrue, IsOk, IsSome, IfOk, IfErr, OnOk, OnErr, filter, vec_len, vec_capacity, if◌then◌else◌};
+ghost use Rattle.dds_base.specs.declared.code.Code.TheVariants.{Memory};
+ghost use Rattle.rtps_sets.specs.NumberSet.{has_number};
+ghost use Rattle.rtps_sets.specs.Window.{place_of, mark_of, room_of, is_in_window, can_mark, mark_in, SameMarks};
+
+use crate::sn_set::SnSet;
+use dds_base::{Code, Sn};
+use std::alloc::Global;
+use std::marker::Model;
+
+/// What is known of a number of the window.
+///
+/// RTPS 2.5, 8.4.12 (changes that were received, and changes that a GAP made irrelevant).
+#[derive(Clone, Copy, Debug, PartialEq, Eq)]
+pub enum Mark {
+    /// Its change has come and waits.
+    Held,
+    /// No change will come.
+    Irrelevant,
+}
+
+/// A marked number.
+#[derive(Clone, Copy)]
+pub struct Marked {
+    number: u64,
+    mark: Mark,
+}
+
+/// The place of a reader in the numbers of one writer, and what is known of the 256 numbers from it on.
+///
+/// RTPS 2.5, 8.4.12 (reliable StatefulReader: changes_from_writer).
+#[derive(Drop)]
+pub struct Window {
+    place: u64,
+    marked: Vec<Marked>,
+}
+
+impl Model for Window {
+    ghost use Rattle.std.specs.Prelude.{◌-◌, vec_len, vec_capacity};
+    ghost use Rattle.rtps_sets.specs.Window.{Marks, HasNoOthers};
+
+    ghost Value = { Marks };
+
+    ghost view = { λ w. record { place = w.place; marked = w.marked.items; room = vec_capacity w.marked - vec_len w.marked } };
+
+    ghost invariant = { λ w. HasNoOthers (record { place = w.place; marked = w.marked.items; room = vec_capacity w.marked - vec_len w.marked }) };
+}
+
+impl Window {
+    /// The window of a writer of which nothing was heard: its place is 1.
+    pub fn open(alloc: Global) -> Window
+        ensures place { place_of result ≡ 1 }
+        ensures none { (n : ℕ) → mark_of result n ≡ None }
+    {
+        Window {
+            place: 1,
+            marked: Vec::new(alloc),
+        }
+    }
+
+    /// The next number: all before it were passed. The window is the 256 numbers from it on.
+    pub fn place(&self) -> Sn
+        ensures place { result ≡ place_of self.now }
+        ensures window { (n : ℕ) → is_in_window (place_of self.now) n ≡ false → mark_of self.now n ≡ None }
+    {
+        Sn::new(self.place)
+    }
+
+    /// Makes room for `n` marks, so that the next `n` calls of `mark` can't fail.
+    ///
+    /// # Errors
+    ///
+    /// `Memory` where a growth was refused; the window is as it was.
+    pub fn reserve(&mut self, n: usize) -> Result<(), Code>
+        ensures same { SameMarks self.old self.new }
+        ensures ok { OnOk result (n ≤ room_of self.new) }
+        ensures room { room_of self.old ≤ room_of self.new }
+        ensures succeeds { n ≤ room_of self.old → IsOk result }
+        ensures memory { IfErr result (λ code. code ≡ Memory) }
+    {
+        self.marked.reserve(n)?;
+        Ok(())
+    }
+
+    /// Marks a number: false where it is outside the window or was marked before.
+    ///
+    /// # Errors
+    ///
+    /// `Memory` where there was no room and a growth was refused; the window is as it was.
+    pub fn mark(&mut self, number: Sn, mark: Mark) -> Result<bool, Code>
+        ensures place { place_of self.new ≡ place_of self.old }
+        ensures answer { IfOk result (λ is_new. is_new ≡ can_mark self.old number) }
+        ensures marks { IfOk result (λ is_new. (n : ℕ) → mark_of self.new n ≡ (if is_new && (number == n) then Some mark else mark_of self.old n)) }
+        ensures room { room_of self.old ≤ room_of self.new + 1 }
+        ensures refused { can_mark self.old number ≡ false → (result ≡ Ok false) × (self.new ≡ self.old) }
+        ensures succeeds { 0 < room_of self.old → IsOk result }
+        ensures memory { IfErr result (λ code. code ≡ Memory) }
+        ensures err { OnErr result (SameMarks self.old self.new) }
+    {
+        let number = number.number();
+        if number < self.place || WIDTH <= number - self.place {
+            return Ok(false);
+        }
+        if find_mark(&self.marked, number).is_some() {
+            return Ok(false);
+        }
+        self.marked.push(Marked { number, mark })?;
+        Ok(true)
+    }
+
+    /// The numbers of the window up to a bound, itself among them, that are not marked: a set from the place on.
+    ///
+    /// RTPS 2.5, 8.4.12 (missing_changes), 8.3.8 (AckNack: readerSNState).
+    pub fn missing(&self, bound: Sn) -> SnSet
+        ensures base { result.base ≡ place_of self.now }
+        ensures members { (n : ℕ) → has_number result n ≡ (is_in_window (place_of self.now) n && (nat_le n bound && is_none (mark_of self.now n))) }
+    {
+        let last = u64::min(bound.number(), self.place.saturating_add(WIDTH - 1));
+        let mut set = SnSet::new(Sn::new(self.place));
+        for number in self.place..=last {
+            if find_mark(&self.marked, number).is_none() {
+                set.insert(Sn::new(number));
+            }
+        }
+        set
+    }
+
+    /// Moves the place over marked numbers, as far as they go, but not past `to`.
+    pub fn slide(&mut self, to: Sn)
+        ensures forward { place_of self.old ≤ place_of self.new }
+        ensures asked { place_of self.new ≤ max (place_of self.old) to }
+        ensures over { (n : ℕ) → place_of self.old ≤ n → n < place_of self.new → IsSome (mark_of self.old n) }
+        ensures stops { place_of self.new < to → mark_of self.old (place_of self.new) ≡ None }
+        ensures marks { (n : ℕ) → mark_of self.new n ≡ (if nat_le (place_of self.new) n then mark_of self.old n else None) }
+        ensures room { room_of self.old ≤ room_of self.new }
+    {
+        let place = run_end(&self.marked, self.place, to.number());
+        drop_below(&mut self.marked, place);
+        self.place = place;
+    }
+}
+
+/// So many numbers, from the place on, may be marked.
+const WIDTH: u64 = 256;
+
+/// The mark of a number.
+fn find_mark(marked: &[Marked], number: u64) -> Option<Mark>
+    ensures { result ≡ mark_in marked.now number }
+{
+    for entry in marked {
+        if entry.number == number {
+            return Some(entry.mark);
+        }
+    }
+    None
+}
+
+/// The first number from the place on that is not marked, but at most `to`.
+fn run_end(marked: &[Marked], place: u64, to: u64) -> u64
+    ensures forward { place ≤ result }
+    ensures asked { result ≤ max place to }
+    ensures over { (n : ℕ) → place ≤ n → n < result → IsSome (mark_in marked.now n) }
+    ensures stops { result < to → mark_in marked.now result ≡ None }
+{
+    for number in place..to {
+        if find_mark(marked, number).is_none() {
+            return number;
+        }
+    }
+    u64::max(place, to)
+}
+
+/// Forgets the marks below a number.
+fn drop_below(marked: &mut Vec<Marked>, place: u64)
+    ensures items { marked.new.items ≡ filter (λ m. nat_le place m.number) marked.old.items }
+    ensures len { vec_len marked.new ≤ vec_len marked.old }
+    ensures capacity { vec_capacity marked.new ≡ vec_capacity marked.old }
+{
+    marked.retain(|entry| place <= entry.number);
+}
