@@ -2,7 +2,7 @@
 -- a growth was refused.
 --
 -- DDS 1.4, 2.2.2.4 (register_instance, write, dispose, unregister_instance), 2.2.2.5 (take), 2.2.1.1 (return codes).
-use Rattle.std.specs.Prelude.{◌≡◌, ◌≢◌, ℕ, zero, suc, ◌^◌, ◌&&◌, ◌||◌, not, Bool, true, false, List, [], ◌∷◌, length, Option, Some, None, nat_le, nat_lt, if◌then◌else◌, ℤ, pos, negsuc}
+use Rattle.std.specs.Prelude.{◌≡◌, ◌≢◌, ℕ, ◌^◌, ◌&&◌, ◌||◌, not, Bool, true, false, List, [], ◌∷◌, length, Option, Some, None, nat_le, nat_lt, if◌then◌else◌, ℤ, pos, negsuc}
 use Rattle.dds_base.specs.declared.key.Key.{Key}
 use Rattle.dds_base.specs.declared.change.Change.{Change}
 use Rattle.dds_base.specs.declared.change.ChangeKind.{ChangeKind}
@@ -14,6 +14,7 @@ use Rattle.dds_base.specs.declared.happening.Happening.TheVariants.{Took}
 use Rattle.dds_base.specs.declared.happening.SamplePosition.{SamplePosition}
 use Rattle.dds_base.specs.declared.mask.Masks.{Masks}
 use Rattle.dds_base.specs.Access.{picked_samples, no_filter, collection_of}
+use Rattle.dds_base.specs.Checked.{is_maximum}
 use Rattle.dds_base.specs.Kept.{append_refusal}
 use Rattle.dds_base.specs.Refusal.{Refuses}
 use Rattle.dds_base.specs.Written.{Written, Registered, Changed, is_key_registered}
@@ -60,13 +61,6 @@ unregister_refusal part writer key =
     else (if not (is_key_registered key (own_writer part writer).written) then Some PreconditionNotMet
     else change_refusal part writer (change_made part (unregister_kind (own_writer part writer)) key []))
 
--- -1, or a positive number
-abbrev pub is_max : ℤ → Bool
-is_max (pos zero) = false
-is_max (pos (suc n)) = true
-is_max (negsuc zero) = true
-is_max (negsuc (suc n)) = false
-
 -- how many samples at most: -1 is unlimited
 abbrev pub limit_of : ℤ → Option ℕ
 limit_of (pos n) = Some n
@@ -78,7 +72,7 @@ picked_at part reader max masks = picked_samples (own_reader part reader).qos (o
 
 -- why an access is refused: no such reader, or a max that is neither -1 nor positive
 abbrev pub access_refusal : Part → ℕ → ℤ → Option Code
-access_refusal part reader max = if not (has_number part.dds.readers reader) || not (is_max max) then Some BadParameter else None
+access_refusal part reader max = if not (has_number part.dds.readers reader) || not (is_maximum max) then Some BadParameter else None
 
 -- a peer's reader, after one more thing happened there
 abbrev pub with_happening : Part → ℕ → Happening → Dds
@@ -87,7 +81,7 @@ with_happening part reader happening = record {
   readers = with_numbered part.dds.readers reader (record { qos = (own_reader part reader).qos; happened = happening ∷ (own_reader part reader).happened });
 }
 
--- What a call does to what other peers may learn of, and no more.
+-- What a call enters at a writer of its peer, if anything.
 pub data Effect : Type 0 where
   nothing : Effect
   writes : (writer : ℕ) (entry : Written) → Effect
@@ -113,7 +107,8 @@ abbrev pub effect_of : Part → Call → Reply → Effect
 effect_of part call Done = entered part call
 effect_of part call reply = nothing
 
--- what was is now so, unless this refuses it, which changes nothing
+-- A call that the first cause refuses, if there is one, or want of memory: else it is done. What was `old` is then
+-- `done`; where it is refused it is as it was.
 abbrev pub IsDoneUnless : {X : Type 0} → Option Code → Reply → X → X → X → Type 0
 IsDoneUnless refusal Done old done new = (refusal ≡ None) × (new ≡ done)
 IsDoneUnless refusal (Refused code) old done new = Refuses refusal code × (new ≡ old)

@@ -34,7 +34,8 @@ use Rattle.dds_model.specs.declared.reply.Reply.TheVariants.{Done, Samples, Refu
 use Rattle.dds_model.specs.declared.reply.Report.{Report}
 use Rattle.dds_model.specs.Part.{Part, Dds, own_writer}
 use Rattle.dds_model.specs.Moves.{Grounds, Position, match_of, position_of, Comes, Places, AreMoves}
-use Rattle.dds_model.specs.Calls.{CallStep, access_refusal, register_refusal, write_refusal, dispose_refusal, unregister_refusal, change_refusal, change_made, unregister_kind, tick_refusal, Answers as CallAnswers, is_max, limit_of}
+use Rattle.dds_base.specs.Checked.{is_maximum}
+use Rattle.dds_model.specs.Calls.{CallStep, access_refusal, register_refusal, write_refusal, dispose_refusal, unregister_refusal, change_refusal, change_made, unregister_kind, tick_refusal, Answers as CallAnswers, limit_of}
 use Rattle.dds_model.specs.Claims.{IsFor, IsWriter, IsForReader, ChangeIs, Claimed, change_in}
 use Rattle.dds_model.specs.Peer.{Peer, PeerStep, Delivery, claimed, packets_of}
 use Rattle.dds_world.specs.Standing.{ReadingKept, ReadingStandsFor, ReadingSteps, reading_part}
@@ -256,15 +257,15 @@ refused_take kept config peer s reader max masks c other is =
     (peer, record { same_number = refl; step = (record { answers = (is, refl); rtps = refl }, refl); sent = λ p c m h. absurd (omega (arith, m.1)) }, s)
 
 -- a good access is not refused
-good_access : (q : ReaderQos) (moment place : ℕ) (h : List Happening) (max : ℤ) → is_max max ≡ true → access_refusal (reading_part q moment place h) 1 max ≡ None
+good_access : (q : ReaderQos) (moment place : ℕ) (h : List Happening) (max : ℤ) → is_maximum max ≡ true → access_refusal (reading_part q moment place h) 1 max ≡ None
 good_access q moment place h max good = ap (λ (b : Bool). if not b then Some BadParameter else None) good
 
-good_at : (peer : Peer) (q : ReaderQos) (moment place : ℕ) (h : List Happening) (reader : ℕ) (max : ℤ) → peer.part ≡ reading_part q moment place h → reader ≡ 1 → is_max max ≡ true → access_refusal peer.part reader max ≡ None
+good_at : (peer : Peer) (q : ReaderQos) (moment place : ℕ) (h : List Happening) (reader : ℕ) (max : ℤ) → peer.part ≡ reading_part q moment place h → reader ≡ 1 → is_maximum max ≡ true → access_refusal peer.part reader max ≡ None
 good_at peer q moment place h reader max part one good =
     ap (λ (p : Part). access_refusal p reader max) part ∙ (ap (λ (n : ℕ). access_refusal (reading_part q moment place h) n max) one ∙ good_access q moment place h max good)
 
 -- what a cache answers is what the machine answers
-pub took : (kept : ReadingKept) (cache : CacheKept) (config : Config) (peer : Peer) (s : ReadingStandsFor kept config peer) (reader : ℕ) (max : ℤ) (masks : Masks) (r : Result (List Sample) Code) → reader ≡ 1 → is_max max ≡ true
+pub took : (kept : ReadingKept) (cache : CacheKept) (config : Config) (peer : Peer) (s : ReadingStandsFor kept config peer) (reader : ℕ) (max : ℤ) (masks : Masks) (r : Result (List Sample) Code) → reader ≡ 1 → is_maximum max ≡ true
     → qos_of cache ≡ qos_of kept.cache → Answers kept.cache s.happened (limit_of max) masks r → AfterAccess Took kept.cache s.happened (limit_of max) masks r cache
     → Follows (with_cache kept cache) config peer (event.Call (call.Take reader max masks)) (silent (access_reply r))
 took kept cache config peer s reader max masks (Ok samples) one good same answer after =

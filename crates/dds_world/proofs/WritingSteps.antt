@@ -26,7 +26,8 @@ use Rattle.dds_model.specs.declared.event.Packet.{Packet}
 use Rattle.dds_model.specs.declared.reply.Reply.{Reply}
 use Rattle.dds_model.specs.declared.reply.Reply.TheVariants.{Done, Refused, Reported}
 use Rattle.dds_model.specs.Part.{Part, Dds, own_writer, history_of}
-use Rattle.dds_model.specs.Calls.{Effect, writes, entered, effect, effect_of, IsDoneUnless, Answers, CallStep, register_refusal, write_refusal, dispose_refusal, unregister_refusal, access_refusal, tick_refusal, has_number, is_max}
+use Rattle.dds_base.specs.Checked.{is_maximum}
+use Rattle.dds_model.specs.Calls.{Effect, writes, entered, effect, effect_of, IsDoneUnless, Answers, CallStep, register_refusal, write_refusal, dispose_refusal, unregister_refusal, access_refusal, tick_refusal, has_number}
 use Rattle.dds_model.specs.Claims.{change_in}
 use Rattle.dds_model.specs.Peer.{Peer, PeerStep, IsTrueAt}
 use Rattle.dds_world.specs.Making.{IsMade, IsNotMade, Makes}
@@ -164,7 +165,7 @@ or_true false b h = h
 pub nothing_taken : (kept : WritingKept) (reader : ℕ) (max : ℤ) (masks : Masks) → WritingSteps kept (event.Call (call.Take reader max masks)) (silent (Refused BadParameter)) kept
 nothing_taken kept reader max masks config peer s =
     let none : has_number peer.part.dds.readers reader ≡ false = ap (λ (p : Part). has_number p.dds.readers reader) s.part ∙ no_number reader in
-    let is : Refuses (access_refusal peer.part reader max) BadParameter = subst (λ (b : Bool). Refuses (if not b || not (is_max max) then Some BadParameter else None) BadParameter) (sym none) refl in
+    let is : Refuses (access_refusal peer.part reader max) BadParameter = subst (λ (b : Bool). Refuses (if not b || not (is_maximum max) then Some BadParameter else None) BadParameter) (sym none) refl in
     refused_call kept config peer s (call.Take reader max masks) BadParameter (is, refl)
 
 pub nothing_delivered : (kept : WritingKept) (packet : List ℕ) → WritingSteps kept (event.Deliver packet) (silent (Reported (record { moves = []; refused = None }))) kept

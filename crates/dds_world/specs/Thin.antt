@@ -1,5 +1,5 @@
 -- The configurations that a network takes so far: a peer with one writer and a peer with one reader of its topic.
-use Rattle.std.specs.Prelude.{◌≡◌, ◌≢◌, [], ◌∷◌, None, negsuc, replicate, slice_index}
+use Rattle.std.specs.Prelude.{◌≡◌, ◌≢◌, [], ◌∷◌, None, negsuc, slice_index}
 use Rattle.dds_base.specs.declared.config.Config.{Config}
 use Rattle.dds_base.specs.declared.config.PeerConfig.{PeerConfig}
 use Rattle.dds_base.specs.declared.config.WriterConfig.{WriterConfig}
@@ -8,6 +8,7 @@ use Rattle.dds_base.specs.declared.guid.GuidPrefix.{GuidPrefix}
 use Rattle.dds_base.specs.declared.qos.HistoryQos.TheVariants.{KeepAll}
 use Rattle.dds_base.specs.declared.qos.OwnershipQos.TheVariants.{Shared}
 use Rattle.dds_base.specs.declared.qos.ReaderQos.{ReaderQos}
+use Rattle.dds_base.specs.Checked.{unknown_prefix}
 
 -- two peers of different prefixes, of which the first has this writer and the second this reader
 pub record IsPair (config : Config) (first second : PeerConfig) (writer : WriterConfig) (reader : ReaderConfig) : Type 0 where
@@ -35,15 +36,11 @@ pub record IsThinReader (r : ReaderConfig) : Type 0 where
   pub max_instances : r.max_instances ≡ negsuc 0
   pub lease : r.lease ≡ None
 
--- the prefix of no peer
-abbrev pub no_prefix : GuidPrefix
-no_prefix = record { 0 = replicate 12 0 }
-
 -- such a pair, of which each has a prefix, and whose ends are of one topic
 pub record IsThinPair (config : Config) (first second : PeerConfig) (writer : WriterConfig) (reader : ReaderConfig) : Type 0 where
   pub pair : IsPair config first second writer reader
-  pub first_named : first.prefix ≢ no_prefix
-  pub second_named : second.prefix ≢ no_prefix
+  pub first_named : first.prefix ≢ unknown_prefix
+  pub second_named : second.prefix ≢ unknown_prefix
   pub writer_is : IsThinWriter writer
   pub reader_is : IsThinReader reader
   pub topic : reader.topic ≡ writer.topic

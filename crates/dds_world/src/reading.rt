@@ -4,7 +4,8 @@ ghost use Rattle.std.specs.Prelude.{◌≡◌, ◌↔◌, ℕ, ◌+◌, ◌-◌,
 ghost use Rattle.rtps_wire.specs.declared.data.Data.{Data};
 ghost use Rattle.dds_model.specs.declared.call.Call.TheVariants as call;
 ghost use Rattle.dds_model.specs.declared.event.Event.TheVariants as event;
-ghost use Rattle.dds_model.specs.Calls.{is_max, limit_of};
+ghost use Rattle.dds_base.specs.Checked.{is_maximum};
+ghost use Rattle.dds_model.specs.Calls.{limit_of};
 ghost use Rattle.dds_model.specs.Claims.{change_in};
 ghost use Rattle.dds_world.specs.Receiving.{receiver_at, IsNext, StandsNext, HasNoNext, Advances, AdvancesOn, ReplyAdvances, BringsNext, ReadingMoves, place_moves, access_reply};
 ghost use Rattle.dds_base.specs.Ownership.{IsMatched};
@@ -72,7 +73,7 @@ impl Model for ReadingPeer {
 
 /// How many samples an access asks for; `None` where it asks for no valid number.
 fn limit_from(max: i32) -> Option<Option<u32>>
-    ensures { MatchOption result (is_max max ≡ false) (λ limit. (is_max max ≡ true) × (limit ≡ limit_of max)) }
+    ensures { MatchOption result (is_maximum max ≡ false) (λ limit. (is_maximum max ≡ true) × (limit ≡ limit_of max)) }
 {
     if max == -1 {
         Some(None)

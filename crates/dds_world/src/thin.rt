@@ -1,7 +1,8 @@
 //! The configurations that a network takes so far.
 
 ghost use Rattle.std.specs.Prelude.{◌≡◌, ◌≢◌, ◌↔◌, IsTrue, IfSome, IfNone};
-ghost use Rattle.dds_world.specs.Thin.{IsThin, IsThinWriter, IsThinReader, HasEnds, no_prefix};
+ghost use Rattle.dds_world.specs.Thin.{IsThin, IsThinWriter, IsThinReader, HasEnds};
+ghost use Rattle.dds_base.specs.Checked.{unknown_prefix};
 
 use crate::receiver::EVERY_PEER;
 use dds_base::{
@@ -49,7 +50,7 @@ pub struct Ends {
 
 /// Whether two prefixes are those of two peers.
 fn are_apart(first: &GuidPrefix, second: &GuidPrefix) -> bool
-    ensures { IsTrue result ↔ ((first.now ≢ second.now) × (first.now ≢ no_prefix) × (second.now ≢ no_prefix)) }
+    ensures { IsTrue result ↔ ((first.now ≢ second.now) × (first.now ≢ unknown_prefix) × (second.now ≢ unknown_prefix)) }
 {
     *first != *second && *first != EVERY_PEER && *second != EVERY_PEER
 }

@@ -1,4 +1,4 @@
-use Rattle.std.proofs.Common.{◌≡◌, List, Bool, rules, ap, ◌∙◌}
+use Rattle.std.proofs.Common.{◌≡◌, List, rules, ap, ◌∙◌}
 use Rattle.std.specs.Prelude.{not, filter}
 use Rattle.std.proofs.lemmas.Fn.{filter_same}
 use Rattle.dds_base.specs.declared.key.Key.{Key}

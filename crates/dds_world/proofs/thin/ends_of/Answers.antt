@@ -1,6 +1,6 @@
 use Rattle.std.proofs.Common.{◌≢◌, refl, sym, ◌∙◌, arith}
 use Rattle.dds_base.specs.declared.config.PeerConfig.{PeerConfig}
-use Rattle.dds_world.specs.Thin.{no_prefix}
+use Rattle.dds_base.specs.Checked.{unknown_prefix}
 use Rattle.dds_world.proofs.Ends.{one_item, two_items, no_item}
 use Rattle.dds_world.proofs.thin.ends_of.Goals as goal
 
@@ -8,7 +8,7 @@ pub returns-clause-found : goal.returns-clause-found
 returns-clause-found c =
     let first : PeerConfig = c.first-item.result in
     let second : PeerConfig = c.second-item.result in
-    let apart : (first.prefix ≢ second.prefix) × (first.prefix ≢ no_prefix) × (second.prefix ≢ no_prefix) = c.are_apart.ensures.0 c.if-not-are_apart.false in
+    let apart : (first.prefix ≢ second.prefix) × (first.prefix ≢ unknown_prefix) × (second.prefix ≢ unknown_prefix) = c.are_apart.ensures.0 c.if-not-are_apart.false in
     let thin = c.are_thin.ensures.0 c.if-not-are_thin.false in
     record {
       first = first;

@@ -7,7 +7,8 @@ use Rattle.dds_cache.specs.Standing.{Answers, AfterAccess}
 use Rattle.dds_model.specs.declared.call.Call.TheVariants as call
 use Rattle.dds_model.specs.declared.event.Event.TheVariants as event
 use Rattle.dds_model.specs.declared.event.Output.{Output}
-use Rattle.dds_model.specs.Calls.{is_max, limit_of}
+use Rattle.dds_base.specs.Checked.{is_maximum}
+use Rattle.dds_model.specs.Calls.{limit_of}
 use Rattle.dds_world.specs.Standing.{ReadingKept, ReadingStandsFor}
 use Rattle.dds_world.proofs.ReadingSteps.{took, Follows, silent, with_cache}
 use Rattle.dds_world.proofs.reading.ReadingPeer.take.Goals as goal
@@ -26,7 +27,7 @@ returns-clause-step c = λ config peer given.
     } in
     let s : ReadingStandsFor kept config peer = subst (λ (k : ReadingKept). ReadingStandsFor k config peer) (sym c.self.view_is) given in
     let same_max = to_z-of_z w32 c.args.max c.ranges.max in
-    let good : is_max c.args.max ≡ true = subst (λ (m : ℤ). is_max m ≡ true) same_max c.in-Some.ensures.0 in
+    let good : is_maximum c.args.max ≡ true = subst (λ (m : ℤ). is_maximum m ≡ true) same_max c.in-Some.ensures.0 in
     let limit : c.in-Some.limit ≡ limit_of c.args.max = subst (λ (m : ℤ). c.in-Some.limit ≡ limit_of m) same_max c.in-Some.ensures.1 in
     let one : c.args.reader ≡ 1 = omega arith in
     let answer = subst (λ (l : Option ℕ). Answers kept.cache s.happened l c.args.masks c.take-samples.result) limit (c.take-samples.ensures.answer s.happened s.cache) in

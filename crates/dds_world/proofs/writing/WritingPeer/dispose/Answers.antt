@@ -1,8 +1,6 @@
-use Rattle.std.proofs.Common.{◌≡◌, ℕ, ◌≤◌, List, [], Bool, true, ap, sym, refl, ◌∙◌, length, arith}
+use Rattle.std.proofs.Common.{◌≡◌, [], ap, refl, ◌∙◌, arith}
 use Rattle.dds_base.specs.declared.change.ChangeKind.TheVariants as kind
-use Rattle.dds_base.specs.declared.key.Key.{Key}
-use Rattle.dds_world.specs.Registered.{is_among}
-use Rattle.dds_world.specs.Standing.{WritingKept, kind_by}
+use Rattle.dds_world.specs.Standing.{WritingKept}
 use Rattle.dds_world.proofs.WritingSteps.{made_by, made_as, dispose_steps, dispose_sends}
 use Rattle.dds_world.proofs.writing.WritingPeer.dispose.Goals as goal
 

@@ -1,10 +1,9 @@
-use Rattle.std.proofs.Common.{◌≡◌, ◌+◌, List, Option, None, sym, ◌∙◌, ap, refl, subst, length, rules}
+use Rattle.std.proofs.Common.{◌≡◌, List, Option, sym, ◌∙◌, ap, refl, subst, rules}
 use Rattle.std.specs.Prelude.{not, if◌then◌else◌}
 use Rattle.dds_base.specs.declared.code.Code.{Code}
 use Rattle.dds_base.specs.declared.code.Code.TheVariants.{Memory}
 use Rattle.dds_base.specs.declared.key.Key.{Key}
 use Rattle.dds_base.specs.Happening.{same_key, is_unregister}
-use Rattle.dds_base.specs.Kept.{append_refusal}
 use Rattle.dds_base.specs.Refusal.{Refuses}
 use Rattle.dds_history.specs.Standing.{Held}
 use Rattle.dds_world.specs.Making.{Makes}

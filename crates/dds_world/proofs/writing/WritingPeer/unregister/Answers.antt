@@ -1,9 +1,8 @@
-use Rattle.std.proofs.Common.{◌≡◌, ℕ, ◌≤◌, List, [], Bool, true, ap, sym, refl, ◌∙◌, length, arith}
-use Rattle.dds_base.specs.declared.change.ChangeKind.TheVariants as kind
+use Rattle.std.proofs.Common.{◌≡◌, List, [], true, ap, sym, ◌∙◌, arith}
 use Rattle.dds_base.specs.declared.key.Key.{Key}
 use Rattle.dds_world.specs.Registered.{is_among}
 use Rattle.dds_world.specs.Standing.{WritingKept, kind_by}
-use Rattle.dds_world.proofs.WritingSteps.{made_by, made_as, unregister_steps, unregister_sends, not_true}
+use Rattle.dds_world.proofs.WritingSteps.{made_by, made_as, unregister_steps, unregister_sends}
 use Rattle.dds_world.proofs.writing.WritingPeer.unregister.Goals as goal
 
 pub returns-clause-step : goal.returns-clause-step

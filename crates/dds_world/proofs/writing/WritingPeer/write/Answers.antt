@@ -1,9 +1,7 @@
-use Rattle.std.proofs.Common.{◌≡◌, ℕ, ◌≤◌, List, [], Bool, true, ap, sym, refl, ◌∙◌, length, arith}
+use Rattle.std.proofs.Common.{◌≡◌, ℕ, ◌≤◌, ap, length, arith}
 use Rattle.dds_base.specs.declared.change.ChangeKind.TheVariants as kind
-use Rattle.dds_base.specs.declared.key.Key.{Key}
-use Rattle.dds_world.specs.Registered.{is_among}
-use Rattle.dds_world.specs.Standing.{WritingKept, kind_by}
-use Rattle.dds_world.proofs.WritingSteps.{made_by, made_as, write_steps, write_sends}
+use Rattle.dds_world.specs.Standing.{WritingKept}
+use Rattle.dds_world.proofs.WritingSteps.{made_by, write_steps, write_sends}
 use Rattle.dds_world.proofs.writing.WritingPeer.write.Goals as goal
 
 pub returns-clause-step : goal.returns-clause-step
