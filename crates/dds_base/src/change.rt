@@ -1,5 +1,8 @@
 //! What a writer does to an instance.
 
+ghost use Rattle.std.specs.Prelude.{◌≡◌};
+ghost use Rattle.dds_base.specs.Happening.{is_unregister};
+
 use crate::key::Key;
 use crate::moment::Moment;
 use crate::octets::Octets;
@@ -17,6 +20,20 @@ pub enum ChangeKind {
     Unregister,
     /// Disposes and unregisters at once: what an unregister is at a writer that disposes on its own.
     DisposeUnregister,
+}
+
+impl ChangeKind {
+    /// Whether it ends its writer's registration of the instance.
+    ///
+    /// DDS 1.4, 2.2.2.4 (unregister_instance).
+    pub fn is_unregister(self) -> bool
+        ensures { result ≡ is_unregister self }
+    {
+        match self {
+            ChangeKind::Unregister | ChangeKind::DisposeUnregister => true,
+            ChangeKind::Write | ChangeKind::Dispose => false,
+        }
+    }
 }
 
 /// A change of one instance, as its writer made it.

@@ -16,15 +16,6 @@ const MAX_PEERS: usize = 16;
 /// So many writers, and so many readers, at most at a peer.
 const MAX_ENDS: usize = 16;
 
-/// The kind of a writer's entity id (RTPS 2.5, 9.3).
-const WRITER_KIND: u8 = 0x02;
-
-/// The kind of a reader's entity id (RTPS 2.5, 9.3).
-const READER_KIND: u8 = 0x07;
-
-/// The prefix of no peer (RTPS 2.5, 9.3).
-const UNKNOWN_PREFIX: GuidPrefix = GuidPrefix([0; 12]);
-
 /// From this one on a lease is too long, in units of 2^-32 second.
 const LEASE_END: u64 = 1 << 63;
 
@@ -55,7 +46,7 @@ impl Config {
     }
 }
 
-/// Whether something is no parameter of a configuration.
+/// Whether something of a configuration is invalid.
 fn is_bad(peers: &[PeerConfig]) -> bool
     ensures { result ≡ has_bad_parameter peers.now }
 {
@@ -66,7 +57,7 @@ fn is_bad(peers: &[PeerConfig]) -> bool
 fn has_bad_prefix(peers: &[PeerConfig]) -> bool
     ensures { result ≡ list_any (λ p. same_prefix p.prefix unknown_prefix || nat_lt 1 (prefix_count peers.now p.prefix)) peers.now }
 {
-    peers.iter().any(|p| p.prefix == UNKNOWN_PREFIX || 1 < count_prefix(peers, &p.prefix))
+    peers.iter().any(|p| p.prefix == GuidPrefix::UNKNOWN || 1 < count_prefix(peers, &p.prefix))
 }
 
 /// How many peers have a prefix.
@@ -76,14 +67,14 @@ fn count_prefix(peers: &[PeerConfig], prefix: &GuidPrefix) -> usize
     peers.iter().filter(|p| p.prefix == *prefix).count()
 }
 
-/// Whether some peer has too many ends, two of one entity, or one that is none.
+/// Whether some peer has too many ends, two of one entity, or one that is invalid.
 fn has_bad_peer(peers: &[PeerConfig]) -> bool
     ensures { result ≡ list_any is_bad_peer peers.now }
 {
     peers.iter().any(|p| is_bad_peer(p))
 }
 
-/// Whether a peer has too many ends, two of one entity, or one that is none.
+/// Whether a peer has too many ends, two of one entity, or one that is invalid.
 fn is_bad_peer(peer: &PeerConfig) -> bool
     ensures { result ≡ is_bad_peer peer.now }
 {
@@ -127,35 +118,35 @@ fn count_entity(peer: &PeerConfig, entity: &EntityId) -> usize
         + readers.iter().filter(|r| r.entity == *entity).count()
 }
 
-/// Whether some writer has a kind, a depth, a maximum or a lease that is none.
+/// Whether some writer has a kind, a depth, a maximum or a lease that is invalid.
 fn has_bad_writer(writers: &[WriterConfig]) -> bool
     ensures { result ≡ list_any is_bad_writer writers.now }
 {
     writers.iter().any(|w| is_bad_writer(w))
 }
 
-/// Whether some reader has a kind, a depth, a maximum or a lease that is none.
+/// Whether some reader has a kind, a depth, a maximum or a lease that is invalid.
 fn has_bad_reader(readers: &[ReaderConfig]) -> bool
     ensures { result ≡ list_any is_bad_reader readers.now }
 {
     readers.iter().any(|r| is_bad_reader(r))
 }
 
-/// Whether a writer has a kind, a depth, a maximum or a lease that is none.
+/// Whether a writer has a kind, a depth, a maximum or a lease that is invalid.
 fn is_bad_writer(writer: &WriterConfig) -> bool
     ensures { result ≡ is_bad_writer writer.now }
 {
-    writer.entity.0[3] != WRITER_KIND
+    writer.entity.0[3] != EntityId::WRITER_KIND
         || has_no_depth(writer.history)
         || !is_maximum(writer.max_samples)
         || is_bad_lease(writer.lease)
 }
 
-/// Whether a reader has a kind, a depth, a maximum or a lease that is none.
+/// Whether a reader has a kind, a depth, a maximum or a lease that is invalid.
 fn is_bad_reader(reader: &ReaderConfig) -> bool
     ensures { result ≡ is_bad_reader reader.now }
 {
-    reader.entity.0[3] != READER_KIND
+    reader.entity.0[3] != EntityId::READER_KIND
         || has_no_depth(reader.history)
         || !is_maximum(reader.max_samples)
         || !is_maximum(reader.max_instances)

@@ -9,6 +9,9 @@ ghost use Rattle.std.specs.Prelude.{◌≡◌, ◌++◌, length};
 pub struct GuidPrefix(pub [u8; 12]);
 
 impl GuidPrefix {
+    /// GUIDPREFIX_UNKNOWN: no peer in particular. No peer has it, and a receiver takes it for every peer.
+    pub const UNKNOWN: GuidPrefix = GuidPrefix([0; 12]);
+
     /// The twelve octets, in their order.
     pub fn as_slice(&self) -> &[u8]
         ensures same { result.now ≡ self.now.0 }
@@ -26,6 +29,12 @@ impl GuidPrefix {
 pub struct EntityId(pub [u8; 4]);
 
 impl EntityId {
+    /// The last octet of a writer with a key.
+    pub const WRITER_KIND: u8 = 0x02;
+
+    /// The last octet of a reader with a key.
+    pub const READER_KIND: u8 = 0x07;
+
     /// No entity in particular: a receiver takes it for all that match.
     pub const UNKNOWN: EntityId = EntityId([0; 4]);
 

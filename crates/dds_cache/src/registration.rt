@@ -2,7 +2,7 @@
 
 ghost use Rattle.std.specs.Prelude.{◌≡◌, not, map, option_copied, [], IfOk};
 ghost use Rattle.std.specs.List.{list_any, list_all};
-ghost use Rattle.dds_base.specs.Happening.{is_write_or_dispose, is_unregister};
+ghost use Rattle.dds_base.specs.Happening.{is_write_or_dispose};
 ghost use Rattle.dds_base.specs.Ownership.{writer_of, is_above, outranks, admits, registers, ends_registration, publication_handles};
 ghost use Rattle.dds_base.specs.declared.key.Key.{Key};
 ghost use Rattle.dds_cache.specs.Registration.{registration_of, is_there, gives_way, accepted_among, noted};
@@ -27,15 +27,6 @@ fn is_data(kind: ChangeKind) -> bool
     }
 }
 
-fn is_end(kind: ChangeKind) -> bool
-    ensures { result ≡ is_unregister kind }
-{
-    match kind {
-        ChangeKind::Unregister | ChangeKind::DisposeUnregister => true,
-        _ => false,
-    }
-}
-
 fn is_registering(key: Key, writer: Handle, entry: &Happening) -> bool
     ensures { result ≡ registers key writer entry.now }
 {
@@ -51,7 +42,9 @@ fn is_ending(key: Key, writer: Handle, entry: &Happening) -> bool
     ensures { result ≡ ends_registration key writer entry.now }
 {
     match entry {
-        Happening::Came(a) => a.change.key == key && a.writer == writer && is_end(a.change.kind),
+        Happening::Came(a) => a.change.key == key
+            && a.writer == writer
+            && a.change.kind.is_unregister(),
         Happening::Died { writer: dead, .. } => *dead == writer,
         _ => false,
     }

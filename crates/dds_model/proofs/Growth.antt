@@ -17,7 +17,6 @@ use Rattle.dds_model.specs.declared.endpoint.Endpoint.{Endpoint}
 use Rattle.dds_model.specs.declared.reply.Move.{Move}
 use Rattle.dds_model.specs.declared.reply.Move.TheVariants.{Place, Acknowledged}
 use Rattle.dds_model.specs.declared.reply.Reply.{Reply}
-use Rattle.dds_base.specs.declared.code.Code.{Code}
 use Rattle.dds_model.specs.declared.reply.Reply.TheVariants.{Done, Samples, Refused, Reported}
 use Rattle.dds_model.specs.Numbered.{numbered, with_numbered}
 use Rattle.dds_model.specs.Part.{WriterProxy, Writer, Rtps, Part, no_writer, no_part, own_writer, own_proxies, place_of, with_place, with_acknowledged, writer_changes, history_of}

@@ -2,7 +2,7 @@
 -- a growth was refused.
 --
 -- DDS 1.4, 2.2.2.4 (register_instance, write, dispose, unregister_instance), 2.2.2.5 (take), 2.2.1.1 (return codes).
-use Rattle.std.specs.Prelude.{◌≡◌, ◌≢◌, ℕ, ◌^◌, ◌&&◌, ◌||◌, not, Bool, true, false, List, [], ◌∷◌, length, Option, Some, None, nat_le, nat_lt, if◌then◌else◌, ℤ, pos, negsuc}
+use Rattle.std.specs.Prelude.{◌≡◌, ◌≢◌, ℕ, ◌^◌, ◌&&◌, ◌||◌, not, Bool, List, [], ◌∷◌, length, Option, Some, None, nat_le, nat_lt, if◌then◌else◌, ℤ, pos, negsuc}
 use Rattle.dds_base.specs.declared.key.Key.{Key}
 use Rattle.dds_base.specs.declared.change.Change.{Change}
 use Rattle.dds_base.specs.declared.change.ChangeKind.{ChangeKind}
@@ -34,8 +34,8 @@ abbrev pub change_made : Part → ChangeKind → Key → List ℕ → Change
 change_made part kind key value = record { kind = kind; key = key; value = value; source_timestamp = part.dds.moment }
 
 -- what an unregister makes: with autodispose the instance is disposed too (2.2.3, WRITER_DATA_LIFECYCLE)
-abbrev pub unregister_kind : Writer → ChangeKind
-unregister_kind w = if w.autodispose then kind.DisposeUnregister else kind.Unregister
+abbrev pub unregister_kind : Bool → ChangeKind
+unregister_kind autodispose = if autodispose then kind.DisposeUnregister else kind.Unregister
 
 -- why a change of the peer's writer is refused, as its history says
 abbrev pub change_refusal : Part → ℕ → Change → Option Code
@@ -59,7 +59,7 @@ abbrev pub unregister_refusal : Part → ℕ → Key → Option Code
 unregister_refusal part writer key =
     if not (has_number part.rtps.writers writer) then Some BadParameter
     else (if not (is_key_registered key (own_writer part writer).written) then Some PreconditionNotMet
-    else change_refusal part writer (change_made part (unregister_kind (own_writer part writer)) key []))
+    else change_refusal part writer (change_made part (unregister_kind (own_writer part writer).autodispose) key []))
 
 -- how many samples at most: -1 is unlimited
 abbrev pub limit_of : ℤ → Option ℕ
@@ -99,7 +99,7 @@ abbrev pub entered : Part → Call → Effect
 entered part (Register writer key) = writes writer (Registered key)
 entered part (Write writer key value) = writes writer (Changed (change_made part kind.Write key value))
 entered part (Dispose writer key) = writes writer (Changed (change_made part kind.Dispose key []))
-entered part (Unregister writer key) = writes writer (Changed (change_made part (unregister_kind (own_writer part writer)) key []))
+entered part (Unregister writer key) = writes writer (Changed (change_made part (unregister_kind (own_writer part writer).autodispose) key []))
 entered part (Take reader max masks) = nothing
 
 -- the effect of a call that is answered so

@@ -10,6 +10,7 @@ use Rattle.dds_base.specs.declared.config.WriterConfig.{WriterConfig}
 use Rattle.dds_base.specs.declared.config.ReaderConfig.{ReaderConfig}
 use Rattle.dds_base.specs.declared.guid.GuidPrefix.{GuidPrefix}
 use Rattle.dds_base.specs.declared.guid.EntityId.{EntityId}
+use Rattle.dds_base.specs.Checked.{unknown_prefix}
 use Rattle.rtps_sets.specs.NumberSet.{has_number}
 use Rattle.rtps_wire.specs.declared.data.DataContent.{DataContent}
 use Rattle.rtps_wire.specs.declared.data.DataContent.TheVariants.{Write, Dispose, Unregister, DisposeUnregister}
@@ -57,9 +58,9 @@ pub record Receiver : Type 0 where
   pub dest_guid_prefix : GuidPrefix
   pub timestamp : ℕ
 
--- the prefix that names every peer
+-- the prefix that names every peer: GUIDPREFIX_UNKNOWN
 abbrev pub every_peer : GuidPrefix
-every_peer = record { 0 = replicate 12 0 }
+every_peer = unknown_prefix
 
 abbrev pub receiver_of : GuidPrefix → Receiver
 receiver_of prefix = record { source_guid_prefix = prefix; dest_guid_prefix = every_peer; timestamp = 0 }

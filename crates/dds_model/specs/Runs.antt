@@ -1,5 +1,5 @@
 -- Runs: replies to lists of events, with the packets that are sent meanwhile.
-use Rattle.std.specs.Prelude.{◌≡◌, ◌≢◌, ◌⊎◌, ℕ, ◌+◌, ◌-◌, ◌^◌, ◌≤◌, List, [], ◌∷◌, ◌++◌, length, ◌==◌, if◌then◌else◌, Contains, AllPairs}
+use Rattle.std.specs.Prelude.{◌≡◌, ◌≢◌, ℕ, ◌+◌, ◌-◌, ◌^◌, ◌≤◌, List, [], ◌∷◌, ◌++◌, length, min, ◌==◌, if◌then◌else◌, Contains, AllPairs}
 use Rattle.std.specs.List.{list_any}
 use Rattle.dds_base.specs.declared.change.Change.{Change}
 use Rattle.dds_base.specs.declared.config.Config.{Config}
@@ -33,7 +33,9 @@ pub record Announced (config : Config) (old : Traffic) (writer : Endpoint) (read
   pub to_peers : (packet : Packet) → Contains packets packet → Contains (peers_of readers) packet.to
   pub says : (packet : Packet) (reader : Endpoint) → Contains packets packet → reader.peer ≡ packet.to → 1 ≤ acknowledged_of readers reader → Claims config packet.bytes (ChangeIs writer reader number change)
   pub different : AllPairs (λ (a b : Packet). a.to ≢ b.to) packets
-  pub counted : (length packets + new.unsent ≡ length (peers_of readers) + old.unsent) ⊎ (new.unsent ≡ 2 ^ 64 - 1)
+  pub lost : ℕ
+  pub counted : length packets + lost ≡ length (peers_of readers)
+  pub unsent : new.unsent ≡ min (old.unsent + lost) (2 ^ 64 - 1)
 
 -- packets were sent, and none was taken back
 pub record SendsMore (old new : Traffic) : Type 0 where

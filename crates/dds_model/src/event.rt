@@ -15,7 +15,8 @@ pub struct Packet {
 #[derive(Debug, Drop)]
 pub enum Event {
     Call(Call),
-    /// The time goes on to this moment.
+    /// The time goes on to this moment: `BadParameter` where it would go back, or to 2^63 units of 2^-32 second and
+    /// beyond.
     Tick(Moment),
     /// The bytes of a packet come.
     Deliver(Octets),
@@ -33,7 +34,8 @@ pub struct Output {
 #[derive(Debug, Drop)]
 pub enum WorldEvent {
     Call { peer: u8, call: Call },
-    /// The time of a peer goes on to this moment.
+    /// The time of a peer goes on to this moment: `BadParameter` where it would go back, or to 2^63 units of 2^-32
+    /// second and beyond.
     Tick { peer: u8, now: Moment },
     /// The packet of this number, counted from 1 among all that were ever sent, comes at a peer.
     Deliver { peer: u8, packet: u64 },

@@ -24,7 +24,8 @@ use Rattle.dds_model.specs.declared.event.Packet.{Packet}
 use Rattle.dds_model.specs.Part.{own_writer, writer_changes}
 use Rattle.dds_model.specs.Claims.{Claim, ChangeIs, MayPass, PlaceReached, Receiver, receiver_of, StandsIn, IsWriter, change_in, Says, Claims}
 use Rattle.dds_model.specs.Peer.{Peer, IsTrueAt}
-use Rattle.dds_world.specs.Standing.{WritingKept, WritingStandsFor, writing_part, kind_by, content_with, IsAnnouncement, announcement}
+use Rattle.dds_model.specs.Calls.{unregister_kind}
+use Rattle.dds_world.specs.Standing.{WritingKept, WritingStandsFor, writing_part, content_with, IsAnnouncement, announcement}
 use Rattle.dds_world.proofs.Names.{only_writer}
 
 slice_get-last : {X : Type 0} (xs : List X) (x : X) → slice_get (xs ++ x ∷ []) (length xs) ≡ Some x
@@ -108,7 +109,7 @@ content_valid kind.Dispose key value of_key short = of_key
 content_valid kind.Unregister key value of_key short = of_key
 content_valid kind.DisposeUnregister key value of_key short = of_key
 
-pub content_means : (autodispose : Bool) (key : Key) (moment : ℕ) → change_in (content_with (kind_by autodispose) key []) moment ≡ record { kind = kind_by autodispose; key = key; value = []; source_timestamp = moment }
+pub content_means : (autodispose : Bool) (key : Key) (moment : ℕ) → change_in (content_with (unregister_kind autodispose) key []) moment ≡ record { kind = unregister_kind autodispose; key = key; value = []; source_timestamp = moment }
 content_means true key moment = refl
 content_means false key moment = refl
 

@@ -302,7 +302,7 @@ unknown_unregister : (q : ReaderQos) (moment place : ℕ) (h : List Happening) (
 unknown_unregister q moment place h w key =
     let part : Part = reading_part q moment place h in
     refused_first (nat_lt 0 w && nat_le w 0)
-    (if not (is_key_registered key (own_writer part w).written) then Some PreconditionNotMet else change_refusal part w (change_made part (unregister_kind (own_writer part w)) key [])) (no_number w)
+    (if not (is_key_registered key (own_writer part w).written) then Some PreconditionNotMet else change_refusal part w (change_made part (unregister_kind (own_writer part w).autodispose) key [])) (no_number w)
 
 none_done : (refusal : Option Code) → UnknownWriter refusal → refusal ≡ None → ⊥
 none_done refusal is none = cc

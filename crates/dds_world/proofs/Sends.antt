@@ -1,7 +1,6 @@
 -- What a network sends at an event.
-use Rattle.std.proofs.Common.{◌≡◌, ◌≢◌, ◌⊎◌, ℕ, ◌+◌, ◌-◌, ◌^◌, ◌≤◌, min, Bool, true, false, cond, List, [], ◌∷◌, Some, length, Contains, subst, ap, sym, ◌∙◌, refl, inl, inr, ⊎_elim, arith, length-append}
+use Rattle.std.proofs.Common.{◌≡◌, ◌≢◌, ℕ, ◌+◌, ◌-◌, ◌^◌, ◌≤◌, min, Bool, true, false, cond, List, [], ◌∷◌, Some, length, Contains, subst, ap, sym, ◌∙◌, refl, inl, inr, arith, length-append}
 use Rattle.std.specs.Prelude.{AllPairs}
-use Rattle.std.proofs.lemmas.Bool.{cases_lt}
 use Rattle.dds_base.specs.declared.change.Change.{Change}
 use Rattle.dds_base.specs.declared.config.Config.{Config}
 use Rattle.dds_base.specs.declared.guid.GuidPrefix.{GuidPrefix}
@@ -64,10 +63,12 @@ announces kept config peer s number content packet is =
       says = (writer, reader, refl, ap (λ (t : ℕ). change_in content t) (sym (early_is kept.moment s.early)));
     }
 
--- how many packets were counted as unsent
-counted_as : (posted packets old new lost unsent : ℕ) → posted + lost ≡ packets → packets + unsent ≡ 1 → new ≡ min (old + unsent + lost) (2 ^ 64 - 1) → (posted + new ≡ 1 + old) ⊎ (new ≡ 2 ^ 64 - 1)
-counted_as posted packets old new lost unsent a b c =
-    ⊎_elim (λ lt. inr (omega (arith, c, lt))) (λ le. inl (omega (arith, a, b, c, le))) (cases_lt (2 ^ 64 - 1) (old + unsent + lost))
+-- how many packets found no memory, at the peer or on the way
+lost_in_all : (posted packets lost unsent : ℕ) → posted + lost ≡ packets → packets + unsent ≡ 1 → posted + (unsent + lost) ≡ 1
+lost_in_all posted packets lost unsent a b = omega (arith, a, b)
+
+unsent_in_all : (old unsent lost new : ℕ) → new ≡ min (old + unsent + lost) (2 ^ 64 - 1) → new ≡ min (old + (unsent + lost)) (2 ^ 64 - 1)
+unsent_in_all old unsent lost new is = let same : old + unsent + lost ≡ old + (unsent + lost) = omega arith in is ∙ ap (λ (n : ℕ). min n (2 ^ 64 - 1)) same
 
 all_apart : (R : Packet → Packet → Type 0) (ps : List Packet) → length ps ≤ 1 → AllPairs R ps
 all_apart R ps h i j d lt within = absurd (omega (arith, h, lt, within))
@@ -100,7 +101,9 @@ announced kept new config peer s change output posts counts one =
           let is : record { peer = 2; number = 1 } ≡ reader = same_is (record { peer = 2; number = 1 }) reader (matched_is (same_endpoint (record { peer = 2; number = 1 }) reader) matched) in
           subst (λ (r : Endpoint). Claims config packet.bytes (ChangeIs (record { peer = 1; number = 1 }) r number change)) is (claims packet m);
       different = all_apart (λ (a b : Packet). a.to ≢ b.to) posts.posted few;
-      counted = counted_as (length posts.posted) (length output.packets) kept.unsent new.unsent counts.0 output.unsent (let c = counts.1 in omega (arith, c, count, total)) one.counted counts.2;
+      lost = output.unsent + counts.0;
+      counted = lost_in_all (length posts.posted) (length output.packets) counts.0 output.unsent (let c = counts.1 in omega (arith, c, count, total)) one.counted;
+      unsent = unsent_in_all kept.unsent output.unsent counts.0 new.unsent counts.2;
     } in
     subst
     (λ (p : Part). Announced config (traffic kept) (record { peer = 1; number = 1 }) (own_writer p 1).readers (length (writer_changes (own_writer p 1)) + 1) change (traffic new))

@@ -27,12 +27,12 @@ use Rattle.dds_model.specs.declared.reply.Reply.{Reply}
 use Rattle.dds_model.specs.declared.reply.Reply.TheVariants.{Done, Refused, Reported}
 use Rattle.dds_model.specs.Part.{Part, Dds, own_writer, history_of}
 use Rattle.dds_base.specs.Checked.{is_maximum}
-use Rattle.dds_model.specs.Calls.{Effect, writes, entered, effect, effect_of, IsDoneUnless, Answers, CallStep, register_refusal, write_refusal, dispose_refusal, unregister_refusal, access_refusal, tick_refusal, has_number}
+use Rattle.dds_model.specs.Calls.{unregister_kind, Effect, writes, entered, effect, effect_of, IsDoneUnless, Answers, CallStep, register_refusal, write_refusal, dispose_refusal, unregister_refusal, access_refusal, tick_refusal, has_number}
 use Rattle.dds_model.specs.Claims.{change_in}
 use Rattle.dds_model.specs.Peer.{Peer, PeerStep, IsTrueAt}
 use Rattle.dds_world.specs.Making.{IsMade, IsNotMade, Makes}
 use Rattle.dds_world.specs.Registered.{is_among}
-use Rattle.dds_world.specs.Standing.{WritingKept, WritingStandsFor, WritingSteps, WritingSends, SendsFor, SendsNothing, writing_part, thin_writer, IsAnnouncement, AnnouncesChange, content_of, kind_by}
+use Rattle.dds_world.specs.Standing.{WritingKept, WritingStandsFor, WritingSteps, WritingSends, SendsFor, SendsNothing, writing_part, thin_writer, IsAnnouncement, AnnouncesChange, content_of}
 use Rattle.dds_world.proofs.Announced.{announcement_true, change_at-last, content_means}
 
 -- an answer that sends nothing
@@ -256,9 +256,9 @@ dispose_makes kept config peer s writer key one reply dds h =
     (ap (λ (p : Part). dispose_refusal p writer key) s.part ∙ ap (λ (n : ℕ). dispose_refusal (writing_part kept.autodispose kept.moment s.written) n key) one) h
 
 pub unregister_makes : (kept : WritingKept) (config : Config) (peer : Peer) (s : WritingStandsFor kept config peer) (writer : ℕ) (key : Key) → writer ≡ 1 → is_among kept.registered key ≡ true
-    → MakesChange peer (call.Unregister writer key) (append_refusal (history_of (thin_writer kept.autodispose s.written)) (record { kind = kind_by kept.autodispose; key = key; value = []; source_timestamp = kept.moment }))
+    → MakesChange peer (call.Unregister writer key) (append_refusal (history_of (thin_writer kept.autodispose s.written)) (record { kind = unregister_kind kept.autodispose; key = key; value = []; source_timestamp = kept.moment }))
 unregister_makes kept config peer s writer key one known reply dds h =
-    done_as (unregister_refusal peer.part writer key) (append_refusal (history_of (thin_writer kept.autodispose s.written)) (record { kind = kind_by kept.autodispose; key = key; value = []; source_timestamp = kept.moment })) peer reply dds
+    done_as (unregister_refusal peer.part writer key) (append_refusal (history_of (thin_writer kept.autodispose s.written)) (record { kind = unregister_kind kept.autodispose; key = key; value = []; source_timestamp = kept.moment })) peer reply dds
     (ap (λ (p : Part). unregister_refusal p writer key) s.part
     ∙ (ap (λ (n : ℕ). unregister_refusal (writing_part kept.autodispose kept.moment s.written) n key) one ∙ there (is_key_registered key s.written) _ (sym (s.registered key) ∙ known))) h
   where
@@ -413,7 +413,7 @@ dispose_enters kept config peer s writer key one =
     ap (λ (p : Part). entered p (call.Dispose writer key)) s.part ∙ ap (λ (n : ℕ). writes n (Changed (made_by kind.Dispose key [] kept.moment))) one
 
 unregister_enters : (kept : WritingKept) (config : Config) (peer : Peer) (s : WritingStandsFor kept config peer) (writer : ℕ) (key : Key) → writer ≡ 1
-    → entered peer.part (call.Unregister writer key) ≡ writes 1 (Changed (made_by (kind_by kept.autodispose) key [] kept.moment))
+    → entered peer.part (call.Unregister writer key) ≡ writes 1 (Changed (made_by (unregister_kind kept.autodispose) key [] kept.moment))
 unregister_enters kept config peer s writer key one =
     ap (λ (p : Part). entered p (call.Unregister writer key)) s.part ∙ ap (λ (n : ℕ). entered (writing_part kept.autodispose kept.moment s.written) (call.Unregister n key)) one
 
@@ -441,16 +441,16 @@ dispose_sends kept new writer key change output one is makes config peer s =
     made_sends kept new config peer s (call.Dispose writer key) (made_by kind.Dispose key [] kept.moment) output (dispose_enters kept config peer s writer key one) refl
     (subst (λ (c : Change). Makes kept c output new) is makes config peer s)
 
-pub unregister_steps : (kept new : WritingKept) (writer : ℕ) (key : Key) (change : Change) (output : Output) → writer ≡ 1 → is_among kept.registered key ≡ true → change ≡ made_by (kind_by kept.autodispose) key [] kept.moment
+pub unregister_steps : (kept new : WritingKept) (writer : ℕ) (key : Key) (change : Change) (output : Output) → writer ≡ 1 → is_among kept.registered key ≡ true → change ≡ made_by (unregister_kind kept.autodispose) key [] kept.moment
     → Makes kept change output new → WritingSteps kept (event.Call (call.Unregister writer key)) output new
 unregister_steps kept new writer key change output one known is makes config peer s =
-    made_call kept new config peer s (call.Unregister writer key) (made_by (kind_by kept.autodispose) key [] kept.moment) output (unregister_makes kept config peer s writer key one known)
+    made_call kept new config peer s (call.Unregister writer key) (made_by (unregister_kind kept.autodispose) key [] kept.moment) output (unregister_makes kept config peer s writer key one known)
     (unregister_enters kept config peer s writer key one) (content_means kept.autodispose key kept.moment) (subst (λ (c : Change). Makes kept c output new) is makes config peer s)
 
-pub unregister_sends : (kept new : WritingKept) (writer : ℕ) (key : Key) (change : Change) (output : Output) → writer ≡ 1 → change ≡ made_by (kind_by kept.autodispose) key [] kept.moment → Makes kept change output new
+pub unregister_sends : (kept new : WritingKept) (writer : ℕ) (key : Key) (change : Change) (output : Output) → writer ≡ 1 → change ≡ made_by (unregister_kind kept.autodispose) key [] kept.moment → Makes kept change output new
     → WritingSends kept (event.Call (call.Unregister writer key)) output.reply output
 unregister_sends kept new writer key change output one is makes config peer s =
-    made_sends kept new config peer s (call.Unregister writer key) (made_by (kind_by kept.autodispose) key [] kept.moment) output (unregister_enters kept config peer s writer key one) (content_means kept.autodispose key kept.moment)
+    made_sends kept new config peer s (call.Unregister writer key) (made_by (unregister_kind kept.autodispose) key [] kept.moment) output (unregister_enters kept config peer s writer key one) (content_means kept.autodispose key kept.moment)
     (subst (λ (c : Change). Makes kept c output new) is makes config peer s)
 
 -- a test that fails

@@ -1,5 +1,5 @@
 -- What a peer stands for.
-use Rattle.std.specs.Prelude.{◌≡◌, ℕ, ◌+◌, ◌^◌, ◌<◌, ◌≤◌, Bool, length, Contains, List, [], ◌∷◌, None, Some, Result, Ok, Err, if◌then◌else◌}
+use Rattle.std.specs.Prelude.{◌≡◌, ℕ, ◌+◌, ◌^◌, ◌<◌, ◌≤◌, Bool, length, Contains, List, [], ◌∷◌, None, Some, Result, Ok, Err}
 use Rattle.std.specs.declared.alloc.AllocError.{AllocError}
 use Rattle.dds_base.specs.declared.config.Config.{Config}
 use Rattle.dds_base.specs.declared.config.PeerConfig.{PeerConfig}
@@ -115,10 +115,6 @@ pub record ReadingStandsFor (kept : ReadingKept) (config : Config) (peer : Peer)
   pub no_instances_limit : (qos_of kept.cache).max_instances ≡ None
   pub begun : 1 ≤ kept.place
   pub cache : CacheStandsFor kept.cache happened
-
--- what an unregister makes
-abbrev pub kind_by : Bool → ChangeKind
-kind_by autodispose = if autodispose then kind.DisposeUnregister else kind.Unregister
 
 -- what a DATA says of a change of this kind
 abbrev pub content_with : ChangeKind → Key → List ℕ → DataContent

@@ -14,9 +14,7 @@ ghost use Rattle.dds_world.specs.Standing.{ReadingSteps, SendsNothing};
 
 use crate::answer::answered;
 use crate::clock::goes_on;
-use crate::receiver::{
-    EVERY_PEER, MessageReceiver, is_entity, is_prefix, receiver_after, receiver_for,
-};
+use crate::receiver::{MessageReceiver, is_entity, is_prefix, receiver_after, receiver_for};
 use dds_base::{
     Arrival, Change, ChangeKind, Code, EntityId, Guid, GuidPrefix, Handle, Masks, Moment, Octets,
     ReaderQos, Sample, Sequence, Sn,
@@ -139,7 +137,8 @@ impl ReadingPeer {
         ensures { IsTrue result ↔ IsNext self.now (receiver_at receiver.now) body.now }
     {
         is_prefix(&receiver.source, &self.writer_prefix)
-            && (is_prefix(&receiver.dest, &self.prefix) || is_prefix(&receiver.dest, &EVERY_PEER))
+            && (is_prefix(&receiver.dest, &self.prefix)
+                || is_prefix(&receiver.dest, &GuidPrefix::UNKNOWN))
             && is_entity(&body.writer_id, &self.writer_entity)
             && (is_entity(&body.reader_id, &self.entity)
                 || is_entity(&body.reader_id, &EntityId::UNKNOWN))

@@ -8,9 +8,6 @@ use crate::clock::NO_MOMENT;
 use dds_base::{EntityId, GuidPrefix};
 use rtps_wire::Submessage;
 
-/// The prefix that names every peer.
-pub const EVERY_PEER: GuidPrefix = GuidPrefix([0; 12]);
-
 /// What a receiver knows of what follows in a message.
 ///
 /// RTPS 2.5, 8.3.4.
@@ -28,7 +25,7 @@ pub fn receiver_for(prefix: GuidPrefix) -> MessageReceiver
 {
     MessageReceiver {
         source: prefix,
-        dest: EVERY_PEER,
+        dest: GuidPrefix::UNKNOWN,
         timestamp: 0,
     }
 }

@@ -2,9 +2,8 @@
 //!
 //! DDS 1.4, 2.2.2.4 (register_instance, unregister_instance).
 
-ghost use Rattle.std.specs.Prelude.{◌≡◌, ◌<◌, ◌||◌, not, false, OnOk, vec_len, vec_capacity, if◌then◌else◌};
-ghost use Rattle.dds_base.specs.Happening.{same_key};
-ghost use Rattle.dds_base.specs.Happening.{is_unregister};
+ghost use Rattle.std.specs.Prelude.{◌≡◌, ◌<◌, ◌||◌, not, false, true, OnOk, vec_len, vec_capacity, if◌then◌else◌};
+ghost use Rattle.dds_base.specs.Happening.{same_key, is_unregister};
 ghost use Rattle.dds_world.specs.Registered.{is_among};
 
 use dds_base::{ChangeKind, Key};
@@ -20,7 +19,8 @@ pub fn is_registered(keys: &[Key], key: Key) -> bool
 /// Registers an instance, whether or not it is registered. There is room for one more.
 pub fn register(keys: &mut Vec<Key>, key: Key)
     requires { vec_len keys.old < vec_capacity keys.old }
-    ensures { (k : Key) → is_among keys.new.items k ≡ (same_key key k || is_among keys.old.items k) }
+    ensures registered { (k : Key) → is_among keys.new.items k ≡ (same_key key k || is_among keys.old.items k) }
+    ensures known { is_among keys.old.items key ≡ true → keys.new.items ≡ keys.old.items }
 {
     if is_registered(keys, key) {
         return;
@@ -37,19 +37,12 @@ pub fn unregister(keys: &mut Vec<Key>, key: Key)
     keys.retain(|k| *k != key);
 }
 
-/// Whether a change of this kind ends its writer's registration.
-fn ends_registration(kind: ChangeKind) -> bool
-    ensures { result ≡ is_unregister kind }
-{
-    matches!(kind, ChangeKind::Unregister | ChangeKind::DisposeUnregister)
-}
-
 /// Makes the room that a change of this kind needs.
 pub fn reserve(keys: &mut Vec<Key>, kind: ChangeKind) -> Result<(), AllocError>
     ensures keys { keys.new.items ≡ keys.old.items }
     ensures room { OnOk result (is_unregister kind ≡ false → vec_len keys.new < vec_capacity keys.new) }
 {
-    if ends_registration(kind) {
+    if kind.is_unregister() {
         return Ok(());
     }
     keys.reserve(1)
@@ -60,7 +53,7 @@ pub fn note(keys: &mut Vec<Key>, key: Key, kind: ChangeKind)
     requires { is_unregister kind ≡ false → vec_len keys.old < vec_capacity keys.old }
     ensures { (k : Key) → is_among keys.new.items k ≡ (if same_key key k then not (is_unregister kind) else is_among keys.old.items k) }
 {
-    if ends_registration(kind) {
+    if kind.is_unregister() {
         unregister(keys, key);
     } else {
         register(keys, key);

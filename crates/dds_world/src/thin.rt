@@ -4,23 +4,16 @@ ghost use Rattle.std.specs.Prelude.{◌≡◌, ◌≢◌, ◌↔◌, IsTrue, IfS
 ghost use Rattle.dds_world.specs.Thin.{IsThin, IsThinWriter, IsThinReader, HasEnds};
 ghost use Rattle.dds_base.specs.Checked.{unknown_prefix};
 
-use crate::receiver::EVERY_PEER;
 use dds_base::{
-    Config, GuidPrefix, HistoryQos, OwnershipQos, PeerConfig, ReaderConfig, WriterConfig,
+    Config, EntityId, GuidPrefix, HistoryQos, OwnershipQos, PeerConfig, ReaderConfig, WriterConfig,
 };
-
-/// The kind of a writer's entity id.
-const WRITER_KIND: u8 = 0x02;
-
-/// The kind of a reader's entity id.
-const READER_KIND: u8 = 0x07;
 
 /// Whether a writer is one that a network takes.
 pub fn is_thin_writer(w: &WriterConfig) -> bool
     ensures { IsTrue result ↔ IsThinWriter w.now }
 {
     let _lease = w.lease;
-    w.entity.0[3] == WRITER_KIND
+    w.entity.0[3] == EntityId::WRITER_KIND
         && matches!(w.ownership, OwnershipQos::Shared)
         && matches!(w.history, HistoryQos::KeepAll)
         && w.max_samples == -1
@@ -31,7 +24,7 @@ pub fn is_thin_writer(w: &WriterConfig) -> bool
 pub fn is_thin_reader(r: &ReaderConfig) -> bool
     ensures { IsTrue result ↔ IsThinReader r.now }
 {
-    r.entity.0[3] == READER_KIND
+    r.entity.0[3] == EntityId::READER_KIND
         && matches!(r.ownership, OwnershipQos::Shared)
         && matches!(r.history, HistoryQos::KeepAll)
         && r.max_samples == -1
@@ -52,7 +45,7 @@ pub struct Ends {
 fn are_apart(first: &GuidPrefix, second: &GuidPrefix) -> bool
     ensures { IsTrue result ↔ ((first.now ≢ second.now) × (first.now ≢ unknown_prefix) × (second.now ≢ unknown_prefix)) }
 {
-    *first != *second && *first != EVERY_PEER && *second != EVERY_PEER
+    *first != *second && *first != GuidPrefix::UNKNOWN && *second != GuidPrefix::UNKNOWN
 }
 
 /// Whether two ends are of one topic, and each is one that a network takes.

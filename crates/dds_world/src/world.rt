@@ -82,7 +82,8 @@ impl World {
     /// # Errors
     ///
     /// `BadParameter` for a configuration that is no pair of a peer with one writer and a peer with one reader of its
-    /// topic, both shared, keeping all, without limits and leases; `Memory` where a growth was refused.
+    /// topic, of different prefixes that are not all zeros and of the right entity kinds, both shared, keeping all,
+    /// without limits and leases; `Memory` where a growth was refused.
     pub fn open(alloc: Global, config: &Config) -> Result<World, Code>
         ensures opening { IfOk result (λ world. StandsFor world config.now (opening config.now)) }
         ensures quiet { IfOk result (λ world. traffic world ≡ no_traffic) }
@@ -116,6 +117,9 @@ impl World {
     }
 
     /// One event: a call at a peer, its time that goes on, or the delivery of a packet that was sent, at a peer.
+    ///
+    /// An event at a peer that does not exist, and the delivery of a packet that was never sent, are refused with
+    /// `BadParameter`; a call or a tick is refused as it says itself, or with `Memory`. What is refused changes nothing.
     pub fn step(&mut self, event: WorldEvent) -> Reply
         ensures step { Steps self.old event result self.new }
         ensures sends { Announces self.old event result self.new }

@@ -6,10 +6,11 @@ ghost use Rattle.dds_model.specs.declared.event.Packet.{Packet};
 ghost use Rattle.dds_model.specs.declared.reply.Reply.TheVariants.{Done};
 ghost use Rattle.dds_model.specs.declared.event.Event.TheVariants as event;
 ghost use Rattle.dds_model.specs.declared.call.Call.TheVariants as call;
+ghost use Rattle.dds_model.specs.Calls.{unregister_kind};
 ghost use Rattle.rtps_wire.specs.Data.{IsContent};
 ghost use Rattle.dds_world.specs.Begun.{HasWrittenNothing};
 ghost use Rattle.dds_world.specs.Making.{Makes};
-ghost use Rattle.dds_world.specs.Standing.{WritingSteps, WritingSends, SendsNothing, AnnouncesChange, content_of, kind_by};
+ghost use Rattle.dds_world.specs.Standing.{WritingSteps, WritingSends, SendsNothing, AnnouncesChange, content_of};
 
 use crate::answer::{answered, nothing_moved};
 use crate::clock::goes_on;
@@ -208,7 +209,7 @@ impl WritingPeer {
 
     /// What an unregister makes (DDS 1.4, 2.2.3, WRITER_DATA_LIFECYCLE).
     fn unregister_kind(&self) -> ChangeKind
-        ensures { result ≡ kind_by self.now.autodispose }
+        ensures { result ≡ unregister_kind self.now.autodispose }
     {
         if self.autodispose {
             ChangeKind::DisposeUnregister

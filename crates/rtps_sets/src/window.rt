@@ -10,9 +10,12 @@ use dds_base::{Code, Sn};
 use std::alloc::Global;
 use std::marker::Model;
 
+/// So many numbers, from the place on, may be marked: as many as a set of missing ones has places for.
+const WIDTH: u64 = 256;
+
 /// What is known of a number of the window.
 ///
-/// RTPS 2.5, 8.4.12 (changes that were received, and changes that a GAP made irrelevant).
+/// RTPS 2.5, 8.4.10 (ChangeFromWriter: changes that were received, and changes that a GAP made irrelevant).
 #[derive(Clone, Copy, Debug, PartialEq, Eq)]
 pub enum Mark {
     /// Its change has come and waits.
@@ -30,7 +33,7 @@ pub struct Marked {
 
 /// The place of a reader in the numbers of one writer, and what is known of the 256 numbers from it on.
 ///
-/// RTPS 2.5, 8.4.12 (reliable StatefulReader: changes_from_writer).
+/// RTPS 2.5, 8.4.10 (WriterProxy: changes_from_writer).
 #[derive(Drop)]
 pub struct Window {
     place: u64,
@@ -112,7 +115,7 @@ impl Window {
 
     /// The numbers of the window up to a bound, itself among them, that are not marked: a set from the place on.
     ///
-    /// RTPS 2.5, 8.4.12 (missing_changes), 8.3.8 (AckNack: readerSNState).
+    /// RTPS 2.5, 8.4.10 (WriterProxy: missing_changes), 8.3.8 (AckNack: readerSNState).
     pub fn missing(&self, bound: Sn) -> SnSet
         ensures base { result.base ≡ place_of self.now }
         ensures members { (n : ℕ) → has_number result n ≡ (is_in_window (place_of self.now) n && (nat_le n bound && is_none (mark_of self.now n))) }
@@ -141,9 +144,6 @@ impl Window {
         self.place = place;
     }
 }
-
-/// So many numbers, from the place on, may be marked.
-const WIDTH: u64 = 256;
 
 /// The mark of a number.
 fn find_mark(marked: &[Marked], number: u64) -> Option<Mark>

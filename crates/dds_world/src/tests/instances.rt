@@ -2,7 +2,7 @@
 
 use super::{KEY, at_writer, config, is_place, take, write};
 use crate::{Call, Reply, World, WorldEvent};
-use dds_base::{Code, InstanceState, Moment, Octets};
+use dds_base::{Code, InstanceState, Moment, Octets, Sample};
 use std::alloc::Global;
 use std::test::Fail;
 
@@ -106,5 +106,55 @@ fn changes_carry_the_moment_of_their_peer(rt: HostRuntime) -> Result<(), Fail> {
     let (state, made) = taken(&mut world)?;
     assert!(rt; matches!(state, InstanceState::NotAliveDisposed));
     assert_eq!(rt; made, (1 << 63) - 1);
+    Ok(())
+}
+
+/// The two generation counts of a sample, and its three ranks.
+fn counts(sample: &Sample) -> [u64; 5] {
+    let info = &sample.info;
+    [
+        info.disposed_generation_count,
+        info.no_writers_generation_count,
+        info.sample_rank,
+        info.generation_rank,
+        info.absolute_generation_rank,
+    ]
+}
+
+#[test]
+fn a_run_gives_a_rebirth_its_counts(rt: HostRuntime) -> Result<(), Fail> {
+    let alloc = rt.alloc();
+    let mut world = World::open(alloc, &config(alloc)?)?;
+    let events = vec![in alloc;
+        write(alloc, &[1])?,
+        at_writer(Call::Dispose {
+            writer: 1,
+            key: KEY
+        }),
+        write(alloc, &[2])?,
+        WorldEvent::Deliver { peer: 2, packet: 1 },
+        WorldEvent::Deliver { peer: 2, packet: 2 },
+        WorldEvent::Deliver { peer: 2, packet: 3 },
+        take(),
+    ]?;
+    let replies = world.run(events)?;
+    let replies = replies.as_slice();
+    assert_eq!(rt; replies.len(), 7);
+    for (reply, to) in replies[3..6].iter().zip(2..) {
+        assert!(rt; is_place(reply, to));
+    }
+    match &replies[6] {
+        Reply::Samples(samples) => match samples.as_slice() {
+            [first, marker, last] => {
+                assert_eq!(rt; counts(first), [0, 0, 2, 1, 1]);
+                assert_eq!(rt; counts(marker), [0, 0, 1, 1, 1]);
+                assert_eq!(rt; counts(last), [1, 0, 0, 0, 0]);
+                assert!(rt; first.info.valid_data && !marker.info.valid_data);
+                assert_eq!(rt; last.value.as_slice(), [2].as_slice());
+            }
+            _ => assert!(rt; false),
+        },
+        _ => assert!(rt; false),
+    }
     Ok(())
 }

@@ -15,6 +15,6 @@ returns-clause-step c = λ config peer given.
     let s : WritingStandsFor kept config peer = subst (λ (k : WritingKept). WritingStandsFor k config peer) (sym c.self.view_is) given in
     let keys : List Key = c.register.new.keys.items in
     let one : c.args.writer ≡ 1 = omega arith in
-    let more : (k : Key) → is_among keys k ≡ (same_key c.args.key k || is_among kept.registered k) = λ k. c.register.ensures k ∙ ap (λ (ks : List Key). same_key c.args.key k || is_among ks k) c.reserve.ensures.items in
+    let more : (k : Key) → is_among keys k ≡ (same_key c.args.key k || is_among kept.registered k) = λ k. c.register.ensures.registered k ∙ ap (λ (ks : List Key). same_key c.args.key k || is_among ks k) c.reserve.ensures.items in
     follows_as (with_registered kept keys) (with_registered kept keys) config peer (event.Call (call.Register c.args.writer c.args.key)) (silent Done) c.answered-2.result refl (sym c.answered-2.ensures)
     (registers kept config peer s c.args.writer c.args.key keys one more)
