@@ -1,5 +1,5 @@
 -- Lists and places grow, and what is claimed stays true.
-use Rattle.std.proofs.Common.{◌≡◌, ℕ, ◌+◌, ◌-◌, ◌≤◌, Bool, true, false, cond, Option, List, [], ◌∷◌, ◌++◌, Some, None, refl, subst, ap, sym, ◌∙◌, inl, inr, ⊎_elim, arith, length, drop, count_by, slice_get, append_assoc}
+use Rattle.std.proofs.Common.{◌≡◌, ℕ, ◌+◌, ◌-◌, ◌≤◌, Bool, true, false, cond, Option, ℤ, pos, negsuc, zero, suc, ◌⊎◌, List, [], ◌∷◌, ◌++◌, Some, None, map, get_or, refl, subst, ap, sym, ◌∙◌, inl, inr, ⊎_elim, arith, length, drop, count_by, slice_get, append_assoc}
 use Rattle.std.specs.Prelude.{if◌then◌else◌, nat_lt, nat_le}
 use Rattle.std.specs.Option.{option_map_or}
 use Rattle.std.proofs.lemmas.Bool.Decides.{nat_tests}
@@ -15,79 +15,96 @@ use Rattle.dds_base.specs.Kept.{change_at, is_dropped, is_dropped_by, later_chan
 use Rattle.dds_model.specs.declared.call.Call.{Call}
 use Rattle.dds_model.specs.declared.endpoint.Endpoint.{Endpoint}
 use Rattle.dds_model.specs.declared.reply.Move.{Move}
-use Rattle.dds_model.specs.declared.reply.Move.TheVariants.{Place, Acknowledged}
+use Rattle.dds_model.specs.declared.reply.Move.TheVariants.{Place, Acknowledged, Heard}
 use Rattle.dds_model.specs.declared.reply.Reply.{Reply}
 use Rattle.dds_model.specs.declared.reply.Reply.TheVariants.{Done, Samples, Refused, Reported}
 use Rattle.dds_model.specs.Numbered.{numbered, with_numbered}
-use Rattle.dds_model.specs.Part.{WriterProxy, Writer, Rtps, Part, no_writer, no_part, own_writer, own_proxies, place_of, with_place, with_acknowledged, writer_changes, history_of}
+use Rattle.dds_model.specs.Part.{WriterProxy, ReaderProxy, Writer, Rtps, Part, no_writer, no_part, own_writer, own_proxies, place_of, with_place, with_heard, with_acknowledged, writer_changes, history_of, has_readers, is_behind, counts_of, is_assertion, IsBelow, IsAtMost, NoLess}
 use Rattle.dds_model.specs.Moves.{Grounds, IsMove, AreMoves, DeliveryStep}
-use Rattle.dds_model.specs.Calls.{Effect, nothing, writes, effect, effect_of, with_written, CallStep, TickStep}
-use Rattle.dds_model.specs.Claims.{Claim, ChangeIs, MayPass, PlaceReached}
+use Rattle.dds_model.specs.Calls.{Effect, nothing, writes, effect, effect_of, with_written, ticked, Tests, CallStep, TickStep}
+use Rattle.dds_model.specs.Claims.{Claim, ChangeIs, MayPass, PlaceReached, Asserts}
 use Rattle.dds_model.specs.Machine.{Machine, part_at, writer_at, place_at}
 use Rattle.dds_model.specs.World.{Holds}
-use Rattle.dds_model.proofs.Tables.{numbered-cases, append_nothing, slice_get-append, place-cases}
+use Rattle.dds_model.proofs.Tables.{numbered-cases, numbered-map-cases, append_nothing, slice_get-append, length-with_row, place-cases, place-heard, no_less_same, no_less_on, at_most_on, below_on}
 
 pub record WriterGrows (old new : Writer) : Type 0 where
   pub policy : new.policy ≡ old.policy
+  pub readers : length new.readers ≡ length old.readers
   pub more : List Written
   pub written : new.written ≡ more ++ old.written
 
 pub record Grows (old new : Rtps) : Type 0 where
   pub writers : (w : ℕ) → WriterGrows (numbered old.writers w no_writer) (numbered new.writers w no_writer)
-  pub places : (r : ℕ) (w : Endpoint) → place_of (numbered old.readers r []) w ≤ place_of (numbered new.readers r []) w
+  pub places : (r : ℕ) (w : Endpoint) → NoLess (place_of (numbered old.readers r []) w) (place_of (numbered new.readers r []) w)
 
 pub writer_same : (w : Writer) → WriterGrows w w
-writer_same w = record { policy = refl; more = []; written = refl }
+writer_same w = record { policy = refl; readers = refl; more = []; written = refl }
 
 pub writer_on : (a b c : Writer) → WriterGrows a b → WriterGrows b c → WriterGrows a c
 writer_on a b c f g = record {
   policy = g.policy ∙ f.policy;
+  readers = g.readers ∙ f.readers;
   more = g.more ++ f.more;
   written = g.written ∙ (ap (λ (xs : List Written). g.more ++ xs) f.written ∙ sym (append_assoc g.more f.more a.written));
 }
 
 pub grows_same : (r : Rtps) → Grows r r
-grows_same r = record { writers = λ w. writer_same (numbered r.writers w no_writer); places = λ k w. omega arith }
+grows_same r = record { writers = λ w. writer_same (numbered r.writers w no_writer); places = λ k w. no_less_same (place_of (numbered r.readers k []) w) }
 
 pub grows_on : (a b c : Rtps) → Grows a b → Grows b c → Grows a c
 grows_on a b c f g = record {
   writers = λ w. writer_on (numbered a.writers w no_writer) (numbered b.writers w no_writer) (numbered c.writers w no_writer) (f.writers w) (g.writers w);
-  places = λ r w. omega (arith, f.places r w, g.places r w);
+  places = λ r w. no_less_on (place_of (numbered a.readers r []) w) (place_of (numbered b.readers r []) w) (place_of (numbered c.readers r []) w) (f.places r w) (g.places r w);
 }
 
-pub set_writer-grows : (old : Rtps) (w : ℕ) (after : Writer) → WriterGrows (numbered old.writers w no_writer) after → Grows old (record { writers = with_numbered old.writers w after; readers = old.readers })
+pub set_writer-grows : (old : Rtps) (w : ℕ) (after : Writer) → WriterGrows (numbered old.writers w no_writer) after → Grows old (record old { writers = with_numbered old.writers w after })
 set_writer-grows old w after h = record {
   writers = λ k.
       ⊎_elim (λ e. subst (λ (x : Writer). WriterGrows (numbered old.writers k no_writer) x) (sym e) (writer_same (numbered old.writers k no_writer)))
       (λ s. subst (λ (x : Writer). WriterGrows (numbered old.writers k no_writer) x) (sym s.1) (subst (λ (j : ℕ). WriterGrows (numbered old.writers j no_writer) after) (sym s.0) h))
       (numbered-cases old.writers w after k no_writer);
-  places = λ r v. omega arith;
+  places = λ r v. no_less_same (place_of (numbered old.readers r []) v);
 }
 
-pub set_reader-grows : (old : Rtps) (r : ℕ) (after : List WriterProxy) → ((w : Endpoint) → place_of (numbered old.readers r []) w ≤ place_of after w) → Grows old (record { writers = old.writers; readers = with_numbered old.readers r after })
+-- what is there of one list and another, where one element has changed
+no_less_at : (old : List (List WriterProxy)) (r : ℕ) (after : List WriterProxy) (k : ℕ) (w : Endpoint) → NoLess (place_of (numbered old r []) w) (place_of after w)
+    → (numbered (with_numbered old r after) k [] ≡ numbered old k []) ⊎ ((k ≡ r) × (numbered (with_numbered old r after) k [] ≡ after)) → NoLess (place_of (numbered old k []) w) (place_of (numbered (with_numbered old r after) k []) w)
+no_less_at old r after k w h (inl e) = subst (λ (rows : List WriterProxy). NoLess (place_of (numbered old k []) w) (place_of rows w)) (sym e) (no_less_same (place_of (numbered old k []) w))
+no_less_at old r after k w h (inr s) =
+    subst (λ (rows : List WriterProxy). NoLess (place_of (numbered old k []) w) (place_of rows w)) (sym s.1) (subst (λ (j : ℕ). NoLess (place_of (numbered old j []) w) (place_of after w)) (sym s.0) h)
+
+pub set_reader-grows : (old : Rtps) (r : ℕ) (after : List WriterProxy) → ((w : Endpoint) → NoLess (place_of (numbered old.readers r []) w) (place_of after w)) → Grows old (record old { readers = with_numbered old.readers r after })
 set_reader-grows old r after h = record {
   writers = λ k. writer_same (numbered old.writers k no_writer);
-  places = λ k w.
-      ⊎_elim (λ e. let f = ap (λ (rows : List WriterProxy). place_of rows w) e in omega (arith, f))
-      (λ s.
-      let f = ap (λ (rows : List WriterProxy). place_of rows w) s.1 in
-      let g = ap (λ (j : ℕ). place_of (numbered old.readers j []) w) s.0 in omega (arith, f, g, h w))
-      (numbered-cases old.readers r after k []);
+  places = λ k w. no_less_at old.readers r after k w (h w) (numbered-cases old.readers r after k []);
 }
 
-place_forward : (rows : List WriterProxy) (w : Endpoint) (to : ℕ) → place_of rows w ≤ to → (v : Endpoint) → place_of rows v ≤ place_of (with_place rows w to) v
-place_forward rows w to le v =
-    ⊎_elim (λ e. omega (arith, e)) (λ s. let g = ap (λ (x : Endpoint). place_of rows x) s.0 in omega (arith, s.1, g, le)) (place-cases rows w to v)
+place_forward : (rows : List WriterProxy) (w : Endpoint) (from to : ℕ) → place_of rows w ≡ Some from → from ≤ to → (v : Endpoint) → NoLess (place_of rows v) (place_of (with_place rows w to) v)
+place_forward rows w from to is le v =
+    ⊎_elim (λ e. subst (λ (o : Option ℕ). NoLess (place_of rows v) o) (sym e) (no_less_same (place_of rows v)))
+    (λ s.
+    subst (λ (o : Option ℕ). NoLess (place_of rows v) o) (sym s.1)
+    (subst (λ (o : Option ℕ). NoLess o (Some to)) (sym (ap (λ (x : Endpoint). place_of rows x) s.0 ∙ is)) le)) (place-cases rows w from to v is)
+
+place_still : (rows : List WriterProxy) (w : Endpoint) (count : ℤ) (v : Endpoint) → NoLess (place_of rows v) (place_of (with_heard rows w count) v)
+place_still rows w count v = subst (λ (o : Option ℕ). NoLess (place_of rows v) o) (sym (place-heard rows w count v)) (no_less_same (place_of rows v))
 
 pub IsMove-grows : (g : Grounds) (old : Part) (m : Move) (new : Part) → IsMove g old m new → Grows old.rtps new.rtps
 IsMove-grows g old (Place w r to passed) new h =
     let forward = h.forward in
     subst (λ (q : Part). Grows old.rtps q.rtps) (sym h.after)
-    (set_reader-grows old.rtps r (with_place (own_proxies old r) w to) (place_forward (own_proxies old r) w to (omega (arith, forward))))
+    (set_reader-grows old.rtps r (with_place (own_proxies old r) w to) (place_forward (own_proxies old r) w h.place to h.matched.at (omega (arith, forward))))
 IsMove-grows g old (Acknowledged w r to) new h =
     let before = own_writer old w in
-    let after : Writer = record { policy = before.policy; max_samples = before.max_samples; autodispose = before.autodispose; written = before.written; readers = with_acknowledged before.readers r to } in
-    subst (λ (q : Part). Grows old.rtps q.rtps) (sym h.after) (set_writer-grows old.rtps w after (record { policy = refl; more = []; written = refl }))
+    let after : Writer = record before { readers = with_acknowledged before.readers r to } in
+    subst (λ (q : Part). Grows old.rtps q.rtps) (sym h.after) (set_writer-grows old.rtps w after (record {
+      policy = refl;
+      readers = length-with_row (λ (p : ReaderProxy). p.reader) (λ (p : ReaderProxy). record p { acknowledged = to }) before.readers r;
+      more = [];
+      written = refl;
+    }))
+IsMove-grows g old (Heard w r) new h =
+    subst (λ (q : Part). Grows old.rtps q.rtps) (sym h.after) (set_reader-grows old.rtps r (with_heard (own_proxies old r) w h.count) (place_still (own_proxies old r) w h.count))
 
 pub AreMoves-grows : (g : Grounds) (old : Part) (ms : List Move) (new : Part) → AreMoves g old ms new → Grows old.rtps new.rtps
 AreMoves-grows g old [] new h = subst (λ (q : Part). Grows old.rtps q.rtps) (sym h) (grows_same old.rtps)
@@ -100,7 +117,7 @@ DeliveryStep-grows g old reply new h = absurd h
 -- what a call does: lists grow by one entry, and no acknowledgement changes
 pub effect-grows : (old : Rtps) (e : Effect) → Grows old (effect old e)
 effect-grows old nothing = grows_same old
-effect-grows old (writes w entry) = set_writer-grows old w (with_written (numbered old.writers w no_writer) entry) (record { policy = refl; more = entry ∷ []; written = refl })
+effect-grows old (writes w entry) = set_writer-grows old w (with_written (numbered old.writers w no_writer) entry) (record { policy = refl; readers = refl; more = entry ∷ []; written = refl })
 
 readers_set : (writers : List Writer) (w : ℕ) (after : Writer) → after.readers ≡ (numbered writers w no_writer).readers → (k : ℕ) → (numbered (with_numbered writers w after) k no_writer).readers ≡ (numbered writers k no_writer).readers
 readers_set writers w after h k =
@@ -110,18 +127,38 @@ effect-readers : (old : Rtps) (e : Effect) (k : ℕ) → (numbered (effect old e
 effect-readers old nothing k = refl
 effect-readers old (writes w entry) k = readers_set old.writers w (with_written (numbered old.writers w no_writer) entry) refl k
 
-pub CallStep-grows : (old : Part) (call : Call) (reply : Reply) (new : Part) → CallStep old call reply new → Grows old.rtps new.rtps
-CallStep-grows old call reply new h = subst (λ (r : Rtps). Grows old.rtps r) (sym h.rtps) (effect-grows old.rtps (effect_of old call reply))
+pub CallStep-grows : (tests : Tests) (old : Part) (call : Call) (reply : Reply) (new : Part) → CallStep tests old call reply new → Grows old.rtps new.rtps
+CallStep-grows tests old call reply new h = subst (λ (r : Rtps). Grows old.rtps r) (sym h.rtps) (effect-grows old.rtps (effect_of old call reply))
 
-pub CallStep-readers : (old : Part) (call : Call) (reply : Reply) (new : Part) → CallStep old call reply new → (k : ℕ) → (own_writer new k).readers ≡ (own_writer old k).readers
-CallStep-readers old call reply new h k = ap (λ (r : Rtps). (numbered r.writers k no_writer).readers) h.rtps ∙ effect-readers old.rtps (effect_of old call reply) k
+pub CallStep-readers : (tests : Tests) (old : Part) (call : Call) (reply : Reply) (new : Part) → CallStep tests old call reply new → (k : ℕ) → (own_writer new k).readers ≡ (own_writer old k).readers
+CallStep-readers tests old call reply new h k = ap (λ (r : Rtps). (numbered r.writers k no_writer).readers) h.rtps ∙ effect-readers old.rtps (effect_of old call reply) k
 
--- what a tick does: lists and acknowledgements stay
-pub TickStep-rtps : (old : Part) (now : ℕ) (reply : Reply) (new : Part) → TickStep old now reply new → new.rtps ≡ old.rtps
-TickStep-rtps old now Done new h = ap (λ (p : Part). p.rtps) h.1
-TickStep-rtps old now (Refused code) new h = ap (λ (p : Part). p.rtps) h.1
-TickStep-rtps old now (Samples samples) new h = absurd h
-TickStep-rtps old now (Reported report) new h = absurd h
+-- what a tick does: each writer's list grows by one entry, and readers, places and acknowledgements stay
+
+ticked-grows : (now : ℕ) (w : Writer) → WriterGrows w (ticked now w)
+ticked-grows now w = record { policy = refl; readers = refl; more = Ticked now (is_behind w) ∷ []; written = refl }
+
+all_ticked-grows : (now : ℕ) (old : Rtps) → Grows old (record old { writers = map (ticked now) old.writers })
+all_ticked-grows now old = record {
+  writers = λ k.
+      ⊎_elim (λ e. subst (λ (x : Writer). WriterGrows (numbered old.writers k no_writer) x) (sym e) (ticked-grows now (numbered old.writers k no_writer)))
+      (λ n. subst (λ (x : Writer). WriterGrows (numbered old.writers k no_writer) x) (n.1 ∙ sym n.0) (writer_same (numbered old.writers k no_writer)))
+      (numbered-map-cases (ticked now) old.writers k no_writer);
+  places = λ r v. no_less_same (place_of (numbered old.readers r []) v);
+}
+
+pub TickStep-grows : (old : Part) (now : ℕ) (reply : Reply) (new : Part) → TickStep old now reply new → Grows old.rtps new.rtps
+TickStep-grows old now Done new h = subst (λ (p : Part). Grows old.rtps p.rtps) (sym h.1) (all_ticked-grows now old.rtps)
+TickStep-grows old now (Refused code) new h = subst (λ (p : Part). Grows old.rtps p.rtps) (sym h.1) (grows_same old.rtps)
+TickStep-grows old now (Samples samples) new h = absurd h
+TickStep-grows old now (Reported report) new h = absurd h
+
+-- a tick leaves the rows of readers, and what happened there
+pub TickStep-rows : (old : Part) (now : ℕ) (reply : Reply) (new : Part) → TickStep old now reply new → new.rtps.readers ≡ old.rtps.readers
+TickStep-rows old now Done new h = ap (λ (p : Part). p.rtps.readers) h.1
+TickStep-rows old now (Refused code) new h = ap (λ (p : Part). p.rtps.readers) h.1
+TickStep-rows old now (Samples samples) new h = absurd h
+TickStep-rows old now (Reported report) new h = absurd h
 
 pub TickStep-readers : (old : Part) (now : ℕ) (reply : Reply) (new : Part) → TickStep old now reply new → new.dds.readers ≡ old.dds.readers
 TickStep-readers old now Done new h = ap (λ (p : Part). p.dds.readers) h.1
@@ -129,8 +166,15 @@ TickStep-readers old now (Refused code) new h = ap (λ (p : Part). p.dds.readers
 TickStep-readers old now (Samples samples) new h = absurd h
 TickStep-readers old now (Reported report) new h = absurd h
 
-pub TickStep-grows : (old : Part) (now : ℕ) (reply : Reply) (new : Part) → TickStep old now reply new → Grows old.rtps new.rtps
-TickStep-grows old now reply new h = subst (λ (r : Rtps). Grows old.rtps r) (sym (TickStep-rtps old now reply new h)) (grows_same old.rtps)
+ticked-readers : (now : ℕ) (ws : List Writer) (k : ℕ) → (numbered (map (ticked now) ws) k no_writer).readers ≡ (numbered ws k no_writer).readers
+ticked-readers now ws k = ⊎_elim (λ e. ap (λ (x : Writer). x.readers) e) (λ n. ap (λ (x : Writer). x.readers) (n.0 ∙ sym n.1)) (numbered-map-cases (ticked now) ws k no_writer)
+
+-- a tick leaves what each writer's readers have acknowledged
+pub TickStep-acknowledged : (old : Part) (now : ℕ) (reply : Reply) (new : Part) → TickStep old now reply new → (k : ℕ) → (own_writer new k).readers ≡ (own_writer old k).readers
+TickStep-acknowledged old now Done new h k = ap (λ (p : Part). (own_writer p k).readers) h.1 ∙ ticked-readers now old.rtps.writers k
+TickStep-acknowledged old now (Refused code) new h k = ap (λ (p : Part). (own_writer p k).readers) h.1
+TickStep-acknowledged old now (Samples samples) new h k = absurd h
+TickStep-acknowledged old now (Reported report) new h k = absurd h
 
 -- changes grow at their end
 
@@ -182,11 +226,45 @@ dropped-grows old new n g h =
     ap (λ (k : HistoryQos). is_dropped_by k (writer_changes new) n) g.policy
     ∙ (ap (λ (xs : List Change). is_dropped_by old.policy xs n) c.1 ∙ dropped-append old.policy (writer_changes old) c.0 n h)
 
+-- HEARTBEAT counts grow at their end
+
+if_more : (b c : Bool) (xs ys zs : List Bool) → ys ≡ xs ++ zs → (later : List Bool) × ((if b then ys ++ c ∷ [] else ys) ≡ xs ++ later)
+if_more true c xs ys zs h = (zs ++ c ∷ [], ap (λ (us : List Bool). us ++ c ∷ []) h ∙ append_assoc xs zs (c ∷ []))
+if_more false c xs ys zs h = (zs, h)
+
+counts-more : (matched : Bool) (more written : List Written) → (later : List Bool) × (counts_of matched (more ++ written) ≡ counts_of matched written ++ later)
+counts-more matched [] written = ([], sym (append_nothing (counts_of matched written)))
+counts-more matched (Registered key ∷ more) written = counts-more matched more written
+counts-more matched (LookedAt ∷ more) written = counts-more matched more written
+counts-more matched (Changed change ∷ more) written = counts-more matched more written
+counts-more matched (Asserted moment ∷ more) written =
+    let r = counts-more matched more written in if_more matched true (counts_of matched written) (counts_of matched (more ++ written)) r.0 r.1
+counts-more matched (Ticked now behind ∷ more) written =
+    let r = counts-more matched more written in if_more behind false (counts_of matched written) (counts_of matched (more ++ written)) r.0 r.1
+
+get-append : (xs ys : List Bool) (i : ℕ) → get_or xs i false ≡ true → get_or (xs ++ ys) i false ≡ true
+get-append [] ys i h = cc
+get-append (x ∷ xs) ys zero h = h
+get-append (x ∷ xs) ys (suc i) h = get-append xs ys i h
+
+numbered-append : (xs ys : List Bool) (n : ℕ) → numbered xs n false ≡ true → numbered (xs ++ ys) n false ≡ true
+numbered-append xs ys zero h = h
+numbered-append xs ys (suc n) h = get-append xs ys n h
+
+pub assertion-grows : (old new : Writer) (count : ℤ) → WriterGrows old new → is_assertion old count ≡ true → is_assertion new count ≡ true
+assertion-grows old new (pos n) g h =
+    let matched : has_readers new ≡ has_readers old = ap (λ (k : ℕ). nat_lt 0 k) g.readers in
+    let r = counts-more (has_readers old) g.more old.written in
+    let is : counts_of (has_readers new) new.written ≡ counts_of (has_readers old) old.written ++ r.0 =
+    ap (λ (b : Bool). counts_of b new.written) matched ∙ (ap (λ (c : List Written). counts_of (has_readers old) c) g.written ∙ r.1) in
+    ap (λ (xs : List Bool). numbered xs n false) is ∙ numbered-append (counts_of (has_readers old) old.written) r.0 n h
+assertion-grows old new (negsuc n) g h = cc
+
 -- the machine grows
 
 pub record MachineGrows (old new : Machine) : Type 0 where
   pub writers : (w : Endpoint) → WriterGrows (writer_at old w) (writer_at new w)
-  pub places : (r w : Endpoint) → place_at old r w ≤ place_at new r w
+  pub places : (r w : Endpoint) → NoLess (place_at old r w) (place_at new r w)
 
 abbrev pub with_part : Machine → ℕ → Part → Machine
 with_part m peer after = record { parts = with_numbered m.parts peer after }
@@ -199,10 +277,10 @@ with_part-grows m peer after g = record {
       (subst (λ (j : ℕ). WriterGrows (own_writer (part_at m j) w.number) (own_writer after w.number)) (sym s.0) (g.writers w.number)))
       (numbered-cases m.parts peer after w.peer no_part);
   places = λ r w.
-      ⊎_elim (λ e. let f = ap (λ (q : Part). place_of (own_proxies q r.number) w) e in omega (arith, f))
+      ⊎_elim (λ e. subst (λ (q : Part). NoLess (place_at m r w) (place_of (own_proxies q r.number) w)) (sym e) (no_less_same (place_at m r w)))
       (λ s.
-      let f = ap (λ (q : Part). place_of (own_proxies q r.number) w) s.1 in
-      let k = ap (λ (j : ℕ). place_of (own_proxies (part_at m j) r.number) w) s.0 in omega (arith, f, k, g.places r.number w))
+      subst (λ (q : Part). NoLess (place_at m r w) (place_of (own_proxies q r.number) w)) (sym s.1)
+      (subst (λ (j : ℕ). NoLess (place_of (own_proxies (part_at m j) r.number) w) (place_of (own_proxies after r.number) w)) (sym s.0) (g.places r.number w)))
       (numbered-cases m.parts peer after r.peer no_part);
 }
 
@@ -211,5 +289,6 @@ Holds-grows old new g (ChangeIs w r n c) h =
     let later = writer-changes (writer_at old w) (writer_at new w) (g.writers w) in
     ap (λ (xs : List Change). change_at xs n) later.1 ∙ change_at-append (writer_changes (writer_at old w)) later.0 n c h
 Holds-grows old new g (MayPass w r n) h =
-    ⊎_elim (λ d. inl (dropped-grows (writer_at old w) (writer_at new w) n (g.writers w) d)) (λ b. inr (omega (arith, b, g.places r w))) h
-Holds-grows old new g (PlaceReached w r base) h = omega (arith, h, g.places r w)
+    ⊎_elim (λ d. inl (dropped-grows (writer_at old w) (writer_at new w) n (g.writers w) d)) (λ b. inr (below_on n (place_at old r w) (place_at new r w) b (g.places r w))) h
+Holds-grows old new g (PlaceReached w r base) h = at_most_on base (place_at old r w) (place_at new r w) h (g.places r w)
+Holds-grows old new g (Asserts w r count) h = assertion-grows (writer_at old w) (writer_at new w) count (g.writers w) h

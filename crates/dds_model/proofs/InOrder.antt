@@ -1,11 +1,13 @@
 -- The changes that came at a reader are the first ones of the list of a writer that keeps all.
-use Rattle.std.proofs.Common.{◌≡◌, ℕ, ◌+◌, ◌-◌, ◌≤◌, ◌==◌, Bool, true, false, cond, List, [], ◌∷◌, ◌++◌, Some, None, refl, subst, ap, sym, ◌∙◌, arith, length, slice_get, eq-eqb, eqb-true, append_assoc}
+use Rattle.std.proofs.Common.{◌≡◌, ℕ, Option, ◌+◌, ◌-◌, ◌≤◌, ◌==◌, Bool, true, false, cond, List, [], ◌∷◌, ◌++◌, Some, None, refl, subst, ap, sym, ◌∙◌, arith, length, slice_get, eq-eqb, eqb-true, append_assoc}
 use Rattle.std.specs.Prelude.{if◌then◌else◌, nat_lt}
+use Rattle.std.specs.Option.{option_map}
+use Rattle.std.proofs.lemmas.Option.{same_Some}
 use Rattle.dds_base.specs.declared.change.Change.{Change}
 use Rattle.dds_base.specs.Kept.{change_at}
 use Rattle.dds_model.specs.declared.endpoint.Endpoint.{Endpoint}
 use Rattle.dds_model.specs.declared.reply.PassedRun.{PassedRun}
-use Rattle.dds_model.specs.Part.{same_endpoint, WriterProxy, place_of, with_place, publication_from}
+use Rattle.dds_model.specs.Part.{same_endpoint, WriterProxy, row_of, with_row, place_of, publication_from, publication_of}
 use Rattle.dds_model.specs.Moves.{Grounds, Match, Position, coming, AllCome, GoesTo}
 use Rattle.dds_model.specs.InOrder.{came_from}
 use Rattle.dds_model.proofs.Tables.{same_is}
@@ -15,45 +17,51 @@ same_self a = ap (λ (b : Bool). cond b (a.number == a.number) false) (eq-eqb a.
 
 -- publication handles
 
-least_step : (b : Bool) (place rest n q : ℕ) → 1 ≤ cond b place rest → (1 ≤ rest → n + 1 ≤ q) → n ≤ cond b n q
-least_step true place rest n q h f = omega arith
-least_step false place rest n q h f = let g = f h in omega (arith, g)
+least_step : (c : Bool) (n k : ℕ) (rest : Option ℕ) → cond c (Some n) rest ≡ Some k → (rest ≡ Some k → n + 1 ≤ k) → n ≤ k
+least_step true n k rest h f = let e = same_Some n k h in omega (arith, e)
+least_step false n k rest h f = let g = f h in omega (arith, g)
 
-publication_least : (n : ℕ) (rows : List WriterProxy) (w : Endpoint) → 1 ≤ place_of rows w → n ≤ publication_from n rows w
-publication_least n [] w h = absurd (omega (arith, h))
-publication_least n (p ∷ ps) w h = least_step (same_endpoint p.writer w) p.place (place_of ps w) n (publication_from (n + 1) ps w) h (λ k. publication_least (n + 1) ps w k)
+publication_least : (n k : ℕ) (rows : List WriterProxy) (w : Endpoint) → publication_from n rows w ≡ Some k → n ≤ k
+publication_least n k [] w h = cc
+publication_least n k (p ∷ ps) w h = least_step (same_endpoint p.writer w) n k (publication_from (n + 1) ps w) h (λ e. publication_least (n + 1) k ps w e)
 
-same_step : (n : ℕ) (p : WriterProxy) (a b x y : ℕ) (v w : Endpoint) (c d : Bool) → same_endpoint p.writer v ≡ c → same_endpoint p.writer w ≡ d
-    → 1 ≤ cond c p.place a → 1 ≤ cond d p.place b → cond c n x ≡ cond d n y → (1 ≤ a → n + 1 ≤ x) → (1 ≤ b → n + 1 ≤ y) → (1 ≤ a → 1 ≤ b → x ≡ y → v ≡ w) → v ≡ w
-same_step n p a b x y v w true true e f g h i j k l = sym (same_is p.writer v e) ∙ same_is p.writer w f
-same_step n p a b x y v w true false e f g h i j k l = let m = k h in absurd (omega (arith, i, m))
-same_step n p a b x y v w false true e f g h i j k l = let m = j g in absurd (omega (arith, i, m))
-same_step n p a b x y v w false false e f g h i j k l = l g h i
+same_step : (n k : ℕ) (p : WriterProxy) (ps : List WriterProxy) (v w : Endpoint) (c d : Bool) → same_endpoint p.writer v ≡ c → same_endpoint p.writer w ≡ d
+    → cond c (Some n) (publication_from (n + 1) ps v) ≡ Some k → cond d (Some n) (publication_from (n + 1) ps w) ≡ Some k
+    → (publication_from (n + 1) ps v ≡ Some k → publication_from (n + 1) ps w ≡ Some k → v ≡ w) → v ≡ w
+same_step n k p ps v w true true e f g h i = sym (same_is p.writer v e) ∙ same_is p.writer w f
+same_step n k p ps v w true false e f g h i = let a = same_Some n k g in let b = publication_least (n + 1) k ps w h in absurd (omega (arith, a, b))
+same_step n k p ps v w false true e f g h i = let a = same_Some n k h in let b = publication_least (n + 1) k ps v g in absurd (omega (arith, a, b))
+same_step n k p ps v w false false e f g h i = i g h
 
 -- two matched writers of one handle are one
-publications_same : (n : ℕ) (rows : List WriterProxy) (v w : Endpoint) → 1 ≤ place_of rows v → 1 ≤ place_of rows w → publication_from n rows v ≡ publication_from n rows w → v ≡ w
-publications_same n [] v w g h i = absurd (omega (arith, g))
-publications_same n (p ∷ ps) v w g h i =
-    same_step n p (place_of ps v) (place_of ps w) (publication_from (n + 1) ps v) (publication_from (n + 1) ps w) v w (same_endpoint p.writer v) (same_endpoint p.writer w) refl refl g h i
-    (λ k. publication_least (n + 1) ps v k) (λ k. publication_least (n + 1) ps w k) (λ a b c. publications_same (n + 1) ps v w a b c)
+publications_same : (n k : ℕ) (rows : List WriterProxy) (v w : Endpoint) → publication_from n rows v ≡ Some k → publication_from n rows w ≡ Some k → v ≡ w
+publications_same n k [] v w g h = cc
+publications_same n k (p ∷ ps) v w g h = same_step n k p ps v w (same_endpoint p.writer v) (same_endpoint p.writer w) refl refl g h (λ x y. publications_same (n + 1) k ps v w x y)
 
-kept_step : (n : ℕ) (p : WriterProxy) (ps : List WriterProxy) (w : Endpoint) (to : ℕ) (v : Endpoint) (b : Bool) → publication_from (n + 1) (with_place ps w to) v ≡ publication_from (n + 1) ps v
-    → publication_from n (cond b (record { writer = p.writer; place = to } ∷ ps) (p ∷ with_place ps w to)) v ≡ publication_from n (p ∷ ps) v
-kept_step n p ps w to v true h = refl
-kept_step n p ps w to v false h = ap (λ (x : ℕ). cond (same_endpoint p.writer v) n x) h
+kept_step : (change : WriterProxy → WriterProxy) (n : ℕ) (p : WriterProxy) (ps : List WriterProxy) (w v : Endpoint) (b : Bool) → (change p).writer ≡ p.writer
+    → publication_from (n + 1) (with_row (λ (q : WriterProxy). q.writer) change ps w) v ≡ publication_from (n + 1) ps v
+    → publication_from n (cond b (change p ∷ ps) (p ∷ with_row (λ (q : WriterProxy). q.writer) change ps w)) v ≡ publication_from n (p ∷ ps) v
+kept_step change n p ps w v true kept h = ap (λ (e : Endpoint). cond (same_endpoint e v) (Some n) (publication_from (n + 1) ps v)) kept
+kept_step change n p ps w v false kept h = ap (λ (x : Option ℕ). cond (same_endpoint p.writer v) (Some n) x) h
 
-pub publication_kept : (n : ℕ) (rows : List WriterProxy) (w : Endpoint) (to : ℕ) (v : Endpoint) → publication_from n (with_place rows w to) v ≡ publication_from n rows v
-publication_kept n [] w to v = refl
-publication_kept n (p ∷ ps) w to v = kept_step n p ps w to v (same_endpoint p.writer w) (publication_kept (n + 1) ps w to v)
+publication_from-kept : (change : WriterProxy → WriterProxy) → ((p : WriterProxy) → (change p).writer ≡ p.writer) → (n : ℕ) (rows : List WriterProxy) (w v : Endpoint)
+    → publication_from n (with_row (λ (q : WriterProxy). q.writer) change rows w) v ≡ publication_from n rows v
+publication_from-kept change kept n [] w v = refl
+publication_from-kept change kept n (p ∷ ps) w v = kept_step change n p ps w v (same_endpoint p.writer w) (kept p) (publication_from-kept change kept (n + 1) ps w v)
 
-hit_step : (p : WriterProxy) (ps : List WriterProxy) (w : Endpoint) (to : ℕ) (b : Bool) → same_endpoint p.writer w ≡ b → 1 ≤ cond b p.place (place_of ps w) → (1 ≤ place_of ps w → place_of (with_place ps w to) w ≡ to)
-    → place_of (cond b (record { writer = p.writer; place = to } ∷ ps) (p ∷ with_place ps w to)) w ≡ to
-hit_step p ps w to true e h f = ap (λ (c : Bool). cond c to (place_of ps w)) e
-hit_step p ps w to false e h f = ap (λ (c : Bool). cond c p.place (place_of (with_place ps w to) w)) e ∙ f h
+pub publication_kept : (change : WriterProxy → WriterProxy) → ((p : WriterProxy) → (change p).writer ≡ p.writer) → (rows : List WriterProxy) (w v : Endpoint)
+    → publication_of (with_row (λ (q : WriterProxy). q.writer) change rows w) v ≡ publication_of rows v
+publication_kept change kept rows w v = publication_from-kept change kept 1 rows w v
 
-pub place_hits : (rows : List WriterProxy) (w : Endpoint) (to : ℕ) → 1 ≤ place_of rows w → place_of (with_place rows w to) w ≡ to
-place_hits [] w to h = absurd (omega (arith, h))
-place_hits (p ∷ ps) w to h = hit_step p ps w to (same_endpoint p.writer w) refl h (λ k. place_hits ps w to k)
+handle_step : (n place : ℕ) (p : WriterProxy) (ps : List WriterProxy) (w : Endpoint) (b : Bool) → option_map (λ (q : WriterProxy). q.place) (cond b (Some p) (row_of (λ (q : WriterProxy). q.writer) ps w)) ≡ Some place
+    → (place_of ps w ≡ Some place → (k : ℕ) × (publication_from (n + 1) ps w ≡ Some k)) → (k : ℕ) × (cond b (Some n) (publication_from (n + 1) ps w) ≡ Some k)
+handle_step n place p ps w true h f = (n, refl)
+handle_step n place p ps w false h f = f h
+
+-- who has a place has a handle
+pub publication_there : (n place : ℕ) (rows : List WriterProxy) (w : Endpoint) → place_of rows w ≡ Some place → (k : ℕ) × (publication_from n rows w ≡ Some k)
+publication_there n place [] w h = cc
+publication_there n place (p ∷ ps) w h = handle_step n place p ps w (same_endpoint p.writer w) h (λ e. publication_there (n + 1) place ps w e)
 
 -- changes that come
 
@@ -139,5 +147,5 @@ others_go p g match old (run ∷ runs) to new f h =
     others_go p g match h.1 runs to new f h.5
     ∙ (ap (λ (x : Position). came_from p x.happened) h.3.after ∙ others_come p g match old h.2.0 h.0 f h.2.1)
 
-pub different : (rows : List WriterProxy) (v w : Endpoint) → 1 ≤ place_of rows v → 1 ≤ place_of rows w → (v ≡ w → ⊥) → publication_from 1 rows v ≡ publication_from 1 rows w → ⊥
-different rows v w g h f e = f (publications_same 1 rows v w g h e)
+pub different : (rows : List WriterProxy) (v w : Endpoint) (p q : ℕ) → publication_of rows v ≡ Some p → publication_of rows w ≡ Some q → (v ≡ w → ⊥) → p ≡ q → ⊥
+different rows v w p q g h f e = f (publications_same 1 q rows v w (g ∙ ap (λ (x : ℕ). Some x) e) h)

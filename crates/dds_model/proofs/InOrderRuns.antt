@@ -1,6 +1,8 @@
 -- In every run, the changes that came at a reader are the first ones of the list of a writer that keeps all.
-use Rattle.std.proofs.Common.{◌≡◌, ℕ, zero, suc, ◌+◌, ◌≤◌, ◌==◌, ◌⊎◌, Bool, true, false, List, [], ◌∷◌, ◌++◌, refl, subst, ap, sym, ◌∙◌, inl, inr, ⊎_elim, arith, length, get_or, map, cond, eq-eqb, eqb-true, append_assoc, Option}
-use Rattle.std.specs.Prelude.{ℤ}
+use Rattle.std.proofs.Common.{◌≡◌, ℕ, zero, suc, ◌+◌, ◌≤◌, ◌==◌, ◌⊎◌, Bool, true, false, List, [], ◌∷◌, ◌++◌, refl, subst, ap, sym, ◌∙◌, inl, inr, ⊎_elim, arith, length, get_or, map, cond, eq-eqb, eqb-true, append_assoc, Option, Some, None}
+use Rattle.std.specs.Prelude.{ℤ, IsSome, is_some}
+use Rattle.std.specs.Option.{option_map}
+use Rattle.std.proofs.lemmas.Option.{same_Some}
 use Rattle.std.proofs.lemmas.List.{length-map}
 use Rattle.dds_base.specs.declared.change.Change.{Change}
 use Rattle.dds_base.specs.declared.code.Code.{Code}
@@ -10,7 +12,7 @@ use Rattle.dds_base.specs.declared.config.PeerConfig.{PeerConfig}
 use Rattle.dds_base.specs.declared.config.WriterConfig.{WriterConfig}
 use Rattle.dds_base.specs.declared.config.ReaderConfig.{ReaderConfig}
 use Rattle.dds_base.specs.declared.happening.Happening.{Happening}
-use Rattle.dds_base.specs.declared.happening.Happening.TheVariants.{Took}
+use Rattle.dds_base.specs.declared.happening.Happening.TheVariants.{Took, Heard as WasHeard}
 use Rattle.dds_base.specs.declared.happening.SamplePosition.{SamplePosition}
 use Rattle.dds_base.specs.declared.mask.Masks.{Masks}
 use Rattle.dds_base.specs.declared.qos.HistoryQos.TheVariants.{KeepAll}
@@ -20,23 +22,23 @@ use Rattle.dds_model.specs.declared.endpoint.Endpoint.{Endpoint}
 use Rattle.dds_model.specs.declared.event.WorldEvent.{WorldEvent}
 use Rattle.dds_model.specs.declared.event.WorldEvent.TheVariants as world
 use Rattle.dds_model.specs.declared.reply.Move.{Move}
-use Rattle.dds_model.specs.declared.reply.Move.TheVariants.{Place, Acknowledged}
+use Rattle.dds_model.specs.declared.reply.Move.TheVariants.{Place, Acknowledged, Heard}
 use Rattle.dds_model.specs.declared.reply.PassedRun.{PassedRun}
 use Rattle.dds_model.specs.declared.reply.Reply.{Reply}
 use Rattle.dds_model.specs.declared.reply.Reply.TheVariants.{Done, Samples, Reported, Refused}
 use Rattle.dds_model.specs.Numbered.{numbered, with_numbered, HasNumber}
-use Rattle.dds_model.specs.Part.{same_endpoint, WriterProxy, Rtps, Reader, Dds, Part, no_reader, no_part, own_proxies, own_reader, place_of, with_place, publication_from, writer_changes}
-use Rattle.dds_model.specs.Moves.{Grounds, match_of, position_of, AreMoves, Places, DeliveryStep}
-use Rattle.dds_model.specs.Calls.{Effect, nothing, writes, effect, effect_of, with_happening, register_refusal, write_refusal, dispose_refusal, unregister_refusal, IsDoneUnless, Answers, CallStep, TickStep}
-use Rattle.dds_model.specs.Machine.{Machine, part_at, writer_at, place_at, grounds_of, Step}
+use Rattle.dds_model.specs.Part.{same_endpoint, WriterProxy, Reader, Dds, Part, no_reader, no_part, own_writer, own_proxies, own_reader, at_reader, at_writer, row_of, place_of, with_place, with_heard, with_acknowledged, publication_of, writer_changes}
+use Rattle.dds_model.specs.Moves.{Grounds, match_of, IsMatched, position_of, AreMoves, Places, Hears, DeliveryStep}
+use Rattle.dds_model.specs.Calls.{Effect, nothing, writes, effect, effect_of, with_happening, register_refusal, write_refusal, dispose_refusal, unregister_refusal, IsDoneUnless, Tests, Answers, CallStep, TickStep}
+use Rattle.dds_model.specs.Machine.{Machine, AllTests, part_at, writer_at, place_at, grounds_of, Step}
 use Rattle.dds_model.specs.Runs.{Traffic, Run}
 use Rattle.dds_model.specs.InOrder.{came_from, CameInOrder, no_traffic}
 use Rattle.dds_model.specs.Opening.{writers_in, matched_writers, reader_qos, opening_part, opening_peers, opening}
 use Rattle.dds_model.specs.Peer.{Peer}
-use Rattle.dds_model.proofs.Tables.{numbered-cases, numbered-same, length-with_numbered, place-cases, same_is}
-use Rattle.dds_model.proofs.Growth.{CallStep-grows, TickStep-rtps, TickStep-readers, TickStep-grows, DeliveryStep-grows, MachineGrows, with_part-grows, writer-changes}
+use Rattle.dds_model.proofs.Tables.{numbered-cases, numbered-same, length-with_numbered, place-cases, place-hits, place-heard, same_is}
+use Rattle.dds_model.proofs.Growth.{CallStep-grows, TickStep-rows, TickStep-readers, TickStep-grows, DeliveryStep-grows, MachineGrows, with_part-grows, writer-changes}
 use Rattle.dds_model.proofs.RunLaws.{keeps_all, Step-policy}
-use Rattle.dds_model.proofs.InOrder.{same_self, publication_kept, place_hits, Along, along_as, RestsOn, goes_along, others_go, different}
+use Rattle.dds_model.proofs.InOrder.{same_self, publication_kept, publication_there, Along, along_as, RestsOn, goes_along, others_go, different}
 
 has_with : {X : Type 0} (xs : List X) (i : ℕ) (x : X) (j : ℕ) → HasNumber xs j → HasNumber (with_numbered xs i x) j
 has_with xs i x j h = let e = length-with_numbered xs i x in let low = h.0 in let high = h.1 in (omega (arith, low), omega (arith, e, high))
@@ -44,87 +46,89 @@ has_with xs i x j h = let e = length-with_numbered xs i x in let low = h.0 in le
 numbered-other : {X : Type 0} (xs : List X) (i : ℕ) (x : X) (j : ℕ) (d : X) → (j ≡ i → ⊥) → numbered (with_numbered xs i x) j d ≡ numbered xs j d
 numbered-other xs i x j d f = ⊎_elim (λ s. s) (λ o. absurd (f o.0)) (numbered-cases xs i x j d)
 
--- what came at a peer's reader from a writer with these changes
+-- what came at a peer's reader from a matched writer with these changes
 record Lane (changes : List Change) (part : Part) (w : Endpoint) (r : ℕ) : Type 0 where
   rows : HasNumber part.rtps.readers r
   own : HasNumber part.dds.readers r
-  along : Along changes (publication_from 1 (own_proxies part r) w) (position_of part w r)
+  publication : ℕ
+  place : ℕ
+  matched : IsMatched part w r publication place
+  along : Along changes publication (position_of part r place)
 
--- the reader is as before, or has been entered what did not come
-lane_as : (changes : List Change) (old new : Part) (w : Endpoint) (r : ℕ) → Lane changes old w r → HasNumber new.rtps.readers r → HasNumber new.dds.readers r → own_proxies new r ≡ own_proxies old r
-    → came_from (publication_from 1 (own_proxies old r) w) (own_reader new r).happened ≡ came_from (publication_from 1 (own_proxies old r) w) (own_reader old r).happened → Lane changes new w r
-lane_as changes old new w r l rows own proxies came =
-    let p = publication_from 1 (own_proxies old r) w in
-    let q = publication_from 1 (own_proxies new r) w in
-    let same : q ≡ p = ap (λ (x : List WriterProxy). publication_from 1 x w) proxies in
-    record {
-      rows = rows;
-      own = own;
-      along = along_as changes p q (position_of old w r) (position_of new w r) l.along (ap (λ (x : ℕ). came_from x (own_reader new r).happened) same ∙ came) (ap (λ (x : List WriterProxy). place_of x w) proxies);
-    }
+-- the reader has the same writers and places as before, and was entered what did not come
+lane_as : (changes : List Change) (old new : Part) (w : Endpoint) (r : ℕ) → (l : Lane changes old w r) → HasNumber new.rtps.readers r → HasNumber new.dds.readers r
+    → publication_of (own_proxies new r) w ≡ publication_of (own_proxies old r) w → place_of (own_proxies new r) w ≡ place_of (own_proxies old r) w
+    → came_from l.publication (own_reader new r).happened ≡ came_from l.publication (own_reader old r).happened → Lane changes new w r
+lane_as changes old new w r l rows own handles places came = record {
+  rows = rows;
+  own = own;
+  publication = l.publication;
+  place = l.place;
+  matched = record { handle = handles ∙ l.matched.handle; at = places ∙ l.matched.at };
+  along = along_as changes l.publication l.publication (position_of old r l.place) (position_of new r l.place) l.along came refl;
+}
 
 -- a delivery
 
--- a reader with other rows, at which more happened
-abbrev moved : Part → ℕ → List WriterProxy → List Happening → Part
-moved old k rows happened = record {
-  rtps = record { writers = old.rtps.writers; readers = with_numbered old.rtps.readers k rows };
-  dds = record { moment = old.dds.moment; readers = with_numbered old.dds.readers k (record { qos = (own_reader old k).qos; happened = happened }) };
-}
-
-moved_other : (changes : List Change) (old : Part) (w : Endpoint) (r k : ℕ) (rows : List WriterProxy) (happened : List Happening) → (r ≡ k → ⊥) → Lane changes old w r → Lane changes (moved old k rows happened) w r
+moved_other : (changes : List Change) (old : Part) (w : Endpoint) (r k : ℕ) (rows : List WriterProxy) (happened : List Happening) → (r ≡ k → ⊥) → Lane changes old w r → Lane changes (at_reader old k rows happened) w r
 moved_other changes old w r k rows happened f l =
-    let reader : Reader = record { qos = (own_reader old k).qos; happened = happened } in
-    lane_as changes old (moved old k rows happened) w r l (has_with old.rtps.readers k rows r l.rows) (has_with old.dds.readers k reader r l.own) (numbered-other old.rtps.readers k rows r [] f)
-    (ap (λ (x : Reader). came_from (publication_from 1 (own_proxies old r) w) x.happened) (numbered-other old.dds.readers k reader r no_reader f))
+    let reader : Reader = record (own_reader old k) { happened = happened } in
+    let same : numbered (with_numbered old.rtps.readers k rows) r [] ≡ numbered old.rtps.readers r [] = numbered-other old.rtps.readers k rows r [] f in
+    lane_as changes old (at_reader old k rows happened) w r l (has_with old.rtps.readers k rows r l.rows) (has_with old.dds.readers k reader r l.own)
+    (ap (λ (x : List WriterProxy). publication_of x w) same) (ap (λ (x : List WriterProxy). place_of x w) same)
+    (ap (λ (x : Reader). came_from l.publication x.happened) (numbered-other old.dds.readers k reader r no_reader f))
 
-moved_here : (changes : List Change) (old : Part) (w : Endpoint) (r : ℕ) (rows : List WriterProxy) (happened : List Happening) → Lane changes old w r
-    → Along changes (publication_from 1 rows w) (record { place = place_of rows w; happened = happened }) → Lane changes (moved old r rows happened) w r
-moved_here changes old w r rows happened l a =
-    let reader : Reader = record { qos = (own_reader old r).qos; happened = happened } in
-    let new = moved old r rows happened in
+-- the reader itself has these rows now, and this happened there
+moved_here : (changes : List Change) (old : Part) (w : Endpoint) (r publication place : ℕ) (rows : List WriterProxy) (happened : List Happening) → Lane changes old w r → publication_of rows w ≡ Some publication
+    → place_of rows w ≡ Some place → Along changes publication (record { place = place; happened = happened }) → Lane changes (at_reader old r rows happened) w r
+moved_here changes old w r publication place rows happened l handle at a =
+    let reader : Reader = record (own_reader old r) { happened = happened } in
+    let new = at_reader old r rows happened in
     let proxies : own_proxies new r ≡ rows = numbered-same old.rtps.readers r rows [] l.rows in
     let reads : (own_reader new r).happened ≡ happened = ap (λ (x : Reader). x.happened) (numbered-same old.dds.readers r reader no_reader l.own) in
     record {
       rows = has_with old.rtps.readers r rows r l.rows;
       own = has_with old.dds.readers r reader r l.own;
-      along = along_as changes (publication_from 1 rows w) (publication_from 1 (own_proxies new r) w) (record { place = place_of rows w; happened = happened }) (position_of new w r) a
-          (ap (λ (x : List WriterProxy). came_from (publication_from 1 x w) (own_reader new r).happened) proxies ∙ ap (λ (x : List Happening). came_from (publication_from 1 rows w) x) reads)
-          (ap (λ (x : List WriterProxy). place_of x w) proxies);
+      publication = publication;
+      place = place;
+      matched = record { handle = ap (λ (x : List WriterProxy). publication_of x w) proxies ∙ handle; at = ap (λ (x : List WriterProxy). place_of x w) proxies ∙ at };
+      along = along_as changes publication publication (record { place = place; happened = happened }) (position_of new r place) a (ap (λ (x : List Happening). came_from publication x) reads) refl;
     }
 
 same_writer : (changes : List Change) (g : Grounds) (old : Part) (w : Endpoint) (r to : ℕ) (passed : List PassedRun) (new : Part) → RestsOn changes g w r → Lane changes old w r → (h : Places g old w r to passed new)
-    → Along changes (publication_from 1 (with_place (own_proxies old r) w to) w) (record { place = place_of (with_place (own_proxies old r) w to) w; happened = h.end.happened })
+    → Lane changes (at_reader old r (with_place (own_proxies old r) w to) h.end.happened) w r
 same_writer changes g old w r to passed new f l h =
-    let p = publication_from 1 (own_proxies old r) w in
     let rows = with_place (own_proxies old r) w to in
-    let end = goes_along changes g (match_of old w r) (position_of old w r) passed to h.end f h.goes l.along in
-    along_as changes p (publication_from 1 rows w) h.end (record { place = place_of rows w; happened = h.end.happened }) end.0
-    (ap (λ (x : ℕ). came_from x h.end.happened) (publication_kept 1 (own_proxies old r) w to w)) (place_hits (own_proxies old r) w to h.matched ∙ sym end.1)
+    let same_handle : l.publication ≡ h.publication = same_Some l.publication h.publication (sym l.matched.handle ∙ h.matched.handle) in
+    let same_place : l.place ≡ h.place = same_Some l.place h.place (sym l.matched.at ∙ h.matched.at) in
+    let begins : Along changes h.publication (position_of old r h.place) =
+    along_as changes l.publication h.publication (position_of old r l.place) (position_of old r h.place) l.along (ap (λ (x : ℕ). came_from x (own_reader old r).happened) (sym same_handle)) (sym same_place) in
+    let end = goes_along changes g (match_of old w r h.publication) (position_of old r h.place) passed to h.end f h.goes begins in
+    moved_here changes old w r h.publication to rows h.end.happened l
+    (publication_kept (λ (p : WriterProxy). record p { place = to }) (λ p. refl) (own_proxies old r) w w ∙ h.matched.handle) (place-hits (own_proxies old r) w h.place to h.matched.at)
+    (along_as changes h.publication h.publication h.end (record { place = to; happened = h.end.happened }) end.0 refl (sym end.1))
 
 other_writer : (changes : List Change) (g : Grounds) (old : Part) (w v : Endpoint) (r to : ℕ) (passed : List PassedRun) (new : Part) → (w ≡ v → ⊥) → Lane changes old w r → (h : Places g old v r to passed new)
-    → Along changes (publication_from 1 (with_place (own_proxies old r) v to) w) (record { place = place_of (with_place (own_proxies old r) v to) w; happened = h.end.happened })
+    → Lane changes (at_reader old r (with_place (own_proxies old r) v to) h.end.happened) w r
 other_writer changes g old w v r to passed new f l h =
-    let p = publication_from 1 (own_proxies old r) w in
     let rows = with_place (own_proxies old r) v to in
-    let placed : 1 ≤ place_of (own_proxies old r) w = let count = l.along.count in omega (arith, count) in
-    let same : place_of rows w ≡ place_of (own_proxies old r) w = ⊎_elim (λ s. s) (λ o. absurd (f o.0)) (place-cases (own_proxies old r) v to w) in
-    along_as changes p (publication_from 1 rows w) (position_of old w r) (record { place = place_of rows w; happened = h.end.happened }) l.along
-    (ap (λ (x : ℕ). came_from x h.end.happened) (publication_kept 1 (own_proxies old r) v to w)
-    ∙ others_go p g (match_of old v r) (position_of old v r) passed to h.end (different (own_proxies old r) v w h.matched placed (λ e. f (sym e))) h.goes) same
+    let same : place_of rows w ≡ place_of (own_proxies old r) w = ⊎_elim (λ s. s) (λ o. absurd (f o.0)) (place-cases (own_proxies old r) v h.place to w h.matched.at) in
+    let apart : h.publication ≡ l.publication → ⊥ = different (own_proxies old r) v w h.publication l.publication h.matched.handle l.matched.handle (λ e. f (sym e)) in
+    moved_here changes old w r l.publication l.place rows h.end.happened l
+    (publication_kept (λ (p : WriterProxy). record p { place = to }) (λ p. refl) (own_proxies old r) v w ∙ l.matched.handle) (same ∙ l.matched.at)
+    (along_as changes l.publication l.publication (position_of old r l.place) (record { place = l.place; happened = h.end.happened }) l.along
+    (others_go l.publication g (match_of old v r h.publication) (position_of old r h.place) passed to h.end apart h.goes) refl)
 
 either_writer : (changes : List Change) (g : Grounds) (old : Part) (w v : Endpoint) (r to : ℕ) (passed : List PassedRun) (new : Part) (b : Bool) → same_endpoint v w ≡ b → RestsOn changes g w r → Lane changes old w r
-    → (h : Places g old v r to passed new) → Along changes (publication_from 1 (with_place (own_proxies old r) v to) w) (record { place = place_of (with_place (own_proxies old r) v to) w; happened = h.end.happened })
+    → (h : Places g old v r to passed new) → Lane changes (at_reader old r (with_place (own_proxies old r) v to) h.end.happened) w r
 either_writer changes g old w v r to passed new true e f l h =
-    subst (λ (x : Endpoint). (k : Places g old x r to passed new) → Along changes (publication_from 1 (with_place (own_proxies old r) x to) w) (record { place = place_of (with_place (own_proxies old r) x to) w; happened = k.end.happened }))
-    (sym (same_is v w e)) (λ k. same_writer changes g old w r to passed new f l k) h
+    subst (λ (x : Endpoint). (k : Places g old x r to passed new) → Lane changes (at_reader old r (with_place (own_proxies old r) x to) k.end.happened) w r) (sym (same_is v w e))
+    (λ k. same_writer changes g old w r to passed new f l k) h
 either_writer changes g old w v r to passed new false e f l h =
     other_writer changes g old w v r to passed new (λ q. let s = ap (λ (x : Endpoint). same_endpoint x w) q in let t = same_self w in cc) l h
 
 lane_here : (changes : List Change) (g : Grounds) (old : Part) (w v : Endpoint) (r to : ℕ) (passed : List PassedRun) (new : Part) → RestsOn changes g w r → Lane changes old w r → Places g old v r to passed new → Lane changes new w r
-lane_here changes g old w v r to passed new f l h =
-    subst (λ (x : Part). Lane changes x w r) (sym h.after)
-    (moved_here changes old w r (with_place (own_proxies old r) v to) h.end.happened l (either_writer changes g old w v r to passed new (same_endpoint v w) refl f l h))
+lane_here changes g old w v r to passed new f l h = subst (λ (x : Part). Lane changes x w r) (sym h.after) (either_writer changes g old w v r to passed new (same_endpoint v w) refl f l h)
 
 lane_place : (changes : List Change) (g : Grounds) (old : Part) (w v : Endpoint) (r k to : ℕ) (passed : List PassedRun) (new : Part) (b : Bool) → (k == r) ≡ b → RestsOn changes g w r → Lane changes old w r
     → Places g old v k to passed new → Lane changes new w r
@@ -134,11 +138,30 @@ lane_place changes g old w v r k to passed new false e f l h =
     subst (λ (x : Part). Lane changes x w r) (sym h.after)
     (moved_other changes old w r k (with_place (own_proxies old k) v to) h.end.happened (λ q. let s = eq-eqb k r (sym q) in cc) l)
 
+-- a hearing changes neither handles nor places, and nothing comes by it
+heard_here : (changes : List Change) (old : Part) (w v : Endpoint) (r publication : ℕ) (count : ℤ) → Lane changes old w r
+    → Lane changes (at_reader old r (with_heard (own_proxies old r) v count) (WasHeard publication old.dds.moment ∷ (own_reader old r).happened)) w r
+heard_here changes old w v r publication count l =
+    let rows = with_heard (own_proxies old r) v count in
+    let happened = WasHeard publication old.dds.moment ∷ (own_reader old r).happened in
+    moved_here changes old w r l.publication l.place rows happened l
+    (publication_kept (λ (p : WriterProxy). record p { heard = Some count }) (λ p. refl) (own_proxies old r) v w ∙ l.matched.handle) (place-heard (own_proxies old r) v count w ∙ l.matched.at)
+    (along_as changes l.publication l.publication (position_of old r l.place) (record { place = l.place; happened = happened }) l.along refl refl)
+
+lane_heard : (changes : List Change) (g : Grounds) (old : Part) (w v : Endpoint) (r k : ℕ) (new : Part) (b : Bool) → (k == r) ≡ b → Lane changes old w r → Hears g old v k new → Lane changes new w r
+lane_heard changes g old w v r k new true e l h =
+    subst (λ (j : ℕ). Hears g old v j new → Lane changes new w r) (sym (eqb-true k r e))
+    (λ x. subst (λ (p : Part). Lane changes p w r) (sym x.after) (heard_here changes old w v r x.publication x.count l)) h
+lane_heard changes g old w v r k new false e l h =
+    subst (λ (x : Part). Lane changes x w r) (sym h.after)
+    (moved_other changes old w r k (with_heard (own_proxies old k) v h.count) (WasHeard h.publication old.dds.moment ∷ (own_reader old k).happened) (λ q. let s = eq-eqb k r (sym q) in cc) l)
+
 lane_moves : (changes : List Change) (g : Grounds) (old : Part) (w : Endpoint) (r : ℕ) (ms : List Move) (new : Part) → RestsOn changes g w r → Lane changes old w r → AreMoves g old ms new → Lane changes new w r
 lane_moves changes g old w r [] new f l h = subst (λ (x : Part). Lane changes x w r) (sym h) l
 lane_moves changes g old w r (Place v k to passed ∷ ms) new f l h = lane_moves changes g h.0 w r ms new f (lane_place changes g old w v r k to passed h.0 (k == r) refl f l h.1) h.2
 lane_moves changes g old w r (Acknowledged v k to ∷ ms) new f l h =
-    lane_moves changes g h.0 w r ms new f (subst (λ (x : Part). Lane changes x w r) (sym h.1.after) (record { rows = l.rows; own = l.own; along = l.along })) h.2
+    lane_moves changes g h.0 w r ms new f (subst (λ (x : Part). Lane changes x w r) (sym h.1.after) (lane_as changes old (at_writer old v (record (own_writer old v) { readers = with_acknowledged (own_writer old v).readers k to })) w r l l.rows l.own refl refl refl)) h.2
+lane_moves changes g old w r (Heard v k ∷ ms) new f l h = lane_moves changes g h.0 w r ms new f (lane_heard changes g old w v r k h.0 (k == r) refl l h.1) h.2
 
 lane_delivery : (changes : List Change) (g : Grounds) (old : Part) (w : Endpoint) (r : ℕ) (reply : Reply) (new : Part) → RestsOn changes g w r → Lane changes old w r → DeliveryStep g old reply new → Lane changes new w r
 lane_delivery changes g old w r (Reported report) new f l h = lane_moves changes g old w r report.moves new f l h
@@ -163,9 +186,9 @@ took old new k samples r h e =
           ∙ ⊎_elim (λ s. ap (λ (x : Reader). came_from p x.happened) s) (λ o. ap (λ (x : Reader). came_from p x.happened) o.1 ∙ ap (λ (j : ℕ). came_from p (own_reader old j).happened) (sym o.0)) (numbered-cases old.dds.readers k reader r no_reader),
     )
 
-take_refused : (old : Part) (k : ℕ) (max : ℤ) (masks : Masks) (code : Code) (new : Dds) (r : ℕ) → HasNumber old.dds.readers r → Answers old (Take k max masks) (Refused code) new → SameCame old.dds new r
-take_refused old k max masks code.NoData new r h a = took old new k [] r h a.2
-take_refused old k max masks code new r h a = same_came old.dds new r h a.1
+take_refused : (tests : Tests) (old : Part) (k : ℕ) (max : ℤ) (masks : Masks) (code : Code) (new : Dds) (r : ℕ) → HasNumber old.dds.readers r → Answers tests old (Take k max masks) (Refused code) new → SameCame old.dds new r
+take_refused tests old k max masks code.NoData new r h a = took old new k [] r h a.2
+take_refused tests old k max masks code new r h a = same_came old.dds new r h a.1
 
 done_or_not : (refusal : Option Code) (reply : Reply) (old new : Dds) (r : ℕ) → HasNumber old.readers r → IsDoneUnless refusal reply old old new → SameCame old new r
 done_or_not refusal Done old new r h a = same_came old new r h a.1
@@ -173,43 +196,51 @@ done_or_not refusal (Refused code) old new r h a = same_came old new r h a.1
 done_or_not refusal (Samples samples) old new r h a = absurd a
 done_or_not refusal (Reported report) old new r h a = absurd a
 
-answers_came : (old : Part) (c : Call) (reply : Reply) (new : Dds) (r : ℕ) → HasNumber old.dds.readers r → Answers old c reply new → SameCame old.dds new r
-answers_came old (Register v key) reply new r h a = done_or_not (register_refusal old v) reply old.dds new r h a
-answers_came old (Write v key value) reply new r h a = done_or_not (write_refusal old v key value) reply old.dds new r h a
-answers_came old (Dispose v key) reply new r h a = done_or_not (dispose_refusal old v key) reply old.dds new r h a
-answers_came old (Unregister v key) reply new r h a = done_or_not (unregister_refusal old v key) reply old.dds new r h a
-answers_came old (Take v max masks) (Samples samples) new r h a = took old new v _ r h a.3
-answers_came old (Take v max masks) (Refused code) new r h a = take_refused old v max masks code new r h a
-answers_came old (Take v max masks) Done new r h a = absurd a
-answers_came old (Take v max masks) (Reported report) new r h a = absurd a
+answers_came : (tests : Tests) (old : Part) (c : Call) (reply : Reply) (new : Dds) (r : ℕ) → HasNumber old.dds.readers r → Answers tests old c reply new → SameCame old.dds new r
+answers_came tests old (Register v key) reply new r h a = done_or_not (register_refusal old v) reply old.dds new r h a
+answers_came tests old (Write v key value) reply new r h a = done_or_not (write_refusal old v key value) reply old.dds new r h a
+answers_came tests old (Dispose v key) reply new r h a = done_or_not (dispose_refusal old v key) reply old.dds new r h a
+answers_came tests old (Unregister v key) reply new r h a = done_or_not (unregister_refusal old v key) reply old.dds new r h a
+answers_came tests old (Take v max masks) (Samples samples) new r h a = took old new v _ r h a.3
+answers_came tests old (Take v max masks) (Refused code) new r h a = take_refused tests old v max masks code new r h a
+answers_came tests old (Take v max masks) Done new r h a = absurd a
+answers_came tests old (Take v max masks) (Reported report) new r h a = absurd a
 
 effect_rows : (old : Part) (new : Part) (e : Effect) → new.rtps ≡ effect old.rtps e → new.rtps.readers ≡ old.rtps.readers
 effect_rows old new nothing h = ap (λ x. x.readers) h
 effect_rows old new (writes v entry) h = ap (λ x. x.readers) h
 
-lane_call : (changes : List Change) (old : Part) (w : Endpoint) (r : ℕ) (c : Call) (reply : Reply) (new : Part) → Lane changes old w r → CallStep old c reply new → Lane changes new w r
-lane_call changes old w r c reply new l h =
+-- the rows of all readers are as before
+lane_same : (changes : List Change) (old new : Part) (w : Endpoint) (r : ℕ) → (l : Lane changes old w r) → new.rtps.readers ≡ old.rtps.readers → HasNumber new.dds.readers r
+    → came_from l.publication (own_reader new r).happened ≡ came_from l.publication (own_reader old r).happened → Lane changes new w r
+lane_same changes old new w r l rows own came =
+    lane_as changes old new w r l (subst (λ (x : List (List WriterProxy)). HasNumber x r) (sym rows) l.rows) own (ap (λ (x : List (List WriterProxy)). publication_of (numbered x r []) w) rows)
+    (ap (λ (x : List (List WriterProxy)). place_of (numbered x r []) w) rows) came
+
+lane_call : (changes : List Change) (tests : Tests) (old : Part) (w : Endpoint) (r : ℕ) (c : Call) (reply : Reply) (new : Part) → Lane changes old w r → CallStep tests old c reply new → Lane changes new w r
+lane_call changes tests old w r c reply new l h =
     let rows : new.rtps.readers ≡ old.rtps.readers = effect_rows old new (effect_of old c reply) h.rtps in
-    let came = answers_came old c reply new.dds r l.own h.answers in
-    lane_as changes old new w r l (subst (λ (x : List (List WriterProxy)). HasNumber x r) (sym rows) l.rows) came.0 (ap (λ (x : List (List WriterProxy)). numbered x r []) rows)
-    (came.1 (publication_from 1 (own_proxies old r) w))
+    let came = answers_came tests old c reply new.dds r l.own h.answers in
+    lane_same changes old new w r l rows came.0 (came.1 l.publication)
 
 -- a tick
 lane_tick : (changes : List Change) (old : Part) (w : Endpoint) (r now : ℕ) (reply : Reply) (new : Part) → Lane changes old w r → TickStep old now reply new → Lane changes new w r
 lane_tick changes old w r now reply new l h =
-    let rows : new.rtps.readers ≡ old.rtps.readers = ap (λ (x : Rtps). x.readers) (TickStep-rtps old now reply new h) in
     let same : new.dds.readers ≡ old.dds.readers = TickStep-readers old now reply new h in
-    lane_as changes old new w r l (subst (λ (x : List (List WriterProxy)). HasNumber x r) (sym rows) l.rows) (subst (λ (x : List Reader). HasNumber x r) (sym same) l.own) (ap (λ (x : List (List WriterProxy)). numbered x r []) rows)
-    (ap (λ (x : List Reader). came_from (publication_from 1 (own_proxies old r) w) (numbered x r no_reader).happened) same)
+    lane_same changes old new w r l (TickStep-rows old now reply new h) (subst (λ (x : List Reader). HasNumber x r) (sym same) l.own)
+    (ap (λ (x : List Reader). came_from l.publication (numbered x r no_reader).happened) same)
 
 -- more changes are written
 lane_longer : (changes later : List Change) (part : Part) (w : Endpoint) (r : ℕ) → Lane changes part w r → Lane (changes ++ later) part w r
 lane_longer changes later part w r l =
-    let came = came_from (publication_from 1 (own_proxies part r) w) (own_reader part r).happened in
+    let came = came_from l.publication (own_reader part r).happened in
     let a = l.along in
     record {
       rows = l.rows;
       own = l.own;
+      publication = l.publication;
+      place = l.place;
+      matched = l.matched;
       along = record { rest = a.rest ++ later; first = ap (λ (xs : List Change). xs ++ later) a.first ∙ append_assoc came a.rest later; count = a.count };
     }
 
@@ -239,44 +270,47 @@ at_peer m peer after new w r changed grows policy f o =
           (subst (λ (x : Machine). Lane (writer_changes (writer_at m w) ++ longer.0) (part_at x r.peer) w r.number) (sym changed) (lane_longer (writer_changes (writer_at m w)) longer.0 (part_at with r.peer) w r.number lane));
     }
 
-step_in_order : (sent : ℕ) (m : Machine) (ev : WorldEvent) (reply : Reply) (new : Machine) (w r : Endpoint) → Step sent m ev reply new → InOrder m w r → InOrder new w r
-step_in_order sent m (world.Call peer c) reply new w r (inl h) o =
-    at_peer m peer h.after new w r h.changed (with_part-grows m peer h.after (CallStep-grows (part_at m peer) c reply h.after h.step)) (Step-policy w sent m (world.Call peer c) reply new (inl h))
-    (λ k l. lane_call (writer_changes (writer_at m w)) (part_at m peer) w k c reply h.after l h.step) o
-step_in_order sent m (world.Call peer c) reply new w r (inr h) o = subst (λ (x : Machine). InOrder x w r) (sym h.1.1) o
-step_in_order sent m (world.Tick peer now) reply new w r (inl h) o =
-    at_peer m peer h.after new w r h.changed (with_part-grows m peer h.after (TickStep-grows (part_at m peer) now reply h.after h.step)) (Step-policy w sent m (world.Tick peer now) reply new (inl h))
+step_in_order : (tests : AllTests) (sent : ℕ) (m : Machine) (ev : WorldEvent) (reply : Reply) (new : Machine) (w r : Endpoint) → Step tests sent m ev reply new → InOrder m w r → InOrder new w r
+step_in_order tests sent m (world.Call peer c) reply new w r (inl h) o =
+    at_peer m peer h.after new w r h.changed (with_part-grows m peer h.after (CallStep-grows (tests peer) (part_at m peer) c reply h.after h.step)) (Step-policy w tests sent m (world.Call peer c) reply new (inl h))
+    (λ k l. lane_call (writer_changes (writer_at m w)) (tests peer) (part_at m peer) w k c reply h.after l h.step) o
+step_in_order tests sent m (world.Call peer c) reply new w r (inr h) o = subst (λ (x : Machine). InOrder x w r) (sym h.1.1) o
+step_in_order tests sent m (world.Tick peer now) reply new w r (inl h) o =
+    at_peer m peer h.after new w r h.changed (with_part-grows m peer h.after (TickStep-grows (part_at m peer) now reply h.after h.step)) (Step-policy w tests sent m (world.Tick peer now) reply new (inl h))
     (λ k l. lane_tick (writer_changes (writer_at m w)) (part_at m peer) w k now reply h.after l h.step) o
-step_in_order sent m (world.Tick peer now) reply new w r (inr h) o = subst (λ (x : Machine). InOrder x w r) (sym h.1.1) o
-step_in_order sent m (world.Deliver peer packet) reply new w r (inl h) o =
+step_in_order tests sent m (world.Tick peer now) reply new w r (inr h) o = subst (λ (x : Machine). InOrder x w r) (sym h.1.1) o
+step_in_order tests sent m (world.Deliver peer packet) reply new w r (inl h) o =
     at_peer m peer h.2.after new w r h.2.changed (with_part-grows m peer h.2.after (DeliveryStep-grows (grounds_of m peer) (part_at m peer) reply h.2.after h.2.step))
-    (Step-policy w sent m (world.Deliver peer packet) reply new (inl h))
+    (Step-policy w tests sent m (world.Deliver peer packet) reply new (inl h))
     (λ k l. lane_delivery (writer_changes (writer_at m w)) (grounds_of m peer) (part_at m peer) w k reply h.2.after (rests_on m peer w k o.all) l h.2.step) o
-step_in_order sent m (world.Deliver peer packet) reply new w r (inr h) o = subst (λ (x : Machine). InOrder x w r) (sym h.1.1) o
+step_in_order tests sent m (world.Deliver peer packet) reply new w r (inr h) o = subst (λ (x : Machine). InOrder x w r) (sym h.1.1) o
 
-run_in_order : (config : Config) (m after : Machine) (events : List WorldEvent) (replies : List Reply) (sent last : Traffic) (w r : Endpoint) → Run config sent m events replies last after → InOrder m w r → InOrder after w r
-run_in_order config m after [] [] sent last w r run o = subst (λ (x : Machine). InOrder x w r) (sym run.0) o
-run_in_order config m after (e ∷ es) (p ∷ ps) sent last w r run o = run_in_order config run.0 after es ps run.1 last w r run.5 (step_in_order (length sent.sent) m e p run.0 w r run.2 o)
-run_in_order config m after [] (p ∷ ps) sent last w r run o = absurd run
-run_in_order config m after (e ∷ es) [] sent last w r run o = absurd run
+run_in_order : (config : Config) (tests : AllTests) (m after : Machine) (events : List WorldEvent) (replies : List Reply) (sent last : Traffic) (w r : Endpoint) → Run config tests sent m events replies last after → InOrder m w r → InOrder after w r
+run_in_order config tests m after [] [] sent last w r run o = subst (λ (x : Machine). InOrder x w r) (sym run.0) o
+run_in_order config tests m after (e ∷ es) (p ∷ ps) sent last w r run o = run_in_order config tests run.0 after es ps run.1 last w r run.5 (step_in_order tests (length sent.sent) m e p run.0 w r run.2 o)
+run_in_order config tests m after [] (p ∷ ps) sent last w r run o = absurd run
+run_in_order config tests m after (e ∷ es) [] sent last w r run o = absurd run
 
 -- the opening: a reader's place in a writer's list is 1 where they are matched, and nothing has happened
 
-place_or_none : (c : Bool) (rest : ℕ) → (rest ≡ 0) ⊎ (rest ≡ 1) → (cond c 1 rest ≡ 0) ⊎ (cond c 1 rest ≡ 1)
-place_or_none true rest h = inr refl
-place_or_none false rest h = h
+abbrev FirstOrNone : List WriterProxy → Endpoint → Type 0
+FirstOrNone rows w = (place_of rows w ≡ None) ⊎ (place_of rows w ≡ Some 1)
 
-row_or_none : (b : Bool) (peer n : ℕ) (rows : List WriterProxy) (w : Endpoint) → (place_of rows w ≡ 0) ⊎ (place_of rows w ≡ 1)
-    → (place_of (cond b (record { writer = record { peer = peer; number = n }; place = 1 } ∷ rows) rows) w ≡ 0) ⊎ (place_of (cond b (record { writer = record { peer = peer; number = n }; place = 1 } ∷ rows) rows) w ≡ 1)
-row_or_none true peer n rows w h = place_or_none (same_endpoint (record { peer = peer; number = n }) w) (place_of rows w) h
+abbrev begun : ℕ → ℕ → WriterProxy
+begun peer n = record { writer = record { peer = peer; number = n }; place = 1; heard = None }
+
+first_or_none : (c : Bool) (peer n : ℕ) (rest : Option WriterProxy) → (option_map (λ (p : WriterProxy). p.place) rest ≡ None) ⊎ (option_map (λ (p : WriterProxy). p.place) rest ≡ Some 1)
+    → (option_map (λ (p : WriterProxy). p.place) (cond c (Some (begun peer n)) rest) ≡ None) ⊎ (option_map (λ (p : WriterProxy). p.place) (cond c (Some (begun peer n)) rest) ≡ Some 1)
+first_or_none true peer n rest h = inr refl
+first_or_none false peer n rest h = h
+
+row_or_none : (b : Bool) (peer n : ℕ) (rows : List WriterProxy) (w : Endpoint) → FirstOrNone rows w → FirstOrNone (cond b (begun peer n ∷ rows) rows) w
+row_or_none true peer n rows w h = first_or_none (same_endpoint (record { peer = peer; number = n }) w) peer n (row_of (λ (p : WriterProxy). p.writer) rows w) h
 row_or_none false peer n rows w h = h
 
-rows_append : (b : Bool) (peer n : ℕ) (rows ys : List WriterProxy) → cond b (record { writer = record { peer = peer; number = n }; place = 1 } ∷ rows) rows ++ ys ≡ cond b (record { writer = record { peer = peer; number = n }; place = 1 } ∷ (rows ++ ys)) (rows ++ ys)
+rows_append : (b : Bool) (peer n : ℕ) (rows ys : List WriterProxy) → cond b (begun peer n ∷ rows) rows ++ ys ≡ cond b (begun peer n ∷ (rows ++ ys)) (rows ++ ys)
 rows_append true peer n rows ys = refl
 rows_append false peer n rows ys = refl
-
-abbrev FirstOrNone : List WriterProxy → Endpoint → Type 0
-FirstOrNone rows w = (place_of rows w ≡ 0) ⊎ (place_of rows w ≡ 1)
 
 writers_first : (topic peer n : ℕ) (ws : List WriterConfig) (ys : List WriterProxy) (w : Endpoint) → FirstOrNone ys w → FirstOrNone (writers_in topic peer n ws ++ ys) w
 writers_first topic peer n [] ys w h = h
@@ -316,33 +350,50 @@ begins peers n [] i k w = record { first = inl refl; quiet = refl; alike = refl 
 begins peers n (p ∷ ps) zero k w = begins_part peers p k w
 begins peers n (p ∷ ps) (suc i) k w = begins peers (n + 1) ps i k w
 
-within : (rows : List (List WriterProxy)) (k : ℕ) (w : Endpoint) → 1 ≤ place_of (get_or rows k []) w → k + 1 ≤ length rows
-within [] k w h = absurd (omega (arith, h))
-within (row ∷ rows) zero w h = omega arith
-within (row ∷ rows) (suc k) w h = let e = within rows k w h in omega (arith, e)
+within : (rows : List (List WriterProxy)) (k : ℕ) (w : Endpoint) (place : ℕ) → place_of (get_or rows k []) w ≡ Some place → k + 1 ≤ length rows
+within [] k w place h = cc
+within (row ∷ rows) zero w place h = omega arith
+within (row ∷ rows) (suc k) w place h = let e = within rows k w place h in omega (arith, e)
 
-begins_in_order : (changes : List Change) (part : Part) (w : Endpoint) (k : ℕ) → 1 ≤ place_of (own_proxies part (suc k)) w → Begins part k w → Lane changes part w (suc k)
+is_first : (o : Option ℕ) → IsSome o → (o ≡ None) ⊎ (o ≡ Some 1) → o ≡ Some 1
+is_first o h (inl e) = let no = ap (λ (x : Option ℕ). is_some x) e in cc
+is_first o h (inr e) = e
+
+begins_in_order : (changes : List Change) (part : Part) (w : Endpoint) (k : ℕ) → IsSome (place_of (own_proxies part (suc k)) w) → Begins part k w → Lane changes part w (suc k)
 begins_in_order changes part w k placed b =
     let alike = b.alike in
-    let inside = within part.rtps.readers k w placed in
-    let came : came_from (publication_from 1 (own_proxies part (suc k)) w) (own_reader part (suc k)).happened ≡ [] = ap (λ (xs : List Happening). came_from (publication_from 1 (own_proxies part (suc k)) w) xs) b.quiet in
+    let one : place_of (own_proxies part (suc k)) w ≡ Some 1 = is_first (place_of (own_proxies part (suc k)) w) placed b.first in
+    let inside = within part.rtps.readers k w 1 one in
+    let handle = publication_there 1 1 (own_proxies part (suc k)) w one in
+    let came : came_from handle.0 (own_reader part (suc k)).happened ≡ [] = ap (λ (xs : List Happening). came_from handle.0 xs) b.quiet in
     let none = ap (λ (xs : List Change). length xs) came in
-    let one : place_of (own_proxies part (suc k)) w ≡ 1 = ⊎_elim (λ z. absurd (omega (arith, z, placed))) (λ o. o) b.first in
     record {
       rows = (omega arith, omega (arith, inside));
       own = (omega arith, omega (arith, inside, alike));
-      along = record { rest = changes; first = ap (λ (xs : List Change). xs ++ changes) (sym came); count = omega (arith, none, one) };
+      publication = handle.0;
+      place = 1;
+      matched = record { handle = handle.1; at = one };
+      along = record { rest = changes; first = ap (λ (xs : List Change). xs ++ changes) (sym came); count = omega (arith, none) };
     }
 
-lane_begins : (config : Config) (w : Endpoint) (changes : List Change) (peer number : ℕ) → 1 ≤ place_of (own_proxies (part_at (opening config) peer) number) w → Lane changes (part_at (opening config) peer) w number
-lane_begins config w changes zero zero h = absurd (omega (arith, h))
-lane_begins config w changes zero (suc k) h = absurd (omega (arith, h))
-lane_begins config w changes (suc i) zero h = absurd (omega (arith, h))
+lane_begins : (config : Config) (w : Endpoint) (changes : List Change) (peer number : ℕ) → IsSome (place_of (own_proxies (part_at (opening config) peer) number) w) → Lane changes (part_at (opening config) peer) w number
+lane_begins config w changes zero zero h = cc
+lane_begins config w changes zero (suc k) h = cc
+lane_begins config w changes (suc i) zero h = cc
 lane_begins config w changes (suc i) (suc k) h = begins_in_order changes (part_at (opening config) (suc i)) w k h (begins config.peers 1 config.peers i k w)
 
-pub changes_come_in_order : (config : Config) (w r : Endpoint) (events : List WorldEvent) (replies : List Reply) (last : Traffic) (after : Machine) → (writer_at (opening config) w).policy ≡ KeepAll → 1 ≤ place_at (opening config) r w
-    → Run config no_traffic (opening config) events replies last after → CameInOrder after w r
-changes_come_in_order config w r events replies last after all placed run =
+pub changes_come_in_order : (config : Config) (tests : AllTests) (w r : Endpoint) (events : List WorldEvent) (replies : List Reply) (last : Traffic) (after : Machine) → (writer_at (opening config) w).policy ≡ KeepAll
+    → IsSome (place_at (opening config) r w) → Run config tests no_traffic (opening config) events replies last after → CameInOrder after w r
+changes_come_in_order config tests w r events replies last after all placed run =
     let lane = lane_begins config w (writer_changes (writer_at (opening config) w)) r.peer r.number placed in
-    let o = run_in_order config (opening config) after events replies no_traffic last w r run (record { all = all; lane = lane }) in
-    record { rest = o.lane.along.rest; first = o.lane.along.first; count = o.lane.along.count }
+    let o = run_in_order config tests (opening config) after events replies no_traffic last w r run (record { all = all; lane = lane }) in
+    let l = o.lane in
+    record {
+      publication = l.publication;
+      matched = l.matched.handle;
+      came = came_from l.publication (own_reader (part_at after r.peer) r.number).happened;
+      came_at = refl;
+      rest = l.along.rest;
+      first = l.along.first;
+      place = l.matched.at ∙ ap (λ (n : ℕ). Some n) (sym l.along.count);
+    }

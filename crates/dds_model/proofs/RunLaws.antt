@@ -10,13 +10,13 @@ use Rattle.dds_model.specs.declared.endpoint.Endpoint.{Endpoint}
 use Rattle.dds_model.specs.declared.event.WorldEvent.{WorldEvent}
 use Rattle.dds_model.specs.declared.event.WorldEvent.TheVariants as world
 use Rattle.dds_model.specs.declared.reply.Move.{Move}
-use Rattle.dds_model.specs.declared.reply.Move.TheVariants.{Place, Acknowledged}
+use Rattle.dds_model.specs.declared.reply.Move.TheVariants.{Place, Acknowledged, Heard}
 use Rattle.dds_model.specs.declared.reply.Reply.{Reply}
 use Rattle.dds_model.specs.declared.reply.Reply.TheVariants.{Done, Samples, Reported, Refused}
 use Rattle.dds_model.specs.Part.{Part, writer_changes, history_of}
 use Rattle.dds_model.specs.Moves.{GoesTo, match_of, position_of, AreMoves, DeliveryStep}
-use Rattle.dds_model.specs.Calls.{CallStep, TickStep}
-use Rattle.dds_model.specs.Machine.{Machine, part_at, writer_at, grounds_of, Step}
+use Rattle.dds_model.specs.Calls.{Tests, CallStep, TickStep}
+use Rattle.dds_model.specs.Machine.{Machine, AllTests, part_at, writer_at, grounds_of, Step}
 use Rattle.dds_model.specs.World.{WorldState, machine_of, Sound}
 use Rattle.dds_model.specs.Runs.{Traffic, Run}
 use Rattle.dds_model.specs.Laws.{WorldRun, PassesNone, LosesNone}
@@ -26,16 +26,16 @@ use Rattle.dds_model.proofs.Composed.{composes}
 abbrev traffic_of : WorldState → ℕ → Traffic
 traffic_of world unsent = record { sent = world.sent; unsent = unsent }
 
-pub composes_runs : (config : Config) (old new : WorldState) (unsent last : ℕ) (events : List WorldEvent) (replies : List Reply) → Sound config old → WorldRun config old unsent events replies new last
-    → Run config (traffic_of old unsent) (machine_of old) events replies (traffic_of new last) (machine_of new) × Sound config new
-composes_runs config old new unsent last [] [] sound run =
+pub composes_runs : (config : Config) (tests : AllTests) (old new : WorldState) (unsent last : ℕ) (events : List WorldEvent) (replies : List Reply) → Sound config old → WorldRun config tests old unsent events replies new last
+    → Run config tests (traffic_of old unsent) (machine_of old) events replies (traffic_of new last) (machine_of new) × Sound config new
+composes_runs config tests old new unsent last [] [] sound run =
     ((ap machine_of run.0, ap (λ (w : WorldState). traffic_of w last) run.0 ∙ ap (λ (n : ℕ). traffic_of old n) run.1), subst (λ (w : WorldState). Sound config w) (sym run.0) sound)
-composes_runs config old new unsent last (e ∷ es) (r ∷ rs) sound run =
-    let s = composes config old run.0 e r sound run.2 in
-    let t = composes_runs config run.0 new run.1 last es rs s.1 run.5 in
-    ((machine_of run.0, traffic_of run.0 run.1, s.0, run.3, run.4, t.0), t.1)
-composes_runs config old new unsent last [] (r ∷ rs) sound run = absurd run
-composes_runs config old new unsent last (e ∷ es) [] sound run = absurd run
+composes_runs config tests old new unsent last (e ∷ es) (r ∷ rs) sound run =
+    let s = composes config tests old run.0 e r sound run.2 in
+    let t = composes_runs config tests run.0 new run.1 last es rs s.2 run.4 in
+    ((machine_of run.0, traffic_of run.0 run.1, s.0, run.3, s.1, t.0), t.1)
+composes_runs config tests old new unsent last [] (r ∷ rs) sound run = absurd run
+composes_runs config tests old new unsent last (e ∷ es) [] sound run = absurd run
 
 -- a writer that keeps all has dropped nothing
 pub keeps_all : (policy : HistoryQos) (m : Machine) (w : Endpoint) (n : ℕ) → (writer_at m w).policy ≡ policy → policy ≡ KeepAll → is_dropped (history_of (writer_at m w)) n ≡ true → ⊥
@@ -46,27 +46,28 @@ no_passes : (m : Machine) (i : ℕ) (w : Endpoint) (old : Part) (ms : List Move)
 no_passes m i w old [] new all h = tt
 no_passes m i w old (Place v r to [] ∷ ms) new all h = no_passes m i w h.0 ms new all h.2
 no_passes m i w old (Place v r to (run ∷ runs) ∷ ms) new all h =
-    let goes : GoesTo (grounds_of m i) (match_of old v r) (position_of old v r) (run ∷ runs) to h.1.end = h.1.goes in
+    let goes : GoesTo (grounds_of m i) (match_of old v r h.1.publication) (position_of old r h.1.place) (run ∷ runs) to h.1.end = h.1.goes in
     let ordered = goes.3.ordered in (
       λ e. keeps_all (writer_at m v).policy m v run.first refl (ap (λ (x : Endpoint). (writer_at m x).policy) e ∙ all) (goes.3.may_pass run.first (omega arith) (omega (arith, ordered))),
       no_passes m i w h.0 ms new all h.2,
     )
 no_passes m i w old (Acknowledged v r to ∷ ms) new all h = no_passes m i w h.0 ms new all h.2
+no_passes m i w old (Heard v r ∷ ms) new all h = no_passes m i w h.0 ms new all h.2
 
 loses_delivery : (m : Machine) (i : ℕ) (w : Endpoint) (old : Part) (reply : Reply) (new : Part) (replies : List Reply) → (writer_at m w).policy ≡ KeepAll
     → DeliveryStep (grounds_of m i) old reply new → LosesNone w replies → LosesNone w (reply ∷ replies)
 loses_delivery m i w old (Reported report) new replies all h rest = (no_passes m i w old report.moves new all h, rest)
 loses_delivery m i w old reply new replies all h rest = absurd h
 
-loses_call : (w : Endpoint) (old : Part) (call : Call) (reply : Reply) (new : Part) (replies : List Reply) → CallStep old call reply new → LosesNone w replies → LosesNone w (reply ∷ replies)
-loses_call w old call Done new replies h rest = rest
-loses_call w old call (Samples samples) new replies h rest = rest
-loses_call w old call (Refused code) new replies h rest = rest
-loses_call w old (Register v k) (Reported report) new replies h rest = absurd h.answers
-loses_call w old (Write v k c) (Reported report) new replies h rest = absurd h.answers
-loses_call w old (Dispose v k) (Reported report) new replies h rest = absurd h.answers
-loses_call w old (Unregister v k) (Reported report) new replies h rest = absurd h.answers
-loses_call w old (Take r n k) (Reported report) new replies h rest = absurd h.answers
+loses_call : (w : Endpoint) (tests : Tests) (old : Part) (call : Call) (reply : Reply) (new : Part) (replies : List Reply) → CallStep tests old call reply new → LosesNone w replies → LosesNone w (reply ∷ replies)
+loses_call w tests old call Done new replies h rest = rest
+loses_call w tests old call (Samples samples) new replies h rest = rest
+loses_call w tests old call (Refused code) new replies h rest = rest
+loses_call w tests old (Register v k) (Reported report) new replies h rest = absurd h.answers
+loses_call w tests old (Write v k c) (Reported report) new replies h rest = absurd h.answers
+loses_call w tests old (Dispose v k) (Reported report) new replies h rest = absurd h.answers
+loses_call w tests old (Unregister v k) (Reported report) new replies h rest = absurd h.answers
+loses_call w tests old (Take r n k) (Reported report) new replies h rest = absurd h.answers
 
 loses_tick : (w : Endpoint) (old : Part) (now : ℕ) (reply : Reply) (new : Part) (replies : List Reply) → TickStep old now reply new → LosesNone w replies → LosesNone w (reply ∷ replies)
 loses_tick w old now Done new replies h rest = rest
@@ -74,31 +75,31 @@ loses_tick w old now (Refused code) new replies h rest = rest
 loses_tick w old now (Samples samples) new replies h rest = absurd h
 loses_tick w old now (Reported report) new replies h rest = absurd h
 
-Step-loses : (w : Endpoint) (sent : ℕ) (m : Machine) (ev : WorldEvent) (reply : Reply) (new : Machine) (replies : List Reply) → (writer_at m w).policy ≡ KeepAll → Step sent m ev reply new → LosesNone w replies
+Step-loses : (w : Endpoint) (tests : AllTests) (sent : ℕ) (m : Machine) (ev : WorldEvent) (reply : Reply) (new : Machine) (replies : List Reply) → (writer_at m w).policy ≡ KeepAll → Step tests sent m ev reply new → LosesNone w replies
     → LosesNone w (reply ∷ replies)
-Step-loses w sent m (world.Call peer call) reply new replies all (inl h) rest = loses_call w (part_at m peer) call reply h.after replies h.step rest
-Step-loses w sent m (world.Call peer call) reply new replies all (inr h) rest = subst (λ (r : Reply). LosesNone w (r ∷ replies)) (sym h.1.0) rest
-Step-loses w sent m (world.Tick peer now) reply new replies all (inl h) rest = loses_tick w (part_at m peer) now reply h.after replies h.step rest
-Step-loses w sent m (world.Tick peer now) reply new replies all (inr h) rest = subst (λ (r : Reply). LosesNone w (r ∷ replies)) (sym h.1.0) rest
-Step-loses w sent m (world.Deliver peer packet) reply new replies all (inl h) rest = loses_delivery m peer w (part_at m peer) reply h.2.after replies all h.2.step rest
-Step-loses w sent m (world.Deliver peer packet) reply new replies all (inr h) rest = subst (λ (r : Reply). LosesNone w (r ∷ replies)) (sym h.1.0) rest
+Step-loses w tests sent m (world.Call peer call) reply new replies all (inl h) rest = loses_call w (tests peer) (part_at m peer) call reply h.after replies h.step rest
+Step-loses w tests sent m (world.Call peer call) reply new replies all (inr h) rest = subst (λ (r : Reply). LosesNone w (r ∷ replies)) (sym h.1.0) rest
+Step-loses w tests sent m (world.Tick peer now) reply new replies all (inl h) rest = loses_tick w (part_at m peer) now reply h.after replies h.step rest
+Step-loses w tests sent m (world.Tick peer now) reply new replies all (inr h) rest = subst (λ (r : Reply). LosesNone w (r ∷ replies)) (sym h.1.0) rest
+Step-loses w tests sent m (world.Deliver peer packet) reply new replies all (inl h) rest = loses_delivery m peer w (part_at m peer) reply h.2.after replies all h.2.step rest
+Step-loses w tests sent m (world.Deliver peer packet) reply new replies all (inr h) rest = subst (λ (r : Reply). LosesNone w (r ∷ replies)) (sym h.1.0) rest
 
-pub Step-policy : (w : Endpoint) (sent : ℕ) (m : Machine) (ev : WorldEvent) (reply : Reply) (new : Machine) → Step sent m ev reply new → (writer_at new w).policy ≡ (writer_at m w).policy
-Step-policy w sent m (world.Call peer call) reply new (inl h) =
-    ap (λ (x : Machine). (writer_at x w).policy) h.changed ∙ ((with_part-grows m peer h.after (CallStep-grows (part_at m peer) call reply h.after h.step)).writers w).policy
-Step-policy w sent m (world.Call peer call) reply new (inr h) = ap (λ (x : Machine). (writer_at x w).policy) h.1.1
-Step-policy w sent m (world.Tick peer now) reply new (inl h) =
+pub Step-policy : (w : Endpoint) (tests : AllTests) (sent : ℕ) (m : Machine) (ev : WorldEvent) (reply : Reply) (new : Machine) → Step tests sent m ev reply new → (writer_at new w).policy ≡ (writer_at m w).policy
+Step-policy w tests sent m (world.Call peer call) reply new (inl h) =
+    ap (λ (x : Machine). (writer_at x w).policy) h.changed ∙ ((with_part-grows m peer h.after (CallStep-grows (tests peer) (part_at m peer) call reply h.after h.step)).writers w).policy
+Step-policy w tests sent m (world.Call peer call) reply new (inr h) = ap (λ (x : Machine). (writer_at x w).policy) h.1.1
+Step-policy w tests sent m (world.Tick peer now) reply new (inl h) =
     ap (λ (x : Machine). (writer_at x w).policy) h.changed ∙ ((with_part-grows m peer h.after (TickStep-grows (part_at m peer) now reply h.after h.step)).writers w).policy
-Step-policy w sent m (world.Tick peer now) reply new (inr h) = ap (λ (x : Machine). (writer_at x w).policy) h.1.1
-Step-policy w sent m (world.Deliver peer packet) reply new (inl h) =
+Step-policy w tests sent m (world.Tick peer now) reply new (inr h) = ap (λ (x : Machine). (writer_at x w).policy) h.1.1
+Step-policy w tests sent m (world.Deliver peer packet) reply new (inl h) =
     ap (λ (x : Machine). (writer_at x w).policy) h.2.changed
     ∙ ((with_part-grows m peer h.2.after (DeliveryStep-grows (grounds_of m peer) (part_at m peer) reply h.2.after h.2.step)).writers w).policy
-Step-policy w sent m (world.Deliver peer packet) reply new (inr h) = ap (λ (x : Machine). (writer_at x w).policy) h.1.1
+Step-policy w tests sent m (world.Deliver peer packet) reply new (inr h) = ap (λ (x : Machine). (writer_at x w).policy) h.1.1
 
-pub keep_all_is_kept : (config : Config) (w : Endpoint) (m after : Machine) (events : List WorldEvent) (replies : List Reply) (sent last : Traffic) → (writer_at m w).policy ≡ KeepAll
-    → Run config sent m events replies last after → LosesNone w replies
-keep_all_is_kept config w m after [] [] sent last all run = tt
-keep_all_is_kept config w m after (e ∷ es) (r ∷ rs) sent last all run =
-    Step-loses w (length sent.sent) m e r run.0 rs all run.2 (keep_all_is_kept config w run.0 after es rs run.1 last (Step-policy w (length sent.sent) m e r run.0 run.2 ∙ all) run.5)
-keep_all_is_kept config w m after [] (r ∷ rs) sent last all run = absurd run
-keep_all_is_kept config w m after (e ∷ es) [] sent last all run = absurd run
+pub keep_all_is_kept : (config : Config) (tests : AllTests) (w : Endpoint) (m after : Machine) (events : List WorldEvent) (replies : List Reply) (sent last : Traffic) → (writer_at m w).policy ≡ KeepAll
+    → Run config tests sent m events replies last after → LosesNone w replies
+keep_all_is_kept config tests w m after [] [] sent last all run = tt
+keep_all_is_kept config tests w m after (e ∷ es) (r ∷ rs) sent last all run =
+    Step-loses w tests (length sent.sent) m e r run.0 rs all run.2 (keep_all_is_kept config tests w run.0 after es rs run.1 last (Step-policy w tests (length sent.sent) m e r run.0 run.2 ∙ all) run.5)
+keep_all_is_kept config tests w m after [] (r ∷ rs) sent last all run = absurd run
+keep_all_is_kept config tests w m after (e ∷ es) [] sent last all run = absurd run

@@ -1,9 +1,10 @@
 -- Lists with one element changed, and the rows of matched pairs.
-use Rattle.std.proofs.Common.{◌≡◌, ℕ, zero, suc, ◌==◌, ◌⊎◌, Bool, true, false, cond, List, [], ◌∷◌, ◌++◌, Some, refl, ap, sym, ◌∙◌, inl, inr, ⊎_elim, arith, length, slice_get, get_or, set, map, eqb-true, length-set, get_or-set_same}
+use Rattle.std.proofs.Common.{◌≡◌, ℕ, zero, suc, ◌==◌, ◌⊎◌, ◌<◌, ◌≤◌, Option, None, ℤ, Bool, true, false, cond, List, [], ◌∷◌, ◌++◌, Some, refl, ap, sym, ◌∙◌, inl, inr, ⊎_elim, arith, length, slice_get, get_or, set, map, eqb-true, length-set, get_or-set_same}
+use Rattle.std.specs.Option.{option_map}
 use Rattle.std.proofs.lemmas.List.{map-set}
 use Rattle.dds_model.specs.declared.endpoint.Endpoint.{Endpoint}
 use Rattle.dds_model.specs.Numbered.{numbered, with_numbered, HasNumber}
-use Rattle.dds_model.specs.Part.{same_endpoint, ReaderProxy, WriterProxy, acknowledged_of, with_acknowledged, place_of, with_place}
+use Rattle.dds_model.specs.Part.{same_endpoint, ReaderProxy, WriterProxy, row_of, with_row, acknowledged_of, with_acknowledged, place_of, with_place, with_heard, IsBelow, IsAtMost, NoLess}
 
 get-cases : {X : Type 0} (xs : List X) (i : ℕ) (x : X) (j : ℕ) (d : X) → (get_or (set xs i x) j d ≡ get_or xs j d) ⊎ ((j ≡ i) × (get_or (set xs i x) j d ≡ x))
 get-cases [] i x j d = inl refl
@@ -63,34 +64,119 @@ same_is a b h =
     let e = both (a.peer == b.peer) (a.number == b.number) h in
     ap (λ (x : ℕ). endpoint x a.number) (eqb-true a.peer b.peer e.0) ∙ ap (λ (y : ℕ). endpoint b.peer y) (eqb-true a.number b.number e.1)
 
--- rows
+-- a mapped list, past whose end nothing is
+get-map-cases : {X : Type 0} (f : X → X) (xs : List X) (i : ℕ) (d : X) → (get_or (map f xs) i d ≡ f (get_or xs i d)) ⊎ ((get_or (map f xs) i d ≡ d) × (get_or xs i d ≡ d))
+get-map-cases f [] i d = inr (refl, refl)
+get-map-cases f (x ∷ xs) zero d = inl refl
+get-map-cases f (x ∷ xs) (suc i) d = get-map-cases f xs i d
 
-on_hit : (c : Bool) (to place rest : ℕ) (V : Type 0) → (c ≡ true → V) → (cond c to rest ≡ cond c place rest) ⊎ (V × (cond c to rest ≡ to))
-on_hit true to place rest V f = inr (f refl, refl)
-on_hit false to place rest V f = inl refl
+pub numbered-map-cases : {X : Type 0} (f : X → X) (xs : List X) (i : ℕ) (d : X) → (numbered (map f xs) i d ≡ f (numbered xs i d)) ⊎ ((numbered (map f xs) i d ≡ d) × (numbered xs i d ≡ d))
+numbered-map-cases f xs zero d = inr (refl, refl)
+numbered-map-cases f xs (suc i) d = get-map-cases f xs i d
 
-on_miss : (c : Bool) (place a b to : ℕ) (V : Type 0) → (a ≡ b) ⊎ (V × (a ≡ to)) → (cond c place a ≡ cond c place b) ⊎ (V × (cond c place a ≡ to))
-on_miss true place a b to V h = inl refl
-on_miss false place a b to V h = h
+-- numbers that may be there
 
-place_step : (p : WriterProxy) (ps : List WriterProxy) (w : Endpoint) (to : ℕ) (v : Endpoint) (b : Bool) → same_endpoint p.writer w ≡ b
-    → (place_of (with_place ps w to) v ≡ place_of ps v) ⊎ ((v ≡ w) × (place_of (with_place ps w to) v ≡ to))
-    → (place_of (cond b (record { writer = p.writer; place = to } ∷ ps) (p ∷ with_place ps w to)) v ≡ place_of (p ∷ ps) v)
-    ⊎ ((v ≡ w) × (place_of (cond b (record { writer = p.writer; place = to } ∷ ps) (p ∷ with_place ps w to)) v ≡ to))
-place_step p ps w to v true e h = on_hit (same_endpoint p.writer v) to p.place (place_of ps v) (v ≡ w) (λ f. sym (same_is p.writer v f) ∙ same_is p.writer w e)
-place_step p ps w to v false e h = on_miss (same_endpoint p.writer v) p.place (place_of (with_place ps w to) v) (place_of ps v) to (v ≡ w) h
+pub no_less_same : (a : Option ℕ) → NoLess a a
+no_less_same None = tt
+no_less_same (Some n) = omega arith
 
-pub place-cases : (rows : List WriterProxy) (w : Endpoint) (to : ℕ) (v : Endpoint) → (place_of (with_place rows w to) v ≡ place_of rows v) ⊎ ((v ≡ w) × (place_of (with_place rows w to) v ≡ to))
-place-cases [] w to v = inl refl
-place-cases (p ∷ ps) w to v = place_step p ps w to v (same_endpoint p.writer w) refl (place-cases ps w to v)
+pub at_most_on : (n : ℕ) (a b : Option ℕ) → IsAtMost n a → NoLess a b → IsAtMost n b
+at_most_on n None b h le = absurd h
+at_most_on n (Some x) None h le = absurd le
+at_most_on n (Some x) (Some y) h le = omega (arith, h, le)
 
-acknowledged_step : (p : ReaderProxy) (ps : List ReaderProxy) (w : Endpoint) (to : ℕ) (v : Endpoint) (b : Bool) → same_endpoint p.reader w ≡ b
-    → (acknowledged_of (with_acknowledged ps w to) v ≡ acknowledged_of ps v) ⊎ ((v ≡ w) × (acknowledged_of (with_acknowledged ps w to) v ≡ to))
-    → (acknowledged_of (cond b (record { reader = p.reader; acknowledged = to } ∷ ps) (p ∷ with_acknowledged ps w to)) v ≡ acknowledged_of (p ∷ ps) v)
-    ⊎ ((v ≡ w) × (acknowledged_of (cond b (record { reader = p.reader; acknowledged = to } ∷ ps) (p ∷ with_acknowledged ps w to)) v ≡ to))
-acknowledged_step p ps w to v true e h = on_hit (same_endpoint p.reader v) to p.acknowledged (acknowledged_of ps v) (v ≡ w) (λ f. sym (same_is p.reader v f) ∙ same_is p.reader w e)
-acknowledged_step p ps w to v false e h = on_miss (same_endpoint p.reader v) p.acknowledged (acknowledged_of (with_acknowledged ps w to) v) (acknowledged_of ps v) to (v ≡ w) h
+pub below_on : (n : ℕ) (a b : Option ℕ) → IsBelow n a → NoLess a b → IsBelow n b
+below_on n None b h le = absurd h
+below_on n (Some x) None h le = absurd le
+below_on n (Some x) (Some y) h le = omega (arith, h, le)
 
-pub acknowledged-cases : (rows : List ReaderProxy) (w : Endpoint) (to : ℕ) (v : Endpoint) → (acknowledged_of (with_acknowledged rows w to) v ≡ acknowledged_of rows v) ⊎ ((v ≡ w) × (acknowledged_of (with_acknowledged rows w to) v ≡ to))
-acknowledged-cases [] w to v = inl refl
-acknowledged-cases (p ∷ ps) w to v = acknowledged_step p ps w to v (same_endpoint p.reader w) refl (acknowledged-cases ps w to v)
+pub no_less_on : (a b c : Option ℕ) → NoLess a b → NoLess b c → NoLess a c
+no_less_on None b c f g = tt
+no_less_on (Some x) b c f g = at_most_on x b c f g
+
+-- rows of matched ends
+
+hit_or_not : {X : Type 0} (a : Bool) (x y : X) (rest : Option X) (V : Type 0) → (a ≡ true → V) → (cond a (Some y) rest ≡ cond a (Some x) rest) ⊎ (V × (cond a (Some y) rest ≡ Some y))
+hit_or_not true x y rest V f = inr (f refl, refl)
+hit_or_not false x y rest V f = inl refl
+
+row_step : {X : Type 0} (name : X → Endpoint) (change : X → X) (x : X) (xs : List X) (w v : Endpoint) (b : Bool) → name (change x) ≡ name x → same_endpoint (name x) w ≡ b
+    → (row_of name (with_row name change xs w) v ≡ row_of name xs v) ⊎ ((v ≡ w) × (row_of name (with_row name change xs w) v ≡ option_map change (row_of name xs w)))
+    → (row_of name (cond b (change x ∷ xs) (x ∷ with_row name change xs w)) v ≡ row_of name (x ∷ xs) v)
+    ⊎ ((v ≡ w) × (row_of name (cond b (change x ∷ xs) (x ∷ with_row name change xs w)) v ≡ option_map change (cond b (Some x) (row_of name xs w))))
+row_step {X = X} name change x xs w v true kept is h =
+    let to : row_of name (change x ∷ xs) v ≡ cond (same_endpoint (name x) v) (Some (change x)) (row_of name xs v) = ap (λ (e : Endpoint). cond (same_endpoint e v) (Some (change x)) (row_of name xs v)) kept in
+    ⊎_elim (λ e. inl (to ∙ e)) (λ o. inr (o.0, to ∙ o.1)) (hit_or_not (same_endpoint (name x) v) x (change x) (row_of name xs v) (v ≡ w) (λ f. sym (same_is (name x) v f) ∙ same_is (name x) w is))
+row_step {X = X} name change x xs w v false kept is h =
+    ⊎_elim (λ e. inl (ap (λ (o : Option X). cond (same_endpoint (name x) v) (Some x) o) e))
+    (λ o.
+    let miss : same_endpoint (name x) v ≡ false = ap (λ (e : Endpoint). same_endpoint (name x) e) o.0 ∙ is in
+    inr (o.0, ap (λ (c : Bool). cond c (Some x) (row_of name (with_row name change xs w) v)) miss ∙ o.1)) h
+
+-- after a change of one row, another is as before, and that one is the changed one
+pub row-cases : {X : Type 0} (name : X → Endpoint) (change : X → X) → ((x : X) → name (change x) ≡ name x) → (xs : List X) (w v : Endpoint)
+    → (row_of name (with_row name change xs w) v ≡ row_of name xs v) ⊎ ((v ≡ w) × (row_of name (with_row name change xs w) v ≡ option_map change (row_of name xs w)))
+row-cases name change kept [] w v = inl refl
+row-cases name change kept (x ∷ xs) w v = row_step name change x xs w v (same_endpoint (name x) w) (kept x) refl (row-cases name change kept xs w v)
+
+hit_step : {X : Type 0} (name : X → Endpoint) (change : X → X) (x : X) (xs : List X) (w : Endpoint) (b : Bool) → name (change x) ≡ name x → same_endpoint (name x) w ≡ b
+    → row_of name (with_row name change xs w) w ≡ option_map change (row_of name xs w) → row_of name (cond b (change x ∷ xs) (x ∷ with_row name change xs w)) w ≡ option_map change (cond b (Some x) (row_of name xs w))
+hit_step name change x xs w true kept is h =
+    ap (λ (e : Endpoint). cond (same_endpoint e w) (Some (change x)) (row_of name xs w)) kept ∙ ap (λ (c : Bool). cond c (Some (change x)) (row_of name xs w)) is
+hit_step name change x xs w false kept is h = ap (λ (c : Bool). cond c (Some x) (row_of name (with_row name change xs w) w)) is ∙ h
+
+-- the row that was to be changed is
+pub row-hits : {X : Type 0} (name : X → Endpoint) (change : X → X) → ((x : X) → name (change x) ≡ name x) → (xs : List X) (w : Endpoint) → row_of name (with_row name change xs w) w ≡ option_map change (row_of name xs w)
+row-hits name change kept [] w = refl
+row-hits name change kept (x ∷ xs) w = hit_step name change x xs w (same_endpoint (name x) w) (kept x) refl (row-hits name change kept xs w)
+
+length_step : {X : Type 0} (name : X → Endpoint) (change : X → X) (x : X) (xs : List X) (w : Endpoint) (b : Bool) → length (with_row name change xs w) ≡ length xs
+    → length (cond b (change x ∷ xs) (x ∷ with_row name change xs w)) ≡ length (x ∷ xs)
+length_step name change x xs w true h = refl
+length_step name change x xs w false h = omega (arith, h)
+
+pub length-with_row : {X : Type 0} (name : X → Endpoint) (change : X → X) (xs : List X) (w : Endpoint) → length (with_row name change xs w) ≡ length xs
+length-with_row name change [] w = refl
+length-with_row name change (x ∷ xs) w = length_step name change x xs w (same_endpoint (name x) w) (length-with_row name change xs w)
+
+placed : (to : ℕ) (o : Option WriterProxy) (from : ℕ) → option_map (λ (p : WriterProxy). p.place) o ≡ Some from
+    → option_map (λ (p : WriterProxy). p.place) (option_map (λ (p : WriterProxy). record p { place = to }) o) ≡ Some to
+placed to None from h = cc
+placed to (Some p) from h = refl
+
+pub place-cases : (rows : List WriterProxy) (w : Endpoint) (from to : ℕ) (v : Endpoint) → place_of rows w ≡ Some from
+    → (place_of (with_place rows w to) v ≡ place_of rows v) ⊎ ((v ≡ w) × (place_of (with_place rows w to) v ≡ Some to))
+place-cases rows w from to v h =
+    ⊎_elim (λ e. inl (ap (λ (o : Option WriterProxy). option_map (λ (p : WriterProxy). p.place) o) e))
+    (λ s. inr (s.0, ap (λ (o : Option WriterProxy). option_map (λ (p : WriterProxy). p.place) o) s.1 ∙ placed to (row_of (λ (p : WriterProxy). p.writer) rows w) from h))
+    (row-cases (λ (p : WriterProxy). p.writer) (λ (p : WriterProxy). record p { place = to }) (λ p. refl) rows w v)
+
+pub place-hits : (rows : List WriterProxy) (w : Endpoint) (from to : ℕ) → place_of rows w ≡ Some from → place_of (with_place rows w to) w ≡ Some to
+place-hits rows w from to h =
+    ap (λ (o : Option WriterProxy). option_map (λ (p : WriterProxy). p.place) o) (row-hits (λ (p : WriterProxy). p.writer) (λ (p : WriterProxy). record p { place = to }) (λ p. refl) rows w)
+    ∙ placed to (row_of (λ (p : WriterProxy). p.writer) rows w) from h
+
+same_places : (count : ℤ) (o : Option WriterProxy) → option_map (λ (p : WriterProxy). p.place) (option_map (λ (p : WriterProxy). record p { heard = Some count }) o) ≡ option_map (λ (p : WriterProxy). p.place) o
+same_places count None = refl
+same_places count (Some p) = refl
+
+-- a hearing changes no place
+pub place-heard : (rows : List WriterProxy) (w : Endpoint) (count : ℤ) (v : Endpoint) → place_of (with_heard rows w count) v ≡ place_of rows v
+place-heard rows w count v =
+    ⊎_elim (λ e. ap (λ (o : Option WriterProxy). option_map (λ (p : WriterProxy). p.place) o) e)
+    (λ s.
+    ap (λ (o : Option WriterProxy). option_map (λ (p : WriterProxy). p.place) o) s.1
+    ∙ (same_places count (row_of (λ (p : WriterProxy). p.writer) rows w) ∙ ap (λ (e : Endpoint). place_of rows e) (sym s.0)))
+    (row-cases (λ (p : WriterProxy). p.writer) (λ (p : WriterProxy). record p { heard = Some count }) (λ p. refl) rows w v)
+
+acked : (to : ℕ) (o : Option ReaderProxy) (from : ℕ) → option_map (λ (p : ReaderProxy). p.acknowledged) o ≡ Some from
+    → option_map (λ (p : ReaderProxy). p.acknowledged) (option_map (λ (p : ReaderProxy). record p { acknowledged = to }) o) ≡ Some to
+acked to None from h = cc
+acked to (Some p) from h = refl
+
+pub acknowledged-cases : (rows : List ReaderProxy) (r : Endpoint) (from to : ℕ) (v : Endpoint) → acknowledged_of rows r ≡ Some from
+    → (acknowledged_of (with_acknowledged rows r to) v ≡ acknowledged_of rows v) ⊎ ((v ≡ r) × (acknowledged_of (with_acknowledged rows r to) v ≡ Some to))
+acknowledged-cases rows r from to v h =
+    ⊎_elim (λ e. inl (ap (λ (o : Option ReaderProxy). option_map (λ (p : ReaderProxy). p.acknowledged) o) e))
+    (λ s. inr (s.0, ap (λ (o : Option ReaderProxy). option_map (λ (p : ReaderProxy). p.acknowledged) o) s.1 ∙ acked to (row_of (λ (p : ReaderProxy). p.reader) rows r) from h))
+    (row-cases (λ (p : ReaderProxy). p.reader) (λ (p : ReaderProxy). record p { acknowledged = to }) (λ p. refl) rows r v)

@@ -2,7 +2,7 @@
 -- a growth was refused.
 --
 -- DDS 1.4, 2.2.2.4 (register_instance, write, dispose, unregister_instance), 2.2.2.5 (take), 2.2.1.1 (return codes).
-use Rattle.std.specs.Prelude.{◌≡◌, ◌≢◌, ℕ, ◌^◌, ◌&&◌, ◌||◌, not, Bool, List, [], ◌∷◌, length, Option, Some, None, nat_le, nat_lt, if◌then◌else◌, ℤ, pos, negsuc}
+use Rattle.std.specs.Prelude.{◌≡◌, ◌≢◌, ℕ, ◌^◌, ◌&&◌, ◌||◌, not, Bool, List, [], ◌∷◌, map, length, Option, Some, None, nat_le, nat_lt, if◌then◌else◌, ℤ, pos, negsuc}
 use Rattle.dds_base.specs.declared.key.Key.{Key}
 use Rattle.dds_base.specs.declared.change.Change.{Change}
 use Rattle.dds_base.specs.declared.change.ChangeKind.{ChangeKind}
@@ -17,13 +17,13 @@ use Rattle.dds_base.specs.Access.{picked_samples, no_filter, collection_of}
 use Rattle.dds_base.specs.Checked.{is_maximum}
 use Rattle.dds_base.specs.Kept.{append_refusal}
 use Rattle.dds_base.specs.Refusal.{Refuses}
-use Rattle.dds_base.specs.Written.{Written, Registered, Changed, is_key_registered}
+use Rattle.dds_base.specs.Written.{Written, Registered, Changed, Ticked, is_key_registered}
 use Rattle.dds_model.specs.declared.call.Call.{Call}
 use Rattle.dds_model.specs.declared.call.Call.TheVariants.{Register, Write, Dispose, Unregister, Take}
 use Rattle.dds_model.specs.declared.reply.Reply.{Reply}
 use Rattle.dds_model.specs.declared.reply.Reply.TheVariants.{Done, Samples, Refused}
 use Rattle.dds_model.specs.Numbered.{numbered, with_numbered}
-use Rattle.dds_model.specs.Part.{Part, Rtps, Dds, Writer, no_writer, own_writer, own_reader, history_of}
+use Rattle.dds_model.specs.Part.{Part, Rtps, Dds, Writer, no_writer, own_writer, own_reader, history_of, is_behind}
 
 -- there is an element of this number, counted from 1
 abbrev pub has_number : {X : Type 0} → List X → ℕ → Bool
@@ -66,6 +66,11 @@ abbrev pub limit_of : ℤ → Option ℕ
 limit_of (pos n) = Some n
 limit_of (negsuc n) = None
 
+-- What the filters of a peer answer, by their numbers: whether a sample of this key and value passes. The machine holds
+-- the numbers alone.
+abbrev pub Tests : Type 0
+Tests = ℕ → Key → List ℕ → Bool
+
 -- the samples that an access of the peer's reader returns
 abbrev pub picked_at : Part → ℕ → ℤ → Masks → List SamplePosition
 picked_at part reader max masks = picked_samples (own_reader part reader).qos (own_reader part reader).happened (limit_of max) masks no_filter
@@ -76,10 +81,8 @@ access_refusal part reader max = if not (has_number part.dds.readers reader) || 
 
 -- a peer's reader, after one more thing happened there
 abbrev pub with_happening : Part → ℕ → Happening → Dds
-with_happening part reader happening = record {
-  moment = part.dds.moment;
-  readers = with_numbered part.dds.readers reader (record { qos = (own_reader part reader).qos; happened = happening ∷ (own_reader part reader).happened });
-}
+with_happening part reader happening =
+    record part.dds { readers = with_numbered part.dds.readers reader (record (own_reader part reader) { happened = happening ∷ (own_reader part reader).happened }) }
 
 -- What a call enters at a writer of its peer, if anything.
 pub data Effect : Type 0 where
@@ -88,23 +91,18 @@ pub data Effect : Type 0 where
 
 -- a writer, after one more thing happened there
 abbrev pub with_written : Writer → Written → Writer
-with_written w entry = record { policy = w.policy; max_samples = w.max_samples; autodispose = w.autodispose; written = entry ∷ w.written; readers = w.readers }
+with_written w entry = record w { written = entry ∷ w.written }
 
 abbrev pub effect : Rtps → Effect → Rtps
 effect old nothing = old
-effect old (writes writer entry) = record { writers = with_numbered old.writers writer (with_written (numbered old.writers writer no_writer) entry); readers = old.readers }
+effect old (writes writer entry) = record old { writers = with_numbered old.writers writer (with_written (numbered old.writers writer no_writer) entry) }
 
--- what a call that is done enters at the peer's writer
-abbrev pub entered : Part → Call → Effect
-entered part (Register writer key) = writes writer (Registered key)
-entered part (Write writer key value) = writes writer (Changed (change_made part kind.Write key value))
-entered part (Dispose writer key) = writes writer (Changed (change_made part kind.Dispose key []))
-entered part (Unregister writer key) = writes writer (Changed (change_made part (unregister_kind (own_writer part writer).autodispose) key []))
-entered part (Take reader max masks) = nothing
-
--- the effect of a call that is answered so
+-- what a call that is answered so enters at the peer's writer
 abbrev pub effect_of : Part → Call → Reply → Effect
-effect_of part call Done = entered part call
+effect_of part (Register writer key) Done = writes writer (Registered key)
+effect_of part (Write writer key value) Done = writes writer (Changed (change_made part kind.Write key value))
+effect_of part (Dispose writer key) Done = writes writer (Changed (change_made part kind.Dispose key []))
+effect_of part (Unregister writer key) Done = writes writer (Changed (change_made part (unregister_kind (own_writer part writer).autodispose) key []))
 effect_of part call reply = nothing
 
 -- A call that the first cause refuses, if there is one, or want of memory: else it is done. What was `old` is then
@@ -116,29 +114,37 @@ IsDoneUnless refusal reply old done new = ⊥
 
 -- What a call answers, and what it does to what the peer's own calls see. A take that finds nothing happened too; one that
 -- finds no memory to look for samples did not.
-abbrev pub Answers : Part → Call → Reply → Dds → Type 0
-Answers old (Register writer key) reply dds = IsDoneUnless (register_refusal old writer) reply old.dds old.dds dds
-Answers old (Write writer key value) reply dds = IsDoneUnless (write_refusal old writer key value) reply old.dds old.dds dds
-Answers old (Dispose writer key) reply dds = IsDoneUnless (dispose_refusal old writer key) reply old.dds old.dds dds
-Answers old (Unregister writer key) reply dds = IsDoneUnless (unregister_refusal old writer key) reply old.dds old.dds dds
-Answers old (Take reader max masks) (Samples samples) dds =
+abbrev pub Answers : Tests → Part → Call → Reply → Dds → Type 0
+Answers tests old (Register writer key) reply dds = IsDoneUnless (register_refusal old writer) reply old.dds old.dds dds
+Answers tests old (Write writer key value) reply dds = IsDoneUnless (write_refusal old writer key value) reply old.dds old.dds dds
+Answers tests old (Dispose writer key) reply dds = IsDoneUnless (dispose_refusal old writer key) reply old.dds old.dds dds
+Answers tests old (Unregister writer key) reply dds = IsDoneUnless (unregister_refusal old writer key) reply old.dds old.dds dds
+Answers tests old (Take reader max masks) (Samples samples) dds =
     (access_refusal old reader max ≡ None) × (picked_at old reader max masks ≢ [])
     × (samples ≡ collection_of (own_reader old reader).qos (own_reader old reader).happened (picked_at old reader max masks))
     × (dds ≡ with_happening old reader (Took (picked_at old reader max masks)))
-Answers old (Take reader max masks) (Refused NoData) dds =
+Answers tests old (Take reader max masks) (Refused NoData) dds =
     (access_refusal old reader max ≡ None) × (picked_at old reader max masks ≡ []) × (dds ≡ with_happening old reader (Took []))
-Answers old (Take reader max masks) (Refused code) dds = Refuses (access_refusal old reader max) code × (dds ≡ old.dds)
-Answers old (Take reader max masks) reply dds = ⊥
+Answers tests old (Take reader max masks) (Refused code) dds = Refuses (access_refusal old reader max) code × (dds ≡ old.dds)
+Answers tests old (Take reader max masks) reply dds = ⊥
 
 -- one call at a peer
-pub record CallStep (old : Part) (call : Call) (reply : Reply) (new : Part) : Type 0 where
-  pub answers : Answers old call reply new.dds
+pub record CallStep (tests : Tests) (old : Part) (call : Call) (reply : Reply) (new : Part) : Type 0 where
+  pub answers : Answers tests old call reply new.dds
   pub rtps : new.rtps ≡ effect old.rtps (effect_of old call reply)
 
 -- why a moment is refused: it lies before the peer's, or is none, from 2^63 on
 abbrev pub tick_refusal : Part → ℕ → Option Code
 tick_refusal part now = if nat_lt now part.dds.moment || nat_le (2 ^ 63) now then Some BadParameter else None
 
+-- a writer, after its peer's time went on to this moment
+abbrev pub ticked : ℕ → Writer → Writer
+ticked now w = with_written w (Ticked now (is_behind w))
+
+-- the part of a peer whose time went on to this moment: it enters so at each writer, and whether a reader was behind
+abbrev pub after_tick : Part → ℕ → Part
+after_tick old now = record { rtps = record old.rtps { writers = map (ticked now) old.rtps.writers }; dds = record old.dds { moment = now } }
+
 -- the time of a peer goes on to this moment
 abbrev pub TickStep : Part → ℕ → Reply → Part → Type 0
-TickStep old now reply new = IsDoneUnless (tick_refusal old now) reply old (record { rtps = old.rtps; dds = record { moment = now; readers = old.dds.readers } }) new
+TickStep old now reply new = IsDoneUnless (tick_refusal old now) reply old (after_tick old now) new

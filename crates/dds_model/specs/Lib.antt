@@ -3,6 +3,7 @@ pub mod Part
 pub mod Moves
 pub mod Calls
 pub mod Claims
+pub mod Receipt
 pub mod Peer
 pub mod Machine
 pub mod World

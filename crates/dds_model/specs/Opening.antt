@@ -1,6 +1,6 @@
 -- The opening of a configuration: writers and readers of equal topic are matched, nothing has happened, each place is 1
 -- and nothing is acknowledged.
-use Rattle.std.specs.Prelude.{ℕ, ◌+◌, List, [], ◌∷◌, map}
+use Rattle.std.specs.Prelude.{ℕ, ◌+◌, List, [], ◌∷◌, map, None}
 use Rattle.dds_base.specs.declared.config.Config.{Config}
 use Rattle.dds_base.specs.declared.config.PeerConfig.{PeerConfig}
 use Rattle.dds_base.specs.declared.config.WriterConfig.{WriterConfig}
@@ -24,12 +24,12 @@ matched_readers topic peer ps = of_matched_readers (λ i p n r. record { reader 
 
 -- the writers of the topic among these, of which the first has this number
 abbrev pub writers_in : ℕ → ℕ → ℕ → List WriterConfig → List WriterProxy
-writers_in topic peer number ws = of_writers_in (λ n w. record { writer = record { peer = peer; number = n }; place = 1 }) topic number ws
+writers_in topic peer number ws = of_writers_in (λ n w. record { writer = record { peer = peer; number = n }; place = 1; heard = None }) topic number ws
 
 -- what a reader of the topic has of its matched writers, in the order of publication handles; the first of these peers
 -- has this number
 abbrev pub matched_writers : ℕ → ℕ → List PeerConfig → List WriterProxy
-matched_writers topic peer ps = of_matched_writers (λ i p n w. record { writer = record { peer = i; number = n }; place = 1 }) topic peer ps
+matched_writers topic peer ps = of_matched_writers (λ i p n w. record { writer = record { peer = i; number = n }; place = 1; heard = None }) topic peer ps
 
 -- what a reader's QoS says of the matched writers of the topic
 abbrev pub writer_qos : ℕ → List PeerConfig → List MatchedWriter

@@ -2,14 +2,16 @@
 -- each matched pair. What other peers may learn of stands apart from what only its own calls ask for.
 --
 -- RTPS 2.5, 8.4.7 (StatefulWriter, ReaderProxy), 8.4.10 (StatefulReader, WriterProxy).
-use Rattle.std.specs.Prelude.{ℕ, ◌+◌, Bool, false, cond, ◌==◌, List, [], ◌∷◌, map, Option, None}
+use Rattle.std.specs.Prelude.{ℕ, ◌+◌, ◌<◌, ◌≤◌, Bool, true, false, cond, if◌then◌else◌, ◌==◌, nat_le, nat_lt, List, [], ◌∷◌, ◌++◌, length, map, Option, Some, None, ℤ, pos, negsuc}
+use Rattle.std.specs.List.{list_any}
+use Rattle.std.specs.Option.{option_map}
 use Rattle.dds_base.specs.declared.change.Change.{Change}
 use Rattle.dds_base.specs.declared.happening.Happening.{Happening}
 use Rattle.dds_base.specs.declared.qos.HistoryQos.{HistoryQos}
 use Rattle.dds_base.specs.declared.qos.HistoryQos.TheVariants.{KeepAll}
 use Rattle.dds_base.specs.declared.qos.OwnershipQos.TheVariants.{Shared}
 use Rattle.dds_base.specs.declared.qos.ReaderQos.{ReaderQos}
-use Rattle.dds_base.specs.Written.{Written, changes_of}
+use Rattle.dds_base.specs.Written.{Written, Asserted, Ticked, changes_of}
 use Rattle.dds_base.specs.Kept.{WriterHistory}
 use Rattle.dds_model.specs.declared.endpoint.Endpoint.{Endpoint}
 use Rattle.dds_model.specs.Numbered.{numbered, with_numbered}
@@ -23,10 +25,12 @@ pub record ReaderProxy : Type 0 where
   pub reader : Endpoint
   pub acknowledged : ℕ
 
--- what a reader knows of a matched writer: its place there, the number of the next change
+-- what a reader knows of a matched writer: its place there, the number of the next change, and the count of the last
+-- HEARTBEAT by which it heard the writer assert its liveliness, if there was one
 pub record WriterProxy : Type 0 where
   pub writer : Endpoint
   pub place : ℕ
+  pub heard : Option ℤ
 
 -- a writer: its policy and limit, whether an unregister disposes too, what happened there, the newest first, and its
 -- matched reliable readers
@@ -83,36 +87,89 @@ writer_changes w = changes_of w.written
 abbrev pub history_of : Writer → WriterHistory
 history_of w = record { policy = w.policy; max_samples = w.max_samples; changes = changes_of w.written; acknowledged = map (λ (p : ReaderProxy). p.acknowledged) w.readers }
 
--- what this reader has acknowledged, or 0 where it is not matched
-abbrev pub acknowledged_of : List ReaderProxy → Endpoint → ℕ
-acknowledged_of [] reader = 0
-acknowledged_of (p ∷ ps) reader = cond (same_endpoint p.reader reader) p.acknowledged (acknowledged_of ps reader)
+-- the first of these rows of this name
+abbrev pub row_of : {X : Type 0} → (X → Endpoint) → List X → Endpoint → Option X
+row_of name [] end = None
+row_of name (x ∷ xs) end = cond (same_endpoint (name x) end) (Some x) (row_of name xs end)
+
+-- the rows with another one in the place of the first of this name
+abbrev pub with_row : {X : Type 0} → (X → Endpoint) → (X → X) → List X → Endpoint → List X
+with_row name change [] end = []
+with_row name change (x ∷ xs) end = cond (same_endpoint (name x) end) (change x ∷ xs) (x ∷ with_row name change xs end)
+
+-- the number below which this reader has acknowledged all changes, if it is matched
+abbrev pub acknowledged_of : List ReaderProxy → Endpoint → Option ℕ
+acknowledged_of rows reader = option_map (λ (p : ReaderProxy). p.acknowledged) (row_of (λ (p : ReaderProxy). p.reader) rows reader)
 
 abbrev pub with_acknowledged : List ReaderProxy → Endpoint → ℕ → List ReaderProxy
-with_acknowledged [] reader to = []
-with_acknowledged (p ∷ ps) reader to = cond (same_endpoint p.reader reader) (record { reader = p.reader; acknowledged = to } ∷ ps) (p ∷ with_acknowledged ps reader to)
+with_acknowledged rows reader to = with_row (λ (p : ReaderProxy). p.reader) (λ (p : ReaderProxy). record p { acknowledged = to }) rows reader
 
--- the place in this writer's list, or 0 where it is not matched
-abbrev pub place_of : List WriterProxy → Endpoint → ℕ
-place_of [] writer = 0
-place_of (p ∷ ps) writer = cond (same_endpoint p.writer writer) p.place (place_of ps writer)
+-- the place in this writer's list, if it is matched
+abbrev pub place_of : List WriterProxy → Endpoint → Option ℕ
+place_of rows writer = option_map (λ (p : WriterProxy). p.place) (row_of (λ (p : WriterProxy). p.writer) rows writer)
 
 abbrev pub with_place : List WriterProxy → Endpoint → ℕ → List WriterProxy
-with_place [] writer to = []
-with_place (p ∷ ps) writer to = cond (same_endpoint p.writer writer) (record { writer = p.writer; place = to } ∷ ps) (p ∷ with_place ps writer to)
+with_place rows writer to = with_row (λ (p : WriterProxy). p.writer) (λ (p : WriterProxy). record p { place = to }) rows writer
 
--- the publication handle of this writer in a list that is numbered from n on, 0 where it is not matched
-abbrev pub publication_from : ℕ → List WriterProxy → Endpoint → ℕ
-publication_from n [] writer = 0
-publication_from n (p ∷ ps) writer = cond (same_endpoint p.writer writer) n (publication_from (n + 1) ps writer)
+-- the count by which this writer was heard last, if it is matched
+abbrev pub heard_of : List WriterProxy → Endpoint → Option (Option ℤ)
+heard_of rows writer = option_map (λ (p : WriterProxy). p.heard) (row_of (λ (p : WriterProxy). p.writer) rows writer)
+
+abbrev pub with_heard : List WriterProxy → Endpoint → ℤ → List WriterProxy
+with_heard rows writer count = with_row (λ (p : WriterProxy). p.writer) (λ (p : WriterProxy). record p { heard = Some count }) rows writer
+
+-- the number of the first row of this writer in a list that is numbered from n on
+abbrev pub publication_from : ℕ → List WriterProxy → Endpoint → Option ℕ
+publication_from n [] writer = None
+publication_from n (p ∷ ps) writer = cond (same_endpoint p.writer writer) (Some n) (publication_from (n + 1) ps writer)
+
+-- the publication handle of this writer, if it is matched (DDS 1.4, 2.2.2.5, publication_handle)
+abbrev pub publication_of : List WriterProxy → Endpoint → Option ℕ
+publication_of rows writer = publication_from 1 rows writer
+
+-- the number lies below this one, which is there
+abbrev pub IsBelow : ℕ → Option ℕ → Type 0
+IsBelow number None = ⊥
+IsBelow number (Some bound) = number < bound
+
+-- the number is at most this one, which is there
+abbrev pub IsAtMost : ℕ → Option ℕ → Type 0
+IsAtMost number None = ⊥
+IsAtMost number (Some bound) = number ≤ bound
+
+-- where the first number is there, the second is too, and is no less
+abbrev pub NoLess : Option ℕ → Option ℕ → Type 0
+NoLess None second = Unit {0}
+NoLess (Some first) second = IsAtMost first second
+
+-- some matched reliable reader has not acknowledged all changes of the writer
+abbrev pub is_behind : Writer → Bool
+is_behind w = list_any (λ (p : ReaderProxy). nat_le p.acknowledged (length (writer_changes w))) w.readers
+
+-- the writer has a matched reader
+abbrev pub has_readers : Writer → Bool
+has_readers w = nat_lt 0 (length w.readers)
+
+-- What each HEARTBEAT count of a writer numbers, in order: an assertion, or not. A count is due to each assertion of a
+-- writer that has matched readers, and to each tick at which some reader was behind.
+abbrev pub counts_of : Bool → List Written → List Bool
+counts_of matched [] = []
+counts_of matched (Asserted moment ∷ c) = if matched then counts_of matched c ++ true ∷ [] else counts_of matched c
+counts_of matched (Ticked now behind ∷ c) = if behind then counts_of matched c ++ false ∷ [] else counts_of matched c
+counts_of matched (_ ∷ c) = counts_of matched c
+
+-- the count numbers an assertion of the writer
+abbrev pub is_assertion : Writer → ℤ → Bool
+is_assertion w (pos n) = numbered (counts_of (has_readers w) w.written) n false
+is_assertion w (negsuc n) = false
 
 -- a peer's reader has these matched writers, and this happened there
 abbrev pub at_reader : Part → ℕ → List WriterProxy → List Happening → Part
-at_reader part reader proxies happened = record {
-  rtps = record { writers = part.rtps.writers; readers = with_numbered part.rtps.readers reader proxies };
-  dds = record { moment = part.dds.moment; readers = with_numbered part.dds.readers reader (record { qos = (own_reader part reader).qos; happened = happened }) };
+at_reader part reader proxies happened = record part {
+  rtps = record part.rtps { readers = with_numbered part.rtps.readers reader proxies };
+  dds = record part.dds { readers = with_numbered part.dds.readers reader (record (own_reader part reader) { happened = happened }) };
 }
 
 -- a peer's writer has become this one
 abbrev pub at_writer : Part → ℕ → Writer → Part
-at_writer part writer after = record { rtps = record { writers = with_numbered part.rtps.writers writer after; readers = part.rtps.readers }; dds = part.dds }
+at_writer part writer after = record part { rtps = record part.rtps { writers = with_numbered part.rtps.writers writer after } }

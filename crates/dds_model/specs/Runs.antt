@@ -1,5 +1,5 @@
 -- Runs: replies to lists of events, with the packets that are sent meanwhile.
-use Rattle.std.specs.Prelude.{◌≡◌, ◌≢◌, ℕ, ◌+◌, ◌-◌, ◌^◌, ◌≤◌, List, [], ◌∷◌, ◌++◌, length, min, ◌==◌, if◌then◌else◌, Contains, AllPairs}
+use Rattle.std.specs.Prelude.{◌≡◌, ◌≢◌, ℕ, ◌+◌, ◌-◌, ◌^◌, List, [], ◌∷◌, ◌++◌, length, min, IsSome, ◌==◌, if◌then◌else◌, Contains, AllPairs}
 use Rattle.std.specs.List.{list_any}
 use Rattle.dds_base.specs.declared.change.Change.{Change}
 use Rattle.dds_base.specs.declared.config.Config.{Config}
@@ -12,7 +12,7 @@ use Rattle.dds_model.specs.declared.reply.Reply.{Reply}
 use Rattle.dds_model.specs.Part.{ReaderProxy, acknowledged_of, writer_changes}
 use Rattle.dds_model.specs.Calls.{Effect, writes, effect_of}
 use Rattle.dds_model.specs.Claims.{ChangeIs, Claims}
-use Rattle.dds_model.specs.Machine.{Machine, part_at, writer_at, Step}
+use Rattle.dds_model.specs.Machine.{Machine, AllTests, part_at, writer_at, Step}
 use Rattle.dds_model.specs.Progress.{Progresses}
 
 -- the packets that were sent, and how many found no memory, which stays at its greatest value
@@ -31,17 +31,11 @@ pub record Announced (config : Config) (old : Traffic) (writer : Endpoint) (read
   pub packets : List Packet
   pub sent : new.sent ≡ old.sent ++ packets
   pub to_peers : (packet : Packet) → Contains packets packet → Contains (peers_of readers) packet.to
-  pub says : (packet : Packet) (reader : Endpoint) → Contains packets packet → reader.peer ≡ packet.to → 1 ≤ acknowledged_of readers reader → Claims config packet.bytes (ChangeIs writer reader number change)
+  pub says : (packet : Packet) (reader : Endpoint) → Contains packets packet → reader.peer ≡ packet.to → IsSome (acknowledged_of readers reader) → Claims config packet.bytes (ChangeIs writer reader number change)
   pub different : AllPairs (λ (a b : Packet). a.to ≢ b.to) packets
   pub lost : ℕ
   pub counted : length packets + lost ≡ length (peers_of readers)
   pub unsent : new.unsent ≡ min (old.unsent + lost) (2 ^ 64 - 1)
-
--- packets were sent, and none was taken back
-pub record SendsMore (old new : Traffic) : Type 0 where
-  pub packets : List Packet
-  pub sent : new.sent ≡ old.sent ++ packets
-  pub unsent : old.unsent ≤ new.unsent
 
 -- what a call with this effect sends: a change is announced, with the next number; else nothing is sent
 abbrev pub SendsOf : Config → Traffic → Machine → ℕ → Effect → Traffic → Type 0
@@ -50,17 +44,18 @@ SendsOf config old m peer (writes writer (Changed change)) new =
     (length (writer_changes (writer_at m (record { peer = peer; number = writer }))) + 1) change new
 SendsOf config old m peer other new = new ≡ old
 
--- What is sent at an event: an accepted change is announced; another call, a refused one, and a tick send nothing.
+-- What is sent at an event: an accepted change is announced; another call, a refused one, a tick and a delivery send
+-- nothing, and lose nothing.
 abbrev pub Sends : Config → Traffic → Machine → WorldEvent → Reply → Traffic → Type 0
 Sends config old m (world.Call peer call) reply new = SendsOf config old m peer (effect_of (part_at m peer) call reply) new
 Sends config old m (world.Tick peer now) reply new = new ≡ old
-Sends config old m (world.Deliver peer packet) reply new = SendsMore old new
+Sends config old m (world.Deliver peer packet) reply new = new ≡ old
 
 -- Replies to a list of events, one step after another, with the packets before and after.
-abbrev pub Run : Config → Traffic → Machine → List WorldEvent → List Reply → Traffic → Machine → Type 0
-Run config sent old [] [] last new = (new ≡ old) × (last ≡ sent)
-Run config sent old (event ∷ events) (reply ∷ replies) last new =
-    (mid : Machine) × (next : Traffic) × Step (length sent.sent) old event reply mid × Sends config sent old event reply next × Progresses config sent.sent old event reply
-    × Run config next mid events replies last new
-Run config sent old [] (reply ∷ replies) last new = ⊥
-Run config sent old (event ∷ events) [] last new = ⊥
+abbrev pub Run : Config → AllTests → Traffic → Machine → List WorldEvent → List Reply → Traffic → Machine → Type 0
+Run config tests sent old [] [] last new = (new ≡ old) × (last ≡ sent)
+Run config tests sent old (event ∷ events) (reply ∷ replies) last new =
+    (mid : Machine) × (next : Traffic) × Step tests (length sent.sent) old event reply mid × Sends config sent old event reply next × Progresses config sent.sent old event reply
+    × Run config tests next mid events replies last new
+Run config tests sent old [] (reply ∷ replies) last new = ⊥
+Run config tests sent old (event ∷ events) [] last new = ⊥

@@ -21,6 +21,8 @@ pub enum Move {
         to: Sn,
         passed: Sequence<PassedRun>,
     },
+    /// The peer's reader has heard, by a HEARTBEAT, that a matched writer asserted its liveliness.
+    Heard { writer: Endpoint, reader: u8 },
     /// A reader has acknowledged all changes below `to` of the peer's writer.
     Acknowledged {
         writer: u8,
