@@ -51,9 +51,12 @@ IsRefused old reply new = (reply ≡ Refused BadParameter) × (new ≡ old)
 abbrev pub AllTests : Type 0
 AllTests = ℕ → Tests
 
--- no peer has a filter
+-- a peer without filters, and a network of such peers
+abbrev pub no_filters : Tests
+no_filters filter key value = false
+
 abbrev pub no_tests : AllTests
-no_tests peer filter key value = false
+no_tests peer = no_filters
 
 -- From old, when so many packets were sent, the machine may give this reply to the event and go on to new. Which moves a
 -- delivery makes is its choice among the legal ones; every other reply is determined.

@@ -1,7 +1,7 @@
 -- What a delivered packet does, submessage by submessage: each that is reached makes its moves, a DATA with the change at
 -- a reader's place moves that place, and from the one that found no memory on none is applied
 -- (RTPS 2.5, 8.3.4, the rules of the message receiver).
-use Rattle.std.specs.Prelude.{◌≡◌, ◌≢◌, ◌⊎◌, ℕ, ◌+◌, ◌^◌, ◌<◌, ◌≤◌, false, List, [], ◌∷◌, ◌++◌, Option, Some, None}
+use Rattle.std.specs.Prelude.{◌≡◌, ◌⊎◌, ℕ, ◌+◌, ◌^◌, ◌<◌, ◌≤◌, false, List, [], ◌∷◌, ◌++◌, Option, Some, None}
 use Rattle.dds_base.specs.declared.change.Change.{Change}
 use Rattle.dds_base.specs.declared.config.Config.{Config}
 use Rattle.dds_base.specs.declared.config.PeerConfig.{PeerConfig}
@@ -10,7 +10,7 @@ use Rattle.dds_base.specs.Checked.{unknown_prefix}
 use Rattle.dds_base.specs.Presence.{has_room}
 use Rattle.rtps_wire.specs.declared.message.Message.{Message}
 use Rattle.rtps_wire.specs.declared.submessage.Submessage.{Submessage}
-use Rattle.rtps_wire.specs.Messages.{ReadsMessage}
+use Rattle.rtps_wire.specs.Messages.{ReadsMessage, HasSubmessage}
 use Rattle.dds_model.specs.declared.endpoint.Endpoint.{Endpoint}
 use Rattle.dds_model.specs.declared.reply.Move.{Move}
 use Rattle.dds_model.specs.declared.reply.Move.TheVariants.{Place}
@@ -66,7 +66,7 @@ pub record IsNotTaken (bytes : List ℕ) (old : Part) (report : Report) (new : P
   pub after : new ≡ old
   pub cause :
     ((report.refused ≡ None) × ((message : Message) (offset : ℕ) → ReadsMessage bytes message offset → ⊥))
-    ⊎ ((report.refused ≡ Some 0) × ((message : Message) (offset : ℕ) → ReadsMessage bytes message offset → message.submessages ≢ []))
+    ⊎ ((report.refused ≡ Some 0) × HasSubmessage bytes)
 
 -- what the peer of this number does with a packet
 abbrev pub Receives : Config → (ℕ → Grounds) → ℕ → List ℕ → Part → Report → Part → Type 0

@@ -1,5 +1,5 @@
 -- What the announcement of a change claims is true of the writer's list.
-use Rattle.std.proofs.Common.{◌≡◌, ℕ, ◌+◌, ◌-◌, ◌^◌, ◌≤◌, List, [], ◌∷◌, ◌++◌, Option, Some, None, length, slice_get, subst, ap, sym, ◌∙◌, refl, inl, inr, arith, true}
+use Rattle.std.proofs.Common.{◌≡◌, ℕ, zero, suc, ◌+◌, ◌-◌, ◌^◌, ◌≤◌, List, [], ◌∷◌, ◌++◌, Option, Some, None, length, slice_get, subst, ap, sym, ◌∙◌, refl, inl, inr, arith, true}
 use Rattle.std.specs.Prelude.{Bool, false, ◌<◌, nat_lt, if◌then◌else◌}
 use Rattle.std.proofs.lemmas.Bool.Decides.{nat_tests}
 use Rattle.dds_base.specs.declared.change.Change.{Change}
@@ -22,7 +22,7 @@ use Rattle.rtps_wire.specs.Data.{IsContent}
 use Rattle.dds_model.specs.declared.endpoint.Endpoint.{Endpoint}
 use Rattle.dds_model.specs.declared.event.Packet.{Packet}
 use Rattle.dds_model.specs.Part.{own_writer, writer_changes}
-use Rattle.dds_model.specs.Claims.{Claim, ChangeIs, MayPass, PlaceReached, Receiver, receiver_of, StandsIn, IsWriter, change_in, Says, Claims}
+use Rattle.dds_model.specs.Claims.{Claim, ChangeIs, MayPass, PlaceReached, Asserts, Receiver, receiver_of, is_for, stamp_of, after_submessage, StandsAt, IsWriter, change_in, Says, Claims}
 use Rattle.dds_model.specs.Peer.{Peer, IsTrueAt}
 use Rattle.dds_model.specs.Calls.{unregister_kind}
 use Rattle.dds_world.specs.Standing.{WritingKept, WritingStandsFor, writing_part, content_with, IsAnnouncement, announcement}
@@ -47,43 +47,57 @@ pub early_is : (moment : ℕ) → moment < 2 ^ 63 → (if nat_lt moment (2 ^ 63)
 early_is moment early = let is : nat_lt moment (2 ^ 63) ≡ true = grind (arith, nat_tests) in ap (λ (b : Bool). if b then moment else 0) is
 
 -- what the DATA says is true
-data_says : (kept : WritingKept) (config : Config) (peer : Peer) (s : WritingStandsFor kept config peer) (at : Receiver) (written : List Written) (number : ℕ) (content : DataContent) (claim : Claim)
-    → at.source_guid_prefix ≡ kept.prefix → at.timestamp ≡ kept.moment → change_at (changes_of written) number ≡ Some (change_in content kept.moment)
-    → Says config at (data_of kept number content) claim → IsTrueAt 1 (writing_part kept.autodispose kept.moment written) claim
-data_says kept config peer s at written number content (ChangeIs w r n c) source time stands h =
-    let name : IsWriter config s.first.prefix kept.entity w = subst (λ (p : GuidPrefix). IsWriter config p kept.entity w) (source ∙ sym s.prefix) h.0 in
+data_says : (kept : WritingKept) (config : Config) (peer : Peer) (s : WritingStandsFor kept config peer) (own : GuidPrefix) (at : Receiver) (written : List Written) (number : ℕ) (content : DataContent) (claim : Claim)
+    → at.source_guid_prefix ≡ kept.prefix → (is_for at own ≡ true → at.timestamp ≡ kept.moment) → change_at (changes_of written) number ≡ Some (change_in content kept.moment)
+    → Says config own at (data_of kept number content) claim → IsTrueAt 1 (writing_part kept.autodispose kept.moment written) claim
+data_says kept config peer s own at written number content (ChangeIs w r n c) source time stands h =
+    let name : IsWriter config s.first.prefix kept.entity w = subst (λ (p : GuidPrefix). IsWriter config p kept.entity w) (source ∙ sym s.prefix) h.0.from in
     let w_is : w ≡ record { peer = 1; number = 1 } = only_writer config s.first s.second s.writer s.reader kept.entity w s.pair name in
-    let c_is : c ≡ change_in content kept.moment = h.3 ∙ ap (λ (t : ℕ). change_in content t) time in (
+    let c_is : c ≡ change_in content kept.moment = h.2 ∙ ap (λ (t : ℕ). change_in content t) (time h.0.is_for) in (
       ap (λ (e : Endpoint). e.peer) w_is,
       ap (λ (e : Endpoint). change_at (writer_changes (own_writer (writing_part kept.autodispose kept.moment written) e.number)) n) w_is
-          ∙ (ap (λ (k : ℕ). change_at (changes_of written) k) h.2 ∙ (stands ∙ ap (λ (x : Change). Some x) (sym c_is))),
+          ∙ (ap (λ (k : ℕ). change_at (changes_of written) k) h.1 ∙ (stands ∙ ap (λ (x : Change). Some x) (sym c_is))),
     )
-data_says kept config peer s at written number content (MayPass w r n) source time stands h = absurd h
-data_says kept config peer s at written number content (PlaceReached w r b) source time stands h = absurd h
+data_says kept config peer s own at written number content (MayPass w r n) source time stands h = absurd h
+data_says kept config peer s own at written number content (PlaceReached w r b) source time stands h = absurd h
+data_says kept config peer s own at written number content (Asserts w r k) source time stands h = absurd h
 
 -- the others say nothing
-dst_says : (config : Config) (at : Receiver) (prefix : GuidPrefix) (claim : Claim) → Says config at (InfoDst prefix) claim → ⊥
-dst_says config at prefix (ChangeIs w r n c) h = h
-dst_says config at prefix (MayPass w r n) h = h
-dst_says config at prefix (PlaceReached w r b) h = h
+dst_says : (config : Config) (own : GuidPrefix) (at : Receiver) (prefix : GuidPrefix) (claim : Claim) → Says config own at (InfoDst prefix) claim → ⊥
+dst_says config own at prefix (ChangeIs w r n c) h = h
+dst_says config own at prefix (MayPass w r n) h = h
+dst_says config own at prefix (PlaceReached w r b) h = h
+dst_says config own at prefix (Asserts w r k) h = h
 
-ts_says : (config : Config) (at : Receiver) (moment : Option ℕ) (claim : Claim) → Says config at (InfoTs moment) claim → ⊥
-ts_says config at moment (ChangeIs w r n c) h = h
-ts_says config at moment (MayPass w r n) h = h
-ts_says config at moment (PlaceReached w r b) h = h
+ts_says : (config : Config) (own : GuidPrefix) (at : Receiver) (moment : Option ℕ) (claim : Claim) → Says config own at (InfoTs moment) claim → ⊥
+ts_says config own at moment (ChangeIs w r n c) h = h
+ts_says config own at moment (MayPass w r n) h = h
+ts_says config own at moment (PlaceReached w r b) h = h
+ts_says config own at moment (Asserts w r k) h = h
+
+-- the INFO_TS counts for whom the DATA is
+stamped : (b : Bool) (own : GuidPrefix) (r at : Receiver) (stamp : ℕ) → is_for r own ≡ b → at ≡ (if b then record r { timestamp = stamp } else r) → is_for at own ≡ true → at.timestamp ≡ stamp
+stamped true own r at stamp is same for = ap (λ (x : Receiver). x.timestamp) same
+stamped false own r at stamp is same for = let not_for : is_for at own ≡ false = ap (λ (x : Receiver). is_for x own) same ∙ is in absurd cc
+
+sourced : (b : Bool) (r at : Receiver) (stamp : ℕ) → at ≡ (if b then record r { timestamp = stamp } else r) → at.source_guid_prefix ≡ r.source_guid_prefix
+sourced true r at stamp same = ap (λ (x : Receiver). x.source_guid_prefix) same
+sourced false r at stamp same = ap (λ (x : Receiver). x.source_guid_prefix) same
 
 -- what the message says is true
-message_says : (kept : WritingKept) (config : Config) (peer : Peer) (s : WritingStandsFor kept config peer) (at : Receiver) (submessage : Submessage) (written : List Written) (number : ℕ) (content : DataContent) (claim : Claim)
-    → change_at (changes_of written) number ≡ Some (change_in content kept.moment)
-    → StandsIn (receiver_of kept.prefix) (announcement kept number content).submessages at submessage → Says config at submessage claim → IsTrueAt 1 (writing_part kept.autodispose kept.moment written) claim
-message_says kept config peer s at submessage written number content claim stands (inl h) says =
-    absurd (dst_says config at kept.to claim (subst (λ (x : Submessage). Says config at x claim) h.1 says))
-message_says kept config peer s at submessage written number content claim stands (inr (inl h)) says =
-    absurd (ts_says config at (Some kept.moment) claim (subst (λ (x : Submessage). Says config at x claim) h.1 says))
-message_says kept config peer s at submessage written number content claim stands (inr (inr (inl h))) says =
-    data_says kept config peer s at written number content claim (ap (λ (r : Receiver). r.source_guid_prefix) h.0) (ap (λ (r : Receiver). r.timestamp) h.0 ∙ early_is kept.moment s.early) stands
-    (subst (λ (x : Submessage). Says config at x claim) h.1 says)
-message_says kept config peer s at submessage written number content claim stands (inr (inr (inr h))) says = absurd h
+message_says : (kept : WritingKept) (config : Config) (peer : Peer) (s : WritingStandsFor kept config peer) (own : GuidPrefix) (index : ℕ) (at : Receiver) (submessage : Submessage) (written : List Written) (number : ℕ) (content : DataContent)
+    (claim : Claim) → change_at (changes_of written) number ≡ Some (change_in content kept.moment) → StandsAt own (receiver_of kept.prefix) (announcement kept number content).submessages index at submessage
+    → Says config own at submessage claim → IsTrueAt 1 (writing_part kept.autodispose kept.moment written) claim
+message_says kept config peer s own zero at submessage written number content claim stands h says =
+    absurd (dst_says config own at kept.to claim (subst (λ (x : Submessage). Says config own at x claim) h.1 says))
+message_says kept config peer s own (suc zero) at submessage written number content claim stands h says =
+    absurd (ts_says config own at (Some kept.moment) claim (subst (λ (x : Submessage). Says config own at x claim) h.1 says))
+message_says kept config peer s own (suc (suc zero)) at submessage written number content claim stands h says =
+    let r : Receiver = after_submessage own (receiver_of kept.prefix) (InfoDst kept.to) in
+    let stamp : ℕ = stamp_of (Some kept.moment) in
+    data_says kept config peer s own at written number content claim (sourced (is_for r own) r at stamp h.0)
+    (λ for. stamped (is_for r own) own r at stamp refl h.0 for ∙ early_is kept.moment s.early) stands (subst (λ (x : Submessage). Says config own at x claim) h.1 says)
+message_says kept config peer s own (suc (suc (suc index))) at submessage written number content claim stands h says = absurd h
 
 -- what the announcement of a change claims is true
 pub announcement_true : (kept : WritingKept) (config : Config) (peer : Peer) (s : WritingStandsFor kept config peer) (written : List Written) (number : ℕ) (content : DataContent) (packet : Packet) (claim : Claim)
@@ -93,8 +107,8 @@ announcement_true kept config peer s written number content packet claim is stan
     let own : ReadsMessage (spelling_of m) m (length (spelling_of m)) = message_again m is.writable in
     let read : ReadsMessage (spelling_of m) h.message h.offset = subst (λ (b : List ℕ). ReadsMessage b h.message h.offset) is.bytes h.is_read in
     let same : h.message ≡ m = (message_one (spelling_of m) h.message m h.offset (length (spelling_of m)) read own).0 in
-    message_says kept config peer s h.at h.submessage written number content claim stands
-    (subst (λ (x : Message). StandsIn (receiver_of x.prefix) x.submessages h.at h.submessage) same h.stands) h.says
+    message_says kept config peer s h.own h.index h.at h.submessage written number content claim stands
+    (subst (λ (x : Message). StandsAt h.own (receiver_of x.prefix) x.submessages h.index h.at h.submessage) same h.stands) h.says
 
 -- the announcement of a change can be written
 pub announcement_writable : (kept : WritingKept) (number : ℕ) (content : DataContent) → length kept.prefix.0 ≡ 12 → length kept.to.0 ≡ 12 → length kept.entity.0 ≡ 4 → kept.moment < 2 ^ 64 → IsContent content → 1 ≤ number → number ≤ 2 ^ 48

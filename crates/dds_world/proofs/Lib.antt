@@ -1,11 +1,11 @@
 pub mod Names
-pub mod Registrations
 pub mod Ends
-pub mod Opened
+pub mod Registrations
+pub mod ReadingSteps
+pub mod Taking
 pub mod Announced
 pub mod WritingSteps
-pub mod ReadingSteps
-pub mod WorldSteps
 pub mod Sends
+pub mod WorldSteps
 pub mod RunSteps
-pub mod Progressed
+pub mod Opened

@@ -6,6 +6,7 @@ use Rattle.dds_base.specs.declared.config.PeerConfig.{PeerConfig}
 use Rattle.dds_base.specs.declared.config.WriterConfig.{WriterConfig}
 use Rattle.dds_base.specs.declared.config.ReaderConfig.{ReaderConfig}
 use Rattle.dds_base.specs.declared.guid.EntityId.{EntityId}
+use Rattle.dds_base.specs.declared.guid.GuidPrefix.{GuidPrefix}
 use Rattle.dds_model.specs.declared.endpoint.Endpoint.{Endpoint}
 use Rattle.dds_model.specs.Claims.{IsNumbered, IsWriter, IsReader}
 use Rattle.dds_world.specs.Thin.{IsPair}
@@ -67,3 +68,22 @@ is_reader config first second writer reader pair = record {
   at_reader = (omega arith, ap (λ (rs : List ReaderConfig). slice_get rs 0) pair.readers);
   same_entity = refl;
 }
+
+-- whose name it is, and of which topic
+pub writer_named : (config : Config) (first second : PeerConfig) (writer : WriterConfig) (reader : ReaderConfig) (prefix : GuidPrefix) (entity : EntityId) → IsPair config first second writer reader
+    → (h : IsWriter config prefix entity (record { peer = 1; number = 1 })) → (first.prefix ≡ prefix) × (writer.entity ≡ entity) × (h.end.topic ≡ writer.topic)
+writer_named config first second writer reader prefix entity pair h =
+    let peers : IsNumbered (first ∷ second ∷ []) 1 h.peer = subst (λ (ps : List PeerConfig). IsNumbered ps 1 h.peer) pair.peers h.at_peer in
+    let is : first ≡ h.peer = same_Some first h.peer peers.1 in
+    let writers : IsNumbered (writer ∷ []) 1 h.end = subst (λ (ws : List WriterConfig). IsNumbered ws 1 h.end) (ap (λ (p : PeerConfig). p.writers) (sym is) ∙ pair.writers) h.at_writer in
+    let end : writer ≡ h.end = same_Some writer h.end writers.1 in
+    (ap (λ (p : PeerConfig). p.prefix) is ∙ h.same_prefix, ap (λ (w : WriterConfig). w.entity) end ∙ h.same_entity, ap (λ (w : WriterConfig). w.topic) (sym end))
+
+pub reader_named : (config : Config) (first second : PeerConfig) (writer : WriterConfig) (reader : ReaderConfig) (prefix : GuidPrefix) (entity : EntityId) → IsPair config first second writer reader
+    → (h : IsReader config prefix entity (record { peer = 2; number = 1 })) → (second.prefix ≡ prefix) × (reader.entity ≡ entity) × (h.end.topic ≡ reader.topic)
+reader_named config first second writer reader prefix entity pair h =
+    let peers : IsNumbered (first ∷ second ∷ []) 2 h.peer = subst (λ (ps : List PeerConfig). IsNumbered ps 2 h.peer) pair.peers h.at_peer in
+    let is : second ≡ h.peer = same_Some second h.peer peers.1 in
+    let readers : IsNumbered (reader ∷ []) 1 h.end = subst (λ (rs : List ReaderConfig). IsNumbered rs 1 h.end) (ap (λ (p : PeerConfig). p.readers) (sym is) ∙ pair.readers) h.at_reader in
+    let end : reader ≡ h.end = same_Some reader h.end readers.1 in
+    (ap (λ (p : PeerConfig). p.prefix) is ∙ h.same_prefix, ap (λ (r : ReaderConfig). r.entity) end ∙ h.same_entity, ap (λ (r : ReaderConfig). r.topic) (sym end))

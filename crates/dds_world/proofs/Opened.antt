@@ -35,11 +35,11 @@ rows_of topic first second reader none one same =
 
 -- the writers that match a reader of the topic
 places_of : (topic : ℕ) (first second : PeerConfig) (writer : WriterConfig) → first.writers ≡ writer ∷ [] → second.writers ≡ [] → writer.topic ≡ topic
-    → matched_writers topic 1 (first ∷ second ∷ []) ≡ record { writer = record { peer = 1; number = 1 }; place = 1 } ∷ []
+    → matched_writers topic 1 (first ∷ second ∷ []) ≡ record { writer = record { peer = 1; number = 1 }; place = 1; heard = None } ∷ []
 places_of topic first second writer one none same =
     ap (λ (ws : List WriterConfig). writers_in topic 1 1 first.writers ++ (writers_in topic 2 1 ws ++ [])) none
     ∙ (ap (λ (ws : List WriterConfig). writers_in topic 1 1 ws ++ []) one
-    ∙ ap (λ (b : Bool). cond b (record { writer = record { peer = 1; number = 1 }; place = 1 } ∷ []) [] ++ []) (eq-eqb writer.topic topic same))
+    ∙ ap (λ (b : Bool). cond b (record { writer = record { peer = 1; number = 1 }; place = 1; heard = None } ∷ []) [] ++ []) (eq-eqb writer.topic topic same))
 
 -- what the reader's QoS says of its writer
 abbrev pub writer_is : PeerConfig → WriterConfig → MatchedWriter
@@ -65,7 +65,7 @@ first_part config first second writer reader t =
     let part : List Writer → List (List WriterProxy) → List Reader → Part = λ ws rs ds. record { rtps = record { writers = ws; readers = rs }; dds = record { moment = 0; readers = ds } } in
     let own : opening_writer peers writer ≡ thin_writer writer.autodispose [] =
     writer_made writer.history _ (limit_of writer.max_samples) _ writer.autodispose (matched_readers writer.topic 1 peers) _ t.writer_is.history (ap limit_of t.writer_is.max_samples)
-    (rows_of writer.topic first second reader t.pair.no_readers t.pair.readers t.topic) in
+    (rows_of writer.topic first second reader t.pair.no_readers t.pair.readers t.pair.topic) in
     ap (λ (ws : List WriterConfig). part (map (opening_writer peers) ws) (map (λ (r : ReaderConfig). matched_writers r.topic 1 peers) first.readers) (map (λ (r : ReaderConfig). record { qos = reader_qos peers r; happened = [] }) first.readers)) t.pair.writers
     ∙ (ap (λ (rs : List ReaderConfig). part (opening_writer peers writer ∷ []) (map (λ (r : ReaderConfig). matched_writers r.topic 1 peers) rs) (map (λ (r : ReaderConfig). record { qos = reader_qos peers r; happened = [] }) rs)) t.pair.no_readers
     ∙ ap (λ (w : Writer). part (w ∷ []) [] []) own)
@@ -78,12 +78,12 @@ second_part config first second writer reader t =
     let part : List Writer → List (List WriterProxy) → List Reader → Part = λ ws rs ds. record { rtps = record { writers = ws; readers = rs }; dds = record { moment = 0; readers = ds } } in
     ap (λ (ws : List WriterConfig). part (map (opening_writer peers) ws) (map (λ (r : ReaderConfig). matched_writers r.topic 1 peers) second.readers) (map (λ (r : ReaderConfig). record { qos = reader_qos peers r; happened = [] }) second.readers)) t.pair.no_writers
     ∙ (ap (λ (rs : List ReaderConfig). part [] (map (λ (r : ReaderConfig). matched_writers r.topic 1 peers) rs) (map (λ (r : ReaderConfig). record { qos = reader_qos peers r; happened = [] }) rs)) t.pair.readers
-    ∙ ap (λ (rows : List WriterProxy). part [] (rows ∷ []) (record { qos = reader_qos peers reader; happened = [] } ∷ [])) (places_of reader.topic first second writer t.pair.writers t.pair.no_writers (sym t.topic)))
+    ∙ ap (λ (rows : List WriterProxy). part [] (rows ∷ []) (record { qos = reader_qos peers reader; happened = [] } ∷ [])) (places_of reader.topic first second writer t.pair.writers t.pair.no_writers (sym t.pair.topic)))
 
 qos_made : (config : Config) (first second : PeerConfig) (writer : WriterConfig) (reader : ReaderConfig) → IsThinPair config first second writer reader → reader_qos (first ∷ second ∷ []) reader ≡ thin_qos first.prefix writer reader
 qos_made config first second writer reader t =
     let made : Option ℕ → Option ℕ → List MatchedWriter → ReaderQos = λ m n ws. record { ownership = reader.ownership; history = reader.history; max_samples = m; max_instances = n; writers = ws } in
-    ap (λ (ws : List MatchedWriter). made (limit_of reader.max_samples) (limit_of reader.max_instances) ws) (qos_of_writer reader.topic first second writer t.pair.writers t.pair.no_writers (sym t.topic))
+    ap (λ (ws : List MatchedWriter). made (limit_of reader.max_samples) (limit_of reader.max_instances) ws) (qos_of_writer reader.topic first second writer t.pair.writers t.pair.no_writers (sym t.pair.topic))
     ∙ (ap (λ (z : ℤ). made (limit_of z) (limit_of reader.max_instances) (writer_is first writer ∷ [])) t.reader_is.max_samples ∙ ap (λ (z : ℤ). made None (limit_of z) (writer_is first writer ∷ [])) t.reader_is.max_instances)
 
 reading_as : (p q : ReaderQos) (j k m n : ℕ) → p ≡ q → j ≡ k → m ≡ n → reading_part p j m [] ≡ reading_part q k n []
@@ -95,7 +95,7 @@ writing_as a b m n e f = cc
 -- a network in which nothing has happened stands for the opening
 pub opened : (config : Config) (kept : WorldKept) (first_prefix second_prefix : GuidPrefix) (writer : WriterConfig) (reader : ReaderConfig) → HasEnds config first_prefix second_prefix writer reader
     → HasWrittenNothing kept.writing first_prefix writer.entity writer.autodispose second_prefix → HasReadNothing kept.reading second_prefix reader.entity first_prefix writer.entity (thin_qos first_prefix writer reader) → kept.sent ≡ []
-    → StandsFor kept config (opening config)
+    → StandsFor kept config (opening_world config)
 opened config kept first_prefix second_prefix writer reader e w r none =
     let peers : List PeerConfig = e.first ∷ e.second ∷ [] in
     let first : Peer = record { number = 1; part = opening_part peers e.first; delivered = [] } in
@@ -142,5 +142,5 @@ opened config kept first_prefix second_prefix writer reader e w r none =
         cache = r.cache;
       };
       sound = subst (λ (x : WorldState). Sound config x) same (opens_sound config);
-      machine = ap machine_of same;
+      network_is = same;
     }

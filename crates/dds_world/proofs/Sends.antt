@@ -1,6 +1,9 @@
 -- What a network sends at an event.
 use Rattle.std.proofs.Common.{◌≡◌, ◌≢◌, ℕ, ◌+◌, ◌-◌, ◌^◌, ◌≤◌, min, Bool, true, false, cond, List, [], ◌∷◌, Some, length, Contains, subst, ap, sym, ◌∙◌, refl, inl, inr, arith, length-append}
-use Rattle.std.specs.Prelude.{AllPairs}
+use Rattle.std.specs.Prelude.{AllPairs, IsSome, nat_eq, if◌then◌else◌, ◌||◌, None}
+use Rattle.std.specs.Option.{option_map}
+use Rattle.std.proofs.lemmas.Slice.Eq.{slice_eq-Decides}
+use Rattle.std.proofs.lemmas.Bool.Decides.{Decides-eqb}
 use Rattle.dds_base.specs.declared.change.Change.{Change}
 use Rattle.dds_base.specs.declared.config.Config.{Config}
 use Rattle.dds_base.specs.declared.guid.GuidPrefix.{GuidPrefix}
@@ -13,6 +16,7 @@ use Rattle.rtps_wire.specs.Messages.{ReadsMessage, spelling_of}
 use Rattle.rtps_wire.specs.declared.submessage.Submessage.TheVariants.{InfoDst, InfoTs}
 use Rattle.rtps_wire.proofs.SpellingLaws.{message_again}
 use Rattle.dds_model.specs.declared.call.Call.{Call}
+use Rattle.dds_model.specs.declared.call.Call.TheVariants as call
 use Rattle.dds_model.specs.declared.endpoint.Endpoint.{Endpoint}
 use Rattle.dds_model.specs.declared.event.Event.TheVariants as event
 use Rattle.dds_model.specs.declared.event.Output.{Output}
@@ -22,45 +26,63 @@ use Rattle.dds_model.specs.declared.reply.Reply.{Reply}
 use Rattle.dds_model.specs.declared.reply.Reply.TheVariants.{Done, Samples, Reported, Refused}
 use Rattle.dds_model.specs.Part.{Part, ReaderProxy, same_endpoint, own_writer, writer_changes}
 use Rattle.dds_model.specs.Calls.{Effect, nothing, writes, effect_of, Answers}
-use Rattle.dds_model.specs.Claims.{Receiver, receiver_of, after_submessage, IsWriter, IsForReader, ChangeIs, Claims, change_in}
-use Rattle.dds_model.specs.Machine.{Machine}
+use Rattle.dds_model.specs.Claims.{Receiver, receiver_of, is_for, stamp_of, after_submessage, StandsAt, IsWriter, IsReader, IsToReader, every_reader, every_peer, ChangeIs, Claims, change_in}
+use Rattle.dds_base.specs.Checked.{same_prefix}
+use Rattle.dds_model.specs.Machine.{no_filters}
 use Rattle.dds_model.specs.Peer.{Peer}
-use Rattle.dds_model.specs.World.{machine_of}
+use Rattle.dds_model.specs.World.{WorldState, machine_of}
 use Rattle.dds_model.specs.Runs.{Traffic, Announced, Sends, SendsOf}
 use Rattle.dds_model.proofs.Tables.{same_is}
 use Rattle.dds_world.specs.Standing.{WritingKept, WritingStandsFor, ReadingKept, ReadingSteps, reading_part, WritingSends, SendsNothing, SendsOne, SendsFor, IsAnnouncement, announcement, content_of}
 use Rattle.dds_world.specs.WorldStanding.{WorldKept, StandsFor, Posts, Announces, traffic, world_of}
 use Rattle.dds_world.proofs.Announced.{data_of, early_is}
-use Rattle.dds_world.proofs.Names.{is_writer, is_reader}
+use Rattle.dds_world.proofs.Names.{is_writer, is_reader, writer_named, reader_named}
 use Rattle.dds_world.proofs.ReadingSteps.{never_done}
-
--- a matched reader of the row is that of the row
-matched_is : (b : Bool) → 1 ≤ cond b 1 0 → b ≡ true
-matched_is true h = refl
-matched_is false h = absurd (omega (arith, h))
 
 abbrev row : ReaderProxy
 row = record { reader = record { peer = 2; number = 1 }; acknowledged = 1 }
+
+-- a matched reader of the row is that of the row
+matched_is : (b : Bool) → IsSome (option_map (λ (p : ReaderProxy). p.acknowledged) (cond b (Some row) None)) → b ≡ true
+matched_is true h = refl
+matched_is false h = absurd cc
+
+-- a prefix names its own peer
+same_prefix-refl : (a : GuidPrefix) → same_prefix a a ≡ true
+same_prefix-refl a = (slice_eq-Decides {E = nat_eq} Decides-eqb a.0 a.0 (same_prefix a a) refl).1 refl
+
+for_own : (receiver : Receiver) (own : GuidPrefix) → receiver.dest_guid_prefix ≡ own → is_for receiver own ≡ true
+for_own receiver own same = ap (λ (p : GuidPrefix). same_prefix p own || same_prefix p every_peer) same ∙ ap (λ (b : Bool). b || same_prefix own every_peer) (same_prefix-refl own)
 
 -- the announcement claims the change
 announces : (kept : WritingKept) (config : Config) (peer : Peer) (s : WritingStandsFor kept config peer) (number : ℕ) (content : DataContent) (packet : Packet) → IsAnnouncement kept number content packet
     → Claims config packet.bytes (ChangeIs (record { peer = 1; number = 1 }) (record { peer = 2; number = 1 }) number (change_in content kept.moment))
 announces kept config peer s number content packet is =
     let m : Message = announcement kept number content in
-    let at : Receiver = after_submessage (after_submessage (receiver_of kept.prefix) (InfoDst kept.to)) (InfoTs (Some kept.moment)) in
-    let writer : IsWriter config kept.prefix kept.entity (record { peer = 1; number = 1 }) =
+    let own : GuidPrefix = kept.to in
+    let before : Receiver = after_submessage own (receiver_of kept.prefix) (InfoDst kept.to) in
+    let at : Receiver = record before { timestamp = stamp_of (Some kept.moment) } in
+    let for : is_for before own ≡ true = for_own before own refl in
+    let after : after_submessage own before (InfoTs (Some kept.moment)) ≡ at = ap (λ (b : Bool). if b then at else before) for in
+    let from : IsWriter config kept.prefix kept.entity (record { peer = 1; number = 1 }) =
     subst (λ (p : GuidPrefix). IsWriter config p kept.entity (record { peer = 1; number = 1 })) s.prefix
     (subst (λ (e : EntityId). IsWriter config s.first.prefix e (record { peer = 1; number = 1 })) s.entity (is_writer config s.first s.second s.writer s.reader s.pair)) in
-    let reader : IsForReader config at (record { 0 = 0 ∷ 0 ∷ 0 ∷ 0 ∷ [] }) (record { peer = 2; number = 1 }) =
-    record { prefix = s.second.prefix; is_for = inl (sym s.to); own = s.reader.entity; is_reader = is_reader config s.first s.second s.writer s.reader s.pair; named = inr refl } in
+    let to : IsReader config own s.reader.entity (record { peer = 2; number = 1 }) =
+    subst (λ (p : GuidPrefix). IsReader config p s.reader.entity (record { peer = 2; number = 1 })) s.to (is_reader config s.first s.second s.writer s.reader s.pair) in
+    let topics : from.end.topic ≡ to.end.topic =
+    (writer_named config s.first s.second s.writer s.reader kept.prefix kept.entity s.pair from).2 ∙ (sym s.pair.topic ∙ sym (reader_named config s.first s.second s.writer s.reader own s.reader.entity s.pair to).2) in
+    let speaks : IsToReader config own at every_reader kept.entity (record { peer = 1; number = 1 }) (record { peer = 2; number = 1 }) =
+    record { from = from; is_for = for_own at own refl; entity = s.reader.entity; to = to; named = inr refl; matched = topics } in
     record {
       message = m;
       offset = length (spelling_of m);
       is_read = subst (λ (b : List ℕ). ReadsMessage b m (length (spelling_of m))) (sym is.bytes) (message_again m is.writable);
+      own = own;
+      index = 2;
       at = at;
       submessage = data_of kept number content;
-      stands = inr (inr (inl (refl, refl)));
-      says = (writer, reader, refl, ap (λ (t : ℕ). change_in content t) (sym (early_is kept.moment s.early)));
+      stands = (sym after, refl);
+      says = (speaks, refl, ap (λ (t : ℕ). change_in content t) (sym (early_is kept.moment s.early)));
     }
 
 -- how many packets found no memory, at the peer or on the way
@@ -119,7 +141,7 @@ same_traffic : (kept new : WorldKept) (output : Output) → Quiet kept output ne
 same_traffic kept new output quiet none = let q = quiet none in traffic_as new.sent kept.sent new.unsent kept.unsent q.0 q.1
 
 -- what is sent for an effect of the first peer
-effect_sends : (kept new : WorldKept) (config : Config) (m : Machine) (s : StandsFor kept config m) (effect : Effect) (output : Output) → Posts kept.sent output.packets new.sent → Counts kept output new → Quiet kept output new
+effect_sends : (kept new : WorldKept) (config : Config) (m : WorldState) (s : StandsFor kept config m) (effect : Effect) (output : Output) → Posts kept.sent output.packets new.sent → Counts kept output new → Quiet kept output new
     → SendsFor kept.writing s.first effect output → SendsOf config (traffic kept) (machine_of (world_of s.first s.second kept.sent)) 1 effect (traffic new)
 effect_sends kept new config m s (writes w (Changed change)) output posts counts quiet one =
     let one' : SendsOne kept.writing s.first 1 change output = subst (λ (n : ℕ). SendsOne kept.writing s.first n change output) one.is_writer one in
@@ -132,40 +154,52 @@ effect_sends kept new config m s (writes w (Ticked now behind)) output posts cou
 effect_sends kept new config m s nothing output posts counts quiet none = same_traffic kept new output quiet none
 
 -- what is sent at a call of the first peer
-pub first_sends : (kept new : WorldKept) (call : Call) (reply : Reply) (output : Output) → Posts kept.sent output.packets new.sent → Counts kept output new → Quiet kept output new
-    → WritingSends kept.writing (event.Call call) reply output → Announces kept (world.Call 1 call) reply new
-first_sends kept new call reply output posts counts quiet sends config m s =
-    subst (λ (x : Machine). Sends config (traffic kept) x (world.Call 1 call) reply (traffic new)) (sym s.machine)
-    (effect_sends kept new config m s (effect_of s.first.part call reply) output posts counts quiet (sends config s.first s.writing))
+pub first_sends : (kept new : WorldKept) (c : Call) (reply : Reply) (output : Output) → Posts kept.sent output.packets new.sent → Counts kept output new → Quiet kept output new
+    → WritingSends kept.writing (event.Call c) reply output → Announces kept (world.Call 1 c) reply new
+first_sends kept new c reply output posts counts quiet sends config m s =
+    subst (λ (x : WorldState). Sends config (traffic kept) (machine_of x) (world.Call 1 c) reply (traffic new)) (sym s.network_is)
+    (effect_sends kept new config m s (effect_of s.first.part c reply) output posts counts quiet (sends config s.first s.writing))
 
 -- what is sent at a call of the second peer, at which no writer enters anything
-no_effect : (part : Part) (call : Call) (reply : Reply) → (reply ≡ Done → ⊥) → effect_of part call reply ≡ nothing
-no_effect part call Done other = absurd (other refl)
-no_effect part call (Samples samples) other = refl
-no_effect part call (Reported report) other = refl
-no_effect part call (Refused code) other = refl
+no_effect : (part : Part) (c : Call) (reply : Reply) → (reply ≡ Done → ⊥) → effect_of part c reply ≡ nothing
+no_effect part c Done other = absurd (other refl)
+no_effect part (call.Register w key) (Samples samples) other = refl
+no_effect part (call.Register w key) (Reported report) other = refl
+no_effect part (call.Register w key) (Refused code) other = refl
+no_effect part (call.Write w key value) (Samples samples) other = refl
+no_effect part (call.Write w key value) (Reported report) other = refl
+no_effect part (call.Write w key value) (Refused code) other = refl
+no_effect part (call.Dispose w key) (Samples samples) other = refl
+no_effect part (call.Dispose w key) (Reported report) other = refl
+no_effect part (call.Dispose w key) (Refused code) other = refl
+no_effect part (call.Unregister w key) (Samples samples) other = refl
+no_effect part (call.Unregister w key) (Reported report) other = refl
+no_effect part (call.Unregister w key) (Refused code) other = refl
+no_effect part (call.Take r max masks) (Samples samples) other = refl
+no_effect part (call.Take r max masks) (Reported report) other = refl
+no_effect part (call.Take r max masks) (Refused code) other = refl
 
-pub second_sends : (kept new : WorldKept) (reading : ReadingKept) (call : Call) (reply : Reply) (output : Output) → ReadingSteps kept.reading (event.Call call) output reading → reply ≡ output.reply → Quiet kept output new → SendsNothing output
-    → Announces kept (world.Call 2 call) reply new
-second_sends kept new reading call reply output steps is quiet none config m s =
+pub second_sends : (kept new : WorldKept) (reading : ReadingKept) (c : Call) (reply : Reply) (output : Output) → ReadingSteps kept.reading (event.Call c) output reading → reply ≡ output.reply → Quiet kept output new → SendsNothing output
+    → Announces kept (world.Call 2 c) reply new
+second_sends kept new reading c reply output steps is quiet none config m s =
     let step = (steps config s.second s.reading).1.step in
     let never : reply ≡ Done → ⊥ = λ done.
-    never_done (qos_of kept.reading.cache) kept.reading.moment kept.reading.place s.reading.happened call (steps config s.second s.reading).0.part.dds
-    (subst (λ (r : Reply). Answers (reading_part (qos_of kept.reading.cache) kept.reading.moment kept.reading.place s.reading.happened) call r (steps config s.second s.reading).0.part.dds) (sym is ∙ done)
-    (subst (λ (p : Part). Answers p call output.reply (steps config s.second s.reading).0.part.dds) s.reading.part step.0.answers)) in
-    subst (λ (x : Machine). Sends config (traffic kept) x (world.Call 2 call) reply (traffic new)) (sym s.machine)
-    (subst (λ (e : Effect). SendsOf config (traffic kept) (machine_of (world_of s.first s.second kept.sent)) 2 e (traffic new)) (sym (no_effect s.second.part call reply never)) (same_traffic kept new output quiet none))
+    never_done (qos_of kept.reading.cache) kept.reading.moment kept.reading.place s.reading.happened c (steps config s.second s.reading).0.part.dds
+    (subst (λ (r : Reply). Answers no_filters (reading_part (qos_of kept.reading.cache) kept.reading.moment kept.reading.place s.reading.happened) c r (steps config s.second s.reading).0.part.dds) (sym is ∙ done)
+    (subst (λ (p : Part). Answers no_filters p c output.reply (steps config s.second s.reading).0.part.dds) s.reading.part step.0.answers)) in
+    subst (λ (x : WorldState). Sends config (traffic kept) (machine_of x) (world.Call 2 c) reply (traffic new)) (sym s.network_is)
+    (subst (λ (e : Effect). SendsOf config (traffic kept) (machine_of (world_of s.first s.second kept.sent)) 2 e (traffic new)) (sym (no_effect s.second.part c reply never)) (same_traffic kept new output quiet none))
 
-pub called_second_sends : (kept now new : WorldKept) (reading : ReadingKept) (peer : ℕ) (call : Call) (reply : Reply) (output : Output) → kept ≡ now → peer ≡ 2 → ReadingSteps kept.reading (event.Call call) output reading → reply ≡ output.reply
-    → Quiet kept output new → SendsNothing output → Announces now (world.Call peer call) reply new
-called_second_sends kept now new reading peer call reply output same two steps is quiet none =
-    subst (λ (k : WorldKept). Announces k (world.Call peer call) reply new) same
-    (subst (λ (n : ℕ). Announces kept (world.Call n call) reply new) (sym two) (second_sends kept new reading call reply output steps is quiet none))
+pub called_second_sends : (kept now new : WorldKept) (reading : ReadingKept) (peer : ℕ) (c : Call) (reply : Reply) (output : Output) → kept ≡ now → peer ≡ 2 → ReadingSteps kept.reading (event.Call c) output reading → reply ≡ output.reply
+    → Quiet kept output new → SendsNothing output → Announces now (world.Call peer c) reply new
+called_second_sends kept now new reading peer c reply output same two steps is quiet none =
+    subst (λ (k : WorldKept). Announces k (world.Call peer c) reply new) same
+    (subst (λ (n : ℕ). Announces kept (world.Call n c) reply new) (sym two) (second_sends kept new reading c reply output steps is quiet none))
 
 -- the same, of what is kept under other names
-pub called_first_sends : (kept now new : WorldKept) (peer : ℕ) (call : Call) (reply : Reply) (output : Output) → kept ≡ now → peer ≡ 1 → reply ≡ output.reply → Posts kept.sent output.packets new.sent → Counts kept output new
-    → (SendsNothing output → (new.sent ≡ kept.sent) × (new.unsent ≡ kept.unsent)) → WritingSends kept.writing (event.Call call) output.reply output → Announces now (world.Call peer call) reply new
-called_first_sends kept now new peer call reply output same one is posts counts quiet sends =
-    subst (λ (k : WorldKept). Announces k (world.Call peer call) reply new) same
-    (subst (λ (n : ℕ). Announces kept (world.Call n call) reply new) (sym one)
-    (subst (λ (r : Reply). Announces kept (world.Call 1 call) r new) (sym is) (first_sends kept new call output.reply output posts counts quiet sends)))
+pub called_first_sends : (kept now new : WorldKept) (peer : ℕ) (c : Call) (reply : Reply) (output : Output) → kept ≡ now → peer ≡ 1 → reply ≡ output.reply → Posts kept.sent output.packets new.sent → Counts kept output new
+    → (SendsNothing output → (new.sent ≡ kept.sent) × (new.unsent ≡ kept.unsent)) → WritingSends kept.writing (event.Call c) output.reply output → Announces now (world.Call peer c) reply new
+called_first_sends kept now new peer c reply output same one is posts counts quiet sends =
+    subst (λ (k : WorldKept). Announces k (world.Call peer c) reply new) same
+    (subst (λ (n : ℕ). Announces kept (world.Call n c) reply new) (sym one)
+    (subst (λ (r : Reply). Announces kept (world.Call 1 c) r new) (sym is) (first_sends kept new c output.reply output posts counts quiet sends)))

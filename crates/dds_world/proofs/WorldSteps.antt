@@ -14,13 +14,14 @@ use Rattle.dds_model.specs.declared.event.WorldEvent.{WorldEvent}
 use Rattle.dds_model.specs.declared.event.WorldEvent.TheVariants as world
 use Rattle.dds_model.specs.declared.reply.Reply.{Reply}
 use Rattle.dds_model.specs.declared.reply.Reply.TheVariants.{Refused}
-use Rattle.dds_model.specs.Machine.{Machine, Step}
+use Rattle.dds_model.specs.Machine.{no_filters, no_tests, Step}
+use Rattle.dds_model.specs.Progress.{Progresses}
 use Rattle.dds_model.specs.Numbered.{HasNumber}
 use Rattle.dds_model.specs.Peer.{Peer, PeerStep}
 use Rattle.dds_model.specs.World.{WorldState, WorldStep, PeerSteps, machine_of, Sound}
 use Rattle.dds_model.proofs.Composed.{composes}
 use Rattle.dds_world.specs.Standing.{WritingKept, ReadingKept, WritingStandsFor, ReadingStandsFor, WritingSteps, ReadingSteps}
-use Rattle.dds_world.specs.WorldStanding.{WorldKept, StandsFor, Steps, Posts, world_of}
+use Rattle.dds_world.specs.WorldStanding.{WorldKept, StandsFor, Steps, MovesOn, Posts, world_of}
 
 -- nothing was sent yet
 pub posts_none : (old : List Packet) → Posts old [] old
@@ -51,8 +52,8 @@ FirstAfter kept writing sent unsent = record { writing = writing; reading = kept
 abbrev SecondAfter : WorldKept → ReadingKept → List Packet → ℕ → WorldKept
 SecondAfter kept reading sent unsent = record { writing = kept.writing; reading = reading; sent = sent; unsent = unsent }
 
-first_steps : (config : Config) (first second after : Peer) (sent : List Packet) (ev : Event) (output : Output) (new : List Packet) (posts : Posts sent output.packets new) → PeerStep config first ev output after
-    → PeerSteps config (world_of first second sent) 1 ev output.reply (world_of after second new)
+first_steps : (config : Config) (first second after : Peer) (sent : List Packet) (ev : Event) (output : Output) (new : List Packet) (posts : Posts sent output.packets new) → PeerStep config no_filters first ev output after
+    → PeerSteps config no_filters (world_of first second sent) 1 ev output.reply (world_of after second new)
 first_steps config first second after sent ev output new posts step = record {
   within = (omega arith, omega arith);
   output = output;
@@ -64,8 +65,8 @@ first_steps config first second after sent ev output new posts step = record {
   changed = ap (λ (xs : List Packet). world_of after second xs) posts.sent;
 }
 
-second_steps : (config : Config) (first second after : Peer) (sent : List Packet) (ev : Event) (output : Output) (new : List Packet) (posts : Posts sent output.packets new) → PeerStep config second ev output after
-    → PeerSteps config (world_of first second sent) 2 ev output.reply (world_of first after new)
+second_steps : (config : Config) (first second after : Peer) (sent : List Packet) (ev : Event) (output : Output) (new : List Packet) (posts : Posts sent output.packets new) → PeerStep config no_filters second ev output after
+    → PeerSteps config no_filters (world_of first second sent) 2 ev output.reply (world_of first after new)
 second_steps config first second after sent ev output new posts step = record {
   within = (omega arith, omega arith);
   output = output;
@@ -77,21 +78,34 @@ second_steps config first second after sent ev output new posts step = record {
   changed = ap (λ (xs : List Packet). world_of first after xs) posts.sent;
 }
 
--- a step of the network from a machine that it stands for
-abbrev Goes : List Packet → Config → Machine → WorldEvent → Reply → WorldKept → Type 0
-Goes sent config m ev reply new = (after : Machine) × Step (length sent) m ev reply after × StandsFor new config after
+-- a step of the network from a state for which it stands
+abbrev Goes : List Packet → Config → WorldState → WorldEvent → Reply → WorldKept → Type 0
+Goes sent config network ev reply new =
+    (after : WorldState) × WorldStep config no_tests network ev reply after × Step no_tests (length sent) (machine_of network) ev reply (machine_of after) × StandsFor new config after
 
-goes : (kept new : WorldKept) (config : Config) (m : Machine) (s : StandsFor kept config m) (first second : Peer) (ev : WorldEvent) (reply : Reply) → WritingStandsFor new.writing config first → ReadingStandsFor new.reading config second
-    → WorldStep config (world_of s.first s.second kept.sent) ev reply (world_of first second new.sent) → Goes kept.sent config m ev reply new
-goes kept new config m s first second ev reply writing reading step =
+goes : (kept new : WorldKept) (config : Config) (network : WorldState) (s : StandsFor kept config network) (first second : Peer) (ev : WorldEvent) (reply : Reply) → WritingStandsFor new.writing config first
+    → ReadingStandsFor new.reading config second → WorldStep config no_tests (world_of s.first s.second kept.sent) ev reply (world_of first second new.sent) → Goes kept.sent config network ev reply new
+goes kept new config network s first second ev reply writing reading step =
     let old : WorldState = world_of s.first s.second kept.sent in
     let next : WorldState = world_of first second new.sent in
-    let r : Step (length old.sent) (machine_of old) ev reply (machine_of next) × Sound config next = composes config old next ev reply s.sound step in
-    (machine_of next, subst (λ (x : Machine). Step (length kept.sent) x ev reply (machine_of next)) (sym s.machine) r.0, record { first = first; second = second; writing = writing; reading = reading; sound = r.1; machine = refl })
+    let r = composes config no_tests old next ev reply s.sound step in (
+      next,
+      subst (λ (x : WorldState). WorldStep config no_tests x ev reply next) (sym s.network_is) step,
+      subst (λ (x : WorldState). Step no_tests (length kept.sent) (machine_of x) ev reply (machine_of next)) (sym s.network_is) r.0,
+      record { first = first; second = second; writing = writing; reading = reading; sound = r.2; network_is = refl },
+    )
+
+-- what is delivered is taken up, since claims are true
+pub progresses : (kept new : WorldKept) (ev : WorldEvent) (reply : Reply) → Steps kept ev reply new → MovesOn kept ev reply
+progresses kept new ev reply steps config network s =
+    let t = steps config network s in
+    let old : WorldState = world_of s.first s.second kept.sent in
+    let step : WorldStep config no_tests old ev reply t.0 = subst (λ (x : WorldState). WorldStep config no_tests x ev reply t.0) s.network_is t.1 in
+    subst (λ (x : WorldState). Progresses config kept.sent (machine_of x) ev reply) (sym s.network_is) (composes config no_tests old t.0 ev reply s.sound step).1
 
 -- how an event of a peer of this number is one of the network
 abbrev pub IsEventOf : List Packet → Event → ℕ → WorldEvent → Type 0
-IsEventOf sent ev peer whole = (config : Config) (old new : WorldState) (reply : Reply) → old.sent ≡ sent → PeerSteps config old peer ev reply new → WorldStep config old whole reply new
+IsEventOf sent ev peer whole = (config : Config) (old new : WorldState) (reply : Reply) → old.sent ≡ sent → PeerSteps config no_filters old peer ev reply new → WorldStep config no_tests old whole reply new
 
 pub calls_at : (sent : List Packet) (peer : ℕ) (call : Call) → IsEventOf sent (event.Call call) peer (world.Call peer call)
 calls_at sent peer call config old new reply same step = inl step

@@ -14,7 +14,7 @@ use Rattle.dds_base.specs.declared.mask.Masks.{Masks}
 use Rattle.dds_base.specs.Happening.{same_key, is_unregister}
 use Rattle.dds_base.specs.Kept.{WriterHistory, append_refusal, appended}
 use Rattle.dds_base.specs.Refusal.{Refuses}
-use Rattle.dds_base.specs.Written.{Written, Registered, Changed, changes_of, is_key_registered}
+use Rattle.dds_base.specs.Written.{Written, Registered, Changed, Ticked, changes_of, is_key_registered}
 use Rattle.dds_history.specs.Standing.{Held, StandsFor as HistoryStandsFor}
 use Rattle.rtps_wire.specs.declared.data.DataContent.{DataContent}
 use Rattle.dds_model.specs.declared.call.Call.{Call}
@@ -25,14 +25,22 @@ use Rattle.dds_model.specs.declared.event.Output.{Output}
 use Rattle.dds_model.specs.declared.event.Packet.{Packet}
 use Rattle.dds_model.specs.declared.reply.Reply.{Reply}
 use Rattle.dds_model.specs.declared.reply.Reply.TheVariants.{Done, Refused, Reported}
-use Rattle.dds_model.specs.Part.{Part, Dds, own_writer, history_of}
+use Rattle.dds_base.specs.declared.guid.GuidPrefix.{GuidPrefix}
+use Rattle.rtps_wire.specs.declared.submessage.Submessage.{Submessage}
+use Rattle.dds_model.specs.declared.endpoint.Endpoint.{Endpoint}
+use Rattle.dds_model.specs.declared.reply.Report.{Report}
+use Rattle.dds_model.specs.Part.{Part, Dds, own_writer, history_of, is_behind}
+use Rattle.dds_model.specs.Moves.{Grounds, IsMatched}
+use Rattle.dds_model.specs.Receipt.{prefix_of, TakesUp, Receives}
+use Rattle.dds_model.specs.Machine.{no_filters}
 use Rattle.dds_base.specs.Checked.{is_maximum}
-use Rattle.dds_model.specs.Calls.{unregister_kind, Effect, writes, entered, effect, effect_of, IsDoneUnless, Answers, CallStep, register_refusal, write_refusal, dispose_refusal, unregister_refusal, access_refusal, tick_refusal, has_number}
-use Rattle.dds_model.specs.Claims.{change_in}
-use Rattle.dds_model.specs.Peer.{Peer, PeerStep, IsTrueAt}
+use Rattle.dds_model.specs.Calls.{unregister_kind, Effect, writes, effect, effect_of, ticked, after_tick, IsDoneUnless, Answers, CallStep, register_refusal, write_refusal, dispose_refusal, unregister_refusal, access_refusal, tick_refusal, has_number}
+use Rattle.dds_model.specs.Claims.{Receiver, receiver_of, after_submessage, change_in}
+use Rattle.dds_model.specs.Peer.{Peer, PeerStep, IsTrueAt, claimed}
 use Rattle.dds_world.specs.Making.{IsMade, IsNotMade, Makes}
 use Rattle.dds_world.specs.Registered.{is_among}
-use Rattle.dds_world.specs.Standing.{WritingKept, WritingStandsFor, WritingSteps, WritingSends, SendsFor, SendsNothing, writing_part, thin_writer, IsAnnouncement, AnnouncesChange, content_of}
+use Rattle.dds_world.specs.Standing.{IsHeard, OfMessage, OfOther, OfUnread, WritingKept, WritingStandsFor, WritingSteps, WritingSends, SendsFor, SendsNothing, writing_part, thin_writer, IsAnnouncement, AnnouncesChange, content_of}
+use Rattle.dds_world.proofs.ReadingSteps.{refused_nothing, refused_enters}
 use Rattle.dds_world.proofs.Announced.{announcement_true, change_at-last, content_means}
 
 -- an answer that sends nothing
@@ -44,7 +52,7 @@ silent_sends reply = record { packets = refl; unsent = refl }
 
 -- what follows an event, for a state that stands
 abbrev pub Follows : WritingKept → Config → Peer → Event → Output → Type 0
-Follows kept config peer ev output = (after : Peer) × PeerStep config peer ev output after × WritingStandsFor kept config after
+Follows kept config peer ev output = (after : Peer) × PeerStep config no_filters peer ev output after × WritingStandsFor kept config after
 
 -- what follows, of other names for the same values
 pub follows_as : (a b : WritingKept) (config : Config) (peer : Peer) (ev : Event) (o p : Output) → a ≡ b → o ≡ p → Follows a config peer ev o → Follows b config peer ev p
@@ -52,40 +60,32 @@ follows_as a b config peer ev o p e f h = subst (λ (k : WritingKept). Follows k
 
 -- the answer to a call is that to a change of the writer, which the call makes
 abbrev pub MakesChange : Peer → Call → Option Code → Type 0
-MakesChange peer c refusal = (reply : Reply) (dds : Dds) → IsDoneUnless refusal reply peer.part.dds peer.part.dds dds → Answers peer.part c reply dds
+MakesChange peer c refusal = (reply : Reply) (dds : Dds) → IsDoneUnless refusal reply peer.part.dds peer.part.dds dds → Answers no_filters peer.part c reply dds
 
 -- a call that is refused changes nothing
-pub refused_call : (kept : WritingKept) (config : Config) (peer : Peer) → WritingStandsFor kept config peer → (c : Call) (code : Code) → Answers peer.part c (Refused code) peer.part.dds
+pub refused_call : (kept : WritingKept) (config : Config) (peer : Peer) → WritingStandsFor kept config peer → (c : Call) (code : Code) → Answers no_filters peer.part c (Refused code) peer.part.dds
     → Follows kept config peer (event.Call c) (silent (Refused code))
 refused_call kept config peer s c code is =
-    (peer, record { same_number = refl; step = (record { answers = is; rtps = refl }, refl); sent = λ p x m h. absurd (omega (arith, m.1)) }, s)
+    (peer, record { same_number = refl; step = (record { answers = is; rtps = refused_enters peer.part c code }, refl); sent = λ p x m h. absurd (omega (arith, m.1)) }, s)
 
 -- a state with one more entry
 abbrev pub with_entry : WritingKept → Peer → List Written → Peer
 with_entry kept peer written = record { number = peer.number; part = writing_part kept.autodispose kept.moment written; delivered = peer.delivered }
 
 abbrev pub with_registered : WritingKept → List Key → WritingKept
-with_registered kept registered = record {
-  prefix = kept.prefix;
-  entity = kept.entity;
-  to = kept.to;
-  autodispose = kept.autodispose;
-  moment = kept.moment;
-  registered = registered;
-  history = kept.history;
-}
+with_registered kept registered = record kept { registered = registered }
 
 -- an entry at the writer
-entry_step : (kept : WritingKept) (peer : Peer) (written : List Written) (c : Call) (entry : Written) → peer.part ≡ writing_part kept.autodispose kept.moment written → Answers peer.part c Done peer.part.dds → entered peer.part c ≡ writes 1 entry
-    → CallStep peer.part c Done (writing_part kept.autodispose kept.moment (entry ∷ written))
+entry_step : (kept : WritingKept) (peer : Peer) (written : List Written) (c : Call) (entry : Written) → peer.part ≡ writing_part kept.autodispose kept.moment written → Answers no_filters peer.part c Done peer.part.dds → effect_of peer.part c Done ≡ writes 1 entry
+    → CallStep no_filters peer.part c Done (writing_part kept.autodispose kept.moment (entry ∷ written))
 entry_step kept peer written c entry part answers enters = record {
-  answers = subst (λ (d : Dds). Answers peer.part c Done d) (ap (λ (p : Part). p.dds) part) answers;
+  answers = subst (λ (d : Dds). Answers no_filters peer.part c Done d) (ap (λ (p : Part). p.dds) part) answers;
   rtps = sym (ap (λ (e : Effect). effect peer.part.rtps e) enters ∙ ap (λ (p : Part). effect p.rtps (writes 1 entry)) part);
 }
 
 -- a call that makes a change
 pub made_call : (kept new : WritingKept) (config : Config) (peer : Peer) (s : WritingStandsFor kept config peer) (c : Call) (change : Change) (output : Output)
-    → MakesChange peer c (append_refusal (history_of (thin_writer kept.autodispose s.written)) change) → entered peer.part c ≡ writes 1 (Changed change) → change_in (content_of change) kept.moment ≡ change
+    → MakesChange peer c (append_refusal (history_of (thin_writer kept.autodispose s.written)) change) → effect_of peer.part c Done ≡ writes 1 (Changed change) → change_in (content_of change) kept.moment ≡ change
     → IsMade kept s.written change output new ⊎ IsNotMade kept s.written change output new → Follows new config peer (event.Call c) output
 made_call kept new config peer s c change output answers enters means (inr not_made) =
     follows_as kept new config peer (event.Call c) (silent (Refused not_made.code)) output (sym not_made.after) (sym not_made.output_is)
@@ -93,7 +93,7 @@ made_call kept new config peer s c change output answers enters means (inr not_m
 made_call kept new config peer s c change output answers enters means (inl made) =
     let written : List Written = Changed change ∷ s.written in
     let after : Peer = with_entry kept peer written in
-    let step : CallStep peer.part c Done after.part = entry_step kept peer s.written c (Changed change) s.part (answers Done peer.part.dds (made.accepted, refl)) enters in
+    let step : CallStep no_filters peer.part c Done after.part = entry_step kept peer s.written c (Changed change) s.part (answers Done peer.part.dds (made.accepted, refl)) enters in
     let stands : WritingStandsFor (record { prefix = kept.prefix; entity = kept.entity; to = kept.to; autodispose = kept.autodispose; moment = kept.moment; registered = new.registered; history = new.history }) config after = record {
       first = s.first;
       second = s.second;
@@ -114,7 +114,7 @@ made_call kept new config peer s c change output answers enters means (inl made)
       after,
       record {
         same_number = refl;
-        step = (subst (λ (r : Reply). CallStep peer.part c r after.part) (sym made.reply) step, refl);
+        step = (subst (λ (r : Reply). CallStep no_filters peer.part c r after.part) (sym made.reply) step, refl);
         sent = λ packet claim m h.
             subst (λ (n : ℕ). IsTrueAt n after.part claim) (sym s.number)
             (announcement_true kept config peer s written (length (changes_of s.written) + 1) (content_of change) packet claim (made.each packet m) last h);
@@ -123,10 +123,11 @@ made_call kept new config peer s c change output answers enters means (inl made)
     )
 
 -- what is sent for it
-pub made_sends : (kept new : WritingKept) (config : Config) (peer : Peer) (s : WritingStandsFor kept config peer) (c : Call) (change : Change) (output : Output) → entered peer.part c ≡ writes 1 (Changed change)
+pub made_sends : (kept new : WritingKept) (config : Config) (peer : Peer) (s : WritingStandsFor kept config peer) (c : Call) (change : Change) (output : Output) → effect_of peer.part c Done ≡ writes 1 (Changed change)
     → change_in (content_of change) kept.moment ≡ change → IsMade kept s.written change output new ⊎ IsNotMade kept s.written change output new → SendsFor kept peer (effect_of peer.part c output.reply) output
 made_sends kept new config peer s c change output enters means (inr not_made) =
-    subst (λ (o : Output). SendsFor kept peer (effect_of peer.part c o.reply) o) (sym not_made.output_is) (silent_sends (Refused not_made.code))
+    subst (λ (o : Output). SendsFor kept peer (effect_of peer.part c o.reply) o) (sym not_made.output_is)
+    (subst (λ (e : Effect). SendsFor kept peer e (silent (Refused not_made.code))) (sym (refused_nothing peer.part c not_made.code)) (silent_sends (Refused not_made.code)))
 made_sends kept new config peer s c change output enters means (inl made) =
     subst (λ (r : Reply). SendsFor kept peer (effect_of peer.part c r) output) (sym made.reply)
     (subst (λ (e : Effect). SendsFor kept peer e output) (sym enters) (record {
@@ -168,27 +169,57 @@ nothing_taken kept reader max masks config peer s =
     let is : Refuses (access_refusal peer.part reader max) BadParameter = subst (λ (b : Bool). Refuses (if not b || not (is_maximum max) then Some BadParameter else None) BadParameter) (sym none) refl in
     refused_call kept config peer s (call.Take reader max masks) BadParameter (is, refl)
 
-pub nothing_delivered : (kept : WritingKept) (packet : List ℕ) → WritingSteps kept (event.Deliver packet) (silent (Reported (record { moves = []; refused = None }))) kept
-nothing_delivered kept packet config peer s = (
-  record { number = peer.number; part = peer.part; delivered = record { packet = packet; report = record { moves = []; refused = None } } ∷ peer.delivered },
-  record { same_number = refl; step = (refl, refl); sent = λ p c m h. absurd (omega (arith, m.1)) },
-  record {
-    first = s.first;
-    second = s.second;
-    writer = s.writer;
-    reader = s.reader;
-    pair = s.pair;
-    prefix = s.prefix;
-    entity = s.entity;
-    to = s.to;
-    number = s.number;
-    written = s.written;
-    part = s.part;
-    early = s.early;
-    registered = s.registered;
-    history = s.history;
-  },
-)
+-- a peer that writes has no reader, so a message moves nothing there
+no_reader_at : (kept : WritingKept) (written : List Written) (w : Endpoint) (k p n : ℕ) → IsMatched (writing_part kept.autodispose kept.moment written) w k p n → ⊥
+no_reader_at kept written w zero p n h = let at = h.at in cc
+no_reader_at kept written w (suc k) p n h = let at = h.at in cc
+
+passes_all : (config : Config) (gs : ℕ → Grounds) (own : GuidPrefix) (index : ℕ) (at : Receiver) (ss : List Submessage) (kept : WritingKept) (written : List Written)
+    → TakesUp config gs 1 own index at ss (writing_part kept.autodispose kept.moment written) [] None (writing_part kept.autodispose kept.moment written)
+passes_all config gs own index at [] kept written = (refl, refl, refl)
+passes_all config gs own index at (s ∷ ss) kept written =
+    inr ([], [], writing_part kept.autodispose kept.moment written, refl, refl, (λ w r p n change says here matched least most. absurd (no_reader_at kept written w r.number p n matched)),
+      passes_all config gs own (index + 1) (after_submessage own at s) ss kept written)
+
+receives_so : (kept : WritingKept) (config : Config) (peer : Peer) (s : WritingStandsFor kept config peer) (packet : List ℕ) (report : Report) → IsHeard packet report
+    → (gs : ℕ → Grounds) → Receives config gs 1 packet (writing_part kept.autodispose kept.moment s.written) report (writing_part kept.autodispose kept.moment s.written)
+receives_so kept config peer s packet report (OfMessage message offset reads is) gs =
+    let part : Part = writing_part kept.autodispose kept.moment s.written in
+    subst (λ (r : Report). Receives config gs 1 packet part r part) (sym is)
+    (inl (record { message = message; offset = offset; is_read = reads; taken = passes_all config gs (prefix_of config 1) 0 (receiver_of message.prefix) message.submessages kept s.written }))
+receives_so kept config peer s packet report (OfOther none is) gs =
+    let part : Part = writing_part kept.autodispose kept.moment s.written in
+    subst (λ (r : Report). Receives config gs 1 packet part r part) (sym is) (inr (record { moves = refl; after = refl; cause = inl (refl, none) }))
+receives_so kept config peer s packet report (OfUnread has is) gs =
+    let part : Part = writing_part kept.autodispose kept.moment s.written in
+    subst (λ (r : Report). Receives config gs 1 packet part r part) (sym is) (inr (record { moves = refl; after = refl; cause = inr (refl, has) }))
+
+pub nothing_delivered : (kept : WritingKept) (packet : List ℕ) (report : Report) → IsHeard packet report → WritingSteps kept (event.Deliver packet) (silent (Reported report)) kept
+nothing_delivered kept packet report is config peer s =
+    let gs : ℕ → Grounds = claimed config peer.delivered packet 1 in
+    let there : Receives config gs 1 packet peer.part report peer.part =
+    subst (λ (q : Part). Receives config gs 1 packet q report q) (sym s.part) (receives_so kept config peer s packet report is gs) in
+    let legal : Receives config (claimed config peer.delivered packet peer.number) peer.number packet peer.part report peer.part =
+    subst (λ (n : ℕ). Receives config (claimed config peer.delivered packet n) n packet peer.part report peer.part) (sym s.number) there in (
+      record { number = peer.number; part = peer.part; delivered = record { packet = packet; report = report } ∷ peer.delivered },
+      record { same_number = refl; step = (legal, refl); sent = λ p c m h. absurd (omega (arith, m.1)) },
+      record {
+        first = s.first;
+        second = s.second;
+        writer = s.writer;
+        reader = s.reader;
+        pair = s.pair;
+        prefix = s.prefix;
+        entity = s.entity;
+        to = s.to;
+        number = s.number;
+        written = s.written;
+        part = s.part;
+        early = s.early;
+        registered = s.registered;
+        history = s.history;
+      },
+    )
 
 -- which calls name no writer
 
@@ -273,15 +304,7 @@ pub refused_so : (kept new : WritingKept) (change : Change) (code : Code) (outpu
 refused_so kept new change code output cause is same config peer s = inr (record { code = code; cause = cause (history_of (thin_writer kept.autodispose s.written)) s.history; output_is = is; after = same })
 
 abbrev pub with_made : WritingKept → List Key → Held → WritingKept
-with_made kept registered history = record {
-  prefix = kept.prefix;
-  entity = kept.entity;
-  to = kept.to;
-  autodispose = kept.autodispose;
-  moment = kept.moment;
-  registered = registered;
-  history = history;
-}
+with_made kept registered history = record kept { registered = registered; history = history }
 
 -- a packet that announces the copy of a change announces the change
 announces_copy : (kept : WritingKept) (registered : List Key) (held : Held) (number n : ℕ) (copy : Result DataContent AllocError) (content : DataContent) (packet : Packet) → number ≡ n → IfOk copy (λ c. c ≡ content)
@@ -315,8 +338,8 @@ registers kept config peer s writer key keys one more =
     let written : List Written = Registered key ∷ s.written in
     let after : Peer = with_entry kept peer written in
     let good : register_refusal peer.part writer ≡ None = ap (λ (p : Part). register_refusal p writer) s.part ∙ ap (λ (n : ℕ). register_refusal (writing_part kept.autodispose kept.moment s.written) n) one in
-    let enters : entered peer.part (call.Register writer key) ≡ writes 1 (Registered key) = ap (λ (n : ℕ). writes n (Registered key)) one in
-    let step : CallStep peer.part (call.Register writer key) Done after.part = entry_step kept peer s.written (call.Register writer key) (Registered key) s.part (good, refl) enters in (
+    let enters : effect_of peer.part (call.Register writer key) Done ≡ writes 1 (Registered key) = ap (λ (n : ℕ). writes n (Registered key)) one in
+    let step : CallStep no_filters peer.part (call.Register writer key) Done after.part = entry_step kept peer s.written (call.Register writer key) (Registered key) s.part (good, refl) enters in (
       after,
       record { same_number = refl; step = (step, refl); sent = λ p c m h. absurd (omega (arith, m.1)) },
       record {
@@ -345,26 +368,19 @@ no_room kept config peer s writer key one =
 -- a tick
 
 abbrev pub at_moment : WritingKept → ℕ → WritingKept
-at_moment kept now = record {
-  prefix = kept.prefix;
-  entity = kept.entity;
-  to = kept.to;
-  autodispose = kept.autodispose;
-  moment = now;
-  registered = kept.registered;
-  history = kept.history;
-}
+at_moment kept now = record kept { moment = now }
 
 pub ticks : (kept : WritingKept) (config : Config) (peer : Peer) (s : WritingStandsFor kept config peer) (now : ℕ) → (nat_lt now kept.moment || nat_le (2 ^ 63) now) ≡ false → Follows (at_moment kept now) config peer (event.Tick now) (silent Done)
 ticks kept config peer s now good =
     let accepted : tick_refusal peer.part now ≡ None =
     ap (λ (p : Part). tick_refusal p now) s.part ∙ ap (λ (b : Bool). if b then Some BadParameter else None) good in
-    let after : Peer = record { number = peer.number; part = writing_part kept.autodispose now s.written; delivered = peer.delivered } in
+    let written : List Written = Ticked now (is_behind (thin_writer kept.autodispose s.written)) ∷ s.written in
+    let after : Peer = record { number = peer.number; part = writing_part kept.autodispose now written; delivered = peer.delivered } in
     let early : now < 2 ^ 63 = below (nat_lt now kept.moment) now good in (
       after,
       record {
         same_number = refl;
-        step = ((accepted, sym (ap (λ (p : Part). let q : Part = record { rtps = p.rtps; dds = record { moment = now; readers = p.dds.readers } } in q) s.part)), refl);
+        step = ((accepted, sym (ap (λ (p : Part). after_tick p now) s.part)), refl);
         sent = λ p c m h. absurd (omega (arith, m.1));
       },
       record {
@@ -377,7 +393,7 @@ ticks kept config peer s now good =
         entity = s.entity;
         to = s.to;
         number = s.number;
-        written = s.written;
+        written = written;
         part = refl;
         early = early;
         registered = s.registered;
@@ -403,19 +419,19 @@ pub made_as : (a b : ChangeKind) (key : Key) (v w : List ℕ) (s t : ℕ) → a 
 made_as a b key v w s t e f g = cc
 
 write_enters : (kept : WritingKept) (config : Config) (peer : Peer) (s : WritingStandsFor kept config peer) (writer : ℕ) (key : Key) (value : List ℕ) → writer ≡ 1
-    → entered peer.part (call.Write writer key value) ≡ writes 1 (Changed (made_by kind.Write key value kept.moment))
+    → effect_of peer.part (call.Write writer key value) Done ≡ writes 1 (Changed (made_by kind.Write key value kept.moment))
 write_enters kept config peer s writer key value one =
-    ap (λ (p : Part). entered p (call.Write writer key value)) s.part ∙ ap (λ (n : ℕ). writes n (Changed (made_by kind.Write key value kept.moment))) one
+    ap (λ (p : Part). effect_of p (call.Write writer key value) Done) s.part ∙ ap (λ (n : ℕ). writes n (Changed (made_by kind.Write key value kept.moment))) one
 
 dispose_enters : (kept : WritingKept) (config : Config) (peer : Peer) (s : WritingStandsFor kept config peer) (writer : ℕ) (key : Key) → writer ≡ 1
-    → entered peer.part (call.Dispose writer key) ≡ writes 1 (Changed (made_by kind.Dispose key [] kept.moment))
+    → effect_of peer.part (call.Dispose writer key) Done ≡ writes 1 (Changed (made_by kind.Dispose key [] kept.moment))
 dispose_enters kept config peer s writer key one =
-    ap (λ (p : Part). entered p (call.Dispose writer key)) s.part ∙ ap (λ (n : ℕ). writes n (Changed (made_by kind.Dispose key [] kept.moment))) one
+    ap (λ (p : Part). effect_of p (call.Dispose writer key) Done) s.part ∙ ap (λ (n : ℕ). writes n (Changed (made_by kind.Dispose key [] kept.moment))) one
 
 unregister_enters : (kept : WritingKept) (config : Config) (peer : Peer) (s : WritingStandsFor kept config peer) (writer : ℕ) (key : Key) → writer ≡ 1
-    → entered peer.part (call.Unregister writer key) ≡ writes 1 (Changed (made_by (unregister_kind kept.autodispose) key [] kept.moment))
+    → effect_of peer.part (call.Unregister writer key) Done ≡ writes 1 (Changed (made_by (unregister_kind kept.autodispose) key [] kept.moment))
 unregister_enters kept config peer s writer key one =
-    ap (λ (p : Part). entered p (call.Unregister writer key)) s.part ∙ ap (λ (n : ℕ). entered (writing_part kept.autodispose kept.moment s.written) (call.Unregister n key)) one
+    ap (λ (p : Part). effect_of p (call.Unregister writer key) Done) s.part ∙ ap (λ (n : ℕ). effect_of (writing_part kept.autodispose kept.moment s.written) (call.Unregister n key) Done) one
 
 pub write_steps : (kept new : WritingKept) (writer : ℕ) (key : Key) (value : List ℕ) (change : Change) (output : Output) → writer ≡ 1 → length value ≤ 1024 → change ≡ made_by kind.Write key value kept.moment → Makes kept change output new
     → WritingSteps kept (event.Call (call.Write writer key value)) output new
@@ -452,8 +468,3 @@ pub unregister_sends : (kept new : WritingKept) (writer : ℕ) (key : Key) (chan
 unregister_sends kept new writer key change output one is makes config peer s =
     made_sends kept new config peer s (call.Unregister writer key) (made_by (unregister_kind kept.autodispose) key [] kept.moment) output (unregister_enters kept config peer s writer key one) (content_means kept.autodispose key kept.moment)
     (subst (λ (c : Change). Makes kept c output new) is makes config peer s)
-
--- a test that fails
-pub not_true : (a b : Bool) → a ≡ not b → a ≡ true → b ≡ false
-not_true a true e t = cc
-not_true a false e t = refl

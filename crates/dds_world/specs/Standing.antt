@@ -25,11 +25,13 @@ use Rattle.rtps_wire.specs.declared.submessage.Submessage.TheVariants.{InfoDst, 
 use Rattle.dds_model.specs.declared.event.Event.{Event}
 use Rattle.dds_model.specs.declared.event.Output.{Output}
 use Rattle.dds_model.specs.declared.event.Packet.{Packet}
-use Rattle.rtps_wire.specs.Messages.{IsWritable, spelling_of}
+use Rattle.rtps_wire.specs.Messages.{ReadsMessage, HasSubmessage, IsWritable, spelling_of}
+use Rattle.dds_model.specs.declared.reply.Report.{Report}
 use Rattle.dds_model.specs.declared.event.Event.TheVariants as event
 use Rattle.dds_model.specs.declared.reply.Reply.{Reply}
 use Rattle.dds_model.specs.Part.{Part, Writer, own_writer, writer_changes, history_of}
 use Rattle.dds_model.specs.Calls.{Effect, writes, effect_of}
+use Rattle.dds_model.specs.Machine.{no_filters}
 use Rattle.dds_model.specs.Claims.{change_in}
 use Rattle.dds_model.specs.Peer.{Peer, PeerStep}
 use Rattle.dds_world.specs.Registered.{is_among}
@@ -75,7 +77,7 @@ writing_part autodispose moment written = record { rtps = record { writers = thi
 -- the part of a peer with one reader, which is at this place, and at which this happened
 abbrev pub reading_part : ReaderQos → ℕ → ℕ → List Happening → Part
 reading_part qos moment place happened = record {
-  rtps = record { writers = []; readers = (record { writer = record { peer = 1; number = 1 }; place = place } ∷ []) ∷ [] };
+  rtps = record { writers = []; readers = (record { writer = record { peer = 1; number = 1 }; place = place; heard = None } ∷ []) ∷ [] };
   dds = record { moment = moment; readers = record { qos = qos; happened = happened } ∷ [] };
 }
 
@@ -147,10 +149,16 @@ AnnouncesChange kept number (Err e) packet = ⊥
 
 -- for each state that the old values stand for, the event is a step to one that the new values stand for
 abbrev pub WritingSteps : WritingKept → Event → Output → WritingKept → Type 0
-WritingSteps old event output new = (config : Config) (peer : Peer) → WritingStandsFor old config peer → (after : Peer) × PeerStep config peer event output after × WritingStandsFor new config after
+WritingSteps old event output new = (config : Config) (peer : Peer) → WritingStandsFor old config peer → (after : Peer) × PeerStep config no_filters peer event output after × WritingStandsFor new config after
 
 abbrev pub ReadingSteps : ReadingKept → Event → Output → ReadingKept → Type 0
-ReadingSteps old event output new = (config : Config) (peer : Peer) → ReadingStandsFor old config peer → (after : Peer) × PeerStep config peer event output after × ReadingStandsFor new config after
+ReadingSteps old event output new = (config : Config) (peer : Peer) → ReadingStandsFor old config peer → (after : Peer) × PeerStep config no_filters peer event output after × ReadingStandsFor new config after
+
+-- what a peer without readers reports of a packet: nothing, or that there was no memory to read it
+pub data IsHeard (bytes : List ℕ) (report : Report) : Type 0 where
+  OfMessage : (message : Message) (offset : ℕ) → ReadsMessage bytes message offset → report ≡ record { moves = []; refused = None } → IsHeard bytes report
+  OfOther : ((message : Message) (offset : ℕ) → ReadsMessage bytes message offset → ⊥) → report ≡ record { moves = []; refused = None } → IsHeard bytes report
+  OfUnread : HasSubmessage bytes → report ≡ record { moves = []; refused = Some 0 } → IsHeard bytes report
 
 -- nothing is sent, and nothing found no memory
 pub record SendsNothing (output : Output) : Type 0 where

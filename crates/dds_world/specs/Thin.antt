@@ -10,7 +10,7 @@ use Rattle.dds_base.specs.declared.qos.OwnershipQos.TheVariants.{Shared}
 use Rattle.dds_base.specs.declared.qos.ReaderQos.{ReaderQos}
 use Rattle.dds_base.specs.Checked.{unknown_prefix}
 
--- two peers of different prefixes, of which the first has this writer and the second this reader
+-- two peers of different prefixes, of which the first has this writer and the second this reader, of one topic
 pub record IsPair (config : Config) (first second : PeerConfig) (writer : WriterConfig) (reader : ReaderConfig) : Type 0 where
   pub peers : config.peers ≡ first ∷ second ∷ []
   pub writers : first.writers ≡ writer ∷ []
@@ -18,6 +18,7 @@ pub record IsPair (config : Config) (first second : PeerConfig) (writer : Writer
   pub no_writers : second.writers ≡ []
   pub readers : second.readers ≡ reader ∷ []
   pub different : first.prefix ≢ second.prefix
+  pub topic : reader.topic ≡ writer.topic
 
 -- a shared writer that keeps all, without a limit or a lease; its entity kind is 0x02
 pub record IsThinWriter (w : WriterConfig) : Type 0 where
@@ -36,14 +37,13 @@ pub record IsThinReader (r : ReaderConfig) : Type 0 where
   pub max_instances : r.max_instances ≡ negsuc 0
   pub lease : r.lease ≡ None
 
--- such a pair, of which each has a prefix, and whose ends are of one topic
+-- such a pair, of which each has a prefix
 pub record IsThinPair (config : Config) (first second : PeerConfig) (writer : WriterConfig) (reader : ReaderConfig) : Type 0 where
   pub pair : IsPair config first second writer reader
   pub first_named : first.prefix ≢ unknown_prefix
   pub second_named : second.prefix ≢ unknown_prefix
   pub writer_is : IsThinWriter writer
   pub reader_is : IsThinReader reader
-  pub topic : reader.topic ≡ writer.topic
 
 -- a configuration that a network takes
 abbrev pub IsThin : Config → Type 0

@@ -1,7 +1,6 @@
 //! Answers that send nothing.
 
-ghost use Rattle.std.specs.Prelude.{◌≡◌, [], None};
-ghost use Rattle.dds_model.specs.declared.reply.Reply.TheVariants.{Reported};
+ghost use Rattle.std.specs.Prelude.{◌≡◌, []};
 
 use dds_base::Sequence;
 use dds_model::{Output, Reply, Report};
@@ -18,12 +17,12 @@ pub fn answered(alloc: Global, reply: Reply) -> Output
     }
 }
 
-/// The report of a delivery that moved nothing.
-pub fn nothing_moved(alloc: Global) -> Reply
-    ensures { result ≡ Reported (record { moves = []; refused = None }) }
+/// A report of no move.
+pub fn unmoved(alloc: Global, refused: Option<u32>) -> Report
+    ensures { result ≡ record { moves = []; refused = refused } }
 {
-    Reply::Reported(Report {
+    Report {
         moves: Sequence::from_vec(Vec::new(alloc)),
-        refused: None,
-    })
+        refused,
+    }
 }

@@ -1,20 +1,22 @@
 //! A peer that reads.
 
-ghost use Rattle.std.specs.Prelude.{◌≡◌, ◌↔◌, ℕ, ◌+◌, ◌-◌, ◌^◌, ◌<◌, List, [], ◌∷◌, IfSome, IfNone, IfOk, OnOk, OnErr, IsTrue, MatchOption, true, false, Some};
-ghost use Rattle.rtps_wire.specs.declared.data.Data.{Data};
+ghost use Rattle.std.specs.Prelude.{◌≡◌, ◌↔◌, ℕ, ◌+◌, ◌-◌, ◌^◌, ◌<◌, ◌≤◌, ◌++◌, List, [], ◌∷◌, length, IfSome, IfNone, IfOk, OnOk, OnErr, IsTrue, MatchOption, true, false, Some};
 ghost use Rattle.dds_model.specs.declared.call.Call.TheVariants as call;
 ghost use Rattle.dds_model.specs.declared.event.Event.TheVariants as event;
 ghost use Rattle.dds_base.specs.Checked.{is_maximum};
 ghost use Rattle.dds_model.specs.Calls.{limit_of};
 ghost use Rattle.dds_model.specs.Claims.{change_in};
-ghost use Rattle.dds_world.specs.Receiving.{receiver_at, IsNext, StandsNext, HasNoNext, Advances, AdvancesOn, ReplyAdvances, BringsNext, ReadingMoves, place_moves, access_reply};
+ghost use Rattle.dds_world.specs.Receiving.{receiver_at, IsNext, IsFull, IsToCome, IsNotToCome, Comes, TakesOneMore, TakesMessage, ReadingReceives, place_moves, access_reply};
 ghost use Rattle.dds_base.specs.Ownership.{IsMatched};
+ghost use Rattle.rtps_wire.specs.declared.data.Data.{Data};
 ghost use Rattle.dds_world.specs.Begun.{HasReadNothing};
 ghost use Rattle.dds_world.specs.Standing.{ReadingSteps, SendsNothing};
 
-use crate::answer::answered;
+use crate::answer::{answered, unmoved};
 use crate::clock::goes_on;
-use crate::receiver::{MessageReceiver, is_entity, is_prefix, receiver_after, receiver_for};
+use crate::receiver::{
+    MessageReceiver, is_entity, is_for, is_prefix, receiver_after, receiver_for,
+};
 use dds_base::{
     Arrival, Change, ChangeKind, Code, EntityId, Guid, GuidPrefix, Handle, Masks, Moment, Octets,
     ReaderQos, Sample, Sequence, Sn,
@@ -137,39 +139,42 @@ impl ReadingPeer {
         ensures { IsTrue result ↔ IsNext self.now (receiver_at receiver.now) body.now }
     {
         is_prefix(&receiver.source, &self.writer_prefix)
-            && (is_prefix(&receiver.dest, &self.prefix)
-                || is_prefix(&receiver.dest, &GuidPrefix::UNKNOWN))
+            && is_for(receiver, &self.prefix)
             && is_entity(&body.writer_id, &self.writer_entity)
             && (is_entity(&body.reader_id, &self.entity)
                 || is_entity(&body.reader_id, &EntityId::UNKNOWN))
             && body.writer_sn.number() == self.place
     }
 
-    /// The first DATA of a message with the next change: its index, when it was made, and itself.
-    fn next_in<'a>(&self, message: &'a Message) -> Option<(u32, u64, &'a Data)>
-        ensures found { IfSome result (λ found. StandsNext self.now message.now found.1 found.2.now) }
-        ensures none { IfNone result (HasNoNext self.now message.now) }
+    /// Whether no more changes have room.
+    fn is_full(&self) -> bool
+        ensures { IsTrue result ↔ IsFull self.now }
     {
-        let mut receiver = receiver_for(message.prefix);
-        for (index, submessage) in message.submessages.as_slice().iter().enumerate() {
-            if let Submessage::Data(body) = submessage
-                && self.is_next(&receiver, body)
-            {
-                let index = index.min(u32::MAX as usize) as u32;
-                return Some((index, receiver.timestamp, body));
-            }
-            receiver = receiver_after(receiver, submessage);
+        MAX_ARRIVALS <= self.arrivals || self.place == u64::MAX
+    }
+
+    /// The DATA that a submessage is, if it has the next change, and if there is room.
+    fn next_of<'a>(
+        &self,
+        receiver: &MessageReceiver,
+        submessage: &'a Submessage,
+    ) -> Option<&'a Data>
+        ensures found { IfSome result (λ body. IsToCome self.now (receiver_at receiver.now) submessage.now body.now) }
+        ensures none { IfNone result (IsNotToCome self.now (receiver_at receiver.now) submessage.now) }
+    {
+        match submessage {
+            Submessage::Data(body) if self.is_next(receiver, body) && !self.is_full() => Some(body),
+            _ => None,
         }
-        None
     }
 
     /// The next change comes.
     fn come(&mut self, change: Change) -> Result<(), Code>
         requires room { self.old.arrivals < 2 ^ 31 - 2 }
         requires place { self.old.place < 2 ^ 64 - 1 }
-        ensures ok { OnOk result ((bytes : List ℕ) (timestamp : ℕ) (body : Data) → BringsNext self.old bytes timestamp body
-            → change ≡ change_in body.content timestamp → ReadingMoves self.old bytes (place_moves (self.old.place + 1) ∷ []) self.new) }
+        ensures ok { OnOk result ((timestamp : ℕ) (body : Data) → change ≡ change_in body.content timestamp → Comes self.old timestamp body self.new) }
         ensures err { OnErr result (self.new ≡ self.old) }
+        ensures prefix { self.new.prefix ≡ self.old.prefix }
     {
         self.cache.come(Arrival {
             writer: Handle::new(1),
@@ -182,38 +187,60 @@ impl ReadingPeer {
         Ok(())
     }
 
-    /// Takes up the change of a DATA, the next one.
-    fn take_up(&mut self, index: u32, timestamp: u64, body: &Data) -> Report
-        ensures moves { (bytes : List ℕ) → BringsNext self.old bytes timestamp body.now → ReadingMoves self.old bytes result.moves self.new }
-        ensures advances { Advances self.old result }
+    /// Takes up a submessage: the change of a DATA comes if it is the next one and there is room. Adds what moved.
+    fn take_up(
+        &mut self,
+        moves: &mut Vec<Move>,
+        receiver: &MessageReceiver,
+        submessage: &Submessage,
+    ) -> Result<(), Code>
+        ensures ok { OnOk result (TakesOneMore self.old (receiver_at receiver.now) submessage.now moves.old.items self.new moves.new.items) }
+        ensures err { OnErr result ((self.new ≡ self.old) × (moves.new.items ≡ moves.old.items)) }
+        ensures prefix { self.new.prefix ≡ self.old.prefix }
     {
-        let Ok(change) = change_from(self.alloc, &body.content, timestamp) else {
-            return unmoved(self.alloc, Some(index));
+        let Some(body) = self.next_of(receiver, submessage) else {
+            return Ok(());
         };
-        if MAX_ARRIVALS <= self.arrivals || self.place == u64::MAX {
-            return unmoved(self.alloc, None);
+        moves.reserve(1)?;
+        let change = change_from(self.alloc, &body.content, receiver.timestamp)?;
+        let moved = place_moved(self.alloc, self.place + 1);
+        self.come(change)?;
+        if moves.push(moved).is_err() {
+            unreachable!();
         }
-        let Ok(moves) = place_moved(self.alloc, self.place + 1) else {
-            return unmoved(self.alloc, Some(index));
-        };
-        if let Err(_) = self.come(change) {
-            return unmoved(self.alloc, Some(index));
+        Ok(())
+    }
+
+    /// Takes up the submessages of a message, up to one for which there is no memory.
+    fn take_message(&mut self, message: &Message) -> Report
+        requires few { length message.now.submessages ≤ 65535 }
+        ensures { TakesMessage self.old message.now result self.new }
+    {
+        let mut moves = Vec::new(self.alloc);
+        let mut receiver = receiver_for(message.prefix);
+        for (index, submessage) in message.submessages.as_slice().iter().enumerate() {
+            match self.take_up(&mut moves, &receiver, submessage) {
+                Ok(()) => receiver = receiver_after(&self.prefix, receiver, submessage),
+                Err(_) => {
+                    return Report {
+                        moves: Sequence::from_vec(moves),
+                        refused: Some(index as u32),
+                    };
+                }
+            }
         }
         Report {
-            moves,
+            moves: Sequence::from_vec(moves),
             refused: None,
         }
     }
 
+    /// What is done with the bytes of a packet.
     fn receive(&mut self, packet: &Octets) -> Report
-        ensures moves { ReadingMoves self.old packet.now result.moves self.new }
-        ensures advances { AdvancesOn self.old packet.now result }
+        ensures { ReadingReceives self.old packet.now result self.new }
     {
         match read_message(self.alloc, packet.as_slice()) {
-            Ok(Some(read)) => match self.next_in(&read.message) {
-                Some((index, timestamp, body)) => self.take_up(index, timestamp, body),
-                None => unmoved(self.alloc, None),
-            },
+            Ok(Some(read)) => self.take_message(&read.message),
             Ok(None) => unmoved(self.alloc, None),
             Err(_) => unmoved(self.alloc, Some(0)),
         }
@@ -222,7 +249,6 @@ impl ReadingPeer {
     /// The bytes of a packet come.
     pub fn deliver(&mut self, packet: &Octets) -> Output
         ensures step { ReadingSteps self.old (event.Deliver packet.now) result self.new }
-        ensures advances { ReplyAdvances self.old packet.now result.reply }
         ensures sends { SendsNothing result }
     {
         let report = self.receive(packet);
@@ -277,28 +303,16 @@ impl ReadingPeer {
     }
 }
 
-/// A report of no move.
-fn unmoved(alloc: Global, refused: Option<u32>) -> Report
-    ensures { result ≡ record { moves = []; refused = refused } }
-{
-    Report {
-        moves: Sequence::from_vec(Vec::new(alloc)),
-        refused,
-    }
-}
-
 /// The move of the reader's place to this number.
-fn place_moved(alloc: Global, to: u64) -> Result<Sequence<Move>, AllocError>
-    ensures { IfOk result (λ moves. moves ≡ place_moves to ∷ []) }
+fn place_moved(alloc: Global, to: u64) -> Move
+    ensures { result ≡ place_moves to }
 {
-    let passed = Sequence::from_vec(Vec::new(alloc));
-    let moved = Move::Place {
+    Move::Place {
         writer: WRITER,
         reader: READER,
         to: Sn::new(to),
-        passed,
-    };
-    Ok(Sequence::from_vec(vec![in alloc; moved]?))
+        passed: Sequence::from_vec(Vec::new(alloc)),
+    }
 }
 
 fn reply_to_access(samples: Result<Sequence<Sample>, Code>) -> Reply

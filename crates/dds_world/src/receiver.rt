@@ -1,7 +1,7 @@
 //! Whom the rest of a message is for, and when its changes were made.
 
 ghost use Rattle.std.specs.Prelude.{◌≡◌, ◌↔◌, IsTrue};
-ghost use Rattle.dds_model.specs.Claims.{receiver_of, after_submessage};
+ghost use Rattle.dds_model.specs.Claims.{receiver_of, is_for, stamp_of, after_submessage};
 ghost use Rattle.dds_world.specs.Receiving.{receiver_at};
 
 use crate::clock::NO_MOMENT;
@@ -30,30 +30,39 @@ pub fn receiver_for(prefix: GuidPrefix) -> MessageReceiver
     }
 }
 
-/// The receiver after a submessage.
-pub fn receiver_after(receiver: MessageReceiver, submessage: &Submessage) -> MessageReceiver
-    ensures { receiver_at result ≡ after_submessage (receiver_at receiver) submessage.now }
+/// Whether this part of the message is for the peer of this prefix.
+pub fn is_for(receiver: &MessageReceiver, own: &GuidPrefix) -> bool
+    ensures { result ≡ is_for (receiver_at receiver.now) own.now }
 {
-    let MessageReceiver {
-        source,
-        dest,
-        timestamp,
-    } = receiver;
+    receiver.dest == *own || receiver.dest == GuidPrefix::UNKNOWN
+}
+
+/// The moment that an INFO_TS gives: 0 where it gives none.
+fn moment_of(stamp: Option<u64>) -> u64
+    ensures { result ≡ stamp_of stamp }
+{
+    match stamp {
+        Some(moment) if moment < NO_MOMENT => moment,
+        _ => 0,
+    }
+}
+
+/// The receiver after a submessage, at the peer of this prefix: a part for another peer sets no moment.
+pub fn receiver_after(
+    own: &GuidPrefix,
+    receiver: MessageReceiver,
+    submessage: &Submessage,
+) -> MessageReceiver
+    ensures { receiver_at result ≡ after_submessage own.now (receiver_at receiver) submessage.now }
+{
     match submessage {
         Submessage::InfoDst(prefix) => MessageReceiver {
-            source,
             dest: *prefix,
-            timestamp,
+            ..receiver
         },
-        Submessage::InfoTs(Some(moment)) if *moment < NO_MOMENT => MessageReceiver {
-            source,
-            dest,
-            timestamp: *moment,
-        },
-        Submessage::InfoTs(_) => MessageReceiver {
-            source,
-            dest,
-            timestamp: 0,
+        Submessage::InfoTs(stamp) if is_for(&receiver, own) => MessageReceiver {
+            timestamp: moment_of(*stamp),
+            ..receiver
         },
         _ => receiver,
     }

@@ -6,7 +6,7 @@ ghost use Rattle.dds_model.specs.declared.event.WorldEvent.TheVariants as event;
 ghost use Rattle.dds_model.specs.InOrder.{no_traffic};
 ghost use Rattle.dds_world.specs.WorldStanding.{traffic, Announces, MovesOn, Posts, Runs, StandsFor, Steps};
 ghost use Rattle.dds_world.specs.Standing.{SendsNothing};
-ghost use Rattle.dds_model.specs.Opening.{opening};
+ghost use Rattle.dds_model.specs.Opening.{opening_world};
 ghost use Rattle.dds_base.specs.declared.code.Code.TheVariants.{BadParameter, Memory};
 ghost use Rattle.dds_world.specs.Thin.{IsThin, thin_qos};
 
@@ -85,11 +85,11 @@ impl World {
     /// topic, of different prefixes that are not all zeros and of the right entity kinds, both shared, keeping all,
     /// without limits and leases; `Memory` where a growth was refused.
     pub fn open(alloc: Global, config: &Config) -> Result<World, Code>
-        ensures opening { IfOk result (λ world. StandsFor world config.now (opening config.now)) }
+        ensures opening { IfOk result (λ world. StandsFor world config.now (opening_world config.now)) }
         ensures quiet { IfOk result (λ world. traffic world ≡ no_traffic) }
         ensures thin { IsOk result → IsThin config.now }
-        ensures refused { result ≡ Err BadParameter → IsThin config.now → ⊥ }
-        ensures codes { IfErr result (λ code. (code ≡ BadParameter) ⊎ (code ≡ Memory)) }
+        ensures refused { (IsThin config.now → ⊥) → result ≡ Err BadParameter }
+        ensures codes { IfErr result (λ code. (code ≡ Memory) ⊎ ((code ≡ BadParameter) × (IsThin config.now → ⊥))) }
     {
         let Some(ends) = ends_of(config) else {
             return Err(Code::BadParameter);
@@ -185,7 +185,6 @@ impl World {
     fn deliver(&mut self, peer: u8, packet: u64) -> Reply
         ensures step { Steps self.old (event.Deliver peer packet) result self.new }
         ensures sends { Announces self.old (event.Deliver peer packet) result self.new }
-        ensures progress { MovesOn self.old (event.Deliver peer packet) result }
     {
         if packet == 0 || (self.sent.len() as u64) < packet {
             return Reply::Refused(Code::BadParameter);

@@ -10,9 +10,9 @@ ghost use Rattle.dds_model.specs.Calls.{unregister_kind};
 ghost use Rattle.rtps_wire.specs.Data.{IsContent};
 ghost use Rattle.dds_world.specs.Begun.{HasWrittenNothing};
 ghost use Rattle.dds_world.specs.Making.{Makes};
-ghost use Rattle.dds_world.specs.Standing.{WritingSteps, WritingSends, SendsNothing, AnnouncesChange, content_of};
+ghost use Rattle.dds_world.specs.Standing.{WritingSteps, WritingSends, SendsNothing, IsHeard, AnnouncesChange, content_of};
 
-use crate::answer::{answered, nothing_moved};
+use crate::answer::{answered, unmoved};
 use crate::clock::goes_on;
 use crate::registration::{is_registered, note, register, reserve};
 use dds_base::{
@@ -20,8 +20,10 @@ use dds_base::{
     Octets, Sequence, Sn,
 };
 use dds_history::History;
-use dds_model::{Call, Event, Output, Packet, Reply};
-use rtps_wire::{Data, DataContent, Message, Submessage, Submessages, write_message};
+use dds_model::{Call, Event, Output, Packet, Reply, Report};
+use rtps_wire::{
+    Data, DataContent, Message, Submessage, Submessages, read_message, write_message,
+};
 use std::alloc::{AllocError, Global};
 use std::marker::Model;
 
@@ -118,7 +120,8 @@ impl WritingPeer {
         ensures step { WritingSteps self.old (event.Deliver packet.now) result self.new }
         ensures sends { SendsNothing result }
     {
-        answered(self.alloc, nothing_moved(self.alloc))
+        let report = heard(self.alloc, packet);
+        answered(self.alloc, Reply::Reported(report))
     }
 
     fn tick(&mut self, now: Moment) -> Output
@@ -304,5 +307,16 @@ impl WritingPeer {
         };
         let bytes = Octets::from_vec(write_message(self.alloc, &message)?);
         Ok(Packet { to: READING, bytes })
+    }
+}
+
+/// What a peer without readers reports of a packet.
+fn heard(alloc: Global, packet: &Octets) -> Report
+    ensures { IsHeard packet.now result }
+{
+    match read_message(alloc, packet.as_slice()) {
+        Ok(Some(_)) => unmoved(alloc, None),
+        Ok(None) => unmoved(alloc, None),
+        Err(_) => unmoved(alloc, Some(0)),
     }
 }

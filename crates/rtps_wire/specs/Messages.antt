@@ -16,6 +16,22 @@ ReadsAll bytes (s ∷ ss) left = (id : ℕ) × (flags : ℕ) × (body : List ℕ
 abbrev pub header_text : ℕ → List ℕ → GuidPrefix → List ℕ
 header_text minor vendor prefix = codes "RTPS" ++ 2 ∷ minor ∷ [] ++ vendor ++ prefix.0
 
+-- The bytes begin with a submessage.
+abbrev pub HasFrame : List ℕ → Type 0
+HasFrame bytes = (id : ℕ) × (flags : ℕ) × (body : List ℕ) × (rest : List ℕ) × IsFrame bytes id flags body rest
+
+-- The bytes are at most 65,535, and begin with the header of a message and a submessage.
+pub record HasSubmessage (bytes : List ℕ) : Type 0 where
+  pub minor : ℕ
+  pub vendor : List ℕ
+  pub source : GuidPrefix
+  pub body : List ℕ
+  pub two : length vendor ≡ 2
+  pub prefix : length source.0 ≡ 12
+  pub header : bytes ≡ header_text minor vendor source ++ body
+  pub first : HasFrame body
+  pub short : length bytes ≤ 65535
+
 -- The bytes are a message of at most 65,535 octets, of which reading ends at this offset.
 pub record ReadsMessage (bytes : List ℕ) (m : Message) (offset : ℕ) : Type 0 where
   pub minor : ℕ

@@ -1,9 +1,9 @@
 //! Bytes to messages.
 
-ghost use Rattle.std.specs.Prelude.{◌≡◌, ◌≤◌, ◌<◌, ℕ, List, length, IfOk, IfErr, IfSome, MatchResult, Some};
+ghost use Rattle.std.specs.Prelude.{◌≡◌, ◌+◌, ◌≤◌, ◌<◌, ℕ, List, length, IfOk, IfErr, IfSome, MatchResult, Some};
 ghost use Rattle.rtps_wire.specs.SubmessageAt.{known_at};
 ghost use Rattle.rtps_wire.specs.Submessages.{Reads};
-ghost use Rattle.rtps_wire.specs.Messages.{ReadsAll, ReadsMessage};
+ghost use Rattle.rtps_wire.specs.Messages.{ReadsAll, ReadsMessage, HasFrame, HasSubmessage};
 ghost use Rattle.rtps_wire.specs.declared.message.Message.{Message};
 
 use crate::acknack::acknack_of;
@@ -59,8 +59,9 @@ fn submessage_of(alloc: Global, id: u8, flags: u8, body: &[u8]) -> Result<Submes
 
 /// The submessages up to where reading ends, and what stands there.
 fn submessages_of(alloc: Global, bytes: &[u8]) -> Result<(Vec<Submessage>, &[u8]), Code>
-    ensures { MatchResult result (λ x. ReadsAll bytes.now x.0.items x.1.now × (length x.1.now ≤ length bytes.now))
-        (λ e. e ≡ Code.Memory) }
+    ensures { MatchResult result
+        (λ x. ReadsAll bytes.now x.0.items x.1.now × (length x.0.items + length x.1.now ≤ length bytes.now))
+        (λ e. (e ≡ Code.Memory) × HasFrame bytes.now) }
 {
     let mut submessages = Vec::new(alloc);
     let mut left = bytes;
@@ -79,7 +80,7 @@ fn submessages_of(alloc: Global, bytes: &[u8]) -> Result<(Vec<Submessage>, &[u8]
 ///
 /// # Errors
 ///
-/// `Memory` where no memory was found for a submessage or a value.
+/// `Memory` where no memory was found for a submessage or a value; bytes that have none need no memory.
 ///
 /// RTPS 2.5, 8.3.4 and 9.4.
 pub fn read_message(alloc: Global, bytes: &[u8]) -> Result<Option<Read>, Code>
@@ -88,7 +89,10 @@ pub fn read_message(alloc: Global, bytes: &[u8]) -> Result<Option<Read>, Code>
     // The message of these bytes is read, and no other.
     ensures only { (m : Message) (stop : ℕ) → ReadsMessage bytes.now m stop
         → IfOk result (λ read. read ≡ Some (record { message = m; stop = stop })) }
-    ensures memory { IfErr result (λ e. e ≡ Code.Memory) }
+    // It has fewer submessages than bytes.
+    ensures few { IfOk result (λ read. IfSome read (λ r. length r.message.submessages ≤ 65535)) }
+    // Want of memory is answered only where there is a submessage to read.
+    ensures memory { IfErr result (λ e. (e ≡ Code.Memory) × HasSubmessage bytes.now) }
 {
     if MAX_MESSAGE < bytes.len() {
         return Ok(None);

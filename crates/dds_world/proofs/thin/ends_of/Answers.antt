@@ -21,12 +21,12 @@ returns-clause-found c =
           no_writers = sym c.as_slice-5.ensures ∙ no_item c.as_slice-5.result.now (omega arith);
           readers = sym c.as_slice-3.ensures ∙ one_item c.as_slice-3.result.now _ (omega arith);
           different = apart.0;
+          topic = thin.2;
         };
         first_named = apart.1;
         second_named = apart.2;
         writer_is = thin.0;
         reader_is = thin.1;
-        topic = thin.2;
       };
       first_is = refl;
       second_is = refl;

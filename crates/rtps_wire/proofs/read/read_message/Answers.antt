@@ -1,8 +1,8 @@
-use Rattle.std.proofs.Common.{◌≡◌, ℕ, List, ◌+◌, ◌-◌, ◌≤◌, length, Some, None, sym, ap, ◌∙◌, arith}
+use Rattle.std.proofs.Common.{rules, ◌≡◌, ℕ, List, ◌+◌, ◌-◌, ◌≤◌, length, Some, None, sym, ap, ◌∙◌, arith}
 use Rattle.std.proofs.lemmas.List.{length-append}
 use Rattle.dds_base.specs.declared.guid.GuidPrefix.{GuidPrefix}
 use Rattle.rtps_wire.specs.declared.submessage.Submessage.{Submessage}
-use Rattle.rtps_wire.specs.Messages.{ReadsAll, ReadsMessage, header_text}
+use Rattle.rtps_wire.specs.Messages.{ReadsAll, ReadsMessage, HasSubmessage, header_text}
 use Rattle.rtps_wire.specs.HeaderAt.{header_at}
 use Rattle.rtps_wire.proofs.MessageLaws.{HasHeader, header_found, header_only, left_le, message_one}
 use Rattle.rtps_wire.proofs.read.read_message.Goals as goal
@@ -31,3 +31,11 @@ returns-clause-only c = λ m stop r.
     let found : ReadsMessage c.args.bytes.now (record { prefix = c.in-Some.prefix; submessages = c.from_vec-submessages.result }) (length c.args.bytes.now - length c.in_ok-submessages.left.now) = rw c.from_vec-submessages.ensures (whole c.args.bytes.now c.in-Some.rest.now c.in_ok-submessages.left.now c.in-Some.prefix c.in_ok-submessages.submessages.items (omega arith) h c.in_ok-submessages.ensures.0) in
     let same = message_one c.args.bytes.now (record { prefix = c.in-Some.prefix; submessages = c.from_vec-submessages.result }) m (length c.args.bytes.now - length c.in_ok-submessages.left.now) stop found r in
     cc
+
+pub returns-in_err-submessages-clause-memory : goal.returns-in_err-submessages-clause-memory
+returns-in_err-submessages-clause-memory c =
+    let h = header_found c.args.bytes.now (c.in-Some.prefix, c.in-Some.rest.now) (λ i. omega (arith, c.type_inv.bytes i)) (sym c.in-Some.ensures.value) in
+    let k = c.in_err-submessages.ensures in
+    let short : length c.args.bytes.now ≤ 65535 = omega arith in
+    let has : HasSubmessage c.args.bytes.now = record { minor = h.minor; vendor = h.vendor; source = c.in-Some.prefix; body = c.in-Some.rest.now; two = h.two; prefix = h.prefix; header = h.text; first = k.1; short = short } in
+    search rules

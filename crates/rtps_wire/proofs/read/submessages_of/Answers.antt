@@ -1,11 +1,17 @@
-use Rattle.std.proofs.Common.{◌≡◌, [], ◌∷◌, None, refl, sym, append_assoc, arith}
-use Rattle.std.proofs.lemmas.List.{append-nil}
+use Rattle.std.proofs.Common.{rules, ◌≡◌, ◌⊎◌, ◌∙◌, ℕ, List, [], ◌∷◌, None, inl, inr, refl, sym, subst, ap, length, append_assoc, arith}
+use Rattle.std.proofs.lemmas.List.{append-nil, length-append}
 use Rattle.rtps_wire.specs.FrameAt.{frame_at}
+use Rattle.rtps_wire.specs.Messages.{HasFrame}
 use Rattle.rtps_wire.proofs.FrameLaws.{frame_found, frame_none}
 use Rattle.rtps_wire.proofs.read.submessages_of.Goals as goal
 
+-- where reading has come to a submessage, one stood at the beginning
+begins : (left bytes : List ℕ) → HasFrame left → (left ≡ bytes) ⊎ HasFrame bytes → HasFrame bytes
+begins left bytes here (inl same) = subst (λ (b : List ℕ). HasFrame b) same here
+begins left bytes here (inr there) = there
+
 pub loop-frame-init : goal.loop-frame-init
-loop-frame-init c = record { on = λ ss end r. rw c.new-submessages.ensures.items r; shorter = omega arith; octets = λ i. omega (arith, c.type_inv.bytes i) }
+loop-frame-init c = record { on = λ ss end r. rw c.new-submessages.ensures.items r; fewer = let none = ap length c.new-submessages.ensures.items in omega (arith, none); first = inl refl; octets = λ i. omega (arith, c.type_inv.bytes i) }
 
 pub loop-frame-preserved : goal.loop-frame-preserved
 loop-frame-preserved c =
@@ -13,7 +19,11 @@ loop-frame-preserved c =
     record {
       on = λ ss end r. rw (c.in_ok-push.ensures.items, append_assoc) (c.loop-frame.invariant.on (c.in_ok-submessage_of.field-0 ∷ ss) end
           (c.in-Some.frame.id, c.in-Some.frame.flags, c.in-Some.frame.body.now, c.in-Some.rest.now, f.frame, c.in_ok-submessage_of.ensures, r));
-      shorter = omega (arith, c.in-Some.ensures.rest);
+      fewer =
+          let longer = ap length c.in_ok-push.ensures.items ∙ length-append c.loop-frame.submessages.items (c.in_ok-submessage_of.field-0 ∷ []) in
+          let before = c.loop-frame.invariant.fewer in
+          omega (arith, longer, before, c.in-Some.ensures.rest);
+      first = inr (begins c.loop-frame.left.now c.args.bytes.now (c.in-Some.frame.id, c.in-Some.frame.flags, c.in-Some.frame.body.now, c.in-Some.rest.now, f.frame) c.loop-frame.invariant.first);
       octets = f.octets;
     }
 
@@ -21,4 +31,16 @@ pub returns : goal.returns
 returns c =
     let none : frame_at c.loop-frame.left.now ≡ None = sym c.in_default.ensures.value in
     let all = c.loop-frame.invariant.on [] c.loop-frame.left.now (frame_none c.loop-frame.left.now c.loop-frame.invariant.octets none, refl) in
-    (rw (← append-nil c.loop-frame.submessages.items) all, c.loop-frame.invariant.shorter)
+    (rw (← append-nil c.loop-frame.submessages.items) all, c.loop-frame.invariant.fewer)
+
+pub returns-in_err-submessage_of : goal.returns-in_err-submessage_of
+returns-in_err-submessage_of c =
+    let f = frame_found c.loop-frame.left.now (c.in-Some.frame.id, c.in-Some.frame.flags, c.in-Some.frame.body.now, c.in-Some.rest.now) c.loop-frame.invariant.octets (sym c.in-Some.ensures.value) in
+    let has : HasFrame c.args.bytes.now = begins c.loop-frame.left.now c.args.bytes.now (c.in-Some.frame.id, c.in-Some.frame.flags, c.in-Some.frame.body.now, c.in-Some.rest.now, f.frame) c.loop-frame.invariant.first in
+    search rules
+
+pub returns-in_err-push : goal.returns-in_err-push
+returns-in_err-push c =
+    let f = frame_found c.loop-frame.left.now (c.in-Some.frame.id, c.in-Some.frame.flags, c.in-Some.frame.body.now, c.in-Some.rest.now) c.loop-frame.invariant.octets (sym c.in-Some.ensures.value) in
+    let has : HasFrame c.args.bytes.now = begins c.loop-frame.left.now c.args.bytes.now (c.in-Some.frame.id, c.in-Some.frame.flags, c.in-Some.frame.body.now, c.in-Some.rest.now, f.frame) c.loop-frame.invariant.first in
+    search rules

@@ -2,12 +2,12 @@ use Rattle.std.proofs.Common.{◌+◌, ◌-◌, ◌^◌, ◌<◌, List, [], ◌�
 use Rattle.dds_base.specs.declared.happening.Happening.{Happening}
 use Rattle.dds_cache.specs.Standing.{StandsFor as CacheStandsFor}
 use Rattle.dds_world.specs.Standing.{ReadingKept}
-use Rattle.dds_world.specs.Receiving.{BringsNext, ReadingMoves, place_moves}
+use Rattle.dds_world.specs.Receiving.{Comes}
 use Rattle.dds_world.proofs.ReadingSteps.{comes_next, came, arrival_as, arrival_of}
 use Rattle.dds_world.proofs.reading.ReadingPeer.come.Goals as goal
 
 pub returns-clause-ok : goal.returns-clause-ok
-returns-clause-ok c = λ bytes timestamp body brings change_is.
+returns-clause-ok c = λ timestamp body change_is.
     let kept : ReadingKept = record {
       prefix = c.self.inside.prefix;
       entity = c.self.inside.entity;
@@ -24,6 +24,4 @@ returns-clause-ok c = λ bytes timestamp body brings change_is.
     λ h stands.
     subst (λ (e : Happening). CacheStandsFor c.come.new.self (e ∷ h)) (arrival_as c.new.result c.new-2.result kept.moment kept.place c.args.change c.new.ensures c.new-2.ensures)
     (c.in_ok-come.ensures.ok h stands) in
-    let moves : BringsNext kept bytes timestamp body → ReadingMoves kept bytes (place_moves (kept.place + 1) ∷ []) (came kept c.come.new.self) =
-    λ b. comes_next kept c.come.new.self bytes timestamp body c.args.change few c.in_ok-come.ensures.qos more b change_is in
-    subst (λ (k : ReadingKept). BringsNext k bytes timestamp body → ReadingMoves k bytes (place_moves (k.place + 1) ∷ []) (came kept c.come.new.self)) c.self.view_is moves brings
+    subst (λ (k : ReadingKept). Comes k timestamp body (came kept c.come.new.self)) c.self.view_is (comes_next kept c.come.new.self timestamp body c.args.change few c.in_ok-come.ensures.qos more change_is)

@@ -8,4 +8,4 @@ use Rattle.dds_world.proofs.reading.ReadingPeer.deliver.Goals as goal
 pub returns-clause-step : goal.returns-clause-step
 returns-clause-step c =
     subst (λ (o : Output). ReadingSteps c.args.self.now (event.Deliver c.args.packet.now) o c.receive-report.new.self) (sym c.answered.ensures)
-    (delivers c.args.self.now c.receive-report.new.self c.args.packet.now c.receive-report.result c.receive-report.ensures.moves)
+    (delivers c.args.self.now c.receive-report.new.self c.args.packet.now c.receive-report.result c.receive-report.ensures)

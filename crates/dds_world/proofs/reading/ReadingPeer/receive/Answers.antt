@@ -1,29 +1,25 @@
-use Rattle.std.proofs.Common.{◌≡◌, ℕ, List, Some, None, refl, ap, sym, subst, ◌∙◌}
-use Rattle.std.proofs.lemmas.Option.{same_Some}
+use Rattle.std.proofs.Common.{◌≡◌, ℕ, List, Some, None, sym, subst, ◌∙◌}
 use Rattle.rtps_wire.specs.declared.message.Message.{Message}
-use Rattle.rtps_wire.specs.declared.message.Read.{Read}
-use Rattle.rtps_wire.specs.declared.submessage.Submessage.TheVariants.{Data}
-use Rattle.rtps_wire.specs.Messages.{ReadsMessage}
-use Rattle.dds_model.specs.Claims.{receiver_of, StandsIn}
-use Rattle.dds_world.proofs.ReadingSteps.{stays_as}
+use Rattle.rtps_wire.specs.Messages.{ReadsMessage, HasSubmessage}
+use Rattle.dds_model.specs.declared.reply.Report.{Report}
+use Rattle.dds_world.specs.Receiving.{ReadingReceives}
+use Rattle.dds_world.proofs.Taking.{receives_message, receives_nothing, reads_nothing}
 use Rattle.dds_world.proofs.reading.ReadingPeer.receive.Goals as goal
 
-pub returns-in-Ok-Some-clause-moves : goal.returns-in-Ok-Some-clause-moves
-returns-in-Ok-Some-clause-moves c = stays_as c.args.self.now c.args.self.now c.args.packet.now c.unmoved.result None c.unmoved.ensures refl
+pub returns-in-Ok-Some : goal.returns-in-Ok-Some
+returns-in-Ok-Some c =
+    let found : ReadsMessage c.as_slice.result.now c.in-Ok-Some.read.message c.in-Ok-Some.read.stop = rw c.in-Ok-Some.field-0-is at c.in-Ok-Some.ensures.found in
+    receives_message c.args.self.now c.take_message.new.self c.args.packet.now c.in-Ok-Some.read c.take_message.result
+    (subst (λ (b : List ℕ). ReadsMessage b c.in-Ok-Some.read.message c.in-Ok-Some.read.stop) c.as_slice.ensures found) c.take_message.ensures
 
-pub returns-in-Ok-None-clause-moves : goal.returns-in-Ok-None-clause-moves
-returns-in-Ok-None-clause-moves c = stays_as c.args.self.now c.args.self.now c.args.packet.now c.unmoved-in-Ok-None.result None c.unmoved-in-Ok-None.ensures refl
-
-pub returns-clause-moves : goal.returns-clause-moves
-returns-clause-moves c = stays_as c.args.self.now c.args.self.now c.args.packet.now c.unmoved-in-Err.result (Some 0) c.unmoved-in-Err.ensures refl
-
-pub returns-in-Ok-Some-clause-advances : goal.returns-in-Ok-Some-clause-advances
-returns-in-Ok-Some-clause-advances c = λ message offset at body reads stands next.
+pub returns-in-Ok-None : goal.returns-in-Ok-None
+returns-in-Ok-None c =
+    subst (λ (r : Report). ReadingReceives c.args.self.now c.args.packet.now r c.args.self.now) (sym c.unmoved.ensures)
+    (receives_nothing c.args.self.now c.args.packet.now (λ message offset reads.
     let reads' : ReadsMessage c.as_slice.result.now message offset = subst (λ (b : List ℕ). ReadsMessage b message offset) (sym c.as_slice.ensures) reads in
-    let same : c.in-Ok-Some.read ≡ record { message = message; stop = offset } = same_Some c.in-Ok-Some.read (record { message = message; stop = offset }) (sym c.in-Ok-Some.field-0-is ∙ c.in-Ok-Some.ensures.only message offset reads') in
-    absurd (c.in-None.ensures.none at body (subst (λ (m : Message). StandsIn (receiver_of m.prefix) m.submessages at (Data body)) (sym (ap (λ (r : Read). r.message) same)) stands) next)
+    let none = c.in-Ok-None.ensures.only message offset reads' in absurd cc))
 
-pub returns-in-Ok-None-clause-advances : goal.returns-in-Ok-None-clause-advances
-returns-in-Ok-None-clause-advances c = λ message offset at body reads stands next.
-    let reads' : ReadsMessage c.as_slice.result.now message offset = subst (λ (b : List ℕ). ReadsMessage b message offset) (sym c.as_slice.ensures) reads in
-    let none = c.in-Ok-None.ensures.only message offset reads' in absurd cc
+pub returns-in-Err : goal.returns-in-Err
+returns-in-Err c =
+    subst (λ (r : Report). ReadingReceives c.args.self.now c.args.packet.now r c.args.self.now) (sym c.unmoved-in-Err.ensures)
+    (reads_nothing c.args.self.now c.args.packet.now (subst (λ (b : List ℕ). HasSubmessage b) c.as_slice.ensures c.in-Err.ensures.memory.1))

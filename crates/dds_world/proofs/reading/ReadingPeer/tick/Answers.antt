@@ -4,7 +4,7 @@ use Rattle.dds_model.specs.declared.event.Event.TheVariants as event
 use Rattle.dds_model.specs.declared.event.Output.{Output}
 use Rattle.dds_world.specs.Standing.{ReadingKept, ReadingStandsFor}
 use Rattle.dds_world.proofs.ReadingSteps.{Follows, at_moment, ticks}
-use Rattle.dds_world.proofs.WritingSteps.{not_true}
+use Rattle.dds_world.proofs.ReadingSteps.{not_true}
 use Rattle.dds_world.proofs.reading.ReadingPeer.tick.Goals as goal
 
 pub returns-clause-step : goal.returns-clause-step

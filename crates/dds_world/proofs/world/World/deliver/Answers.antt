@@ -1,12 +1,7 @@
-use Rattle.dds_world.proofs.Progressed.{second_moves}
 use Rattle.std.proofs.Common.{◌≡◌, ℕ, subst, ◌-◌, ◌<◌, Some, length, slice_get, sym, ◌∙◌, ap, arith}
 use Rattle.std.proofs.lemmas.Option.{slice_get-get_or, same_Some}
 use Rattle.dds_model.specs.declared.event.Packet.{Packet}
-use Rattle.dds_model.specs.declared.reply.Reply.{Reply}
-use Rattle.dds_model.specs.Machine.{part_at}
-use Rattle.dds_model.specs.Progress.{MovesOver}
-use Rattle.dds_world.specs.Receiving.{ReplyAdvances}
-use Rattle.dds_world.specs.WorldStanding.{WorldKept, StandsFor}
+use Rattle.dds_world.specs.WorldStanding.{WorldKept}
 use Rattle.dds_model.specs.declared.event.Event.TheVariants as event
 use Rattle.dds_model.specs.declared.event.WorldEvent.TheVariants as world
 use Rattle.dds_world.proofs.WorldSteps.{delivers_at, first_goes, second_goes}
@@ -33,20 +28,3 @@ returns-then-peer-eq-READING-clause-step c =
     second_goes kept c.args.self.now posted.new.self output.new.self c.args.peer (event.Deliver index.result.now.bytes) (λ (n : ℕ). world.Deliver n c.args.packet) output.result posted.result c.self.view_is c.if-peer-eq-READING.true
     (delivers_at kept.sent 2 c.args.packet index.result.now (omega arith) found) output.ensures.step
     posted.ensures.reply posted.ensures.writing posted.ensures.reading posted.ensures.posted
-
-pub returns-then-peer-eq-READING-clause-progress : goal.returns-then-peer-eq-READING-clause-progress
-returns-then-peer-eq-READING-clause-progress c = λ config m given packet w r n change low found claims same low_number small at.
-    let inside = c.self.inside in
-    let kept : WorldKept = record { writing = inside.writing; reading = inside.reading; sent = inside.sent.items; unsent = inside.unsent } in
-    let s : StandsFor kept config m = subst (λ (k : WorldKept). StandsFor k config m) (sym c.self.view_is) given in
-    let posted = c.posted-then-peer-eq-READING in
-    let output = c.deliver-output-then-peer-eq-READING in
-    let index = c.index-then-peer-eq-READING in
-    let two : c.args.peer ≡ 2 = c.if-peer-eq-READING.true in
-    let within : c.args.packet - 1 < length kept.sent = omega arith in
-    let here : slice_get kept.sent (c.args.packet - 1) ≡ Some index.result.now = slice_get-get_or kept.sent (c.args.packet - 1) index.result.now within ∙ ap (λ (p : Packet). Some p) (sym index.ensures) in
-    let there : slice_get kept.sent (c.args.packet - 1) ≡ Some packet = subst (λ (k : WorldKept). slice_get k.sent (c.args.packet - 1) ≡ Some packet) (sym c.self.view_is) found in
-    let is : index.result.now ≡ packet = same_Some index.result.now packet (sym here ∙ there) in
-    let advances : ReplyAdvances kept.reading packet.bytes output.result.reply = subst (λ (p : Packet). ReplyAdvances kept.reading p.bytes output.result.reply) is output.ensures.advances in
-    let moved : MovesOver (part_at m 2) w r.number n change output.result.reply = second_moves kept config m s packet.bytes w r n change output.result.reply advances claims (same ∙ two) low_number small at in
-    subst (λ (i : ℕ). MovesOver (part_at m i) w r.number n change posted.result) (sym two) (subst (λ (x : Reply). MovesOver (part_at m 2) w r.number n change x) (sym posted.ensures.reply) moved)

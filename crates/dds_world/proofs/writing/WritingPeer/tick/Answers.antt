@@ -3,7 +3,8 @@ use Rattle.std.specs.Prelude.{nat_lt, nat_le}
 use Rattle.dds_model.specs.declared.event.Event.TheVariants as event
 use Rattle.dds_model.specs.declared.reply.Reply.TheVariants.{Done}
 use Rattle.dds_world.specs.Standing.{WritingKept, WritingStandsFor}
-use Rattle.dds_world.proofs.WritingSteps.{silent, follows_as, at_moment, ticks, not_true}
+use Rattle.dds_world.proofs.WritingSteps.{silent, follows_as, at_moment, ticks}
+use Rattle.dds_world.proofs.ReadingSteps.{not_true}
 use Rattle.dds_world.proofs.writing.WritingPeer.tick.Goals as goal
 
 pub returns-clause-step : goal.returns-clause-step
