@@ -1,5 +1,5 @@
 -- Steps of peers, on claims that are true, are steps of the machine, and leave the claims true.
-use Rattle.std.proofs.Common.{◌≡◌, ◌⊎◌, ℕ, ℤ, zero, suc, ◌+◌, ◌-◌, ◌^◌, ◌<◌, ◌≤◌, List, [], ◌∷◌, ◌++◌, Option, Some, None, true, Contains, subst, ap, sym, refl, ◌∙◌, inl, inr, ⊎_elim, arith, length, slice_get}
+use Rattle.std.proofs.Common.{◌≡◌, ◌⊎◌, ℕ, ℤ, zero, suc, ◌+◌, ◌-◌, ◌<◌, ◌≤◌, List, [], ◌∷◌, ◌++◌, Option, Some, true, Contains, subst, ap, sym, refl, ◌∙◌, inl, inr, ⊎_elim, arith, length, slice_get}
 use Rattle.std.specs.Prelude.{slice_index_or}
 use Rattle.std.proofs.lemmas.List.{length-map}
 use Rattle.std.proofs.lemmas.Option.{same_Some, slice_get_within}
@@ -22,17 +22,17 @@ use Rattle.dds_model.specs.declared.reply.Report.{Report}
 use Rattle.dds_model.specs.declared.reply.PassedRun.{PassedRun}
 use Rattle.dds_model.specs.declared.reply.Reply.{Reply}
 use Rattle.dds_model.specs.declared.reply.Reply.TheVariants.{Reported}
-use Rattle.dds_model.specs.Numbered.{numbered, with_numbered, HasNumber}
+use Rattle.dds_model.specs.Numbered.{with_numbered, HasNumber}
 use Rattle.dds_model.specs.Part.{ReaderProxy, Writer, Part, no_part, no_writer, own_writer, own_proxies, acknowledged_of, with_acknowledged, place_of, writer_changes, history_of, is_assertion, IsBelow, IsAtMost, NoLess}
-use Rattle.dds_model.specs.Moves.{Grounds, Match, match_of, IsMatched, Position, position_of, AllCome, ComeTo, Passes, GoesTo, IsMove, AreMoves, DeliveryStep}
-use Rattle.dds_model.specs.Receipt.{HasNoRoom, GoesOver, MovesOver, TakesUp, IsTaken, IsNotTaken, Receives, prefix_of}
+use Rattle.dds_model.specs.Moves.{Grounds, Match, match_of, Position, position_of, AllCome, ComeTo, Passes, GoesTo, IsMove, AreMoves, DeliveryStep}
+use Rattle.dds_model.specs.Receipt.{HasNoRoom, MovesOver, TakesUp, Receives, prefix_of}
 use Rattle.dds_model.specs.Progress.{ReceivesIn, Progresses}
 use Rattle.dds_model.specs.Calls.{Tests, CallStep, TickStep}
-use Rattle.dds_model.specs.Claims.{Receiver, after_submessage, receiver_of, Says, Claim, ChangeIs, MayPass, PlaceReached, Asserts, Claims, Claimed}
+use Rattle.dds_model.specs.Claims.{Receiver, after_submessage, receiver_of, Claim, ChangeIs, MayPass, PlaceReached, Asserts, Claims, Claimed}
 use Rattle.dds_model.specs.Peer.{Peer, Delivery, PeerStep, EventStep, no_peer, claimed, packets_of, IsTrueAt}
 use Rattle.dds_model.specs.Machine.{Machine, AllTests, part_at, writer_at, place_at, grounds_of, AtPeer, Step}
 use Rattle.dds_model.specs.World.{WorldState, peer_at, machine_of, PeerSteps, WorldStep, Holds, Sound}
-use Rattle.dds_model.proofs.Tables.{numbered-cases, numbered-map, numbered-same, map-with_numbered, length-with_numbered, acknowledged-cases, no_less_same, no_less_on, at_most_on, below_on}
+use Rattle.dds_model.proofs.Tables.{numbered-cases, numbered-map, numbered-same, map-with_numbered, length-with_numbered, acknowledged-cases, no_less_same, no_less_on, below_on}
 use Rattle.dds_model.proofs.Growth.{Grows, IsMove-grows, AreMoves-grows, DeliveryStep-grows, CallStep-grows, CallStep-readers, TickStep-acknowledged, TickStep-grows, MachineGrows, with_part, with_part-grows, Holds-grows}
 
 abbrev pub AllHold : Config → Machine → List (List ℕ) → Type 0

@@ -1,5 +1,5 @@
 -- Lists with one element changed, and the rows of matched pairs.
-use Rattle.std.proofs.Common.{◌≡◌, ℕ, zero, suc, ◌==◌, ◌⊎◌, ◌<◌, ◌≤◌, Option, None, ℤ, Bool, true, false, cond, List, [], ◌∷◌, ◌++◌, Some, refl, ap, sym, ◌∙◌, inl, inr, ⊎_elim, arith, length, slice_get, get_or, set, map, eqb-true, length-set, get_or-set_same}
+use Rattle.std.proofs.Common.{◌≡◌, ℕ, zero, suc, ◌==◌, ◌⊎◌, Option, None, ℤ, Bool, true, false, cond, List, [], ◌∷◌, ◌++◌, Some, refl, ap, sym, ◌∙◌, inl, inr, ⊎_elim, arith, length, slice_get, get_or, set, map, eqb-true, length-set, get_or-set_same}
 use Rattle.std.specs.Option.{option_map}
 use Rattle.std.proofs.lemmas.List.{map-set}
 use Rattle.dds_model.specs.declared.endpoint.Endpoint.{Endpoint}

@@ -4,7 +4,6 @@
 use Rattle.std.specs.Prelude.{◌≡◌, ◌⊎◌, ℕ, ◌+◌, ◌^◌, ◌<◌, ◌≤◌, false, List, [], ◌∷◌, ◌++◌, Option, Some, None}
 use Rattle.dds_base.specs.declared.change.Change.{Change}
 use Rattle.dds_base.specs.declared.config.Config.{Config}
-use Rattle.dds_base.specs.declared.config.PeerConfig.{PeerConfig}
 use Rattle.dds_base.specs.declared.guid.GuidPrefix.{GuidPrefix}
 use Rattle.dds_base.specs.Checked.{unknown_prefix}
 use Rattle.dds_base.specs.Presence.{has_room}
@@ -65,8 +64,8 @@ pub record IsNotTaken (bytes : List ℕ) (old : Part) (report : Report) (new : P
   pub moves : report.moves ≡ []
   pub after : new ≡ old
   pub cause :
-    ((report.refused ≡ None) × ((message : Message) (offset : ℕ) → ReadsMessage bytes message offset → ⊥))
-    ⊎ ((report.refused ≡ Some 0) × HasSubmessage bytes)
+      ((report.refused ≡ None) × ((message : Message) (offset : ℕ) → ReadsMessage bytes message offset → ⊥))
+      ⊎ ((report.refused ≡ Some 0) × HasSubmessage bytes)
 
 -- what the peer of this number does with a packet
 abbrev pub Receives : Config → (ℕ → Grounds) → ℕ → List ℕ → Part → Report → Part → Type 0

@@ -22,7 +22,10 @@ pub enum Move {
         passed: Sequence<PassedRun>,
     },
     /// The peer's reader has heard, by a HEARTBEAT, that a matched writer asserted its liveliness.
-    Heard { writer: Endpoint, reader: u8 },
+    Heard {
+        writer: Endpoint,
+        reader: u8,
+    },
     /// A reader has acknowledged all changes below `to` of the peer's writer.
     Acknowledged {
         writer: u8,

@@ -239,9 +239,10 @@ at_two : (r : Endpoint) → r.peer ≡ 2 → r ≡ record { peer = 2; number = r
 at_two r two = ap (λ (n : ℕ). let e : Endpoint = record { peer = n; number = r.number } in e) two
 
 pub skips : (kept : ReadingKept) (at : Receiver) (submessage : Submessage) → IsNotToCome kept at submessage → TakesSubmessage kept at submessage [] kept
-skips kept at submessage none config before bytes index peer s is_of =
-    (peer.part, refl,
-      (λ w r p n change says two matched least most.
+skips kept at submessage none config before bytes index peer s is_of = (
+  peer.part,
+  refl,
+  (λ w r p n change says two matched least most.
       let row : IsRow kept.place w r.number n = the_row kept config peer s w r.number p n matched in
       let d = data_of_claim config kept.prefix at submessage w r n change says in
       let reader : r ≡ the_reader = endpoint_is r 2 1 two row.1 in
@@ -261,7 +262,9 @@ skips kept at submessage none config before bytes index peer s is_of =
           claims = subst (λ (e : Endpoint). Claims config bytes (ChangeIs w e n change)) (at_two r two) (is_of (ChangeIs w r n change) says);
         };
         no_room = no_room (own_reader peer.part r.number).qos (own_reader peer.part r.number).happened (record { writer = p; number = n; change = change; moment = peer.part.dds.moment }) (omega (arith, count, many));
-      })), s)
+      })),
+  s,
+)
 
 -- a submessage by which the next change comes
 pub takes_next : (old new : ReadingKept) (at : Receiver) (submessage : Submessage) (body : DataBody) → IsToCome old at submessage body → Comes old at.timestamp body new
@@ -274,11 +277,14 @@ takes_next old new at submessage body is comes config before bytes index peer s 
       among = (0, omega arith, refl);
       claims = is_of (ChangeIs the_writer the_reader old.place (change_in body.content at.timestamp)) says;
     } in
-    let r = comes config before bytes index peer s claim in
-    (r.0, r.1,
+    let r = comes config before bytes index peer s claim in (
+      r.0,
+      r.1,
       (λ w r p n change says two matched least most.
-      let row : IsRow old.place w r.number n = the_row old config peer s w r.number p n matched in
-      let same = row.2 in inl (inl (row.0, sym row.1, omega (arith, same)))), r.2)
+          let row : IsRow old.place w r.number n = the_row old config peer s w r.number p n matched in
+          let same = row.2 in inl (inl (row.0, sym row.1, omega (arith, same)))),
+      r.2,
+    )
 
 pub arrival_as : (w n m place : ℕ) (change : Change) → w ≡ 1 → n ≡ place → Came (record { writer = w; number = n; change = change; moment = m }) ≡ arrival_of m place change
 arrival_as w n m place change p q = cc

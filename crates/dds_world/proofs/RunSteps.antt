@@ -17,9 +17,13 @@ traffic_of world unsent = record { sent = world.sent; unsent = unsent }
 -- a run with one more step
 run_more : (config : Config) (tests : AllTests) (a b c : WorldState) (k m n : ℕ) (events : List WorldEvent) (replies : List Reply) (ev : WorldEvent) (reply : Reply) → WorldRun config tests a k events replies b m → WorldStep config tests b ev reply c
     → Sends config (traffic_of b m) (machine_of b) ev reply (traffic_of c n) → WorldRun config tests a k (events ++ ev ∷ []) (replies ++ reply ∷ []) c n
-run_more config tests a b c k m n [] [] ev reply run step sends =
-    (c, n, subst (λ (x : WorldState). WorldStep config tests x ev reply c) run.0 step,
-      subst (λ (x : WorldState). Sends config (traffic_of x k) (machine_of x) ev reply (traffic_of c n)) run.0 (subst (λ (i : ℕ). Sends config (traffic_of b i) (machine_of b) ev reply (traffic_of c n)) run.1 sends), (refl, refl))
+run_more config tests a b c k m n [] [] ev reply run step sends = (
+  c,
+  n,
+  subst (λ (x : WorldState). WorldStep config tests x ev reply c) run.0 step,
+  subst (λ (x : WorldState). Sends config (traffic_of x k) (machine_of x) ev reply (traffic_of c n)) run.0 (subst (λ (i : ℕ). Sends config (traffic_of b i) (machine_of b) ev reply (traffic_of c n)) run.1 sends),
+  (refl, refl),
+)
 run_more config tests a b c k m n (e ∷ es) (r ∷ rs) ev reply run step sends = (run.0, run.1, run.2, run.3, run_more config tests run.0 b c run.1 m n es rs ev reply run.4 step sends)
 run_more config tests a b c k m n [] (r ∷ rs) ev reply run step sends = absurd run
 run_more config tests a b c k m n (e ∷ es) [] ev reply run step sends = absurd run

@@ -71,7 +71,7 @@ takes_more old now new message index at submessage moves more taken left here sa
           let together : TakesUp config (claimed config before bytes 2) 2 old.prefix index at (submessage ∷ drop (index + 1) message.submessages) t.part (takes.0 ++ later) refused after =
           inr (takes.0, later, r.0, refl, r.1, over, h) in
           let whole = t.on (takes.0 ++ later) refused after
-              (subst (λ (ss : List Submessage). TakesUp config (claimed config before bytes 2) 2 old.prefix index at ss t.part (takes.0 ++ later) refused after) (sym here) together) in
+          (subst (λ (ss : List Submessage). TakesUp config (claimed config before bytes 2) 2 old.prefix index at ss t.part (takes.0 ++ later) refused after) (sym here) together) in
           subst (λ (ms : List Move). TakesUp config (claimed config before bytes 2) 2 old.prefix 0 (receiver_of message.prefix) message.submessages peer.part ms refused after)
           (sym (append_assoc moves takes.0 later) ∙ ap (λ (ms : List Move). ms ++ later) (sym takes.1)) whole;
     }

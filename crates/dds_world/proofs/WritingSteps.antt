@@ -178,8 +178,15 @@ passes_all : (config : Config) (gs : ℕ → Grounds) (own : GuidPrefix) (index 
     → TakesUp config gs 1 own index at ss (writing_part kept.autodispose kept.moment written) [] None (writing_part kept.autodispose kept.moment written)
 passes_all config gs own index at [] kept written = (refl, refl, refl)
 passes_all config gs own index at (s ∷ ss) kept written =
-    inr ([], [], writing_part kept.autodispose kept.moment written, refl, refl, (λ w r p n change says here matched least most. absurd (no_reader_at kept written w r.number p n matched)),
-      passes_all config gs own (index + 1) (after_submessage own at s) ss kept written)
+    inr (
+      [],
+      [],
+      writing_part kept.autodispose kept.moment written,
+      refl,
+      refl,
+      (λ w r p n change says here matched least most. absurd (no_reader_at kept written w r.number p n matched)),
+      passes_all config gs own (index + 1) (after_submessage own at s) ss kept written,
+    )
 
 receives_so : (kept : WritingKept) (config : Config) (peer : Peer) (s : WritingStandsFor kept config peer) (packet : List ℕ) (report : Report) → IsHeard packet report
     → (gs : ℕ → Grounds) → Receives config gs 1 packet (writing_part kept.autodispose kept.moment s.written) report (writing_part kept.autodispose kept.moment s.written)

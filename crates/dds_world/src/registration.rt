@@ -2,7 +2,7 @@
 //!
 //! DDS 1.4, 2.2.2.4 (register_instance, unregister_instance).
 
-ghost use Rattle.std.specs.Prelude.{◌≡◌, ◌<◌, ◌||◌, not, false, true, OnOk, vec_len, vec_capacity, if◌then◌else◌};
+ghost use Rattle.std.specs.Prelude.{◌≡◌, ◌<◌, ◌||◌, not, false, true, IsOk, OnOk, vec_len, vec_capacity, if◌then◌else◌};
 ghost use Rattle.dds_base.specs.Happening.{same_key, is_unregister};
 ghost use Rattle.dds_world.specs.Registered.{is_among};
 
@@ -41,6 +41,7 @@ pub fn unregister(keys: &mut Vec<Key>, key: Key)
 pub fn reserve(keys: &mut Vec<Key>, kind: ChangeKind) -> Result<(), AllocError>
     ensures keys { keys.new.items ≡ keys.old.items }
     ensures room { OnOk result (is_unregister kind ≡ false → vec_len keys.new < vec_capacity keys.new) }
+    ensures none { is_unregister kind ≡ true → IsOk result }
 {
     if kind.is_unregister() {
         return Ok(());

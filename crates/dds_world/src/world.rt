@@ -136,10 +136,10 @@ impl World {
     ///
     /// # Errors
     ///
-    /// `Memory` where no memory was found for the replies; nothing was done then.
+    /// `Memory` where no memory was found for the replies; nothing was done then. No events need none.
     pub fn run(&mut self, events: Vec<WorldEvent>) -> Result<Sequence<Reply>, Code>
         ensures run { IfOk result (λ replies. Runs self.old events.items replies self.new) }
-        ensures memory { IfErr result (λ code. code ≡ Memory) }
+        ensures memory { IfErr result (λ code. (code ≡ Memory) × (1 ≤ length events.items)) }
         ensures err { OnErr result (self.new ≡ self.old) }
     {
         let mut replies = Vec::with_capacity(self.alloc, events.len())?;

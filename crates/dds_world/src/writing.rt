@@ -21,9 +21,7 @@ use dds_base::{
 };
 use dds_history::History;
 use dds_model::{Call, Event, Output, Packet, Reply, Report};
-use rtps_wire::{
-    Data, DataContent, Message, Submessage, Submessages, read_message, write_message,
-};
+use rtps_wire::{Data, DataContent, Message, Submessage, Submessages, read_message, write_message};
 use std::alloc::{AllocError, Global};
 use std::marker::Model;
 
