@@ -5,3 +5,9 @@ pub mod RunLaws
 pub mod InOrder
 pub mod InOrderRuns
 pub mod Opened
+mod WorkedReceivers
+mod WorkedExamples
+mod WorkedPackets
+mod WorkedMoves
+mod WorkedPeers
+mod WorkedReceipt

@@ -1,0 +1,243 @@
+-- What three packets claim, from their bytes on: one with a GAP, one with an ACKNACK and one with a HEARTBEAT that asserts
+-- its writer, of which the reader hears once. Each begins with an INFO_DST.
+use Rattle.std.proofs.Common.{ℕ, ◌^◌, true, false, Some, None, List, [], ◌∷◌, ◌++◌, replicate, refl, inl, inr, arith, codes}
+use Rattle.std.proofs.lemmas.Int.{ints}
+use Rattle.std.specs.Prelude.{pos}
+use Rattle.dds_base.specs.declared.guid.GuidPrefix.{GuidPrefix}
+use Rattle.rtps_sets.specs.NumberSet.{empty_from}
+use Rattle.rtps_wire.specs.declared.acknack.AckNack.{AckNack as AckNackBody}
+use Rattle.rtps_wire.specs.declared.gap.Gap.{Gap as GapBody}
+use Rattle.rtps_wire.specs.declared.heartbeat.Heartbeat.{Heartbeat as HeartbeatBody}
+use Rattle.rtps_wire.specs.declared.message.Message.{Message}
+use Rattle.rtps_wire.specs.declared.submessage.Submessage.{Submessage}
+use Rattle.rtps_wire.specs.declared.submessage.Submessage.TheVariants.{InfoDst, Gap, Heartbeat, AckNack}
+use Rattle.rtps_wire.specs.Messages.{ReadsMessage}
+use Rattle.rtps_wire.specs.Submessages.{IsKnown}
+use Rattle.rtps_wire.specs.Sets.{set_of, bits_below}
+use Rattle.dds_model.specs.declared.reply.Move.TheVariants.{Heard}
+use Rattle.dds_model.specs.Claims.{every_reader, MayPass, PlaceReached, Asserts, Claims}
+use Rattle.dds_model.specs.Peer.{Delivery, IsApplied, IsNewest}
+use Rattle.dds_model.proofs.WorkedReceivers.{prefix_1, prefix_2, w1_id, r1_id, w1, r1, to_2, to_1, network, to_r1, from_r1}
+
+-- an INFO_DST and a submessage with 28 octets of body, from one peer to the other
+abbrev packet : GuidPrefix → GuidPrefix → ℕ → ℕ → List ℕ → List ℕ
+packet from to id flags body = codes "RTPS" ++ 2 ∷ 5 ∷ 0 ∷ 0 ∷ from.0 ++ 0x0e ∷ 1 ∷ 12 ∷ 0 ∷ to.0 ++ id ∷ flags ∷ 28 ∷ 0 ∷ body
+
+abbrev message : GuidPrefix → GuidPrefix → Submessage → Message
+message from to submessage = record { prefix = from; submessages = InfoDst to ∷ submessage ∷ [] }
+
+-- ---- the GAP of gapStart 2 and the empty set from 3 on
+
+abbrev gap_body : List ℕ
+gap_body = 0 ∷ 0 ∷ 1 ∷ 7 ∷ 0 ∷ 0 ∷ 1 ∷ 2 ∷ 0 ∷ 0 ∷ 0 ∷ 0 ∷ 2 ∷ 0 ∷ 0 ∷ 0 ∷ 0 ∷ 0 ∷ 0 ∷ 0 ∷ 3 ∷ 0 ∷ 0 ∷ 0 ∷ 0 ∷ 0 ∷ 0 ∷ 0 ∷ []
+
+abbrev gap : GapBody
+gap = record { reader_id = r1_id; writer_id = w1_id; gap_start = 2; gap_list = empty_from 3 }
+
+gap-known : IsKnown 0x08 1 gap_body (Gap gap)
+unfolding set_of bits_below
+gap-known = record {
+  kind = refl;
+  flags_are = tt;
+  body_is = record {
+    from_set = 0 ∷ 0 ∷ 0 ∷ 0 ∷ 3 ∷ 0 ∷ 0 ∷ 0 ∷ 0 ∷ 0 ∷ 0 ∷ 0 ∷ [];
+    rest = [];
+    head = refl;
+    set = record {
+      field = record { base = 3; num_bits = 0; words = [] };
+      valid = record { first = omega arith; small = omega arith; few = omega arith; enough = refl; each = tt };
+      text = refl;
+      set = refl;
+    };
+  };
+  valid = record { reader = refl; writer = refl; first = omega arith; small = omega arith };
+}
+
+gap-read : ReadsMessage (packet prefix_1 prefix_2 0x08 1 gap_body) (message prefix_1 prefix_2 (Gap gap)) 68
+gap-read = record {
+  minor = 5;
+  vendor = 0 ∷ 0 ∷ [];
+  body = 0x0e ∷ 1 ∷ 12 ∷ 0 ∷ prefix_2.0 ++ 0x08 ∷ 1 ∷ 28 ∷ 0 ∷ gap_body;
+  left = [];
+  two = refl;
+  prefix = refl;
+  header = refl;
+  submessages = (
+    0x0e,
+    1,
+    prefix_2.0,
+    0x08 ∷ 1 ∷ 28 ∷ 0 ∷ gap_body,
+    record { len = 12; small = omega arith; text = refl; extent = refl },
+    record { kind = refl; flags_are = tt; body_is = ([], refl); valid = refl },
+    (0x08, 1, gap_body, [], record { len = 28; small = omega arith; text = refl; extent = refl }, gap-known, (inl (omega arith), refl)),
+  );
+  stop = refl;
+  short = omega arith;
+}
+
+-- so the packet lets r1 pass 2
+gap-claims : Claims network (packet prefix_1 prefix_2 0x08 1 gap_body) (MayPass w1 r1 2)
+gap-claims = record {
+  message = message prefix_1 prefix_2 (Gap gap);
+  offset = 68;
+  is_read = gap-read;
+  own = prefix_2;
+  index = 1;
+  at = to_2;
+  submessage = Gap gap;
+  stands = (refl, refl);
+  says = (to_r1 r1_id 0 (inl refl), omega arith, inl (omega arith, omega arith));
+}
+
+-- ---- the ACKNACK of base 2 and the set with 2
+
+abbrev acknack_body : List ℕ
+acknack_body = 0 ∷ 0 ∷ 1 ∷ 7 ∷ 0 ∷ 0 ∷ 1 ∷ 2 ∷ 0 ∷ 0 ∷ 0 ∷ 0 ∷ 2 ∷ 0 ∷ 0 ∷ 0 ∷ 1 ∷ 0 ∷ 0 ∷ 0 ∷ 0 ∷ 0 ∷ 0 ∷ 0x80 ∷ 1 ∷ 0 ∷ 0 ∷ 0 ∷ []
+
+abbrev acknack : AckNackBody
+acknack = record { reader_id = r1_id; writer_id = w1_id; reader_sn_state = record { base = 2; members = true ∷ replicate 255 false }; count = pos 1; final_flag = false }
+
+acknack-known : IsKnown 0x06 1 acknack_body (AckNack acknack)
+unfolding set_of bits_below
+acknack-known = record {
+  kind = refl;
+  flags_are = refl;
+  body_is = record {
+    from_set = 0 ∷ 0 ∷ 0 ∷ 0 ∷ 2 ∷ 0 ∷ 0 ∷ 0 ∷ 1 ∷ 0 ∷ 0 ∷ 0 ∷ 0 ∷ 0 ∷ 0 ∷ 0x80 ∷ 1 ∷ 0 ∷ 0 ∷ 0 ∷ [];
+    from_count = 1 ∷ 0 ∷ 0 ∷ 0 ∷ [];
+    rest = [];
+    ids = refl;
+    set = record {
+      field = record { base = 2; num_bits = 1; words = 2 ^ 31 ∷ [] };
+      valid = record { first = omega arith; small = omega arith; few = omega arith; enough = refl; each = (omega arith, tt) };
+      text = refl;
+      set = refl;
+    };
+    count = refl;
+  };
+  valid = record { reader = refl; writer = refl; count = omega (arith, ints) };
+}
+
+acknack-read : ReadsMessage (packet prefix_2 prefix_1 0x06 1 acknack_body) (message prefix_2 prefix_1 (AckNack acknack)) 68
+acknack-read = record {
+  minor = 5;
+  vendor = 0 ∷ 0 ∷ [];
+  body = 0x0e ∷ 1 ∷ 12 ∷ 0 ∷ prefix_1.0 ++ 0x06 ∷ 1 ∷ 28 ∷ 0 ∷ acknack_body;
+  left = [];
+  two = refl;
+  prefix = refl;
+  header = refl;
+  submessages = (
+    0x0e,
+    1,
+    prefix_1.0,
+    0x06 ∷ 1 ∷ 28 ∷ 0 ∷ acknack_body,
+    record { len = 12; small = omega arith; text = refl; extent = refl },
+    record { kind = refl; flags_are = tt; body_is = ([], refl); valid = refl },
+    (0x06, 1, acknack_body, [], record { len = 28; small = omega arith; text = refl; extent = refl }, acknack-known, (inl (omega arith), refl)),
+  );
+  stop = refl;
+  short = omega arith;
+}
+
+-- so r1 has reached 2
+acknack-claims : Claims network (packet prefix_2 prefix_1 0x06 1 acknack_body) (PlaceReached w1 r1 2)
+acknack-claims = record {
+  message = message prefix_2 prefix_1 (AckNack acknack);
+  offset = 68;
+  is_read = acknack-read;
+  own = prefix_1;
+  index = 1;
+  at = to_1;
+  submessage = AckNack acknack;
+  stands = (refl, refl);
+  says = (from_r1 r1_id (inl refl), refl);
+}
+
+-- ---- the first HEARTBEAT of a writer without changes, with the flags F and L
+
+abbrev heartbeat_body : List ℕ
+heartbeat_body = 0 ∷ 0 ∷ 0 ∷ 0 ∷ 0 ∷ 0 ∷ 1 ∷ 2 ∷ 0 ∷ 0 ∷ 0 ∷ 0 ∷ 1 ∷ 0 ∷ 0 ∷ 0 ∷ 0 ∷ 0 ∷ 0 ∷ 0 ∷ 0 ∷ 0 ∷ 0 ∷ 0 ∷ 1 ∷ 0 ∷ 0 ∷ 0 ∷ []
+
+abbrev heartbeat : HeartbeatBody
+heartbeat = record { reader_id = every_reader; writer_id = w1_id; first_sn = 1; last_sn = 0; count = pos 1; final_flag = true; liveliness_flag = true }
+
+abbrev heartbeat_packet : List ℕ
+heartbeat_packet = packet prefix_1 prefix_2 0x07 7 heartbeat_body
+
+heartbeat-read : ReadsMessage heartbeat_packet (message prefix_1 prefix_2 (Heartbeat heartbeat)) 68
+heartbeat-read = record {
+  minor = 5;
+  vendor = 0 ∷ 0 ∷ [];
+  body = 0x0e ∷ 1 ∷ 12 ∷ 0 ∷ prefix_2.0 ++ 0x07 ∷ 7 ∷ 28 ∷ 0 ∷ heartbeat_body;
+  left = [];
+  two = refl;
+  prefix = refl;
+  header = refl;
+  submessages = (
+    0x0e,
+    1,
+    prefix_2.0,
+    0x07 ∷ 7 ∷ 28 ∷ 0 ∷ heartbeat_body,
+    record { len = 12; small = omega arith; text = refl; extent = refl },
+    record { kind = refl; flags_are = tt; body_is = ([], refl); valid = refl },
+    (
+      0x07,
+      7,
+      heartbeat_body,
+      [],
+      record { len = 28; small = omega arith; text = refl; extent = refl },
+      record {
+        kind = refl;
+        flags_are = (refl, refl);
+        body_is = ([], refl);
+        valid = record { reader = refl; writer = refl; first = omega arith; not_past = omega arith; first_small = omega arith; last_small = omega arith; count = omega (arith, ints) };
+      },
+      (inl (omega arith), refl),
+    ),
+  );
+  stop = refl;
+  short = omega arith;
+}
+
+heartbeat-claims : Claims network heartbeat_packet (Asserts w1 r1 (pos 1))
+heartbeat-claims = record {
+  message = message prefix_1 prefix_2 (Heartbeat heartbeat);
+  offset = 68;
+  is_read = heartbeat-read;
+  own = prefix_2;
+  index = 1;
+  at = to_2;
+  submessage = Heartbeat heartbeat;
+  stands = (refl, refl);
+  says = (to_r1 every_reader 0 (inr refl), refl, refl);
+}
+
+-- once it was applied at r1, its count is no longer the newest: the same packet is not heard again
+abbrev delivery : Delivery
+delivery = record { packet = heartbeat_packet; report = record { moves = Heard w1 1 ∷ []; refused = None } }
+
+heartbeat-applied : IsApplied network delivery w1 r1 (pos 1)
+heartbeat-applied = record {
+  message = message prefix_1 prefix_2 (Heartbeat heartbeat);
+  offset = 68;
+  is_read = heartbeat-read;
+  own = prefix_2;
+  index = 1;
+  before = tt;
+  at = to_2;
+  heartbeat = heartbeat;
+  stands = (refl, refl);
+  is_to = to_r1 every_reader 0 (inr refl);
+  same_count = refl;
+}
+
+newest-before : IsNewest network [] w1 r1 (pos 1)
+newest-before earlier count among applied = absurd (omega (arith, among.1))
+
+newest-not_again : IsNewest network (delivery ∷ []) w1 r1 (pos 1) → ⊥
+newest-not_again newest = absurd (omega (arith, ints, newest delivery (pos 1) (0, omega arith, refl) heartbeat-applied))
+
+-- a HEARTBEAT that found no memory, or stands behind what found none, was not applied
+applied-not_from_the_refused : IsApplied network (record { packet = heartbeat_packet; report = record { moves = []; refused = Some 0 } }) w1 r1 (pos 1) → ⊥
+applied-not_from_the_refused h = absurd (omega (arith, h.before))
