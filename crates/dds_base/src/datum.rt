@@ -3,7 +3,7 @@
 //! RTPS 2.5, clause 10 (SerializedPayload: a representation identifier, two option octets, the data).
 //! `docs/WIRE.md`, "The datum".
 
-ghost use Rattle.std.specs.Prelude.{◌≡◌, ◌≤◌, ℕ, List, length, IfOk, IfErr, IfSome, MatchResult, Some};
+ghost use Rattle.std.specs.Prelude.{◌≡◌, ◌≢◌, ◌≤◌, ℕ, List, [], length, IfOk, IfErr, IfSome, MatchResult, Some};
 ghost use Rattle.dds_base.specs.DatumText.{ReadsDatum, ReadsKey, IsDatum, spelling_of_datum, spelling_of_key};
 ghost use Rattle.dds_base.specs.DatumAt.{datum_at, key_at, key_form_at, representation_at};
 ghost use Rattle.std.specs.Option.{option_map};
@@ -71,13 +71,18 @@ fn datum_parts(bytes: &[u8]) -> Option<(Key, &[u8])>
 }
 
 fn datum_of(alloc: Global, bytes: &[u8]) -> Result<Option<Datum>, Code>
-    ensures { MatchResult result (λ read. read ≡ datum_at bytes.now) (λ e. e ≡ Code.Memory) }
+    ensures exact { MatchResult result (λ read. read ≡ datum_at bytes.now) (λ e. e ≡ Code.Memory) }
+    ensures memory { IfErr result (λ e. (d : Datum) × (datum_at bytes.now ≡ Some d) × (d.value ≢ [])) }
 {
     let Some((key, value)) = datum_parts(bytes) else {
         return Ok(None);
     };
-    let value = Octets::from_vec(Vec::from_slice(alloc, value)?);
-    Ok(Some(Datum { key, value }))
+    let mut octets = Vec::with_capacity(alloc, value.len())?;
+    octets.extend_from_slice(value)?;
+    Ok(Some(Datum {
+        key,
+        value: Octets::from_vec(octets),
+    }))
 }
 
 fn datum_key_of(bytes: &[u8]) -> Option<Key>
@@ -102,7 +107,7 @@ fn key_of(bytes: &[u8]) -> Option<Key>
 ///
 /// # Errors
 ///
-/// `Memory` where no memory was found for the value.
+/// `Memory` where the bytes begin with a datum and no memory was found for its value.
 ///
 /// RTPS 2.5, clause 10.
 pub fn decode_datum(alloc: Global, bytes: &[u8]) -> Result<Option<Datum>, Code>
@@ -112,6 +117,8 @@ pub fn decode_datum(alloc: Global, bytes: &[u8]) -> Result<Option<Datum>, Code>
     ensures only { (d : Datum) → ReadsDatum bytes.now d → IfOk result (λ read. read ≡ Some d) }
     // Which of the two, in one step.
     ensures exact { MatchResult result (λ read. read ≡ datum_at bytes.now) (λ e. e ≡ Code.Memory) }
+    // Memory is taken for the value of a datum alone.
+    ensures memory { IfErr result (λ e. (d : Datum) × ReadsDatum bytes.now d × (d.value ≢ [])) }
 {
     datum_of(alloc, bytes)
 }

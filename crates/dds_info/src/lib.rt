@@ -4,7 +4,7 @@
 //! sample". Not here: which samples are picked, and their states and counts (`dds_cache`).
 #![tactic(auto)]
 
-ghost use Rattle.std.specs.Prelude.{◌≡◌, ◌<◌, ◌^◌, length, All, IfOk, IfErr, count_by};
+ghost use Rattle.std.specs.Prelude.{◌≡◌, ◌≢◌, [], ◌<◌, ◌^◌, length, All, IfOk, IfErr, count_by};
 ghost use Rattle.dds_base.specs.Access.{infos_of, own_generations, most_recent, is_of, with_ranks};
 ghost use Rattle.dds_base.specs.declared.code.Code.TheVariants.{Memory};
 
@@ -77,13 +77,15 @@ fn ranked(sample: &Picked, later: &[Picked]) -> SampleInfo
 ///
 /// # Errors
 ///
-/// `Memory` where a growth was refused.
+/// `Memory` where there are samples and no memory was found for their infos.
 ///
 /// DDS 1.4, 2.2.2.5 (SampleInfo).
 pub fn fill(alloc: Global, picked: &[Picked]) -> Result<Vec<SampleInfo>, Code>
     requires small { All (λ p. own_generations p < 2 ^ 64) picked.now }
     ensures ok { IfOk result (λ infos. infos.items ≡ infos_of picked.now) }
     ensures memory { IfErr result (λ e. e ≡ Memory) }
+    // Memory is taken for the infos alone.
+    ensures grows { IfErr result (λ e. picked.now ≢ []) }
 {
     let mut infos = Vec::with_capacity(alloc, picked.len())?;
     for (at, sample) in picked.iter().enumerate() {
