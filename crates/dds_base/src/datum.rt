@@ -3,7 +3,7 @@
 //! RTPS 2.5, clause 10 (SerializedPayload: a representation identifier, two option octets, the data).
 //! `docs/WIRE.md`, "The datum".
 
-ghost use Rattle.std.specs.Prelude.{◌≡◌, ◌≢◌, ◌≤◌, ℕ, List, [], length, IfOk, IfErr, IfSome, MatchResult, Some};
+ghost use Rattle.std.specs.Prelude.{◌≡◌, ◌≢◌, ◌↔◌, ◌≤◌, ℕ, List, [], length, IfOk, IfErr, IfSome, MatchResult, Some};
 ghost use Rattle.dds_base.specs.DatumText.{ReadsDatum, ReadsKey, IsDatum, spelling_of_datum, spelling_of_key};
 ghost use Rattle.dds_base.specs.DatumAt.{datum_at, key_at, key_form_at, representation_at};
 ghost use Rattle.std.specs.Option.{option_map};
@@ -182,6 +182,13 @@ pub fn encode_key(alloc: Global, key: &Key) -> Result<Vec<u8>, Code>
     out.extend_from_slice(&key.0)?;
     Ok(out)
 }
+
+/// A value of `MAX_VALUE` octets has a written form, a longer one has none.
+///
+/// A law of the constant: the function does nothing.
+pub fn max_value_is_the_longest()
+    ensures { (d : Datum) → IsDatum d ↔ (length d.key.0 ≡ 16) × (length d.value ≤ MAX_VALUE) }
+{}
 
 /// What is written is read as itself, and no bytes are read as two.
 pub fn spelling_is_read()

@@ -1,6 +1,7 @@
 //! Names of peers, writers and readers.
 
-ghost use Rattle.std.specs.Prelude.{◌≡◌, ◌++◌, length};
+ghost use Rattle.std.specs.Prelude.{◌≡◌, length, replicate};
+ghost use Rattle.dds_base.specs.Checked.{unknown_prefix};
 
 /// What the GUIDs of one peer begin with.
 ///
@@ -55,3 +56,14 @@ pub struct Guid {
     pub prefix: GuidPrefix,
     pub entity: EntityId,
 }
+
+/// GUIDPREFIX_UNKNOWN and ENTITYID_UNKNOWN are zeros, and the kinds are those of a writer and of a reader with a key
+/// (RTPS 2.5, 9.3).
+///
+/// A law of the constants: the function does nothing.
+pub fn unknown_names_are_zeros()
+    ensures prefix { GuidPrefix.UNKNOWN ≡ unknown_prefix }
+    ensures entity { EntityId.UNKNOWN ≡ record { 0 = replicate 4 0 } }
+    ensures writer_kind { EntityId.WRITER_KIND ≡ 2 }
+    ensures reader_kind { EntityId.READER_KIND ≡ 7 }
+{}

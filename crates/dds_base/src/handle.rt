@@ -1,6 +1,10 @@
 //! The handle of an instance or of a writer.
 
-ghost use Rattle.std.specs.Prelude.{◌≡◌};
+ghost use Rattle.std.specs.Prelude.{◌≡◌, List, None};
+ghost use Rattle.dds_base.specs.Access.{instance_of};
+ghost use Rattle.dds_base.specs.Ownership.{IsMatched};
+ghost use Rattle.dds_base.specs.declared.happening.Happening.{Happening};
+ghost use Rattle.dds_base.specs.declared.qos.ReaderQos.{ReaderQos};
 
 use std::marker::Model;
 
@@ -39,4 +43,15 @@ impl Handle {
     {
         self.number
     }
+}
+
+/// HANDLE_NIL, which has the number 0: the handle of no instance and of no matched writer, since they count from 1.
+///
+/// A law of the constant, which it gives back.
+pub fn nil_is_no_handle() -> Handle
+    ensures nil { result ≡ 0 }
+    ensures instance { (q : ReaderQos) (h : List Happening) → instance_of q h result ≡ None }
+    ensures writer { (q : ReaderQos) → IsMatched q result → ⊥ }
+{
+    Handle::NIL
 }

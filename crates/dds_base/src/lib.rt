@@ -31,15 +31,17 @@ pub use code::Code;
 pub use config::{Config, PeerConfig, ReaderConfig, WriterConfig};
 pub use datum::{
     Datum, MAX_VALUE, decode_datum, decode_datum_key, decode_key, encode_datum, encode_key,
-    take_key,
+    max_value_is_the_longest, take_key,
 };
 pub use endianness::Endianness;
 pub use field::{take_octets, take_u16, take_u32};
-pub use guid::{EntityId, Guid, GuidPrefix};
-pub use handle::Handle;
+pub use guid::{EntityId, Guid, GuidPrefix, unknown_names_are_zeros};
+pub use handle::{Handle, nil_is_no_handle};
 pub use happening::{Arrival, Happening, SamplePosition, StatusKind};
 pub use key::Key;
-pub use mask::{InstanceStateMask, Masks, SampleStateMask, StatusMask, ViewStateMask};
+pub use mask::{
+    InstanceStateMask, Masks, SampleStateMask, ViewStateMask, masks_ask_for_their_states,
+};
 pub use moment::Moment;
 pub use octets::Octets;
 pub use ownership::owner_is_found;

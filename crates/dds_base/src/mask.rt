@@ -1,6 +1,14 @@
-//! The states and statuses that a call asks for, as sets of bits.
+//! The states that a call asks for, as sets of bits.
 
-ghost use Rattle.std.specs.Prelude.{⊤, [], ◌∷◌, codes};
+ghost use Rattle.std.specs.Prelude.{⊤, ◌≡◌, ◌+◌, List, [], ◌∷◌, codes, IsSome, true};
+ghost use Rattle.dds_base.specs.Access.{sample_state_bit, view_state_bit, instance_state_bit, meets};
+ghost use Rattle.dds_base.specs.Instance.{instance_state_of};
+ghost use Rattle.dds_base.specs.declared.happening.Happening.{Happening};
+ghost use Rattle.dds_base.specs.declared.happening.SamplePosition.{SamplePosition};
+ghost use Rattle.dds_base.specs.declared.qos.ReaderQos.{ReaderQos};
+ghost use Rattle.dds_base.specs.declared.sample.InstanceState.TheVariants.{Alive, NotAliveDisposed, NotAliveNoWriters};
+ghost use Rattle.dds_base.specs.declared.sample.SampleState.TheVariants.{Read as HasBeenRead, NotRead};
+ghost use Rattle.dds_base.specs.declared.sample.ViewState.TheVariants.{New, NotNew};
 
 use bitflags::{Flag, Flags, bitflag_items};
 
@@ -114,44 +122,6 @@ impl Flags for InstanceStateMask {
     }
 }
 
-/// Statuses of a reader or a writer.
-///
-/// DDS 1.4, 2.2.4.1, 2.3.3 (StatusMask). Bits without a meaning are kept and ask for nothing.
-#[derive(Clone, Copy, Debug, PartialEq, Eq)]
-pub struct StatusMask(u32);
-
-bitflag_items! {
-    impl StatusMask: u32 {
-        const SAMPLE_LOST = 128;
-        const DATA_AVAILABLE = 1024;
-        const LIVELINESS_LOST = 2048;
-        const LIVELINESS_CHANGED = 4096;
-        const ANY = 65535;
-    }
-}
-
-impl Flags for StatusMask {
-    type Bits = u32;
-
-    ghost exact = { ⊤ };
-
-    ghost table = { (codes "SAMPLE_LOST", 128) ∷ (codes "DATA_AVAILABLE", 1024) ∷ (codes "LIVELINESS_LOST", 2048) ∷ (codes "LIVELINESS_CHANGED", 4096) ∷ (codes "ANY", 65535) ∷ [] };
-
-    ghost set_of = { λ m. m.0 };
-
-    fn flags<'a>() -> &'a [Flag<StatusMask>] {
-        StatusMask::FLAGS
-    }
-
-    fn bits(&self) -> u32 {
-        self.0
-    }
-
-    fn from_bits_retain(bits: u32) -> StatusMask {
-        StatusMask(bits)
-    }
-}
-
 /// What an access asks of each sample, its instance's view and its instance's state.
 #[derive(Clone, Copy, Debug, PartialEq, Eq)]
 pub struct Masks {
@@ -169,6 +139,26 @@ impl Masks {
     };
 }
 
+/// The bits of the constants are those of the states, and ANY asks for every state (DDS 1.4, 2.3.3).
+///
+/// A law of the constants: the function does nothing.
+pub fn masks_ask_for_their_states()
+    ensures read { SampleStateMask.READ.0 ≡ sample_state_bit HasBeenRead }
+    ensures not_read { SampleStateMask.NOT_READ.0 ≡ sample_state_bit NotRead }
+    ensures any_sample_state { SampleStateMask.ANY.0 ≡ 65535 }
+    ensures new { ViewStateMask.NEW.0 ≡ view_state_bit New }
+    ensures not_new { ViewStateMask.NOT_NEW.0 ≡ view_state_bit NotNew }
+    ensures any_view_state { ViewStateMask.ANY.0 ≡ 65535 }
+    ensures alive { InstanceStateMask.ALIVE.0 ≡ instance_state_bit Alive }
+    ensures not_alive_disposed { InstanceStateMask.NOT_ALIVE_DISPOSED.0 ≡ instance_state_bit NotAliveDisposed }
+    ensures not_alive_no_writers { InstanceStateMask.NOT_ALIVE_NO_WRITERS.0 ≡ instance_state_bit NotAliveNoWriters }
+    ensures not_alive { InstanceStateMask.NOT_ALIVE.0 ≡ instance_state_bit NotAliveDisposed + instance_state_bit NotAliveNoWriters }
+    ensures any_instance_state { InstanceStateMask.ANY.0 ≡ 65535 }
+    ensures any { Masks.ANY ≡ record { samples = SampleStateMask.ANY; views = ViewStateMask.ANY; instances = InstanceStateMask.ANY } }
+    ensures every_sample { (q : ReaderQos) (h : List Happening) (s : SamplePosition) → IsSome (instance_state_of q s.key h)
+        → meets q h Masks.ANY s ≡ true }
+{}
+
 #[cfg(test)]
 mod tests {
     use super::*;
@@ -184,14 +174,9 @@ mod tests {
         assert_eq!(rt; InstanceStateMask::ALIVE.bits(), 1);
         assert_eq!(rt; InstanceStateMask::NOT_ALIVE_DISPOSED.bits(), 2);
         assert_eq!(rt; InstanceStateMask::NOT_ALIVE_NO_WRITERS.bits(), 4);
-        assert_eq!(rt; StatusMask::SAMPLE_LOST.bits(), 128);
-        assert_eq!(rt; StatusMask::DATA_AVAILABLE.bits(), 1024);
-        assert_eq!(rt; StatusMask::LIVELINESS_LOST.bits(), 2048);
-        assert_eq!(rt; StatusMask::LIVELINESS_CHANGED.bits(), 4096);
         assert_eq!(rt; SampleStateMask::ANY.bits(), 65535);
         assert_eq!(rt; ViewStateMask::ANY.bits(), 65535);
         assert_eq!(rt; InstanceStateMask::ANY.bits(), 65535);
-        assert_eq!(rt; StatusMask::ANY.bits(), 65535);
         assert!(rt; Masks::ANY.instances.contains(InstanceStateMask::NOT_ALIVE));
         assert_eq!(rt; SampleStateMask::from_bits_retain(8).bits(), 8);
     }

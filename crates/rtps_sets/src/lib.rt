@@ -8,5 +8,5 @@ mod sn_set;
 mod tests;
 mod window;
 
-pub use sn_set::{MAX_BITS, SnSet};
+pub use sn_set::{MAX_BITS, SnSet, max_bits_is_the_width};
 pub use window::{Mark, Window};

@@ -101,3 +101,11 @@ fn span_of(members: &[bool]) -> usize
     }
     bits
 }
+
+/// The members of every set lie within `MAX_BITS` numbers from its base on.
+///
+/// A law of the constant: the function does nothing.
+pub fn max_bits_is_the_width()
+    ensures width { MAX_BITS ≡ 256 }
+    ensures from { (base : ℕ) → length (empty_from base).members ≡ MAX_BITS }
+{}

@@ -33,4 +33,6 @@ pub use heartbeat::Heartbeat;
 pub use message::{Message, Read};
 pub use read::read_message;
 pub use submessage::{Submessage, Submessages};
-pub use write::{few_are_writable, is_writable, spelling_is_read, write_message};
+pub use write::{
+    few_are_writable, is_writable, limits_are_of_the_grammar, spelling_is_read, write_message,
+};

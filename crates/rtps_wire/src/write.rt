@@ -3,13 +3,15 @@
 ghost use Rattle.std.specs.List.{AllByRecursion};
 ghost use Rattle.std.specs.Prelude.{◌≡◌, ◌<◌, ◌≤◌, ◌^◌, ◌++◌, ℕ, List, length, OnOk, IfOk, IfErr, IsTrue, ◌↔◌};
 ghost use Rattle.rtps_wire.specs.Submessages.{id_of, flags_of, text_of, body_of, IsSpellable, spelling_of_submessage};
+ghost use Rattle.rtps_wire.specs.Heartbeat.{IsHeartbeat};
 ghost use Rattle.rtps_wire.specs.Messages.{IsWritable, ReadsMessage, spelling_of};
+ghost use Rattle.rtps_wire.specs.declared.heartbeat.Heartbeat.{Heartbeat};
 ghost use Rattle.rtps_wire.specs.declared.message.Message.{Message};
 ghost use Rattle.rtps_wire.specs.declared.submessage.Submessage.{Submessage};
 
 use crate::acknack::{is_acknack, put_acknack};
 use crate::data::{content_flags, content_len, is_content, is_data, put_data};
-use crate::field::put_u64;
+use crate::field::{MAX_SN, put_u64};
 use crate::gap::{is_gap, put_gap};
 use crate::header::MAX_MESSAGE;
 use crate::heartbeat::{is_heartbeat, put_heartbeat};
@@ -191,6 +193,17 @@ pub fn spelling_is_read()
     ensures again { (m : Message) → IsWritable m → ReadsMessage (spelling_of m) m (length (spelling_of m)) }
     ensures one { (bytes : List ℕ) (m n : Message) (o p : ℕ) → ReadsMessage bytes m o → ReadsMessage bytes n p
         → (m ≡ n) × (o ≡ p) }
+{}
+
+/// The limits are those of the grammar: a message of `MAX_MESSAGE` octets, and a number of `MAX_SN`, are the last.
+///
+/// A law of the constants: the function does nothing.
+pub fn limits_are_of_the_grammar()
+    ensures message { MAX_MESSAGE ≡ 65535 }
+    ensures written { (m : Message) → IsWritable m → length (spelling_of m) ≤ MAX_MESSAGE }
+    ensures read { (bytes : List ℕ) (m : Message) (offset : ℕ) → ReadsMessage bytes m offset → length bytes ≤ MAX_MESSAGE }
+    ensures number { MAX_SN ≡ 2 ^ 62 }
+    ensures heartbeat { (h : Heartbeat) → IsHeartbeat h → h.last_sn ≤ MAX_SN }
 {}
 
 /// At most 61 submessages that can be written one by one can be written together: each takes at most 1,072 octets.
