@@ -11,3 +11,4 @@ mod WorkedPackets
 mod WorkedMoves
 mod WorkedPeers
 mod WorkedReceipt
+mod OwnGuids

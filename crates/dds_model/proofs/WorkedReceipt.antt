@@ -210,7 +210,8 @@ refused-within config ground peer own (s ∷ ss) index at old moves refused new 
     ⊎_elim (λ stop. let here = some_is refused index stop.1 in (omega arith, omega arith))
     (λ on. let later = refused-within config ground peer own ss (index + 1) (after_submessage own at s) on.2 on.1 refused new on.6 in (omega arith, omega arith)) h
 
-refused-in : (index refused : ℕ) (at : Receiver) (ss : List Submessage) (old new : Part) (moves : List Move) → TakenFrom index at ss old moves (Some refused) new → (index ≤ refused) × (refused < index + length ss)
+refused-in : (index refused : ℕ) (at : Receiver) (ss : List Submessage) (old new : Part) (moves : List Move) → TakenFrom index at ss old moves (Some refused) new
+    → (index ≤ refused) × (refused < index + length ss)
 refused-in index refused at ss old new moves h = refused-within (pair KeepAll) (λ index. grounds) 2 prefix_2 ss index at old moves refused new h
 
 taken_up-not_refused_5 : (moves : List Move) (new : Part) → TakenUp moves (Some 5) new → ⊥

@@ -1,7 +1,13 @@
 -- What holds of every network and every run.
-use Rattle.std.specs.Prelude.{◌≡◌, ℕ, List, [], ◌∷◌, length}
+use Rattle.std.specs.Prelude.{◌≡◌, ◌≢◌, ℕ, ◌≤◌, Some, None, IsSome, List, [], ◌∷◌, length, Contains}
 use Rattle.dds_base.specs.declared.config.Config.{Config}
+use Rattle.dds_base.specs.declared.config.PeerConfig.{PeerConfig}
+use Rattle.dds_base.specs.declared.config.ReaderConfig.{ReaderConfig}
+use Rattle.dds_base.specs.declared.happening.Happening.{Happening}
+use Rattle.dds_base.specs.declared.key.Key.{Key}
 use Rattle.dds_base.specs.declared.qos.HistoryQos.TheVariants.{KeepAll}
+use Rattle.dds_base.specs.Checked.{check_refusal}
+use Rattle.dds_base.specs.Ownership.{IsMatched, HaveOwnGuids, registered_writers, owner_of}
 use Rattle.dds_model.specs.declared.endpoint.Endpoint.{Endpoint}
 use Rattle.dds_model.specs.declared.event.WorldEvent.{WorldEvent}
 use Rattle.dds_model.specs.declared.reply.Move.{Move}
@@ -12,7 +18,8 @@ use Rattle.dds_model.specs.Machine.{Machine, AllTests, writer_at, Step}
 use Rattle.dds_model.specs.World.{WorldState, WorldStep, machine_of, Sound}
 use Rattle.dds_model.specs.Progress.{Progresses}
 use Rattle.dds_model.specs.Runs.{Traffic, Sends, Run}
-use Rattle.dds_model.specs.Opening.{opening_world}
+use Rattle.dds_model.specs.Part.{publication_of}
+use Rattle.dds_model.specs.Opening.{opening_world, matched_writers, reader_qos}
 
 -- a step of peers, on packets that were sent, is a step of the machine, which takes up what is delivered, and leaves all
 -- claims true
@@ -55,3 +62,20 @@ LosesNone writer (reply ∷ replies) = LosesNone writer replies
 abbrev pub KeepAllIsKept : Type 0
 KeepAllIsKept = (config : Config) (tests : AllTests) (writer : Endpoint) (m after : Machine) (events : List WorldEvent) (replies : List Reply) (sent last : Traffic)
     → (writer_at m writer).policy ≡ KeepAll → Run config tests sent m events replies last after → LosesNone writer replies
+
+-- A reader of these peers tells its matched writers apart: no two have one GUID, and each publication handle, from 1 on, is
+-- that of one.
+pub record TellsWritersApart (peers : List PeerConfig) (reader : ReaderConfig) : Type 0 where
+  pub own_guids : HaveOwnGuids (reader_qos peers reader)
+  pub each_handle : (handle : ℕ) → 1 ≤ handle → handle ≤ length (matched_writers reader.topic 1 peers) → IsMatched (reader_qos peers reader) handle
+  pub each_writer : (writer : Endpoint) (handle : ℕ) → publication_of (matched_writers reader.topic 1 peers) writer ≡ Some handle → IsMatched (reader_qos peers reader) handle
+
+-- so does each reader of a configuration that is not refused
+abbrev pub ReadersTellWritersApart : Type 0
+ReadersTellWritersApart = (config : Config) (peer : PeerConfig) (reader : ReaderConfig) → check_refusal config.peers ≡ None → Contains config.peers peer → Contains peer.readers reader
+    → TellsWritersApart config.peers reader
+
+-- at each of its readers an instance has an owner wherever a writer is registered for it
+abbrev pub OwnersExist : Type 0
+OwnersExist = (config : Config) (peer : PeerConfig) (reader : ReaderConfig) (i : Key) (h : List Happening) → check_refusal config.peers ≡ None → Contains config.peers peer
+    → Contains peer.readers reader → registered_writers (reader_qos config.peers reader) i h ≢ [] → IsSome (owner_of (reader_qos config.peers reader) (registered_writers (reader_qos config.peers reader) i h))

@@ -1,7 +1,9 @@
 //! What holds of every network and every run.
 
 ghost use Rattle.dds_model.specs.InOrder.{ChangesComeInOrder};
-ghost use Rattle.dds_model.specs.Laws.{Composes, ComposesRuns, KeepAllIsKept, OpensSound};
+ghost use Rattle.dds_model.specs.Laws.{Composes, ComposesRuns, KeepAllIsKept, OpensSound, OwnersExist, ReadersTellWritersApart};
+
+use dds_base::owner_is_found;
 
 /// All that packets claim is true at the opening of every configuration.
 pub fn opens_sound()
@@ -28,3 +30,12 @@ pub fn keep_all_is_kept()
 pub fn changes_come_in_order()
     ensures { ChangesComeInOrder }
 {}
+
+/// Each reader of a configuration that is not refused tells its matched writers apart, by GUIDs and by publication handles:
+/// so an instance has an owner wherever a writer is registered for it.
+pub fn owners_exist()
+    ensures apart { ReadersTellWritersApart }
+    ensures owner { OwnersExist }
+{
+    owner_is_found();
+}
