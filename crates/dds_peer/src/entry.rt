@@ -16,24 +16,32 @@ fn tell(errors: &mut impl Write, text: &str) {
     let _ = errors.flush();
 }
 
+/// Runs a script, and answers the exit status.
+fn simulate<R: Read + Drop, W: Write + Drop>(
+    alloc: Global,
+    input: R,
+    output: W,
+    errors: &mut impl Write,
+) -> u8 {
+    let status = sim(alloc, input, output);
+    if let Some(fault) = status.fault {
+        let _ = errors.writeln(fault);
+        let _ = errors.flush();
+    }
+    status.exit
+}
+
 /// Does what the words ask for, prints a fault on `errors`, and answers the exit status: 0 where all went well, 1 after
 /// a fault, 2 for wrong words. The first word is the name of the program.
-pub fn program<'a, R: Read + Drop, W: Write + Drop>(
+pub fn program<R: Read + Drop, W: Write + Drop>(
     alloc: Global,
-    words: &'a [&'a str],
+    words: &[String],
     input: R,
     output: W,
     errors: &mut impl Write,
 ) -> u8 {
     match read_words(alloc, words) {
-        Ok(Task::Simulate) => {
-            let status = sim(alloc, input, output);
-            if let Some(fault) = status.fault {
-                let _ = errors.writeln(fault);
-                let _ = errors.flush();
-            }
-            status.exit
-        }
+        Ok(Task::Simulate) => simulate(alloc, input, output, errors),
         Err(error) if error.kind() == ErrorKind::OutOfMemory => {
             tell(errors, "memory");
             1

@@ -22,7 +22,7 @@ pub enum Fault {
 }
 
 /// How a program ended: its exit status, and the fault if there was one.
-#[derive(Debug, Drop)]
+#[derive(Drop)]
 pub struct Status {
     pub exit: u8,
     pub fault: Option<Fault>,

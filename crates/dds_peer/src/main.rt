@@ -11,8 +11,6 @@ mod script;
 mod setup;
 mod simulation;
 mod stream;
-#[cfg(test)]
-mod tests;
 mod words;
 
 use entry::program;
@@ -22,7 +20,6 @@ use std::{env, io};
 fn main(rt: HostRuntime) -> io::Result<ExitCode> {
     let alloc = rt.alloc();
     let words: Vec<String> = env::args(&rt)?.collect(alloc)?;
-    let words: Vec<&str> = words.iter().map(|word| word.as_str()).collect(alloc)?;
     let exit = program(
         alloc,
         &words,

@@ -1,11 +1,12 @@
 //! What a simulation prints.
 
-use dds_base::{Code, InstanceState, Key, Sample, SampleInfo, SampleState, Sequence, ViewState};
+use dds_base::{Code, InstanceState, Key, Sample, SampleInfo, SampleState, ViewState};
 use dds_model::{Endpoint, Move, PassedRun, Reply, Report};
-use std::alloc::AllocError;
+use std::alloc::{AllocError, Global};
+use std::fmt::Display;
 
 /// What was sent, and what was not, in one event.
-#[derive(Clone, Copy, Debug)]
+#[derive(Clone, Copy)]
 pub struct Traffic {
     /// How many packets had been sent before it, and how many after it.
     pub before: u64,
@@ -14,40 +15,11 @@ pub struct Traffic {
     pub unsent: u64,
 }
 
-/// Octets in hexadecimal digits, two each.
-pub fn push_octets(text: &mut String, octets: &[u8]) -> Result<(), AllocError> {
-    for octet in octets {
-        write!(text, "{octet:02x}")?;
-    }
-    Ok(())
-}
-
-/// A key in hexadecimal digits without leading zeros, `0` for all zeros.
-fn push_key(text: &mut String, key: Key) -> Result<(), AllocError> {
-    let mut is_started = false;
-    for octet in key.0 {
-        for digit in [octet >> 4, octet & 0xf] {
-            if digit != 0 || is_started {
-                write!(text, "{digit:x}")?;
-                is_started = true;
-            }
-        }
-    }
-    if !is_started {
-        text.push('0')?;
-    }
-    Ok(())
-}
-
-fn push_value(text: &mut String, sample: &Sample) -> Result<(), AllocError> {
-    let octets = sample.value.as_slice();
-    if !sample.info.valid_data {
-        text.push('!')
-    } else if octets.is_empty() {
-        text.push('-')
-    } else {
-        push_octets(text, octets)
-    }
+/// A line of the transcript that is being written. Whether memory was found for all of it is told at its end.
+#[derive(Drop)]
+pub struct TranscriptLine {
+    text: String,
+    is_whole: bool,
 }
 
 fn sample_state(state: SampleState) -> char {
@@ -72,120 +44,176 @@ fn instance_state(state: InstanceState) -> char {
     }
 }
 
-fn push_info(text: &mut String, info: &SampleInfo) -> Result<(), AllocError> {
-    let sample = sample_state(info.sample_state);
-    let view = view_state(info.view_state);
-    let instance = instance_state(info.instance_state);
-    write!(text, " {sample} {view} {instance}")?;
-    let (disposed, no_writers) = (
-        info.disposed_generation_count,
-        info.no_writers_generation_count,
-    );
-    write!(text, " {disposed} {no_writers}")?;
-    let (rank, generation) = (info.sample_rank, info.generation_rank);
-    let absolute = info.absolute_generation_rank;
-    write!(text, " {rank} {generation} {absolute}")?;
-    let moment = info.source_timestamp.units();
-    let (instance, publication) = (
-        info.instance_handle.number(),
-        info.publication_handle.number(),
-    );
-    write!(text, " {moment} {instance} {publication}")
-}
-
-fn push_samples(text: &mut String, samples: &Sequence<Sample>) -> Result<(), AllocError> {
-    let samples = samples.as_slice();
-    let count = samples.len();
-    write!(text, "samples {count}")?;
-    for sample in samples {
-        text.push_str(" [")?;
-        push_key(text, sample.key)?;
-        text.push(' ')?;
-        push_value(text, sample)?;
-        push_info(text, &sample.info)?;
-        text.push(']')?;
-    }
-    Ok(())
-}
-
-fn push_code(text: &mut String, code: Code) -> Result<(), AllocError> {
-    let number = code.number();
-    write!(text, "code {number}")
-}
-
-fn push_place(
-    text: &mut String,
-    writer: Endpoint,
-    reader: u8,
-    to: u64,
-    passed: &Sequence<PassedRun>,
-) -> Result<(), AllocError> {
-    let (peer, number) = (writer.peer, writer.number);
-    write!(text, " [place {peer}.w{number} r{reader} {to}")?;
-    for run in passed.as_slice() {
-        let (first, last) = (run.first.number(), run.last.number());
-        write!(text, " lost {first}-{last}")?;
-    }
-    text.push(']')
-}
-
-fn push_move(text: &mut String, step: &Move) -> Result<(), AllocError> {
-    match step {
-        Move::Place {
-            writer,
-            reader,
-            to,
-            passed,
-        } => push_place(text, *writer, *reader, to.number(), passed),
-        Move::Acknowledged { writer, reader, to } => {
-            let (peer, number) = (reader.peer, reader.number);
-            let to = to.number();
-            write!(text, " [acked w{writer} {peer}.r{number} {to}]")
+impl TranscriptLine {
+    /// An empty line.
+    pub fn new(alloc: Global) -> Self {
+        TranscriptLine {
+            text: String::new(alloc),
+            is_whole: true,
         }
     }
-}
 
-fn push_report(text: &mut String, report: &Report) -> Result<(), AllocError> {
-    text.push_str("report")?;
-    for step in report.moves.as_slice() {
-        push_move(text, step)?;
-    }
-    if let Some(index) = report.refused {
-        write!(text, " nomem {index}")?;
-    }
-    Ok(())
-}
-
-/// A reply, as a script's transcript has it.
-pub fn push_reply(text: &mut String, reply: &Reply) -> Result<(), AllocError> {
-    match reply {
-        Reply::Done => text.push_str("ok"),
-        Reply::Samples(samples) => push_samples(text, samples),
-        Reply::Reported(report) => push_report(text, report),
-        Reply::Refused(code) => push_code(text, *code),
-    }
-}
-
-/// Which packets an event sent, and how many it could not.
-pub fn push_traffic(text: &mut String, traffic: Traffic) -> Result<(), AllocError> {
-    if traffic.before < traffic.after {
-        let (first, last) = (traffic.before.saturating_add(1), traffic.after);
-        write!(text, " sent {first}-{last}")?;
-    }
-    if traffic.unsent > 0 {
-        let unsent = traffic.unsent;
-        write!(text, " unsent {unsent}")?;
-    }
-    Ok(())
-}
-
-/// The bytes of a packet, or that there is none.
-pub fn push_packet(text: &mut String, number: u64, bytes: Option<&[u8]>) -> Result<(), AllocError> {
-    match bytes {
-        Some(bytes) => {
-            write!(text, "packet {number} ")?;
-            push_octets(text, bytes)
+    /// The line, with its line feed.
+    pub fn finish(mut self) -> Result<String, AllocError> {
+        self.push('\n');
+        if self.is_whole {
+            Ok(self.text)
+        } else {
+            Err(AllocError)
         }
-        None => push_code(text, Code::BadParameter),
+    }
+
+    fn push(&mut self, piece: impl Display + Drop) {
+        if write!(self.text, "{piece}").is_err() {
+            self.is_whole = false;
+        }
+    }
+
+    /// Octets in hexadecimal digits, two each.
+    fn push_octets(&mut self, octets: &[u8]) {
+        for octet in octets {
+            self.push(format_args!("{octet:02x}"));
+        }
+    }
+
+    /// A key in hexadecimal digits without leading zeros, `0` for all zeros.
+    fn push_key(&mut self, key: Key) {
+        let number = u128::from_be_bytes(key.0);
+        self.push(format_args!(" [{number:x} "));
+    }
+
+    fn push_value(&mut self, sample: &Sample) {
+        let octets = sample.value.as_slice();
+        if !sample.info.valid_data {
+            self.push('!');
+        } else if octets.is_empty() {
+            self.push('-');
+        } else {
+            self.push_octets(octets);
+        }
+    }
+
+    fn push_states(&mut self, info: &SampleInfo) {
+        let sample = sample_state(info.sample_state);
+        let view = view_state(info.view_state);
+        let instance = instance_state(info.instance_state);
+        self.push(format_args!(" {sample} {view} {instance}"));
+    }
+
+    fn push_numbers(&mut self, info: &SampleInfo) {
+        let numbers = [
+            info.disposed_generation_count,
+            info.no_writers_generation_count,
+            info.sample_rank,
+            info.generation_rank,
+            info.absolute_generation_rank,
+            info.source_timestamp.units(),
+            info.instance_handle.number(),
+            info.publication_handle.number(),
+        ];
+        for number in numbers {
+            self.push(format_args!(" {number}"));
+        }
+    }
+
+    fn push_sample(&mut self, sample: &Sample) {
+        self.push_key(sample.key);
+        self.push_value(sample);
+        self.push_states(&sample.info);
+        self.push_numbers(&sample.info);
+        self.push(']');
+    }
+
+    fn push_samples(&mut self, samples: &[Sample]) {
+        let count = samples.len();
+        self.push(format_args!("samples {count}"));
+        for sample in samples {
+            self.push_sample(sample);
+        }
+    }
+
+    fn push_code(&mut self, code: Code) {
+        let number = code.number();
+        self.push(format_args!("code {number}"));
+    }
+
+    fn push_range(&mut self, name: &str, first: u64, last: u64) {
+        self.push(format_args!(" {name} {first}-{last}"));
+    }
+
+    fn push_place(&mut self, writer: Endpoint, reader: u8, to: u64, passed: &[PassedRun]) {
+        let (peer, number) = (writer.peer, writer.number);
+        self.push(format_args!(" [place {peer}.w{number} r{reader} {to}"));
+        for run in passed {
+            self.push_range("lost", run.first.number(), run.last.number());
+        }
+        self.push(']');
+    }
+
+    fn push_heard(&mut self, writer: Endpoint, reader: u8) {
+        let (peer, number) = (writer.peer, writer.number);
+        self.push(format_args!(" [heard {peer}.w{number} r{reader}]"));
+    }
+
+    fn push_acknowledged(&mut self, writer: u8, reader: Endpoint, to: u64) {
+        let (peer, number) = (reader.peer, reader.number);
+        self.push(format_args!(" [acked w{writer} {peer}.r{number} {to}]"));
+    }
+
+    fn push_move(&mut self, step: &Move) {
+        match step {
+            Move::Place {
+                writer,
+                reader,
+                to,
+                passed,
+            } => self.push_place(*writer, *reader, to.number(), passed.as_slice()),
+            Move::Heard { writer, reader } => self.push_heard(*writer, *reader),
+            Move::Acknowledged { writer, reader, to } => {
+                self.push_acknowledged(*writer, *reader, to.number());
+            }
+        }
+    }
+
+    fn push_report(&mut self, report: &Report) {
+        self.push("report");
+        for step in report.moves.as_slice() {
+            self.push_move(step);
+        }
+        if let Some(index) = report.refused {
+            self.push(format_args!(" nomem {index}"));
+        }
+    }
+
+    /// A reply.
+    pub fn push_reply(&mut self, reply: &Reply) {
+        match reply {
+            Reply::Done => self.push("ok"),
+            Reply::Samples(samples) => self.push_samples(samples.as_slice()),
+            Reply::Reported(report) => self.push_report(report),
+            Reply::Refused(code) => self.push_code(*code),
+        }
+    }
+
+    /// Which packets an event sent, and how many it could not.
+    pub fn push_traffic(&mut self, traffic: Traffic) {
+        if traffic.before < traffic.after {
+            self.push_range("sent", traffic.before.saturating_add(1), traffic.after);
+        }
+        if traffic.unsent > 0 {
+            let unsent = traffic.unsent;
+            self.push(format_args!(" unsent {unsent}"));
+        }
+    }
+
+    /// The bytes of a packet, or that there is none.
+    pub fn push_packet(&mut self, number: u64, bytes: Option<&[u8]>) {
+        match bytes {
+            Some(bytes) => {
+                self.push(format_args!("packet {number} "));
+                self.push_octets(bytes);
+            }
+            None => self.push_code(Code::BadParameter),
+        }
     }
 }

@@ -6,9 +6,10 @@ use dds_base::{
     WriterConfig,
 };
 use std::alloc::{AllocError, Global};
+use std::mem;
 
 /// What the options of a writer or a reader say.
-#[derive(Clone, Copy, Debug)]
+#[derive(Clone, Copy)]
 pub struct Options {
     pub ownership: OwnershipQos,
     pub history: HistoryQos,
@@ -22,7 +23,7 @@ pub struct Options {
 
 impl Options {
     /// Those of a line without options.
-    pub fn new() -> Self {
+    fn new() -> Self {
         Options {
             ownership: OwnershipQos::Shared,
             history: HistoryQos::KeepLast(1),
@@ -36,74 +37,71 @@ impl Options {
     }
 
     /// Takes up an option that writers and readers have, if it is one. Of one given twice the last counts.
-    fn take_common(&mut self, word: &[u8]) -> Option<()> {
+    fn take_common(&mut self, word: &str) -> Option<()> {
         match word {
-            b"shared" => self.ownership = OwnershipQos::Shared,
-            b"exclusive" => self.ownership = OwnershipQos::Exclusive,
-            b"all" => self.history = HistoryQos::KeepAll,
-            [b'l', b'a', b's', b't', b'=', depth @ ..] => {
-                self.history = HistoryQos::KeepLast(decimal_u32(depth)?);
-            }
-            [b'm', b'a', b'x', b'=', max @ ..] => self.max_samples = decimal_i32(max)?,
-            [b'l', b'e', b'a', b's', b'e', b'=', units @ ..] => self.lease = Some(decimal(units)?),
-            [b't', b'o', b'p', b'i', b'c', b'=', topic @ ..] => self.topic = decimal_u32(topic)?,
+            "shared" => self.ownership = OwnershipQos::Shared,
+            "exclusive" => self.ownership = OwnershipQos::Exclusive,
+            "all" => self.history = HistoryQos::KeepAll,
+            _ => self.take_number(word)?,
+        }
+        Some(())
+    }
+
+    /// Takes up an option with a number, if it is one that writers and readers have.
+    fn take_number(&mut self, word: &str) -> Option<()> {
+        let (name, number) = word.split_once('=')?;
+        match name {
+            "last" => self.history = HistoryQos::KeepLast(decimal_u32(number)?),
+            "max" => self.max_samples = decimal_i32(number)?,
+            "lease" => self.lease = Some(decimal(number)?),
+            "topic" => self.topic = decimal_u32(number)?,
             _ => return None,
         }
         Some(())
     }
 
     /// Takes up an option of a writer, if it is one.
-    pub fn take_writer(&mut self, word: &[u8]) -> Option<()> {
-        match word {
-            b"noauto" => {
-                self.autodispose = false;
-                Some(())
-            }
-            [
-                b's',
-                b't',
-                b'r',
-                b'e',
-                b'n',
-                b'g',
-                b't',
-                b'h',
-                b'=',
-                strength @ ..,
-            ] => {
-                self.strength = decimal_i32(strength)?;
-                Some(())
-            }
-            _ => self.take_common(word),
+    fn take_writer(&mut self, word: &str) -> Option<()> {
+        if word == "noauto" {
+            self.autodispose = false;
+        } else if let Some(strength) = word.strip_prefix("strength=") {
+            self.strength = decimal_i32(strength)?;
+        } else {
+            self.take_common(word)?;
         }
+        Some(())
     }
 
     /// Takes up an option of a reader, if it is one.
-    pub fn take_reader(&mut self, word: &[u8]) -> Option<()> {
-        match word {
-            [
-                b'i',
-                b'n',
-                b's',
-                b't',
-                b'a',
-                b'n',
-                b'c',
-                b'e',
-                b's',
-                b'=',
-                max @ ..,
-            ] => {
-                self.max_instances = decimal_i32(max)?;
-                Some(())
-            }
-            _ => self.take_common(word),
+    fn take_reader(&mut self, word: &str) -> Option<()> {
+        match word.strip_prefix("instances=") {
+            Some(max) => self.max_instances = decimal_i32(max)?,
+            None => self.take_common(word)?,
         }
+        Some(())
     }
 }
 
+/// What the options of a writer say.
+pub fn writer_options(words: &[&str]) -> Option<Options> {
+    let mut options = Options::new();
+    for word in words {
+        options.take_writer(word)?;
+    }
+    Some(options)
+}
+
+/// What the options of a reader say.
+pub fn reader_options(words: &[&str]) -> Option<Options> {
+    let mut options = Options::new();
+    for word in words {
+        options.take_reader(word)?;
+    }
+    Some(options)
+}
+
 /// A line of the set-up.
-#[derive(Clone, Copy, Debug)]
+#[derive(Clone, Copy)]
 pub enum SetupLine {
     Peer,
     Writer(Options),
@@ -140,27 +138,20 @@ impl Setup {
 
     /// Takes up a line. Answers whether it may stand here: a writer or a reader needs a peer before it.
     pub fn take(&mut self, line: SetupLine) -> Result<bool, AllocError> {
-        let draft = match line {
-            SetupLine::Peer => {
-                self.peers.push(PeerDraft {
-                    writers: Vec::new(self.alloc),
-                    readers: Vec::new(self.alloc),
-                })?;
-                return Ok(true);
-            }
-            SetupLine::Writer(_) | SetupLine::Reader(_) => self.peers.last_mut(),
-        };
-        let Some(draft) = draft else {
-            return Ok(false);
-        };
-        draft.take(line)?;
-        Ok(true)
+        if let SetupLine::Peer = line {
+            self.peers.push(PeerDraft::new(self.alloc))?;
+            return Ok(true);
+        }
+        match self.peers.last_mut() {
+            Some(draft) => draft.take(line),
+            None => Ok(false),
+        }
     }
 
     /// The configuration of the peers: prefixes of eleven zeros and the peer's number, entities by their numbers.
-    pub fn config(self) -> Result<Config, AllocError> {
-        let Setup { alloc, peers } = self;
-        let mut configs = Vec::with_capacity(alloc, peers.len())?;
+    pub fn config(&mut self) -> Result<Config, AllocError> {
+        let peers = mem::replace(&mut self.peers, Vec::new(self.alloc));
+        let mut configs = Vec::with_capacity(self.alloc, peers.len())?;
         for draft in peers {
             let number = low_octet(configs.len().saturating_add(1));
             configs.push(draft.config(number))?;
@@ -172,7 +163,14 @@ impl Setup {
 }
 
 impl PeerDraft {
-    fn take(&mut self, line: SetupLine) -> Result<(), AllocError> {
+    fn new(alloc: Global) -> Self {
+        PeerDraft {
+            writers: Vec::new(alloc),
+            readers: Vec::new(alloc),
+        }
+    }
+
+    fn take(&mut self, line: SetupLine) -> Result<bool, AllocError> {
         match line {
             SetupLine::Peer => {}
             SetupLine::Writer(options) => {
@@ -184,7 +182,7 @@ impl PeerDraft {
                 self.readers.push(reader_config(number, options))?;
             }
         }
-        Ok(())
+        Ok(true)
     }
 
     fn config(self, number: u8) -> PeerConfig {

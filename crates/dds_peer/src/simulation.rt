@@ -1,21 +1,22 @@
 //! A script, run over a simulated network.
 
 use crate::fault::{Fault, Status};
-use crate::printing::{Traffic, push_packet, push_reply, push_traffic};
-use crate::script::{Line, line_of};
+use crate::printing::{Traffic, TranscriptLine};
+use crate::script::Line;
 use crate::setup::{Setup, SetupLine};
-use crate::stream::ScriptLines;
+use crate::stream::Script;
 use dds_base::Code;
 use dds_model::WorldEvent;
 use dds_world::World;
 use std::alloc::{AllocError, Global};
 use std::io::{Read, Write};
 
-/// How far a script has come: its set-up, or its network.
+/// The network of a script: its set-up, and the world that this gives once another line follows.
 #[derive(Drop)]
-enum Progress {
-    SettingUp(Setup),
-    Running(World),
+struct Network {
+    alloc: Global,
+    setup: Setup,
+    world: Option<World>,
 }
 
 impl From<AllocError> for Fault {
@@ -24,47 +25,47 @@ impl From<AllocError> for Fault {
     }
 }
 
-/// Opens the network of a set-up, at this line.
-fn opened(alloc: Global, setup: Setup, line: u64) -> Result<World, Fault> {
-    let config = setup.config()?;
-    match World::open(alloc, &config) {
-        Ok(world) => Ok(world),
-        Err(Code::Memory) => Err(Fault::Memory),
-        Err(code) => Err(Fault::Refused {
+/// Why a set-up is refused, at this line.
+fn refusal(code: Code, line: u64) -> Fault {
+    match code {
+        Code::Memory => Fault::Memory,
+        code => Fault::Refused {
             line,
             number: code.number(),
-        }),
+        },
     }
 }
 
-/// One event, as a line of the transcript.
-fn push_event(text: &mut String, world: &mut World, event: WorldEvent) -> Result<(), AllocError> {
+/// Opens the network of a set-up, at this line.
+fn opened(alloc: Global, setup: &mut Setup, line: u64) -> Result<World, Fault> {
+    let config = setup.config()?;
+    World::open(alloc, &config).map_err(|code| refusal(code, line))
+}
+
+fn push_event(text: &mut TranscriptLine, world: &mut World, event: WorldEvent) {
     let (sent, unsent) = (world.sent(), world.unsent());
-    let reply = world.step(event);
-    push_reply(text, &reply)?;
-    push_traffic(
-        text,
-        Traffic {
-            before: sent,
-            after: world.sent(),
-            unsent: world.unsent().saturating_sub(unsent),
-        },
-    )
+    text.push_reply(&world.step(event));
+    text.push_traffic(Traffic {
+        before: sent,
+        after: world.sent(),
+        unsent: world.unsent().saturating_sub(unsent),
+    });
+}
+
+fn push_packet(text: &mut TranscriptLine, world: &World, number: u64) {
+    let packet = world.packet(number).map(|packet| packet.bytes.as_slice());
+    text.push_packet(number, packet);
 }
 
 /// Runs a line that is no part of the set-up, and gives the line of the transcript.
 fn transcript_of(alloc: Global, world: &mut World, line: Line) -> Result<String, AllocError> {
-    let mut text = String::new(alloc);
+    let mut text = TranscriptLine::new(alloc);
     match line {
-        Line::Event(event) => push_event(&mut text, world, event)?,
-        Line::Packet(number) => {
-            let packet = world.packet(number).map(|packet| packet.bytes.as_slice());
-            push_packet(&mut text, number, packet)?;
-        }
+        Line::Event(event) => push_event(&mut text, world, event),
+        Line::Packet(number) => push_packet(&mut text, world, number),
         Line::Skipped | Line::Setup(_) => {}
     }
-    text.push('\n')?;
-    Ok(text)
+    text.finish()
 }
 
 fn print(output: &mut impl Write, text: &str) -> Result<(), Fault> {
@@ -74,72 +75,86 @@ fn print(output: &mut impl Write, text: &str) -> Result<(), Fault> {
     output.flush().map_err(|_| Fault::OutputFailed)
 }
 
-/// Takes up a line of the set-up, which may not follow another line, nor name a writer or a reader before any peer.
-fn set_up(progress: Progress, line: SetupLine, number: u64) -> Result<Progress, Fault> {
-    match progress {
-        Progress::SettingUp(mut setup) => {
-            if setup.take(line)? {
-                Ok(Progress::SettingUp(setup))
-            } else {
-                Err(Fault::NotACommand { line: number })
+impl Network {
+    fn new(alloc: Global) -> Self {
+        Network {
+            alloc,
+            setup: Setup::new(alloc),
+            world: None,
+        }
+    }
+
+    /// Takes up a line of the set-up, which may not follow another line, nor name a writer or a reader before any peer.
+    fn set_up(&mut self, part: SetupLine, line: u64) -> Result<(), Fault> {
+        if self.world.is_none() && self.setup.take(part)? {
+            Ok(())
+        } else {
+            Err(Fault::NotACommand { line })
+        }
+    }
+
+    /// Opens the network at this line, if it was not before.
+    fn open(&mut self, line: u64) -> Result<(), Fault> {
+        if self.world.is_none() {
+            self.world = Some(opened(self.alloc, &mut self.setup, line)?);
+        }
+        Ok(())
+    }
+
+    /// Runs a line on the open network, and prints what it answers.
+    fn answer(&mut self, line: Line, output: &mut impl Write) -> Result<(), Fault> {
+        match &mut self.world {
+            Some(world) => print(output, transcript_of(self.alloc, world, line)?.as_str()),
+            None => Ok(()),
+        }
+    }
+
+    /// Runs the line of this number.
+    fn run_line(&mut self, line: Line, number: u64, output: &mut impl Write) -> Result<(), Fault> {
+        match line {
+            Line::Skipped => Ok(()),
+            Line::Setup(part) => self.set_up(part, number),
+            line => {
+                self.open(number)?;
+                self.answer(line, output)
             }
         }
-        Progress::Running(_) => Err(Fault::NotACommand { line: number }),
+    }
+
+    fn run<R: Read + Drop>(
+        &mut self,
+        script: &mut Script<R>,
+        output: &mut impl Write,
+    ) -> Result<(), Fault> {
+        for _ in 0..u64::MAX {
+            match script.next()? {
+                Some(line) => self.run_line(line, script.number(), output)?,
+                None => break,
+            }
+        }
+        self.open(script.number())
     }
 }
 
-/// The network, opened at this line if it was not before.
-fn running(alloc: Global, progress: Progress, number: u64) -> Result<World, Fault> {
-    match progress {
-        Progress::SettingUp(setup) => opened(alloc, setup, number),
-        Progress::Running(world) => Ok(world),
-    }
-}
-
-/// Runs one line and prints what it answers.
-fn run_line(
+fn run_script<R: Read + Drop>(
     alloc: Global,
-    progress: Progress,
-    line: &[u8],
-    number: u64,
+    script: &mut Script<R>,
     output: &mut impl Write,
-) -> Result<Progress, Fault> {
-    match line_of(alloc, line)? {
-        None => Err(Fault::NotACommand { line: number }),
-        Some(Line::Skipped) => Ok(progress),
-        Some(Line::Setup(line)) => set_up(progress, line, number),
-        Some(line) => {
-            let mut world = running(alloc, progress, number)?;
-            let text = transcript_of(alloc, &mut world, line)?;
-            print(output, text.as_str())?;
-            Ok(Progress::Running(world))
-        }
-    }
-}
-
-fn run_script<R: Read + Drop, W: Write + Drop>(
-    alloc: Global,
-    input: R,
-    mut output: W,
 ) -> Result<(), Fault> {
-    let mut lines = ScriptLines::new(alloc, input)?;
-    let mut progress = Progress::SettingUp(Setup::new(alloc));
-    for number in 1..u64::MAX {
-        if !lines.advance()? {
-            running(alloc, progress, number)?;
-            return Ok(());
-        }
-        progress = run_line(alloc, progress, lines.line(), number, &mut output)?;
-    }
-    Ok(())
+    let mut network = Network::new(alloc);
+    network.run(script, output)
 }
 
 /// Runs a script: each line is read, run and printed before the next one is looked at.
 ///
 /// Nothing ends it early but a line that is no command, a set-up that is refused, a stream that fails, more than
 /// 1,048,576 octets of input, or want of memory for reading, for opening the network or for printing.
-pub fn sim<R: Read + Drop, W: Write + Drop>(alloc: Global, input: R, output: W) -> Status {
-    match run_script(alloc, input, output) {
+pub fn sim<R: Read + Drop, W: Write + Drop>(alloc: Global, input: R, mut output: W) -> Status {
+    let ended = match Script::open(alloc, input) {
+        Ok(mut script) => run_script(alloc, &mut script, &mut output),
+        Err(fault) => Err(fault),
+    };
+    match ended {
         Ok(()) => Status::success(),
         Err(fault) => Status::failed(fault),
     }

@@ -1,15 +1,19 @@
 //! The words of the command line.
 
 use clap::{ArgMatches, Command, Error};
-use std::alloc::Global;
+use std::alloc::{AllocError, Global};
 
 /// What the program is asked to do.
-#[derive(Clone, Copy, Debug, PartialEq, Eq)]
+#[derive(Clone, Copy)]
 pub enum Task {
     /// Run a script.
     Simulate,
     /// Nothing that it knows.
     Unknown,
+}
+
+fn command<'a>(alloc: Global) -> Result<Command<'a>, AllocError> {
+    Command::new(alloc, "dds_peer").subcommand(Command::new(alloc, "sim"))
 }
 
 fn task_of(matches: &ArgMatches<'_>) -> Task {
@@ -24,8 +28,7 @@ fn task_of(matches: &ArgMatches<'_>) -> Task {
 /// # Errors
 ///
 /// What `clap` refuses, want of memory among it.
-pub fn read_words<'a>(alloc: Global, words: &'a [&'a str]) -> Result<Task, Error> {
-    let command = Command::new(alloc, "dds_peer").subcommand(Command::new(alloc, "sim"))?;
-    let matches = command.try_get_matches_from(words)?;
+pub fn read_words<'a>(alloc: Global, words: &'a [String]) -> Result<Task, Error> {
+    let matches = command(alloc)?.try_get_matches_from(words)?;
     Ok(task_of(&matches))
 }
