@@ -77,20 +77,3 @@ impl<T: Drop> From<AllocFailed<T>> for Code {
         Code::Memory
     }
 }
-
-#[cfg(test)]
-mod tests {
-    use super::*;
-
-    /// DDS 1.4, 2.3.3 (ReturnCode_t), and this project's own from 100 on.
-    #[test]
-    fn codes_have_the_numbers_of_the_standard(rt: HostRuntime) {
-        assert_eq!(rt; Code::Ok.number(), 0);
-        assert_eq!(rt; Code::BadParameter.number(), 3);
-        assert_eq!(rt; Code::PreconditionNotMet.number(), 4);
-        assert_eq!(rt; Code::OutOfResources.number(), 5);
-        assert_eq!(rt; Code::Timeout.number(), 10);
-        assert_eq!(rt; Code::NoData.number(), 11);
-        assert_eq!(rt; Code::Memory.number(), 100);
-    }
-}

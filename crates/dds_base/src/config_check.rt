@@ -258,6 +258,3 @@ fn is_longer(lease: Option<u64>, other: Option<u64>) -> bool
         (Some(lease), Some(other)) => other < lease,
     }
 }
-
-#[cfg(test)]
-mod tests;

@@ -17,9 +17,6 @@ use crate::key::Key;
 use crate::octets::Octets;
 use std::alloc::Global;
 
-#[cfg(test)]
-mod tests;
-
 /// The longest value, in octets.
 pub const MAX_VALUE: usize = 1024;
 

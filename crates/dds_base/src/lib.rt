@@ -23,8 +23,6 @@ mod qos;
 mod sample;
 mod sequence;
 mod sn;
-#[cfg(test)]
-mod tests;
 
 pub use change::{Change, ChangeKind};
 pub use code::Code;

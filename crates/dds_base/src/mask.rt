@@ -158,26 +158,3 @@ pub fn masks_ask_for_their_states()
     ensures every_sample { (q : ReaderQos) (h : List Happening) (s : SamplePosition) → IsSome (instance_state_of q s.key h)
         → meets q h Masks.ANY s ≡ true }
 {}
-
-#[cfg(test)]
-mod tests {
-    use super::*;
-
-    /// DDS 1.4, 2.3.3: the bits of the states, and the groups of them.
-    #[test]
-    fn masks_have_the_bits_of_the_standard(rt: HostRuntime) {
-        assert_eq!(rt; SampleStateMask::NOT_READ.bits(), 2);
-        assert_eq!(rt; ViewStateMask::NOT_NEW.bits(), 2);
-        assert_eq!(rt; InstanceStateMask::NOT_ALIVE.bits(), 6);
-        assert_eq!(rt; SampleStateMask::READ.bits(), 1);
-        assert_eq!(rt; ViewStateMask::NEW.bits(), 1);
-        assert_eq!(rt; InstanceStateMask::ALIVE.bits(), 1);
-        assert_eq!(rt; InstanceStateMask::NOT_ALIVE_DISPOSED.bits(), 2);
-        assert_eq!(rt; InstanceStateMask::NOT_ALIVE_NO_WRITERS.bits(), 4);
-        assert_eq!(rt; SampleStateMask::ANY.bits(), 65535);
-        assert_eq!(rt; ViewStateMask::ANY.bits(), 65535);
-        assert_eq!(rt; InstanceStateMask::ANY.bits(), 65535);
-        assert!(rt; Masks::ANY.instances.contains(InstanceStateMask::NOT_ALIVE));
-        assert_eq!(rt; SampleStateMask::from_bits_retain(8).bits(), 8);
-    }
-}

@@ -43,27 +43,3 @@ impl<T> Sequence<T> {
         items
     }
 }
-
-#[cfg(test)]
-mod tests {
-    use super::*;
-    use crate::{Handle, Moment, Sn};
-    use std::test::Fail;
-
-    #[test]
-    fn a_sequence_gives_back_what_it_was_made_from(rt: HostRuntime) -> Result<(), Fail> {
-        let list = Sequence::from_vec([3u8, 1, 2].to_vec(rt.alloc())?);
-        assert_eq!(rt; list.as_slice(), [3u8, 1, 2].as_slice());
-        let items = list.into_vec();
-        assert_eq!(rt; items.as_slice(), [3u8, 1, 2].as_slice());
-        Ok(())
-    }
-
-    #[test]
-    fn numbers_are_told_as_they_were_given(rt: HostRuntime) {
-        assert_eq!(rt; Sn::new(7).number(), 7);
-        assert_eq!(rt; Moment::new(8).units(), 8);
-        assert_eq!(rt; Handle::new(9).number(), 9);
-        assert!(rt; Sn::new(7) < Sn::new(8));
-    }
-}

@@ -14,8 +14,6 @@ mod masks;
 mod reader_cache;
 mod registration;
 mod returned;
-#[cfg(test)]
-mod tests;
 mod track;
 
 pub use reader_cache::ReaderCache;

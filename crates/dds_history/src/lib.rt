@@ -6,7 +6,5 @@
 
 mod held;
 mod history;
-#[cfg(test)]
-mod tests;
 
 pub use history::History;

@@ -11,9 +11,6 @@ ghost use Rattle.dds_base.specs.declared.code.Code.TheVariants.{Memory};
 use dds_base::{Code, Handle, Picked, SampleInfo};
 use std::alloc::Global;
 
-#[cfg(test)]
-mod tests;
-
 /// How many of these samples are of an instance.
 fn count_of_instance(samples: &[Picked], handle: Handle) -> usize
     ensures { result ≡ count_by (is_of handle) samples.now }

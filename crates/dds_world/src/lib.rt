@@ -8,8 +8,6 @@ mod clock;
 mod reading;
 mod receiver;
 mod registration;
-#[cfg(test)]
-mod tests;
 mod thin;
 mod world;
 mod writing;

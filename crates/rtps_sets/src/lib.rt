@@ -4,8 +4,6 @@
 #![tactic(auto)]
 
 mod sn_set;
-#[cfg(test)]
-mod tests;
 mod window;
 
 pub use sn_set::{MAX_BITS, SnSet, max_bits_is_the_width};

@@ -20,8 +20,6 @@ mod parameters;
 mod read;
 mod set_field;
 mod submessage;
-#[cfg(test)]
-mod tests;
 mod write;
 
 pub use acknack::AckNack;

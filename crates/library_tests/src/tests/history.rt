@@ -1,0 +1,103 @@
+//! What a writer keeps.
+
+use crate::tests::rows::{Subject, Words, expect_rows, number_of, octets_of, push_hex, words_of};
+use dds_base::{Change, ChangeKind, HistoryQos, Key, Moment, Octets, Sn};
+use dds_history::History;
+use std::alloc::Global;
+
+/// `open` begins anew, with a depth or `all`, and with the most that may be kept or `any`: the number of the last change, which `last`
+/// tells too. `append` and `refusal` have the key and the value of a write. `get` has a number: the value of that change.
+const HISTORIES: &str = "\
+# Under KEEP_ALL every change is kept.
+open all any => 0
+append 1 01 => Ok(Sn { number: 1 })
+append 1 02 => Ok(Sn { number: 2 })
+append 1 03 => Ok(Sn { number: 3 })
+get 1 => 01
+get 0 => none
+get 4 => none
+
+# Under KEEP_LAST a change drops the older ones of its key.
+open 1 any => 0
+append 1 01 => Ok(Sn { number: 1 })
+append 2 02 => Ok(Sn { number: 2 })
+append 1 03 => Ok(Sn { number: 3 })
+get 1 => none
+get 2 => 02
+get 3 => 03
+last => 3
+
+# A full history refuses a change that drops none.
+open 1 2 => 0
+append 1 01 => Ok(Sn { number: 1 })
+append 2 02 => Ok(Sn { number: 2 })
+refusal 3 03 => Some(Timeout)
+append 3 03 => Err(Timeout)
+refusal 2 04 => None
+append 2 04 => Ok(Sn { number: 3 })
+";
+
+fn open(alloc: Global, words: Words<'_>) -> History {
+    let policy = match words.first.parse() {
+        Ok(depth) => HistoryQos::KeepLast(depth),
+        Err(_) => HistoryQos::KeepAll,
+    };
+    History::open(alloc, policy, words.second.parse().ok())
+}
+
+fn write_of(alloc: Global, words: Words<'_>) -> Change {
+    let key = words.first.parse().unwrap_or(0);
+    Change {
+        kind: ChangeKind::Write,
+        key: Key([0, 0, 0, 0, 0, 0, 0, 0, 0, 0, 0, 0, 0, 0, 0, key]),
+        value: Octets::from_vec(octets_of(alloc, words.second)),
+        source_timestamp: Moment::new(0),
+    }
+}
+
+fn push_append(text: &mut String, history: &mut History, change: Change) {
+    let answer = history.append(change);
+    let _ = write!(text, "{answer:?}");
+}
+
+fn push_refusal(text: &mut String, history: &History, change: &Change) {
+    let answer = history.refusal(change);
+    let _ = write!(text, "{answer:?}");
+}
+
+fn push_get(text: &mut String, history: &History, number: u64) {
+    match history.get(Sn::new(number)) {
+        Some(change) => push_hex(text, change.value.as_slice()),
+        None => {
+            let _ = text.push_str("none");
+        }
+    }
+}
+
+fn push_last(text: &mut String, history: &History) {
+    let last = history.last().number();
+    let _ = write!(text, "{last}");
+}
+
+impl Subject for History {
+    fn answer(&mut self, alloc: Global, text: &mut String, name: &str, operands: &str) {
+        let words = words_of(operands);
+        match name {
+            "open" => {
+                *self = open(alloc, words);
+                push_last(text, self);
+            }
+            "last" => push_last(text, self),
+            "append" => push_append(text, self, write_of(alloc, words)),
+            "refusal" => push_refusal(text, self, &write_of(alloc, words)),
+            "get" => push_get(text, self, number_of(words.first)),
+            _ => {}
+        }
+    }
+}
+
+#[test]
+fn histories_answer(rt: HostRuntime) {
+    let mut history = History::open(rt.alloc(), HistoryQos::KeepAll, None);
+    expect_rows(&rt, rt.alloc(), &mut history, HISTORIES);
+}

@@ -1,0 +1,219 @@
+//! Two peers and the network between them.
+
+mod scripts;
+
+use crate::tests::rows::{Subject, Words, expect_rows, number_of, octets_of, words_of};
+use dds_base::{
+    Code, Config, EntityId, GuidPrefix, HistoryQos, Key, Masks, Moment, Octets, OwnershipQos,
+    PeerConfig, ReaderConfig, Sequence, WriterConfig,
+};
+use dds_world::{Call, World, WorldEvent};
+use scripts::SCRIPTS;
+use std::alloc::Global;
+
+const KEY: Key = Key([0, 0, 0, 0, 0, 0, 0, 0, 0, 0, 0, 0, 0, 0, 0, 1]);
+
+const WRITER: WriterConfig = WriterConfig {
+    entity: EntityId([0, 0, 1, 2]),
+    topic: 0,
+    ownership: OwnershipQos::Shared,
+    history: HistoryQos::KeepAll,
+    max_samples: -1,
+    strength: 0,
+    lease: None,
+    autodispose: true,
+};
+
+const READER: ReaderConfig = ReaderConfig {
+    entity: EntityId([0, 0, 1, 7]),
+    topic: 0,
+    ownership: OwnershipQos::Shared,
+    history: HistoryQos::KeepAll,
+    max_samples: -1,
+    max_instances: -1,
+    lease: None,
+};
+
+fn first(alloc: Global) -> PeerConfig {
+    let mut writers = Vec::new(alloc);
+    let _ = writers.push(WRITER);
+    PeerConfig {
+        prefix: GuidPrefix([0, 0, 0, 0, 0, 0, 0, 0, 0, 0, 0, 1]),
+        writers: Sequence::from_vec(writers),
+        readers: Sequence::from_vec(Vec::new(alloc)),
+    }
+}
+
+fn second(alloc: Global) -> PeerConfig {
+    let mut readers = Vec::new(alloc);
+    let _ = readers.push(READER);
+    PeerConfig {
+        prefix: GuidPrefix([0, 0, 0, 0, 0, 0, 0, 0, 0, 0, 0, 2]),
+        writers: Sequence::from_vec(Vec::new(alloc)),
+        readers: Sequence::from_vec(readers),
+    }
+}
+
+fn config(alloc: Global) -> Config {
+    let mut peers = Vec::new(alloc);
+    let _ = peers.push(first(alloc));
+    let _ = peers.push(second(alloc));
+    Config {
+        peers: Sequence::from_vec(peers),
+    }
+}
+
+/// A first peer with a writer and a second one with a reader, at their opening.
+fn open(alloc: Global) -> Result<World, Code> {
+    let config = config(alloc);
+    World::open(alloc, &config)
+}
+
+fn call_of(alloc: Global, name: &str, words: Words<'_>) -> Call {
+    let number = words.second.parse().unwrap_or(0);
+    match name {
+        "register" => Call::Register {
+            writer: number,
+            key: KEY,
+        },
+        "write" => Call::Write {
+            writer: number,
+            key: KEY,
+            value: Octets::from_vec(octets_of(alloc, words.third)),
+        },
+        "dispose" => Call::Dispose {
+            writer: number,
+            key: KEY,
+        },
+        "unregister" => Call::Unregister {
+            writer: number,
+            key: KEY,
+        },
+        _ => Call::Take {
+            reader: number,
+            max: -1,
+            masks: Masks::ANY,
+        },
+    }
+}
+
+fn event_of(alloc: Global, name: &str, words: Words<'_>) -> WorldEvent {
+    let peer = words.first.parse().unwrap_or(0);
+    match name {
+        "tick" => WorldEvent::Tick {
+            peer,
+            now: Moment::new(number_of(words.second)),
+        },
+        "deliver" => WorldEvent::Deliver {
+            peer,
+            packet: number_of(words.second),
+        },
+        _ => WorldEvent::Call {
+            peer,
+            call: call_of(alloc, name, words),
+        },
+    }
+}
+
+fn push_event(alloc: Global, events: &mut Vec<WorldEvent>, line: &str) {
+    let (name, operands) = line.split_once(' ').unwrap_or((line, ""));
+    let _ = events.push(event_of(alloc, name, words_of(operands)));
+}
+
+fn events_of(alloc: Global, lines: &str) -> Vec<WorldEvent> {
+    let mut events = Vec::new(alloc);
+    for line in lines.lines() {
+        push_event(alloc, &mut events, line);
+    }
+    events
+}
+
+fn push_packet(text: &mut String, world: &World, number: u64) {
+    let packet = world.packet(number);
+    let _ = write!(text, "{packet:?}");
+}
+
+/// Appends how many packets were sent and not sent, and the first of them.
+fn push_end(text: &mut String, world: &World) {
+    let (sent, unsent, packet) = (world.sent(), world.unsent(), world.packet(1));
+    let _ = write!(text, "{sent} {unsent} {packet:?}");
+}
+
+fn push_replies(text: &mut String, world: &mut World, events: Vec<WorldEvent>) {
+    if let Ok(replies) = world.run(events) {
+        for reply in replies.as_slice() {
+            let _ = write!(text, "{reply:?}");
+        }
+    }
+}
+
+/// Appends the replies of a run of these events, and what was sent.
+fn push_run(alloc: Global, text: &mut String, events: &str) {
+    if let Ok(mut world) = open(alloc) {
+        push_replies(text, &mut world, events_of(alloc, events));
+        push_end(text, &world);
+    }
+}
+
+/// A network, the events since its opening, a line for each, and the replies.
+#[derive(Drop)]
+struct Network {
+    world: World,
+    events: String,
+    replies: String,
+}
+
+impl Network {
+    fn begin(&mut self, alloc: Global, text: &mut String) {
+        if let Ok(world) = open(alloc) {
+            self.world = world;
+            self.events.clear();
+            self.replies.clear();
+            let _ = text.push_str("opened");
+        }
+    }
+
+    fn step(&mut self, alloc: Global, text: &mut String, name: &str, operands: &str) {
+        let reply = self.world.step(event_of(alloc, name, words_of(operands)));
+        let (sent, unsent) = (self.world.sent(), self.world.unsent());
+        let _ = write!(text, "{reply:?} {sent} {unsent}");
+        let _ = write!(self.replies, "{reply:?}");
+        let _ = writeln!(self.events, "{name} {operands}");
+    }
+
+    fn run(&mut self, alloc: Global, text: &mut String) {
+        let mut replies = String::new(alloc);
+        push_run(alloc, &mut replies, self.events.as_str());
+        push_end(&mut self.replies, &self.world);
+        if replies.as_str() == self.replies.as_str() {
+            let _ = text.push_str("as its steps");
+        } else {
+            let _ = text.push_str(replies.as_str());
+        }
+    }
+}
+
+impl Subject for Network {
+    fn answer(&mut self, alloc: Global, text: &mut String, name: &str, operands: &str) {
+        match name {
+            "open" => self.begin(alloc, text),
+            "packet" => push_packet(text, &self.world, number_of(operands)),
+            "run" => self.run(alloc, text),
+            _ => self.step(alloc, text, name, operands),
+        }
+    }
+}
+
+#[test]
+fn networks_answer(rt: HostRuntime) {
+    let alloc = rt.alloc();
+    let Ok(world) = open(alloc) else {
+        panic!(rt; "no network");
+    };
+    let mut network = Network {
+        world,
+        events: String::new(alloc),
+        replies: String::new(alloc),
+    };
+    expect_rows(&rt, alloc, &mut network, SCRIPTS);
+}
