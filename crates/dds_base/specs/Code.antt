@@ -1,5 +1,5 @@
--- The numbers of the return codes (DDS 1.4, 2.3.3: ReturnCode_t), and of this project's own three.
-use Rattle.std.specs.Prelude.{ℕ}
+-- The numbers and names of the return codes (DDS 1.4, 2.2.1.1; 2.3.3: ReturnCode_t), and of this project's own three.
+use Rattle.std.specs.Prelude.{ℕ, List, codes}
 use Rattle.dds_base.specs.declared.code.Code.{Code}
 use Rattle.dds_base.specs.declared.code.Code.TheVariants.{Ok, Error, Unsupported, BadParameter, PreconditionNotMet, OutOfResources, NotEnabled, ImmutablePolicy, InconsistentPolicy, AlreadyDeleted, Timeout, NoData, IllegalOperation, Memory, Link, Mismatch}
 
@@ -20,3 +20,22 @@ number_of_code IllegalOperation = 12
 number_of_code Memory = 100
 number_of_code Link = 101
 number_of_code Mismatch = 103
+
+-- the name, in the standard's spelling
+abbrev pub name_of_code : Code → List ℕ
+name_of_code Ok = codes "OK"
+name_of_code Error = codes "ERROR"
+name_of_code Unsupported = codes "UNSUPPORTED"
+name_of_code BadParameter = codes "BAD_PARAMETER"
+name_of_code PreconditionNotMet = codes "PRECONDITION_NOT_MET"
+name_of_code OutOfResources = codes "OUT_OF_RESOURCES"
+name_of_code NotEnabled = codes "NOT_ENABLED"
+name_of_code ImmutablePolicy = codes "IMMUTABLE_POLICY"
+name_of_code InconsistentPolicy = codes "INCONSISTENT_POLICY"
+name_of_code AlreadyDeleted = codes "ALREADY_DELETED"
+name_of_code Timeout = codes "TIMEOUT"
+name_of_code NoData = codes "NO_DATA"
+name_of_code IllegalOperation = codes "ILLEGAL_OPERATION"
+name_of_code Memory = codes "MEMORY"
+name_of_code Link = codes "LINK"
+name_of_code Mismatch = codes "MISMATCH"

@@ -12,3 +12,5 @@ pub mod Presence
 pub mod Access
 pub mod Matched
 pub mod Checked
+pub mod Faults
+pub mod FaultAt

@@ -1,38 +1,58 @@
 //! Return codes.
+//!
+//! DDS 1.4, 2.2.1.1 (meanings), 2.3.3 (ReturnCode_t: numbers).
 
 ghost use Rattle.std.specs.Prelude.{◌≡◌};
 ghost use Rattle.dds_base.specs.declared.code.Code.TheVariants.{Memory};
-ghost use Rattle.dds_base.specs.Code.{number_of_code};
+ghost use Rattle.dds_base.specs.Code.{number_of_code, name_of_code};
 
 use std::alloc::{AllocError, AllocFailed};
+use std::fmt;
 
-/// The return code of a call: those of the standard, then three of this project.
+/// The return code of a call: the thirteen of the standard, with its numbers, then three of this project.
 ///
-/// DDS 1.4, 2.2.1.1. `Error`, `Unsupported`, `NotEnabled`, `ImmutablePolicy`, `AlreadyDeleted` and
-/// `IllegalOperation` are named for completeness and never answered.
+/// A call that is refused with a code has changed nothing, unless its own documentation says more. Printed, a code has
+/// the standard's spelling: `BAD_PARAMETER`.
+///
+/// DDS 1.4, 2.2.1.1 (return codes), 2.3.3 (ReturnCode_t).
 #[derive(Clone, Copy, Debug, PartialEq, Eq)]
 pub enum Code {
+    /// OK, 0: what was called for is done. It is never a refusal.
     Ok,
+    /// ERROR, 1: a failure of no other kind. No call answers it.
     Error,
+    /// UNSUPPORTED, 2: an operation or a policy that is optional in the standard and absent. No call answers it.
     Unsupported,
-    /// A parameter that no call takes, or that names nothing.
+    /// BAD_PARAMETER, 3: a parameter that no call takes, or that names nothing. `Config::check` answers it for what is
+    /// invalid by itself, each call of a peer for a writer or reader that the peer lacks, a write for a value above
+    /// `MAX_VALUE` octets, a take for a `max` that is neither -1 nor positive.
     BadParameter,
+    /// PRECONDITION_NOT_MET, 4: a call that may not come yet. An unregister answers it for an instance that is not
+    /// registered at its writer.
     PreconditionNotMet,
-    /// A number that counts something has come to its end.
+    /// OUT_OF_RESOURCES, 5: a counter is at its limit. What makes a change answers it after 2^48 changes of its writer.
     OutOfResources,
+    /// NOT_ENABLED, 6: an entity that is not enabled yet. No call answers it, since each peer is enabled from the start.
     NotEnabled,
+    /// IMMUTABLE_POLICY, 7: a policy that can't be changed once its entity is enabled. No call answers it.
     ImmutablePolicy,
+    /// INCONSISTENT_POLICY, 8: policies that contradict one another. `Config::check` answers it for those of one writer
+    /// or reader, or of a matched pair.
     InconsistentPolicy,
+    /// ALREADY_DELETED, 9: an entity that is gone. No call answers it, since none is ever deleted.
     AlreadyDeleted,
+    /// TIMEOUT, 10: a call that would have to wait. What makes a change answers it where its writer may not keep one more
+    /// (max_blocking_time is 0).
     Timeout,
-    /// Nothing meets what an access asks for.
+    /// NO_DATA, 11: nothing meets what an access asks for. A take answers it.
     NoData,
+    /// ILLEGAL_OPERATION, 12: a call on an entity that doesn't have it. No call answers it.
     IllegalOperation,
-    /// No memory was found for a growth.
+    /// MEMORY, 100, of this project: no memory was found for a growth. Whatever allocates answers it.
     Memory,
-    /// A socket failed.
+    /// LINK, 101, of this project: a socket failed.
     Link,
-    /// What a thread recorded of its calls differs from what the peer recorded.
+    /// MISMATCH, 103, of this project: what a thread recorded of its calls differs from what the peer recorded.
     Mismatch,
 }
 
@@ -59,6 +79,38 @@ impl Code {
             Code::Link => 101,
             Code::Mismatch => 103,
         }
+    }
+
+    /// The name of the code, in the standard's spelling.
+    ///
+    /// DDS 1.4, 2.2.1.1.
+    pub fn as_str(self) -> &'static str
+        ensures { result.now ≡ name_of_code self }
+    {
+        match self {
+            Code::Ok => "OK",
+            Code::Error => "ERROR",
+            Code::Unsupported => "UNSUPPORTED",
+            Code::BadParameter => "BAD_PARAMETER",
+            Code::PreconditionNotMet => "PRECONDITION_NOT_MET",
+            Code::OutOfResources => "OUT_OF_RESOURCES",
+            Code::NotEnabled => "NOT_ENABLED",
+            Code::ImmutablePolicy => "IMMUTABLE_POLICY",
+            Code::InconsistentPolicy => "INCONSISTENT_POLICY",
+            Code::AlreadyDeleted => "ALREADY_DELETED",
+            Code::Timeout => "TIMEOUT",
+            Code::NoData => "NO_DATA",
+            Code::IllegalOperation => "ILLEGAL_OPERATION",
+            Code::Memory => "MEMORY",
+            Code::Link => "LINK",
+            Code::Mismatch => "MISMATCH",
+        }
+    }
+}
+
+impl fmt::Display for Code {
+    fn fmt<W: fmt::Write>(&self, f: &mut fmt::Formatter<W>) -> fmt::Result {
+        f.write_str(self.as_str())
     }
 }
 

@@ -1,58 +1,136 @@
 //! The configuration of all peers: who there is, on which topics, and with which policies.
+//!
+//! DDS 1.4, 2.2.3 (supported QoS). `Config::check` says which configurations are taken.
+
+ghost use Rattle.std.specs.Prelude.{◌≡◌, None, true, pos, negsuc};
+ghost use Rattle.dds_base.specs.declared.qos.OwnershipQos.TheVariants.{Shared};
+ghost use Rattle.dds_base.specs.declared.qos.HistoryQos.TheVariants.{KeepAll};
 
 use crate::guid::{EntityId, GuidPrefix};
 use crate::qos::{HistoryQos, OwnershipQos};
 use crate::sequence::Sequence;
 
-/// A writer of a peer.
+/// A writer of a peer. `WriterConfig::new` has the usual policies.
 ///
-/// `max_samples` is -1 for no limit (DDS 1.4, 2.2.3, LENGTH_UNLIMITED).
-#[derive(Clone, Copy, Debug, PartialEq, Eq)]
+/// DDS 1.4, 2.2.3 (supported QoS).
+#[derive(Clone, Copy, Debug)]
 pub struct WriterConfig {
+    /// Of kind 0x02, and no other writer's or reader's of its peer.
     pub entity: EntityId,
     /// Writers and readers of equal topic numbers match.
     pub topic: u32,
+    /// The same as that of each matched reader (DDS 1.4, 2.2.3, OWNERSHIP).
     pub ownership: OwnershipQos,
-    /// A depth is at least 1.
+    /// A depth is at least 1, and at most `max_samples` where that is a limit.
     pub history: HistoryQos,
-    /// How many changes it may keep until they are acknowledged.
+    /// How many changes it may keep until they are acknowledged: positive, or -1 for no limit (DDS 1.4, 2.2.3,
+    /// RESOURCE_LIMITS, LENGTH_UNLIMITED).
     pub max_samples: i32,
-    /// DDS 1.4, 2.2.3 (OWNERSHIP_STRENGTH).
+    /// Of the writers of an exclusive instance the strongest owns it (DDS 1.4, 2.2.3, OWNERSHIP_STRENGTH).
     pub strength: i32,
-    /// In units of 2^-32 second, from 1 to 2^63 - 1; `None` never ends.
+    /// In units of 2^-32 second, from 1 to 2^63 - 1; `None` never ends. At most that of each matched reader (DDS 1.4,
+    /// 2.2.3, LIVELINESS).
     pub lease: Option<u64>,
     /// Whether an unregister disposes too (DDS 1.4, 2.2.3, WRITER_DATA_LIFECYCLE).
     pub autodispose: bool,
 }
 
-/// A reader of a peer.
+/// A reader of a peer. `ReaderConfig::new` has the usual policies.
 ///
-/// A maximum of -1 is no limit (DDS 1.4, 2.2.3, LENGTH_UNLIMITED).
-#[derive(Clone, Copy, Debug, PartialEq, Eq)]
+/// DDS 1.4, 2.2.3 (supported QoS).
+#[derive(Clone, Copy, Debug)]
 pub struct ReaderConfig {
+    /// Of kind 0x07, and no other writer's or reader's of its peer.
     pub entity: EntityId,
     /// Writers and readers of equal topic numbers match.
     pub topic: u32,
+    /// The same as that of each matched writer (DDS 1.4, 2.2.3, OWNERSHIP).
     pub ownership: OwnershipQos,
-    /// A depth is at least 1.
+    /// A depth is at least 1, and at most `max_samples` where that is a limit.
     pub history: HistoryQos,
+    /// How many samples with data it may hold: positive, or -1 for no limit (DDS 1.4, 2.2.3, RESOURCE_LIMITS,
+    /// LENGTH_UNLIMITED).
     pub max_samples: i32,
+    /// How many instances it may know: positive, or -1 for no limit (DDS 1.4, 2.2.3, RESOURCE_LIMITS).
     pub max_instances: i32,
     /// The longest lease of a writer that it takes, in units of 2^-32 second; `None` takes all.
     pub lease: Option<u64>,
 }
 
-/// A peer: what its GUIDs begin with, its writers and its readers, which are numbered from 1 in their order. At most 16
-/// of each, with entity kinds 0x02 and 0x07.
+impl WriterConfig {
+    /// A shared writer that keeps all its changes, without a limit or a lease, of strength 0, which disposes what it
+    /// unregisters: the standard's defaults but for HISTORY.
+    ///
+    /// DDS 1.4, 2.2.3 (supported QoS).
+    pub fn new(entity: EntityId, topic: u32) -> WriterConfig
+        ensures { result ≡ record {
+          entity = entity;
+          topic = topic;
+          ownership = Shared;
+          history = KeepAll;
+          max_samples = negsuc 0;
+          strength = pos 0;
+          lease = None;
+          autodispose = true;
+        } }
+    {
+        WriterConfig {
+            entity,
+            topic,
+            ownership: OwnershipQos::Shared,
+            history: HistoryQos::KeepAll,
+            max_samples: -1,
+            strength: 0,
+            lease: None,
+            autodispose: true,
+        }
+    }
+}
+
+impl ReaderConfig {
+    /// A shared reader that keeps all samples, without a limit, and takes every lease: the standard's defaults but for
+    /// HISTORY and RELIABILITY.
+    ///
+    /// DDS 1.4, 2.2.3 (supported QoS).
+    pub fn new(entity: EntityId, topic: u32) -> ReaderConfig
+        ensures { result ≡ record {
+          entity = entity;
+          topic = topic;
+          ownership = Shared;
+          history = KeepAll;
+          max_samples = negsuc 0;
+          max_instances = negsuc 0;
+          lease = None;
+        } }
+    {
+        ReaderConfig {
+            entity,
+            topic,
+            ownership: OwnershipQos::Shared,
+            history: HistoryQos::KeepAll,
+            max_samples: -1,
+            max_instances: -1,
+            lease: None,
+        }
+    }
+}
+
+/// A peer: what its GUIDs begin with, its writers and its readers.
+///
+/// DDS 1.4, 2.2.2.2 (DomainParticipant); RTPS 2.5, 8.2 (Participant).
 #[derive(Debug, Drop)]
 pub struct PeerConfig {
+    /// Not `GuidPrefix::UNKNOWN`, and no other peer's.
     pub prefix: GuidPrefix,
+    /// At most 16, which are numbered from 1 in their order.
     pub writers: Sequence<WriterConfig>,
+    /// At most 16, which are numbered from 1 in their order, apart from the writers.
     pub readers: Sequence<ReaderConfig>,
 }
 
-/// All peers, which are numbered from 1 in their order. From 1 to 16 of them.
+/// All peers: each knows all others from the start, and who is matched with whom.
 #[derive(Debug, Drop)]
 pub struct Config {
+    /// From 1 to 16, which are numbered from 1 in their order.
     pub peers: Sequence<PeerConfig>,
 }

@@ -3,8 +3,8 @@
 //! RTPS 2.5, clause 10 (SerializedPayload: a representation identifier, two option octets, the data).
 //! `docs/WIRE.md`, "The datum".
 
-ghost use Rattle.std.specs.Prelude.{◌≡◌, ◌≢◌, ◌↔◌, ◌≤◌, ℕ, List, [], length, IfOk, IfErr, IfSome, MatchResult, Some};
-ghost use Rattle.dds_base.specs.DatumText.{ReadsDatum, ReadsKey, IsDatum, spelling_of_datum, spelling_of_key};
+ghost use Rattle.std.specs.Prelude.{◌≡◌, ◌≢◌, ◌≤◌, ℕ, List, [], length, IfOk, IfErr, IfSome, MatchResult, Some};
+ghost use Rattle.dds_base.specs.DatumText.{ReadsDatum, ReadsKey, spelling_of_datum, spelling_of_key};
 ghost use Rattle.dds_base.specs.DatumAt.{datum_at, key_at, key_form_at, representation_at};
 ghost use Rattle.std.specs.Option.{option_map};
 ghost use Rattle.dds_base.specs.declared.datum.Datum.{Datum};
@@ -40,7 +40,7 @@ fn take_representation(bytes: &[u8]) -> Option<(Endianness, &[u8])>
     }
 }
 
-/// The sixteen octets of a key, and the bytes after them. `None` where there are fewer.
+/// The sixteen octets of a key, and the bytes after them. `None` where there are fewer. Takes no memory.
 #[tactic(auto, unfolding(crate::specs::DatumAt::key_at))]
 pub fn take_key(bytes: &[u8]) -> Option<(Key, &[u8])>
     ensures { option_map (λ x. (x.0, x.1.now)) result ≡ key_at bytes.now }
@@ -123,6 +123,8 @@ pub fn decode_datum(alloc: Global, bytes: &[u8]) -> Result<Option<Datum>, Code>
 /// The key of the datum that the bytes begin with. `None` where they begin with none.
 ///
 /// The value has to be there, and is not copied: no memory is taken.
+///
+/// RTPS 2.5, clause 10.
 pub fn decode_datum_key(bytes: &[u8]) -> Option<Key>
     ensures found { IfSome result (λ k. (value : List ℕ) × ReadsDatum bytes.now (record { key = k; value = value })) }
     ensures only { (d : Datum) → ReadsDatum bytes.now d → result ≡ Some d.key }
@@ -132,6 +134,10 @@ pub fn decode_datum_key(bytes: &[u8]) -> Option<Key>
 }
 
 /// The one written form of a datum: little-endian, with nothing after it.
+///
+/// # Conditions
+///
+/// The value has at most `MAX_VALUE` octets.
 ///
 /// # Errors
 ///
@@ -154,7 +160,9 @@ pub fn encode_datum(alloc: Global, datum: &Datum) -> Result<Vec<u8>, Code>
 
 /// The key of the key form that the bytes begin with. `None` where they begin with none.
 ///
-/// A datum begins with a key form, so its key is found too.
+/// A datum begins with a key form, so its key is found too. Takes no memory.
+///
+/// RTPS 2.5, clause 10.
 pub fn decode_key(bytes: &[u8]) -> Option<Key>
     ensures found { IfSome result (λ k. ReadsKey bytes.now k) }
     ensures only { (k : Key) → ReadsKey bytes.now k → result ≡ Some k }
@@ -179,18 +187,3 @@ pub fn encode_key(alloc: Global, key: &Key) -> Result<Vec<u8>, Code>
     out.extend_from_slice(&key.0)?;
     Ok(out)
 }
-
-/// A value of `MAX_VALUE` octets has a written form, a longer one has none.
-///
-/// A law of the constant: the function does nothing.
-pub fn max_value_is_the_longest()
-    ensures { (d : Datum) → IsDatum d ↔ (length d.key.0 ≡ 16) × (length d.value ≤ MAX_VALUE) }
-{}
-
-/// What is written is read as itself, and no bytes are read as two.
-pub fn spelling_is_read()
-    ensures one_datum { (bytes : List ℕ) (d e : Datum) → ReadsDatum bytes d → ReadsDatum bytes e → d ≡ e }
-    ensures one_key { (bytes : List ℕ) (k l : Key) → ReadsKey bytes k → ReadsKey bytes l → k ≡ l }
-    ensures datum { (d : Datum) → IsDatum d → ReadsDatum (spelling_of_datum d) d }
-    ensures key { (k : Key) → length k.0 ≡ 16 → ReadsKey (spelling_of_key k) k }
-{}

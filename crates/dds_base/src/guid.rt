@@ -1,9 +1,10 @@
 //! Names of peers, writers and readers.
+//!
+//! RTPS 2.5, 8.2 (GUID_t) and 9.3 (its octets).
 
-ghost use Rattle.std.specs.Prelude.{◌≡◌, length, replicate};
-ghost use Rattle.dds_base.specs.Checked.{unknown_prefix};
+ghost use Rattle.std.specs.Prelude.{◌≡◌, [], ◌∷◌, ◌++◌, length, slice_index};
 
-/// What the GUIDs of one peer begin with.
+/// What the GUIDs of one peer begin with: twelve octets, which mean nothing but that peer.
 ///
 /// RTPS 2.5, 8.2 (GuidPrefix_t).
 #[derive(Clone, Copy, Debug, PartialEq, Eq)]
@@ -22,7 +23,7 @@ impl GuidPrefix {
     }
 }
 
-/// A writer or a reader of a peer: three octets of a key, then the kind.
+/// A writer or a reader of a peer: three octets of a key, then the kind. `writer` and `reader` make one from its key.
 ///
 /// RTPS 2.5, 8.2 (EntityId_t) and 9.3: 0x02 is a writer, 0x07 a reader, each with a key; four zeros are
 /// ENTITYID_UNKNOWN.
@@ -36,8 +37,37 @@ impl EntityId {
     /// The last octet of a reader with a key.
     pub const READER_KIND: u8 = 0x07;
 
-    /// No entity in particular: a receiver takes it for all that match.
+    /// ENTITYID_UNKNOWN: no entity in particular. A receiver takes it for all that match.
     pub const UNKNOWN: EntityId = EntityId([0; 4]);
+
+    /// The writer with this key.
+    ///
+    /// RTPS 2.5, 9.3 (entity kind 0x02, a user-defined writer with a key).
+    pub fn writer(key: [u8; 3]) -> EntityId
+        ensures { result.0 ≡ key ++ 2 ∷ [] }
+    {
+        let [first, second, third] = key;
+        EntityId([first, second, third, EntityId::WRITER_KIND])
+    }
+
+    /// The reader with this key.
+    ///
+    /// RTPS 2.5, 9.3 (entity kind 0x07, a user-defined reader with a key).
+    pub fn reader(key: [u8; 3]) -> EntityId
+        ensures { result.0 ≡ key ++ 7 ∷ [] }
+    {
+        let [first, second, third] = key;
+        EntityId([first, second, third, EntityId::READER_KIND])
+    }
+
+    /// What kind of entity it is: `WRITER_KIND`, `READER_KIND`, or one that no peer has.
+    ///
+    /// RTPS 2.5, 9.3 (entityKind, the last octet).
+    pub fn kind(self) -> u8
+        ensures { result ≡ slice_index self.0 3 }
+    {
+        self.0[3]
+    }
 
     /// The four octets, in their order.
     pub fn as_slice(&self) -> &[u8]
@@ -56,14 +86,3 @@ pub struct Guid {
     pub prefix: GuidPrefix,
     pub entity: EntityId,
 }
-
-/// GUIDPREFIX_UNKNOWN and ENTITYID_UNKNOWN are zeros, and the kinds are those of a writer and of a reader with a key
-/// (RTPS 2.5, 9.3).
-///
-/// A law of the constants: the function does nothing.
-pub fn unknown_names_are_zeros()
-    ensures prefix { GuidPrefix.UNKNOWN ≡ unknown_prefix }
-    ensures entity { EntityId.UNKNOWN ≡ record { 0 = replicate 4 0 } }
-    ensures writer_kind { EntityId.WRITER_KIND ≡ 2 }
-    ensures reader_kind { EntityId.READER_KIND ≡ 7 }
-{}

@@ -1,4 +1,6 @@
 //! What happens at a reader.
+//!
+//! DDS 1.4, 2.2.2.5 (DataReader), 2.2.3 (LIVELINESS), 2.2.4.1 (communication statuses).
 
 use crate::change::Change;
 use crate::handle::Handle;
@@ -8,28 +10,31 @@ use crate::sequence::Sequence;
 use crate::sn::Sn;
 
 /// A change that came at a reader.
-#[derive(Debug, Drop)]
+#[derive(Drop)]
 pub struct Arrival {
-    /// The publication handle of its writer.
+    /// The publication handle of its writer, from 1.
     pub writer: Handle,
-    /// Its number at that writer.
+    /// Its number at that writer, from 1.
     pub number: Sn,
+    /// What the writer did to an instance.
     pub change: Change,
-    /// The moment of the reader's peer at which it came.
+    /// The moment of the reader's peer at which it came, below 2^63.
     pub moment: Moment,
 }
 
-/// A sample of a reader: its instance, and where in what happened its change or death stands, counted from 1.
-#[derive(Clone, Copy, Debug, PartialEq, Eq)]
+/// A sample of a reader: its instance, and which happening is its change or death.
+#[derive(Clone, Copy)]
 pub struct SamplePosition {
+    /// Its instance.
     pub key: Key,
+    /// The number of the happening, counted from 1: the oldest has 1, although a list of happenings begins with the newest.
     pub position: u64,
 }
 
 /// The statuses of a reader that a getter or a listener's notice looks at.
 ///
 /// DDS 1.4, 2.2.4.1 (communication statuses).
-#[derive(Clone, Copy, Debug, PartialEq, Eq)]
+#[derive(Clone, Copy)]
 pub enum StatusKind {
     /// DATA_AVAILABLE.
     DataAvailable,
@@ -40,15 +45,15 @@ pub enum StatusKind {
 }
 
 /// One thing that happened at a reader. Writers are named by their publication handles.
-#[derive(Debug, Drop)]
+#[derive(Drop)]
 pub enum Happening {
     /// A change came.
     Came(Arrival),
-    /// The changes from `first` to `last` of a writer were passed over.
+    /// The changes from `first` to `last` of a writer, both of them too, were passed over.
     Passed { writer: Handle, first: Sn, last: Sn },
-    /// A writer asserted its liveliness without a change.
+    /// A writer asserted its liveliness without a change, which the reader heard at this moment of its peer.
     Heard { writer: Handle, moment: Moment },
-    /// A writer's lease ran out.
+    /// A writer's lease ran out, at this moment of the reader's peer.
     Died { writer: Handle, moment: Moment },
     /// A read returned these samples.
     Read(Sequence<SamplePosition>),

@@ -2,12 +2,15 @@
 //! reader, and the configuration.
 //!
 //! `specs/` holds the definitions that the contracts of several crates share.
+//! Not here: what a writer keeps, what a reader holds, and messages.
 #![tactic(auto)]
 
 mod change;
 mod code;
 mod config;
 mod config_check;
+mod config_fault;
+mod config_rules;
 mod datum;
 mod endianness;
 mod field;
@@ -15,10 +18,10 @@ mod guid;
 mod handle;
 mod happening;
 mod key;
+pub mod laws;
 mod mask;
 mod moment;
 mod octets;
-mod ownership;
 mod qos;
 mod sample;
 mod sequence;
@@ -27,22 +30,21 @@ mod sn;
 pub use change::{Change, ChangeKind};
 pub use code::Code;
 pub use config::{Config, PeerConfig, ReaderConfig, WriterConfig};
+pub use config_fault::{ConfigFault, ConfigPlace, ConfigRule};
 pub use datum::{
     Datum, MAX_VALUE, decode_datum, decode_datum_key, decode_key, encode_datum, encode_key,
-    max_value_is_the_longest, take_key,
+    take_key,
 };
 pub use endianness::Endianness;
 pub use field::{take_octets, take_u16, take_u32};
-pub use guid::{EntityId, Guid, GuidPrefix, unknown_names_are_zeros};
-pub use handle::{Handle, nil_is_no_handle};
+pub use guid::{EntityId, Guid, GuidPrefix};
+pub use handle::Handle;
 pub use happening::{Arrival, Happening, SamplePosition, StatusKind};
 pub use key::Key;
-pub use mask::{
-    InstanceStateMask, Masks, SampleStateMask, ViewStateMask, masks_ask_for_their_states,
-};
+pub use laws::owner_is_found;
+pub use mask::{InstanceStateMask, Masks, SampleStateMask, ViewStateMask};
 pub use moment::Moment;
 pub use octets::Octets;
-pub use ownership::owner_is_found;
 pub use qos::{HistoryQos, MatchedWriter, OwnershipQos, ReaderQos};
 pub use sample::{InstanceState, Picked, Sample, SampleInfo, SampleState, ViewState};
 pub use sequence::Sequence;

@@ -1,21 +1,13 @@
 //! The states that a call asks for, as sets of bits.
 
-ghost use Rattle.std.specs.Prelude.{⊤, ◌≡◌, ◌+◌, List, [], ◌∷◌, codes, IsSome, true};
-ghost use Rattle.dds_base.specs.Access.{sample_state_bit, view_state_bit, instance_state_bit, meets};
-ghost use Rattle.dds_base.specs.Instance.{instance_state_of};
-ghost use Rattle.dds_base.specs.declared.happening.Happening.{Happening};
-ghost use Rattle.dds_base.specs.declared.happening.SamplePosition.{SamplePosition};
-ghost use Rattle.dds_base.specs.declared.qos.ReaderQos.{ReaderQos};
-ghost use Rattle.dds_base.specs.declared.sample.InstanceState.TheVariants.{Alive, NotAliveDisposed, NotAliveNoWriters};
-ghost use Rattle.dds_base.specs.declared.sample.SampleState.TheVariants.{Read as HasBeenRead, NotRead};
-ghost use Rattle.dds_base.specs.declared.sample.ViewState.TheVariants.{New, NotNew};
+ghost use Rattle.std.specs.Prelude.{⊤, List, [], ◌∷◌, codes};
 
 use bitflags::{Flag, Flags, bitflag_items};
 
 /// The sample states that an access asks for.
 ///
 /// DDS 1.4, 2.2.2.5 (SampleStateMask), 2.3.3 (READ_SAMPLE_STATE and kin). Bits without a meaning are kept and ask for nothing.
-#[derive(Clone, Copy, Debug, PartialEq, Eq)]
+#[derive(Clone, Copy, Debug)]
 pub struct SampleStateMask(u32);
 
 bitflag_items! {
@@ -51,7 +43,7 @@ impl Flags for SampleStateMask {
 /// The view states that an access asks for.
 ///
 /// DDS 1.4, 2.2.2.5 (ViewStateMask), 2.3.3 (NEW_VIEW_STATE and kin). Bits without a meaning are kept and ask for nothing.
-#[derive(Clone, Copy, Debug, PartialEq, Eq)]
+#[derive(Clone, Copy, Debug)]
 pub struct ViewStateMask(u32);
 
 bitflag_items! {
@@ -87,7 +79,7 @@ impl Flags for ViewStateMask {
 /// The instance states that an access asks for.
 ///
 /// DDS 1.4, 2.2.2.5 (InstanceStateMask), 2.3.3 (ALIVE_INSTANCE_STATE and kin). Bits without a meaning are kept and ask for nothing.
-#[derive(Clone, Copy, Debug, PartialEq, Eq)]
+#[derive(Clone, Copy, Debug)]
 pub struct InstanceStateMask(u32);
 
 bitflag_items! {
@@ -122,11 +114,17 @@ impl Flags for InstanceStateMask {
     }
 }
 
-/// What an access asks of each sample, its instance's view and its instance's state.
-#[derive(Clone, Copy, Debug, PartialEq, Eq)]
+/// What an access asks of each sample, its instance's view and its instance's state: a sample is meant that meets all
+/// three.
+///
+/// DDS 1.4, 2.2.2.5 (read, take: sample_states, view_states, instance_states).
+#[derive(Clone, Copy, Debug)]
 pub struct Masks {
+    /// Whether a sample was read before.
     pub samples: SampleStateMask,
+    /// Whether its instance is new to the reader.
     pub views: ViewStateMask,
+    /// Whether its instance is alive.
     pub instances: InstanceStateMask,
 }
 
@@ -138,23 +136,3 @@ impl Masks {
         instances: InstanceStateMask::ANY,
     };
 }
-
-/// The bits of the constants are those of the states, and ANY asks for every state (DDS 1.4, 2.3.3).
-///
-/// A law of the constants: the function does nothing.
-pub fn masks_ask_for_their_states()
-    ensures read { SampleStateMask.READ.0 ≡ sample_state_bit HasBeenRead }
-    ensures not_read { SampleStateMask.NOT_READ.0 ≡ sample_state_bit NotRead }
-    ensures any_sample_state { SampleStateMask.ANY.0 ≡ 65535 }
-    ensures new { ViewStateMask.NEW.0 ≡ view_state_bit New }
-    ensures not_new { ViewStateMask.NOT_NEW.0 ≡ view_state_bit NotNew }
-    ensures any_view_state { ViewStateMask.ANY.0 ≡ 65535 }
-    ensures alive { InstanceStateMask.ALIVE.0 ≡ instance_state_bit Alive }
-    ensures not_alive_disposed { InstanceStateMask.NOT_ALIVE_DISPOSED.0 ≡ instance_state_bit NotAliveDisposed }
-    ensures not_alive_no_writers { InstanceStateMask.NOT_ALIVE_NO_WRITERS.0 ≡ instance_state_bit NotAliveNoWriters }
-    ensures not_alive { InstanceStateMask.NOT_ALIVE.0 ≡ instance_state_bit NotAliveDisposed + instance_state_bit NotAliveNoWriters }
-    ensures any_instance_state { InstanceStateMask.ANY.0 ≡ 65535 }
-    ensures any { Masks.ANY ≡ record { samples = SampleStateMask.ANY; views = ViewStateMask.ANY; instances = InstanceStateMask.ANY } }
-    ensures every_sample { (q : ReaderQos) (h : List Happening) (s : SamplePosition) → IsSome (instance_state_of q s.key h)
-        → meets q h Masks.ANY s ≡ true }
-{}

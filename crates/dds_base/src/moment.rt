@@ -23,14 +23,14 @@ impl Model for Moment {
 }
 
 impl Moment {
-    /// The moment of so many units.
+    /// The moment this many units of 2^-32 second after the beginning; a peer takes those below 2^63.
     pub const fn new(units: u64) -> Self
         ensures { result ≡ units }
     {
         Moment { units }
     }
 
-    /// The units of 2^-32 second.
+    /// The units of 2^-32 second since the beginning.
     pub const fn units(self) -> u64
         ensures { result ≡ self }
     {

@@ -8,7 +8,9 @@ use crate::sequence::Sequence;
 /// DDS 1.4, 2.2.3 (OWNERSHIP).
 #[derive(Clone, Copy, Debug, PartialEq, Eq)]
 pub enum OwnershipQos {
+    /// Every writer may change it.
     Shared,
+    /// Its owner alone may: of those registered for it the strongest, and of equals the one with the smallest GUID.
     Exclusive,
 }
 
@@ -17,25 +19,31 @@ pub enum OwnershipQos {
 /// DDS 1.4, 2.2.3 (HISTORY).
 #[derive(Clone, Copy, Debug, PartialEq, Eq)]
 pub enum HistoryQos {
+    /// All, until they are acknowledged or taken.
     KeepAll,
-    /// The depth: how many of the newest.
+    /// The depth: how many of the newest, at least 1.
     KeepLast(u32),
 }
 
 /// A writer that a reader is matched with.
-#[derive(Clone, Copy, Debug)]
+#[derive(Clone, Copy)]
 pub struct MatchedWriter {
+    /// Its name, which no other writer has.
     pub guid: Guid,
     /// DDS 1.4, 2.2.3 (OWNERSHIP_STRENGTH).
     pub strength: i32,
-    /// The lease of LIVELINESS, in units of 2^-32 second; `None` never ends.
+    /// The lease of LIVELINESS, in units of 2^-32 second, from 1 to 2^63 - 1; `None` never ends (DDS 1.4, 2.2.3).
     pub lease: Option<u64>,
 }
 
 /// A reader's policies and its matched writers. `None` is no limit.
-#[derive(Debug, Drop)]
+///
+/// DDS 1.4, 2.2.3 (supported QoS).
+#[derive(Drop)]
 pub struct ReaderQos {
+    /// Which writers may change an instance.
     pub ownership: OwnershipQos,
+    /// How many samples of an instance are kept.
     pub history: HistoryQos,
     /// How many samples with data may be present (DDS 1.4, 2.2.3, RESOURCE_LIMITS).
     pub max_samples: Option<u32>,

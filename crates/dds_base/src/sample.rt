@@ -10,7 +10,9 @@ use crate::octets::Octets;
 /// DDS 1.4, 2.2.2.5 (sample_state).
 #[derive(Clone, Copy, Debug, PartialEq, Eq)]
 pub enum SampleState {
+    /// A read returned it before.
     Read,
+    /// No read returned it yet.
     NotRead,
 }
 
@@ -19,7 +21,9 @@ pub enum SampleState {
 /// DDS 1.4, 2.2.2.5 (view_state).
 #[derive(Clone, Copy, Debug, PartialEq, Eq)]
 pub enum ViewState {
+    /// No access returned a sample of it since then.
     New,
+    /// Some access did.
     NotNew,
 }
 
@@ -28,8 +32,11 @@ pub enum ViewState {
 /// DDS 1.4, 2.2.2.5 (instance_state).
 #[derive(Clone, Copy, Debug, PartialEq, Eq)]
 pub enum InstanceState {
+    /// It was written, and since then neither disposed nor left by all its writers.
     Alive,
+    /// A writer disposed it.
     NotAliveDisposed,
+    /// It was not disposed, and no writer is registered for it any more.
     NotAliveNoWriters,
 }
 
@@ -65,7 +72,7 @@ pub struct SampleInfo {
 }
 
 /// A picked sample before its ranks are known, with the sum of its instance's generation counts at the call.
-#[derive(Clone, Copy, Debug, PartialEq, Eq)]
+#[derive(Clone, Copy)]
 pub struct Picked {
     /// Whether it was read before the call.
     pub sample_state: SampleState,
@@ -94,7 +101,10 @@ pub struct Picked {
 /// DDS 1.4, 2.2.2.5 (read, take).
 #[derive(Debug, Drop)]
 pub struct Sample {
+    /// Its instance.
     pub key: Key,
+    /// At most `MAX_VALUE` octets; empty where `info.valid_data` is false.
     pub value: Octets,
+    /// What is said of it.
     pub info: SampleInfo,
 }

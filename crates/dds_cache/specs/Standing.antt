@@ -9,14 +9,19 @@ use Rattle.dds_base.specs.declared.sample.Sample.{Sample}
 use Rattle.dds_base.specs.declared.qos.ReaderQos.{ReaderQos}
 use Rattle.dds_base.specs.Access.{picked_samples, no_filter, collection_of}
 
--- what a cache keeps
+-- what a cache keeps, and for how many more entries it has memory
 pub record Stored : Type 0 where
   pub qos : ReaderQos
   pub happenings : List Happening
+  pub room : ℕ
 
 -- the policies and the matched writers that a cache was opened with
 abbrev pub qos_of : Stored → ReaderQos
 qos_of stored = stored.qos
+
+-- how many more changes find memory
+abbrev pub room_of : Stored → ℕ
+room_of stored = stored.room
 
 -- the cache stands for what happened
 pub record StandsFor (stored : Stored) (h : List Happening) : Type 0 where

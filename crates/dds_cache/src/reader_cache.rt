@@ -1,12 +1,12 @@
 //! A reader's cache: what happened at the reader, stored.
 
-ghost use Rattle.std.specs.Prelude.{◌≡◌, ◌∷◌, [], if◌then◌else◌, List, OnOk, OnErr, IfOk, IfErr};
+ghost use Rattle.std.specs.Prelude.{◌≡◌, ◌≤◌, ◌∷◌, [], if◌then◌else◌, List, IsOk, OnOk, OnErr, IfOk, IfErr};
 ghost use Rattle.dds_base.specs.declared.happening.Happening.{Happening};
 ghost use Rattle.dds_base.specs.declared.happening.Happening.TheVariants.{Came, Died, Read, Took};
 ghost use Rattle.dds_base.specs.declared.code.Code.TheVariants.{Memory, NoData};
 ghost use Rattle.dds_base.specs.Ownership.{IsMatched};
 ghost use Rattle.dds_base.specs.Access.{picked_samples, no_filter, collection_of};
-ghost use Rattle.dds_cache.specs.Standing.{qos_of, StandsFor, Answers, AfterAccess};
+ghost use Rattle.dds_cache.specs.Standing.{qos_of, room_of, StandsFor, Answers, AfterAccess};
 
 use crate::access::{collect, pick};
 use crate::found::Found;
@@ -28,11 +28,16 @@ pub struct ReaderCache {
 }
 
 impl Model for ReaderCache {
+    ghost use Rattle.std.specs.Prelude.{◌-◌, vec_len, vec_capacity};
     ghost use Rattle.dds_cache.specs.Standing.{Stored};
 
     ghost Value = { Stored };
 
-    ghost view = { λ c. record { qos = c.qos; happenings = c.entries.items } };
+    ghost view = { λ c. record {
+      qos = c.qos;
+      happenings = c.entries.items;
+      room = vec_capacity c.entries - vec_len c.entries;
+    } };
 }
 
 impl ReaderCache {
@@ -48,27 +53,49 @@ impl ReaderCache {
         }
     }
 
-    fn enter(&mut self, entry: Happening) -> Result<(), Code>
-        ensures ok { OnOk result (self.new ≡ record { qos = self.old.qos; happenings = entry ∷ self.old.happenings }) }
-        ensures err { OnErr result (self.new ≡ self.old) }
-        ensures memory { IfErr result (λ e. e ≡ Memory) }
-    {
-        self.entries.insert(0, entry)?;
-        Ok(())
-    }
-
-    /// Takes up a change that came. Its writer is a matched one. Room is the caller's affair: a change is taken up also
-    /// where the limits of the policies are then exceeded.
+    /// Makes room for so many more entries: as many changes that come then find it.
     ///
     /// # Errors
     ///
     /// `Memory` where a growth was refused; the cache is then as it was.
+    pub fn reserve(&mut self, additional: usize) -> Result<(), Code>
+        ensures same { (h : List Happening) → StandsFor self.old h → StandsFor self.new h }
+        ensures qos { qos_of self.new ≡ qos_of self.old }
+        ensures room { OnOk result (additional ≤ room_of self.new) }
+        ensures err { OnErr result (self.new ≡ self.old) }
+        ensures memory { IfErr result (λ e. e ≡ Memory) }
+    {
+        self.entries.reserve(additional)?;
+        Ok(())
+    }
+
+    fn enter(&mut self, entry: Happening) -> Result<(), Code>
+        ensures ok { OnOk result (self.new.happenings ≡ entry ∷ self.old.happenings) }
+        ensures qos { self.new.qos ≡ self.old.qos }
+        ensures reserved { 1 ≤ self.old.room → IsOk result }
+        ensures err { OnErr result (self.new ≡ self.old) }
+        ensures memory { IfErr result (λ e. e ≡ Memory) }
+    {
+        self.entries.reserve(1)?;
+        if self.entries.insert(0, entry).is_err() {
+            unreachable!();
+        }
+        Ok(())
+    }
+
+    /// Takes up a change that came. Its writer is a matched one. Room by the limits of the policies is the caller's affair:
+    /// a change is taken up also where they are then exceeded.
+    ///
+    /// # Errors
+    ///
+    /// `Memory` where a growth was refused, and never where room was reserved; the cache is then as it was.
     ///
     /// RTPS 2.5, 8.2 (HistoryCache, add_change).
     pub fn come(&mut self, arrival: Arrival) -> Result<(), Code>
         requires matched { IsMatched (qos_of self.old) arrival.writer }
         ensures ok { OnOk result ((h : List Happening) → StandsFor self.old h → StandsFor self.new (Came arrival ∷ h)) }
         ensures qos { qos_of self.new ≡ qos_of self.old }
+        ensures reserved { 1 ≤ room_of self.old → IsOk result }
         ensures err { OnErr result (self.new ≡ self.old) }
         ensures memory { IfErr result (λ e. e ≡ Memory) }
     {

@@ -1,5 +1,5 @@
 -- The changes that a history holds, with how many more of their keys each of them outlives.
-use Rattle.std.specs.Prelude.{ℕ, ◌+◌, ◌-◌, List, [], ◌∷◌, ◌++◌, map, length, count_by, nat_lt, if◌then◌else◌}
+use Rattle.std.specs.Prelude.{ℕ, ◌==◌, ◌+◌, ◌-◌, List, [], ◌∷◌, ◌++◌, map, length, count_by, nat_lt, if◌then◌else◌}
 use Rattle.dds_base.specs.declared.key.Key.{Key}
 use Rattle.dds_base.specs.declared.change.Change.{Change}
 use Rattle.dds_base.specs.declared.qos.HistoryQos.{HistoryQos}
@@ -20,3 +20,7 @@ with_change (KeepLast depth) entries change = map (λ e. aged change.key e) (ent
 abbrev pub kept_after : HistoryQos → List HeldChange → Key → ℕ
 kept_after KeepAll entries key = length entries + 1
 kept_after (KeepLast depth) entries key = count_by (λ e. nat_lt 0 (aged key e).remaining) entries + (if nat_lt 0 depth then 1 else 0)
+
+-- the same where this many reliable readers are matched, which have acknowledged nothing: without a reader nothing is kept
+abbrev pub kept_for : ℕ → HistoryQos → List HeldChange → Key → ℕ
+kept_for readers policy entries key = if readers == 0 then 0 else kept_after policy entries key

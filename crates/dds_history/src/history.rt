@@ -1,11 +1,11 @@
 //! The history of a writer.
 
-ghost use Rattle.std.specs.Prelude.{◌≡◌, ◌+◌, ◌^◌, ◌<◌, ◌≤◌, None, [], ◌∷◌, length, IfOk, IfErr, OnErr, nat_lt};
+ghost use Rattle.std.specs.Prelude.{◌≡◌, ◌+◌, ◌^◌, ◌<◌, ◌≤◌, None, [], length, replicate, IfOk, IfErr, OnErr, nat_lt};
 ghost use Rattle.dds_base.specs.declared.change.Change.{Change};
 ghost use Rattle.std.specs.Option.{option_copied};
 ghost use Rattle.dds_base.specs.Kept.{WriterHistory, appended, append_refusal, exceeds, kept_change};
 ghost use Rattle.dds_base.specs.Refusal.{Refuses};
-ghost use Rattle.dds_history.specs.Held.{kept_after};
+ghost use Rattle.dds_history.specs.Held.{kept_for};
 ghost use Rattle.dds_history.specs.Standing.{StandsFor};
 
 use crate::held::{HeldChange, add, kept_with};
@@ -18,13 +18,14 @@ const MAX_CHANGES: usize = 1 << 48;
 
 /// The changes of a writer, numbered from 1, of which it keeps those that its policy has not dropped.
 ///
-/// It has one matched reliable reader, which has acknowledged nothing.
+/// Its matched reliable readers have acknowledged nothing. Where there is none, a change gets its number and is not kept.
 ///
 /// DDS 1.4, 2.2.3 (HISTORY, RESOURCE_LIMITS); RTPS 2.5, 8.2 (HistoryCache).
 #[derive(Drop)]
 pub struct History {
     policy: HistoryQos,
     max_samples: Option<u32>,
+    readers: usize,
     entries: Vec<HeldChange>,
 }
 
@@ -33,17 +34,34 @@ impl Model for History {
 
     ghost Value = { Held };
 
-    ghost view = { λ h. record { policy = h.policy; max_samples = h.max_samples; entries = h.entries.items } };
+    ghost view = { λ h. record {
+      policy = h.policy;
+      max_samples = h.max_samples;
+      readers = h.readers;
+      entries = h.entries.items;
+    } };
 }
 
 impl History {
-    /// The history of a writer that has made no change. `max_samples` is how many numbers it may keep, `None` any.
-    pub fn open(alloc: Global, policy: HistoryQos, max_samples: Option<u32>) -> History
-        ensures { StandsFor result (record { policy = policy; max_samples = max_samples; changes = []; acknowledged = 1 ∷ [] }) }
+    /// The history of a writer that has made no change. `max_samples` is how many numbers it may keep, `None` any;
+    /// `readers` is how many matched reliable readers it has.
+    pub fn open(
+        alloc: Global,
+        policy: HistoryQos,
+        max_samples: Option<u32>,
+        readers: usize,
+    ) -> History
+        ensures { StandsFor result (record {
+          policy = policy;
+          max_samples = max_samples;
+          changes = [];
+          acknowledged = replicate readers 1;
+        }) }
     {
         History {
             policy,
             max_samples,
+            readers,
             entries: Vec::new(alloc),
         }
     }
@@ -59,7 +77,8 @@ impl History {
     pub fn append(&mut self, change: Change) -> Result<Sn, Code>
         ensures ok { (w : WriterHistory) → StandsFor self.old w → IfOk result (λ number.
             (append_refusal w change ≡ None) × (number ≡ length w.changes + 1) × StandsFor self.new (appended w change)) }
-        ensures refused { (w : WriterHistory) → StandsFor self.old w → IfErr result (Refuses (append_refusal w change)) }
+        ensures refused { (w : WriterHistory) → StandsFor self.old w
+            → IfErr result (Refuses (append_refusal w change)) }
         ensures number { IfOk result (λ number. (1 ≤ number) × (number ≤ 2 ^ 48)) }
         ensures err { OnErr result (self.new ≡ self.old) }
     {
@@ -82,7 +101,8 @@ impl History {
 
     /// Why one more change of this key is refused.
     fn cause(&self, key: &Key) -> Option<Code>
-        ensures refusal { (w : WriterHistory) (change : Change) → StandsFor self.now w → change.key ≡ key.now → result ≡ append_refusal w change }
+        ensures refusal { (w : WriterHistory) (change : Change) → StandsFor self.now w
+            → change.key ≡ key.now → result ≡ append_refusal w change }
         ensures few { result ≡ None → length self.now.entries < 2 ^ 48 }
     {
         if MAX_CHANGES <= self.entries.len() {
@@ -97,11 +117,24 @@ impl History {
     /// Whether one more change of this key would exceed the limit.
     fn is_full(&self, key: &Key) -> bool
         requires { length self.now.entries < 2 ^ 48 }
-        ensures { result ≡ exceeds self.now.max_samples (kept_after self.now.policy self.now.entries key.now) }
+        ensures { result ≡ exceeds self.now.max_samples
+            (kept_for self.now.readers self.now.policy self.now.entries key.now) }
     {
         match self.max_samples {
-            Some(most) => (most as usize) < kept_with(&self.entries, self.policy, key),
+            Some(most) => (most as usize) < self.kept_with(key),
             None => false,
+        }
+    }
+
+    /// How many numbers are kept once one more change of this key was made.
+    fn kept_with(&self, key: &Key) -> usize
+        requires { length self.now.entries < 2 ^ 48 }
+        ensures { result ≡ kept_for self.now.readers self.now.policy self.now.entries key.now }
+    {
+        if 0 < self.readers {
+            kept_with(&self.entries, self.policy, key)
+        } else {
+            0
         }
     }
 
@@ -109,6 +142,10 @@ impl History {
     pub fn get(&self, number: Sn) -> Option<&Change>
         ensures { (w : WriterHistory) → StandsFor self.now w → option_copied result ≡ kept_change w number }
     {
+        let is_awaited = 0 < self.readers;
+        if !is_awaited {
+            return None;
+        }
         let number = number.number();
         if number == 0 {
             return None;

@@ -152,7 +152,7 @@ sound_moves m i g t old (mv ∷ ms) new low h =
 
 -- submessages that are taken up on true claims
 
-moves_on : (g : Grounds) (old : Part) (made : List Move) (mid : Part) (later : List Move) (new : Part) → AreMoves g old made mid → AreMoves g mid later new → AreMoves g old (made ++ later) new
+pub moves_on : (g : Grounds) (old : Part) (made : List Move) (mid : Part) (later : List Move) (new : Part) → AreMoves g old made mid → AreMoves g mid later new → AreMoves g old (made ++ later) new
 moves_on g old [] mid later new h k = subst (λ (q : Part). AreMoves g q later new) h k
 moves_on g old (mv ∷ ms) mid later new h k = (h.0, h.1, moves_on g h.0 ms mid later new h.2 k)
 

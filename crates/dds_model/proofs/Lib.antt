@@ -11,4 +11,4 @@ mod WorkedPackets
 mod WorkedMoves
 mod WorkedPeers
 mod WorkedReceipt
-mod OwnGuids
+pub mod OwnGuids

@@ -1,6 +1,6 @@
 -- The matched writers of a reader have GUIDs of their own, where the configuration is not refused: a prefix is one peer's, and
 -- an entity one writer's of it. Both are counted.
-use Rattle.std.proofs.Common.{◌≡◌, ℕ, zero, suc, ◌+◌, ◌<◌, ◌≤◌, ◌⊎◌, Bool, true, false, cond, ◌&&◌, ◌||◌, Option, Some, None, List, [], ◌∷◌, refl, sym, ◌∙◌, ap, subst, inl, inr, ⊎_elim, arith, length, length-append, slice_get, if◌then◌else◌}
+use Rattle.std.proofs.Common.{◌≡◌, ℕ, zero, suc, ◌+◌, ◌-◌, ◌<◌, ◌≤◌, ◌⊎◌, Bool, true, false, cond, ◌&&◌, ◌||◌, Option, Some, None, List, [], ◌∷◌, refl, sym, ◌∙◌, ap, subst, inl, inr, ⊎_elim, arith, length, length-append, slice_get, if◌then◌else◌}
 use Rattle.std.specs.Prelude.{nat_eq, nat_lt, ◌==◌}
 use Rattle.std.specs.Bool.{Decides}
 use Rattle.std.specs.List.{count_by, list_any}
@@ -21,18 +21,21 @@ use Rattle.dds_base.specs.Checked.{unknown_prefix, same_prefix, same_entity, pre
 use Rattle.dds_base.specs.Matched.{same_topic, of_writers_in, of_matched_writers}
 use Rattle.dds_base.specs.Ownership.{HaveOwnGuids}
 use Rattle.dds_model.specs.declared.endpoint.Endpoint.{Endpoint}
+use Rattle.dds_base.specs.declared.config.Config.{Config}
+use Rattle.dds_model.specs.Claims.{IsWriter}
+use Rattle.std.proofs.lemmas.Option.{same_Some}
 use Rattle.dds_model.specs.Part.{WriterProxy, same_endpoint, publication_from}
 use Rattle.dds_model.specs.Opening.{matched_writers, writer_qos, reader_qos}
 use Rattle.dds_model.specs.Laws.{ReadersTellWritersApart}
 
 -- ---- the tests of names
 
-prefix-Decides : (a b : GuidPrefix) → Decides (same_prefix a b) (a ≡ b)
+pub prefix-Decides : (a b : GuidPrefix) → Decides (same_prefix a b) (a ≡ b)
 prefix-Decides a b =
     let lists : Decides (same_prefix a b) (a.0 ≡ b.0) = slice_eq-Decides {E = nat_eq} Decides-eqb a.0 b.0 (same_prefix a b) refl in
     (λ e. ap (λ (xs : List ℕ). record { 0 = xs }) (lists.0 e), λ e. lists.1 (ap (λ (p : GuidPrefix). p.0) e))
 
-entity-Decides : (a b : EntityId) → Decides (same_entity a b) (a ≡ b)
+pub entity-Decides : (a b : EntityId) → Decides (same_entity a b) (a ≡ b)
 entity-Decides a b =
     let lists : Decides (same_entity a b) (a.0 ≡ b.0) = slice_eq-Decides {E = nat_eq} Decides-eqb a.0 b.0 (same_entity a b) refl in
     (λ e. ap (λ (xs : List ℕ). record { 0 = xs }) (lists.0 e), λ e. lists.1 (ap (λ (i : EntityId). i.0) e))
@@ -212,7 +215,7 @@ as_many_in f g topic n [] = refl
 as_many_in f g topic n (w ∷ ws) =
     both_or_neither (same_topic w.topic topic) (f n w) (g n w) (of_writers_in f topic (n + 1) ws) (of_writers_in g topic (n + 1) ws) (as_many_in f g topic (n + 1) ws)
 
-as_many : {X Y : Type 0} (f : ℕ → PeerConfig → ℕ → WriterConfig → X) (g : ℕ → PeerConfig → ℕ → WriterConfig → Y) (topic n : ℕ) (ps : List PeerConfig)
+pub as_many : {X Y : Type 0} (f : ℕ → PeerConfig → ℕ → WriterConfig → X) (g : ℕ → PeerConfig → ℕ → WriterConfig → Y) (topic n : ℕ) (ps : List PeerConfig)
     → length (of_matched_writers f topic n ps) ≡ length (of_matched_writers g topic n ps)
 as_many f g topic n [] = refl
 as_many f g topic n (p ∷ ps) =
@@ -241,3 +244,40 @@ tell_apart config peer reader fits at_peer at_reader =
       each_handle = λ handle low high. (omega arith, omega arith);
       each_writer = λ writer handle named. let within = publication-within 1 handle (matched_writers reader.topic 1 config.peers) writer named in (omega arith, omega arith);
     }
+
+-- ---- a name of the configuration is that of one writer
+
+-- two places of a list that both pass are one, where no more than one passes
+one_place : {X : Type 0} (test : X → Bool) (xs : List X) (i j : ℕ) (a b : X) → count_by test xs ≤ 1 → slice_get xs i ≡ Some a → slice_get xs j ≡ Some b → test a ≡ true → test b ≡ true → i ≡ j
+one_place test xs i j a b once at_i at_j first second =
+    let not_before : i < j → ⊥ = λ before. let two = two_at_least test xs i j a b before at_i at_j first second in omega arith in
+    let not_after : j < i → ⊥ = λ before. let two = two_at_least test xs j i b a before at_j at_i second first in omega arith in
+    omega arith
+
+endpoint_of : ℕ → ℕ → Endpoint
+endpoint_of peer number = record { peer = peer; number = number }
+
+same_endpoints : (a b : Endpoint) → a.peer ≡ b.peer → a.number ≡ b.number → a ≡ b
+unfolding endpoint_of
+same_endpoints a b p n = ap (λ (x : ℕ). endpoint_of x a.number) p ∙ ap (λ (x : ℕ). endpoint_of b.peer x) n
+
+-- an index and a number that is one greater
+number_of : (m n : ℕ) → 1 ≤ m → 1 ≤ n → m - 1 ≡ n - 1 → m ≡ n
+number_of m n low_m low_n same = omega arith
+
+pub one_writer : (config : Config) (prefix : GuidPrefix) (entity : EntityId) (a b : Endpoint) → check_refusal config.peers ≡ None → IsWriter config prefix entity a → IsWriter config prefix entity b → a ≡ b
+one_writer config prefix entity a b fits x y =
+    let good = checked config.peers fits in
+    let is_prefix : PeerConfig → Bool = λ p. same_prefix p.prefix prefix in
+    let prefixes = one_of_each same_prefix (λ (p : PeerConfig). p.prefix) config.peers (λ p q. (prefix-Decides p q).0) good.prefixes prefix in
+    let peers : a.peer - 1 ≡ b.peer - 1 =
+    one_place is_prefix config.peers (a.peer - 1) (b.peer - 1) x.peer y.peer prefixes x.at_peer.1 y.at_peer.1 ((prefix-Decides x.peer.prefix prefix).1 x.same_prefix) ((prefix-Decides y.peer.prefix prefix).1 y.same_prefix) in
+    let peer : a.peer ≡ b.peer = number_of a.peer b.peer x.at_peer.0 y.at_peer.0 peers in
+    let at_a : slice_get config.peers (b.peer - 1) ≡ Some x.peer = subst (λ (n : ℕ). slice_get config.peers n ≡ Some x.peer) peers x.at_peer.1 in
+    let same_peer : x.peer ≡ y.peer = same_Some x.peer y.peer (sym at_a ∙ y.at_peer.1) in
+    let within : slice_get y.peer.writers (a.number - 1) ≡ Some x.end = subst (λ (p : PeerConfig). slice_get p.writers (a.number - 1) ≡ Some x.end) same_peer x.at_writer.1 in
+    let is_entity : WriterConfig → Bool = λ w. same_entity w.entity entity in
+    let once : count_by is_entity y.peer.writers ≤ 1 = entity_once config.peers good (b.peer - 1) y.peer y.at_peer.1 entity in
+    let numbers : a.number - 1 ≡ b.number - 1 =
+    one_place is_entity y.peer.writers (a.number - 1) (b.number - 1) x.end y.end once within y.at_writer.1 ((entity-Decides x.end.entity entity).1 x.same_entity) ((entity-Decides y.end.entity entity).1 y.same_entity) in
+    same_endpoints a b peer (number_of a.number b.number x.at_writer.0 y.at_writer.0 numbers)

@@ -16,7 +16,8 @@ use Rattle.rtps_wire.specs.declared.data.DataContent.TheVariants.{Write, Dispose
 use Rattle.rtps_wire.specs.declared.gap.Gap.{Gap as GapBody}
 use Rattle.rtps_wire.specs.declared.heartbeat.Heartbeat.{Heartbeat as HeartbeatBody}
 use Rattle.rtps_wire.specs.declared.submessage.Submessage.TheVariants.{Data, Heartbeat, AckNack, Gap}
-use Rattle.dds_model.specs.Claims.{ChangeIs, MayPass, PlaceReached, Asserts, Receiver, every_reader, change_in, IsInGap, Says}
+use Rattle.dds_model.specs.Claims.{ChangeIs, MayPass, PlaceReached, Asserts, Receiver, every_reader, IsInGap, Says}
+use Rattle.rtps_wire.specs.Content.{change_in}
 use Rattle.dds_model.proofs.WorkedReceivers.{prefix_1, prefix_2, w1_id, r1_id, r2_id, reader, network, w1, r1, r2, r3, to_2, to_1, to_r1, to_r3, some_is, writer-is, reader-is, not_to_r2, not_to_r3, from_r1, from_r3}
 
 -- ---- DATA

@@ -18,6 +18,7 @@ use Rattle.rtps_wire.specs.declared.gap.Gap.{Gap as GapBody}
 use Rattle.rtps_wire.specs.declared.message.Message.{Message}
 use Rattle.rtps_wire.specs.declared.submessage.Submessage.{Submessage}
 use Rattle.rtps_wire.specs.declared.submessage.Submessage.TheVariants.{InfoDst, InfoTs, Data, Heartbeat, AckNack, Gap}
+use Rattle.rtps_wire.specs.Content.{change_in}
 use Rattle.rtps_wire.specs.Messages.{ReadsMessage}
 use Rattle.dds_model.specs.declared.endpoint.Endpoint.{Endpoint}
 
@@ -115,13 +116,6 @@ pub record IsToWriter (config : Config) (own : GuidPrefix) (at : Receiver) (read
   pub is_for : is_for at own ≡ true
   pub to : IsWriter config own writer_id writer
   pub matched : to.end.topic ≡ from.end.topic
-
--- the change that a DATA means
-abbrev pub change_in : DataContent → ℕ → Change
-change_in (Write datum) timestamp = record { kind = kind.Write; key = datum.key; value = datum.value; source_timestamp = timestamp }
-change_in (Dispose key) timestamp = record { kind = kind.Dispose; key = key; value = []; source_timestamp = timestamp }
-change_in (Unregister key) timestamp = record { kind = kind.Unregister; key = key; value = []; source_timestamp = timestamp }
-change_in (DisposeUnregister key) timestamp = record { kind = kind.DisposeUnregister; key = key; value = []; source_timestamp = timestamp }
 
 -- the number is one that a GAP names: from gapStart to below the set's base, or in the set
 abbrev pub IsInGap : GapBody → ℕ → Type 0

@@ -1,11 +1,4 @@
-pub mod Names
-pub mod Ends
-pub mod Registrations
-pub mod ReadingSteps
-pub mod Taking
-pub mod Announced
-pub mod WritingSteps
-pub mod Sends
 pub mod WorldSteps
+pub mod Sends
 pub mod RunSteps
 pub mod Opened

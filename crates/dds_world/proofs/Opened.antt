@@ -1,146 +1,122 @@
 -- What the peers of a configuration that is taken stand for at the opening.
-use Rattle.std.proofs.Common.{◌≡◌, ℕ, Bool, cond, List, [], ◌∷◌, ◌++◌, Option, None, map, refl, ap, sym, ◌∙◌, subst, eq-eqb, arith}
+use Rattle.std.proofs.Common.{◌≡◌, ◌⊎◌, ℕ, zero, suc, ◌+◌, ◌<◌, ◌≤◌, Bool, true, false, List, [], ◌∷◌, ◌++◌, Option, Some, None, length, slice_get, Contains, refl, ap, sym, ◌∙◌, subst, inl, inr, ⊎_elim, arith, length-append}
+use Rattle.std.specs.Prelude.{if◌then◌else◌, ◌&&◌, ◌||◌, ◌==◌, nat_lt, nat_le, is_some, Result, Ok, Err, IfOk, IfErr}
+use Rattle.std.proofs.lemmas.Bool.{or_parts, ltb-false}
+use Rattle.std.proofs.lemmas.Bool.Decides.{nat_tests}
+use Rattle.std.proofs.lemmas.Option.{same_Some}
+use Rattle.dds_base.specs.declared.code.Code.{Code}
+use Rattle.dds_base.specs.declared.code.Code.TheVariants.{BadParameter, InconsistentPolicy, Memory}
 use Rattle.dds_base.specs.declared.config.Config.{Config}
 use Rattle.dds_base.specs.declared.config.PeerConfig.{PeerConfig}
-use Rattle.dds_base.specs.declared.config.WriterConfig.{WriterConfig}
-use Rattle.dds_base.specs.declared.config.ReaderConfig.{ReaderConfig}
-use Rattle.dds_base.specs.declared.qos.HistoryQos.{HistoryQos}
-use Rattle.dds_base.specs.declared.qos.MatchedWriter.{MatchedWriter}
-use Rattle.dds_base.specs.Matched.{of_writers_in}
-use Rattle.dds_model.specs.Part.{Part, Writer, Reader, ReaderProxy, WriterProxy}
-use Rattle.dds_model.specs.Calls.{limit_of}
-use Rattle.dds_model.specs.Opening.{readers_in, matched_readers, writers_in, matched_writers, writer_qos, reader_qos, opening_writer, opening_part, opening_peers, opening_world, opening}
-use Rattle.std.specs.Prelude.{ℤ}
-use Rattle.dds_base.specs.declared.guid.GuidPrefix.{GuidPrefix}
-use Rattle.dds_base.specs.declared.qos.ReaderQos.{ReaderQos}
-use Rattle.dds_cache.specs.Standing.{qos_of}
+use Rattle.dds_base.specs.Checked.{has_bad_parameter, has_inconsistent_policy, check_refusal}
+use Rattle.dds_base.specs.Refusal.{Refuses}
 use Rattle.dds_model.specs.declared.event.Packet.{Packet}
-use Rattle.dds_model.specs.Peer.{Peer}
-use Rattle.dds_model.specs.World.{WorldState, machine_of, Sound}
+use Rattle.dds_model.specs.Calls.{has_number}
+use Rattle.dds_model.specs.Opening.{opening_peers, opening_world}
 use Rattle.dds_model.proofs.Opened.{opens_sound}
-use Rattle.dds_base.specs.declared.key.Key.{Key}
-use Rattle.dds_world.specs.Registered.{is_among}
-use Rattle.dds_world.specs.Thin.{IsThinPair, HasEnds, thin_qos}
-use Rattle.dds_world.specs.Begun.{HasWrittenNothing, HasReadNothing}
-use Rattle.dds_world.specs.WorldStanding.{WorldKept, StandsFor, world_of}
-use Rattle.dds_world.specs.Standing.{thin_writer, writing_part, reading_part}
+use Rattle.dds_core.specs.Kept.{CoreKept}
+use Rattle.dds_core.specs.Opening.{are_plain, opening_refusal, core_refusal, opening_peer}
+use Rattle.dds_core.specs.Standing.{StandsFor as CoreStandsFor}
+use Rattle.dds_world.specs.WorldStanding.{WorldKept, StandsFor}
+use Rattle.dds_world.specs.Acting.{OpensFirst}
 
--- the readers that match a writer of the topic
-rows_of : (topic : ℕ) (first second : PeerConfig) (reader : ReaderConfig) → first.readers ≡ [] → second.readers ≡ reader ∷ [] → reader.topic ≡ topic
-    → matched_readers topic 1 (first ∷ second ∷ []) ≡ record { reader = record { peer = 2; number = 1 }; acknowledged = 1 } ∷ []
-rows_of topic first second reader none one same =
-    ap (λ (rs : List ReaderConfig). readers_in topic 1 1 rs ++ (readers_in topic 2 1 second.readers ++ [])) none
-    ∙ (ap (λ (rs : List ReaderConfig). readers_in topic 2 1 rs ++ []) one
-    ∙ ap (λ (b : Bool). cond b (record { reader = record { peer = 2; number = 1 }; acknowledged = 1 } ∷ []) [] ++ []) (eq-eqb reader.topic topic same))
+-- how many peers a configuration has that is not refused
 
--- the writers that match a reader of the topic
-places_of : (topic : ℕ) (first second : PeerConfig) (writer : WriterConfig) → first.writers ≡ writer ∷ [] → second.writers ≡ [] → writer.topic ≡ topic
-    → matched_writers topic 1 (first ∷ second ∷ []) ≡ record { writer = record { peer = 1; number = 1 }; place = 1; heard = None } ∷ []
-places_of topic first second writer one none same =
-    ap (λ (ws : List WriterConfig). writers_in topic 1 1 first.writers ++ (writers_in topic 2 1 ws ++ [])) none
-    ∙ (ap (λ (ws : List WriterConfig). writers_in topic 1 1 ws ++ []) one
-    ∙ ap (λ (b : Bool). cond b (record { writer = record { peer = 1; number = 1 }; place = 1; heard = None } ∷ []) [] ++ []) (eq-eqb writer.topic topic same))
+not_bad : (bad inconsistent : Bool) (cause other : Code) → (if bad then Some cause else (if inconsistent then Some other else None)) ≡ None → bad ≡ false
+not_bad true inconsistent cause other h = absurd cc
+not_bad false inconsistent cause other h = refl
 
--- what the reader's QoS says of its writer
-abbrev pub writer_is : PeerConfig → WriterConfig → MatchedWriter
-writer_is first writer = record { guid = record { prefix = first.prefix; entity = writer.entity }; strength = writer.strength; lease = writer.lease }
+some_of : {X : Type 0} (xs : List X) → (length xs == 0) ≡ false → 1 ≤ length xs
+some_of [] h = absurd cc
+some_of (x ∷ xs) h = omega arith
 
--- the same of a peer's writers of the topic
-abbrev qos_in : ℕ → PeerConfig → List WriterConfig → List MatchedWriter
-qos_in topic p ws = of_writers_in (λ n w. writer_is p w) topic 1 ws
+sizes : (peers : List PeerConfig) → check_refusal peers ≡ None → ((length peers == 0) ≡ false) × (nat_lt 16 (length peers) ≡ false)
+sizes peers checked =
+    let good = not_bad (has_bad_parameter peers) (has_inconsistent_policy peers) BadParameter InconsistentPolicy checked in
+    or_parts (length peers == 0) (nat_lt 16 (length peers)) (or_parts ((length peers == 0) || nat_lt 16 (length peers)) _ good).0
 
-qos_of_writer : (topic : ℕ) (first second : PeerConfig) (writer : WriterConfig) → first.writers ≡ writer ∷ [] → second.writers ≡ [] → writer.topic ≡ topic → writer_qos topic (first ∷ second ∷ []) ≡ writer_is first writer ∷ []
-qos_of_writer topic first second writer one none same =
-    ap (λ (ws : List WriterConfig). qos_in topic first first.writers ++ (qos_in topic second ws ++ [])) none
-    ∙ (ap (λ (ws : List WriterConfig). qos_in topic first ws ++ []) one ∙ ap (λ (b : Bool). cond b (writer_is first writer ∷ []) [] ++ []) (eq-eqb writer.topic topic same))
+pub some_peers : (peers : List PeerConfig) → check_refusal peers ≡ None → 1 ≤ length peers
+some_peers peers checked = some_of peers (sizes peers checked).0
 
-writer_made : (p q : HistoryQos) (m n : Option ℕ) (autodispose : Bool) (a b : List ReaderProxy) → p ≡ q → m ≡ n → a ≡ b
-    → ◌≡◌ {A = Writer} (record { policy = p; max_samples = m; autodispose = autodispose; written = []; readers = a }) (record { policy = q; max_samples = n; autodispose = autodispose; written = []; readers = b })
-writer_made p q m n autodispose a b e f g = cc
+pub few_peers : (peers : List PeerConfig) → check_refusal peers ≡ None → length peers ≤ 16
+few_peers peers checked = ltb-false 16 (length peers) (sizes peers checked).1
 
--- the first peer's part
-pub first_part : (config : Config) (first second : PeerConfig) (writer : WriterConfig) (reader : ReaderConfig) → IsThinPair config first second writer reader → opening_part (first ∷ second ∷ []) first ≡ writing_part writer.autodispose 0 []
-first_part config first second writer reader t =
-    let peers : List PeerConfig = first ∷ second ∷ [] in
-    let part : List Writer → List (List WriterProxy) → List Reader → Part = λ ws rs ds. record { rtps = record { writers = ws; readers = rs }; dds = record { moment = 0; readers = ds } } in
-    let own : opening_writer peers writer ≡ thin_writer writer.autodispose [] =
-    writer_made writer.history _ (limit_of writer.max_samples) _ writer.autodispose (matched_readers writer.topic 1 peers) _ t.writer_is.history (ap limit_of t.writer_is.max_samples)
-    (rows_of writer.topic first second reader t.pair.no_readers t.pair.readers t.pair.topic) in
-    ap (λ (ws : List WriterConfig). part (map (opening_writer peers) ws) (map (λ (r : ReaderConfig). matched_writers r.topic 1 peers) first.readers) (map (λ (r : ReaderConfig). record { qos = reader_qos peers r; happened = [] }) first.readers)) t.pair.writers
-    ∙ (ap (λ (rs : List ReaderConfig). part (opening_writer peers writer ∷ []) (map (λ (r : ReaderConfig). matched_writers r.topic 1 peers) rs) (map (λ (r : ReaderConfig). record { qos = reader_qos peers r; happened = [] }) rs)) t.pair.no_readers
-    ∙ ap (λ (w : Writer). part (w ∷ []) [] []) own)
+-- why a configuration is refused
 
--- the second peer's part
-pub second_part : (config : Config) (first second : PeerConfig) (writer : WriterConfig) (reader : ReaderConfig) → IsThinPair config first second writer reader
-    → opening_part (first ∷ second ∷ []) second ≡ reading_part (reader_qos (first ∷ second ∷ []) reader) 0 1 []
-second_part config first second writer reader t =
-    let peers : List PeerConfig = first ∷ second ∷ [] in
-    let part : List Writer → List (List WriterProxy) → List Reader → Part = λ ws rs ds. record { rtps = record { writers = ws; readers = rs }; dds = record { moment = 0; readers = ds } } in
-    ap (λ (ws : List WriterConfig). part (map (opening_writer peers) ws) (map (λ (r : ReaderConfig). matched_writers r.topic 1 peers) second.readers) (map (λ (r : ReaderConfig). record { qos = reader_qos peers r; happened = [] }) second.readers)) t.pair.no_writers
-    ∙ (ap (λ (rs : List ReaderConfig). part [] (map (λ (r : ReaderConfig). matched_writers r.topic 1 peers) rs) (map (λ (r : ReaderConfig). record { qos = reader_qos peers r; happened = [] }) rs)) t.pair.readers
-    ∙ ap (λ (rows : List WriterProxy). part [] (rows ∷ []) (record { qos = reader_qos peers reader; happened = [] } ∷ [])) (places_of reader.topic first second writer t.pair.writers t.pair.no_writers (sym t.pair.topic)))
+-- what the check answers is the answer
+refused_as : (o : Option Code) (code : Code) (plain : Bool) → o ≡ Some code → Refuses (if is_some o then o else (if plain then None else Some BadParameter)) code
+refused_as (Some cause) code plain is = sym (same_Some cause code is)
+refused_as None code plain is = absurd cc
 
-qos_made : (config : Config) (first second : PeerConfig) (writer : WriterConfig) (reader : ReaderConfig) → IsThinPair config first second writer reader → reader_qos (first ∷ second ∷ []) reader ≡ thin_qos first.prefix writer reader
-qos_made config first second writer reader t =
-    let made : Option ℕ → Option ℕ → List MatchedWriter → ReaderQos = λ m n ws. record { ownership = reader.ownership; history = reader.history; max_samples = m; max_instances = n; writers = ws } in
-    ap (λ (ws : List MatchedWriter). made (limit_of reader.max_samples) (limit_of reader.max_instances) ws) (qos_of_writer reader.topic first second writer t.pair.writers t.pair.no_writers (sym t.pair.topic))
-    ∙ (ap (λ (z : ℤ). made (limit_of z) (limit_of reader.max_instances) (writer_is first writer ∷ [])) t.reader_is.max_samples ∙ ap (λ (z : ℤ). made None (limit_of z) (writer_is first writer ∷ [])) t.reader_is.max_instances)
+pub check_refuses : (peers : List PeerConfig) (code : Code) → check_refusal peers ≡ Some code → Refuses (opening_refusal peers) code
+check_refuses peers code is = refused_as (check_refusal peers) code (are_plain peers) is
 
-reading_as : (p q : ReaderQos) (j k m n : ℕ) → p ≡ q → j ≡ k → m ≡ n → reading_part p j m [] ≡ reading_part q k n []
-reading_as p q j k m n e f g = cc
+-- a peer that there is, is refused as the whole
+pub same_refusal : (peers : List PeerConfig) (n : ℕ) → 1 ≤ n → n ≤ length peers → core_refusal peers n ≡ opening_refusal peers
+same_refusal peers n low high =
+    let above : nat_lt 0 n ≡ true = grind (arith, nat_tests, low) in
+    let within : nat_le n (length peers) ≡ true = grind (arith, nat_tests, high) in
+    let has : has_number peers n ≡ true = ap (λ (b : Bool). b && nat_le n (length peers)) above ∙ within in
+    ap (λ (b : Bool). if is_some (check_refusal peers) then check_refusal peers else (if b && are_plain peers then None else Some BadParameter)) has
 
-writing_as : (a b : Bool) (m n : ℕ) → a ≡ b → m ≡ n → writing_part a m [] ≡ writing_part b n []
-writing_as a b m n e f = cc
+pub peer_refuses : (peers : List PeerConfig) (i n : ℕ) (code : Code) → n ≡ i + 1 → i < length peers → Refuses (core_refusal peers n) code → Refuses (opening_refusal peers) code
+peer_refuses peers i n code is within h = subst (λ (o : Option Code). Refuses o code) (same_refusal peers n (omega (arith, is)) (omega (arith, is, within))) h
 
--- a network in which nothing has happened stands for the opening
-pub opened : (config : Config) (kept : WorldKept) (first_prefix second_prefix : GuidPrefix) (writer : WriterConfig) (reader : ReaderConfig) → HasEnds config first_prefix second_prefix writer reader
-    → HasWrittenNothing kept.writing first_prefix writer.entity writer.autodispose second_prefix → HasReadNothing kept.reading second_prefix reader.entity first_prefix writer.entity (thin_qos first_prefix writer reader) → kept.sent ≡ []
-    → StandsFor kept config (opening_world config)
-opened config kept first_prefix second_prefix writer reader e w r none =
-    let peers : List PeerConfig = e.first ∷ e.second ∷ [] in
-    let first : Peer = record { number = 1; part = opening_part peers e.first; delivered = [] } in
-    let second : Peer = record { number = 2; part = opening_part peers e.second; delivered = [] } in
-    let same : opening_world config ≡ world_of first second kept.sent =
-    ap (λ (ps : List PeerConfig). let x : WorldState = record { peers = opening_peers ps 1 ps; sent = [] } in x) e.thin.pair.peers ∙ ap (λ (ps : List Packet). world_of first second ps) (sym none) in
-    let qos : qos_of kept.reading.cache ≡ reader_qos peers reader = r.qos_is ∙ (ap (λ (p : GuidPrefix). thin_qos p writer reader) (sym e.first_is) ∙ sym (qos_made config e.first e.second writer reader e.thin)) in
-    record {
-      first = first;
-      second = second;
-      writing = record {
-        first = e.first;
-        second = e.second;
-        writer = writer;
-        reader = reader;
-        pair = e.thin.pair;
-        prefix = e.first_is ∙ sym w.prefix_is;
-        entity = sym w.entity_is;
-        to = e.second_is ∙ sym w.to_is;
-        number = refl;
-        written = [];
-        part = first_part config e.first e.second writer reader e.thin ∙ writing_as writer.autodispose kept.writing.autodispose 0 kept.writing.moment (sym w.autodispose_is) (sym w.moment_is);
-        early = let moment = w.moment_is in omega (arith, moment);
-        registered = λ k. ap (λ (keys : List Key). is_among keys k) w.none_registered;
-        history = w.history;
-      };
-      reading = record {
-        first = e.first;
-        second = e.second;
-        writer = writer;
-        reader = reader;
-        pair = e.thin.pair;
-        prefix = e.second_is ∙ sym r.prefix_is;
-        entity = sym r.entity_is;
-        writer_prefix = e.first_is ∙ sym r.writer_prefix_is;
-        writer_entity = sym r.writer_entity_is;
-        number = refl;
-        happened = [];
-        part = second_part config e.first e.second writer reader e.thin ∙ reading_as (reader_qos peers reader) (qos_of kept.reading.cache) 0 kept.reading.moment 1 kept.reading.place (sym qos) (sym r.moment_is) (sym r.place_is);
-        arrivals_are = r.arrivals_are;
-        no_samples_limit = ap (λ (q : ReaderQos). q.max_samples) r.qos_is;
-        no_instances_limit = ap (λ (q : ReaderQos). q.max_instances) r.qos_is;
-        begun = let place = r.place_is in omega (arith, place);
-        cache = r.cache;
-      };
-      sound = subst (λ (x : WorldState). Sound config x) same (opens_sound config);
-      network_is = same;
-    }
+pub peer_taken : (peers : List PeerConfig) (i n : ℕ) → n ≡ i + 1 → i < length peers → core_refusal peers n ≡ None → opening_refusal peers ≡ None
+peer_taken peers i n is within h = sym (same_refusal peers n (omega (arith, is)) (omega (arith, is, within))) ∙ h
+
+-- what a peer answers at its opening, as the network answers it
+
+pub taken_so : (peers : List PeerConfig) (i : ℕ) (r : Result CoreKept Code) → i < length peers → IfOk r (λ core. core_refusal peers (i + 1) ≡ None) → IfOk r (λ core. opening_refusal peers ≡ None)
+taken_so peers i (Ok core) within h = peer_taken peers i (i + 1) refl within h
+taken_so peers i (Err code) within h = tt
+
+pub refused_so : (peers : List PeerConfig) (i : ℕ) (r : Result CoreKept Code) → i < length peers → IfErr r (Refuses (core_refusal peers (i + 1))) → IfErr r (Refuses (opening_refusal peers))
+refused_so peers i (Ok core) within h = tt
+refused_so peers i (Err code) within h = peer_refuses peers i (i + 1) code refl within h
+
+-- where the configuration is taken, want of memory is the one cause
+pub memory_refuses : (peers : List PeerConfig) → opening_refusal peers ≡ None → Refuses (opening_refusal peers) Memory
+memory_refuses peers none = subst (λ (o : Option Code). Refuses o Memory) (sym none) refl
+
+-- the peers, one after the other
+
+pub opens_none : (config : Config) (kept : List CoreKept) → kept ≡ [] → OpensFirst config 0 kept
+opens_none config kept none = subst (λ (ks : List CoreKept). OpensFirst config 0 ks) (sym none) (record { counted = refl; each = λ i k at. absurd cc; taken = λ low. absurd (omega (arith, low)) })
+
+-- an element of a list with one more at its end
+at_end : {X : Type 0} (xs : List X) (y : X) (j : ℕ) (x : X) → slice_get (xs ++ y ∷ []) j ≡ Some x → (slice_get xs j ≡ Some x) ⊎ ((j ≡ length xs) × (y ≡ x))
+at_end [] y zero x at = inr (refl, same_Some y x at)
+at_end [] y (suc j) x at = absurd cc
+at_end (z ∷ zs) y zero x at = inl at
+at_end (z ∷ zs) y (suc j) x at = ⊎_elim (λ e. inl e) (λ e. inr (ap suc e.0, e.1)) (at_end zs y j x at)
+
+pub opens_more : (config : Config) (i n : ℕ) (old new : List CoreKept) (core : CoreKept) → n ≡ i + 1 → OpensFirst config i old → CoreStandsFor core config (opening_peer config n) → opening_refusal config.peers ≡ None → new ≡ old ++ core ∷ []
+    → OpensFirst config (i + 1) new
+opens_more config i n old new core is so stands taken items =
+    let counted = so.counted in
+    let total = length-append old (core ∷ []) in
+    let length_is = ap (λ (ks : List CoreKept). length ks) items in
+    let each : (j : ℕ) (k : CoreKept) → slice_get new j ≡ Some k → CoreStandsFor k config (opening_peer config (j + 1)) = λ j k at.
+    ⊎_elim (λ before. so.each j k before)
+    (λ last.
+    let j_is = last.0 in
+    let same : n ≡ j + 1 = omega (arith, is, j_is, counted) in
+    subst (λ (m : ℕ). CoreStandsFor k config (opening_peer config m)) same (subst (λ (x : CoreKept). CoreStandsFor x config (opening_peer config n)) last.1 stands))
+    (at_end old core j k (subst (λ (ks : List CoreKept). slice_get ks j ≡ Some k) items at)) in
+    record { counted = omega (arith, counted, total, length_is); each = each; taken = λ low. taken }
+
+-- all of them are the network
+
+peers_count : (peers : List PeerConfig) (n : ℕ) (ps : List PeerConfig) → length (opening_peers peers n ps) ≡ length ps
+peers_count peers n [] = refl
+peers_count peers n (p ∷ ps) = let rest = peers_count peers (n + 1) ps in omega (arith, rest)
+
+pub opened : (config : Config) (kept : WorldKept) → OpensFirst config (length config.peers) kept.peers → kept.sent ≡ [] → StandsFor kept config (opening_world config)
+opened config kept all none = record {
+  count = peers_count config.peers 1 config.peers ∙ sym all.counted;
+  each = λ i k at. let next : i + 1 ≡ suc i = omega arith in subst (λ (n : ℕ). CoreStandsFor k config (opening_peer config n)) next (all.each i k at);
+  sent = sym none;
+  sound = opens_sound config;
+  messages = λ packet c. let nowhere = subst (λ (ps : List Packet). Contains ps packet) none c in absurd (omega (arith, nowhere.1));
+}

@@ -1,5 +1,5 @@
 -- Runs of a network, one step after another.
-use Rattle.std.proofs.Common.{◌≡◌, ℕ, List, [], ◌∷◌, ◌++◌, refl, subst, ap, sym, length}
+use Rattle.std.proofs.Common.{◌≡◌, ℕ, List, [], ◌∷◌, ◌++◌, refl, subst, ap, sym}
 use Rattle.dds_base.specs.declared.config.Config.{Config}
 use Rattle.dds_model.specs.declared.event.WorldEvent.{WorldEvent}
 use Rattle.dds_model.specs.declared.event.Packet.{Packet}
@@ -9,7 +9,7 @@ use Rattle.dds_model.specs.Runs.{Traffic, Sends, Run}
 use Rattle.dds_model.specs.World.{WorldState, WorldStep, machine_of}
 use Rattle.dds_model.specs.Laws.{WorldRun}
 use Rattle.dds_model.proofs.RunLaws.{composes_runs}
-use Rattle.dds_world.specs.WorldStanding.{WorldKept, StandsFor, Steps, Announces, Runs, traffic, world_of}
+use Rattle.dds_world.specs.WorldStanding.{WorldKept, StandsFor, Steps, Announces, Runs, traffic}
 
 abbrev traffic_of : WorldState → ℕ → Traffic
 traffic_of world unsent = record { sent = world.sent; unsent = unsent }
@@ -30,17 +30,15 @@ run_more config tests a b c k m n (e ∷ es) [] ev reply run step sends = absurd
 
 -- what was sent is that of the state
 sent_is : (kept : WorldKept) (config : Config) (network : WorldState) (s : StandsFor kept config network) → traffic_of network kept.unsent ≡ traffic kept
-sent_is kept config network s = ap (λ (x : WorldState). traffic_of x kept.unsent) s.network_is
+sent_is kept config network s = ap (λ (ps : List Packet). let t : Traffic = record { sent = ps; unsent = kept.unsent } in t) s.sent
 
 -- a run of the peers is one of the machine
 runs_so : (kept new : WorldKept) (events : List WorldEvent) (replies : List Reply) (config : Config) (network after : WorldState) (s : StandsFor kept config network) (t : StandsFor new config after)
     → WorldRun config no_tests network kept.unsent events replies after new.unsent → Run config no_tests (traffic kept) (machine_of network) events replies (traffic new) (machine_of after)
 runs_so kept new events replies config network after s t run =
-    let old : WorldState = world_of s.first s.second kept.sent in
-    let run' : WorldRun config no_tests old kept.unsent events replies after new.unsent = subst (λ (x : WorldState). WorldRun config no_tests x kept.unsent events replies after new.unsent) s.network_is run in
-    let r = composes_runs config no_tests old after kept.unsent new.unsent events replies s.sound run' in
-    subst (λ (x : WorldState). Run config no_tests (traffic kept) (machine_of x) events replies (traffic new) (machine_of after)) (sym s.network_is)
-    (subst (λ (last : Traffic). Run config no_tests (traffic kept) (machine_of old) events replies last (machine_of after)) (sent_is new config after t) r.0)
+    let r = composes_runs config no_tests network after kept.unsent new.unsent events replies s.sound run in
+    subst (λ (first : Traffic). Run config no_tests first (machine_of network) events replies (traffic new) (machine_of after)) (sent_is kept config network s)
+    (subst (λ (last : Traffic). Run config no_tests (traffic_of network kept.unsent) (machine_of network) events replies last (machine_of after)) (sent_is new config after t) r.0)
 
 pub runs_none : (kept : WorldKept) → Runs kept [] [] kept
 runs_none kept = record { run = λ config network s. (network, (refl, refl), (refl, refl), s) }

@@ -1,31 +1,65 @@
 -- The steps of a network.
-use Rattle.std.proofs.Common.{◌≡◌, ◌⊎◌, ℕ, zero, suc, ◌-◌, ◌<◌, ◌≤◌, Bool, true, false, List, [], ◌∷◌, ◌++◌, Some, length, slice_get, subst, ap, sym, ◌∙◌, refl, inl, inr, ⊎_elim, arith, append_assoc, length-append}
-use Rattle.std.specs.Prelude.{if◌then◌else◌}
-use Rattle.std.proofs.lemmas.List.Elements.{Contains-append_left, Contains-append_right, Contains-append_cases}
-use Rattle.dds_base.specs.declared.config.Config.{Config}
-use Rattle.dds_model.specs.declared.event.Packet.{Packet}
-use Rattle.dds_model.proofs.Tables.{append_nothing}
+use Rattle.std.proofs.Common.{◌≡◌, ◌≢◌, ◌⊎◌, ℕ, zero, suc, ◌+◌, ◌-◌, ◌<◌, ◌≤◌, Bool, true, false, List, [], ◌∷◌, ◌++◌, Some, length, set, get_or, slice_get, subst, ap, sym, ◌∙◌, refl, inl, inr, ⊎_elim, arith, append_assoc, length-append, length-set}
+use Rattle.std.specs.Prelude.{if◌then◌else◌, ◌&&◌, nat_lt, nat_le, Contains, AllPairs}
+use Rattle.std.specs.List.{All}
+use Rattle.std.proofs.lemmas.Bool.Decides.{nat_tests}
+use Rattle.std.proofs.lemmas.List.{get_or_append_left, get_or_at}
+use Rattle.std.proofs.lemmas.List.Elements.{All-push, Contains-append_left, Contains-append_right, Contains-append_cases}
+use Rattle.std.proofs.lemmas.List.Kept.{AllPairs-cons}
+use Rattle.std.proofs.lemmas.Option.{same_Some}
 use Rattle.dds_base.specs.declared.code.Code.TheVariants.{BadParameter}
+use Rattle.dds_base.specs.declared.config.Config.{Config}
+use Rattle.rtps_wire.specs.Messages.{HasSubmessage}
 use Rattle.dds_model.specs.declared.call.Call.{Call}
 use Rattle.dds_model.specs.declared.event.Event.{Event}
 use Rattle.dds_model.specs.declared.event.Event.TheVariants as event
 use Rattle.dds_model.specs.declared.event.Output.{Output}
+use Rattle.dds_model.specs.declared.event.Packet.{Packet}
 use Rattle.dds_model.specs.declared.event.WorldEvent.{WorldEvent}
 use Rattle.dds_model.specs.declared.event.WorldEvent.TheVariants as world
 use Rattle.dds_model.specs.declared.reply.Reply.{Reply}
-use Rattle.dds_model.specs.declared.reply.Reply.TheVariants.{Refused}
+use Rattle.dds_model.specs.declared.reply.Reply.TheVariants.{Reported, Refused}
 use Rattle.dds_model.specs.Machine.{no_filters, no_tests, Step}
-use Rattle.dds_model.specs.Progress.{Progresses}
 use Rattle.dds_model.specs.Numbered.{HasNumber}
-use Rattle.dds_model.specs.Peer.{Peer, PeerStep}
-use Rattle.dds_model.specs.World.{WorldState, WorldStep, PeerSteps, machine_of, Sound}
+use Rattle.dds_model.specs.Peer.{Peer, Delivery, PeerStep, no_peer}
+use Rattle.dds_model.specs.Progress.{Progresses}
+use Rattle.dds_model.specs.World.{WorldState, WorldStep, PeerSteps, machine_of}
 use Rattle.dds_model.proofs.Composed.{composes}
-use Rattle.dds_world.specs.Standing.{WritingKept, ReadingKept, WritingStandsFor, ReadingStandsFor, WritingSteps, ReadingSteps}
-use Rattle.dds_world.specs.WorldStanding.{WorldKept, StandsFor, Steps, MovesOn, Posts, world_of}
+use Rattle.dds_model.proofs.Tables.{append_nothing}
+use Rattle.dds_core.specs.Kept.{CoreKept}
+use Rattle.dds_core.specs.Standing.{StandsFor as CoreStandsFor, Steps as CoreSteps}
+use Rattle.dds_core.proofs.Lists.{each_set, get-within}
+use Rattle.dds_world.specs.WorldStanding.{WorldKept, StandsFor, Steps, MovesOn, Posts}
+use Rattle.dds_world.specs.Acting.{ActsAt, IsCopy}
+
+-- lists of which any two elements differ
+
+last_apart : (R : Packet → Packet → Type 0) (qs : List Packet) (p : Packet) → AllPairs R (qs ++ p ∷ []) → (x : Packet) → Contains qs x → R x p
+last_apart R qs p all x c =
+    let total = length-append qs (p ∷ []) in
+    let within : length qs < length (qs ++ p ∷ []) = omega (arith, total) in
+    let here : get_or (qs ++ p ∷ []) c.0 x ≡ x = get_or_append_left qs (p ∷ []) x c.0 c.1 ∙ c.2 in
+    let last : get_or (qs ++ p ∷ []) (length qs) x ≡ p = get_or_at qs p [] x (length qs) refl in
+    subst (λ (y : Packet). R y p) here (subst (λ (y : Packet). R (get_or (qs ++ p ∷ []) c.0 x) y) last (all c.0 (length qs) x c.1 within))
+
+front_apart : (R : Packet → Packet → Type 0) (qs : List Packet) (p : Packet) → AllPairs R (qs ++ p ∷ []) → AllPairs R qs
+front_apart R qs p all i j d lt within =
+    let total = length-append qs (p ∷ []) in
+    let low : i < length qs = omega (arith, lt, within) in
+    let here : get_or (qs ++ p ∷ []) i d ≡ get_or qs i d = get_or_append_left qs (p ∷ []) d i low in
+    let there : get_or (qs ++ p ∷ []) j d ≡ get_or qs j d = get_or_append_left qs (p ∷ []) d j within in
+    subst (λ (y : Packet). R y (get_or qs j d)) here (subst (λ (y : Packet). R (get_or (qs ++ p ∷ []) i d) y) there (all i j d lt (omega (arith, within, total))))
+
+more_apart : (R : Packet → Packet → Type 0) (ps : List Packet) (p : Packet) → AllPairs R ps → ((x : Packet) → Contains ps x → R x p) → AllPairs R (ps ++ p ∷ [])
+more_apart R [] p all each = λ i j d lt within. absurd (omega (arith, lt, within))
+more_apart R (x ∷ ps) p all each =
+    let first : All (R x) ps = λ k d lt. all 0 (suc k) d (omega arith) (omega (arith, lt)) in
+    let rest : AllPairs R ps = λ i j d lt within. all (suc i) (suc j) d (omega (arith, lt)) (omega (arith, within)) in
+    AllPairs-cons R x (ps ++ p ∷ []) (All-push (R x) ps p first (each x (0, omega arith, refl))) (more_apart R ps p rest (λ y c. each y (suc c.0, omega (arith, c.1), c.2)))
 
 -- nothing was sent yet
 pub posts_none : (old : List Packet) → Posts old [] old
-posts_none old = record { posted = []; sent = sym (append_nothing old); of_packets = λ p c. c; fewer = omega arith }
+posts_none old = record { posted = []; sent = sym (append_nothing old); of_packets = λ p c. c; fewer = omega arith; different = λ d. d }
 
 -- one more packet was sent, or found no memory
 pub posts_more : (old packets now new : List Packet) (packet : Packet) (b : Bool) → Posts old packets now → new ≡ (if b then now ++ packet ∷ [] else now) → Posts old (packets ++ packet ∷ []) new
@@ -38,70 +72,32 @@ posts_more old packets now new packet true h is =
       sent = is ∙ (ap (λ (xs : List Packet). xs ++ packet ∷ []) h.sent ∙ append_assoc old h.posted (packet ∷ []));
       of_packets = λ p c. ⊎_elim (λ o. Contains-append_left packets (packet ∷ []) p (h.of_packets p o)) (λ o. Contains-append_right packets (packet ∷ []) p o) (Contains-append_cases h.posted (packet ∷ []) p c);
       fewer = omega (arith, count, total, fewer);
+      different = λ d.
+          more_apart (λ (a b : Packet). a.to ≢ b.to) h.posted packet (h.different (front_apart (λ (a b : Packet). a.to ≢ b.to) packets packet d))
+          (λ x c. last_apart (λ (a b : Packet). a.to ≢ b.to) packets packet d x (h.of_packets x c));
     }
 posts_more old packets now new packet false h is =
     let total = length-append packets (packet ∷ []) in
     let fewer = h.fewer in
-    record { posted = h.posted; sent = is ∙ h.sent; of_packets = λ p c. Contains-append_left packets (packet ∷ []) p (h.of_packets p c); fewer = omega (arith, total, fewer) }
+    record {
+      posted = h.posted;
+      sent = is ∙ h.sent;
+      of_packets = λ p c. Contains-append_left packets (packet ∷ []) p (h.of_packets p c);
+      fewer = omega (arith, total, fewer);
+      different = λ d. h.different (front_apart (λ (a b : Packet). a.to ≢ b.to) packets packet d);
+    }
 
--- what the first peer does, by its step
+-- the same, of what is kept under other names
 
-abbrev FirstAfter : WorldKept → WritingKept → List Packet → ℕ → WorldKept
-FirstAfter kept writing sent unsent = record { writing = writing; reading = kept.reading; sent = sent; unsent = unsent }
-
-abbrev SecondAfter : WorldKept → ReadingKept → List Packet → ℕ → WorldKept
-SecondAfter kept reading sent unsent = record { writing = kept.writing; reading = reading; sent = sent; unsent = unsent }
-
-first_steps : (config : Config) (first second after : Peer) (sent : List Packet) (ev : Event) (output : Output) (new : List Packet) (posts : Posts sent output.packets new) → PeerStep config no_filters first ev output after
-    → PeerSteps config no_filters (world_of first second sent) 1 ev output.reply (world_of after second new)
-first_steps config first second after sent ev output new posts step = record {
-  within = (omega arith, omega arith);
-  output = output;
-  replies = refl;
-  after = after;
-  step = step;
-  posted = posts.posted;
-  of_packets = posts.of_packets;
-  changed = ap (λ (xs : List Packet). world_of after second xs) posts.sent;
-}
-
-second_steps : (config : Config) (first second after : Peer) (sent : List Packet) (ev : Event) (output : Output) (new : List Packet) (posts : Posts sent output.packets new) → PeerStep config no_filters second ev output after
-    → PeerSteps config no_filters (world_of first second sent) 2 ev output.reply (world_of first after new)
-second_steps config first second after sent ev output new posts step = record {
-  within = (omega arith, omega arith);
-  output = output;
-  replies = refl;
-  after = after;
-  step = step;
-  posted = posts.posted;
-  of_packets = posts.of_packets;
-  changed = ap (λ (xs : List Packet). world_of first after xs) posts.sent;
-}
-
--- a step of the network from a state for which it stands
-abbrev Goes : List Packet → Config → WorldState → WorldEvent → Reply → WorldKept → Type 0
-Goes sent config network ev reply new =
-    (after : WorldState) × WorldStep config no_tests network ev reply after × Step no_tests (length sent) (machine_of network) ev reply (machine_of after) × StandsFor new config after
-
-goes : (kept new : WorldKept) (config : Config) (network : WorldState) (s : StandsFor kept config network) (first second : Peer) (ev : WorldEvent) (reply : Reply) → WritingStandsFor new.writing config first
-    → ReadingStandsFor new.reading config second → WorldStep config no_tests (world_of s.first s.second kept.sent) ev reply (world_of first second new.sent) → Goes kept.sent config network ev reply new
-goes kept new config network s first second ev reply writing reading step =
-    let old : WorldState = world_of s.first s.second kept.sent in
-    let next : WorldState = world_of first second new.sent in
-    let r = composes config no_tests old next ev reply s.sound step in (
-      next,
-      subst (λ (x : WorldState). WorldStep config no_tests x ev reply next) (sym s.network_is) step,
-      subst (λ (x : WorldState). Step no_tests (length kept.sent) (machine_of x) ev reply (machine_of next)) (sym s.network_is) r.0,
-      record { first = first; second = second; writing = writing; reading = reading; sound = r.2; network_is = refl },
-    )
+pub steps_as : (kept now new new' : WorldKept) (ev ev' : WorldEvent) (reply reply' : Reply) → kept ≡ now → ev ≡ ev' → reply ≡ reply' → new ≡ new' → Steps kept ev reply new → Steps now ev' reply' new'
+steps_as kept now new new' ev ev' reply reply' e f g h s =
+    subst (λ (k : WorldKept). Steps k ev' reply' new') e (subst (λ (v : WorldEvent). Steps kept v reply' new') f (subst (λ (r : Reply). Steps kept ev r new') g (subst (λ (k : WorldKept). Steps kept ev reply k) h s)))
 
 -- what is delivered is taken up, since claims are true
 pub progresses : (kept new : WorldKept) (ev : WorldEvent) (reply : Reply) → Steps kept ev reply new → MovesOn kept ev reply
 progresses kept new ev reply steps config network s =
     let t = steps config network s in
-    let old : WorldState = world_of s.first s.second kept.sent in
-    let step : WorldStep config no_tests old ev reply t.0 = subst (λ (x : WorldState). WorldStep config no_tests x ev reply t.0) s.network_is t.1 in
-    subst (λ (x : WorldState). Progresses config kept.sent (machine_of x) ev reply) (sym s.network_is) (composes config no_tests old t.0 ev reply s.sound step).1
+    subst (λ (ps : List Packet). Progresses config ps (machine_of network) ev reply) s.sent (composes config no_tests network t.0 ev reply s.sound t.1).1
 
 -- how an event of a peer of this number is one of the network
 abbrev pub IsEventOf : List Packet → Event → ℕ → WorldEvent → Type 0
@@ -116,60 +112,152 @@ ticks_at sent peer now config old new reply same step = inl step
 pub delivers_at : (sent : List Packet) (peer number : ℕ) (packet : Packet) → 1 ≤ number → slice_get sent (number - 1) ≡ Some packet → IsEventOf sent (event.Deliver packet.bytes) peer (world.Deliver peer number)
 delivers_at sent peer number packet low found config old new reply same step = inl (packet, low, subst (λ (ps : List Packet). slice_get ps (number - 1) ≡ Some packet) (sym same) found, step)
 
-first_acts : (kept : WorldKept) (writing : WritingKept) (ev : Event) (whole : WorldEvent) (output : Output) (sent : List Packet) (unsent : ℕ) → IsEventOf kept.sent ev 1 whole → WritingSteps kept.writing ev output writing → Posts kept.sent output.packets sent
-    → Steps kept whole output.reply (FirstAfter kept writing sent unsent)
-first_acts kept writing ev whole output sent unsent into steps posts config m s =
-    let r = steps config s.first s.writing in
-    goes kept (FirstAfter kept writing sent unsent) config m s r.0 s.second whole output.reply r.2 s.reading
-    (into config (world_of s.first s.second kept.sent) (world_of r.0 s.second sent) output.reply refl (first_steps config s.first s.second r.0 kept.sent ev output sent posts r.1))
+-- the network in which one peer is another, and these packets were sent
+abbrev with_peer : WorldState → ℕ → Peer → List Packet → WorldState
+with_peer network i after sent = record { peers = set network.peers i after; sent = sent }
 
-second_acts : (kept : WorldKept) (reading : ReadingKept) (ev : Event) (whole : WorldEvent) (output : Output) (sent : List Packet) (unsent : ℕ) → IsEventOf kept.sent ev 2 whole → ReadingSteps kept.reading ev output reading → Posts kept.sent output.packets sent
-    → Steps kept whole output.reply (SecondAfter kept reading sent unsent)
-second_acts kept reading ev whole output sent unsent into steps posts config m s =
-    let r = steps config s.second s.reading in
-    goes kept (SecondAfter kept reading sent unsent) config m s s.first r.0 whole output.reply s.writing r.2
-    (into config (world_of s.first s.second kept.sent) (world_of s.first r.0 sent) output.reply refl (second_steps config s.first s.second r.0 kept.sent ev output sent posts r.1))
+-- an event of the peer of this index is a step of the network
+pub acts_step : (kept new : WorldKept) (i : ℕ) (ev : Event) (whole : WorldEvent) (reply : Reply) → IsEventOf kept.sent ev (suc i) whole → ActsAt kept i ev reply new → Steps kept whole reply new
+acts_step kept new i ev whole reply into a config network s =
+    let r = a.steps config (get_or network.peers i no_peer) (s.each i a.core a.at) in
+    let next : WorldState = with_peer network i r.0 new.sent in
+    let low : i < length kept.peers = get-within kept.peers i a.core a.at in
+    let count = s.count in
+    let step : PeerSteps config no_filters network (suc i) ev reply next = record {
+      within = (omega arith, omega (arith, count, low));
+      output = a.output;
+      replies = sym a.replies;
+      after = r.0;
+      step = r.1;
+      posted = a.posts.posted;
+      of_packets = a.posts.of_packets;
+      changed = ap (λ (ps : List Packet). with_peer network i r.0 ps) (a.posts.sent ∙ ap (λ (ps : List Packet). ps ++ a.posts.posted) (sym s.sent));
+    } in
+    let whole_step : WorldStep config no_tests network whole reply next = into config network next reply s.sent step in
+    let c = composes config no_tests network next whole reply s.sound whole_step in
+    let c1 = length-set network.peers i r.0 in
+    let c2 = length-set kept.peers i a.after in
+    let c3 = ap (λ (ks : List CoreKept). length ks) a.peers in
+    let stands : StandsFor new config next = record {
+      count = omega (arith, c1, c2, c3, count);
+      each = λ j k at. each_set (λ (x : CoreKept) (p : Peer). CoreStandsFor x config p) kept.peers network.peers i a.after r.0 no_peer s.count s.each r.2 j k (subst (λ (ks : List CoreKept). slice_get ks j ≡ Some k) a.peers at);
+      sent = refl;
+      sound = c.2;
+      messages = λ packet m.
+          ⊎_elim (λ o. s.messages packet o) (λ o. a.messages packet (a.posts.of_packets packet o))
+          (Contains-append_cases kept.sent a.posts.posted packet (subst (λ (ps : List Packet). Contains ps packet) a.posts.sent m));
+    } in
+    (next, whole_step, subst (λ (ps : List Packet). Step no_tests (length ps) (machine_of network) whole reply (machine_of next)) s.sent c.0, stands)
 
--- nobody has the number
-no_peer : (first second : Peer) (n : ℕ) → (n ≡ 1 → ⊥) → (n ≡ 2 → ⊥) → HasNumber (first ∷ second ∷ []) n → ⊥
-no_peer first second zero a b h = absurd (omega (arith, h.0))
-no_peer first second (suc zero) a b h = a refl
-no_peer first second (suc (suc zero)) a b h = b refl
-no_peer first second (suc (suc (suc n))) a b h = absurd (omega (arith, h.1))
+-- the index of a number
+number_of : (i n : ℕ) → n ≡ i + 1 → suc i ≡ n
+number_of i n is = omega (arith, is)
 
-pub unknown_call : (kept : WorldKept) (peer : ℕ) (call : Call) → (peer ≡ 1 → ⊥) → (peer ≡ 2 → ⊥) → Steps kept (world.Call peer call) (Refused BadParameter) kept
-unknown_call kept peer call a b config m s =
-    goes kept kept config m s s.first s.second (world.Call peer call) (Refused BadParameter) s.writing s.reading (inr (no_peer s.first s.second peer a b, record { is_refused = refl; after = refl }))
+pub called : (kept new : WorldKept) (i peer : ℕ) (call : Call) (reply : Reply) → peer ≡ i + 1 → ActsAt kept i (event.Call call) reply new → Steps kept (world.Call peer call) reply new
+called kept new i peer call reply is a =
+    subst (λ (n : ℕ). Steps kept (world.Call n call) reply new) (number_of i peer is) (acts_step kept new i (event.Call call) (world.Call (suc i) call) reply (calls_at kept.sent (suc i) call) a)
 
-pub unknown_tick : (kept : WorldKept) (peer now : ℕ) → (peer ≡ 1 → ⊥) → (peer ≡ 2 → ⊥) → Steps kept (world.Tick peer now) (Refused BadParameter) kept
-unknown_tick kept peer now a b config m s =
-    goes kept kept config m s s.first s.second (world.Tick peer now) (Refused BadParameter) s.writing s.reading (inr (no_peer s.first s.second peer a b, record { is_refused = refl; after = refl }))
+pub ticked : (kept new : WorldKept) (i peer now : ℕ) (reply : Reply) → peer ≡ i + 1 → ActsAt kept i (event.Tick now) reply new → Steps kept (world.Tick peer now) reply new
+ticked kept new i peer now reply is a =
+    subst (λ (n : ℕ). Steps kept (world.Tick n now) reply new) (number_of i peer is) (acts_step kept new i (event.Tick now) (world.Tick (suc i) now) reply (ticks_at kept.sent (suc i) now) a)
 
-pub unknown_delivery : (kept : WorldKept) (peer number : ℕ) → (number ≡ 0) ⊎ (length kept.sent < number) ⊎ ((peer ≡ 1 → ⊥) × (peer ≡ 2 → ⊥)) → Steps kept (world.Deliver peer number) (Refused BadParameter) kept
-unknown_delivery kept peer number why config m s =
-    goes kept kept config m s s.first s.second (world.Deliver peer number) (Refused BadParameter) s.writing s.reading
-    (inr (⊎_elim (λ z. inl z) (λ o. ⊎_elim (λ l. inr (inl l)) (λ n. inr (inr (no_peer s.first s.second peer n.0 n.1))) o) why, record { is_refused = refl; after = refl }))
+-- the packet of an index, by its number
+found_at : (sent : List Packet) (j : ℕ) (packet : Packet) → slice_get sent j ≡ Some packet → slice_get sent ((j + 1) - 1) ≡ Some packet
+found_at sent j packet at = let same : (j + 1) - 1 ≡ j = omega arith in subst (λ (n : ℕ). slice_get sent n ≡ Some packet) (sym same) at
 
--- the same, of what is kept under other names
+pub delivered : (kept new : WorldKept) (i j : ℕ) (bytes : List ℕ) (reply : Reply) → IsCopy kept.sent j bytes → ActsAt kept i (event.Deliver bytes) reply new → Steps kept (world.Deliver (i + 1) (j + 1)) reply new
+delivered kept new i j bytes reply copy a =
+    let packet = copy.packet in
+    let own : ActsAt kept i (event.Deliver packet.bytes) reply new = subst (λ (b : List ℕ). ActsAt kept i (event.Deliver b) reply new) copy.same a in
+    let next : suc i ≡ i + 1 = omega arith in
+    subst (λ (n : ℕ). Steps kept (world.Deliver n (j + 1)) reply new) next
+    (acts_step kept new i (event.Deliver packet.bytes) (world.Deliver (suc i) (j + 1)) reply (delivers_at kept.sent (suc i) (j + 1) packet (omega arith) (found_at kept.sent j packet copy.at)) own)
 
-kept_as : (a b : WritingKept) (c d : ReadingKept) (sent : List Packet) (unsent : ℕ) → a ≡ b → c ≡ d
-    → ◌≡◌ {A = WorldKept} (record { writing = a; reading = c; sent = sent; unsent = unsent }) (record { writing = b; reading = d; sent = sent; unsent = unsent })
-kept_as a b c d sent unsent e f = cc
+-- a packet that finds no memory
 
-steps_as : (kept now new new' : WorldKept) (ev ev' : WorldEvent) (reply reply' : Reply) → kept ≡ now → ev ≡ ev' → reply ≡ reply' → new ≡ new' → Steps kept ev reply new → Steps now ev' reply' new'
-steps_as kept now new new' ev ev' reply reply' e f g h s =
-    subst (λ (k : WorldKept). Steps k ev' reply' new') e (subst (λ (v : WorldEvent). Steps kept v reply' new') f (subst (λ (r : Reply). Steps kept ev r new') g (subst (λ (k : WorldKept). Steps kept ev reply k) h s)))
+abbrev nothing_moved : Output
+nothing_moved = record { reply = Reported (record { moves = []; refused = Some 0 }); packets = []; unsent = 0 }
 
--- the events of the first peer, and of the second
+comes_to_nothing : (core : CoreKept) (bytes : List ℕ) → HasSubmessage bytes → CoreSteps core (event.Deliver bytes) nothing_moved core
+comes_to_nothing core bytes some config peer s =
+    let delivery : Delivery = record { packet = bytes; report = record { moves = []; refused = Some 0 } } in
+    let after : Peer = record { number = peer.number; part = peer.part; delivered = delivery ∷ peer.delivered } in
+    let step : PeerStep config no_filters peer (event.Deliver bytes) nothing_moved after = record {
+      same_number = refl;
+      step = (inr (record { moves = refl; after = refl; cause = inr (refl, some) }), refl);
+      sent = λ p claim c says. absurd (omega (arith, c.1));
+    } in
+    let stands : CoreStandsFor core config after = record { is_peer = s.is_peer; moment = s.moment; early = s.early; writers = s.writers; readers = s.readers } in
+    (after, step, stands)
 
-pub first_goes : (kept now new : WorldKept) (writing : WritingKept) (peer : ℕ) (ev : Event) (whole : ℕ → WorldEvent) (output : Output) (reply : Reply) → kept ≡ now → peer ≡ 1 → IsEventOf kept.sent ev 1 (whole 1)
-    → WritingSteps kept.writing ev output writing → reply ≡ output.reply → new.writing ≡ writing → new.reading ≡ kept.reading → Posts kept.sent output.packets new.sent → Steps now (whole peer) reply new
-first_goes kept now new writing peer ev whole output reply same one into steps is w r posts =
-    steps_as kept now (FirstAfter kept writing new.sent new.unsent) new (whole 1) (whole peer) output.reply reply same (ap whole (sym one)) (sym is)
-    (kept_as writing new.writing kept.reading new.reading new.sent new.unsent (sym w) (sym r)) (first_acts kept writing ev (whole 1) output new.sent new.unsent into steps posts)
+set_same : {X : Type 0} (xs : List X) (i : ℕ) (x : X) → slice_get xs i ≡ Some x → xs ≡ set xs i x
+set_same [] i x at = refl
+set_same (y ∷ ys) zero x at = ap (λ z. z ∷ ys) (same_Some y x at)
+set_same (y ∷ ys) (suc i) x at = ap (λ zs. y ∷ zs) (set_same ys i x at)
 
-pub second_goes : (kept now new : WorldKept) (reading : ReadingKept) (peer : ℕ) (ev : Event) (whole : ℕ → WorldEvent) (output : Output) (reply : Reply) → kept ≡ now → peer ≡ 2 → IsEventOf kept.sent ev 2 (whole 2)
-    → ReadingSteps kept.reading ev output reading → reply ≡ output.reply → new.writing ≡ kept.writing → new.reading ≡ reading → Posts kept.sent output.packets new.sent → Steps now (whole peer) reply new
-second_goes kept now new reading peer ev whole output reply same two into steps is w r posts =
-    steps_as kept now (SecondAfter kept reading new.sent new.unsent) new (whole 2) (whole peer) output.reply reply same (ap whole (sym two)) (sym is)
-    (kept_as kept.writing new.writing reading new.reading new.sent new.unsent (sym w) (sym r)) (second_acts kept reading ev (whole 2) output new.sent new.unsent into steps posts)
+-- an element within a list
+element : {X : Type 0} (xs : List X) (i : ℕ) → i < length xs → (x : X) × (slice_get xs i ≡ Some x)
+element [] i lt = absurd (omega (arith, lt))
+element (x ∷ xs) zero lt = (x, refl)
+element (x ∷ xs) (suc i) lt = element xs i (omega (arith, lt))
+
+contains_at : (ps : List Packet) (i : ℕ) (p : Packet) → slice_get ps i ≡ Some p → Contains ps p
+contains_at [] i p at = absurd cc
+contains_at (q ∷ ps) zero p at = (0, omega arith, same_Some q p at)
+contains_at (q ∷ ps) (suc i) p at = let r = contains_at ps i p at in (suc r.0, omega (arith, r.1), r.2)
+
+pub not_delivered : (kept : WorldKept) (i j : ℕ) → i < length kept.peers → j < length kept.sent → Steps kept (world.Deliver (i + 1) (j + 1)) (Reported (record { moves = []; refused = Some 0 })) kept
+not_delivered kept i j low high config network s =
+    let core = element kept.peers i low in
+    let packet = element kept.sent j high in
+    let some : HasSubmessage packet.0.bytes = s.messages packet.0 (contains_at kept.sent j packet.0 packet.1) in
+    let acts : ActsAt kept i (event.Deliver packet.0.bytes) (Reported (record { moves = []; refused = Some 0 })) kept = record {
+      core = core.0;
+      at = core.1;
+      output = nothing_moved;
+      after = core.0;
+      steps = comes_to_nothing core.0 packet.0.bytes some;
+      messages = λ p c. absurd (omega (arith, c.1));
+      replies = refl;
+      peers = set_same kept.peers i core.0 core.1;
+      posts = posts_none kept.sent;
+    } in
+    delivered kept kept i j packet.0.bytes (Reported (record { moves = []; refused = Some 0 })) (record { packet = packet.0; at = packet.1; same = refl }) acts config network s
+
+-- numbers that nobody has
+
+no_such : (n count : ℕ) → (nat_lt 0 n && nat_le n count) ≡ false → (n ≡ 0) ⊎ (count < n)
+no_such zero count h = inl refl
+no_such (suc n) count h = inr (grind (arith, nat_tests, h))
+
+nobody : (kept : WorldKept) (config : Config) (network : WorldState) (peer : ℕ) → StandsFor kept config network → (nat_lt 0 peer && nat_le peer (length kept.peers)) ≡ false → HasNumber network.peers peer → ⊥
+nobody kept config network peer s none has =
+    let count = s.count in
+    let low = has.0 in
+    let high = has.1 in
+    ⊎_elim (λ z. omega (arith, z, low)) (λ past. omega (arith, past, high, count)) (no_such peer (length kept.peers) none)
+
+-- a step of the network that changes nothing
+stays : (kept : WorldKept) (config : Config) (network : WorldState) (ev : WorldEvent) (reply : Reply) → StandsFor kept config network → WorldStep config no_tests network ev reply network
+    → (after : WorldState) × WorldStep config no_tests network ev reply after × Step no_tests (length kept.sent) (machine_of network) ev reply (machine_of after) × StandsFor kept config after
+stays kept config network ev reply s step =
+    let c = composes config no_tests network network ev reply s.sound step in
+    (network, step, subst (λ (ps : List Packet). Step no_tests (length ps) (machine_of network) ev reply (machine_of network)) s.sent c.0, s)
+
+pub unknown_call : (kept : WorldKept) (peer : ℕ) (call : Call) → (nat_lt 0 peer && nat_le peer (length kept.peers)) ≡ false → Steps kept (world.Call peer call) (Refused BadParameter) kept
+unknown_call kept peer call none config network s =
+    stays kept config network (world.Call peer call) (Refused BadParameter) s (inr (λ has. nobody kept config network peer s none has, record { is_refused = refl; after = refl }))
+
+pub unknown_tick : (kept : WorldKept) (peer now : ℕ) → (nat_lt 0 peer && nat_le peer (length kept.peers)) ≡ false → Steps kept (world.Tick peer now) (Refused BadParameter) kept
+unknown_tick kept peer now none config network s =
+    stays kept config network (world.Tick peer now) (Refused BadParameter) s (inr (λ has. nobody kept config network peer s none has, record { is_refused = refl; after = refl }))
+
+pub unknown_delivery : (kept : WorldKept) (peer number : ℕ) → (nat_lt 0 peer && nat_le peer (length kept.peers)) ≡ false → Steps kept (world.Deliver peer number) (Refused BadParameter) kept
+unknown_delivery kept peer number none config network s =
+    stays kept config network (world.Deliver peer number) (Refused BadParameter) s (inr (inr (inr (λ has. nobody kept config network peer s none has)), record { is_refused = refl; after = refl }))
+
+pub unknown_packet : (kept : WorldKept) (peer number : ℕ) → (nat_lt 0 number && nat_le number (length kept.sent)) ≡ false → Steps kept (world.Deliver peer number) (Refused BadParameter) kept
+unknown_packet kept peer number none config network s =
+    let count = ap (λ (ps : List Packet). length ps) s.sent in
+    let why : (number ≡ 0) ⊎ (length network.sent < number) ⊎ (HasNumber network.peers peer → ⊥) = ⊎_elim (λ z. inl z) (λ past. inr (inl (omega (arith, past, count)))) (no_such number (length kept.sent) none) in
+    stays kept config network (world.Deliver peer number) (Refused BadParameter) s (inr (why, record { is_refused = refl; after = refl }))

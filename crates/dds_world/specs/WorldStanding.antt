@@ -1,5 +1,5 @@
 -- What a network stands for.
-use Rattle.std.specs.Prelude.{◌≡◌, ℕ, ◌≤◌, List, [], ◌∷◌, ◌++◌, length, Contains}
+use Rattle.std.specs.Prelude.{◌≡◌, ◌≢◌, ℕ, ◌≤◌, List, ◌++◌, length, get_or, slice_get, Some, Contains, AllPairs}
 use Rattle.dds_base.specs.declared.config.Config.{Config}
 use Rattle.dds_model.specs.declared.event.Packet.{Packet}
 use Rattle.dds_model.specs.declared.event.WorldEvent.{WorldEvent}
@@ -8,36 +8,34 @@ use Rattle.dds_model.specs.Machine.{no_tests, Step}
 use Rattle.dds_model.specs.Progress.{Progresses}
 use Rattle.dds_model.specs.Runs.{Traffic, Sends, Run}
 use Rattle.dds_model.specs.Laws.{WorldRun}
-use Rattle.dds_model.specs.Peer.{Peer}
+use Rattle.dds_model.specs.Peer.{no_peer}
 use Rattle.dds_model.specs.World.{WorldState, WorldStep, machine_of, Sound}
-use Rattle.dds_world.specs.Standing.{WritingKept, ReadingKept, WritingStandsFor, ReadingStandsFor}
+use Rattle.dds_core.specs.Kept.{CoreKept}
+use Rattle.dds_core.specs.Sending.{AreMessages}
+use Rattle.dds_core.specs.Standing.{StandsFor as CoreStandsFor}
 
--- the two peers, every packet that was sent, and how many found no memory
+-- the peers, every packet that was sent, and how many found no memory
 pub record WorldKept : Type 0 where
-  pub writing : WritingKept
-  pub reading : ReadingKept
+  pub peers : List CoreKept
   pub sent : List Packet
   pub unsent : ℕ
 
--- the network of two peers and these packets
-abbrev pub world_of : Peer → Peer → List Packet → WorldState
-world_of first second sent = record { peers = first ∷ second ∷ []; sent = sent }
-
--- a state of the network for which what it keeps stands: so its peers stand, and all that packets claim is true
+-- a state of the network for which what it keeps stands: so its peers stand, all that packets claim is true, and each packet
+-- is a message
 pub record StandsFor (kept : WorldKept) (config : Config) (network : WorldState) : Type 0 where
-  pub first : Peer
-  pub second : Peer
-  pub writing : WritingStandsFor kept.writing config first
-  pub reading : ReadingStandsFor kept.reading config second
-  pub sound : Sound config (world_of first second kept.sent)
-  pub network_is : network ≡ world_of first second kept.sent
+  pub count : length network.peers ≡ length kept.peers
+  pub each : (i : ℕ) (k : CoreKept) → slice_get kept.peers i ≡ Some k → CoreStandsFor k config (get_or network.peers i no_peer)
+  pub sent : network.sent ≡ kept.sent
+  pub sound : Sound config network
+  pub messages : AreMessages kept.sent
 
--- of these packets some were sent
+-- of these packets some were sent; those to different peers stay so
 pub record Posts (old : List Packet) (packets : List Packet) (new : List Packet) : Type 0 where
   pub posted : List Packet
   pub sent : new ≡ old ++ posted
   pub of_packets : (packet : Packet) → Contains posted packet → Contains packets packet
   pub fewer : length posted ≤ length packets
+  pub different : AllPairs (λ (a b : Packet). a.to ≢ b.to) packets → AllPairs (λ (a b : Packet). a.to ≢ b.to) posted
 
 -- For each state that the old network stands for, the event is a step of its peers, each of which rests on what was
 -- delivered to it; it is a step of the machine that they are the parts of; and the new network stands for the state

@@ -1,35 +1,29 @@
 //! The network.
 
-ghost use Rattle.std.specs.Prelude.{◌≡◌, ◌⊎◌, ℕ, ◌+◌, ◌-◌, ◌^◌, ◌≤◌, min, IsOk, IfOk, IfErr, OnErr, length, slice_get, None};
+ghost use Rattle.std.specs.Prelude.{◌≡◌, ◌&&◌, ◌+◌, ◌-◌, ◌<◌, ◌≤◌, false, nat_lt, nat_le, IfOk, IfErr, OnErr, MatchOption, length, slice_get, None, Some, []};
 ghost use Rattle.std.specs.Option.{option_copied};
+ghost use Rattle.dds_base.specs.Checked.{check_refusal};
+ghost use Rattle.dds_base.specs.Refusal.{Refuses};
+ghost use Rattle.dds_base.specs.declared.code.Code.TheVariants.{Memory};
 ghost use Rattle.dds_model.specs.declared.event.WorldEvent.TheVariants as event;
 ghost use Rattle.dds_model.specs.InOrder.{no_traffic};
-ghost use Rattle.dds_world.specs.WorldStanding.{traffic, Announces, MovesOn, Posts, Runs, StandsFor, Steps};
-ghost use Rattle.dds_world.specs.Standing.{SendsNothing};
 ghost use Rattle.dds_model.specs.Opening.{opening_world};
-ghost use Rattle.dds_base.specs.declared.code.Code.TheVariants.{BadParameter, Memory};
-ghost use Rattle.dds_world.specs.Thin.{IsThin, thin_qos};
+ghost use Rattle.dds_core.specs.Opening.{opening_peer, opening_refusal};
+ghost use Rattle.dds_core.specs.Standing.{StandsFor as CoreStandsFor};
+ghost use Rattle.dds_world.specs.WorldStanding.{traffic, Announces, MovesOn, Posts, Runs, StandsFor, Steps};
+ghost use Rattle.dds_world.specs.Acting.{Acts, Counts, IsCopy, IsQuiet, OpensFirst};
 
-use crate::reading::ReadingPeer;
-use crate::thin::{Ends, ends_of};
-use crate::writing::WritingPeer;
-use dds_base::{Code, Config, Guid, MatchedWriter, Moment, ReaderQos, Sequence};
-use dds_model::{Call, Event, Output, Packet, Reply, WorldEvent};
+use dds_base::{Code, Config, Moment, Octets, Sequence};
+use dds_core::Core;
+use dds_model::{Call, Event, Output, Packet, Reply, Report, WorldEvent};
 use std::alloc::{AllocError, Global};
 use std::marker::Model;
 
-/// The number of the peer that writes.
-const WRITING: u8 = 1;
-
-/// The number of the peer that reads.
-const READING: u8 = 2;
-
-/// Two peers, and all packets that they ever sent.
+/// Peers, which are numbered from 1, and all packets that they ever sent.
 #[derive(Drop)]
 pub struct World {
     alloc: Global,
-    writing: WritingPeer,
-    reading: ReadingPeer,
+    peers: Vec<Core>,
     sent: Vec<Packet>,
     unsent: u64,
 }
@@ -39,7 +33,7 @@ impl Model for World {
 
     ghost Value = { WorldKept };
 
-    ghost view = { λ w. record { writing = w.writing; reading = w.reading; sent = w.sent.items; unsent = w.unsent } };
+    ghost view = { λ w. record { peers = w.peers.items; sent = w.sent.items; unsent = w.unsent } };
 }
 
 /// Sends packets, and gives how many found no memory.
@@ -55,62 +49,73 @@ fn post(sent: &mut Vec<Packet>, packets: Sequence<Packet>) -> u64
     (total - (sent.len() - before)) as u64
 }
 
-/// The QoS of the reader.
-fn reader_qos(alloc: Global, ends: &Ends) -> Result<ReaderQos, AllocError>
-    ensures { IfOk result (λ qos. qos ≡ thin_qos ends.now.first ends.now.writer ends.now.reader) }
+/// The index of a peer of this number, counted from 1, among so many.
+fn index_of(number: u8, count: usize) -> Option<usize>
+    ensures { MatchOption result ((nat_lt 0 number && nat_le number count) ≡ false) (λ index. (number ≡ index + 1) × (index < count)) }
 {
-    let writer = MatchedWriter {
-        guid: Guid {
-            prefix: ends.first,
-            entity: ends.writer.entity,
-        },
-        strength: ends.writer.strength,
-        lease: ends.writer.lease,
-    };
-    Ok(ReaderQos {
-        ownership: ends.reader.ownership,
-        history: ends.reader.history,
-        max_samples: None,
-        max_instances: None,
-        writers: Sequence::from_vec(vec![in alloc; writer]?),
-    })
+    if number == 0 || count < usize::from(number) {
+        None
+    } else {
+        Some(usize::from(number) - 1)
+    }
+}
+
+/// The index of a packet of this number, counted from 1, among so many.
+fn packet_index(number: u64, count: u64) -> Option<usize>
+    ensures { MatchOption result ((nat_lt 0 number && nat_le number count) ≡ false) (λ index. (number ≡ index + 1) × (index < count)) }
+{
+    if number == 0 || count < number {
+        None
+    } else {
+        Some((number - 1) as usize)
+    }
+}
+
+/// The peer of this index, at its opening.
+fn open_peer(alloc: Global, config: &Config, index: usize) -> Result<Core, Code>
+    requires within { index < length config.now.peers }
+    requires few { length config.now.peers ≤ 16 }
+    ensures opening { IfOk result (λ core. CoreStandsFor core config.now (opening_peer config.now (index + 1))) }
+    ensures taken { IfOk result (λ core. opening_refusal config.now.peers ≡ None) }
+    ensures refused { IfErr result (Refuses (opening_refusal config.now.peers)) }
+{
+    Core::open(alloc, config, (index + 1) as u8)
+}
+
+/// The peers of a checked configuration, at their opening.
+fn open_peers(alloc: Global, config: &Config) -> Result<Vec<Core>, Code>
+    requires checked { check_refusal config.now.peers ≡ None }
+    requires some { 1 ≤ length config.now.peers }
+    requires few { length config.now.peers ≤ 16 }
+    ensures opening { IfOk result (λ peers. OpensFirst config.now (length config.now.peers) peers.items) }
+    ensures refused { IfErr result (Refuses (opening_refusal config.now.peers)) }
+{
+    let mut peers = Vec::new(alloc);
+    for index in 0..config.peers.as_slice().len() {
+        let peer = open_peer(alloc, config, index)?;
+        peers.push(peer)?;
+    }
+    Ok(peers)
 }
 
 impl World {
-    /// The network of a configuration, at its opening.
+    /// The network of a configuration, at its opening: its peers, 1 to 16, in their order.
     ///
     /// # Errors
     ///
-    /// `BadParameter` for a configuration that is no pair of a peer with one writer and a peer with one reader of its
-    /// topic, of different prefixes that are not all zeros and of the right entity kinds, both shared, keeping all,
-    /// without limits and leases; `Memory` where a growth was refused.
+    /// The first of these: what `Config::check` answers; `BadParameter` for a writer or a reader that is not shared, does
+    /// not keep all, or has a limit or a lease; `Memory` where a growth was refused.
     pub fn open(alloc: Global, config: &Config) -> Result<World, Code>
         ensures opening { IfOk result (λ world. StandsFor world config.now (opening_world config.now)) }
         ensures quiet { IfOk result (λ world. traffic world ≡ no_traffic) }
-        ensures thin { IsOk result → IsThin config.now }
-        ensures refused { (IsThin config.now → ⊥) → result ≡ Err BadParameter }
-        ensures codes { IfErr result (λ code. (code ≡ Memory) ⊎ ((code ≡ BadParameter) × (IsThin config.now → ⊥))) }
+        ensures taken { IfOk result (λ world. opening_refusal config.now.peers ≡ None) }
+        ensures refused { IfErr result (Refuses (opening_refusal config.now.peers)) }
     {
-        let Some(ends) = ends_of(config) else {
-            return Err(Code::BadParameter);
-        };
-        let Ok(qos) = reader_qos(alloc, &ends) else {
-            return Err(Code::Memory);
-        };
-        let writer = Guid {
-            prefix: ends.first,
-            entity: ends.writer.entity,
-        };
+        config.check()?;
+        let peers = open_peers(alloc, config)?;
         Ok(World {
             alloc,
-            writing: WritingPeer::open(
-                alloc,
-                ends.first,
-                ends.writer.entity,
-                ends.writer.autodispose,
-                ends.second,
-            ),
-            reading: ReadingPeer::open(alloc, ends.second, ends.reader.entity, writer, qos),
+            peers,
             sent: Vec::new(alloc),
             unsent: 0,
         })
@@ -152,64 +157,104 @@ impl World {
         Ok(Sequence::from_vec(replies))
     }
 
+    /// How many peers there are.
+    fn count(&self) -> usize
+        ensures { result ≡ length self.now.peers }
+    {
+        self.peers.len()
+    }
+
     fn call(&mut self, peer: u8, call: Call) -> Reply
         ensures step { Steps self.old (event.Call peer call) result self.new }
         ensures sends { Announces self.old (event.Call peer call) result self.new }
     {
-        if peer == WRITING {
-            let output = self.writing.step(Event::Call(call));
-            return self.posted(output);
+        match index_of(peer, self.count()) {
+            Some(index) => self.happen_at(index, Event::Call(call)),
+            None => Reply::Refused(Code::BadParameter),
         }
-        if peer == READING {
-            let output = self.reading.step(Event::Call(call));
-            return self.posted(output);
-        }
-        Reply::Refused(Code::BadParameter)
     }
 
     fn tick(&mut self, peer: u8, now: Moment) -> Reply
         ensures step { Steps self.old (event.Tick peer now) result self.new }
         ensures sends { Announces self.old (event.Tick peer now) result self.new }
     {
-        if peer == WRITING {
-            let output = self.writing.step(Event::Tick(now));
-            return self.posted(output);
+        match index_of(peer, self.count()) {
+            Some(index) => self.happen_at(index, Event::Tick(now)),
+            None => Reply::Refused(Code::BadParameter),
         }
-        if peer == READING {
-            let output = self.reading.step(Event::Tick(now));
-            return self.posted(output);
-        }
-        Reply::Refused(Code::BadParameter)
     }
 
     fn deliver(&mut self, peer: u8, packet: u64) -> Reply
         ensures step { Steps self.old (event.Deliver peer packet) result self.new }
         ensures sends { Announces self.old (event.Deliver peer packet) result self.new }
     {
-        if packet == 0 || (self.sent.len() as u64) < packet {
-            return Reply::Refused(Code::BadParameter);
+        match packet_index(packet, self.sent()) {
+            Some(sent) => self.deliver_sent(peer, sent),
+            None => Reply::Refused(Code::BadParameter),
         }
-        let index = (packet - 1) as usize;
-        if peer == WRITING {
-            let output = self.writing.deliver(&self.sent[index].bytes);
-            return self.posted(output);
+    }
+
+    /// Delivers the packet of this index.
+    fn deliver_sent(&mut self, peer: u8, sent: usize) -> Reply
+        requires sent { sent < length self.old.sent }
+        ensures step { Steps self.old (event.Deliver peer (sent + 1)) result self.new }
+        ensures sends { Announces self.old (event.Deliver peer (sent + 1)) result self.new }
+    {
+        match index_of(peer, self.count()) {
+            Some(index) => self.deliver_at(index, sent),
+            None => Reply::Refused(Code::BadParameter),
         }
-        if peer == READING {
-            let output = self.reading.deliver(&self.sent[index].bytes);
-            return self.posted(output);
+    }
+
+    /// Delivers the packet of this index to the peer of this index. A packet for whose bytes there is no memory moves
+    /// nothing, as one whose first submessage finds none.
+    fn deliver_at(&mut self, index: usize, sent: usize) -> Reply
+        requires within { index < length self.old.peers }
+        requires sent { sent < length self.old.sent }
+        ensures step { Steps self.old (event.Deliver (index + 1) (sent + 1)) result self.new }
+        ensures sends { Announces self.old (event.Deliver (index + 1) (sent + 1)) result self.new }
+    {
+        match self.copied(sent) {
+            Ok(bytes) => self.happen_at(index, Event::Deliver(bytes)),
+            Err(_) => Reply::Reported(self.unmoved()),
         }
-        Reply::Refused(Code::BadParameter)
+    }
+
+    /// The bytes of the packet of this index, once more.
+    fn copied(&self, index: usize) -> Result<Octets, AllocError>
+        requires { index < length self.now.sent }
+        ensures { IfOk result (IsCopy self.now.sent index) }
+    {
+        let bytes = Vec::from_slice(self.alloc, self.sent[index].bytes.as_slice())?;
+        Ok(Octets::from_vec(bytes))
+    }
+
+    /// The report of a packet that found no memory.
+    fn unmoved(&self) -> Report
+        ensures { result ≡ record { moves = []; refused = Some 0 } }
+    {
+        Report {
+            moves: Sequence::from_vec(Vec::new(self.alloc)),
+            refused: Some(0),
+        }
+    }
+
+    /// One event of the peer of this index. Sends what the peer gives back, and gives its answer.
+    fn happen_at(&mut self, index: usize, event: Event) -> Reply
+        requires { index < length self.old.peers }
+        ensures { Acts self.old index event result self.new }
+    {
+        let output = self.peers[index].step(event);
+        self.posted(output)
     }
 
     /// Sends what a peer gives back, and gives its answer.
     fn posted(&mut self, output: Output) -> Reply
         ensures reply { result ≡ output.reply }
-        ensures writing { self.new.writing ≡ self.old.writing }
-        ensures reading { self.new.reading ≡ self.old.reading }
+        ensures peers { self.new.peers ≡ self.old.peers }
         ensures posted { Posts self.old.sent output.packets self.new.sent }
-        ensures unsent { (lost : ℕ) × (length self.new.sent + lost ≡ length self.old.sent + length output.packets)
-            × (self.new.unsent ≡ min (self.old.unsent + output.unsent + lost) (2 ^ 64 - 1)) }
-        ensures quiet { SendsNothing output → (self.new.sent ≡ self.old.sent) × (self.new.unsent ≡ self.old.unsent) }
+        ensures unsent { Counts self.old output self.new }
+        ensures quiet { IsQuiet self.old output self.new }
     {
         let Output {
             reply,

@@ -2,6 +2,7 @@ mod base;
 mod cache;
 mod history;
 mod info;
+mod readme;
 mod rows;
 mod sets;
 mod wire;

@@ -1,5 +1,5 @@
 -- What is read of a DATA is what it says, and what it says is read.
-use Rattle.std.proofs.Common.{◌≡◌, ℕ, ◌+◌, ◌-◌, ◌^◌, ◌<◌, ◌≤◌, Bool, true, false, cond, ltb, List, [], ◌++◌, length, Option, Some, None, refl, sym, ap, subst, ◌∙◌, arith}
+use Rattle.std.proofs.Common.{◌≡◌, ℕ, ◌+◌, ◌-◌, ◌^◌, ◌<◌, ◌≤◌, Bool, true, false, cond, ltb, List, [], ◌++◌, length, Option, Some, None, refl, sym, ap, subst, ◌∙◌, arith, append_assoc}
 use Rattle.std.specs.Prelude.{MatchBool, slice_index, unwrap_or}
 use Rattle.std.specs.Option.{option_map, option_or}
 use Rattle.std.specs.Int.{w16}
@@ -8,7 +8,7 @@ use Rattle.std.proofs.lemmas.Option.{option_and_then_some}
 use Rattle.dds_base.specs.declared.endianness.Endianness.{Endianness}
 use Rattle.dds_base.specs.declared.guid.EntityId.{EntityId}
 use Rattle.dds_base.specs.declared.key.Key.{Key}
-use Rattle.dds_base.specs.Fields.{number_at, octets_at, both, ◌>>=◌}
+use Rattle.dds_base.specs.Fields.{number, number_at, octets_at, both, ◌>>=◌}
 use Rattle.dds_base.specs.DatumText.{ReadsDatum}
 use Rattle.dds_base.specs.DatumAt.{datum_at}
 use Rattle.dds_base.proofs.FieldLaws.{AreOctets, guard_some, some_is, cond_is, field_u16, field_octets, field_both}
@@ -17,7 +17,7 @@ use Rattle.rtps_wire.specs.declared.data.Data.{Data}
 use Rattle.rtps_wire.specs.declared.data.DataContent.{DataContent}
 use Rattle.rtps_wire.specs.declared.data.DataContent.TheVariants.{Write, Dispose, Unregister, DisposeUnregister}
 use Rattle.rtps_wire.specs.declared.parameters.Parameters.{Parameters}
-use Rattle.rtps_wire.specs.Fields.{has_flag, order_of}
+use Rattle.rtps_wire.specs.Fields.{has_flag, order_of, sn_text}
 use Rattle.rtps_wire.specs.FieldAt.{entity_id_at, sn_at}
 use Rattle.rtps_wire.specs.Parameters.{Parameter, ReadsParameters, value_of, status_of}
 use Rattle.rtps_wire.specs.Data.{data_head, ShowsKey, SaysContent, ReadsData, IsData}
@@ -38,14 +38,16 @@ hash_is (Some v) k e = ap (λ (x : Key). Some x.0) (some_is _ k e)
 hash_again : (o : Option (List ℕ)) (k : Key) → o ≡ Some k.0 → option_map (λ (v : List ℕ). record { 0 = v }) o ≡ Some k
 hash_again o k e = ap (option_map (λ (v : List ℕ). record { 0 = v })) e
 
-key_found : (datum key : Bool) (ps : List Parameter) (payload : List ℕ) (k : Key) → AreOctets payload → shown_key_at datum key (hash_in ps) payload ≡ Some k → ShowsKey datum key ps payload k
+key_found : (datum key : Bool) (ps : List Parameter) (payload : List ℕ) (k : Key) → AreOctets payload
+    → shown_key_at datum key (hash_in ps) payload ≡ Some k → ShowsKey datum key ps payload k
 unfolding shown_key_at
 key_found true true ps payload k octets e = absurd cc
 key_found true false ps payload k octets e = datum_key_found payload k octets (sym e)
 key_found false true ps payload k octets e = key_form_found payload k octets e
 key_found false false ps payload k octets e = hash_is (value_of 112 ps) k e
 
-key_only : (datum key : Bool) (ps : List Parameter) (payload : List ℕ) (k : Key) → ShowsKey datum key ps payload k → shown_key_at datum key (hash_in ps) payload ≡ Some k
+key_only : (datum key : Bool) (ps : List Parameter) (payload : List ℕ) (k : Key) → ShowsKey datum key ps payload k
+    → shown_key_at datum key (hash_in ps) payload ≡ Some k
 unfolding shown_key_at
 key_only true true ps payload k shows = absurd shows
 key_only true false ps payload k shows = datum_key_only payload (record { key = k; value = shows.0 }) shows.1
@@ -65,7 +67,8 @@ pub mapped_some : {A B P : Type 0} (f : A → B) (o : Option A) (y : B) → opti
 mapped_some f None y e go = absurd cc
 mapped_some f (Some x) y e go = go x refl (some_is (f x) y e)
 
-says_found : (disposed unregistered datum key : Bool) (ps : List Parameter) (payload : List ℕ) (c : DataContent) → AreOctets payload → content_by disposed unregistered datum key (hash_in ps) payload ≡ Some c → Says disposed unregistered datum key ps payload c
+says_found : (disposed unregistered datum key : Bool) (ps : List Parameter) (payload : List ℕ) (c : DataContent) → AreOctets payload
+    → content_by disposed unregistered datum key (hash_in ps) payload ≡ Some c → Says disposed unregistered datum key ps payload c
 unfolding content_by ended_at
 says_found false false true false ps payload c octets e = mapped_some Write (datum_at payload) c e (λ d q r.
     subst (λ (x : DataContent). Says false false true false ps payload x) r ((refl, refl), refl, refl, datum_found payload d octets q))
@@ -78,7 +81,8 @@ says_found true false datum key ps payload c octets e = mapped_some Dispose (sho
 says_found false true datum key ps payload c octets e = mapped_some Unregister (shown_key_at datum key (hash_in ps) payload) c e (λ k q r.
     subst (λ (x : DataContent). Says false true datum key ps payload x) r ((refl, refl), key_found datum key ps payload k octets q))
 
-says_only : (disposed unregistered datum key : Bool) (ps : List Parameter) (payload : List ℕ) (c : DataContent) → Says disposed unregistered datum key ps payload c → content_by disposed unregistered datum key (hash_in ps) payload ≡ Some c
+says_only : (disposed unregistered datum key : Bool) (ps : List Parameter) (payload : List ℕ) (c : DataContent)
+    → Says disposed unregistered datum key ps payload c → content_by disposed unregistered datum key (hash_in ps) payload ≡ Some c
 unfolding content_by ended_at
 says_only disposed unregistered datum key ps payload (Write d) says = rw (says.0.0, says.0.1, says.1, says.2, datum_only payload d says.3) refl
 says_only disposed unregistered datum key ps payload (Dispose k) says = rw (says.0.0, says.0.1, key_only datum key ps payload k says.1) refl
@@ -90,7 +94,8 @@ status_is : (o : Option (List ℕ)) → unwrap_or (option_or None (option_map (�
 status_is None = refl
 status_is (Some v) = refl
 
-content_found : (flags : ℕ) (ps : List Parameter) (payload : List ℕ) (c : DataContent) → AreOctets payload → content_at flags (summed nothing ps) payload ≡ Some c → SaysContent flags ps payload c
+content_found : (flags : ℕ) (ps : List Parameter) (payload : List ℕ) (c : DataContent) → AreOctets payload
+    → content_at flags (summed nothing ps) payload ≡ Some c → SaysContent flags ps payload c
 unfolding content_at
 content_found flags ps payload c octets e =
     let said : Says (has_flag (status_of ps) 1) (has_flag (status_of ps) 2) (has_flag flags 4) (has_flag flags 8) ps payload c =
@@ -103,7 +108,8 @@ content_found flags ps payload c octets e =
     as_said (Unregister k) s = s
     as_said (DisposeUnregister k) s = s
 
-content_only : (flags : ℕ) (ps : List Parameter) (payload : List ℕ) (c : DataContent) → SaysContent flags ps payload c → content_at flags (summed nothing ps) payload ≡ Some c
+content_only : (flags : ℕ) (ps : List Parameter) (payload : List ℕ) (c : DataContent) → SaysContent flags ps payload c
+    → content_at flags (summed nothing ps) payload ≡ Some c
 unfolding content_at
 content_only flags ps payload c says =
     rw (status_is (value_of 113 ps)) (says_only (has_flag (status_of ps) 1) (has_flag (status_of ps) 2) (has_flag flags 4) (has_flag flags 8) ps payload c (as_said c says))
@@ -141,12 +147,14 @@ inline_found flags bytes x octets e =
       octets = octets;
     }))
 
-inline_by : (b : Bool) (order : Endianness) (bytes : List ℕ) (ps : List Parameter) (payload : List ℕ) (read : Option (Parameters × List ℕ)) → (ReadsParameters order bytes ps payload → read ≡ Some (summed nothing ps, payload)) → IsInline b order bytes ps payload
+inline_by : (b : Bool) (order : Endianness) (bytes : List ℕ) (ps : List Parameter) (payload : List ℕ) (read : Option (Parameters × List ℕ))
+    → (ReadsParameters order bytes ps payload → read ≡ Some (summed nothing ps, payload)) → IsInline b order bytes ps payload
     → cond b read (Some (nothing, bytes)) ≡ Some (summed nothing ps, payload)
 inline_by true order bytes ps payload read again i = again i
 inline_by false order bytes ps payload read again i = rw (i.0, i.1) refl
 
-inline_only : (flags : ℕ) (bytes : List ℕ) (ps : List Parameter) (payload : List ℕ) → IsInline (has_flag flags 2) (order_of flags) bytes ps payload → inline_at flags bytes ≡ Some (summed nothing ps, payload)
+inline_only : (flags : ℕ) (bytes : List ℕ) (ps : List Parameter) (payload : List ℕ) → IsInline (has_flag flags 2) (order_of flags) bytes ps payload
+    → inline_at flags bytes ≡ Some (summed nothing ps, payload)
 unfolding inline_at
 inline_only flags bytes ps payload i = inline_by (has_flag flags 2) (order_of flags) bytes ps payload _ (parameters_only (order_of flags) bytes ps payload) i
 
@@ -162,29 +170,48 @@ record HasHead (order : Endianness) (body : List ℕ) (x : ℕ × EntityId × En
   text : body ≡ data_head order extra x.0 x.1 x.2 x.3 ++ x.4
   octets : AreOctets x.4
 
-abbrev head_fields : Endianness → List ℕ → Option (((((ℕ × ℕ) × EntityId) × EntityId) × ℕ) × List ℕ)
-head_fields order = both (both (both (both (number_at order w16) (number_at order w16)) entity_id_at) entity_id_at) (sn_at order)
+abbrev head_fields : Endianness → List ℕ → Option ((((ℕ × ℕ) × (EntityId × EntityId)) × ℕ) × List ℕ)
+head_fields order =
+    both (both (both (number_at order w16) (number_at order w16)) (both entity_id_at entity_id_at)) (sn_at order)
 
-head_found : (order : Endianness) (body : List ℕ) (x : ℕ × EntityId × EntityId × ℕ × List ℕ) → AreOctets body → data_head_at order body ≡ Some x → HasHead order body x
+abbrev head_text : Endianness → (((ℕ × ℕ) × (EntityId × EntityId)) × ℕ) → List ℕ
+head_text order z =
+    ((number order w16 z.0.0.0 ++ number order w16 z.0.0.1) ++ (z.0.1.0.0 ++ z.0.1.1.0)) ++ sn_text order z.1
+
+-- the same octets, grouped by fields and in one row
+head_row : (order : Endianness) (extra way : ℕ) (reader writer : EntityId) (n : ℕ) (rest : List ℕ)
+    → data_head order extra way reader writer n ++ rest ≡ head_text order (((extra, way), (reader, writer)), n) ++ rest
+head_row order extra way reader writer n rest =
+    ap (λ (z : List ℕ). z ++ sn_text order n ++ rest)
+    (append_assoc (number order w16 extra ++ number order w16 way) reader.0 writer.0)
+
+head_found : (order : Endianness) (body : List ℕ) (x : ℕ × EntityId × EntityId × ℕ × List ℕ)
+    → AreOctets body → data_head_at order body ≡ Some x → HasHead order body x
 unfolding data_head_at
-head_found order body x octets e = option_and_then_some (λ y. Some (y.0.0.0.0.1, y.0.0.0.1, y.0.0.1, y.0.1, y.1)) (head_fields order body) x e (λ y q r.
-    let t = (field_both (field_both (field_both (field_both (field_u16 order) (field_u16 order)) field_entity_id) field_entity_id) (field_sn order)).takes body y.0 y.1 octets q in
-    subst (λ (z : ℕ × EntityId × EntityId × ℕ × List ℕ). HasHead order body z) (some_is (y.0.0.0.0.1, y.0.0.0.1, y.0.0.1, y.0.1, y.1) x r) (record {
-      extra = y.0.0.0.0.0;
-      extra_small = t.1.0.0.0.0;
-      way_small = t.1.0.0.0.1;
-      reader = t.1.0.0.1;
-      writer = t.1.0.1;
+head_found order body x octets e =
+    option_and_then_some (λ y. Some (y.0.0.0.1, y.0.0.1.0, y.0.0.1.1, y.0.1, y.1)) (head_fields order body) x e (λ y q r.
+    let ids = field_both field_entity_id field_entity_id in
+    let t = (field_both (field_both (field_both (field_u16 order) (field_u16 order)) ids) (field_sn order)).takes body y.0 y.1 octets q in
+    let made : ℕ × EntityId × EntityId × ℕ × List ℕ = (y.0.0.0.1, y.0.0.1.0, y.0.0.1.1, y.0.1, y.1) in
+    subst (λ (z : ℕ × EntityId × EntityId × ℕ × List ℕ). HasHead order body z) (some_is made x r) (record {
+      extra = y.0.0.0.0;
+      extra_small = t.1.0.0.0;
+      way_small = t.1.0.0.1;
+      reader = t.1.0.1.0;
+      writer = t.1.0.1.1;
       small = t.1.1;
-      text = t.0.parts;
+      text = t.0.parts ∙ sym (head_row order y.0.0.0.0 y.0.0.0.1 y.0.0.1.0 y.0.0.1.1 y.0.1 y.1);
       octets = t.0.octets;
     }))
 
-head_only : (order : Endianness) (extra way : ℕ) (reader writer : EntityId) (n : ℕ) (rest : List ℕ) → extra < 2 ^ 16 → way < 2 ^ 16 → length reader.0 ≡ 4 → length writer.0 ≡ 4 → n ≤ 2 ^ 62
+head_only : (order : Endianness) (extra way : ℕ) (reader writer : EntityId) (n : ℕ) (rest : List ℕ)
+    → extra < 2 ^ 16 → way < 2 ^ 16 → length reader.0 ≡ 4 → length writer.0 ≡ 4 → n ≤ 2 ^ 62
     → data_head_at order (data_head order extra way reader writer n ++ rest) ≡ Some (way, reader, writer, n, rest)
 unfolding data_head_at
 head_only order extra way reader writer n rest p q r s t =
-    rw ((field_both (field_both (field_both (field_both (field_u16 order) (field_u16 order)) field_entity_id) field_entity_id) (field_sn order)).again ((((extra, way), reader), writer), n) rest ((((p, q), r), s), t)) refl
+    ap (data_head_at order) (head_row order extra way reader writer n rest)
+    ∙ rw ((field_both (field_both (field_both (field_u16 order) (field_u16 order)) (field_both field_entity_id field_entity_id)) (field_sn order)).again
+    (((extra, way), (reader, writer)), n) rest (((p, q), (r, s)), t)) refl
 
 -- ---- the whole
 

@@ -13,21 +13,21 @@ use Rattle.rtps_wire.specs.declared.message.Message.{Message}
 use Rattle.rtps_wire.specs.declared.submessage.Submessage.{Submessage}
 use Rattle.rtps_wire.specs.declared.submessage.Submessage.TheVariants as submessages
 use Rattle.rtps_wire.specs.Fields.{order_of}
-use Rattle.rtps_wire.specs.Sets.{IsSet, spelling_of_set}
-use Rattle.rtps_wire.specs.Data.{IsContent, spelling_of_end, spelling_of_content}
+use Rattle.rtps_wire.specs.Sets.{IsSet, text_of_set}
+use Rattle.rtps_wire.specs.Data.{IsContent, text_of_end, text_of_content}
 use Rattle.rtps_wire.specs.Submessages.{flags_of, text_of, body_of, padding, IsSpellable, spelling_of_submessage}
 use Rattle.rtps_wire.specs.Messages.{IsWritable, header_text}
 use Rattle.rtps_wire.proofs.WireFields.{len_16}
-use Rattle.rtps_wire.proofs.SetSpelling.{spelling_of_set_len}
+use Rattle.rtps_wire.proofs.SetSpelling.{text_of_set_len}
 use Rattle.rtps_wire.proofs.MessageLaws.{header_length}
 
-set_le : (s : NumberSet) → IsSet s → length (spelling_of_set s) ≤ 44
-set_le s valid = omega (arith, spelling_of_set_len s, span_le s.members, valid.places)
+set_le : (s : NumberSet) → IsSet s → length (text_of_set s) ≤ 44
+set_le s valid = omega (arith, text_of_set_len s, span_le s.members, valid.places)
 
-end_len : (status : ℕ) (k : Key) → length k.0 ≡ 16 → length (spelling_of_end status k) ≡ 52
+end_len : (status : ℕ) (k : Key) → length k.0 ≡ 16 → length (text_of_end status k) ≡ 52
 end_len status k len = simp length-append (omega (arith, len))
 
-content_le : (c : DataContent) → IsContent c → length (spelling_of_content c) ≤ 1048
+content_le : (c : DataContent) → IsContent c → length (text_of_content c) ≤ 1048
 content_le (Write d) valid = simp length-append (omega (arith, valid.key, valid.value))
 content_le (Dispose k) valid = omega (arith, end_len 1 k valid)
 content_le (Unregister k) valid = omega (arith, end_len 2 k valid)

@@ -9,3 +9,4 @@ pub mod SubmessageLaws
 pub mod MessageLaws
 pub mod SpellingLaws
 pub mod LengthLaws
+pub mod ContentLaws

@@ -57,7 +57,8 @@ header_found (r ∷ t ∷ p ∷ s ∷ major ∷ minor ∷ v ∷ w ∷ rest) x oc
     (λ _ q. absurd cc)
 header_found _ x octets e = absurd cc
 
-pub header_only : (minor : ℕ) (vendor : List ℕ) (prefix : GuidPrefix) (rest : List ℕ) → length vendor ≡ 2 → length prefix.0 ≡ 12 → header_at (header_text minor vendor prefix ++ rest) ≡ Some (prefix, rest)
+pub header_only : (minor : ℕ) (vendor : List ℕ) (prefix : GuidPrefix) (rest : List ℕ) → length vendor ≡ 2 → length prefix.0 ≡ 12
+    → header_at (header_text minor vendor prefix ++ rest) ≡ Some (prefix, rest)
 unfolding header_at
 header_only minor (v ∷ w ∷ []) prefix rest two len = field_prefix.again prefix rest len
 header_only minor [] prefix rest two len = absurd (omega arith)
@@ -74,5 +75,6 @@ message_one bytes m n o p a b =
     let prefix : m.prefix ≡ n.prefix = ap (λ (y : GuidPrefix × List ℕ). y.0) same in
     (ap (λ (y : GuidPrefix). record { prefix = y; submessages = m.submessages }) prefix ∙ ap (λ (y : List Submessage). record { prefix = n.prefix; submessages = y }) all.0, omega (arith, a.stop, b.stop, ap length all.1))
 
-pub header_length : (minor : ℕ) (vendor : List ℕ) (prefix : GuidPrefix) → length vendor ≡ 2 → length prefix.0 ≡ 12 → length (header_text minor vendor prefix) ≡ 20
+pub header_length : (minor : ℕ) (vendor : List ℕ) (prefix : GuidPrefix) → length vendor ≡ 2 → length prefix.0 ≡ 12
+    → length (header_text minor vendor prefix) ≡ 20
 header_length minor vendor prefix two len = omega (arith, length-append (82 ∷ 84 ∷ 80 ∷ 83 ∷ 2 ∷ minor ∷ vendor) prefix.0)

@@ -29,7 +29,8 @@ last_octet value = slice_index value 3
 abbrev pub summed : Parameters → List Parameter → Parameters
 summed found ps = record { key_hash = option_or found.key_hash (option_map key_seen (value_of 112 ps)); status = option_or found.status (option_map last_octet (value_of 113 ps)) }
 
-parameters_are : (a b : Option Key) (c d : Option ℕ) → a ≡ b → c ≡ d → ◌≡◌ {A = Parameters} (record { key_hash = a; status = c }) (record { key_hash = b; status = d })
+parameters_are : (a b : Option Key) (c d : Option ℕ) → a ≡ b → c ≡ d
+    → ◌≡◌ {A = Parameters} (record { key_hash = a; status = c }) (record { key_hash = b; status = d })
 parameters_are a b c d e f = cc
 
 or_none : {A : Type 0} (a : Option A) → option_or a None ≡ a
@@ -41,7 +42,8 @@ or_assoc None b c = refl
 or_assoc (Some x) b c = refl
 
 -- the first, or else one of the others
-first_or : {A B : Type 0} (f : A → B) (b : Bool) (v : A) (o : Option A) → option_map f (cond b (Some v) o) ≡ option_or (option_map f (cond b (Some v) None)) (option_map f o)
+first_or : {A B : Type 0} (f : A → B) (b : Bool) (v : A) (o : Option A)
+    → option_map f (cond b (Some v) o) ≡ option_or (option_map f (cond b (Some v) None)) (option_map f o)
 first_or f true v o = refl
 first_or f false v o = refl
 
@@ -98,7 +100,8 @@ noted_status : (found more : Parameters) (value : List ℕ) → noted_at found 1
 unfolding noted_at
 noted_status found more value e = eqb-true _ 4 (passes (eqb (length value) 4) _ more (passes (eqb (length value % 4) 0) _ more e).1).0
 
-noted_valid : (found more : Parameters) (id : ℕ) (value : List ℕ) → id < 2 ^ 16 → id ≢ 1 → length value < 2 ^ 16 → noted_at found id value ≡ Some more → IsParameter (record { id = id; value = value })
+noted_valid : (found more : Parameters) (id : ℕ) (value : List ℕ) → id < 2 ^ 16 → id ≢ 1 → length value < 2 ^ 16 → noted_at found id value ≡ Some more
+    → IsParameter (record { id = id; value = value })
 noted_valid found more id value small no_sentinel short e = record {
   small = small;
   no_sentinel = no_sentinel;
@@ -118,7 +121,8 @@ record TakesParameter (order : Endianness) (bytes : List ℕ) (x : ℕ × List �
   extent : length x.1 ≡ cond (eqb x.0 1) 0 len
   octets : AreOctets x.2
 
-parameter_found : (order : Endianness) (bytes : List ℕ) (x : ℕ × List ℕ × List ℕ) → AreOctets bytes → parameter_at order bytes ≡ Some x → TakesParameter order bytes x
+parameter_found : (order : Endianness) (bytes : List ℕ) (x : ℕ × List ℕ × List ℕ) → AreOctets bytes → parameter_at order bytes ≡ Some x
+    → TakesParameter order bytes x
 unfolding parameter_at
 parameter_found order bytes x octets e =
     option_and_then_some (λ id. number_at order w16 id.1 >>= λ len. octets_at (cond (eqb id.0 1) 0 len.0) len.1 >>= λ value. Some (id.0, value.0, value.1)) (number_at order w16 bytes) x e (λ id q1 e1.
@@ -146,7 +150,8 @@ sentinel_found order bytes x t is =
     let none : x.1 ≡ [] = empty_is x.1 (t.extent ∙ ap (λ (n : ℕ). cond (eqb n 1) 0 t.len) is) in
     (t.len, t.len_small, t.text ∙ ap (λ (n : ℕ). number order w16 n ++ (number order w16 t.len ++ (x.1 ++ x.2))) is ∙ ap (λ (z : List ℕ). number order w16 1 ++ (number order w16 t.len ++ (z ++ x.2))) none ∙ sym (append_assoc (number order w16 1) (number order w16 t.len) x.2))
 
-value_found : (order : Endianness) (bytes : List ℕ) (x : ℕ × List ℕ × List ℕ) → TakesParameter order bytes x → eqb x.0 1 ≡ false → (length x.1 < 2 ^ 16) × (bytes ≡ parameter_text order (record { id = x.0; value = x.1 }) ++ x.2)
+value_found : (order : Endianness) (bytes : List ℕ) (x : ℕ × List ℕ × List ℕ) → TakesParameter order bytes x → eqb x.0 1 ≡ false
+    → (length x.1 < 2 ^ 16) × (bytes ≡ parameter_text order (record { id = x.0; value = x.1 }) ++ x.2)
 value_found order bytes x t other =
     let len : length x.1 ≡ t.len = t.extent ∙ ap (λ (b : Bool). cond b 0 t.len) other in
     (rw len t.len_small, t.text ∙ ap (λ (n : ℕ). number order w16 x.0 ++ (number order w16 n ++ (x.1 ++ x.2))) (sym len) ∙ regroup (number order w16 x.0) (number order w16 (length x.1)) x.1 x.2)
@@ -154,7 +159,8 @@ value_found order bytes x t other =
     regroup : (a b c d : List ℕ) → a ++ (b ++ (c ++ d)) ≡ (a ++ b ++ c) ++ d
     regroup a b c d = simp append_assoc
 
-parameter_again : (order : Endianness) (p : Parameter) (after : List ℕ) → IsParameter p → parameter_at order (parameter_text order p ++ after) ≡ Some (p.id, p.value, after)
+parameter_again : (order : Endianness) (p : Parameter) (after : List ℕ) → IsParameter p
+    → parameter_at order (parameter_text order p ++ after) ≡ Some (p.id, p.value, after)
 unfolding parameter_at
 parameter_again order p after valid =
     let other : eqb p.id 1 ≡ false = ne_eqb p.id 1 valid.no_sentinel in
@@ -169,7 +175,8 @@ parameter_again order p after valid =
     regroup : (a b c d : List ℕ) → (a ++ b ++ c) ++ d ≡ a ++ (b ++ (c ++ d))
     regroup a b c d = simp append_assoc
 
-sentinel_again : (order : Endianness) (len : ℕ) (rest : List ℕ) → len < 2 ^ 16 → parameter_at order (number order w16 1 ++ number order w16 len ++ rest) ≡ Some (1, [], rest)
+sentinel_again : (order : Endianness) (len : ℕ) (rest : List ℕ) → len < 2 ^ 16
+    → parameter_at order (number order w16 1 ++ number order w16 len ++ rest) ≡ Some (1, [], rest)
 unfolding parameter_at
 sentinel_again order len rest small =
     ap (parameter_at order) (append_assoc (number order w16 1) (number order w16 len) rest)
@@ -187,7 +194,8 @@ pub record FindsParameters (order : Endianness) (bytes : List ℕ) (found : Para
   pub sum : x.0 ≡ summed found parameters
   pub octets : AreOctets x.1
 
-from_found : (fuel : ℕ) (order : Endianness) (found : Parameters) (bytes : List ℕ) (x : Parameters × List ℕ) → AreOctets bytes → parameters_from fuel order found bytes ≡ Some x → FindsParameters order bytes found x
+from_found : (fuel : ℕ) (order : Endianness) (found : Parameters) (bytes : List ℕ) (x : Parameters × List ℕ) → AreOctets bytes
+    → parameters_from fuel order found bytes ≡ Some x → FindsParameters order bytes found x
 unfolding parameters_from
 from_found zero order found bytes x octets e = absurd cc
 from_found (suc fuel) order found bytes x octets e =
@@ -214,7 +222,8 @@ shorter order p bytes after e =
     let head = number order w16 p.id ++ number order w16 (length p.value) in
     omega (arith, ap length e, length-append (parameter_text order p) after, length-append head p.value, length-append (number order w16 p.id) (number order w16 (length p.value)), len_16 order p.id)
 
-from_only : (ps : List Parameter) (fuel : ℕ) (order : Endianness) (found : Parameters) (bytes rest : List ℕ) → ReadsParameters order bytes ps rest → length bytes < fuel → parameters_from fuel order found bytes ≡ Some (summed found ps, rest)
+from_only : (ps : List Parameter) (fuel : ℕ) (order : Endianness) (found : Parameters) (bytes rest : List ℕ) → ReadsParameters order bytes ps rest
+    → length bytes < fuel → parameters_from fuel order found bytes ≡ Some (summed found ps, rest)
 unfolding parameters_from
 from_only [] zero order found bytes rest r lt = absurd (omega arith)
 from_only [] (suc fuel) order found bytes rest r lt =
@@ -229,11 +238,13 @@ from_only (p ∷ ps) (suc fuel) order found bytes rest r lt =
 abbrev pub nothing : Parameters
 nothing = record { key_hash = None; status = None }
 
-pub parameters_found : (order : Endianness) (bytes : List ℕ) (x : Parameters × List ℕ) → AreOctets bytes → parameters_at order bytes ≡ Some x → FindsParameters order bytes nothing x
+pub parameters_found : (order : Endianness) (bytes : List ℕ) (x : Parameters × List ℕ) → AreOctets bytes → parameters_at order bytes ≡ Some x
+    → FindsParameters order bytes nothing x
 unfolding parameters_at
 parameters_found order bytes x octets e = from_found (suc (length bytes)) order nothing bytes x octets e
 
-pub parameters_only : (order : Endianness) (bytes : List ℕ) (ps : List Parameter) (rest : List ℕ) → ReadsParameters order bytes ps rest → parameters_at order bytes ≡ Some (summed nothing ps, rest)
+pub parameters_only : (order : Endianness) (bytes : List ℕ) (ps : List Parameter) (rest : List ℕ) → ReadsParameters order bytes ps rest
+    → parameters_at order bytes ≡ Some (summed nothing ps, rest)
 unfolding parameters_at
 parameters_only order bytes ps rest r = from_only ps (suc (length bytes)) order nothing bytes rest r (omega arith)
 
@@ -249,7 +260,8 @@ pub may_begin : (order : Endianness) (bytes : List ℕ) → MayGoOn order bytes 
 unfolding parameters_at
 may_begin order bytes = record { fuel = suc (length bytes); enough = omega arith; same = refl }
 
-pub may_go_on : (order : Endianness) (bytes : List ℕ) (found : Parameters) (left : List ℕ) (id : ℕ) (value rest : List ℕ) (more : Parameters) → parameter_at order left ≡ Some (id, value, rest) → id ≢ 1 → noted_at found id value ≡ Some more → length rest < length left
+pub may_go_on : (order : Endianness) (bytes : List ℕ) (found : Parameters) (left : List ℕ) (id : ℕ) (value rest : List ℕ) (more : Parameters)
+    → parameter_at order left ≡ Some (id, value, rest) → id ≢ 1 → noted_at found id value ≡ Some more → length rest < length left
     → MayGoOn order bytes found left → MayGoOn order bytes more rest
 unfolding parameters_from
 may_go_on order bytes found left id value rest more e other noted less on = step on.fuel on.enough on.same
@@ -261,7 +273,8 @@ may_go_on order bytes found left id value rest more e other noted less on = step
         let one : parameters_from (suc fuel) order found left ≡ parameters_from fuel order more rest = rw (e, no, noted) refl in
         record { fuel = fuel; enough = omega arith; same = sym one ∙ same }
 
-pub ends_without : (order : Endianness) (bytes : List ℕ) (found : Parameters) (left : List ℕ) → parameter_at order left ≡ None → MayGoOn order bytes found left → None ≡ parameters_at order bytes
+pub ends_without : (order : Endianness) (bytes : List ℕ) (found : Parameters) (left : List ℕ) → parameter_at order left ≡ None
+    → MayGoOn order bytes found left → None ≡ parameters_at order bytes
 unfolding parameters_from
 ends_without order bytes found left e on = step on.fuel on.enough on.same
   where
@@ -269,7 +282,8 @@ ends_without order bytes found left e on = step on.fuel on.enough on.same
     step zero lt same = same
     step (suc fuel) lt same = rw e at same
 
-pub ends_at_sentinel : (order : Endianness) (bytes : List ℕ) (found : Parameters) (left : List ℕ) (id : ℕ) (value rest : List ℕ) → parameter_at order left ≡ Some (id, value, rest) → id ≡ 1 → MayGoOn order bytes found left → Some (found, rest) ≡ parameters_at order bytes
+pub ends_at_sentinel : (order : Endianness) (bytes : List ℕ) (found : Parameters) (left : List ℕ) (id : ℕ) (value rest : List ℕ)
+    → parameter_at order left ≡ Some (id, value, rest) → id ≡ 1 → MayGoOn order bytes found left → Some (found, rest) ≡ parameters_at order bytes
 unfolding parameters_from
 ends_at_sentinel order bytes found left id value rest e is on = step on.fuel on.enough on.same
   where
@@ -280,7 +294,9 @@ ends_at_sentinel order bytes found left id value rest e is on = step on.fuel on.
         let one : parameters_from (suc fuel) order found left ≡ Some (found, rest) = rw (e, yes) refl in
         sym one ∙ same
 
-pub ends_at_invalid : (order : Endianness) (bytes : List ℕ) (found : Parameters) (left : List ℕ) (id : ℕ) (value rest : List ℕ) → parameter_at order left ≡ Some (id, value, rest) → id ≢ 1 → noted_at found id value ≡ None → MayGoOn order bytes found left → None ≡ parameters_at order bytes
+pub ends_at_invalid : (order : Endianness) (bytes : List ℕ) (found : Parameters) (left : List ℕ) (id : ℕ) (value rest : List ℕ)
+    → parameter_at order left ≡ Some (id, value, rest) → id ≢ 1 → noted_at found id value ≡ None → MayGoOn order bytes found left
+    → None ≡ parameters_at order bytes
 unfolding parameters_from
 ends_at_invalid order bytes found left id value rest e other noted on = step on.fuel on.enough on.same
   where

@@ -24,11 +24,13 @@ use Rattle.rtps_wire.proofs.TestLaws.{neither}
 abbrev pub with_front : List ℕ → Option (List ℕ × List ℕ) → Option (List ℕ × List ℕ)
 with_front front read = option_map (λ x. (front ++ x.0, x.1)) read
 
-one_more : (front : List ℕ) (w : ℕ) (read : Option (List ℕ × List ℕ)) → with_front (front ++ w ∷ []) read ≡ with_front front (read >>= λ ws. Some (w ∷ ws.0, ws.1))
+one_more : (front : List ℕ) (w : ℕ) (read : Option (List ℕ × List ℕ))
+    → with_front (front ++ w ∷ []) read ≡ with_front front (read >>= λ ws. Some (w ∷ ws.0, ws.1))
 one_more front w None = refl
 one_more front w (Some x) = ap (λ (z : List ℕ). Some (z, x.1)) (append_assoc front (w ∷ []) x.0)
 
-pub words_step : (order : Endianness) (front : List ℕ) (n i w : ℕ) (rest after : List ℕ) (total : Option (List ℕ × List ℕ)) → i < n → number_at order w32 rest ≡ Some (w, after)
+pub words_step : (order : Endianness) (front : List ℕ) (n i w : ℕ) (rest after : List ℕ) (total : Option (List ℕ × List ℕ)) → i < n
+    → number_at order w32 rest ≡ Some (w, after)
     → with_front front (words_at order (n - i) rest) ≡ total → with_front (front ++ w ∷ []) (words_at order (n - (i + 1)) after) ≡ total
 unfolding words_at
 words_step order front n i w rest after total lt e so_far =
@@ -56,7 +58,8 @@ words_done order front n i rest total le so_far =
     let one : with_front front (words_at order (n - i) rest) ≡ Some (front, rest) = rw k (ap (λ (z : List ℕ). Some (z, rest)) (append-nil front)) in
     sym one ∙ so_far
 
-words_takes : (order : Endianness) (n : ℕ) (bytes ws rest : List ℕ) → AreOctets bytes → words_at order n bytes ≡ Some (ws, rest) → Takes bytes (flat_map (number order w32) ws) rest × ((length ws ≡ n) × AllByRecursion (λ w. w < 2 ^ 32) ws)
+words_takes : (order : Endianness) (n : ℕ) (bytes ws rest : List ℕ) → AreOctets bytes → words_at order n bytes ≡ Some (ws, rest)
+    → Takes bytes (flat_map (number order w32) ws) rest × ((length ws ≡ n) × AllByRecursion (λ w. w < 2 ^ 32) ws)
 unfolding words_at
 words_takes order zero bytes ws rest octets e = subst (λ (p : List ℕ × List ℕ). Takes bytes (flat_map (number order w32) p.0) p.1 × ((length p.0 ≡ 0) × AllByRecursion (λ w. w < 2 ^ 32) p.0)) (some_is ([], bytes) (ws, rest) e) (record { parts = refl; octets = octets }, (refl, tt))
 words_takes order (suc n) bytes ws rest octets e =
@@ -68,7 +71,8 @@ words_takes order (suc n) bytes ws rest octets e =
     subst (λ (p : List ℕ × List ℕ). Takes bytes (flat_map (number order w32) p.0) p.1 × ((length p.0 ≡ suc n) × AllByRecursion (λ w. w < 2 ^ 32) p.0)) (some_is made (ws, rest) r2)
     (Takes-then bytes (number order w32 w.0) w.1 (flat_map (number order w32) vs.0) vs.1 t.0 u.0, (ap suc u.1.0, (t.1, u.1.1)))))
 
-words_again : (order : Endianness) (n : ℕ) (ws rest : List ℕ) → (length ws ≡ n) × AllByRecursion (λ w. w < 2 ^ 32) ws → words_at order n (flat_map (number order w32) ws ++ rest) ≡ Some (ws, rest)
+words_again : (order : Endianness) (n : ℕ) (ws rest : List ℕ) → (length ws ≡ n) × AllByRecursion (λ w. w < 2 ^ 32) ws
+    → words_at order n (flat_map (number order w32) ws ++ rest) ≡ Some (ws, rest)
 unfolding words_at
 words_again order zero [] rest fits = refl
 words_again order zero (w ∷ ws) rest fits = absurd (omega (arith, fits.0))
@@ -77,7 +81,8 @@ words_again order (suc n) (w ∷ ws) rest fits =
     ap (words_at order (suc n)) (append_assoc (number order w32 w) (flat_map (number order w32) ws) rest)
     ∙ rw ((field_u32 order).again w (flat_map (number order w32) ws ++ rest) fits.1.0, words_again order n ws rest (omega (arith, fits.0), fits.1.1)) refl
 
-set_field_takes : (order : Endianness) (bytes : List ℕ) (r : SetField) (rest : List ℕ) → AreOctets bytes → set_field_at order bytes ≡ Some (r, rest) → Takes bytes (set_text order r) rest × IsSetField r
+set_field_takes : (order : Endianness) (bytes : List ℕ) (r : SetField) (rest : List ℕ) → AreOctets bytes → set_field_at order bytes ≡ Some (r, rest)
+    → Takes bytes (set_text order r) rest × IsSetField r
 unfolding set_field_at
 set_field_takes order bytes r rest octets e =
     option_and_then_some (λ b. number_at order w32 b.1 >>= λ c. cond (ltb b.0 1 || ltb 256 c.0) None (words_at order (words_for c.0) c.1) >>= λ w. Some (record { base = b.0; num_bits = c.0; words = w.0 }, w.1)) (sn_at order bytes) (r, rest) e (λ b q1 e1.

@@ -126,7 +126,8 @@ has_at s p k =
     let e : s.base + p + k - s.base ≡ p + k = omega arith in
     rw (le, e) refl
 
-more : (fs : List Bool) (p k : ℕ) → k < 32 → word_of (32 - k) (drop (p + k) fs) ≡ cond (get_or fs (p + k) false) (2 ^ (31 - k)) 0 + word_of (32 - (k + 1)) (drop (p + (k + 1)) fs)
+more : (fs : List Bool) (p k : ℕ) → k < 32
+    → word_of (32 - k) (drop (p + k) fs) ≡ cond (get_or fs (p + k) false) (2 ^ (31 - k)) 0 + word_of (32 - (k + 1)) (drop (p + (k + 1)) fs)
 unfolding word_of
 more fs p k lt =
     let e : 32 - k ≡ suc (31 - k) = omega arith in
@@ -135,7 +136,8 @@ more fs p k lt =
     let z : p + k + 0 ≡ p + k = omega arith in
     rw (e, f) (rw (get_or-drop (p + k) fs 0 false, drop-drop 1 (p + k) fs, g, z) refl)
 
-pub word_step : (s : NumberSet) (p k word total : ℕ) (b : Bool) → k < 32 → b ≡ has_number s (s.base + p + k) → word + word_of (32 - k) (drop (p + k) s.members) ≡ total
+pub word_step : (s : NumberSet) (p k word total : ℕ) (b : Bool) → k < 32 → b ≡ has_number s (s.base + p + k)
+    → word + word_of (32 - k) (drop (p + k) s.members) ≡ total
     → (word + cond b (2 ^ (31 - k)) 0) + word_of (32 - (k + 1)) (drop (p + (k + 1)) s.members) ≡ total
 word_step s p k word total b lt e so_far =
     let same : b ≡ get_or s.members (p + k) false = e ∙ has_at s p k in
@@ -149,7 +151,8 @@ word_end fs k word total le so_far =
     let none : word_of (32 - k) fs ≡ 0 = rw z refl in
     omega (arith, so_far, none)
 
-pub words_step : (out : List ℕ) (fs : List Bool) (n j : ℕ) (total : List ℕ) → j < n → out ++ flat_map (number Little w32) (words_of (n - j) (drop (32 * j) fs)) ≡ total
+pub words_step : (out : List ℕ) (fs : List Bool) (n j : ℕ) (total : List ℕ) → j < n
+    → out ++ flat_map (number Little w32) (words_of (n - j) (drop (32 * j) fs)) ≡ total
     → (out ++ number Little w32 (word_of 32 (drop (32 * j) fs))) ++ flat_map (number Little w32) (words_of (n - (j + 1)) (drop (32 * (j + 1)) fs)) ≡ total
 unfolding words_of
 words_step out fs n j total lt so_far =
@@ -159,7 +162,8 @@ words_step out fs n j total lt so_far =
     append_assoc out (number Little w32 (word_of 32 (drop (32 * j) fs))) (flat_map (number Little w32) (words_of (n - (j + 1)) (drop (32 * (j + 1)) fs)))
     ∙ ap (λ (z : List ℕ). out ++ flat_map (number Little w32) z) (sym one) ∙ so_far
 
-pub words_end : (out : List ℕ) (fs : List Bool) (n j : ℕ) (total : List ℕ) → n ≤ j → out ++ flat_map (number Little w32) (words_of (n - j) (drop (32 * j) fs)) ≡ total → out ≡ total
+pub words_end : (out : List ℕ) (fs : List Bool) (n j : ℕ) (total : List ℕ) → n ≤ j
+    → out ++ flat_map (number Little w32) (words_of (n - j) (drop (32 * j) fs)) ≡ total → out ≡ total
 unfolding words_of
 words_end out fs n j total le so_far =
     let z : n - j ≡ 0 = omega arith in
@@ -170,11 +174,12 @@ octets_len : (ws : List ℕ) → length (flat_map (number Little w32) ws) ≡ 4 
 octets_len [] = refl
 octets_len (w ∷ ws) = omega (arith, length-append (number Little w32 w) (flat_map (number Little w32) ws), octets_len ws)
 
-pub spelling_of_set_len : (s : NumberSet) → length (set_text Little (set_field_of s)) ≡ 12 + 4 * words_for (span s.members)
-spelling_of_set_len s = omega (arith, length-append (sn_text Little s.base ++ number Little w32 (span s.members)) (flat_map (number Little w32) (words_of (words_for (span s.members)) s.members)), octets_len (words_of (words_for (span s.members)) s.members), words_len (words_for (span s.members)) s.members)
+pub text_of_set_len : (s : NumberSet) → length (set_text Little (set_field_of s)) ≡ 12 + 4 * words_for (span s.members)
+text_of_set_len s = omega (arith, length-append (sn_text Little s.base ++ number Little w32 (span s.members)) (flat_map (number Little w32) (words_of (words_for (span s.members)) s.members)), octets_len (words_of (words_for (span s.members)) s.members), words_len (words_for (span s.members)) s.members)
 
 -- the parts of a set, put one after another
-pub set_parts : (s : NumberSet) (o u b e p : List ℕ) (base n : ℕ) → base ≡ s.base → n ≡ span s.members → u ≡ o ++ sn_text Little base → b ≡ number Little w32 n → e ≡ u ++ b → p ≡ e ++ flat_map (number Little w32) (words_of (words_for n) s.members)
+pub set_parts : (s : NumberSet) (o u b e p : List ℕ) (base n : ℕ) → base ≡ s.base → n ≡ span s.members → u ≡ o ++ sn_text Little base
+    → b ≡ number Little w32 n → e ≡ u ++ b → p ≡ e ++ flat_map (number Little w32) (words_of (words_for n) s.members)
     → p ≡ o ++ set_text Little (set_field_of s)
 set_parts s o u b e p base n hb hn hu ho he hp =
     let head = sn_text Little s.base in
@@ -186,5 +191,6 @@ set_parts s o u b e p base n hb hn hu ho he hp =
     let p' : p ≡ ((o ++ sn_text Little s.base) ++ number Little w32 (span s.members)) ++ flat_map (number Little w32) (words_of (words_for (span s.members)) s.members) = hp ∙ ap (λ (x : ℕ). e ++ flat_map (number Little w32) (words_of (words_for x) s.members)) hn ∙ ap (λ (x : List ℕ). x ++ flat_map (number Little w32) (words_of (words_for (span s.members)) s.members)) e' in
     p' ∙ append_assoc (o ++ head) mid tail ∙ append_assoc o head (mid ++ tail) ∙ ap (λ (x : List ℕ). o ++ x) (sym (append_assoc head mid tail))
 
-pub acknack_parts : (o r w s n a b d p : List ℕ) → a ≡ o ++ r → b ≡ a ++ w → d ≡ b ++ s → p ≡ d ++ n → p ≡ o ++ ((r ++ w) ++ (s ++ n))
-acknack_parts o r w s n a b d p ha hb hd hp = rw (hp, hd, hb, ha) (simp append_assoc)
+pub acknack_parts : (o ids s n a d p : List ℕ)
+    → a ≡ o ++ ids → d ≡ a ++ s → p ≡ d ++ n → p ≡ o ++ (ids ++ (s ++ n))
+acknack_parts o ids s n a d p ha hd hp = rw (hp, hd, ha) (simp append_assoc)

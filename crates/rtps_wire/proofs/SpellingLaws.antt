@@ -15,15 +15,15 @@ use Rattle.rtps_wire.specs.declared.submessage.Submessage.{Submessage}
 use Rattle.rtps_wire.specs.declared.submessage.Submessage.TheVariants as submessages
 use Rattle.rtps_wire.specs.Fields.{has_flag, order_of, sn_text, count_text}
 use Rattle.rtps_wire.specs.Frames.{runs_to_end, IsFrame}
-use Rattle.rtps_wire.specs.Sets.{spelling_of_set, set_field_of}
+use Rattle.rtps_wire.specs.Sets.{text_of_set, set_field_of}
 use Rattle.rtps_wire.specs.Parameters.{Parameter, parameter_text, ReadsParameters}
 use Rattle.rtps_wire.specs.Heartbeat.{heartbeat_text}
 use Rattle.rtps_wire.specs.Gap.{gap_head}
-use Rattle.rtps_wire.specs.AckNack.{spelling_of_acknack}
-use Rattle.rtps_wire.specs.Data.{data_head, SaysContent, ReadsData, IsContent, content_flags, spelling_of_end, spelling_of_content}
+use Rattle.rtps_wire.specs.AckNack.{text_of_acknack}
+use Rattle.rtps_wire.specs.Data.{data_head, SaysContent, ReadsData, IsContent, content_flags, text_of_end, text_of_content}
 use Rattle.rtps_wire.specs.Submessages.{id_of, flags_of, body_of, padding, IsSpellable, IsKnown, spelling_of_submessage}
 use Rattle.rtps_wire.specs.Messages.{ReadsAll, ReadsMessage, IsWritable, spelling_of, header_text}
-use Rattle.rtps_wire.proofs.SetSpelling.{set_field_valid, set_again, spelling_of_set_len}
+use Rattle.rtps_wire.proofs.SetSpelling.{set_field_valid, set_again, text_of_set_len}
 use Rattle.rtps_wire.proofs.TestLaws.{both_hold, match_false}
 use Rattle.rtps_wire.proofs.FrameLaws.{to_end_len}
 use Rattle.rtps_wire.proofs.SubmessageLaws.{Reads-from_known}
@@ -63,7 +63,8 @@ one_little false = refl
 abbrev parameters_of : ℕ → Key → List Parameter
 parameters_of status k = record { id = 112; value = k.0 } ∷ record { id = 113; value = 0 ∷ 0 ∷ 0 ∷ status ∷ [] } ∷ []
 
-end_parameters : (status : ℕ) (k : Key) (rest : List ℕ) → length k.0 ≡ 16 → ReadsParameters Little (spelling_of_end status k ++ rest) (parameters_of status k) (spelling_of_key k ++ rest)
+end_parameters : (status : ℕ) (k : Key) (rest : List ℕ) → length k.0 ≡ 16
+    → ReadsParameters Little (text_of_end status k ++ rest) (parameters_of status k) (spelling_of_key k ++ rest)
 end_parameters status k rest len =
     let hash : Parameter = record { id = 112; value = k.0 } in
     let info : Parameter = record { id = 113; value = 0 ∷ 0 ∷ 0 ∷ status ∷ [] } in
@@ -84,11 +85,13 @@ end_parameters status k rest len =
     regroup a b c d e = simp append_assoc
 
 -- what a change that is no write says, where its status is as meant
-end_known : (d : Data) (zeros : List ℕ) (status : ℕ) (k : Key) → length k.0 ≡ 16 → SaysContent 11 (parameters_of status k) (spelling_of_key k ++ zeros) d.content → ReadsData 11 (data_head Little 0 16 d.reader_id d.writer_id d.writer_sn ++ (spelling_of_end status k ++ zeros)) d
+end_known : (d : Data) (zeros : List ℕ) (status : ℕ) (k : Key) → length k.0 ≡ 16
+    → SaysContent 11 (parameters_of status k) (spelling_of_key k ++ zeros) d.content
+    → ReadsData 11 (data_head Little 0 16 d.reader_id d.writer_id d.writer_sn ++ (text_of_end status k ++ zeros)) d
 end_known d zeros status k len says = record {
   extra = 0;
   skipped = [];
-  from_parameters = spelling_of_end status k ++ zeros;
+  from_parameters = text_of_end status k ++ zeros;
   parameters = parameters_of status k;
   payload = spelling_of_key k ++ zeros;
   extra_small = omega arith;
@@ -101,13 +104,14 @@ end_known d zeros status k len says = record {
 key_known : (k : Key) (zeros : List ℕ) → length k.0 ≡ 16 → ReadsKey (spelling_of_key k ++ zeros) k
 key_known k zeros len = record { order = Little; options = 0 ∷ 0 ∷ []; rest = zeros; two = refl; text = refl; valid = len }
 
-content_known : (d : Data) (zeros : List ℕ) (c : DataContent) → d.content ≡ c → IsContent c → ReadsData (content_flags c) (data_head Little 0 16 d.reader_id d.writer_id d.writer_sn ++ (spelling_of_content c ++ zeros)) d
+content_known : (d : Data) (zeros : List ℕ) (c : DataContent) → d.content ≡ c → IsContent c
+    → ReadsData (content_flags c) (data_head Little 0 16 d.reader_id d.writer_id d.writer_sn ++ (text_of_content c ++ zeros)) d
 content_known d zeros (Write x) is valid = record {
   extra = 0;
   skipped = [];
-  from_parameters = spelling_of_content (Write x) ++ zeros;
+  from_parameters = text_of_content (Write x) ++ zeros;
   parameters = [];
-  payload = spelling_of_content (Write x) ++ zeros;
+  payload = text_of_content (Write x) ++ zeros;
   extra_small = omega arith;
   skipped_small = omega arith;
   text = refl;
@@ -139,18 +143,18 @@ spelled_known (submessages.Heartbeat h) valid = record {
 }
 spelled_known (submessages.Data d) valid =
     let head = data_head Little 0 16 d.reader_id d.writer_id d.writer_sn in
-    let zeros = padding (length (data_head Little 0 16 d.reader_id d.writer_id d.writer_sn ++ spelling_of_content d.content)) in
+    let zeros = padding (length (data_head Little 0 16 d.reader_id d.writer_id d.writer_sn ++ text_of_content d.content)) in
     record {
       kind = refl;
       flags_are = standard d.content;
-      body_is = subst (λ (z : List ℕ). ReadsData (content_flags d.content) z d) (sym (append_assoc head (spelling_of_content d.content) zeros)) (content_known d zeros d.content refl valid.1);
+      body_is = subst (λ (z : List ℕ). ReadsData (content_flags d.content) z d) (sym (append_assoc head (text_of_content d.content) zeros)) (content_known d zeros d.content refl valid.1);
       valid = valid.0;
     }
 spelled_known (submessages.AckNack a) valid =
     let ids = a.reader_id.0 ++ a.writer_id.0 in
-    let set = spelling_of_set a.reader_sn_state in
+    let set = text_of_set a.reader_sn_state in
     let n = count_text Little a.count in
-    let zeros = padding (length (spelling_of_acknack a)) in
+    let zeros = padding (length (text_of_acknack a)) in
     record {
       kind = refl;
       flags_are = one_flag a.final_flag;
@@ -166,8 +170,8 @@ spelled_known (submessages.AckNack a) valid =
     }
 spelled_known (submessages.Gap g) valid =
     let head = gap_head Little g in
-    let set = spelling_of_set g.gap_list in
-    let zeros = padding (length (gap_head Little g ++ spelling_of_set g.gap_list)) in
+    let set = text_of_set g.gap_list in
+    let zeros = padding (length (gap_head Little g ++ text_of_set g.gap_list)) in
     record {
       kind = refl;
       flags_are = tt;
@@ -192,11 +196,11 @@ body_positive (submessages.Heartbeat h) valid =
     inr (omega (arith, length-append (heartbeat_text Little h) (padding (length (heartbeat_text Little h))), length-append (h.reader_id.0 ++ h.writer_id.0 ++ sn_text Little h.first_sn ++ sn_text Little h.last_sn) (count_text Little h.count)))
 body_positive (submessages.Data d) valid = inr (omega arith)
 body_positive (submessages.AckNack a) valid =
-    let text = spelling_of_acknack a in
-    inr (omega (arith, valid.0.reader, length-append text (padding (length text)), length-append (a.reader_id.0 ++ a.writer_id.0) (spelling_of_set a.reader_sn_state ++ count_text Little a.count), length-append a.reader_id.0 a.writer_id.0))
+    let text = text_of_acknack a in
+    inr (omega (arith, valid.0.reader, length-append text (padding (length text)), length-append (a.reader_id.0 ++ a.writer_id.0) (text_of_set a.reader_sn_state ++ count_text Little a.count), length-append a.reader_id.0 a.writer_id.0))
 body_positive (submessages.Gap g) valid =
-    let text = gap_head Little g ++ spelling_of_set g.gap_list in
-    inr (omega (arith, length-append text (padding (length text)), length-append (gap_head Little g) (spelling_of_set g.gap_list), spelling_of_set_len g.gap_list))
+    let text = gap_head Little g ++ text_of_set g.gap_list in
+    inr (omega (arith, length-append text (padding (length text)), length-append (gap_head Little g) (text_of_set g.gap_list), text_of_set_len g.gap_list))
 body_positive (submessages.Other id) valid = absurd valid
 
 stays_within : (s : Submessage) (b : Bool) → IsSpellable s → runs_to_end (id_of s) (length (body_of s)) ≡ b → b ≡ false
@@ -217,7 +221,8 @@ stays_within s true valid e =
       | inr lt ↦ absurd (omega (arith, lt, to_end_len (id_of s) (length (body_of s)) e))
     ]
 
-spelled_frame : (s : Submessage) (rest : List ℕ) → IsSpellable s → length (body_of s) < 2 ^ 16 → IsFrame (spelling_of_submessage s ++ rest) (id_of s) (flags_of s) (body_of s) rest
+spelled_frame : (s : Submessage) (rest : List ℕ) → IsSpellable s → length (body_of s) < 2 ^ 16
+    → IsFrame (spelling_of_submessage s ++ rest) (id_of s) (flags_of s) (body_of s) rest
 spelled_frame s rest valid lt =
     let len = length (body_of s) in
     record { len = length (body_of s); small = lt; text = refl; extent = match_false (runs_to_end (id_of s) len) (rest ≡ []) (length (body_of s) ≡ length (body_of s)) (stays_within s (runs_to_end (id_of s) (length (body_of s))) valid refl) refl }
@@ -227,7 +232,8 @@ body_le s = omega (arith, length-append (number (order_of (flags_of s)) w16 (len
 
 -- ---- messages
 
-spelled_all : (ss : List Submessage) → AllByRecursion IsSpellable ss → length (flat_map spelling_of_submessage ss) ≤ 65535 → ReadsAll (flat_map spelling_of_submessage ss) ss []
+spelled_all : (ss : List Submessage) → AllByRecursion IsSpellable ss → length (flat_map spelling_of_submessage ss) ≤ 65535
+    → ReadsAll (flat_map spelling_of_submessage ss) ss []
 spelled_all [] valid short = (inl (omega arith), refl)
 spelled_all (s ∷ ss) valid short =
     let len = length-append (spelling_of_submessage s) (flat_map spelling_of_submessage ss) in (
@@ -245,28 +251,20 @@ message_again m w =
     let len = length-append (header_text 5 (0 ∷ 0 ∷ []) m.prefix) (flat_map spelling_of_submessage m.submessages) in
     record { minor = 5; vendor = 0 ∷ 0 ∷ []; body = flat_map spelling_of_submessage m.submessages; left = []; two = refl; prefix = w.prefix; header = refl; submessages = spelled_all m.submessages w.submessages (omega (arith, w.short)); stop = omega arith; short = w.short }
 
--- ---- what the writer of one asks
+-- ---- what the writer asks
 
-piece_at : (ss : List Submessage) (i : ℕ) (s : Submessage) → AllByRecursion IsSpellable ss → i < length ss → s ≡ get_or ss i s → IsSpellable s × (length (body_of s) ≤ length (flat_map spelling_of_submessage ss))
-piece_at [] i s valid lt e = absurd (omega arith)
-piece_at (x ∷ ss) zero s valid lt e =
-    let len = length-append (spelling_of_submessage x) (flat_map spelling_of_submessage ss) in
-    subst (λ (y : Submessage). IsSpellable y × (length (body_of y) ≤ length (flat_map spelling_of_submessage (x ∷ ss)))) (sym e) (valid.0, omega (arith, body_le x))
-piece_at (x ∷ ss) (suc i) s valid lt e =
-    let len = length-append (spelling_of_submessage x) (flat_map spelling_of_submessage ss) in
-    let p = piece_at ss i s valid.1 (omega arith) e in
-    (p.0, omega (arith, p.1))
-
-pub writable_at : (m : Message) (i : ℕ) (s : Submessage) → IsWritable m → i < length m.submessages → s ≡ get_or m.submessages i s → IsSpellable s × (length (body_of s) < 2 ^ 16)
-writable_at m i s w lt e =
-    let len = length-append (header_text 5 (0 ∷ 0 ∷ []) m.prefix) (flat_map spelling_of_submessage m.submessages) in
-    let p = piece_at m.submessages i s w.submessages lt e in
-    (p.0, omega (arith, p.1, w.short))
+-- each of those that can be written can be
+pub spellable_at : (ss : List Submessage) (i : ℕ) (s : Submessage)
+    → AllByRecursion IsSpellable ss → i < length ss → s ≡ get_or ss i s → IsSpellable s
+spellable_at [] i s valid lt e = absurd (omega arith)
+spellable_at (x ∷ ss) zero s valid lt e = subst (λ (y : Submessage). IsSpellable y) (sym e) valid.0
+spellable_at (x ∷ ss) (suc i) s valid lt e = spellable_at ss i s valid.1 (omega arith) e
 
 -- ---- what the test asks
 
 -- the submessages up to one take no more than all of them
-front_le : (ss : List Submessage) (i : ℕ) (s : Submessage) → i < length ss → s ≡ get_or ss i s → length (flat_map spelling_of_submessage (take i ss)) + length (spelling_of_submessage s) ≤ length (flat_map spelling_of_submessage ss)
+front_le : (ss : List Submessage) (i : ℕ) (s : Submessage) → i < length ss → s ≡ get_or ss i s
+    → length (flat_map spelling_of_submessage (take i ss)) + length (spelling_of_submessage s) ≤ length (flat_map spelling_of_submessage ss)
 front_le [] i s lt e = absurd (omega arith)
 front_le (x ∷ ss) zero s lt e =
     let len = length-append (spelling_of_submessage x) (flat_map spelling_of_submessage ss) in
@@ -276,7 +274,8 @@ front_le (x ∷ ss) (suc i) s lt e =
     let front = length-append (spelling_of_submessage x) (flat_map spelling_of_submessage (take i ss)) in
     omega (arith, front_le ss i s (omega arith) e)
 
-pub too_long : (m : Message) (i : ℕ) (s : Submessage) → i < length m.submessages → s ≡ get_or m.submessages i s → 65535 < 20 + length (flat_map spelling_of_submessage (take i m.submessages)) + length (spelling_of_submessage s) → IsWritable m → ⊥
+pub too_long : (m : Message) (i : ℕ) (s : Submessage) → i < length m.submessages → s ≡ get_or m.submessages i s
+    → 65535 < 20 + length (flat_map spelling_of_submessage (take i m.submessages)) + length (spelling_of_submessage s) → IsWritable m → ⊥
 too_long m i s lt e past w =
     let all = length-append (header_text 5 (0 ∷ 0 ∷ []) m.prefix) (flat_map spelling_of_submessage m.submessages) in
     let header = header_length 5 (0 ∷ 0 ∷ []) m.prefix refl w.prefix in

@@ -53,7 +53,8 @@ info_ts_found flags body m octets e =
       valid = omega (arith, t.1.0, t.1.1);
     })))
 
-moment_only : (flags n : ℕ) (body rest : List ℕ) → has_flag flags 2 ≡ false → n < 2 ^ 64 → body ≡ sn_text (order_of flags) n ++ rest → info_ts_at flags body ≡ Some (Some n)
+moment_only : (flags n : ℕ) (body rest : List ℕ) → has_flag flags 2 ≡ false → n < 2 ^ 64 → body ≡ sn_text (order_of flags) n ++ rest
+    → info_ts_at flags body ≡ Some (Some n)
 unfolding info_ts_at
 moment_only flags n body rest clear lt e =
     let order = order_of flags in
@@ -65,7 +66,8 @@ moment_only flags n body rest clear lt e =
 abbrev heartbeat_fields : Endianness → List ℕ → Option (((((EntityId × EntityId) × ℕ) × ℕ) × ℤ) × List ℕ)
 heartbeat_fields order = both (both (both (both entity_id_at entity_id_at) (sn_at order)) (sn_at order)) (count_at order)
 
-heartbeat_found : (flags : ℕ) (body : List ℕ) (h : Heartbeat) → AreOctets body → heartbeat_at flags body ≡ Some h → IsKnown 7 flags body (submessages.Heartbeat h)
+heartbeat_found : (flags : ℕ) (body : List ℕ) (h : Heartbeat) → AreOctets body → heartbeat_at flags body ≡ Some h
+    → IsKnown 7 flags body (submessages.Heartbeat h)
 unfolding heartbeat_at
 heartbeat_found flags body s octets e =
     let order = order_of flags in
@@ -81,7 +83,8 @@ heartbeat_found flags body s octets e =
       valid = record { reader = t.1.0.0.0.0; writer = t.1.0.0.0.1; first = ltb-false _ _ n.0; not_past = ltb-false _ _ n.1; first_small = t.1.0.0.1; last_small = t.1.0.1; count = t.1.1 };
     }))
 
-heartbeat_only : (flags : ℕ) (h : Heartbeat) (body rest : List ℕ) → IsHeartbeat h → has_flag flags 2 ≡ h.final_flag → has_flag flags 4 ≡ h.liveliness_flag → body ≡ heartbeat_text (order_of flags) h ++ rest → heartbeat_at flags body ≡ Some h
+heartbeat_only : (flags : ℕ) (h : Heartbeat) (body rest : List ℕ) → IsHeartbeat h → has_flag flags 2 ≡ h.final_flag
+    → has_flag flags 4 ≡ h.liveliness_flag → body ≡ heartbeat_text (order_of flags) h ++ rest → heartbeat_at flags body ≡ Some h
 unfolding heartbeat_at
 heartbeat_only flags h body rest valid final live e =
     let order = order_of flags in
@@ -157,7 +160,8 @@ gap_only flags g body k =
 -- ---- each submessage
 
 -- what is known of the submessage that a part of a kind makes
-of_kind : {X : Type 0} (id number flags : ℕ) (body : List ℕ) (s : Submessage) (make : X → Submessage) (part : Option X) → ((x : X) → part ≡ Some x → IsKnown number flags body (make x)) → id ≡ number → option_map make part ≡ Some s → IsKnown id flags body s
+of_kind : {X : Type 0} (id number flags : ℕ) (body : List ℕ) (s : Submessage) (make : X → Submessage) (part : Option X)
+    → ((x : X) → part ≡ Some x → IsKnown number flags body (make x)) → id ≡ number → option_map make part ≡ Some s → IsKnown id flags body s
 of_kind id number flags body s make part found is e = mapped_some make part s e (λ x q r. subst (λ (n : ℕ). IsKnown n flags body s) (sym is) (subst (λ (y : Submessage). IsKnown number flags body y) r (found x q)))
 
 pub known_found : (id flags : ℕ) (body : List ℕ) (s : Submessage) → AreOctets body → known_at id flags body ≡ Some s → IsKnown id flags body s
@@ -205,12 +209,14 @@ Reads-from_known id flags body (submessages.AckNack a) k = k
 Reads-from_known id flags body (submessages.Gap g) k = k
 Reads-from_known id flags body (submessages.Other i) k = absurd k.valid
 
-pub Reads-found : (o : Option Submessage) (id flags : ℕ) (body : List ℕ) → AreOctets body → o ≡ known_at id flags body → Reads id flags body (unwrap_or o (submessages.Other id))
+pub Reads-found : (o : Option Submessage) (id flags : ℕ) (body : List ℕ) → AreOctets body → o ≡ known_at id flags body
+    → Reads id flags body (unwrap_or o (submessages.Other id))
 Reads-found None id flags body octets e = (refl, λ s k. let found = known_only id flags body s k in cc)
 Reads-found (Some s) id flags body octets e = Reads-from_known id flags body s (known_found id flags body s octets (sym e))
 
 -- a submessage that is known, or another one
-reads_cases : (id flags : ℕ) (body : List ℕ) (s : Submessage) → Reads id flags body s → IsKnown id flags body s ⊎ ((s ≡ submessages.Other id) × ((t : Submessage) → IsKnown id flags body t → ⊥))
+reads_cases : (id flags : ℕ) (body : List ℕ) (s : Submessage) → Reads id flags body s
+    → IsKnown id flags body s ⊎ ((s ≡ submessages.Other id) × ((t : Submessage) → IsKnown id flags body t → ⊥))
 reads_cases id flags body submessages.Pad r = inl r
 reads_cases id flags body (submessages.InfoDst prefix) r = inl r
 reads_cases id flags body (submessages.InfoTs moment) r = inl r

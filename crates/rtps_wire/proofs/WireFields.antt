@@ -49,7 +49,8 @@ halves_are n = omega arith
 pub halves_text : (order : Endianness) (h l : ℕ) → l < 2 ^ 32 → sn_text order (h * 2 ^ 32 + l) ≡ number order w32 h ++ number order w32 l
 halves_text order h l lt = rw (high_is h l lt, low_is h l lt) refl
 
-sn_takes : (order : Endianness) (bytes : List ℕ) (n : ℕ) (rest : List ℕ) → AreOctets bytes → sn_at order bytes ≡ Some (n, rest) → Takes bytes (sn_text order n) rest × (n ≤ 2 ^ 62)
+sn_takes : (order : Endianness) (bytes : List ℕ) (n : ℕ) (rest : List ℕ) → AreOctets bytes → sn_at order bytes ≡ Some (n, rest)
+    → Takes bytes (sn_text order n) rest × (n ≤ 2 ^ 62)
 unfolding sn_at
 sn_takes order bytes n rest octets e =
     option_and_then_some (λ high. number_at order w32 high.1 >>= λ low. cond (ltb (2 ^ 62) (high.0 * 2 ^ 32 + low.0)) None (Some (high.0 * 2 ^ 32 + low.0, low.1))) (number_at order w32 bytes) (n, rest) e (λ high q1 e1.

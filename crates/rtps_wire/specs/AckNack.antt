@@ -1,12 +1,18 @@
 -- ACKNACK: what a reader has, and what it misses (RTPS 2.5, 9.4.5: AckNack).
+--
+-- 0...............8...............16..............24.............31
+-- |                           readerId                            |
+-- |                           writerId                            |
+-- |         readerSNState: base, number of bits, words            |
+-- |                             count                             |
 use Rattle.std.specs.Prelude.{◌≡◌, ℕ, List, ◌++◌, FitsSigned}
 use Rattle.std.specs.Int.{w32}
 use Rattle.dds_base.specs.declared.endianness.Endianness.TheVariants.{Little}
 use Rattle.rtps_wire.specs.declared.acknack.AckNack.{AckNack}
 use Rattle.rtps_wire.specs.Fields.{order_of, count_text, IsEntityId}
-use Rattle.rtps_wire.specs.Sets.{ReadsSet, spelling_of_set}
+use Rattle.rtps_wire.specs.Sets.{ReadsSet, text_of_set}
 
--- readerId, writerId, readerSNState, count
+-- The body begins with these fields, whatever follows.
 pub record ReadsAckNack (flags : ℕ) (body : List ℕ) (a : AckNack) : Type 0 where
   pub from_set : List ℕ
   pub from_count : List ℕ
@@ -21,5 +27,5 @@ pub record IsAckNack (a : AckNack) : Type 0 where
   pub count : FitsSigned w32 a.count
 
 -- the body as written
-abbrev pub spelling_of_acknack : AckNack → List ℕ
-spelling_of_acknack a = (a.reader_id.0 ++ a.writer_id.0) ++ (spelling_of_set a.reader_sn_state ++ count_text Little a.count)
+abbrev pub text_of_acknack : AckNack → List ℕ
+text_of_acknack a = (a.reader_id.0 ++ a.writer_id.0) ++ (text_of_set a.reader_sn_state ++ count_text Little a.count)

@@ -1,4 +1,13 @@
 -- DATA: what a writer says of an instance (RTPS 2.5, 9.4.5: Data; 9.6: key hash and status info).
+--
+-- 0...............8...............16..............24.............31
+-- |          extraFlags           |       octetsToInlineQos       |
+-- |                           readerId                            |
+-- |                           writerId                            |
+-- |                 writerSN: high half, low half                 |
+-- |    octets that are skipped: octetsToInlineQos less 16         |
+-- |         parameters up to the sentinel, with flag Q            |
+-- |      a datum with flag D, or a key form with flag K           |
 use Rattle.std.specs.Prelude.{◌≡◌, ℕ, ◌+◌, ◌≤◌, ◌<◌, ◌^◌, Bool, true, false, List, [], ◌∷◌, ◌++◌, length, Some, MatchBool}
 use Rattle.std.specs.Int.{w16}
 use Rattle.dds_base.specs.declared.endianness.Endianness.{Endianness}
@@ -12,31 +21,38 @@ use Rattle.rtps_wire.specs.declared.data.DataContent.{DataContent}
 use Rattle.rtps_wire.specs.declared.data.DataContent.TheVariants.{Write, Dispose, Unregister, DisposeUnregister}
 use Rattle.rtps_wire.specs.Fields.{has_flag, order_of, sn_text, IsEntityId}
 use Rattle.rtps_wire.specs.Parameters.{Parameter, parameter_text, ReadsParameters, value_of, status_of}
+use Rattle.rtps_wire.specs.Names.{extra_flags, flag_data, flag_endianness, flag_inline_qos, flag_key, least_octets_to_inline_qos, len_key, pid_key_hash, pid_sentinel, pid_status_info, status_disposed, status_unregistered}
 
 -- extraFlags, octetsToInlineQos, readerId, writerId, writerSN
 abbrev pub data_head : Endianness → ℕ → ℕ → EntityId → EntityId → ℕ → List ℕ
-data_head order extra octets_to_inline_qos reader writer sn = number order w16 extra ++ number order w16 octets_to_inline_qos ++ reader.0 ++ writer.0 ++ sn_text order sn
+data_head order extra way reader writer sn =
+    number order w16 extra ++ number order w16 way ++ reader.0 ++ writer.0 ++ sn_text order sn
 
--- The status info says this of the instance: bit 0 is disposed, bit 1 unregistered. Its other bits are not looked at.
+-- The status info says this of the instance, by two of its bits. The others are not looked at.
 abbrev pub HasStatus : List Parameter → Bool → Bool → Type 0
-HasStatus ps disposed unregistered = (has_flag (status_of ps) 1 ≡ disposed) × (has_flag (status_of ps) 2 ≡ unregistered)
+HasStatus ps disposed unregistered =
+    (has_flag (status_of ps) status_disposed ≡ disposed) × (has_flag (status_of ps) status_unregistered ≡ unregistered)
 
 -- Where the key stands, by the flags D and K: in a datum, in a key form, or in the key hash.
 abbrev pub ShowsKey : Bool → Bool → List Parameter → List ℕ → Key → Type 0
 ShowsKey true true ps payload k = ⊥
 ShowsKey true false ps payload k = (value : List ℕ) × ReadsDatum payload (record { key = k; value = value })
 ShowsKey false true ps payload k = ReadsKey payload k
-ShowsKey false false ps payload k = value_of 112 ps ≡ Some k.0
+ShowsKey false false ps payload k = value_of pid_key_hash ps ≡ Some k.0
 
--- What is said, by the flags D (4) and K (8), the parameters and the payload.
+-- What is said, by the flags D and K, the parameters and the payload.
 abbrev pub SaysContent : ℕ → List Parameter → List ℕ → DataContent → Type 0
-SaysContent flags ps payload (Write d) = HasStatus ps false false × (has_flag flags 4 ≡ true) × (has_flag flags 8 ≡ false) × ReadsDatum payload d
-SaysContent flags ps payload (Dispose k) = HasStatus ps true false × ShowsKey (has_flag flags 4) (has_flag flags 8) ps payload k
-SaysContent flags ps payload (Unregister k) = HasStatus ps false true × ShowsKey (has_flag flags 4) (has_flag flags 8) ps payload k
-SaysContent flags ps payload (DisposeUnregister k) = HasStatus ps true true × ShowsKey (has_flag flags 4) (has_flag flags 8) ps payload k
+SaysContent flags ps payload (Write d) =
+    HasStatus ps false false × (has_flag flags flag_data ≡ true) × (has_flag flags flag_key ≡ false) × ReadsDatum payload d
+SaysContent flags ps payload (Dispose k) =
+    HasStatus ps true false × ShowsKey (has_flag flags flag_data) (has_flag flags flag_key) ps payload k
+SaysContent flags ps payload (Unregister k) =
+    HasStatus ps false true × ShowsKey (has_flag flags flag_data) (has_flag flags flag_key) ps payload k
+SaysContent flags ps payload (DisposeUnregister k) =
+    HasStatus ps true true × ShowsKey (has_flag flags flag_data) (has_flag flags flag_key) ps payload k
 
 -- Octets may stand between the number and what follows: octetsToInlineQos, counted from its own end, says how many.
--- Parameters follow where flag Q (2) is set, and then the payload.
+-- Parameters follow where flag Q is set, and then the payload.
 pub record ReadsData (flags : ℕ) (body : List ℕ) (d : Data) : Type 0 where
   pub extra : ℕ
   pub skipped : List ℕ
@@ -44,9 +60,12 @@ pub record ReadsData (flags : ℕ) (body : List ℕ) (d : Data) : Type 0 where
   pub parameters : List Parameter
   pub payload : List ℕ
   pub extra_small : extra < 2 ^ 16
-  pub skipped_small : 16 + length skipped < 2 ^ 16
-  pub text : body ≡ data_head (order_of flags) extra (16 + length skipped) d.reader_id d.writer_id d.writer_sn ++ (skipped ++ from_parameters)
-  pub inline : MatchBool (has_flag flags 2) (ReadsParameters (order_of flags) from_parameters parameters payload) ((parameters ≡ []) × (payload ≡ from_parameters))
+  pub skipped_small : least_octets_to_inline_qos + length skipped < 2 ^ 16
+  pub text : body ≡ data_head (order_of flags) extra (least_octets_to_inline_qos + length skipped) d.reader_id d.writer_id d.writer_sn
+      ++ (skipped ++ from_parameters)
+  pub inline : MatchBool (has_flag flags flag_inline_qos)
+      (ReadsParameters (order_of flags) from_parameters parameters payload)
+      ((parameters ≡ []) × (payload ≡ from_parameters))
   pub says : SaysContent flags parameters payload d.content
 
 -- The number is from 1 to 2^62.
@@ -59,31 +78,31 @@ pub record IsData (d : Data) : Type 0 where
 -- what has a written form
 abbrev pub IsContent : DataContent → Type 0
 IsContent (Write d) = IsDatum d
-IsContent (Dispose k) = length k.0 ≡ 16
-IsContent (Unregister k) = length k.0 ≡ 16
-IsContent (DisposeUnregister k) = length k.0 ≡ 16
+IsContent (Dispose k) = length k.0 ≡ len_key
+IsContent (Unregister k) = length k.0 ≡ len_key
+IsContent (DisposeUnregister k) = length k.0 ≡ len_key
 
 -- ---- as written
 
 -- E and D for a write, E, Q and K for the others
 abbrev pub content_flags : DataContent → ℕ
-content_flags (Write d) = 5
-content_flags _ = 11
+content_flags (Write d) = flag_endianness + flag_data
+content_flags _ = flag_endianness + flag_inline_qos + flag_key
 
 -- key hash, status info, sentinel, key form
-abbrev pub spelling_of_end : ℕ → Key → List ℕ
-spelling_of_end status k =
-    parameter_text Little (record { id = 112; value = k.0 })
-    ++ parameter_text Little (record { id = 113; value = 0 ∷ 0 ∷ 0 ∷ status ∷ [] })
-    ++ (number Little w16 1 ++ number Little w16 0)
+abbrev pub text_of_end : ℕ → Key → List ℕ
+text_of_end status k =
+    parameter_text Little (record { id = pid_key_hash; value = k.0 })
+    ++ parameter_text Little (record { id = pid_status_info; value = 0 ∷ 0 ∷ 0 ∷ status ∷ [] })
+    ++ parameter_text Little (record { id = pid_sentinel; value = [] })
     ++ spelling_of_key k
 
-abbrev pub spelling_of_content : DataContent → List ℕ
-spelling_of_content (Write d) = spelling_of_datum d
-spelling_of_content (Dispose k) = spelling_of_end 1 k
-spelling_of_content (Unregister k) = spelling_of_end 2 k
-spelling_of_content (DisposeUnregister k) = spelling_of_end 3 k
+abbrev pub text_of_content : DataContent → List ℕ
+text_of_content (Write d) = spelling_of_datum d
+text_of_content (Dispose k) = text_of_end status_disposed k
+text_of_content (Unregister k) = text_of_end status_unregistered k
+text_of_content (DisposeUnregister k) = text_of_end (status_disposed + status_unregistered) k
 
 -- the body as written
-abbrev pub spelling_of_data : Data → List ℕ
-spelling_of_data d = data_head Little 0 16 d.reader_id d.writer_id d.writer_sn ++ spelling_of_content d.content
+abbrev pub text_of_data : Data → List ℕ
+text_of_data d = data_head Little extra_flags least_octets_to_inline_qos d.reader_id d.writer_id d.writer_sn ++ text_of_content d.content

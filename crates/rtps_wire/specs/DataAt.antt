@@ -15,12 +15,13 @@ use Rattle.rtps_wire.specs.declared.parameters.Parameters.{Parameters}
 use Rattle.rtps_wire.specs.Fields.{has_flag, order_of}
 use Rattle.rtps_wire.specs.FieldAt.{entity_id_at, sn_at}
 use Rattle.rtps_wire.specs.ParametersAt.{parameters_at}
+use Rattle.rtps_wire.specs.Names.{flag_data, flag_inline_qos, flag_key, flag_non_standard, least_octets_to_inline_qos, status_disposed, status_unregistered}
 
 -- octetsToInlineQos, readerId, writerId, writerSN, and what follows
 unfoldable pub data_head_at : Endianness → List ℕ → Option (ℕ × EntityId × EntityId × ℕ × List ℕ)
 data_head_at order body = do
-  x ← both (both (both (both (number_at order w16) (number_at order w16)) entity_id_at) entity_id_at) (sn_at order) body
-  Some (x.0.0.0.0.1, x.0.0.0.1, x.0.0.1, x.0.1, x.1)
+  x ← both (both (both (number_at order w16) (number_at order w16)) (both entity_id_at entity_id_at)) (sn_at order) body
+  Some (x.0.0.0.1, x.0.0.1.0, x.0.0.1.1, x.0.1, x.1)
 
 -- the key, by the flags D and K
 unfoldable pub shown_key_at : Bool → Bool → Option Key → List ℕ → Option Key
@@ -45,16 +46,18 @@ content_by false true datum key hash payload = option_map (ended_at false true) 
 
 -- the same, by the flags and the parameters
 unfoldable pub content_at : ℕ → Parameters → List ℕ → Option DataContent
-content_at flags found payload = content_by (has_flag (unwrap_or found.status 0) 1) (has_flag (unwrap_or found.status 0) 2) (has_flag flags 4) (has_flag flags 8) found.key_hash payload
+content_at flags found payload =
+    content_by (has_flag (unwrap_or found.status 0) status_disposed) (has_flag (unwrap_or found.status 0) status_unregistered)
+    (has_flag flags flag_data) (has_flag flags flag_key) found.key_hash payload
 
 -- the parameters, where flag Q is set, and the payload
 unfoldable pub inline_at : ℕ → List ℕ → Option (Parameters × List ℕ)
-inline_at flags bytes = if has_flag flags 2 then parameters_at (order_of flags) bytes else Some (record { key_hash = None; status = None }, bytes)
+inline_at flags bytes = if has_flag flags flag_inline_qos then parameters_at (order_of flags) bytes else Some (record { key_hash = None; status = None }, bytes)
 
 unfoldable pub data_at : ℕ → List ℕ → Option Data
-data_at flags body = if has_flag flags 16 then None else (do
+data_at flags body = if has_flag flags flag_non_standard then None else (do
   x ← data_head_at (order_of flags) body
-  s ← (if nat_lt x.0 16 then None else octets_at (x.0 - 16) x.4)
+  s ← (if nat_lt x.0 least_octets_to_inline_qos then None else octets_at (x.0 - least_octets_to_inline_qos) x.4)
   p ← inline_at flags s.1
   c ← content_at flags p.0 p.1
   if nat_lt x.3 1 then None else Some (record { reader_id = x.1; writer_id = x.2; writer_sn = x.3; content = c }))

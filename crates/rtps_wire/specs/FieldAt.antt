@@ -6,17 +6,18 @@ use Rattle.dds_base.specs.declared.endianness.Endianness.{Endianness}
 use Rattle.dds_base.specs.declared.guid.EntityId.{EntityId}
 use Rattle.dds_base.specs.declared.guid.GuidPrefix.{GuidPrefix}
 use Rattle.dds_base.specs.Fields.{number_at, octets_at, ◌>>=◌}
+use Rattle.rtps_wire.specs.Names.{len_entity_id, len_prefix}
 
 -- four octets
 unfoldable pub entity_id_at : List ℕ → Option (EntityId × List ℕ)
 entity_id_at bytes = do
-  x ← octets_at 4 bytes
+  x ← octets_at len_entity_id bytes
   Some (record { 0 = x.0 }, x.1)
 
 -- twelve octets
 unfoldable pub prefix_at : List ℕ → Option (GuidPrefix × List ℕ)
 prefix_at bytes = do
-  x ← octets_at 12 bytes
+  x ← octets_at len_prefix bytes
   Some (record { 0 = x.0 }, x.1)
 
 -- a sequence number of at most 2^62

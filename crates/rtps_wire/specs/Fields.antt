@@ -6,14 +6,15 @@ use Rattle.dds_base.specs.declared.endianness.Endianness.{Endianness}
 use Rattle.dds_base.specs.declared.endianness.Endianness.TheVariants.{Big, Little}
 use Rattle.dds_base.specs.declared.guid.EntityId.{EntityId}
 use Rattle.dds_base.specs.Fields.{number}
+use Rattle.rtps_wire.specs.Names.{flag_endianness, len_entity_id}
 
 -- whether the bit is set
 abbrev pub has_flag : ℕ → ℕ → Bool
 has_flag flags flag = bit_and flags flag == flag
 
--- flag 1 (EndiannessFlag) means little-endian
+-- the flag E means little-endian
 abbrev pub order_of : ℕ → Endianness
-order_of flags = if has_flag flags 1 then Little else Big
+order_of flags = if has_flag flags flag_endianness then Little else Big
 
 -- a sequence number: its high half, then its low half
 abbrev pub sn_text : Endianness → ℕ → List ℕ
@@ -25,7 +26,7 @@ count_text order z = number order w32 (cast_unsigned w32 z)
 
 -- an entity id is four octets
 abbrev pub IsEntityId : EntityId → Type 0
-IsEntityId e = length e.0 ≡ 4
+IsEntityId e = length e.0 ≡ len_entity_id
 
 -- The bytes begin with the text, and anything may follow.
 abbrev pub BeginsWith : List ℕ → List ℕ → Type 0

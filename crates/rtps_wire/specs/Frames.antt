@@ -1,12 +1,17 @@
 -- Where a submessage ends, and where reading does (RTPS 2.5, 8.3.4 and 9.4.5.1).
+--
+-- 0...............8...............16..............24.............31
+-- |      id       |     flags     |      length of the body       |
+-- |                         the body ...                          |
 use Rattle.std.specs.Prelude.{◌≡◌, ℕ, ◌<◌, ◌^◌, ◌==◌, ◌&&◌, not, Bool, List, [], ◌∷◌, ◌++◌, length, MatchBool, ◌⊎◌}
 use Rattle.std.specs.Int.{w16}
 use Rattle.dds_base.specs.Fields.{number}
 use Rattle.rtps_wire.specs.Fields.{order_of}
+use Rattle.rtps_wire.specs.Names.{id_pad, id_info_ts, len_submessage_header}
 
 -- Length 0 means up to the message's end, except for PAD and INFO_TS.
 abbrev pub runs_to_end : ℕ → ℕ → Bool
-runs_to_end id len = len == 0 && not (id == 1) && not (id == 9)
+runs_to_end id len = len == 0 && not (id == id_pad) && not (id == id_info_ts)
 
 -- id, flags, length and body of a submessage
 abbrev pub frame_text : ℕ → ℕ → ℕ → List ℕ → List ℕ
@@ -31,4 +36,4 @@ pub record IsTooLong (bytes : List ℕ) : Type 0 where
 
 -- Reading ends where fewer than 4 bytes are left, or a length passes the end.
 abbrev pub IsEnd : List ℕ → Type 0
-IsEnd bytes = (length bytes < 4) ⊎ IsTooLong bytes
+IsEnd bytes = (length bytes < len_submessage_header) ⊎ IsTooLong bytes

@@ -1,16 +1,22 @@
 -- GAP: which numbers will not come (RTPS 2.5, 9.4.5: Gap).
+--
+-- 0...............8...............16..............24.............31
+-- |                           readerId                            |
+-- |                           writerId                            |
+-- |                 gapStart: high half, low half                 |
+-- |            gapList: base, number of bits, words               |
 use Rattle.std.specs.Prelude.{◌≡◌, ℕ, ◌≤◌, ◌^◌, List, ◌++◌}
 use Rattle.dds_base.specs.declared.endianness.Endianness.{Endianness}
 use Rattle.dds_base.specs.declared.endianness.Endianness.TheVariants.{Little}
 use Rattle.rtps_wire.specs.declared.gap.Gap.{Gap}
 use Rattle.rtps_wire.specs.Fields.{order_of, sn_text, IsEntityId}
-use Rattle.rtps_wire.specs.Sets.{ReadsSet, spelling_of_set}
+use Rattle.rtps_wire.specs.Sets.{ReadsSet, text_of_set}
 
 -- readerId, writerId, gapStart
 abbrev pub gap_head : Endianness → Gap → List ℕ
 gap_head order g = g.reader_id.0 ++ g.writer_id.0 ++ sn_text order g.gap_start
 
--- the head, then gapList
+-- The body begins with the head and gapList, whatever follows.
 pub record ReadsGap (flags : ℕ) (body : List ℕ) (g : Gap) : Type 0 where
   pub from_set : List ℕ
   pub rest : List ℕ
@@ -25,5 +31,5 @@ pub record IsGap (g : Gap) : Type 0 where
   pub small : g.gap_start ≤ 2 ^ 62
 
 -- the body as written
-abbrev pub spelling_of_gap : Gap → List ℕ
-spelling_of_gap g = gap_head Little g ++ spelling_of_set g.gap_list
+abbrev pub text_of_gap : Gap → List ℕ
+text_of_gap g = gap_head Little g ++ text_of_set g.gap_list

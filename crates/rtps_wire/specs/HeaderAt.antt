@@ -3,8 +3,10 @@
 use Rattle.std.specs.Prelude.{ℕ, ◌==◌, ◌&&◌, List, ◌∷◌, Option, None, if◌then◌else◌}
 use Rattle.dds_base.specs.declared.guid.GuidPrefix.{GuidPrefix}
 use Rattle.rtps_wire.specs.FieldAt.{prefix_at}
+use Rattle.rtps_wire.specs.Names.{major_version}
 
--- the prefix, and what follows
+-- the prefix, and what follows 'R', 'T', 'P', 'S', the major version and it
 unfoldable pub header_at : List ℕ → Option (GuidPrefix × List ℕ)
-header_at (r ∷ t ∷ p ∷ s ∷ major ∷ minor ∷ v ∷ w ∷ rest) = if r == 82 && t == 84 && p == 80 && s == 83 && major == 2 then prefix_at rest else None
+header_at (r ∷ t ∷ p ∷ s ∷ major ∷ minor ∷ v ∷ w ∷ rest) =
+    if r == 82 && t == 84 && p == 80 && s == 83 && major == major_version then prefix_at rest else None
 header_at _ = None

@@ -1,3 +1,4 @@
+pub mod Names
 pub mod Fields
 pub mod FieldAt
 pub mod Frames
@@ -6,11 +7,14 @@ pub mod Sets
 pub mod SetAt
 pub mod Parameters
 pub mod ParametersAt
-pub mod Info
+pub mod Pad
+pub mod InfoDst
+pub mod InfoTs
 pub mod Heartbeat
 pub mod AckNack
 pub mod Gap
 pub mod Data
+pub mod Content
 pub mod DataAt
 pub mod Submessages
 pub mod SubmessageAt

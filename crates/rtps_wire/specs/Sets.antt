@@ -1,4 +1,9 @@
 -- Sets of sequence numbers in bytes (RTPS 2.5, 9.4.2: SequenceNumberSet).
+--
+-- 0...............8...............16..............24.............31
+-- |                   base: high half, low half                   |
+-- |                 number of bits, at most 256                   |
+-- |       a word for each 32 bits begun, highest bit first        |
 use Rattle.std.specs.Prelude.{◌≡◌, ℕ, zero, suc, ◌+◌, ◌-◌, ◌/◌, ◌^◌, ◌≤◌, ◌<◌, ◌==◌, Bool, false, List, [], ◌∷◌, ◌++◌, length, take, drop, replicate, if◌then◌else◌, slice_index_or}
 use Rattle.std.specs.List.{flat_map, AllByRecursion}
 use Rattle.std.specs.Int.{w32}
@@ -74,5 +79,5 @@ abbrev pub set_field_of : NumberSet → SetField
 set_field_of s = record { base = s.base; num_bits = span s.members; words = words_of (words_for (span s.members)) s.members }
 
 -- the one written form of a set
-abbrev pub spelling_of_set : NumberSet → List ℕ
-spelling_of_set s = set_text Little (set_field_of s)
+abbrev pub text_of_set : NumberSet → List ℕ
+text_of_set s = set_text Little (set_field_of s)

@@ -14,6 +14,7 @@ use Rattle.rtps_wire.specs.Fields.{has_flag, order_of}
 use Rattle.rtps_wire.specs.FieldAt.{entity_id_at, prefix_at, sn_at, count_at}
 use Rattle.rtps_wire.specs.SetAt.{set_at}
 use Rattle.rtps_wire.specs.DataAt.{data_at}
+use Rattle.rtps_wire.specs.Names.{flag_final, flag_invalidate, flag_liveliness, id_acknack, id_data, id_gap, id_heartbeat, id_info_dst, id_info_ts, id_pad}
 
 unfoldable pub info_dst_at : List ℕ → Option GuidPrefix
 info_dst_at body = do
@@ -21,7 +22,7 @@ info_dst_at body = do
   Some prefix.0
 
 unfoldable pub info_ts_at : ℕ → List ℕ → Option (Option ℕ)
-info_ts_at flags body = if has_flag flags 2 then Some None else (do
+info_ts_at flags body = if has_flag flags flag_invalidate then Some None else (do
   x ← both (number_at (order_of flags) w32) (number_at (order_of flags) w32) body
   Some (Some (x.0.0 * 2 ^ 32 + x.0.1)))
 
@@ -34,8 +35,8 @@ heartbeat_at flags body = do
     first_sn = x.0.0.0.1;
     last_sn = x.0.0.1;
     count = x.0.1;
-    final_flag = has_flag flags 2;
-    liveliness_flag = has_flag flags 4;
+    final_flag = has_flag flags flag_final;
+    liveliness_flag = has_flag flags flag_liveliness;
   })
 
 unfoldable pub acknack_at : ℕ → List ℕ → Option AckNack
@@ -43,7 +44,7 @@ acknack_at flags body = do
   ids ← both entity_id_at entity_id_at body
   set ← set_at (order_of flags) ids.1
   n ← count_at (order_of flags) set.1
-  Some (record { reader_id = ids.0.0; writer_id = ids.0.1; reader_sn_state = set.0; count = n.0; final_flag = has_flag flags 2 })
+  Some (record { reader_id = ids.0.0; writer_id = ids.0.1; reader_sn_state = set.0; count = n.0; final_flag = has_flag flags flag_final })
 
 unfoldable pub gap_at : ℕ → List ℕ → Option Gap
 gap_at flags body = do
@@ -53,10 +54,10 @@ gap_at flags body = do
 
 unfoldable pub known_at : ℕ → ℕ → List ℕ → Option Submessage
 known_at id flags body =
-    if id == 1 then Some submessages.Pad else
-    (if id == 14 then option_map submessages.InfoDst (info_dst_at body) else
-    (if id == 9 then option_map submessages.InfoTs (info_ts_at flags body) else
-    (if id == 7 then option_map submessages.Heartbeat (heartbeat_at flags body) else
-    (if id == 21 then option_map submessages.Data (data_at flags body) else
-    (if id == 6 then option_map submessages.AckNack (acknack_at flags body) else
-    (if id == 8 then option_map submessages.Gap (gap_at flags body) else None))))))
+    if id == id_pad then Some submessages.Pad else
+    (if id == id_info_dst then option_map submessages.InfoDst (info_dst_at body) else
+    (if id == id_info_ts then option_map submessages.InfoTs (info_ts_at flags body) else
+    (if id == id_heartbeat then option_map submessages.Heartbeat (heartbeat_at flags body) else
+    (if id == id_data then option_map submessages.Data (data_at flags body) else
+    (if id == id_acknack then option_map submessages.AckNack (acknack_at flags body) else
+    (if id == id_gap then option_map submessages.Gap (gap_at flags body) else None))))))

@@ -1,27 +1,19 @@
 //! ACKNACK: what a reader has, and what it misses.
 //!
-//! ```text
-//! 0...............8...............16..............24.............31
-//! |                           readerId                            |
-//! |                           writerId                            |
-//! |         readerSNState: base, number of bits, words            |
-//! |                             count                             |
-//! ```
+//! `specs/AckNack.antt` draws it.
 //!
 //! RTPS 2.5, 9.4.5 (AckNack).
 
 ghost use Rattle.std.specs.Prelude.{◌≡◌, ◌++◌, OnOk, IfErr, IsTrue, ◌↔◌};
-ghost use Rattle.rtps_wire.specs.AckNack.{IsAckNack, spelling_of_acknack};
+ghost use Rattle.rtps_wire.specs.AckNack.{IsAckNack, text_of_acknack};
 ghost use Rattle.rtps_wire.specs.Sets.{IsSet};
 ghost use Rattle.rtps_wire.specs.SubmessageAt.{acknack_at};
 
-use crate::field::{has_flag, order_of, put_count, take_count, take_entity_id};
+use crate::field::{has_flag, order_of, put_count, put_ids, take_count, take_ids};
+use crate::names::FLAG_FINAL;
 use crate::set_field::{put_set, take_set};
 use dds_base::{Code, EntityId};
 use rtps_sets::SnSet;
-
-/// The flag FinalFlag.
-const FINAL: u8 = 2;
 
 /// What a reader says to a writer: it needs no number below the base of the set, and misses its members.
 ///
@@ -34,7 +26,7 @@ pub struct AckNack {
     pub reader_sn_state: SnSet,
     /// Each new one has a greater count.
     pub count: i32,
-    /// No answer is asked for.
+    /// Where it is set the writer need not answer.
     pub final_flag: bool,
 }
 
@@ -44,18 +36,17 @@ pub fn acknack_of(flags: u8, body: &[u8]) -> Option<AckNack>
     ensures { result ≡ acknack_at flags body.now }
 {
     let order = order_of(flags);
-    let (reader_id, rest) = take_entity_id(body)?;
-    let (writer_id, rest) = take_entity_id(rest)?;
+    let (ids, rest) = take_ids(body)?;
     let Some((reader_sn_state, rest)) = take_set(order, rest) else {
         return None;
     };
     let (count, _) = take_count(order, rest)?;
     Some(AckNack {
-        reader_id,
-        writer_id,
+        reader_id: ids.reader,
+        writer_id: ids.writer,
         reader_sn_state,
         count,
-        final_flag: has_flag(flags, FINAL),
+        final_flag: has_flag(flags, FLAG_FINAL),
     })
 }
 
@@ -63,11 +54,10 @@ pub fn acknack_of(flags: u8, body: &[u8]) -> Option<AckNack>
 pub fn put_acknack(out: &mut Vec<u8>, a: &AckNack) -> Result<(), Code>
     requires valid { IsAckNack a.now }
     requires set { IsSet a.now.reader_sn_state }
-    ensures ok { OnOk result (out.new.items ≡ out.old.items ++ spelling_of_acknack a.now) }
+    ensures ok { OnOk result (out.new.items ≡ out.old.items ++ text_of_acknack a.now) }
     ensures memory { IfErr result (λ e. e ≡ Code.Memory) }
 {
-    out.extend_from_slice(&a.reader_id.0)?;
-    out.extend_from_slice(&a.writer_id.0)?;
+    put_ids(out, &a.reader_id, &a.writer_id)?;
     put_set(out, &a.reader_sn_state)?;
     put_count(out, a.count)?;
     Ok(())

@@ -1,50 +1,31 @@
 //! DATA: what a writer says of an instance.
 //!
-//! ```text
-//! 0...............8...............16..............24.............31
-//! |          extraFlags           |       octetsToInlineQos       |
-//! |                           readerId                            |
-//! |                           writerId                            |
-//! |                 writerSN: high half, low half                 |
-//! |         parameters up to the sentinel, with flag Q            |
-//! |      a datum with flag D, or a key form with flag K           |
-//! ```
+//! `specs/Data.antt` draws it.
 //!
 //! RTPS 2.5, 9.4.5 (Data) and 9.6 (status info).
 
 ghost use Rattle.std.specs.Prelude.{◌≡◌, ◌≤◌, ◌++◌, length, OnOk, IfErr, IsTrue, ◌↔◌, MatchResult};
 ghost use Rattle.std.specs.Option.{option_map};
 ghost use Rattle.dds_base.specs.DatumText.{IsDatum};
-ghost use Rattle.rtps_wire.specs.Data.{IsData, IsContent, content_flags, spelling_of_end, spelling_of_content, spelling_of_data};
+ghost use Rattle.rtps_wire.specs.Data.{IsData, IsContent, content_flags, text_of_end, text_of_content, text_of_data};
 ghost use Rattle.rtps_wire.specs.DataAt.{data_head_at, shown_key_at, ended_at, content_by, content_at, inline_at, data_at};
 
-use crate::field::{MAX_SN, has_flag, order_of, put_u64, take_entity_id, take_sn};
-use crate::parameters::{Parameters, take_parameters};
+use crate::field::{Ids, MAX_SN, has_flag, order_of, put_ids, put_u16, put_u64, take_ids, take_sn};
+use crate::names::{
+    EXTRA_FLAGS, FLAG_DATA, FLAG_ENDIANNESS, FLAG_INLINE_QOS, FLAG_KEY, FLAG_NON_STANDARD,
+    LEAST_OCTETS_TO_INLINE_QOS, LEN_DATUM_HEAD, LEN_KEY_FORM, LEN_PARAMETERS, PID_KEY_HASH,
+    PID_SENTINEL, PID_STATUS_INFO, STATUS_DISPOSED, STATUS_UNREGISTERED,
+};
+use crate::parameters::{Parameters, put_parameter, take_parameters};
+use crate::payload::{put_datum, put_key_form};
 use dds_base::{
     Code, Datum, Endianness, EntityId, Key, MAX_VALUE, Sn, decode_datum, decode_datum_key,
-    decode_key, encode_datum, encode_key, take_octets, take_u16,
+    decode_key, take_octets, take_u16,
 };
 use std::alloc::Global;
 
-/// The flag InlineQosFlag: parameters follow.
-const Q: u8 = 2;
-
-/// The flag DataFlag: the payload is a datum.
-const D: u8 = 4;
-
-/// The flag KeyFlag: the payload is a key form.
-const K: u8 = 8;
-
-/// The flag NonStandardPayloadFlag: the payload is none of these.
-const N: u8 = 16;
-
-/// The bit of the status info that says disposed.
-const DISPOSED: u8 = 1;
-
-/// The bit of the status info that says unregistered.
-const UNREGISTERED: u8 = 2;
-
-/// What is said of an instance.
+/// What is said of an instance: the kind of a change, with a datum or the key alone. `docs/WIRE.md`, "What a DATA means",
+/// has the table.
 ///
 /// RTPS 2.5, 8.2 (ChangeKind_t): a change that is no write carries the key alone.
 #[derive(Debug, Drop)]
@@ -72,25 +53,27 @@ pub struct Data {
 #[derive(Clone, Copy)]
 struct DataHead {
     octets_to_inline_qos: u16,
-    reader_id: EntityId,
-    writer_id: EntityId,
+    ids: Ids,
     writer_sn: u64,
 }
 
 #[tactic(auto, unfolding(crate::specs::DataAt::data_head_at))]
 fn take_data_head(order: Endianness, body: &[u8]) -> Option<(DataHead, &[u8])>
-    ensures { option_map (λ x. (x.0.octets_to_inline_qos, x.0.reader_id, x.0.writer_id, x.0.writer_sn, x.1.now)) result
-        ≡ data_head_at order body.now }
+    ensures { option_map (λ x. (
+      x.0.octets_to_inline_qos,
+      x.0.ids.reader,
+      x.0.ids.writer,
+      x.0.writer_sn,
+      x.1.now,
+    )) result ≡ data_head_at order body.now }
 {
     let (_, rest) = take_u16(order, body)?;
     let (octets_to_inline_qos, rest) = take_u16(order, rest)?;
-    let (reader_id, rest) = take_entity_id(rest)?;
-    let (writer_id, rest) = take_entity_id(rest)?;
+    let (ids, rest) = take_ids(rest)?;
     let (writer_sn, rest) = take_sn(order, rest)?;
     let head = DataHead {
         octets_to_inline_qos,
-        reader_id,
-        writer_id,
+        ids,
         writer_sn,
     };
     Some((head, rest))
@@ -130,13 +113,14 @@ fn content_of(
     found: Parameters,
     payload: &[u8],
 ) -> Result<Option<DataContent>, Code>
-    ensures { MatchResult result (λ c. c ≡ content_at flags found payload.now) (λ e. e ≡ Code.Memory) }
+    ensures { MatchResult result
+        (λ c. c ≡ content_at flags found payload.now) (λ e. e ≡ Code.Memory) }
 {
     let status = found.status.unwrap_or(0);
-    let disposed = has_flag(status, DISPOSED);
-    let unregistered = has_flag(status, UNREGISTERED);
-    let has_datum = has_flag(flags, D);
-    let has_key = has_flag(flags, K);
+    let disposed = has_flag(status, STATUS_DISPOSED);
+    let unregistered = has_flag(status, STATUS_UNREGISTERED);
+    let has_datum = has_flag(flags, FLAG_DATA);
+    let has_key = has_flag(flags, FLAG_KEY);
     if disposed || unregistered {
         let key = shown_key(has_datum, has_key, found.key_hash, payload);
         return Ok(key.map(|key| ended(disposed, unregistered, key)));
@@ -152,7 +136,7 @@ fn content_of(
 fn take_inline(flags: u8, bytes: &[u8]) -> Option<(Parameters, &[u8])>
     ensures { option_map (λ x. (x.0, x.1.now)) result ≡ inline_at flags bytes.now }
 {
-    if has_flag(flags, Q) {
+    if has_flag(flags, FLAG_INLINE_QOS) {
         return take_parameters(order_of(flags), bytes);
     }
     Some((Parameters::NONE, bytes))
@@ -167,16 +151,17 @@ fn take_inline(flags: u8, bytes: &[u8]) -> Option<(Parameters, &[u8])>
 pub fn data_of(alloc: Global, flags: u8, body: &[u8]) -> Result<Option<Data>, Code>
     ensures { MatchResult result (λ d. d ≡ data_at flags body.now) (λ e. e ≡ Code.Memory) }
 {
-    if has_flag(flags, N) {
+    if has_flag(flags, FLAG_NON_STANDARD) {
         return Ok(None);
     }
     let Some((head, rest)) = take_data_head(order_of(flags), body) else {
         return Ok(None);
     };
-    if head.octets_to_inline_qos < 16 {
+    if head.octets_to_inline_qos < LEAST_OCTETS_TO_INLINE_QOS {
         return Ok(None);
     }
-    let Some((_, rest)) = take_octets(rest, head.octets_to_inline_qos as usize - 16) else {
+    let skipped = head.octets_to_inline_qos - LEAST_OCTETS_TO_INLINE_QOS;
+    let Some((_, rest)) = take_octets(rest, skipped as usize) else {
         return Ok(None);
     };
     let Some((found, payload)) = take_inline(flags, rest) else {
@@ -189,8 +174,8 @@ pub fn data_of(alloc: Global, flags: u8, body: &[u8]) -> Result<Option<Data>, Co
         return Ok(None);
     }
     Ok(Some(Data {
-        reader_id: head.reader_id,
-        writer_id: head.writer_id,
+        reader_id: head.ids.reader,
+        writer_id: head.ids.writer,
         writer_sn: Sn::new(head.writer_sn),
         content,
     }))
@@ -201,63 +186,59 @@ pub fn content_flags(content: &DataContent) -> u8
     ensures { result ≡ content_flags content.now }
 {
     match content {
-        DataContent::Write(_) => 5,
-        _ => 11,
+        DataContent::Write(_) => FLAG_ENDIANNESS + FLAG_DATA,
+        _ => FLAG_ENDIANNESS + FLAG_INLINE_QOS + FLAG_KEY,
     }
 }
 
 /// Appends the parameters and the key form of a change that is no write.
-fn put_end(alloc: Global, out: &mut Vec<u8>, status: u8, key: &Key) -> Result<(), Code>
-    ensures ok { OnOk result (out.new.items ≡ out.old.items ++ spelling_of_end status key.now) }
+fn put_end(out: &mut Vec<u8>, status: u8, key: &Key) -> Result<(), Code>
+    ensures ok { OnOk result (out.new.items ≡ out.old.items ++ text_of_end status key.now) }
     ensures memory { IfErr result (λ e. e ≡ Code.Memory) }
 {
-    out.extend_from_slice(&[0x70, 0, 16, 0])?;
-    out.extend_from_slice(key.as_slice())?;
-    out.extend_from_slice(&[0x71, 0, 4, 0, 0, 0, 0, status, 1, 0, 0, 0])?;
-    let key = encode_key(alloc, key)?;
-    out.extend_from_slice(&key)?;
-    Ok(())
+    put_parameter(out, PID_KEY_HASH, key.as_slice())?;
+    put_parameter(out, PID_STATUS_INFO, &[0, 0, 0, status])?;
+    put_parameter(out, PID_SENTINEL, &[])?;
+    put_key_form(out, key)
 }
 
-fn put_content(alloc: Global, out: &mut Vec<u8>, content: &DataContent) -> Result<(), Code>
+fn put_content(out: &mut Vec<u8>, content: &DataContent) -> Result<(), Code>
     requires { IsContent content.now }
-    ensures ok { OnOk result (out.new.items ≡ out.old.items ++ spelling_of_content content.now) }
+    ensures ok { OnOk result (out.new.items ≡ out.old.items ++ text_of_content content.now) }
     ensures memory { IfErr result (λ e. e ≡ Code.Memory) }
 {
     match content {
-        DataContent::Write(datum) => {
-            let datum = encode_datum(alloc, datum)?;
-            out.extend_from_slice(&datum)?;
-            Ok(())
+        DataContent::Write(datum) => put_datum(out, datum),
+        DataContent::Dispose(key) => put_end(out, STATUS_DISPOSED, key),
+        DataContent::Unregister(key) => put_end(out, STATUS_UNREGISTERED, key),
+        DataContent::DisposeUnregister(key) => {
+            put_end(out, STATUS_DISPOSED + STATUS_UNREGISTERED, key)
         }
-        DataContent::Dispose(key) => put_end(alloc, out, DISPOSED, key),
-        DataContent::Unregister(key) => put_end(alloc, out, UNREGISTERED, key),
-        DataContent::DisposeUnregister(key) => put_end(alloc, out, DISPOSED + UNREGISTERED, key),
     }
 }
 
 /// Appends the body.
-pub fn put_data(alloc: Global, out: &mut Vec<u8>, d: &Data) -> Result<(), Code>
+pub fn put_data(out: &mut Vec<u8>, d: &Data) -> Result<(), Code>
     requires { IsContent d.now.content }
-    ensures ok { OnOk result (out.new.items ≡ out.old.items ++ spelling_of_data d.now) }
+    ensures ok { OnOk result (out.new.items ≡ out.old.items ++ text_of_data d.now) }
     ensures memory { IfErr result (λ e. e ≡ Code.Memory) }
 {
-    out.extend_from_slice(&[0, 0, 16, 0])?;
-    out.extend_from_slice(&d.reader_id.0)?;
-    out.extend_from_slice(&d.writer_id.0)?;
+    put_u16(out, EXTRA_FLAGS)?;
+    put_u16(out, LEAST_OCTETS_TO_INLINE_QOS)?;
+    put_ids(out, &d.reader_id, &d.writer_id)?;
     put_u64(out, d.writer_sn.number())?;
-    put_content(alloc, out, &d.content)
+    put_content(out, &d.content)
 }
 
 /// How many octets a content takes.
 pub fn content_len(content: &DataContent) -> usize
     requires { IsContent content.now }
-    ensures len { result ≡ length (spelling_of_content content.now) }
+    ensures len { result ≡ length (text_of_content content.now) }
     ensures small { result ≤ 1048 }
 {
     match content {
-        DataContent::Write(datum) => 24 + datum.value.as_slice().len(),
-        _ => 52,
+        DataContent::Write(datum) => LEN_DATUM_HEAD + datum.value.as_slice().len(),
+        _ => LEN_PARAMETERS + LEN_KEY_FORM,
     }
 }
 

@@ -4,17 +4,17 @@
 
 ghost use Rattle.std.specs.Prelude.{◌≡◌, ◌≤◌, ◌++◌, length, IfSome, OnOk, IfErr};
 ghost use Rattle.std.specs.Option.{option_map};
+ghost use Rattle.std.specs.Int.{w16};
+ghost use Rattle.dds_base.specs.Fields.{both, number};
 ghost use Rattle.dds_base.specs.declared.endianness.Endianness.TheVariants.{Little};
 ghost use Rattle.rtps_wire.specs.Fields.{has_flag, order_of, sn_text, count_text};
 ghost use Rattle.rtps_wire.specs.FieldAt.{entity_id_at, prefix_at, sn_at, count_at};
 
+use crate::names::{FLAG_ENDIANNESS, LEN_ENTITY_ID, LEN_PREFIX};
 use dds_base::{Code, Endianness, EntityId, GuidPrefix, take_octets, take_u32};
 
 /// The greatest sequence number that a field holds.
 pub const MAX_SN: u64 = 1 << 62;
-
-/// The flag for little-endian numbers (EndiannessFlag).
-pub const LITTLE: u8 = 1;
 
 /// Whether a flag is set.
 pub fn has_flag(flags: u8, flag: u8) -> bool
@@ -27,7 +27,7 @@ pub fn has_flag(flags: u8, flag: u8) -> bool
 pub fn order_of(flags: u8) -> Endianness
     ensures { result ≡ order_of flags }
 {
-    if has_flag(flags, LITTLE) {
+    if has_flag(flags, FLAG_ENDIANNESS) {
         Endianness::Little
     } else {
         Endianness::Big
@@ -39,10 +39,27 @@ pub fn order_of(flags: u8) -> Endianness
 pub fn take_entity_id(bytes: &[u8]) -> Option<(EntityId, &[u8])>
     ensures { option_map (λ x. (x.0, x.1.now)) result ≡ entity_id_at bytes.now }
 {
-    let (octets, rest) = take_octets(bytes, 4)?;
-    let mut id = [0; 4];
+    let (octets, rest) = take_octets(bytes, LEN_ENTITY_ID)?;
+    let mut id = [0; LEN_ENTITY_ID];
     id.copy_from_slice(octets);
     Some((EntityId(id), rest))
+}
+
+/// What most bodies have in front: readerId and writerId.
+#[derive(Clone, Copy)]
+pub struct Ids {
+    pub reader: EntityId,
+    pub writer: EntityId,
+}
+
+/// Two entity ids: a reader's and a writer's.
+pub fn take_ids(bytes: &[u8]) -> Option<(Ids, &[u8])>
+    ensures { option_map (λ x. ((x.0.reader, x.0.writer), x.1.now)) result
+        ≡ both entity_id_at entity_id_at bytes.now }
+{
+    let (reader, rest) = take_entity_id(bytes)?;
+    let (writer, rest) = take_entity_id(rest)?;
+    Some((Ids { reader, writer }, rest))
 }
 
 /// A GUID prefix.
@@ -51,8 +68,8 @@ pub fn take_prefix(bytes: &[u8]) -> Option<(GuidPrefix, &[u8])>
     ensures value { option_map (λ x. (x.0, x.1.now)) result ≡ prefix_at bytes.now }
     ensures rest { IfSome result (λ x. length x.1.now ≤ length bytes.now) }
 {
-    let (octets, rest) = take_octets(bytes, 12)?;
-    let mut prefix = [0; 12];
+    let (octets, rest) = take_octets(bytes, LEN_PREFIX)?;
+    let mut prefix = [0; LEN_PREFIX];
     prefix.copy_from_slice(octets);
     Some((GuidPrefix(prefix), rest))
 }
@@ -79,6 +96,25 @@ pub fn take_count(order: Endianness, bytes: &[u8]) -> Option<(i32, &[u8])>
 {
     let (count, rest) = take_u32(order, bytes)?;
     Some((count.cast_signed(), rest))
+}
+
+/// A number of two octets.
+pub fn put_u16(out: &mut Vec<u8>, n: u16) -> Result<(), Code>
+    ensures ok { OnOk result (out.new.items ≡ out.old.items ++ number Little w16 n) }
+    ensures memory { IfErr result (λ e. e ≡ Code.Memory) }
+{
+    out.extend_from_slice(&n.to_le_bytes())?;
+    Ok(())
+}
+
+/// The entity ids of a reader and of a writer.
+pub fn put_ids(out: &mut Vec<u8>, reader: &EntityId, writer: &EntityId) -> Result<(), Code>
+    ensures ok { OnOk result (out.new.items ≡ out.old.items ++ (reader.now.0 ++ writer.now.0)) }
+    ensures memory { IfErr result (λ e. e ≡ Code.Memory) }
+{
+    out.extend_from_slice(&reader.0)?;
+    out.extend_from_slice(&writer.0)?;
+    Ok(())
 }
 
 /// A sequence number, or a moment: two halves, the high one first.

@@ -8,7 +8,7 @@ ghost use Rattle.rtps_wire.specs.Frames.{runs_to_end};
 ghost use Rattle.rtps_wire.specs.FrameAt.{frame_at};
 
 use crate::field::order_of;
-use crate::submessage::{INFO_TS, PAD};
+use crate::names::{ID_INFO_TS, ID_PAD};
 use dds_base::{take_octets, take_u16};
 
 /// A submessage whose body is not read yet.
@@ -23,13 +23,14 @@ pub struct Frame<'a> {
 fn runs_to_end(id: u8, len: u16) -> bool
     ensures { result ≡ runs_to_end id len }
 {
-    len == 0 && id != PAD && id != INFO_TS
+    len == 0 && id != ID_PAD && id != ID_INFO_TS
 }
 
 /// The submessage at the front, and the bytes after it. `None` where reading ends.
 #[tactic(auto, unfolding(crate::specs::FrameAt::frame_at))]
 pub fn take_frame(bytes: &[u8]) -> Option<(Frame<'_>, &[u8])>
-    ensures value { option_map (λ x. (x.0.id, x.0.flags, x.0.body.now, x.1.now)) result ≡ frame_at bytes.now }
+    ensures value { option_map (λ x. (x.0.id, x.0.flags, x.0.body.now, x.1.now)) result
+        ≡ frame_at bytes.now }
     ensures rest { IfSome result (λ x. length x.1.now < length bytes.now) }
 {
     let [id, flags, rest @ ..] = bytes else {

@@ -1,26 +1,21 @@
 //! GAP: which numbers will not come.
 //!
-//! ```text
-//! 0...............8...............16..............24.............31
-//! |                           readerId                            |
-//! |                           writerId                            |
-//! |                 gapStart: high half, low half                 |
-//! |            gapList: base, number of bits, words               |
-//! ```
+//! `specs/Gap.antt` draws it.
 //!
 //! RTPS 2.5, 9.4.5 (Gap).
 
 ghost use Rattle.std.specs.Prelude.{◌≡◌, ◌++◌, OnOk, IfErr, IsTrue, ◌↔◌};
-ghost use Rattle.rtps_wire.specs.Gap.{IsGap, spelling_of_gap};
+ghost use Rattle.rtps_wire.specs.Gap.{IsGap, text_of_gap};
 ghost use Rattle.rtps_wire.specs.Sets.{IsSet};
 ghost use Rattle.rtps_wire.specs.SubmessageAt.{gap_at};
 
-use crate::field::{MAX_SN, order_of, put_u64, take_entity_id, take_sn};
+use crate::field::{MAX_SN, order_of, put_ids, put_u64, take_ids, take_sn};
 use crate::set_field::{put_set, take_set};
 use dds_base::{Code, EntityId, Sn};
 use rtps_sets::SnSet;
 
-/// The numbers from `gap_start` to the base of the list, without it, and the members of the list.
+/// Numbers that will not come: those from `gap_start`, which is among them, to the base of the list, which is not, and
+/// the members of the list. Either may be none.
 ///
 /// RTPS 2.5, 8.3 (Gap).
 #[derive(Clone, Copy, Debug)]
@@ -39,8 +34,7 @@ pub fn gap_of(flags: u8, body: &[u8]) -> Option<Gap>
     ensures { result ≡ gap_at flags body.now }
 {
     let order = order_of(flags);
-    let (reader_id, rest) = take_entity_id(body)?;
-    let (writer_id, rest) = take_entity_id(rest)?;
+    let (ids, rest) = take_ids(body)?;
     let (start, rest) = take_sn(order, rest)?;
     let Some((gap_list, _)) = take_set(order, rest) else {
         return None;
@@ -49,8 +43,8 @@ pub fn gap_of(flags: u8, body: &[u8]) -> Option<Gap>
         return None;
     }
     Some(Gap {
-        reader_id,
-        writer_id,
+        reader_id: ids.reader,
+        writer_id: ids.writer,
         gap_start: Sn::new(start),
         gap_list,
     })
@@ -59,14 +53,12 @@ pub fn gap_of(flags: u8, body: &[u8]) -> Option<Gap>
 /// Appends the body.
 pub fn put_gap(out: &mut Vec<u8>, g: &Gap) -> Result<(), Code>
     requires { IsSet g.now.gap_list }
-    ensures ok { OnOk result (out.new.items ≡ out.old.items ++ spelling_of_gap g.now) }
+    ensures ok { OnOk result (out.new.items ≡ out.old.items ++ text_of_gap g.now) }
     ensures memory { IfErr result (λ e. e ≡ Code.Memory) }
 {
-    out.extend_from_slice(&g.reader_id.0)?;
-    out.extend_from_slice(&g.writer_id.0)?;
+    put_ids(out, &g.reader_id, &g.writer_id)?;
     put_u64(out, g.gap_start.number())?;
-    put_set(out, &g.gap_list)?;
-    Ok(())
+    put_set(out, &g.gap_list)
 }
 
 /// Whether it has a valid form, its list aside.

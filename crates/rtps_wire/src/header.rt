@@ -1,11 +1,6 @@
 //! The header of a message.
 //!
-//! ```text
-//! 0...............8...............16..............24.............31
-//! |      'R'      |      'T'      |      'P'      |      'S'      |
-//! |   major: 2    |     minor     |           vendor id           |
-//! |             GUID prefix of the sender, 12 octets              |
-//! ```
+//! `specs/Messages.antt` draws it.
 //!
 //! RTPS 2.5, 9.4.4.
 
@@ -14,6 +9,7 @@ ghost use Rattle.std.specs.Option.{option_map};
 ghost use Rattle.rtps_wire.specs.HeaderAt.{header_at};
 
 use crate::field::take_prefix;
+use crate::names::MAJOR_VERSION;
 use dds_base::GuidPrefix;
 
 /// The longest message, in octets: no UDP datagram over IPv4 is longer.
@@ -28,7 +24,7 @@ pub fn take_header(bytes: &[u8]) -> Option<(GuidPrefix, &[u8])>
     let [r, t, p, s, major, _minor, _vendor, _product, rest @ ..] = bytes else {
         return None;
     };
-    if *r == b'R' && *t == b'T' && *p == b'P' && *s == b'S' && *major == 2 {
+    if *r == b'R' && *t == b'T' && *p == b'P' && *s == b'S' && *major == MAJOR_VERSION {
         return take_prefix(rest);
     }
     None

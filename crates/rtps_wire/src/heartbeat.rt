@@ -1,31 +1,18 @@
 //! HEARTBEAT: which numbers a writer still has.
 //!
-//! ```text
-//! 0...............8...............16..............24.............31
-//! |                           readerId                            |
-//! |                           writerId                            |
-//! |                  firstSN: high half, low half                 |
-//! |                  lastSN: high half, low half                  |
-//! |                             count                             |
-//! ```
+//! `specs/Heartbeat.antt` draws it.
 //!
 //! RTPS 2.5, 9.4.5 (Heartbeat).
 
 ghost use Rattle.std.specs.Prelude.{◌≡◌, ◌++◌, OnOk, IfErr, IsTrue, ◌↔◌};
-ghost use Rattle.dds_base.specs.declared.endianness.Endianness.TheVariants.{Little};
-ghost use Rattle.rtps_wire.specs.Heartbeat.{heartbeat_text, IsHeartbeat};
+ghost use Rattle.rtps_wire.specs.Heartbeat.{IsHeartbeat, text_of_heartbeat};
 ghost use Rattle.rtps_wire.specs.SubmessageAt.{heartbeat_at};
 
 use crate::field::{
-    MAX_SN, has_flag, order_of, put_count, put_u64, take_count, take_entity_id, take_sn,
+    MAX_SN, has_flag, order_of, put_count, put_ids, put_u64, take_count, take_ids, take_sn,
 };
+use crate::names::{FLAG_FINAL, FLAG_LIVELINESS};
 use dds_base::{Code, EntityId, Sn};
-
-/// The flag FinalFlag.
-const FINAL: u8 = 2;
-
-/// The flag LivelinessFlag.
-const LIVELINESS: u8 = 4;
 
 /// What a writer says of its changes: from `first_sn` to `last_sn` some are kept, and none below.
 ///
@@ -36,12 +23,13 @@ pub struct Heartbeat {
     pub writer_id: EntityId,
     /// From 1 to `last_sn` plus 1.
     pub first_sn: Sn,
+    /// At most 2^62.
     pub last_sn: Sn,
     /// Each new one has a greater count.
     pub count: i32,
-    /// No answer is asked for.
+    /// Where it is set the reader need not answer.
     pub final_flag: bool,
-    /// The writer is asserted.
+    /// Where it is set the writer is asserted.
     pub liveliness_flag: bool,
 }
 
@@ -51,8 +39,7 @@ pub fn heartbeat_of(flags: u8, body: &[u8]) -> Option<Heartbeat>
     ensures { result ≡ heartbeat_at flags body.now }
 {
     let order = order_of(flags);
-    let (reader_id, rest) = take_entity_id(body)?;
-    let (writer_id, rest) = take_entity_id(rest)?;
+    let (ids, rest) = take_ids(body)?;
     let (first, rest) = take_sn(order, rest)?;
     let (last, rest) = take_sn(order, rest)?;
     let (count, _) = take_count(order, rest)?;
@@ -60,27 +47,25 @@ pub fn heartbeat_of(flags: u8, body: &[u8]) -> Option<Heartbeat>
         return None;
     }
     Some(Heartbeat {
-        reader_id,
-        writer_id,
+        reader_id: ids.reader,
+        writer_id: ids.writer,
         first_sn: Sn::new(first),
         last_sn: Sn::new(last),
         count,
-        final_flag: has_flag(flags, FINAL),
-        liveliness_flag: has_flag(flags, LIVELINESS),
+        final_flag: has_flag(flags, FLAG_FINAL),
+        liveliness_flag: has_flag(flags, FLAG_LIVELINESS),
     })
 }
 
 /// Appends the body.
 pub fn put_heartbeat(out: &mut Vec<u8>, h: &Heartbeat) -> Result<(), Code>
-    ensures ok { OnOk result (out.new.items ≡ out.old.items ++ heartbeat_text Little h.now) }
+    ensures ok { OnOk result (out.new.items ≡ out.old.items ++ text_of_heartbeat h.now) }
     ensures memory { IfErr result (λ e. e ≡ Code.Memory) }
 {
-    out.extend_from_slice(&h.reader_id.0)?;
-    out.extend_from_slice(&h.writer_id.0)?;
+    put_ids(out, &h.reader_id, &h.writer_id)?;
     put_u64(out, h.first_sn.number())?;
     put_u64(out, h.last_sn.number())?;
-    put_count(out, h.count)?;
-    Ok(())
+    put_count(out, h.count)
 }
 
 /// Whether it has a valid form.

@@ -1,12 +1,6 @@
 //! INFO_DST and INFO_TS: whom what follows is for, and when it was said.
 //!
-//! ```text
-//! 0...............8...............16..............24.............31
-//! |            INFO_DST: the GUID prefix, 12 octets               |
-//!
-//! |                       INFO_TS: seconds                        |
-//! |             fraction, in units of 2^-32 second                |
-//! ```
+//! `specs/InfoDst.antt` and `specs/InfoTs.antt` draw them.
 //!
 //! RTPS 2.5, 9.4.5 (InfoDestination, InfoTimestamp).
 
@@ -14,10 +8,8 @@ ghost use Rattle.std.specs.Prelude.{◌≡◌};
 ghost use Rattle.rtps_wire.specs.SubmessageAt.{info_dst_at, info_ts_at};
 
 use crate::field::{has_flag, order_of, take_prefix};
+use crate::names::FLAG_INVALIDATE;
 use dds_base::{GuidPrefix, take_u32};
-
-/// The flag InvalidateFlag: what follows has no source timestamp.
-const INVALIDATE: u8 = 2;
 
 /// The prefix of an INFO_DST, where its body is long enough.
 #[tactic(auto, unfolding(crate::specs::SubmessageAt::info_dst_at))]
@@ -33,7 +25,7 @@ pub fn info_dst_of(body: &[u8]) -> Option<GuidPrefix>
 pub fn info_ts_of(flags: u8, body: &[u8]) -> Option<Option<u64>>
     ensures { result ≡ info_ts_at flags body.now }
 {
-    if has_flag(flags, INVALIDATE) {
+    if has_flag(flags, FLAG_INVALIDATE) {
         return Some(None);
     }
     let order = order_of(flags);

@@ -1,13 +1,14 @@
 //! Messages between peers, and their bytes.
 //!
 //! `read_message` gives the one message that bytes are, `write_message` the one written form of a message, and what
-//! is written is read as itself. The grammar stands in `specs/`, one file for each submessage, and in words in
-//! `docs/WIRE.md`. Not here: what a peer does at a submessage.
+//! is written is read as itself. `DataContent` is what a DATA says of a change. The grammar stands in `specs/`, one file
+//! for each submessage, and in words in `docs/WIRE.md`. Not here: what a peer does at a submessage.
 //!
 //! RTPS 2.5, 8.3 (messages) and 9.4 (their bytes).
 #![tactic(auto)]
 
 mod acknack;
+mod content;
 mod data;
 mod field;
 mod frame;
@@ -15,8 +16,11 @@ mod gap;
 mod header;
 mod heartbeat;
 mod info;
+pub mod laws;
 mod message;
+mod names;
 mod parameters;
+mod payload;
 mod read;
 mod set_field;
 mod submessage;
@@ -31,6 +35,4 @@ pub use heartbeat::Heartbeat;
 pub use message::{Message, Read};
 pub use read::read_message;
 pub use submessage::{Submessage, Submessages};
-pub use write::{
-    few_are_writable, is_writable, limits_are_of_the_grammar, spelling_is_read, write_message,
-};
+pub use write::{is_writable, write_message};

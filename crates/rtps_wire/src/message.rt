@@ -10,6 +10,7 @@ use dds_base::GuidPrefix;
 pub struct Message {
     /// The sender's.
     pub prefix: GuidPrefix,
+    /// In the order in which they stand.
     pub submessages: Submessages,
 }
 

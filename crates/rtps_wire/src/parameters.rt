@@ -1,29 +1,20 @@
 //! The inline parameters of a DATA.
 //!
-//! ```text
-//! 0...............8...............16..............24.............31
-//! |              id               |            length             |
-//! |            value: as many octets, a multiple of 4             |
-//! |                             ...                               |
-//! |       PID_SENTINEL 0x0001     |        not looked at          |
-//! ```
+//! `specs/Parameters.antt` draws them.
 //!
 //! RTPS 2.5, 9.4.2 (ParameterList) and 9.6 (key hash, status info).
 
-ghost use Rattle.std.specs.Prelude.{◌≡◌, ◌<◌, length, IfSome};
+ghost use Rattle.std.specs.Prelude.{◌≡◌, ◌<◌, ◌^◌, ◌++◌, length, IfSome, OnOk, IfErr};
 ghost use Rattle.std.specs.Option.{option_map};
+ghost use Rattle.dds_base.specs.declared.endianness.Endianness.TheVariants.{Little};
+ghost use Rattle.rtps_wire.specs.Parameters.{parameter_text};
 ghost use Rattle.rtps_wire.specs.ParametersAt.{parameter_at, noted_at, parameters_at};
 
-use dds_base::{Endianness, Key, take_key, take_octets, take_u16};
-
-/// Ends the parameters.
-const PID_SENTINEL: u16 = 0x0001;
-
-/// The key, in 16 octets.
-const PID_KEY_HASH: u16 = 0x0070;
-
-/// What is said of the instance, in the last of 4 octets.
-const PID_STATUS_INFO: u16 = 0x0071;
+use crate::field::put_u16;
+use crate::names::{
+    LEN_ALIGNED, LEN_KEY, LEN_STATUS_INFO, PID_KEY_HASH, PID_SENTINEL, PID_STATUS_INFO,
+};
+use dds_base::{Code, Endianness, Key, take_key, take_octets, take_u16};
 
 /// What the parameters of a DATA say.
 #[derive(Clone, Copy)]
@@ -52,7 +43,8 @@ struct Parameter<'a> {
 /// The parameter at the front, and the bytes after it.
 #[tactic(auto, unfolding(crate::specs::ParametersAt::parameter_at))]
 fn take_parameter(order: Endianness, bytes: &[u8]) -> Option<(Parameter<'_>, &[u8])>
-    ensures value { option_map (λ x. (x.0.id, x.0.value.now, x.1.now)) result ≡ parameter_at order bytes.now }
+    ensures value { option_map (λ x. (x.0.id, x.0.value.now, x.1.now)) result
+        ≡ parameter_at order bytes.now }
     ensures rest { IfSome result (λ x. length x.1.now < length bytes.now) }
 {
     let (id, rest) = take_u16(order, bytes)?;
@@ -67,11 +59,11 @@ fn take_parameter(order: Endianness, bytes: &[u8]) -> Option<(Parameter<'_>, &[u
 fn noted(found: Parameters, id: u16, value: &[u8]) -> Option<Parameters>
     ensures { result ≡ noted_at found id value.now }
 {
-    if value.len() % 4 != 0 {
+    if value.len() % LEN_ALIGNED != 0 {
         return None;
     }
     if id == PID_KEY_HASH {
-        if value.len() != 16 {
+        if value.len() != LEN_KEY {
             return None;
         }
         let (key, _) = take_key(value)?;
@@ -81,7 +73,7 @@ fn noted(found: Parameters, id: u16, value: &[u8]) -> Option<Parameters>
         });
     }
     if id == PID_STATUS_INFO {
-        if value.len() != 4 {
+        if value.len() != LEN_STATUS_INFO {
             return None;
         }
         return Some(Parameters {
@@ -107,4 +99,17 @@ pub fn take_parameters(order: Endianness, bytes: &[u8]) -> Option<(Parameters, &
         left = rest;
     }
     None
+}
+
+/// Appends a parameter, or the sentinel with an empty value.
+pub fn put_parameter(out: &mut Vec<u8>, id: u16, value: &[u8]) -> Result<(), Code>
+    requires { length value.now < 2 ^ 16 }
+    ensures ok { OnOk result (out.new.items
+        ≡ out.old.items ++ parameter_text Little (record { id = id; value = value.now })) }
+    ensures memory { IfErr result (λ e. e ≡ Code.Memory) }
+{
+    put_u16(out, id)?;
+    put_u16(out, value.len() as u16)?;
+    out.extend_from_slice(value)?;
+    Ok(())
 }

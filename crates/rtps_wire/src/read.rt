@@ -1,6 +1,6 @@
 //! Bytes to messages.
 
-ghost use Rattle.std.specs.Prelude.{◌≡◌, ◌+◌, ◌≤◌, ◌<◌, ℕ, List, length, IfOk, IfErr, IfSome, MatchResult, Some};
+ghost use Rattle.std.specs.Prelude.{◌≡◌, ◌≢◌, ◌+◌, ◌≤◌, ◌<◌, ℕ, List, length, IfOk, IfErr, IfSome, MatchResult, Some};
 ghost use Rattle.rtps_wire.specs.SubmessageAt.{known_at};
 ghost use Rattle.rtps_wire.specs.Submessages.{Reads};
 ghost use Rattle.rtps_wire.specs.Messages.{ReadsAll, ReadsMessage, HasFrame, HasSubmessage};
@@ -14,39 +14,48 @@ use crate::header::{MAX_MESSAGE, take_header};
 use crate::heartbeat::heartbeat_of;
 use crate::info::{info_dst_of, info_ts_of};
 use crate::message::{Message, Read};
-use crate::submessage::{
-    ACKNACK, DATA, GAP, HEARTBEAT, INFO_DST, INFO_TS, PAD, Submessage, Submessages,
-};
+use crate::names::{ID_ACKNACK, ID_DATA, ID_GAP, ID_HEARTBEAT, ID_INFO_DST, ID_INFO_TS, ID_PAD};
+use crate::submessage::{Submessage, Submessages};
 use dds_base::Code;
 use std::alloc::Global;
+
+/// The submessage of a known kind, where it is valid, but for a DATA: none of these holds memory.
+#[tactic(auto, unfolding(crate::specs::SubmessageAt::known_at))]
+fn known_but_data(id: u8, flags: u8, body: &[u8]) -> Option<Submessage>
+    requires { id ≢ ID_DATA }
+    ensures { result ≡ known_at id flags body.now }
+{
+    if id == ID_PAD {
+        return Some(Submessage::Pad);
+    }
+    if id == ID_INFO_DST {
+        return info_dst_of(body).map(Submessage::InfoDst);
+    }
+    if id == ID_INFO_TS {
+        return info_ts_of(flags, body).map(Submessage::InfoTs);
+    }
+    if id == ID_HEARTBEAT {
+        return heartbeat_of(flags, body).map(Submessage::Heartbeat);
+    }
+    if id == ID_ACKNACK {
+        return acknack_of(flags, body).map(Submessage::AckNack);
+    }
+    if id == ID_GAP {
+        return gap_of(flags, body).map(Submessage::Gap);
+    }
+    None
+}
 
 /// The submessage of a known kind, where it is valid.
 #[tactic(auto, unfolding(crate::specs::SubmessageAt::known_at))]
 fn known_of(alloc: Global, id: u8, flags: u8, body: &[u8]) -> Result<Option<Submessage>, Code>
     ensures { MatchResult result (λ s. s ≡ known_at id flags body.now) (λ e. e ≡ Code.Memory) }
 {
-    if id == PAD {
-        return Ok(Some(Submessage::Pad));
+    if id == ID_DATA {
+        let data = data_of(alloc, flags, body)?;
+        return Ok(data.map(Submessage::Data));
     }
-    if id == INFO_DST {
-        return Ok(info_dst_of(body).map(Submessage::InfoDst));
-    }
-    if id == INFO_TS {
-        return Ok(info_ts_of(flags, body).map(Submessage::InfoTs));
-    }
-    if id == HEARTBEAT {
-        return Ok(heartbeat_of(flags, body).map(Submessage::Heartbeat));
-    }
-    if id == DATA {
-        return Ok(data_of(alloc, flags, body)?.map(Submessage::Data));
-    }
-    if id == ACKNACK {
-        return Ok(acknack_of(flags, body).map(Submessage::AckNack));
-    }
-    if id == GAP {
-        return Ok(gap_of(flags, body).map(Submessage::Gap));
-    }
-    Ok(None)
+    Ok(known_but_data(id, flags, body))
 }
 
 /// The submessage of an id, flags and a body.
@@ -60,7 +69,8 @@ fn submessage_of(alloc: Global, id: u8, flags: u8, body: &[u8]) -> Result<Submes
 /// The submessages up to where reading ends, and what stands there.
 fn submessages_of(alloc: Global, bytes: &[u8]) -> Result<(Vec<Submessage>, &[u8]), Code>
     ensures { MatchResult result
-        (λ x. ReadsAll bytes.now x.0.items x.1.now × (length x.0.items + length x.1.now ≤ length bytes.now))
+        (λ x. ReadsAll bytes.now x.0.items x.1.now
+        × (length x.0.items + length x.1.now ≤ length bytes.now))
         (λ e. (e ≡ Code.Memory) × HasFrame bytes.now) }
 {
     let mut submessages = Vec::new(alloc);
@@ -85,7 +95,8 @@ fn submessages_of(alloc: Global, bytes: &[u8]) -> Result<(Vec<Submessage>, &[u8]
 /// RTPS 2.5, 8.3.4 and 9.4.
 pub fn read_message(alloc: Global, bytes: &[u8]) -> Result<Option<Read>, Code>
     // What is read is the message of these bytes, and reading ends there.
-    ensures found { IfOk result (λ read. IfSome read (λ r. ReadsMessage bytes.now r.message r.stop)) }
+    ensures found { IfOk result
+        (λ read. IfSome read (λ r. ReadsMessage bytes.now r.message r.stop)) }
     // The message of these bytes is read, and no other.
     ensures only { (m : Message) (stop : ℕ) → ReadsMessage bytes.now m stop
         → IfOk result (λ read. read ≡ Some (record { message = m; stop = stop })) }

@@ -1,11 +1,6 @@
 //! Sets of sequence numbers in bytes.
 //!
-//! ```text
-//! 0...............8...............16..............24.............31
-//! |                   base: high half, low half                   |
-//! |                 number of bits, at most 256                   |
-//! |       a word for each 32 bits begun, highest bit first        |
-//! ```
+//! `specs/Sets.antt` draws them.
 //!
 //! RTPS 2.5, 9.4.2 (SequenceNumberSet).
 
@@ -15,10 +10,11 @@ ghost use Rattle.std.specs.List.{flat_map};
 ghost use Rattle.std.specs.Int.{w32};
 ghost use Rattle.dds_base.specs.Fields.{number};
 ghost use Rattle.dds_base.specs.declared.endianness.Endianness.TheVariants.{Little};
-ghost use Rattle.rtps_wire.specs.Sets.{words_for, set_of, SetField, word_of, words_of, spelling_of_set, IsSet};
+ghost use Rattle.rtps_wire.specs.Sets.{words_for, set_of, SetField, word_of, words_of, text_of_set, IsSet};
 ghost use Rattle.rtps_wire.specs.SetAt.{words_at, set_field_at, set_at};
 
 use crate::field::{MAX_SN, put_u64, take_sn};
+use crate::names::{LEN_SET_HEAD, LEN_WORD};
 use arrayvec::ArrayVec;
 use dds_base::{Code, Endianness, Sn, take_u32};
 use rtps_sets::{MAX_BITS, SnSet};
@@ -89,8 +85,8 @@ fn word_from(set: &SnSet, place: usize) -> u32
 fn put_words(out: &mut Vec<u8>, set: &SnSet, count: usize) -> Result<(), Code>
     requires base { set.now.base ≤ 2 ^ 62 }
     requires count { count ≤ 8 }
-    ensures ok { OnOk result
-        (out.new.items ≡ out.old.items ++ flat_map (number Little w32) (words_of count set.now.members)) }
+    ensures ok { OnOk result (out.new.items
+        ≡ out.old.items ++ flat_map (number Little w32) (words_of count set.now.members)) }
     ensures memory { IfErr result (λ e. e ≡ Code.Memory) }
 {
     for j in 0..count {
@@ -102,7 +98,7 @@ fn put_words(out: &mut Vec<u8>, set: &SnSet, count: usize) -> Result<(), Code>
 /// Appends the written form of a set: the least number of bits, those past it zero.
 pub fn put_set(out: &mut Vec<u8>, set: &SnSet) -> Result<(), Code>
     requires { IsSet set.now }
-    ensures ok { OnOk result (out.new.items ≡ out.old.items ++ spelling_of_set set.now) }
+    ensures ok { OnOk result (out.new.items ≡ out.old.items ++ text_of_set set.now) }
     ensures memory { IfErr result (λ e. e ≡ Code.Memory) }
 {
     let bits = set.bits();
@@ -122,8 +118,8 @@ pub fn is_set(set: &SnSet) -> bool
 
 /// How many octets a set takes.
 pub fn set_len(set: &SnSet) -> usize
-    ensures len { result ≡ length (spelling_of_set set.now) }
+    ensures len { result ≡ length (text_of_set set.now) }
     ensures small { result ≤ 44 }
 {
-    12 + 4 * ((set.bits() + 31) / 32)
+    LEN_SET_HEAD + LEN_WORD * ((set.bits() + 31) / 32)
 }

@@ -9,20 +9,6 @@ use crate::heartbeat::Heartbeat;
 use dds_base::GuidPrefix;
 use std::marker::Model;
 
-pub const PAD: u8 = 0x01;
-
-pub const ACKNACK: u8 = 0x06;
-
-pub const HEARTBEAT: u8 = 0x07;
-
-pub const GAP: u8 = 0x08;
-
-pub const INFO_TS: u8 = 0x09;
-
-pub const INFO_DST: u8 = 0x0e;
-
-pub const DATA: u8 = 0x15;
-
 /// One part of a message.
 ///
 /// RTPS 2.5, 8.3.4 and 9.4.5.

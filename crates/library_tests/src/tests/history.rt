@@ -5,7 +5,7 @@ use dds_base::{Change, ChangeKind, HistoryQos, Key, Moment, Octets, Sn};
 use dds_history::History;
 use std::alloc::Global;
 
-/// `open` begins anew, with a depth or `all`, and with the most that may be kept or `any`: the number of the last change, which `last`
+/// `open` begins anew, for one matched reader, with a depth or `all`, and with the most that may be kept or `any`: the number of the last change, which `last`
 /// tells too. `append` and `refusal` have the key and the value of a write. `get` has a number: the value of that change.
 const HISTORIES: &str = "\
 # Under KEEP_ALL every change is kept.
@@ -42,7 +42,7 @@ fn open(alloc: Global, words: Words<'_>) -> History {
         Ok(depth) => HistoryQos::KeepLast(depth),
         Err(_) => HistoryQos::KeepAll,
     };
-    History::open(alloc, policy, words.second.parse().ok())
+    History::open(alloc, policy, words.second.parse().ok(), 1)
 }
 
 fn write_of(alloc: Global, words: Words<'_>) -> Change {
@@ -98,6 +98,6 @@ impl Subject for History {
 
 #[test]
 fn histories_answer(rt: HostRuntime) {
-    let mut history = History::open(rt.alloc(), HistoryQos::KeepAll, None);
+    let mut history = History::open(rt.alloc(), HistoryQos::KeepAll, None, 1);
     expect_rows(&rt, rt.alloc(), &mut history, HISTORIES);
 }

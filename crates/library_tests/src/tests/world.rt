@@ -1,4 +1,4 @@
-//! Two peers and the network between them.
+//! Peers and the network between them.
 
 mod scripts;
 

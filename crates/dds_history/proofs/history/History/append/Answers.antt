@@ -12,8 +12,9 @@ pub returns-clause-ok : goal.returns-clause-ok
 returns-clause-ok c = λ w s.
     let now : Held = c.args.self.now in
     let accepted : append_refusal w c.args.change ≡ None = sym (c.cause.ensures.refusal w c.args.change s refl) ∙ c.in_default.is in
-    let with_one : Held → Held = λ v. record { policy = v.policy; max_samples = v.max_samples; entries = with_change v.policy v.entries c.args.change } in
-    let after : Held = record { policy = c.self.inside.policy; max_samples = c.self.inside.max_samples; entries = c.add.new.entries.items } in
+    let with_one : Held → Held = λ v. record v { entries = with_change v.policy v.entries c.args.change } in
+    let after : Held =
+    record { policy = c.self.inside.policy; max_samples = c.self.inside.max_samples; readers = c.self.inside.readers; entries = c.add.new.entries.items } in
     let added : with_one now ≡ after =
     ap with_one (sym c.self.view_is) ∙ ap (λ (es : List HeldChange). record after { entries = es }) (sym c.in_ok-add.ensures.ok) in
     let stands : StandsFor after (appended w c.args.change) = stands_as (with_one now) after (appended w c.args.change) added (stands-more now w c.args.change s) in

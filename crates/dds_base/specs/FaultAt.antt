@@ -1,0 +1,87 @@
+-- The search for the first rule that a configuration breaks: what the code does, on lists. Nothing here has to be believed,
+-- since `Config::fault` says what it finds by `Checked` and `Faults` alone.
+use Rattle.std.specs.Prelude.{ℕ, ◌+◌, ◌==◌, ◌||◌, Bool, not, List, [], ◌∷◌, length, nat_lt, Option, Some, None, if◌then◌else◌}
+use Rattle.std.specs.List.{list_any}
+use Rattle.dds_base.specs.declared.config.PeerConfig.{PeerConfig}
+use Rattle.dds_base.specs.declared.config.WriterConfig.{WriterConfig}
+use Rattle.dds_base.specs.declared.config.ReaderConfig.{ReaderConfig}
+use Rattle.dds_base.specs.declared.config_rules.Pass.{Pass}
+use Rattle.dds_base.specs.declared.config_rules.Pass.TheVariants.{Parameters, Policies}
+use Rattle.dds_base.specs.declared.config_fault.ConfigRule.{ConfigRule}
+use Rattle.dds_base.specs.declared.config_fault.ConfigRule.TheVariants.{PeerCount, WriterCount, ReaderCount, KnownPrefix, OwnPrefix, OwnEntity, EntityKind, Depth, Maximum, Lease, DepthWithinMaximum, SameOwnership, OfferedLease}
+use Rattle.dds_base.specs.declared.config_fault.ConfigPlace.{ConfigPlace}
+use Rattle.dds_base.specs.declared.config_fault.ConfigPlace.TheVariants.{Whole, Peer, Writer, Reader}
+use Rattle.dds_base.specs.declared.config_fault.ConfigFault.{ConfigFault}
+use Rattle.dds_base.specs.Matched.{matched_writers_of}
+use Rattle.dds_base.specs.Checked.{same_prefix, unknown_prefix, has_kind, prefix_count, entity_count, has_no_depth, is_maximum, is_bad_lease, exceeds_limit, differ, is_longer}
+
+-- the first of these rules that is broken
+abbrev pub first_broken : List (ConfigRule × Bool) → Option ConfigRule
+first_broken [] = None
+first_broken (t ∷ ts) = if t.1 then Some t.0 else first_broken ts
+
+-- the rules of a writer, and whether it breaks them
+abbrev pub writer_rules : Pass → PeerConfig → WriterConfig → List (ConfigRule × Bool)
+writer_rules Parameters p w =
+    (OwnEntity, nat_lt 1 (entity_count p w.entity)) ∷ (EntityKind, not (has_kind 2 w.entity)) ∷ (Depth, has_no_depth w.history)
+    ∷ (Maximum, not (is_maximum w.max_samples)) ∷ (Lease, is_bad_lease w.lease) ∷ []
+writer_rules Policies p w = (DepthWithinMaximum, exceeds_limit w.history w.max_samples) ∷ []
+
+-- the rules of a reader
+abbrev pub reader_rules : Pass → List PeerConfig → PeerConfig → ReaderConfig → List (ConfigRule × Bool)
+reader_rules Parameters peers p r =
+    (OwnEntity, nat_lt 1 (entity_count p r.entity)) ∷ (EntityKind, not (has_kind 7 r.entity)) ∷ (Depth, has_no_depth r.history)
+    ∷ (Maximum, not (is_maximum r.max_samples) || not (is_maximum r.max_instances)) ∷ (Lease, is_bad_lease r.lease) ∷ []
+reader_rules Policies peers p r =
+    (DepthWithinMaximum, exceeds_limit r.history r.max_samples)
+    ∷ (SameOwnership, list_any (λ (w : WriterConfig). differ w.ownership r.ownership) (matched_writers_of peers r))
+    ∷ (OfferedLease, list_any (λ (w : WriterConfig). is_longer w.lease r.lease) (matched_writers_of peers r)) ∷ []
+
+-- the rules of a peer
+abbrev pub peer_rules : Pass → List PeerConfig → PeerConfig → List (ConfigRule × Bool)
+peer_rules Parameters peers p =
+    (KnownPrefix, same_prefix p.prefix unknown_prefix) ∷ (OwnPrefix, nat_lt 1 (prefix_count peers p.prefix))
+    ∷ (WriterCount, nat_lt 16 (length p.writers)) ∷ (ReaderCount, nat_lt 16 (length p.readers)) ∷ []
+peer_rules Policies peers p = []
+
+-- the rules of the whole
+abbrev pub whole_rules : List PeerConfig → List (ConfigRule × Bool)
+whole_rules peers = (PeerCount, (length peers == 0) || nat_lt 16 (length peers)) ∷ []
+
+-- the fault at a place, if a rule is broken there
+abbrev pub fault_at : ConfigPlace → Option ConfigRule → Option ConfigFault
+fault_at place None = None
+fault_at place (Some rule) = Some (record { place = place; rule = rule })
+
+abbrev pub or_else : Option ConfigFault → Option ConfigFault → Option ConfigFault
+or_else None later = later
+or_else (Some fault) later = Some fault
+
+-- the first fault that is told of these elements, which count on from this number
+abbrev pub first_at : {X : Type 0} → (ℕ → X → Option ConfigFault) → ℕ → List X → Option ConfigFault
+first_at tell number [] = None
+first_at tell number (x ∷ xs) = or_else (tell number x) (first_at tell (number + 1) xs)
+
+abbrev pub writer_fault : Pass → ℕ → PeerConfig → ℕ → WriterConfig → Option ConfigFault
+writer_fault pass peer p writer w = fault_at (Writer peer writer) (first_broken (writer_rules pass p w))
+
+abbrev pub reader_fault : Pass → List PeerConfig → ℕ → PeerConfig → ℕ → ReaderConfig → Option ConfigFault
+reader_fault pass peers peer p reader r = fault_at (Reader peer reader) (first_broken (reader_rules pass peers p r))
+
+abbrev pub writers_fault : Pass → ℕ → PeerConfig → Option ConfigFault
+writers_fault pass peer p = first_at (writer_fault pass peer p) 1 p.writers
+
+abbrev pub readers_fault : Pass → List PeerConfig → ℕ → PeerConfig → Option ConfigFault
+readers_fault pass peers peer p = first_at (reader_fault pass peers peer p) 1 p.readers
+
+abbrev pub peer_fault : Pass → List PeerConfig → ℕ → PeerConfig → Option ConfigFault
+peer_fault pass peers peer p = or_else (fault_at (Peer peer) (first_broken (peer_rules pass peers p)))
+    (or_else (writers_fault pass peer p) (readers_fault pass peers peer p))
+
+-- the first fault of all peers in one pass
+abbrev pub pass_fault : Pass → List PeerConfig → Option ConfigFault
+pass_fault pass peers = first_at (peer_fault pass peers) 1 peers
+
+-- the fault of a configuration
+abbrev pub config_fault : List PeerConfig → Option ConfigFault
+config_fault peers = or_else (fault_at Whole (first_broken (whole_rules peers))) (or_else (pass_fault Parameters peers) (pass_fault Policies peers))

@@ -1,0 +1,289 @@
+-- What a call of one of the peer's writers does.
+use Rattle.std.proofs.Common.{◌≡◌, ◌⊎◌, ℕ, zero, suc, ◌+◌, ◌^◌, ◌<◌, ◌≤◌, Bool, true, false, not, ◌&&◌, ◌||◌, List, [], ◌∷◌, Option, Some, None, length, slice_get, get_or, map, refl, ap, sym, ◌∙◌, subst, arith, inl, inr, ⊎_elim}
+use Rattle.std.specs.Prelude.{nat_lt, nat_le, if◌then◌else◌}
+use Rattle.std.proofs.lemmas.Bool.Decides.{nat_tests}
+use Rattle.std.proofs.lemmas.List.{length-map}
+use Rattle.dds_base.specs.declared.change.Change.{Change}
+use Rattle.dds_base.specs.declared.change.ChangeKind.{ChangeKind}
+use Rattle.dds_base.specs.declared.change.ChangeKind.TheVariants as kind
+use Rattle.dds_base.specs.declared.code.Code.{Code}
+use Rattle.dds_base.specs.declared.code.Code.TheVariants.{BadParameter, PreconditionNotMet, Memory}
+use Rattle.dds_base.specs.declared.config.Config.{Config}
+use Rattle.dds_base.specs.declared.key.Key.{Key}
+use Rattle.dds_base.specs.Refusal.{Refuses}
+use Rattle.dds_base.specs.Written.{Registered, Changed, is_key_registered}
+use Rattle.dds_model.specs.declared.call.Call.{Call}
+use Rattle.dds_model.specs.declared.call.Call.TheVariants as call
+use Rattle.dds_model.specs.declared.event.Event.{Event}
+use Rattle.dds_model.specs.declared.event.Event.TheVariants as event
+use Rattle.dds_model.specs.declared.event.Output.{Output}
+use Rattle.dds_model.specs.declared.reply.Reply.{Reply}
+use Rattle.dds_model.specs.declared.reply.Reply.TheVariants.{Done, Refused}
+use Rattle.dds_model.specs.Calls.{Effect, nothing, writes, effect, effect_of, IsDoneUnless, Answers, CallStep, has_number, register_refusal, write_refusal, dispose_refusal, unregister_refusal, change_refusal, change_made, unregister_kind, tick_refusal, after_tick, ticked}
+use Rattle.dds_model.specs.Machine.{no_filters}
+use Rattle.dds_model.specs.Part.{Part, Dds, Writer, no_writer, own_writer}
+use Rattle.dds_model.specs.Peer.{Peer, PeerStep}
+use Rattle.dds_core.specs.Kept.{WriterKept, CoreKept}
+use Rattle.dds_core.specs.Making.{IsMade, IsNotMade, entered}
+use Rattle.dds_core.specs.Sending.{SendsFor, SendsNothing}
+use Rattle.dds_core.specs.Standing.{WriterStands, StandsFor, Enters}
+use Rattle.dds_core.proofs.Ends.{with_writer, entered_at, own_writer_stepped}
+use Rattle.dds_core.proofs.Taking.{silent}
+
+pub silent_sends : (reply : Reply) → SendsNothing (silent reply)
+silent_sends reply = record { packets = refl; unsent = refl }
+
+-- what follows an event, for a state that stands
+abbrev pub Follows : CoreKept → Config → Peer → Event → Output → Type 0
+Follows kept config peer ev output = (after : Peer) × PeerStep config no_filters peer ev output after × StandsFor kept config after
+
+-- the same of another name for the output
+pub follows_as : (kept : CoreKept) (config : Config) (peer : Peer) (ev : Event) (o p : Output) → p ≡ o → Follows kept config peer ev o → Follows kept config peer ev p
+follows_as kept config peer ev o p same h = subst (λ (x : Output). Follows kept config peer ev x) (sym same) h
+
+-- what is refused enters nothing
+pub refused_nothing : (part : Part) (c : Call) (x : Code) → effect_of part c (Refused x) ≡ nothing
+refused_nothing part (call.Register w key) x = refl
+refused_nothing part (call.Write w key value) x = refl
+refused_nothing part (call.Dispose w key) x = refl
+refused_nothing part (call.Unregister w key) x = refl
+refused_nothing part (call.Take r max masks) x = refl
+
+-- a call that is refused changes nothing
+pub refused_call : (kept : CoreKept) (config : Config) (peer : Peer) → StandsFor kept config peer → (c : Call) (code : Code) → Answers no_filters peer.part c (Refused code) peer.part.dds
+    → Follows kept config peer (event.Call c) (silent (Refused code))
+refused_call kept config peer s c code is = (
+  peer,
+  record {
+    same_number = refl;
+    step = (record { answers = is; rtps = ap (λ (e : Effect). effect peer.part.rtps e) (sym (refused_nothing peer.part c code)) }, refl);
+    sent = λ p x m h. absurd (omega (arith, m.1));
+  },
+  s,
+)
+
+-- numbers of writers and readers
+
+pub no_such : {X : Type 0} (xs : List X) (n count : ℕ) → length xs ≡ count → (nat_lt 0 n && nat_le n count) ≡ false → has_number xs n ≡ false
+no_such xs n count same none = ap (λ (m : ℕ). nat_lt 0 n && nat_le n m) same ∙ none
+
+pub there_is : {X : Type 0} (xs : List X) (i : ℕ) → i < length xs → has_number xs (suc i) ≡ true
+there_is xs i lt = grind (arith, nat_tests)
+
+bad_first : (b : Bool) (rest : Option Code) → b ≡ false → Refuses (if not b then Some BadParameter else rest) BadParameter
+bad_first true rest h = absurd cc
+bad_first false rest h = refl
+
+bad_or : (a b : Bool) (rest : Option Code) → a ≡ false → Refuses (if not a || b then Some BadParameter else rest) BadParameter
+bad_or true b rest h = absurd cc
+bad_or false b rest h = refl
+
+-- calls at a writer that the peer does not have
+
+pub no_register : (part : Part) (w : ℕ) (key : Key) → has_number part.rtps.writers w ≡ false → Answers no_filters part (call.Register w key) (Refused BadParameter) part.dds
+no_register part w key none = (bad_first (has_number part.rtps.writers w) None none, refl)
+
+pub no_write : (part : Part) (w : ℕ) (key : Key) (value : List ℕ) → has_number part.rtps.writers w ≡ false → Answers no_filters part (call.Write w key value) (Refused BadParameter) part.dds
+no_write part w key value none = (bad_or (has_number part.rtps.writers w) (nat_lt 1024 (length value)) _ none, refl)
+
+pub no_dispose : (part : Part) (w : ℕ) (key : Key) → has_number part.rtps.writers w ≡ false → Answers no_filters part (call.Dispose w key) (Refused BadParameter) part.dds
+no_dispose part w key none = (bad_first (has_number part.rtps.writers w) _ none, refl)
+
+pub no_unregister : (part : Part) (w : ℕ) (key : Key) → has_number part.rtps.writers w ≡ false → Answers no_filters part (call.Unregister w key) (Refused BadParameter) part.dds
+no_unregister part w key none = (bad_first (has_number part.rtps.writers w) _ none, refl)
+
+-- a value that is too long
+pub long_write : (part : Part) (w : ℕ) (key : Key) (value : List ℕ) → 1024 < length value → Answers no_filters part (call.Write w key value) (Refused BadParameter) part.dds
+long_write part w key value long = (bad_second (not (has_number part.rtps.writers w)) (nat_lt 1024 (length value)) _ (grind (arith, nat_tests)), refl)
+  where
+    bad_second : (a b : Bool) (rest : Option Code) → b ≡ true → Refuses (if a || b then Some BadParameter else rest) BadParameter
+    bad_second true b rest h = refl
+    bad_second false true rest h = refl
+    bad_second false false rest h = absurd cc
+
+-- an instance that is not registered
+pub unregistered : (part : Part) (w : ℕ) (key : Key) → has_number part.rtps.writers w ≡ true → is_key_registered key (own_writer part w).written ≡ false
+    → Answers no_filters part (call.Unregister w key) (Refused PreconditionNotMet) part.dds
+unregistered part w key known none = (unknown_there (has_number part.rtps.writers w) (is_key_registered key (own_writer part w).written) _ known none, refl)
+  where
+    unknown_there : (a b : Bool) (rest : Option Code) → a ≡ true → b ≡ false → Refuses (if not a then Some BadParameter else (if not b then Some PreconditionNotMet else rest)) PreconditionNotMet
+    unknown_there true false rest h k = refl
+    unknown_there true true rest h k = absurd cc
+    unknown_there false b rest h k = absurd cc
+
+-- a register
+
+pub good_register : (part : Part) (w : ℕ) → has_number part.rtps.writers w ≡ true → register_refusal part w ≡ None
+good_register part w known = ap (λ (b : Bool). if not b then Some BadParameter else None) known
+
+pub register_memory : (part : Part) (w : ℕ) (key : Key) → has_number part.rtps.writers w ≡ true → Answers no_filters part (call.Register w key) (Refused Memory) part.dds
+register_memory part w key known = (subst (λ (o : Option Code). Refuses o Memory) (sym (good_register part w known)) refl, refl)
+
+pub registers : (kept : CoreKept) (i : ℕ) (k k' : WriterKept) (key : Key) (config : Config) (peer : Peer) → StandsFor kept config peer → slice_get kept.writers i ≡ Some k → i < length kept.writers → Enters k (Registered key) k'
+    → Follows (with_writer kept i k') config peer (event.Call (call.Register (suc i) key)) (silent Done)
+registers kept i k k' key config peer s at lt enters =
+    let count = s.writers.count in
+    let known : has_number peer.part.rtps.writers (suc i) ≡ true = there_is peer.part.rtps.writers i (omega (arith, lt, count)) in (
+      entered_at peer (suc i) (Registered key),
+      record { same_number = refl; step = (record { answers = (good_register peer.part (suc i) known, refl); rtps = refl }, refl); sent = λ p x m h. absurd (omega (arith, m.1)) },
+      own_writer_stepped kept i k k' (Registered key) config peer s at enters,
+    )
+
+-- the answer to a call is that to a change of the writer, which the call makes
+
+pub record MakesChange (part : Part) (c : Call) (writer : ℕ) (change : Change) : Type 0 where
+  pub answers : (reply : Reply) (dds : Dds) → IsDoneUnless (change_refusal part writer change) reply part.dds part.dds dds → Answers no_filters part c reply dds
+  pub enters : effect_of part c Done ≡ writes writer (Changed change)
+
+done_as : (a b : Option Code) (part : Part) (reply : Reply) (dds : Dds) → a ≡ b → IsDoneUnless b reply part.dds part.dds dds → IsDoneUnless a reply part.dds part.dds dds
+done_as a b part reply dds e h = subst (λ (o : Option Code). IsDoneUnless o reply part.dds part.dds dds) (sym e) h
+
+first_true : (b : Bool) (rest : Option Code) → b ≡ true → (if not b then Some BadParameter else rest) ≡ rest
+first_true true rest h = refl
+first_true false rest h = absurd cc
+
+both_good : (a b : Bool) (rest : Option Code) → a ≡ true → b ≡ false → (if not a || b then Some BadParameter else rest) ≡ rest
+both_good true true rest h k = absurd cc
+both_good true false rest h k = refl
+both_good false b rest h k = absurd cc
+
+pub write_makes : (part : Part) (w : ℕ) (key : Key) (value : List ℕ) → has_number part.rtps.writers w ≡ true → length value ≤ 1024 → MakesChange part (call.Write w key value) w (change_made part kind.Write key value)
+write_makes part w key value known short = record {
+  answers = λ reply dds h. done_as (write_refusal part w key value) (change_refusal part w (change_made part kind.Write key value)) part reply dds
+      (both_good (has_number part.rtps.writers w) (nat_lt 1024 (length value)) _ known (grind (arith, nat_tests))) h;
+  enters = refl;
+}
+
+pub dispose_makes : (part : Part) (w : ℕ) (key : Key) → has_number part.rtps.writers w ≡ true → MakesChange part (call.Dispose w key) w (change_made part kind.Dispose key [])
+dispose_makes part w key known = record {
+  answers = λ reply dds h. done_as (dispose_refusal part w key) (change_refusal part w (change_made part kind.Dispose key [])) part reply dds (first_true (has_number part.rtps.writers w) _ known) h;
+  enters = refl;
+}
+
+pub unregister_makes : (part : Part) (w : ℕ) (key : Key) → has_number part.rtps.writers w ≡ true → is_key_registered key (own_writer part w).written ≡ true
+    → MakesChange part (call.Unregister w key) w (change_made part (unregister_kind (own_writer part w).autodispose) key [])
+unregister_makes part w key known there = record {
+  answers = λ reply dds h. done_as (unregister_refusal part w key) (change_refusal part w (change_made part (unregister_kind (own_writer part w).autodispose) key [])) part reply dds
+      (first_true (has_number part.rtps.writers w) _ known ∙ first_there (is_key_registered key (own_writer part w).written) _ there) h;
+  enters = refl;
+}
+  where
+    first_there : (b : Bool) (rest : Option Code) → b ≡ true → (if not b then Some PreconditionNotMet else rest) ≡ rest
+    first_there true rest h = refl
+    first_there false rest h = absurd cc
+
+-- a call that makes a change
+
+pub made_steps : (kept new : CoreKept) (config : Config) (peer : Peer) → StandsFor kept config peer → (c : Call) (w : ℕ) (change : Change) (output : Output) → MakesChange peer.part c w change
+    → IsMade config peer w change output new ⊎ IsNotMade config peer w change output new → Follows new config peer (event.Call c) output
+made_steps kept new config peer s c w change output makes (inr not_made) =
+    subst (λ (o : Output). Follows new config peer (event.Call c) o) (sym not_made.output_is)
+    (refused_call new config peer not_made.stands c not_made.code (makes.answers (Refused not_made.code) peer.part.dds (not_made.cause, refl)))
+made_steps kept new config peer s c w change output makes (inl made) =
+    let after : Peer = record peer { part = entered peer.part w change } in
+    let step : CallStep no_filters peer.part c Done after.part = record { answers = makes.answers Done peer.part.dds (made.accepted, refl); rtps = ap (λ (e : Effect). effect peer.part.rtps e) (sym makes.enters) } in (
+      after,
+      record { same_number = refl; step = (subst (λ (r : Reply). CallStep no_filters peer.part c r after.part) (sym made.reply) step, refl); sent = made.is_true },
+      made.stands,
+    )
+
+pub made_sends : (new : CoreKept) (config : Config) (peer : Peer) (c : Call) (w : ℕ) (change : Change) (output : Output) → MakesChange peer.part c w change → IsMade config peer w change output new ⊎ IsNotMade config peer w change output new
+    → SendsFor config peer (effect_of peer.part c output.reply) output
+made_sends new config peer c w change output makes (inr not_made) =
+    subst (λ (o : Output). SendsFor config peer (effect_of peer.part c o.reply) o) (sym not_made.output_is)
+    (subst (λ (e : Effect). SendsFor config peer e (silent (Refused not_made.code))) (sym (refused_nothing peer.part c not_made.code)) (silent_sends (Refused not_made.code)))
+made_sends new config peer c w change output makes (inl made) =
+    subst (λ (r : Reply). SendsFor config peer (effect_of peer.part c r) output) (sym made.reply) (subst (λ (e : Effect). SendsFor config peer e output) (sym makes.enters) made.sends)
+
+-- what is refused sends nothing
+pub refused_sends : (config : Config) (peer : Peer) (c : Call) (code : Code) → SendsFor config peer (effect_of peer.part c (Refused code)) (silent (Refused code))
+refused_sends config peer c code = subst (λ (e : Effect). SendsFor config peer e (silent (Refused code))) (sym (refused_nothing peer.part c code)) (silent_sends (Refused code))
+
+-- a tick
+
+pub ticks : (kept : CoreKept) (config : Config) (peer : Peer) → StandsFor kept config peer → (now : ℕ) → kept.moment ≤ now → now < 2 ^ 63 → Follows (record kept { moment = now }) config peer (event.Tick now) (silent Done)
+ticks kept config peer s now on early =
+    let moment = s.moment in
+    let good : (nat_lt now peer.part.dds.moment || nat_le (2 ^ 63) now) ≡ false = neither (nat_lt now peer.part.dds.moment) (nat_le (2 ^ 63) now) (grind (arith, nat_tests)) (grind (arith, nat_tests)) in
+    let accepted : tick_refusal peer.part now ≡ None = ap (λ (b : Bool). if b then Some BadParameter else None) good in (
+      record peer { part = after_tick peer.part now },
+      record { same_number = refl; step = ((accepted, refl), refl); sent = λ p x m h. absurd (omega (arith, m.1)) },
+      record {
+        is_peer = s.is_peer;
+        moment = refl;
+        early = early;
+        writers = record {
+          count = length-map peer.part.rtps.writers (ticked now) ∙ s.writers.count;
+          each = λ i k at. still kept.writers peer.part.rtps.writers i k s.writers.count s.writers.each at;
+        };
+        readers = s.readers;
+      },
+    )
+  where
+    neither : (a b : Bool) → a ≡ false → b ≡ false → (a || b) ≡ false
+    neither false b h k = k
+    neither true b h k = absurd cc
+
+    one : (k : WriterKept) (w : Writer) → WriterStands k w → WriterStands k (ticked now w)
+    one k w stands = record { autodispose = stands.autodispose; readers = stands.readers; registered = stands.registered; history = stands.history }
+
+    still : (ks : List WriterKept) (ws : List Writer) (i : ℕ) (k : WriterKept) → length ws ≡ length ks → ((j : ℕ) (x : WriterKept) → slice_get ks j ≡ Some x → WriterStands x (get_or ws j no_writer)) → slice_get ks i ≡ Some k
+        → WriterStands k (get_or (map (ticked now) ws) i no_writer)
+    still [] ws i k count each at = absurd cc
+    still (x ∷ xs) [] i k count each at = absurd (omega (arith, count))
+    still (x ∷ xs) (w ∷ ws) zero k count each at = one k w (each zero k at)
+    still (x ∷ xs) (w ∷ ws) (suc i) k count each at = still xs ws i k (omega (arith, count)) (λ j y there. each (suc j) y there) at
+
+pub refused_tick : (kept : CoreKept) (config : Config) (peer : Peer) → StandsFor kept config peer → (now : ℕ) → (now < kept.moment) ⊎ (2 ^ 63 ≤ now) → Follows kept config peer (event.Tick now) (silent (Refused BadParameter))
+refused_tick kept config peer s now bad =
+    let moment = s.moment in
+    let is_bad : (nat_lt now peer.part.dds.moment || nat_le (2 ^ 63) now) ≡ true =
+    ⊎_elim (λ back. first (nat_lt now peer.part.dds.moment) (nat_le (2 ^ 63) now) (grind (arith, nat_tests))) (λ late. second (nat_lt now peer.part.dds.moment) (nat_le (2 ^ 63) now) (grind (arith, nat_tests))) bad in
+    let is : tick_refusal peer.part now ≡ Some BadParameter = ap (λ (b : Bool). if b then Some BadParameter else None) is_bad in
+    (peer, record { same_number = refl; step = ((subst (λ (o : Option Code). Refuses o BadParameter) (sym is) refl, refl), refl); sent = λ p x m h. absurd (omega (arith, m.1)) }, s)
+  where
+    first : (a b : Bool) → a ≡ true → (a || b) ≡ true
+    first true b h = refl
+    first false b h = absurd cc
+
+    second : (a b : Bool) → b ≡ true → (a || b) ≡ true
+    second true b h = refl
+    second false b h = h
+
+-- the calls, by the index of their writer
+
+number_is : (writer i : ℕ) → writer ≡ i + 1 → suc i ≡ writer
+number_is writer i is = let index : i + 1 ≡ suc i = omega arith in sym (is ∙ index)
+
+known_writer : (kept : CoreKept) (config : Config) (peer : Peer) → StandsFor kept config peer → (writer i : ℕ) → writer ≡ i + 1 → i < length kept.writers → has_number peer.part.rtps.writers writer ≡ true
+known_writer kept config peer s writer i is lt =
+    let count = s.writers.count in
+    subst (λ (n : ℕ). has_number peer.part.rtps.writers n ≡ true) (number_is writer i is) (there_is peer.part.rtps.writers i (omega (arith, lt, count)))
+
+pub register_at : (kept : CoreKept) (writer i : ℕ) (k k' : WriterKept) (key : Key) (config : Config) (peer : Peer) → StandsFor kept config peer → writer ≡ i + 1 → slice_get kept.writers i ≡ Some k → i < length kept.writers → Enters k (Registered key) k'
+    → Follows (with_writer kept i k') config peer (event.Call (call.Register writer key)) (silent Done)
+register_at kept writer i k k' key config peer s is at lt enters =
+    subst (λ (n : ℕ). Follows (with_writer kept i k') config peer (event.Call (call.Register n key)) (silent Done)) (number_is writer i is) (registers kept i k k' key config peer s at lt enters)
+
+-- what a call of a writer makes, where it is one of the peer's
+pub write_at : (kept : CoreKept) (writer i : ℕ) (key : Key) (value : List ℕ) (config : Config) (peer : Peer) → StandsFor kept config peer → writer ≡ i + 1 → i < length kept.writers → length value ≤ 1024
+    → MakesChange peer.part (call.Write writer key value) (i + 1) (change_made peer.part kind.Write key value)
+write_at kept writer i key value config peer s is lt short =
+    subst (λ (n : ℕ). MakesChange peer.part (call.Write writer key value) n (change_made peer.part kind.Write key value)) is (write_makes peer.part writer key value (known_writer kept config peer s writer i is lt) short)
+
+pub dispose_at : (kept : CoreKept) (writer i : ℕ) (key : Key) (config : Config) (peer : Peer) → StandsFor kept config peer → writer ≡ i + 1 → i < length kept.writers
+    → MakesChange peer.part (call.Dispose writer key) (i + 1) (change_made peer.part kind.Dispose key [])
+dispose_at kept writer i key config peer s is lt =
+    subst (λ (n : ℕ). MakesChange peer.part (call.Dispose writer key) n (change_made peer.part kind.Dispose key [])) is (dispose_makes peer.part writer key (known_writer kept config peer s writer i is lt))
+
+pub unregister_at : (kept : CoreKept) (writer i : ℕ) (k : WriterKept) (key : Key) (made : ChangeKind) (config : Config) (peer : Peer) → StandsFor kept config peer → writer ≡ i + 1 → i < length kept.writers → slice_get kept.writers i ≡ Some k
+    → ((w : Writer) → WriterStands k w → is_key_registered key w.written ≡ true) → ((w : Writer) → WriterStands k w → made ≡ unregister_kind w.autodispose)
+    → MakesChange peer.part (call.Unregister writer key) (i + 1) (change_made peer.part made key [])
+unregister_at kept writer i k key made config peer s is lt at there kind_is =
+    let w : Writer = own_writer peer.part (suc i) in
+    let ws : WriterStands k w = s.writers.each i k at in
+    let number = number_is writer i is in
+    let registered : is_key_registered key (own_writer peer.part writer).written ≡ true = subst (λ (n : ℕ). is_key_registered key (own_writer peer.part n).written ≡ true) number (there w ws) in
+    let kinds : unregister_kind (own_writer peer.part writer).autodispose ≡ made = subst (λ (n : ℕ). unregister_kind (own_writer peer.part n).autodispose ≡ made) number (sym (kind_is w ws)) in
+    subst (λ (n : ℕ). MakesChange peer.part (call.Unregister writer key) n (change_made peer.part made key [])) is
+    (subst (λ (x : ChangeKind). MakesChange peer.part (call.Unregister writer key) writer (change_made peer.part x key [])) kinds (unregister_makes peer.part writer key (known_writer kept config peer s writer i is lt) registered))

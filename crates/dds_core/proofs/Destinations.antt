@@ -1,0 +1,180 @@
+-- Whom a writer sends to: each peer with a matched reader, once.
+use Rattle.std.proofs.Common.{◌≡◌, ◌⊎◌, ℕ, zero, suc, ◌+◌, ◌-◌, ◌<◌, ◌≤◌, ◌==◌, Bool, true, false, cond, ◌||◌, List, [], ◌∷◌, ◌++◌, Some, map, slice_get, refl, ap, sym, ◌∙◌, subst, arith, inl, inr, ⊎_elim, eqb-true, eq-eqb}
+use Rattle.std.specs.Prelude.{if◌then◌else◌, IsSome}
+use Rattle.std.specs.List.{list_any}
+use Rattle.std.specs.Option.{option_map}
+use Rattle.std.proofs.lemmas.Option.{same_Some}
+use Rattle.dds_base.specs.declared.config.Config.{Config}
+use Rattle.dds_base.specs.declared.config.PeerConfig.{PeerConfig}
+use Rattle.dds_base.specs.declared.config.ReaderConfig.{ReaderConfig}
+use Rattle.dds_base.specs.Matched.{same_topic, of_readers_in, of_matched_readers}
+use Rattle.dds_model.specs.declared.endpoint.Endpoint.{Endpoint}
+use Rattle.dds_model.specs.Claims.{IsNumbered}
+use Rattle.dds_model.specs.Part.{ReaderProxy, same_endpoint, row_of, acknowledged_of}
+use Rattle.dds_model.specs.Runs.{peers_of}
+use Rattle.dds_model.proofs.Tables.{same_is}
+use Rattle.dds_core.specs.declared.matching.Destination.{Destination}
+use Rattle.dds_core.specs.declared.matching.ReaderRow.{ReaderRow}
+use Rattle.dds_core.specs.Matching.{has_reader, destinations, reader_names}
+use Rattle.dds_core.specs.Standing.{reader_proxy}
+
+-- the peers of these names, each once
+peers_in : List Endpoint → List ℕ
+peers_in [] = []
+peers_in (e ∷ es) = if list_any (λ peer. peer == e.peer) (peers_in es) then peers_in es else e.peer ∷ peers_in es
+
+same_peers : (rows : List ReaderRow) → peers_of (map reader_proxy rows) ≡ peers_in (map (λ (r : ReaderRow). r.reader) rows)
+unfolding peers_in
+same_peers [] = refl
+same_peers (r ∷ rs) = ap (λ ns. if list_any (λ peer. peer == r.reader.peer) ns then ns else r.reader.peer ∷ ns) (same_peers rs)
+
+abbrev name_at : ℕ → ℕ → ReaderConfig → Endpoint
+name_at peer number r = record { peer = peer; number = number }
+
+-- the number of a peer before or after its readers
+one_peer : (b any : Bool) (peer : ℕ) (numbers : List ℕ) → list_any (λ p. p == peer) numbers ≡ false → any ≡ b
+    → (if list_any (λ p. p == peer) (cond any (peer ∷ numbers) numbers) then cond any (peer ∷ numbers) numbers else peer ∷ cond any (peer ∷ numbers) numbers) ≡ peer ∷ numbers
+one_peer true true peer numbers none is = ap (λ (c : Bool). if c || list_any (λ p. p == peer) numbers then peer ∷ numbers else peer ∷ peer ∷ numbers) (eq-eqb peer peer refl)
+one_peer false false peer numbers none is = ap (λ (c : Bool). if c then numbers else peer ∷ numbers) none
+one_peer true false peer numbers none is = absurd cc
+one_peer false true peer numbers none is = absurd cc
+
+peers_row : (b : Bool) (topic peer n : ℕ) (r : ReaderConfig) (rs : List ReaderConfig) (rest : List Endpoint) → same_topic r.topic topic ≡ b → list_any (λ p. p == peer) (peers_in rest) ≡ false
+    → peers_in (of_readers_in (name_at peer) topic (n + 1) rs ++ rest) ≡ cond (has_reader topic rs) (peer ∷ peers_in rest) (peers_in rest)
+    → peers_in (cond b (name_at peer n r ∷ of_readers_in (name_at peer) topic (n + 1) rs) (of_readers_in (name_at peer) topic (n + 1) rs) ++ rest) ≡ cond (b || has_reader topic rs) (peer ∷ peers_in rest) (peers_in rest)
+unfolding peers_in
+peers_row true topic peer n r rs rest is none h =
+    ap (λ ns. if list_any (λ p. p == peer) ns then ns else peer ∷ ns) h ∙ one_peer (has_reader topic rs) (has_reader topic rs) peer (peers_in rest) none refl
+peers_row false topic peer n r rs rest is none h = h
+
+peers_of_one : (topic peer n : ℕ) (rs : List ReaderConfig) (rest : List Endpoint) → list_any (λ p. p == peer) (peers_in rest) ≡ false
+    → peers_in (of_readers_in (name_at peer) topic n rs ++ rest) ≡ cond (has_reader topic rs) (peer ∷ peers_in rest) (peers_in rest)
+peers_of_one topic peer n [] rest none = refl
+peers_of_one topic peer n (r ∷ rs) rest none = peers_row (same_topic r.topic topic) topic peer n r rs rest refl none (peers_of_one topic peer (n + 1) rs rest none)
+
+-- numbers go on
+is_other : (a b : ℕ) → a < b → (b == a) ≡ false
+is_other a b lt = other (b == a) refl
+  where
+    other : (c : Bool) → (b == a) ≡ c → (b == a) ≡ false
+    other true is = let same = eqb-true b a is in absurd (omega (arith, lt, same))
+    other false is = is
+
+none_before : (topic peer n : ℕ) (ps : List PeerConfig) → peer < n → list_any (λ p. p == peer) (map (λ (d : Destination). d.peer) (destinations topic n ps)) ≡ false
+none_before topic peer n [] lt = refl
+none_before topic peer n (p ∷ ps) lt = before (has_reader topic p.readers) (none_before topic peer (n + 1) ps (omega (arith, lt)))
+  where
+    before : (b : Bool) → list_any (λ q. q == peer) (map (λ (d : Destination). d.peer) (destinations topic (n + 1) ps)) ≡ false
+        → list_any (λ q. q == peer) (map (λ (d : Destination). d.peer) (cond b (record { peer = n; prefix = p.prefix } ∷ destinations topic (n + 1) ps) (destinations topic (n + 1) ps))) ≡ false
+    before true h = ap (λ (c : Bool). c || list_any (λ q. q == peer) (map (λ (d : Destination). d.peer) (destinations topic (n + 1) ps))) (is_other peer n lt) ∙ h
+    before false h = h
+
+map-cond : (b : Bool) (d : Destination) (ds : List Destination) → cond b (d.peer ∷ map (λ (x : Destination). x.peer) ds) (map (λ (x : Destination). x.peer) ds) ≡ map (λ (x : Destination). x.peer) (cond b (d ∷ ds) ds)
+map-cond true d ds = refl
+map-cond false d ds = refl
+
+peers_are : (topic n : ℕ) (ps : List PeerConfig) → peers_in (of_matched_readers (λ i p k r. name_at i k r) topic n ps) ≡ map (λ (d : Destination). d.peer) (destinations topic n ps)
+unfolding peers_in
+peers_are topic n [] = refl
+peers_are topic n (p ∷ ps) =
+    let later = peers_are topic (n + 1) ps in
+    let rest : List Endpoint = of_matched_readers (λ i q k r. name_at i k r) topic (n + 1) ps in
+    let none : list_any (λ q. q == n) (peers_in rest) ≡ false = ap (λ ns. list_any (λ q. q == n) ns) later ∙ none_before topic n (n + 1) ps (omega arith) in
+    peers_of_one topic n 1 p.readers rest none ∙ (ap (λ ns. cond (has_reader topic p.readers) (n ∷ ns) ns) later ∙ map-cond (has_reader topic p.readers) (record { peer = n; prefix = p.prefix }) (destinations topic (n + 1) ps))
+
+-- the peers of a writer's matched readers are those that it sends to
+pub sends_to : (topic : ℕ) (peers : List PeerConfig) (rows : List ReaderRow) (ds : List Destination) → map (λ (r : ReaderRow). r.reader) rows ≡ reader_names topic peers → ds ≡ destinations topic 1 peers
+    → peers_of (map reader_proxy rows) ≡ map (λ (d : Destination). d.peer) ds
+sends_to topic peers rows ds names is =
+    same_peers rows ∙ (ap (λ (es : List Endpoint). peers_in es) names ∙ (peers_are topic 1 peers ∙ ap (λ (xs : List Destination). map (λ (d : Destination). d.peer) xs) (sym is)))
+
+-- a destination is a peer of the configuration
+
+cond_get : {X : Type 0} (b : Bool) (x : X) (xs : List X) (k : ℕ) (y : X) → slice_get (cond b (x ∷ xs) xs) k ≡ Some y → (x ≡ y) ⊎ ((j : ℕ) × (slice_get xs j ≡ Some y))
+cond_get true x xs zero y at = inl (same_Some x y at)
+cond_get true x xs (suc k) y at = inr (k, at)
+cond_get false x xs k y at = inr (k, at)
+
+-- a peer of this number and prefix
+pub record IsPeer (peers : List PeerConfig) (d : Destination) : Type 0 where
+  pub peer : PeerConfig
+  pub at : IsNumbered peers d.peer peer
+  pub prefix : peer.prefix ≡ d.prefix
+
+peers_from : (all : List PeerConfig) (topic n : ℕ) (ps : List PeerConfig) → 1 ≤ n → ((j : ℕ) (p : PeerConfig) → slice_get ps j ≡ Some p → slice_get all (n + j - 1) ≡ Some p) → (k : ℕ) (d : Destination) → slice_get (destinations topic n ps) k ≡ Some d → IsPeer all d
+peers_from all topic n [] low there k d at = absurd cc
+peers_from all topic n (p ∷ ps) low there k d at =
+    ⊎_elim
+    (λ same.
+    let first : n + 0 - 1 ≡ n - 1 = omega arith in
+    subst (λ (x : Destination). IsPeer all x) same (record { peer = p; at = (low, subst (λ (m : ℕ). slice_get all m ≡ Some p) first (there zero p refl)); prefix = refl }))
+    (λ f. peers_from all topic (n + 1) ps (omega arith) (λ j q in_rest. let same : n + suc j - 1 ≡ n + 1 + j - 1 = omega (arith, low) in subst (λ (m : ℕ). slice_get all m ≡ Some q) same (there (suc j) q in_rest)) f.0 d f.1)
+    (cond_get (has_reader topic p.readers) (record { peer = n; prefix = p.prefix }) (destinations topic (n + 1) ps) k d at)
+
+pub is_peer : (peers : List PeerConfig) (topic k : ℕ) (d : Destination) → slice_get (destinations topic 1 peers) k ≡ Some d → IsPeer peers d
+is_peer peers topic k d at = peers_from peers topic 1 peers (omega arith) (λ j p there. let same : 1 + j - 1 ≡ j = omega arith in subst (λ (m : ℕ). slice_get peers m ≡ Some p) (sym same) there) k d at
+
+-- a matched reader is one of the topic
+
+pub record IsReaderOf (config : Config) (topic : ℕ) (reader : Endpoint) : Type 0 where
+  pub peer : PeerConfig
+  pub at_peer : IsNumbered config.peers reader.peer peer
+  pub end : ReaderConfig
+  pub at_reader : IsNumbered peer.readers reader.number end
+  pub same_topic : end.topic ≡ topic
+
+row_or_later : {X : Type 0} (b : Bool) (x : X) (xs : List X) (k : ℕ) (y : X) → slice_get (cond b (x ∷ xs) xs) k ≡ Some y → ((b ≡ true) × (x ≡ y)) ⊎ ((j : ℕ) × (slice_get xs j ≡ Some y))
+row_or_later true x xs zero y at = inl (refl, same_Some x y at)
+row_or_later true x xs (suc k) y at = inr (k, at)
+row_or_later false x xs k y at = inr (k, at)
+
+append_get : {X : Type 0} (xs ys : List X) (k : ℕ) (y : X) → slice_get (xs ++ ys) k ≡ Some y → ((j : ℕ) × (slice_get xs j ≡ Some y)) ⊎ ((j : ℕ) × (slice_get ys j ≡ Some y))
+append_get [] ys k y at = inr (k, at)
+append_get (x ∷ xs) ys zero y at = inl (zero, at)
+append_get (x ∷ xs) ys (suc k) y at = ⊎_elim (λ f. inl (suc f.0, f.1)) (λ f. inr f) (append_get xs ys k y at)
+
+readers_in : (config : Config) (topic i : ℕ) (p : PeerConfig) (n : ℕ) (rs : List ReaderConfig) → IsNumbered config.peers i p → 1 ≤ n → ((j : ℕ) (r : ReaderConfig) → slice_get rs j ≡ Some r → slice_get p.readers (n + j - 1) ≡ Some r)
+    → (k : ℕ) (e : Endpoint) → slice_get (of_readers_in (name_at i) topic n rs) k ≡ Some e → IsReaderOf config topic e
+readers_in config topic i p n [] here low there k e at = absurd cc
+readers_in config topic i p n (r ∷ rs) here low there k e at =
+    ⊎_elim
+    (λ f.
+    let first : n + 0 - 1 ≡ n - 1 = omega arith in
+    subst (λ (x : Endpoint). IsReaderOf config topic x) f.1
+    (record { peer = p; at_peer = here; end = r; at_reader = (low, subst (λ (m : ℕ). slice_get p.readers m ≡ Some r) first (there zero r refl)); same_topic = eqb-true r.topic topic f.0 }))
+    (λ f. readers_in config topic i p (n + 1) rs here (omega arith)
+    (λ j x in_rest. let same : n + suc j - 1 ≡ n + 1 + j - 1 = omega (arith, low) in subst (λ (m : ℕ). slice_get p.readers m ≡ Some x) same (there (suc j) x in_rest)) f.0 e f.1)
+    (row_or_later (same_topic r.topic topic) (name_at i n r) (of_readers_in (name_at i) topic (n + 1) rs) k e at)
+
+readers_from : (config : Config) (topic i : ℕ) (ps : List PeerConfig) → 1 ≤ i → ((j : ℕ) (p : PeerConfig) → slice_get ps j ≡ Some p → slice_get config.peers (i + j - 1) ≡ Some p) → (k : ℕ) (e : Endpoint)
+    → slice_get (of_matched_readers (λ h q l r. name_at h l r) topic i ps) k ≡ Some e → IsReaderOf config topic e
+readers_from config topic i [] low there k e at = absurd cc
+readers_from config topic i (p ∷ ps) low there k e at =
+    ⊎_elim
+    (λ f.
+    let first : i + 0 - 1 ≡ i - 1 = omega arith in
+    readers_in config topic i p 1 p.readers (low, subst (λ (m : ℕ). slice_get config.peers m ≡ Some p) first (there zero p refl)) (omega arith)
+    (λ j r in_readers. let same : 1 + j - 1 ≡ j = omega arith in subst (λ (m : ℕ). slice_get p.readers m ≡ Some r) (sym same) in_readers) f.0 e f.1)
+    (λ f. readers_from config topic (i + 1) ps (omega arith)
+    (λ j q in_rest. let same : i + suc j - 1 ≡ i + 1 + j - 1 = omega (arith, low) in subst (λ (m : ℕ). slice_get config.peers m ≡ Some q) same (there (suc j) q in_rest)) f.0 e f.1)
+    (append_get (of_readers_in (name_at i) topic 1 p.readers) (of_matched_readers (λ h q l r. name_at h l r) topic (i + 1) ps) k e at)
+
+-- a reader that has a row
+abbrev HasRow : List ReaderRow → Endpoint → Type 0
+HasRow rows reader = (k : ℕ) × (slice_get (map (λ (r : ReaderRow). r.reader) rows) k ≡ Some reader)
+
+first_or_later : (r : ReaderRow) (rs : List ReaderRow) (reader : Endpoint) (b : Bool) → same_endpoint r.reader reader ≡ b
+    → IsSome (option_map (λ (p : ReaderProxy). p.acknowledged) (cond b (Some (reader_proxy r)) (row_of (λ (p : ReaderProxy). p.reader) (map reader_proxy rs) reader))) → (IsSome (acknowledged_of (map reader_proxy rs) reader) → HasRow rs reader)
+    → HasRow (r ∷ rs) reader
+first_or_later r rs reader true is there rest = (zero, ap (λ (e : Endpoint). Some e) (same_is r.reader reader is))
+first_or_later r rs reader false is there rest = let f = rest there in (suc f.0, f.1)
+
+has_row : (rows : List ReaderRow) (reader : Endpoint) → IsSome (acknowledged_of (map reader_proxy rows) reader) → HasRow rows reader
+has_row [] reader some = absurd cc
+has_row (r ∷ rs) reader some = first_or_later r rs reader (same_endpoint r.reader reader) refl some (λ there. has_row rs reader there)
+
+pub is_reader : (config : Config) (topic : ℕ) (rows : List ReaderRow) (reader : Endpoint) → map (λ (r : ReaderRow). r.reader) rows ≡ reader_names topic config.peers → IsSome (acknowledged_of (map reader_proxy rows) reader) → IsReaderOf config topic reader
+is_reader config topic rows reader names some =
+    let f = has_row rows reader some in
+    readers_from config topic 1 config.peers (omega arith) (λ j p there. let same : 1 + j - 1 ≡ j = omega arith in subst (λ (m : ℕ). slice_get config.peers m ≡ Some p) (sym same) there) f.0 reader
+    (subst (λ (es : List Endpoint). slice_get es f.0 ≡ Some reader) names f.1)

@@ -1,0 +1,159 @@
+-- A change of one of the peer's writers is made and announced, or refused.
+use Rattle.std.proofs.Common.{◌≡◌, ℕ, zero, suc, ◌+◌, ◌-◌, ◌<◌, true, List, [], ◌∷◌, ◌++◌, Some, None, map, set, length, slice_get, refl, ap, sym, ◌∙◌, subst, arith, get_or-set_same}
+use Rattle.std.specs.Prelude.{nat_lt, if◌then◌else◌, Result, Ok, Err, IfOk}
+use Rattle.std.specs.declared.alloc.AllocError.{AllocError}
+use Rattle.std.proofs.lemmas.Bool.Decides.{nat_tests}
+use Rattle.std.proofs.lemmas.List.{set-get_or}
+use Rattle.std.proofs.lemmas.Option.{same_Some, get_or_from_slice_get}
+use Rattle.dds_base.specs.declared.change.Change.{Change}
+use Rattle.dds_base.specs.declared.change.ChangeKind.{ChangeKind}
+use Rattle.dds_base.specs.declared.code.Code.{Code}
+use Rattle.dds_base.specs.declared.config.Config.{Config}
+use Rattle.dds_base.specs.declared.config.WriterConfig.{WriterConfig}
+use Rattle.dds_base.specs.declared.key.Key.{Key}
+use Rattle.dds_base.specs.Kept.{change_at, append_refusal}
+use Rattle.dds_base.specs.Refusal.{Refuses}
+use Rattle.dds_base.specs.Written.{Changed, changes_of}
+use Rattle.rtps_wire.specs.declared.data.DataContent.{DataContent}
+use Rattle.rtps_wire.specs.Content.{content_of, change_in}
+use Rattle.rtps_wire.proofs.ContentLaws.{change_in-content_of}
+use Rattle.dds_model.specs.declared.endpoint.Endpoint.{Endpoint}
+use Rattle.dds_model.specs.declared.event.Output.{Output}
+use Rattle.dds_model.specs.declared.event.Packet.{Packet}
+use Rattle.dds_model.specs.declared.reply.Reply.TheVariants.{Done, Refused}
+use Rattle.dds_model.specs.Part.{Writer, ReaderProxy, no_writer, own_writer, history_of, writer_changes}
+use Rattle.dds_model.specs.Calls.{with_written, change_made, change_refusal}
+use Rattle.dds_model.specs.Claims.{IsWriter}
+use Rattle.dds_model.specs.Peer.{Peer}
+use Rattle.dds_model.proofs.OwnGuids.{one_writer}
+use Rattle.dds_core.specs.declared.matching.Destination.{Destination}
+use Rattle.dds_core.specs.declared.sending.Sender.{Sender}
+use Rattle.dds_core.specs.Kept.{WriterKept, CoreKept, WriterIdentity, writer_identity, configured_writer, identity_of, IsPeerOf}
+use Rattle.dds_core.specs.Making.{IsMade, IsNotMade, IsValueOf, entered}
+use Rattle.dds_core.specs.Sending.{AreAnnouncements, AnnounceCopy, AnnouncesAll, SendsChange}
+use Rattle.dds_core.specs.Standing.{WriterStands, StandsFor, Enters, reader_proxy}
+use Rattle.dds_core.proofs.Ends.{with_writer, own_writer_stepped}
+use Rattle.dds_core.proofs.Lists.{get-map, map-get, get-within}
+use Rattle.dds_core.proofs.Sent.{IsOnly, IsThere, IsMatched, sends_change, sent_true}
+
+-- the last change of a list
+slice_get-last : {X : Type 0} (xs : List X) (x : X) → slice_get (xs ++ x ∷ []) (length xs) ≡ Some x
+slice_get-last [] x = refl
+slice_get-last (y ∷ ys) x = slice_get-last ys x
+
+change_at-last : (cs : List Change) (c : Change) → change_at (cs ++ c ∷ []) (length cs + 1) ≡ Some c
+change_at-last cs c =
+    let positive : nat_lt 0 (length cs + 1) ≡ true = grind (arith, nat_tests) in
+    let index : length cs + 1 - 1 ≡ length cs = omega arith in
+    ap (λ b. if b then slice_get (cs ++ c ∷ []) (length cs + 1 - 1) else None) positive ∙ (ap (λ (k : ℕ). slice_get (cs ++ c ∷ []) k) index ∙ slice_get-last cs c)
+
+set_get : {X : Type 0} (xs : List X) (i : ℕ) (x y : X) → slice_get xs i ≡ Some x → slice_get (set xs i y) i ≡ Some y
+set_get [] i x y at = absurd cc
+set_get (a ∷ xs) zero x y at = refl
+set_get (a ∷ xs) (suc i) x y at = set_get xs i x y at
+
+-- a peer's own writer, as the configuration has it
+record IsOwnWriter (config : Config) (kept : CoreKept) (number i : ℕ) (k : WriterKept) : Type 0 where
+  end : WriterConfig
+  is : writer_identity k ≡ configured_writer config.peers end
+  from : IsWriter config kept.prefix k.entity (record { peer = number; number = suc i })
+  same_topic : from.end.topic ≡ end.topic
+
+own_writer_is : (config : Config) (number : ℕ) (kept : CoreKept) (is : IsPeerOf config number (identity_of kept)) (i : ℕ) (k : WriterKept) → slice_get kept.writers i ≡ Some k → IsOwnWriter config kept number i k
+own_writer_is config number kept is i k at =
+    let there = map-get writer_identity kept.writers i k at in
+    let f = get-map (configured_writer config.peers) is.own.writers i (writer_identity k) (subst (λ (xs : List WriterIdentity). slice_get xs i ≡ Some (writer_identity k)) is.writers there) in
+    let index : suc i - 1 ≡ i = omega arith in
+    record {
+      end = f.0;
+      is = sym f.2;
+      from = record {
+        peer = is.own;
+        at_peer = is.at;
+        same_prefix = sym is.prefix;
+        end = f.0;
+        at_writer = (omega arith, subst (λ (m : ℕ). slice_get is.own.writers m ≡ Some f.0) (sym index) f.1);
+        same_entity = ap (λ (x : WriterIdentity). x.entity) f.2;
+      };
+      same_topic = refl;
+    }
+
+-- what was announced, whether or not it could be copied
+announced_so : (sender : Sender) (number : ℕ) (content : Result DataContent AllocError) (c : DataContent) (ds : List Destination) (packets : List Packet) → IfOk content (λ x. x ≡ c) → AnnounceCopy sender number content ds packets
+    → AreAnnouncements sender number c ds packets
+announced_so sender number (Ok x) c ds packets same h = subst (λ (y : DataContent). AreAnnouncements sender number y ds packets) same h
+announced_so sender number (Err e) c ds packets same h = subst (λ (ps : List Packet). AreAnnouncements sender number c ds ps) (sym h) tt
+
+abbrev pub made_by : ChangeKind → Key → List ℕ → ℕ → Change
+made_by kind key value moment = record { kind = kind; key = key; value = value; source_timestamp = moment }
+
+-- the change is made
+made_there : (old : CoreKept) (i : ℕ) (k k' : WriterKept) (kind : ChangeKind) (key : Key) (value : List ℕ) (number : ℕ) (content : Result DataContent AllocError) (output : Output) (config : Config) (peer : Peer) → StandsFor old config peer
+    → slice_get old.writers i ≡ Some k → Enters k (Changed (made_by kind key value old.moment)) k'
+    → ((w : Writer) → WriterStands k w → (append_refusal (history_of w) (made_by kind key value old.moment) ≡ None) × (number ≡ length (writer_changes w) + 1)) → IsValueOf kind value
+    → IfOk content (λ c. c ≡ content_of (made_by kind key value old.moment)) → output.reply ≡ Done → AnnouncesAll (with_writer old i k') i number content output
+    → IsMade config peer (suc i) (made_by kind key value old.moment) output (with_writer old i k')
+made_there old i k k' kind key value number content output config peer s at enters accepts valued copied reply all =
+    let change : Change = made_by kind key value old.moment in
+    let w : Writer = own_writer peer.part (suc i) in
+    let ws : WriterStands k w = s.writers.each i k at in
+    let a = accepts w ws in
+    let new : CoreKept = with_writer old i k' in
+    let after : Peer = record peer { part = entered peer.part (suc i) change } in
+    let stands : StandsFor new config after = own_writer_stepped old i k k' (Changed change) config peer s at enters in
+    let at_new : slice_get new.writers i ≡ Some k' = set_get old.writers i k k' at in
+    let is_k : all.writer ≡ k' = same_Some all.writer k' (sym all.at ∙ at_new) in
+    let sender : Sender = record { prefix = old.prefix; entity = k'.entity; moment = old.moment } in
+    let packets : AnnounceCopy sender number content k'.destinations output.packets =
+    subst (λ (x : WriterKept). AnnounceCopy (record { prefix = old.prefix; entity = x.entity; moment = old.moment }) number content x.destinations output.packets) is_k all.packets in
+    let counted = subst (λ (x : WriterKept). length output.packets + output.unsent ≡ length x.destinations) is_k all.counted in
+    let are : AreAnnouncements sender number (content_of change) k'.destinations output.packets = announced_so sender number content (content_of change) k'.destinations output.packets copied packets in
+    let own : IsOwnWriter config new peer.number i k' = own_writer_is config peer.number new stands.is_peer i k' at_new in
+    let endpoint : Endpoint = record { peer = peer.number; number = suc i } in
+    let matched : IsMatched config own.end.topic k'.readers k'.destinations =
+    record { names = ap (λ (x : WriterIdentity). x.readers) own.is; sent_to = ap (λ (x : WriterIdentity). x.destinations) own.is } in
+    let means : change_in (content_of change) old.moment ≡ change = change_in-content_of change valued in
+    let rows : map reader_proxy k'.readers ≡ w.readers = sym (enters.stands w ws).readers in
+    let sends : SendsChange config endpoint (map reader_proxy k'.readers) number (change_in (content_of change) old.moment) output =
+    sends_change config sender endpoint own.end.topic k'.readers k'.destinations number (content_of change) output (record { from = own.from; same_topic = own.same_topic }) matched s.early are counted in
+    let only : IsOnly config sender endpoint = λ e name. one_writer config old.prefix k'.entity e endpoint s.is_peer.checked name own.from in
+    let count = s.writers.count in
+    let within : i < length peer.part.rtps.writers = let lt = get-within old.writers i k at in omega (arith, lt, count) in
+    let entry : own_writer after.part (suc i) ≡ with_written w (Changed change) = get_or-set_same peer.part.rtps.writers i (with_written w (Changed change)) no_writer within in
+    let there : IsThere after.part endpoint number (content_of change) old.moment =
+    ap (λ (x : Writer). change_at (writer_changes x) number) entry ∙ (ap (λ (n : ℕ). change_at (changes_of w.written ++ change ∷ []) n) a.1 ∙ (change_at-last (changes_of w.written) change ∙ ap (λ (x : Change). Some x) (sym means))) in
+    record {
+      accepted = a.0;
+      reply = reply;
+      sends = subst (λ (n : ℕ). SendsChange config endpoint w.readers n change output) a.1
+          (subst (λ (x : Change). SendsChange config endpoint w.readers number x output) means (subst (λ (rs : List ReaderProxy). SendsChange config endpoint rs number (change_in (content_of change) old.moment) output) rows sends));
+      is_true = λ packet claim among h. sent_true config sender endpoint after.part k'.destinations number (content_of change) output.packets only s.early there are packet claim among h;
+      stands = stands;
+    }
+
+-- the same, by the moment of the part
+pub made : (old : CoreKept) (i : ℕ) (k k' : WriterKept) (kind : ChangeKind) (key : Key) (value : List ℕ) (number : ℕ) (content : Result DataContent AllocError) (output : Output) (config : Config) (peer : Peer) → StandsFor old config peer
+    → slice_get old.writers i ≡ Some k → Enters k (Changed (made_by kind key value old.moment)) k'
+    → ((w : Writer) → WriterStands k w → (append_refusal (history_of w) (made_by kind key value old.moment) ≡ None) × (number ≡ length (writer_changes w) + 1)) → IsValueOf kind value
+    → IfOk content (λ c. c ≡ content_of (made_by kind key value old.moment)) → output.reply ≡ Done → AnnouncesAll (with_writer old i k') i number content output
+    → IsMade config peer (i + 1) (change_made peer.part kind key value) output (with_writer old i k')
+made old i k k' kind key value number content output config peer s at enters accepts valued copied reply all =
+    let index : i + 1 ≡ suc i = omega arith in
+    subst (λ (n : ℕ). IsMade config peer n (change_made peer.part kind key value) output (with_writer old i k')) (sym index)
+    (subst (λ (m : ℕ). IsMade config peer (suc i) (made_by kind key value m) output (with_writer old i k')) (sym s.moment)
+    (made_there old i k k' kind key value number content output config peer s at enters accepts valued copied reply all))
+
+-- the change is refused
+pub not_made : (old : CoreKept) (i : ℕ) (k k' : WriterKept) (kind : ChangeKind) (key : Key) (value : List ℕ) (code : Code) (output : Output) (config : Config) (peer : Peer) → StandsFor old config peer → slice_get old.writers i ≡ Some k → k' ≡ k
+    → ((w : Writer) → WriterStands k w → Refuses (append_refusal (history_of w) (made_by kind key value old.moment)) code) → output ≡ record { reply = Refused code; packets = []; unsent = 0 }
+    → IsNotMade config peer (i + 1) (change_made peer.part kind key value) output (with_writer old i k')
+not_made old i k k' kind key value code output config peer s at same refuses is =
+    let index : i + 1 ≡ suc i = omega arith in
+    let unchanged : set old.writers i k' ≡ old.writers = ap (λ (x : WriterKept). set old.writers i x) (same ∙ sym (get_or_from_slice_get old.writers i k k at)) ∙ set-get_or old.writers i k in
+    record {
+      code = code;
+      cause = subst (λ (n : ℕ). Refuses (change_refusal peer.part n (change_made peer.part kind key value)) code) (sym index)
+          (subst (λ (m : ℕ). Refuses (append_refusal (history_of (own_writer peer.part (suc i))) (made_by kind key value m)) code) (sym s.moment) (refuses (own_writer peer.part (suc i)) (s.writers.each i k at)));
+      output_is = is;
+      stands = subst (λ (ws : List WriterKept). StandsFor (record old { writers = ws }) config peer) (sym unchanged) s;
+    }

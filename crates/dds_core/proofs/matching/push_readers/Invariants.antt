@@ -1,0 +1,7 @@
+use Rattle.std.proofs.Common.{◌≡◌, ◌+◌, ◌++◌, drop}
+use Rattle.dds_base.specs.Matched.{of_readers_in}
+use Rattle.dds_core.specs.Matching.{reader_row}
+use Rattle.dds_core.proofs.matching.push_readers.Given as goal
+
+abbrev pub invariant-loop-index : goal.invariant-loop-index
+invariant-loop-index l = l.all.items ++ of_readers_in (reader_row l.fn.peer) l.fn.topic (l.index + 1) (drop l.index l.fn.readers) ≡ l.initial.all.items ++ of_readers_in (reader_row l.fn.peer) l.fn.topic 1 l.fn.readers

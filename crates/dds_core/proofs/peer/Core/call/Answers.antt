@@ -1,0 +1,28 @@
+use mir.Val.{SFits}
+use Rattle.std.proofs.Common.{sym, subst, rules}
+use Rattle.std.specs.Prelude.{ℤ}
+use Rattle.std.specs.Int.{w32}
+use Rattle.std.proofs.lemmas.Int.{to_z-of_z}
+use Rattle.dds_model.specs.declared.call.Call.TheVariants as call
+use Rattle.dds_model.specs.declared.call.Call.{Call}
+use Rattle.dds_model.specs.declared.event.Event.TheVariants as event
+use Rattle.dds_core.specs.Standing.{Steps}
+use Rattle.dds_core.proofs.peer.Core.call.Goals as goal
+
+pub returns-in-Register-clause-step : goal.returns-in-Register-clause-step
+returns-in-Register-clause-step c = subst (λ (x : Call). Steps c.args.self.now (event.Call x) c.register.result c.register.new.self) (sym c.in-Register.is) c.register.ensures.step
+
+pub returns-in-Write-clause-step : goal.returns-in-Write-clause-step
+returns-in-Write-clause-step c = subst (λ (x : Call). Steps c.args.self.now (event.Call x) c.write.result c.write.new.self) (sym c.in-Write.is) c.write.ensures.step
+
+pub returns-in-Dispose-clause-step : goal.returns-in-Dispose-clause-step
+returns-in-Dispose-clause-step c = subst (λ (x : Call). Steps c.args.self.now (event.Call x) c.dispose.result c.dispose.new.self) (sym c.in-Dispose.is) c.dispose.ensures.step
+
+pub returns-in-Unregister-clause-step : goal.returns-in-Unregister-clause-step
+returns-in-Unregister-clause-step c = subst (λ (x : Call). Steps c.args.self.now (event.Call x) c.unregister.result c.unregister.new.self) (sym c.in-Unregister.is) c.unregister.ensures.step
+
+pub returns-in-Take-clause-step : goal.returns-in-Take-clause-step
+returns-in-Take-clause-step c =
+    let fits : SFits w32 c.in-Take.max = search rules in
+    subst (λ (x : Call). Steps c.args.self.now (event.Call x) c.take.result c.take.new.self) (sym c.in-Take.is)
+    (subst (λ (m : ℤ). Steps c.args.self.now (event.Call (call.Take c.in-Take.reader m c.in-Take.masks)) c.take.result c.take.new.self) (to_z-of_z w32 c.in-Take.max fits) c.take.ensures.step)

@@ -1,0 +1,24 @@
+use Rattle.std.proofs.Common.{ℕ, List, sym, subst}
+use Rattle.rtps_wire.specs.Messages.{ReadsMessage, HasSubmessage}
+use Rattle.dds_model.specs.declared.reply.Report.{Report}
+use Rattle.dds_core.specs.Receiving.{ReceivesPacket}
+use Rattle.dds_core.proofs.Taking.{receives_message, receives_nothing, reads_nothing}
+use Rattle.dds_core.proofs.peer.Core.receive.Goals as goal
+
+pub returns-in-Ok-Some : goal.returns-in-Ok-Some
+returns-in-Ok-Some c =
+    let found : ReadsMessage c.as_slice.result.now c.in-Ok-Some.read.message c.in-Ok-Some.read.stop = rw c.in-Ok-Some.field-0-is at c.in-Ok-Some.ensures.found in
+    receives_message c.args.self.now c.take_message.new.self c.args.packet.now c.in-Ok-Some.read c.take_message.result
+    (subst (λ (b : List ℕ). ReadsMessage b c.in-Ok-Some.read.message c.in-Ok-Some.read.stop) c.as_slice.ensures found) c.take_message.ensures
+
+pub returns-in-Ok-None : goal.returns-in-Ok-None
+returns-in-Ok-None c =
+    subst (λ (r : Report). ReceivesPacket c.args.self.now c.args.packet.now r c.args.self.now) (sym c.unmoved.ensures)
+    (receives_nothing c.args.self.now c.args.packet.now (λ message offset reads.
+    let reads' : ReadsMessage c.as_slice.result.now message offset = subst (λ (b : List ℕ). ReadsMessage b message offset) (sym c.as_slice.ensures) reads in
+    let none = c.in-Ok-None.ensures.only message offset reads' in absurd cc))
+
+pub returns-in-Err : goal.returns-in-Err
+returns-in-Err c =
+    subst (λ (r : Report). ReceivesPacket c.args.self.now c.args.packet.now r c.args.self.now) (sym c.unmoved-in-Err.ensures)
+    (reads_nothing c.args.self.now c.args.packet.now (subst (λ (b : List ℕ). HasSubmessage b) c.as_slice.ensures c.in-Err.ensures.memory.1))

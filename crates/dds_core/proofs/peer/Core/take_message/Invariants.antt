@@ -1,0 +1,11 @@
+use Rattle.std.proofs.Common.{◌≡◌}
+use Rattle.dds_core.specs.Receiving.{receiver_at, TakesTo, IsLeft}
+use Rattle.dds_core.proofs.peer.Core.take_message.Given as goal
+
+abbrev pub invariant-loop-index : goal.invariant-loop-index
+invariant-loop-index l = record {
+  taken : TakesTo l.initial.self l.message l.index (receiver_at l.receiver) l.moves.items l.self;
+  left : IsLeft l.initial.self.prefix l.message l.index (receiver_at l.receiver);
+  same : l.self.prefix ≡ l.initial.self.prefix;
+  whole : l.submessage-items ≡ l.message.submessages;
+}

@@ -1,0 +1,37 @@
+use Rattle.std.proofs.Common.{◌≡◌, ◌<◌, Some, List, length, slice_get, sym, subst, ◌∙◌, ap, rules, arith}
+use Rattle.std.specs.Prelude.{ℕ}
+use Rattle.std.proofs.lemmas.Option.{slice_get-get_or, same_Some}
+use Rattle.dds_model.specs.declared.call.Call.TheVariants as call
+use Rattle.dds_core.specs.Kept.{WriterKept, CoreKept}
+use Rattle.dds_core.specs.Making.{Makes}
+use Rattle.dds_core.specs.Standing.{WriterStands}
+use Rattle.dds_core.proofs.CallSteps.{unregister_at, made_steps, made_sends}
+use Rattle.dds_core.proofs.peer.Core.unregister.Goals as goal
+
+pub returns-clause-step : goal.returns-clause-step
+returns-clause-step c = λ config peer s.
+    let i = c.in-Some.index in
+    let made = subst (λ (v : List ℕ). Makes c.args.self.now i c.unregister_kind-kind.result c.args.key v c.make.result c.make.new.self) (c.from_vec-none.ensures ∙ c.new.ensures.items) c.make.ensures.makes in
+    let within : i < length c.args.self.now.writers = search rules in
+    let here : i < length c.self.inside.writers.items = let same = ap (λ (k : CoreKept). length k.writers) c.self.view_is in omega (arith, within, same) in
+    let first : slice_get c.self.inside.writers.items i ≡ Some c.index.result.now = slice_get-get_or c.self.inside.writers.items i _ here ∙ ap (λ (x : WriterKept). Some x) (sym c.index.ensures) in
+    let second : slice_get c.self.inside.writers.items i ≡ Some c.index-2.result.now = slice_get-get_or c.self.inside.writers.items i _ here ∙ ap (λ (x : WriterKept). Some x) (sym c.index-2.ensures) in
+    let one : c.index-2.result.now ≡ c.index.result.now = same_Some c.index-2.result.now c.index.result.now (sym second ∙ first) in
+    let at : slice_get c.args.self.now.writers i ≡ Some c.index.result.now = subst (λ (k : CoreKept). slice_get k.writers i ≡ Some c.index.result.now) c.self.view_is first in
+    let makes = unregister_at c.args.self.now c.args.writer i c.index.result.now c.args.key c.unregister_kind-kind.result config peer s c.in-Some.ensures.0 within at
+    (λ w stands. sym (c.is_registered.ensures w stands) ∙ c.if-not-is_registered.false) (λ w stands. c.unregister_kind-kind.ensures w (subst (λ (k : WriterKept). WriterStands k w) (sym one) stands)) in
+    made_steps c.args.self.now c.make.new.self config peer s (call.Unregister c.args.writer c.args.key) _ _ c.make.result makes (made config peer s)
+
+pub returns-clause-sends : goal.returns-clause-sends
+returns-clause-sends c = λ config peer s.
+    let i = c.in-Some.index in
+    let made = subst (λ (v : List ℕ). Makes c.args.self.now i c.unregister_kind-kind.result c.args.key v c.make.result c.make.new.self) (c.from_vec-none.ensures ∙ c.new.ensures.items) c.make.ensures.makes in
+    let within : i < length c.args.self.now.writers = search rules in
+    let here : i < length c.self.inside.writers.items = let same = ap (λ (k : CoreKept). length k.writers) c.self.view_is in omega (arith, within, same) in
+    let first : slice_get c.self.inside.writers.items i ≡ Some c.index.result.now = slice_get-get_or c.self.inside.writers.items i _ here ∙ ap (λ (x : WriterKept). Some x) (sym c.index.ensures) in
+    let second : slice_get c.self.inside.writers.items i ≡ Some c.index-2.result.now = slice_get-get_or c.self.inside.writers.items i _ here ∙ ap (λ (x : WriterKept). Some x) (sym c.index-2.ensures) in
+    let one : c.index-2.result.now ≡ c.index.result.now = same_Some c.index-2.result.now c.index.result.now (sym second ∙ first) in
+    let at : slice_get c.args.self.now.writers i ≡ Some c.index.result.now = subst (λ (k : CoreKept). slice_get k.writers i ≡ Some c.index.result.now) c.self.view_is first in
+    let makes = unregister_at c.args.self.now c.args.writer i c.index.result.now c.args.key c.unregister_kind-kind.result config peer s c.in-Some.ensures.0 within at
+    (λ w stands. sym (c.is_registered.ensures w stands) ∙ c.if-not-is_registered.false) (λ w stands. c.unregister_kind-kind.ensures w (subst (λ (k : WriterKept). WriterStands k w) (sym one) stands)) in
+    made_sends c.make.new.self config peer (call.Unregister c.args.writer c.args.key) _ _ c.make.result makes (made config peer s)

@@ -1,0 +1,81 @@
+-- How a peer begins, and which configurations are taken so far.
+use Rattle.std.specs.Prelude.{◌≡◌, ℕ, zero, ◌+◌, ◌&&◌, not, Bool, true, false, List, [], length, slice_get, is_some, Option, Some, None, ℤ, negsuc, if◌then◌else◌}
+use Rattle.std.specs.List.{list_all}
+use Rattle.dds_base.specs.declared.code.Code.{Code}
+use Rattle.dds_base.specs.declared.code.Code.TheVariants.{BadParameter}
+use Rattle.dds_base.specs.declared.config.Config.{Config}
+use Rattle.dds_base.specs.declared.config.PeerConfig.{PeerConfig}
+use Rattle.dds_base.specs.declared.config.WriterConfig.{WriterConfig}
+use Rattle.dds_base.specs.declared.config.ReaderConfig.{ReaderConfig}
+use Rattle.dds_base.specs.declared.qos.HistoryQos.{HistoryQos}
+use Rattle.dds_base.specs.declared.qos.HistoryQos.TheVariants.{KeepAll, KeepLast}
+use Rattle.dds_base.specs.declared.qos.OwnershipQos.{OwnershipQos}
+use Rattle.dds_base.specs.declared.qos.OwnershipQos.TheVariants.{Shared, Exclusive}
+use Rattle.dds_base.specs.Checked.{check_refusal}
+use Rattle.dds_model.specs.Calls.{has_number}
+use Rattle.dds_model.specs.Opening.{opening_writer, matched_writers, reader_qos, opening_world}
+use Rattle.dds_model.specs.Peer.{Peer}
+use Rattle.dds_model.specs.World.{peer_at}
+use Rattle.dds_core.specs.Kept.{WriterKept, ReaderKept, CoreKept, writer_identity, reader_identity, configured_writer, configured_reader}
+use Rattle.dds_core.specs.Standing.{WriterStands, ReaderStands, StandsFor}
+
+abbrev pub is_shared : OwnershipQos → Bool
+is_shared Shared = true
+is_shared Exclusive = false
+
+abbrev pub keeps_all : HistoryQos → Bool
+keeps_all KeepAll = true
+keeps_all (KeepLast depth) = false
+
+-- LENGTH_UNLIMITED, which is -1 (DDS 1.4, 2.2.3, RESOURCE_LIMITS)
+abbrev pub is_unlimited : ℤ → Bool
+is_unlimited (negsuc zero) = true
+is_unlimited _ = false
+
+-- a shared writer that keeps all, without a limit or a lease
+abbrev pub is_plain_writer : WriterConfig → Bool
+is_plain_writer w = is_shared w.ownership && (keeps_all w.history && (is_unlimited w.max_samples && not (is_some w.lease)))
+
+-- a shared reader that keeps all, without a limit or a lease
+abbrev pub is_plain_reader : ReaderConfig → Bool
+is_plain_reader r = is_shared r.ownership && (keeps_all r.history && (is_unlimited r.max_samples && (is_unlimited r.max_instances && not (is_some r.lease))))
+
+abbrev pub is_plain_peer : PeerConfig → Bool
+is_plain_peer p = list_all is_plain_writer p.writers && list_all is_plain_reader p.readers
+
+abbrev pub are_plain : List PeerConfig → Bool
+are_plain peers = list_all is_plain_peer peers
+
+-- why a configuration is not taken: it is refused, or some writer or reader is not plain
+abbrev pub opening_refusal : List PeerConfig → Option Code
+opening_refusal peers = if is_some (check_refusal peers) then check_refusal peers else (if are_plain peers then None else Some BadParameter)
+
+-- why there is no peer of this number: the configuration has none, or is not taken
+abbrev pub core_refusal : List PeerConfig → ℕ → Option Code
+core_refusal peers peer = if is_some (check_refusal peers) then check_refusal peers else (if has_number peers peer && are_plain peers then None else Some BadParameter)
+
+-- the peer of this number, at the opening
+abbrev pub opening_peer : Config → ℕ → Peer
+opening_peer config peer = peer_at (opening_world config) peer
+
+-- a writer that stands for the one of its configuration, at the opening
+pub record OpensWriter (peers : List PeerConfig) (config : WriterConfig) (kept : WriterKept) : Type 0 where
+  pub identity : writer_identity kept ≡ configured_writer peers config
+  pub stands : WriterStands kept (opening_writer peers config)
+
+-- a reader that stands for the one of its configuration, at the opening
+pub record OpensReader (peers : List PeerConfig) (config : ReaderConfig) (kept : ReaderKept) : Type 0 where
+  pub identity : reader_identity kept ≡ configured_reader peers config
+  pub stands : ReaderStands kept (matched_writers config.topic 1 peers) (record { qos = reader_qos peers config; happened = [] })
+
+pub record OpenWriters (peers : List PeerConfig) (configs : List WriterConfig) (kept : List WriterKept) : Type 0 where
+  pub count : length kept ≡ length configs
+  pub each : (i : ℕ) (w : WriterConfig) (k : WriterKept) → slice_get configs i ≡ Some w → slice_get kept i ≡ Some k → OpensWriter peers w k
+
+pub record OpenReaders (peers : List PeerConfig) (configs : List ReaderConfig) (kept : List ReaderKept) : Type 0 where
+  pub count : length kept ≡ length configs
+  pub each : (i : ℕ) (r : ReaderConfig) (k : ReaderKept) → slice_get configs i ≡ Some r → slice_get kept i ≡ Some k → OpensReader peers r k
+
+-- the peer of this index stands for its opening
+abbrev pub OpensCore : List PeerConfig → ℕ → CoreKept → Type 0
+OpensCore peers index kept = StandsFor kept (record { peers = peers }) (opening_peer (record { peers = peers }) (index + 1))

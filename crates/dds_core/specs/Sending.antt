@@ -1,0 +1,104 @@
+-- What a peer sends.
+--
+-- RTPS 2.5, 8.4.9 (the behaviour of a reliable StatefulWriter), 8.3.7 (what stands in a message).
+use Rattle.std.specs.Prelude.{◌≡◌, ◌≢◌, ◌⊎◌, ℕ, ◌+◌, ◌++◌, length, Contains, Result, Ok, Err, AllPairs, IsSome, List, [], ◌∷◌, Some, set, slice_get}
+use Rattle.std.specs.declared.alloc.AllocError.{AllocError}
+use Rattle.dds_base.specs.declared.change.Change.{Change}
+use Rattle.dds_base.specs.declared.config.Config.{Config}
+use Rattle.dds_base.specs.declared.guid.GuidPrefix.{GuidPrefix}
+use Rattle.dds_base.specs.Written.{Changed}
+use Rattle.rtps_wire.specs.declared.data.DataContent.{DataContent}
+use Rattle.rtps_wire.specs.declared.message.Message.{Message}
+use Rattle.rtps_wire.specs.declared.submessage.Submessage.TheVariants.{InfoDst, InfoTs, Data}
+use Rattle.rtps_wire.specs.Messages.{IsWritable, HasSubmessage, spelling_of}
+use Rattle.dds_model.specs.declared.endpoint.Endpoint.{Endpoint}
+use Rattle.dds_model.specs.declared.event.Event.{Event}
+use Rattle.dds_model.specs.declared.event.Event.TheVariants as event
+use Rattle.dds_model.specs.declared.event.Output.{Output}
+use Rattle.dds_model.specs.declared.event.Packet.{Packet}
+use Rattle.dds_model.specs.Part.{ReaderProxy, own_writer, acknowledged_of, writer_changes}
+use Rattle.dds_model.specs.Calls.{Effect, writes, effect_of}
+use Rattle.dds_model.specs.Claims.{ChangeIs, Claims}
+use Rattle.dds_model.specs.Peer.{Peer}
+use Rattle.dds_model.specs.Runs.{peers_of}
+use Rattle.dds_core.specs.declared.matching.Destination.{Destination}
+use Rattle.dds_core.specs.declared.sending.Sender.{Sender}
+use Rattle.dds_core.specs.Kept.{CoreKept, WriterKept}
+use Rattle.dds_core.specs.Standing.{StandsFor}
+
+-- nothing is sent, and nothing found no memory
+pub record SendsNothing (output : Output) : Type 0 where
+  pub packets : output.packets ≡ []
+  pub unsent : output.unsent ≡ 0
+
+-- A change of a writer is announced: each peer with a matched reader gets one packet, in which the change is for each such
+-- reader, or the packet is counted as unsent.
+pub record SendsChange (config : Config) (writer : Endpoint) (readers : List ReaderProxy) (number : ℕ) (change : Change) (output : Output) : Type 0 where
+  pub counted : length output.packets + output.unsent ≡ length (peers_of readers)
+  pub to_peers : (packet : Packet) → Contains output.packets packet → Contains (peers_of readers) packet.to
+  pub says : (packet : Packet) (reader : Endpoint) → Contains output.packets packet → reader.peer ≡ packet.to → IsSome (acknowledged_of readers reader) → Claims config packet.bytes (ChangeIs writer reader number change)
+  pub different : AllPairs (λ (a b : Packet). a.to ≢ b.to) output.packets
+
+-- what is sent for what a call enters
+abbrev pub SendsFor : Config → Peer → Effect → Output → Type 0
+SendsFor config peer (writes writer (Changed change)) output =
+    SendsChange config (record { peer = peer.number; number = writer }) (own_writer peer.part writer).readers (length (writer_changes (own_writer peer.part writer)) + 1) change output
+SendsFor config peer other output = SendsNothing output
+
+-- each packet is a message
+abbrev pub AreMessages : List Packet → Type 0
+AreMessages packets = (packet : Packet) → Contains packets packet → HasSubmessage packet.bytes
+
+-- for each state that the values stand for, this is what is sent at the event
+abbrev pub Sends : CoreKept → Event → Output → Type 0
+Sends old (event.Call call) output = (config : Config) (peer : Peer) → StandsFor old config peer → SendsFor config peer (effect_of peer.part call output.reply) output
+Sends old other output = SendsNothing output
+
+-- the message that announces a change to a peer
+abbrev pub announcement : Sender → Destination → ℕ → DataContent → Message
+announcement sender to number content = record {
+  prefix = sender.prefix;
+  submessages = InfoDst to.prefix ∷ InfoTs (Some sender.moment)
+      ∷ Data (record { reader_id = record { 0 = 0 ∷ 0 ∷ 0 ∷ 0 ∷ [] }; writer_id = sender.entity; writer_sn = number; content = content }) ∷ [];
+}
+
+-- the packet is that message
+pub record IsAnnouncement (sender : Sender) (to : Destination) (number : ℕ) (content : DataContent) (packet : Packet) : Type 0 where
+  pub to_is : packet.to ≡ to.peer
+  pub writable : IsWritable (announcement sender to number content)
+  pub bytes : packet.bytes ≡ spelling_of (announcement sender to number content)
+
+-- the packets announce it to some of these destinations, each once and in their order
+abbrev pub AreAnnouncements : Sender → ℕ → DataContent → List Destination → List Packet → Type 0
+AreAnnouncements sender number content to [] = Unit {0}
+AreAnnouncements sender number content [] (packet ∷ packets) = ⊥
+AreAnnouncements sender number content (d ∷ ds) (packet ∷ packets) =
+    (IsAnnouncement sender d number content packet × AreAnnouncements sender number content ds packets) ⊎ AreAnnouncements sender number content ds (packet ∷ packets)
+
+-- the message announces the change to some peer
+abbrev pub Announces : Sender → ℕ → DataContent → Message → Type 0
+Announces sender number content message = (to : Destination) × (message ≡ announcement sender to number content)
+
+-- the same of what was copied
+abbrev pub AnnouncesCopy : Sender → ℕ → Result DataContent AllocError → Message → Type 0
+AnnouncesCopy sender number (Ok content) message = Announces sender number content message
+AnnouncesCopy sender number (Err e) message = ⊥
+
+abbrev pub AnnounceCopy : Sender → ℕ → Result DataContent AllocError → List Destination → List Packet → Type 0
+AnnounceCopy sender number (Ok content) ds packets = AreAnnouncements sender number content ds packets
+AnnounceCopy sender number (Err e) ds packets = packets ≡ []
+
+-- the message can be written, whichever peer of a name of twelve octets it is for
+abbrev pub IsAddressable : Message → Type 0
+IsAddressable message = (to : GuidPrefix) → length to.0 ≡ 12 → IsWritable (record { prefix = message.prefix; submessages = set message.submessages 0 (InfoDst to) })
+
+-- the packet of a message was added, or found no memory
+abbrev pub AddsPacket : List Packet → Message → ℕ → List Packet → Type 0
+AddsPacket old message to new = (new ≡ old) ⊎ (new ≡ old ++ record { to = to; bytes = spelling_of message } ∷ [])
+
+-- a writer of the peer, of this index, announces the change of this number, as it was copied, to each of its destinations
+pub record AnnouncesAll (kept : CoreKept) (index number : ℕ) (content : Result DataContent AllocError) (output : Output) : Type 0 where
+  pub writer : WriterKept
+  pub at : slice_get kept.writers index ≡ Some writer
+  pub counted : length output.packets + output.unsent ≡ length writer.destinations
+  pub packets : AnnounceCopy (record { prefix = kept.prefix; entity = writer.entity; moment = kept.moment }) number content writer.destinations output.packets

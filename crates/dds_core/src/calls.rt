@@ -1,0 +1,194 @@
+//! The calls of a peer's writers and readers.
+//!
+//! DDS 1.4, 2.2.2.4 (DataWriter), 2.2.2.5 (DataReader).
+
+ghost use Rattle.std.specs.Prelude.{◌≡◌, ◌&&◌, ◌+◌, ◌^◌, ◌<◌, ◌≤◌, false, length, nat_lt, nat_le, true, [], MatchOption};
+ghost use Rattle.std.specs.Result.{ForOk};
+ghost use Rattle.dds_base.specs.Checked.{is_maximum};
+ghost use Rattle.rtps_wire.specs.Data.{IsContent};
+ghost use Rattle.dds_model.specs.declared.reply.Reply.TheVariants.{Done, Refused};
+ghost use Rattle.dds_model.specs.declared.call.Call.TheVariants as call;
+ghost use Rattle.dds_model.specs.declared.event.Event.TheVariants as event;
+ghost use Rattle.dds_model.specs.Calls.{limit_of};
+ghost use Rattle.dds_core.specs.Standing.{Steps};
+ghost use Rattle.dds_core.specs.Making.{Makes, IsValueOf};
+ghost use Rattle.dds_core.specs.Sending.{Sends, SendsNothing, AnnouncesAll, AreMessages};
+
+use crate::output::{answered, reply_to_access};
+use crate::peer::Core;
+use crate::sending::{Announced, Sender, announce};
+use dds_base::{Change, ChangeKind, Code, Key, MAX_VALUE, Masks, Octets, Sequence, Sn};
+use dds_model::{Call, Output, Reply};
+use rtps_wire::DataContent;
+use std::alloc::AllocError;
+
+/// The index of a writer or a reader of this number, counted from 1, among so many.
+pub fn index_of(number: u8, count: usize) -> Option<usize>
+    ensures { MatchOption result ((nat_lt 0 number && nat_le number count) ≡ false) (λ index. (number ≡ index + 1) × (index < count)) }
+{
+    if number == 0 || count < usize::from(number) {
+        None
+    } else {
+        Some(usize::from(number) - 1)
+    }
+}
+
+/// How many samples an access asks for; `None` where it asks for no valid number.
+fn limit_from(max: i32) -> Option<Option<u32>>
+    ensures { MatchOption result (is_maximum max ≡ false) (λ limit. (is_maximum max ≡ true) × (limit ≡ limit_of max)) }
+{
+    if max == -1 {
+        Some(None)
+    } else if 0 < max {
+        Some(Some(max as u32))
+    } else {
+        None
+    }
+}
+
+impl Core {
+    pub(crate) fn call(&mut self, call: Call) -> Output
+        ensures step { Steps self.old (event.Call call) result self.new }
+        ensures sends { Sends self.old (event.Call call) result }
+        ensures messages { AreMessages result.packets }
+    {
+        match call {
+            Call::Register { writer, key } => self.register(writer, key),
+            Call::Write { writer, key, value } => self.write(writer, key, value),
+            Call::Dispose { writer, key } => self.dispose(writer, key),
+            Call::Unregister { writer, key } => self.unregister(writer, key),
+            Call::Take { reader, max, masks } => self.take(reader, max, masks),
+        }
+    }
+
+    fn refused(&self, code: Code) -> Output
+        ensures { result ≡ record { reply = Refused code; packets = []; unsent = 0 } }
+    {
+        answered(self.alloc, Reply::Refused(code))
+    }
+
+    fn register(&mut self, writer: u8, key: Key) -> Output
+        ensures step { Steps self.old (event.Call (call.Register writer key)) result self.new }
+        ensures sends { SendsNothing result }
+    {
+        let Some(index) = index_of(writer, self.writers.len()) else {
+            return self.refused(Code::BadParameter);
+        };
+        match self.writers[index].register(key) {
+            Ok(()) => answered(self.alloc, Reply::Done),
+            Err(code) => self.refused(code),
+        }
+    }
+
+    fn write(&mut self, writer: u8, key: Key, value: Octets) -> Output
+        ensures step { Steps self.old (event.Call (call.Write writer key value)) result self.new }
+        ensures sends { Sends self.old (event.Call (call.Write writer key value)) result }
+        ensures messages { AreMessages result.packets }
+    {
+        let Some(index) = index_of(writer, self.writers.len()) else {
+            return self.refused(Code::BadParameter);
+        };
+        if MAX_VALUE < value.as_slice().len() {
+            return self.refused(Code::BadParameter);
+        }
+        self.make(index, ChangeKind::Write, key, value)
+    }
+
+    fn dispose(&mut self, writer: u8, key: Key) -> Output
+        ensures step { Steps self.old (event.Call (call.Dispose writer key)) result self.new }
+        ensures sends { Sends self.old (event.Call (call.Dispose writer key)) result }
+        ensures messages { AreMessages result.packets }
+    {
+        let Some(index) = index_of(writer, self.writers.len()) else {
+            return self.refused(Code::BadParameter);
+        };
+        let none = Octets::from_vec(Vec::new(self.alloc));
+        self.make(index, ChangeKind::Dispose, key, none)
+    }
+
+    fn unregister(&mut self, writer: u8, key: Key) -> Output
+        ensures step { Steps self.old (event.Call (call.Unregister writer key)) result self.new }
+        ensures sends { Sends self.old (event.Call (call.Unregister writer key)) result }
+        ensures messages { AreMessages result.packets }
+    {
+        let Some(index) = index_of(writer, self.writers.len()) else {
+            return self.refused(Code::BadParameter);
+        };
+        if !self.writers[index].is_registered(key) {
+            return self.refused(Code::PreconditionNotMet);
+        }
+        let kind = self.writers[index].unregister_kind();
+        let none = Octets::from_vec(Vec::new(self.alloc));
+        self.make(index, kind, key, none)
+    }
+
+    /// Makes a change of the writer of this index at the peer's moment, and announces it; or answers why not.
+    fn make(&mut self, index: usize, kind: ChangeKind, key: Key, value: Octets) -> Output
+        requires within { index < length self.old.writers }
+        requires short { length value ≤ 1024 }
+        requires empty { IsValueOf kind value }
+        ensures makes { Makes self.old index kind key value result self.new }
+        ensures messages { AreMessages result.packets }
+    {
+        let change = Change {
+            kind,
+            key,
+            value,
+            source_timestamp: self.moment,
+        };
+        let content = DataContent::of_change(self.alloc, &change);
+        let _key = key.as_slice();
+        match self.writers[index].append(change) {
+            Ok(number) => self.announced(index, number, content),
+            Err(code) => self.refused(code),
+        }
+    }
+
+    /// The answer to a call that made the change of this number, with the packets that announce it.
+    fn announced(
+        &self,
+        index: usize,
+        number: Sn,
+        content: Result<DataContent, AllocError>,
+    ) -> Output
+        requires within { index < length self.now.writers }
+        requires first { 1 ≤ number }
+        requires small { number ≤ 2 ^ 48 }
+        requires valid { ForOk content (λ c. IsContent c) }
+        ensures reply { result.reply ≡ Done }
+        ensures sends { AnnouncesAll self.now index number content result }
+    {
+        let writer = &self.writers[index];
+        let sender = Sender {
+            prefix: self.prefix,
+            entity: writer.entity(),
+            moment: self.moment,
+        };
+        let Announced { packets, unsent } = announce(
+            self.alloc,
+            &sender,
+            writer.destinations(),
+            number,
+            content,
+        );
+        Output {
+            reply: Reply::Done,
+            packets: Sequence::from_vec(packets),
+            unsent,
+        }
+    }
+
+    fn take(&mut self, reader: u8, max: i32, masks: Masks) -> Output
+        ensures step { Steps self.old (event.Call (call.Take reader max masks)) result self.new }
+        ensures sends { SendsNothing result }
+    {
+        let Some(index) = index_of(reader, self.readers.len()) else {
+            return self.refused(Code::BadParameter);
+        };
+        let Some(limit) = limit_from(max) else {
+            return self.refused(Code::BadParameter);
+        };
+        let samples = self.readers[index].take(limit, masks);
+        answered(self.alloc, reply_to_access(samples))
+    }
+}

@@ -1,0 +1,144 @@
+//! How a peer is opened.
+
+ghost use Rattle.std.specs.Prelude.{◌≡◌, ◌<◌, length, None, true, IfOk, IfErr};
+ghost use Rattle.std.specs.List.{list_all};
+ghost use Rattle.dds_base.specs.Checked.{check_refusal};
+ghost use Rattle.dds_base.specs.Refusal.{Refuses};
+ghost use Rattle.dds_core.specs.Opening.{is_plain_writer, is_plain_reader, is_plain_peer, are_plain, core_refusal, opening_peer, OpenWriters, OpenReaders, OpensCore};
+ghost use Rattle.dds_core.specs.Standing.{StandsFor};
+
+use crate::calls::index_of;
+use crate::peer::Core;
+use crate::reader_end::ReaderEnd;
+use crate::writer_end::WriterEnd;
+use dds_base::{
+    Code, Config, HistoryQos, Moment, OwnershipQos, PeerConfig, ReaderConfig, WriterConfig,
+};
+use std::alloc::{AllocError, Global};
+
+/// Whether a writer is shared and keeps all, without a limit or a lease.
+fn is_plain_writer(writer: &WriterConfig) -> bool
+    ensures { result ≡ is_plain_writer writer.now }
+{
+    matches!(writer.ownership, OwnershipQos::Shared)
+        && matches!(writer.history, HistoryQos::KeepAll)
+        && writer.max_samples == -1
+        && writer.lease.is_none()
+}
+
+/// Whether a reader is shared and keeps all, without a limit or a lease.
+fn is_plain_reader(reader: &ReaderConfig) -> bool
+    ensures { result ≡ is_plain_reader reader.now }
+{
+    matches!(reader.ownership, OwnershipQos::Shared)
+        && matches!(reader.history, HistoryQos::KeepAll)
+        && reader.max_samples == -1
+        && reader.max_instances == -1
+        && reader.lease.is_none()
+}
+
+/// Whether all of these writers are plain.
+fn are_plain_writers(writers: &[WriterConfig]) -> bool
+    ensures { result ≡ list_all is_plain_writer writers.now }
+{
+    writers.iter().all(|w| is_plain_writer(w))
+}
+
+/// Whether all of these readers are plain.
+fn are_plain_readers(readers: &[ReaderConfig]) -> bool
+    ensures { result ≡ list_all is_plain_reader readers.now }
+{
+    readers.iter().all(|r| is_plain_reader(r))
+}
+
+/// Whether all writers and readers of a peer are plain.
+fn is_plain_peer(peer: &PeerConfig) -> bool
+    ensures { result ≡ is_plain_peer peer.now }
+{
+    are_plain_writers(peer.writers.as_slice()) && are_plain_readers(peer.readers.as_slice())
+}
+
+/// Whether all writers and readers of all peers are plain.
+fn are_plain(peers: &[PeerConfig]) -> bool
+    ensures { result ≡ are_plain peers.now }
+{
+    peers.iter().all(|p| is_plain_peer(p))
+}
+
+/// A peer's writers, which have written nothing.
+fn open_writers(
+    alloc: Global,
+    peers: &[PeerConfig],
+    writers: &[WriterConfig],
+) -> Result<Vec<WriterEnd>, AllocError>
+    requires checked { check_refusal peers.now ≡ None }
+    requires plain { list_all is_plain_writer writers.now ≡ true }
+    ensures { IfOk result (λ all. OpenWriters peers.now writers.now all.items) }
+{
+    let mut all = Vec::new(alloc);
+    for writer in writers {
+        all.push(WriterEnd::open(alloc, peers, writer)?)?;
+    }
+    Ok(all)
+}
+
+/// A peer's readers, at which nothing has happened.
+fn open_readers(
+    alloc: Global,
+    peers: &[PeerConfig],
+    readers: &[ReaderConfig],
+) -> Result<Vec<ReaderEnd>, AllocError>
+    requires checked { check_refusal peers.now ≡ None }
+    requires plain { list_all is_plain_reader readers.now ≡ true }
+    ensures { IfOk result (λ all. OpenReaders peers.now readers.now all.items) }
+{
+    let mut all = Vec::new(alloc);
+    for reader in readers {
+        all.push(ReaderEnd::open(alloc, peers, reader)?)?;
+    }
+    Ok(all)
+}
+
+/// A peer of a checked configuration, by its index.
+fn open(alloc: Global, peers: &[PeerConfig], index: usize) -> Result<Core, AllocError>
+    requires within { index < length peers.now }
+    requires checked { check_refusal peers.now ≡ None }
+    requires plain { are_plain peers.now ≡ true }
+    ensures { IfOk result (OpensCore peers.now index) }
+{
+    let own = &peers[index];
+    let writers = open_writers(alloc, peers, own.writers.as_slice())?;
+    let readers = open_readers(alloc, peers, own.readers.as_slice())?;
+    Ok(Core {
+        alloc,
+        prefix: own.prefix,
+        moment: Moment::new(0),
+        writers,
+        readers,
+    })
+}
+
+impl Core {
+    /// The peer of this number, at its opening. Its writers and readers are matched with those of equal topic.
+    ///
+    /// # Errors
+    ///
+    /// The first of these: what `Config::check` answers; `BadParameter` where the configuration has no peer of this
+    /// number, or has a writer or a reader that is not shared, does not keep all, or has a limit or a lease; `Memory`
+    /// where a growth was refused.
+    pub fn open(alloc: Global, config: &Config, peer: u8) -> Result<Core, Code>
+        ensures opening { IfOk result (λ core. StandsFor core config.now (opening_peer config.now peer)) }
+        ensures taken { IfOk result (λ core. core_refusal config.now.peers peer ≡ None) }
+        ensures refused { IfErr result (Refuses (core_refusal config.now.peers peer)) }
+    {
+        config.check()?;
+        let peers = config.peers.as_slice();
+        let Some(index) = index_of(peer, peers.len()) else {
+            return Err(Code::BadParameter);
+        };
+        if !are_plain(peers) {
+            return Err(Code::BadParameter);
+        }
+        Ok(open(alloc, peers, index)?)
+    }
+}

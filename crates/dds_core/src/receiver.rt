@@ -1,0 +1,71 @@
+//! Whom the rest of a message is for, and when its changes were made.
+
+ghost use Rattle.std.specs.Prelude.{◌≡◌};
+ghost use Rattle.dds_model.specs.Claims.{receiver_of, is_for, stamp_of, after_submessage};
+ghost use Rattle.dds_core.specs.Receiving.{receiver_at};
+
+use dds_base::GuidPrefix;
+use rtps_wire::Submessage;
+
+/// From here on, in units of 2^-32 second, there is no moment.
+pub const NO_MOMENT: u64 = 1 << 63;
+
+/// What a receiver knows of what follows in a message.
+///
+/// RTPS 2.5, 8.3.4.
+#[derive(Clone, Copy)]
+pub struct MessageReceiver {
+    pub source: GuidPrefix,
+    pub dest: GuidPrefix,
+    /// In units of 2^-32 second.
+    pub timestamp: u64,
+}
+
+/// The receiver at the begin of a message of this prefix.
+pub fn receiver_for(prefix: GuidPrefix) -> MessageReceiver
+    ensures { receiver_at result ≡ receiver_of prefix }
+{
+    MessageReceiver {
+        source: prefix,
+        dest: GuidPrefix::UNKNOWN,
+        timestamp: 0,
+    }
+}
+
+/// Whether this part of the message is for the peer of this prefix.
+pub fn is_for(receiver: &MessageReceiver, own: &GuidPrefix) -> bool
+    ensures { result ≡ is_for (receiver_at receiver.now) own.now }
+{
+    receiver.dest == *own || receiver.dest == GuidPrefix::UNKNOWN
+}
+
+/// The moment that an INFO_TS gives: 0 where it gives none.
+fn moment_of(stamp: Option<u64>) -> u64
+    ensures { result ≡ stamp_of stamp }
+{
+    match stamp {
+        Some(moment) if moment < NO_MOMENT => moment,
+        _ => 0,
+    }
+}
+
+/// The receiver after a submessage, at the peer of this prefix: a part for another peer sets no moment.
+pub fn receiver_after(
+    own: &GuidPrefix,
+    receiver: MessageReceiver,
+    submessage: &Submessage,
+) -> MessageReceiver
+    ensures { receiver_at result ≡ after_submessage own.now (receiver_at receiver) submessage.now }
+{
+    match submessage {
+        Submessage::InfoDst(prefix) => MessageReceiver {
+            dest: *prefix,
+            ..receiver
+        },
+        Submessage::InfoTs(stamp) if is_for(&receiver, own) => MessageReceiver {
+            timestamp: moment_of(*stamp),
+            ..receiver
+        },
+        _ => receiver,
+    }
+}

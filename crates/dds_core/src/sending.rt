@@ -1,0 +1,118 @@
+//! How a change is announced: one packet to each peer with a matched reader, with the change as a DATA for all of them.
+//!
+//! RTPS 2.5, 8.4.9 (the behaviour of a reliable StatefulWriter).
+
+ghost use Rattle.std.specs.Prelude.{◌≡◌, ◌+◌, ◌^◌, ◌≤◌, length, set, IfOk};
+ghost use Rattle.std.specs.Result.{ForOk};
+ghost use Rattle.rtps_wire.specs.Data.{IsContent};
+ghost use Rattle.rtps_wire.specs.Messages.{IsWritable};
+ghost use Rattle.rtps_wire.specs.declared.submessage.Submessage.TheVariants.{InfoDst};
+ghost use Rattle.dds_core.specs.Sending.{AnnouncesCopy, AnnounceCopy, AddsPacket, IsAddressable};
+
+use crate::matching::Destination;
+use dds_base::{EntityId, GuidPrefix, Moment, Octets, Sn};
+use dds_model::Packet;
+use rtps_wire::{Data, DataContent, Message, Submessage, Submessages, write_message};
+use std::alloc::{AllocError, Global};
+
+/// Who announces a change, and when it was made.
+#[derive(Clone, Copy)]
+pub struct Sender {
+    pub prefix: GuidPrefix,
+    /// The writer.
+    pub entity: EntityId,
+    pub moment: Moment,
+}
+
+/// Packets, and how many more found no memory.
+#[derive(Drop)]
+pub struct Announced {
+    pub packets: Vec<Packet>,
+    pub unsent: u64,
+}
+
+/// The message that announces a change, without a peer that it is for.
+fn message(
+    alloc: Global,
+    sender: &Sender,
+    number: Sn,
+    content: Result<DataContent, AllocError>,
+) -> Result<Message, AllocError>
+    requires first { 1 ≤ number }
+    requires small { number ≤ 2 ^ 48 }
+    requires valid { ForOk content (λ c. IsContent c) }
+    ensures says { IfOk result (AnnouncesCopy sender.now number content) }
+    ensures writable { IfOk result IsAddressable }
+{
+    // These show the prover how many octets the names have.
+    let (_prefix, _entity) = (sender.prefix.as_slice(), sender.entity.as_slice());
+    let data = Data {
+        reader_id: EntityId::UNKNOWN,
+        writer_id: sender.entity,
+        writer_sn: number,
+        content: content?,
+    };
+    let submessages = vec![in alloc;
+        Submessage::InfoDst(GuidPrefix::UNKNOWN),
+        Submessage::InfoTs(Some(sender.moment.units())),
+        Submessage::Data(data),
+    ]?;
+    Ok(Message {
+        prefix: sender.prefix,
+        submessages: Submessages::from_vec(submessages),
+    })
+}
+
+/// The message, for the peer of this prefix.
+fn addressed(message: Message, to: GuidPrefix) -> Message
+    requires { 1 ≤ length message.submessages }
+    ensures { result ≡ record { prefix = message.prefix; submessages = set message.submessages 0 (InfoDst to) } }
+{
+    let Message {
+        prefix,
+        submessages,
+    } = message;
+    let mut submessages = submessages.into_vec();
+    submessages[0] = Submessage::InfoDst(to);
+    Message {
+        prefix,
+        submessages: Submessages::from_vec(submessages),
+    }
+}
+
+/// Adds the packet of a message to a peer, if there is memory for it.
+fn push_packet(alloc: Global, packets: &mut Vec<Packet>, message: &Message, to: u8)
+    requires { IsWritable message.now }
+    ensures { AddsPacket packets.old.items message.now to packets.new.items }
+{
+    if let Ok(bytes) = write_message(alloc, message) {
+        let bytes = Octets::from_vec(bytes);
+        let _ = packets.push(Packet { to, bytes });
+    }
+}
+
+/// Announces the change of this number to each of these peers.
+pub fn announce(
+    alloc: Global,
+    sender: &Sender,
+    destinations: &[Destination],
+    number: Sn,
+    content: Result<DataContent, AllocError>,
+) -> Announced
+    requires first { 1 ≤ number }
+    requires small { number ≤ 2 ^ 48 }
+    requires valid { ForOk content (λ c. IsContent c) }
+    ensures counted { length result.packets.items + result.unsent ≡ length destinations.now }
+    ensures packets { AnnounceCopy sender.now number content destinations.now result.packets.items }
+{
+    let mut packets = Vec::new(alloc);
+    if let Ok(mut message) = message(alloc, sender, number, content) {
+        for destination in destinations {
+            let _prefix = destination.prefix.as_slice();
+            message = addressed(message, destination.prefix);
+            push_packet(alloc, &mut packets, &message, destination.peer);
+        }
+    }
+    let unsent = (destinations.len() - packets.len()) as u64;
+    Announced { packets, unsent }
+}

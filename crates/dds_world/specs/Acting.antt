@@ -1,0 +1,52 @@
+-- What an event of one peer does to the network, and how the peers are opened. Inner functions alone cite this: nothing
+-- here has to be believed.
+use Rattle.std.specs.Prelude.{◌≡◌, ℕ, ◌+◌, ◌-◌, ◌^◌, ◌≤◌, min, List, length, set, slice_get, Some, None}
+use Rattle.dds_base.specs.declared.config.Config.{Config}
+use Rattle.dds_model.specs.declared.event.Event.{Event}
+use Rattle.dds_model.specs.declared.event.Output.{Output}
+use Rattle.dds_model.specs.declared.event.Packet.{Packet}
+use Rattle.dds_model.specs.declared.reply.Reply.{Reply}
+use Rattle.dds_core.specs.Kept.{CoreKept}
+use Rattle.dds_core.specs.Opening.{opening_refusal, opening_peer}
+use Rattle.dds_core.specs.Sending.{Sends as CoreSends, SendsNothing, AreMessages}
+use Rattle.dds_core.specs.Standing.{StandsFor as CoreStandsFor, Steps as CoreSteps}
+use Rattle.dds_world.specs.WorldStanding.{WorldKept, Posts}
+
+-- how many packets were counted as unsent: those of the peer, and those that found no memory in the network
+abbrev pub Counts : WorldKept → Output → WorldKept → Type 0
+Counts old output new = (lost : ℕ) × (length new.sent + lost ≡ length old.sent + length output.packets) × (new.unsent ≡ min (old.unsent + output.unsent + lost) (2 ^ 64 - 1))
+
+-- where a peer sends nothing, the network sends nothing and loses nothing
+abbrev pub IsQuiet : WorldKept → Output → WorldKept → Type 0
+IsQuiet old output new = SendsNothing output → (new.sent ≡ old.sent) × (new.unsent ≡ old.unsent)
+
+-- the peer of this index has the event, and the other peers are as they were; of its packets some are sent
+pub record ActsAt (old : WorldKept) (index : ℕ) (event : Event) (reply : Reply) (new : WorldKept) : Type 0 where
+  pub core : CoreKept
+  pub at : slice_get old.peers index ≡ Some core
+  pub output : Output
+  pub after : CoreKept
+  pub steps : CoreSteps core event output after
+  pub messages : AreMessages output.packets
+  pub replies : reply ≡ output.reply
+  pub peers : new.peers ≡ set old.peers index after
+  pub posts : Posts old.sent output.packets new.sent
+
+-- so it is, and what it sends is said, and counted
+pub record Acts (old : WorldKept) (index : ℕ) (event : Event) (reply : Reply) (new : WorldKept) : Type 0 where
+  pub acts : ActsAt old index event reply new
+  pub sends : CoreSends acts.core event acts.output
+  pub counts : Counts old acts.output new
+  pub quiet : IsQuiet old acts.output new
+
+-- these octets are those of the packet of this index
+pub record IsCopy (sent : List Packet) (index : ℕ) (bytes : List ℕ) : Type 0 where
+  pub packet : Packet
+  pub at : slice_get sent index ≡ Some packet
+  pub same : bytes ≡ packet.bytes
+
+-- the first peers of a configuration, at their opening; where there is one, the configuration is taken
+pub record OpensFirst (config : Config) (count : ℕ) (kept : List CoreKept) : Type 0 where
+  pub counted : length kept ≡ count
+  pub each : (i : ℕ) (k : CoreKept) → slice_get kept i ≡ Some k → CoreStandsFor k config (opening_peer config (i + 1))
+  pub taken : 1 ≤ count → opening_refusal config.peers ≡ None

@@ -1,0 +1,48 @@
+//! What holds of every message, and of every change and what a DATA says of it. The functions do nothing.
+
+ghost use Rattle.std.specs.Prelude.{◌≡◌, ◌≤◌, ◌^◌, ℕ, List, length};
+ghost use Rattle.std.specs.List.{AllByRecursion};
+ghost use Rattle.dds_base.specs.declared.change.Change.{Change};
+ghost use Rattle.rtps_wire.specs.Content.{IsEmptyUnlessWrite, content_of, change_in};
+ghost use Rattle.rtps_wire.specs.Heartbeat.{IsHeartbeat};
+ghost use Rattle.rtps_wire.specs.Messages.{IsWritable, ReadsMessage, spelling_of};
+ghost use Rattle.rtps_wire.specs.Submessages.{IsSpellable, spelling_of_submessage};
+ghost use Rattle.rtps_wire.specs.declared.data.DataContent.{DataContent};
+ghost use Rattle.rtps_wire.specs.declared.heartbeat.Heartbeat.{Heartbeat};
+ghost use Rattle.rtps_wire.specs.declared.message.Message.{Message};
+ghost use Rattle.rtps_wire.specs.declared.submessage.Submessage.{Submessage};
+
+use crate::field::MAX_SN;
+use crate::header::MAX_MESSAGE;
+
+/// What is written is read as itself to its end, and no bytes are read as two messages.
+pub fn spelling_is_read()
+    ensures again { (m : Message) → IsWritable m
+        → ReadsMessage (spelling_of m) m (length (spelling_of m)) }
+    ensures one { (bytes : List ℕ) (m n : Message) (o p : ℕ) → ReadsMessage bytes m o
+        → ReadsMessage bytes n p → (m ≡ n) × (o ≡ p) }
+{}
+
+/// The limits are those of the grammar: a message of `MAX_MESSAGE` octets, and a number of `MAX_SN`, are the last.
+pub fn limits_are_of_the_grammar()
+    ensures message { MAX_MESSAGE ≡ 65535 }
+    ensures written { (m : Message) → IsWritable m → length (spelling_of m) ≤ MAX_MESSAGE }
+    ensures read { (bytes : List ℕ) (m : Message) (offset : ℕ) → ReadsMessage bytes m offset
+        → length bytes ≤ MAX_MESSAGE }
+    ensures number { MAX_SN ≡ 2 ^ 62 }
+    ensures heartbeat { (h : Heartbeat) → IsHeartbeat h → h.last_sn ≤ MAX_SN }
+{}
+
+/// At most 61 submessages that can be written one by one can be written together: each takes at most 1,072 octets.
+pub fn few_are_writable()
+    ensures each { (s : Submessage) → IsSpellable s → length (spelling_of_submessage s) ≤ 1072 }
+    ensures few { (m : Message) → length m.prefix.0 ≡ 12 → AllByRecursion IsSpellable m.submessages
+        → length m.submessages ≤ 61 → IsWritable m }
+{}
+
+/// What a DATA says of a change means that change, and what a DATA says is what it says of the change that it means.
+pub fn contents_are_of_changes()
+    ensures change { (c : Change) → IsEmptyUnlessWrite c
+        → change_in (content_of c) c.source_timestamp ≡ c }
+    ensures content { (c : DataContent) (moment : ℕ) → content_of (change_in c moment) ≡ c }
+{}

@@ -1,0 +1,33 @@
+//! The payload of a DATA as it is written: a datum, or the key form of a change without a value.
+//!
+//! RTPS 2.5, clause 10 (SerializedPayload). `dds_base` reads both, and has their grammar.
+
+ghost use Rattle.std.specs.Prelude.{◌≡◌, ◌≤◌, ◌++◌, length, OnOk, IfErr};
+ghost use Rattle.dds_base.specs.DatumText.{spelling_of_datum, spelling_of_key};
+
+use crate::names::{CDR_LE, NO_OPTIONS};
+use dds_base::{Code, Datum, Key, MAX_VALUE};
+
+/// Appends the key form.
+pub fn put_key_form(out: &mut Vec<u8>, key: &Key) -> Result<(), Code>
+    ensures ok { OnOk result (out.new.items ≡ out.old.items ++ spelling_of_key key.now) }
+    ensures memory { IfErr result (λ e. e ≡ Code.Memory) }
+{
+    out.extend_from_slice(&CDR_LE)?;
+    out.extend_from_slice(&NO_OPTIONS)?;
+    out.extend_from_slice(&key.0)?;
+    Ok(())
+}
+
+/// Appends the datum. Its value is copied into the octets at once.
+pub fn put_datum(out: &mut Vec<u8>, datum: &Datum) -> Result<(), Code>
+    requires { length datum.now.value ≤ MAX_VALUE }
+    ensures ok { OnOk result (out.new.items ≡ out.old.items ++ spelling_of_datum datum.now) }
+    ensures memory { IfErr result (λ e. e ≡ Code.Memory) }
+{
+    let value = datum.value.as_slice();
+    put_key_form(out, &datum.key)?;
+    out.extend_from_slice(&(value.len() as u32).to_le_bytes())?;
+    out.extend_from_slice(value)?;
+    Ok(())
+}
