@@ -1,8 +1,8 @@
 -- The packets that announce a change.
-use Rattle.std.proofs.Common.{◌≡◌, ℕ, zero, suc, ◌+◌, ◌^◌, ◌<◌, ◌≤◌, List, [], ◌∷◌, ◌++◌, Some, set, take, length, get_or, refl, ap, sym, ◌∙◌, subst, arith, inl, inr, ⊎_elim, length-append, length-set}
+use Rattle.std.proofs.Common.{◌≡◌, ℕ, ◌+◌, ◌^◌, ◌<◌, ◌≤◌, List, [], ◌∷◌, ◌++◌, Some, set, take, length, get_or, refl, ap, sym, ◌∙◌, subst, arith, inl, inr, ⊎_elim, length-append, length-set}
 use Rattle.std.specs.Prelude.{Result, Ok, Err}
 use Rattle.std.specs.declared.alloc.AllocError.{AllocError}
-use Rattle.std.proofs.lemmas.List.{set-set}
+use Rattle.std.proofs.lemmas.List.{set-set, take_more}
 use Rattle.dds_base.specs.declared.guid.GuidPrefix.{GuidPrefix}
 use Rattle.rtps_wire.specs.declared.data.DataContent.{DataContent}
 use Rattle.rtps_wire.specs.declared.message.Message.{Message}
@@ -59,11 +59,6 @@ add_one sender number c [] [] d p h is = inl (is, tt)
 add_one sender number c [] (q ∷ qs) d p h is = absurd h
 add_one sender number c (e ∷ es) [] d p h is = inr (add_one sender number c es [] d p tt is)
 add_one sender number c (e ∷ es) (q ∷ qs) d p h is = ⊎_elim (λ f. inl (f.0, add_one sender number c es qs d p f.1 is)) (λ g. inr (add_one sender number c es (q ∷ qs) d p g is)) h
-
-take_more : {X : Type 0} (xs : List X) (i : ℕ) (d : X) → i < length xs → take (i + 1) xs ≡ take i xs ++ get_or xs i d ∷ []
-take_more [] i d lt = absurd (omega (arith, lt))
-take_more (x ∷ xs) zero d lt = refl
-take_more (x ∷ xs) (suc i) d lt = let n : suc i + 1 ≡ suc (i + 1) = omega arith in ap (λ (k : ℕ). take k (x ∷ xs)) n ∙ ap (λ ys. x ∷ ys) (take_more xs i d (omega (arith, lt)))
 
 announces_one : (sender : Sender) (number : ℕ) (c : DataContent) (m : Message) (d : Destination) (before after : List Packet) (ds : List Destination) → Announces sender number c m → IsWritable (message_with m.prefix (set m.submessages 0 (InfoDst d.prefix)))
     → AddsPacket before (message_with m.prefix (set m.submessages 0 (InfoDst d.prefix))) d.peer after → AreAnnouncements sender number c ds before → AreAnnouncements sender number c (ds ++ d ∷ []) after

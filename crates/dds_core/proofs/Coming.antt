@@ -4,7 +4,6 @@ use Rattle.std.specs.Prelude.{nat_lt}
 use Rattle.std.proofs.lemmas.Bool.Decides.{nat_tests}
 use Rattle.dds_base.specs.declared.change.Change.{Change}
 use Rattle.dds_base.specs.declared.config.Config.{Config}
-use Rattle.dds_base.specs.declared.guid.EntityId.{EntityId}
 use Rattle.dds_base.specs.declared.guid.Guid.{Guid}
 use Rattle.dds_base.specs.declared.happening.Arrival.{Arrival}
 use Rattle.dds_base.specs.declared.happening.Happening.{Happening}
@@ -25,13 +24,14 @@ use Rattle.dds_model.specs.Claims.{Receiver, ChangeIs, IsToReader, Says, IsWrite
 use Rattle.dds_model.specs.Peer.{Peer, Delivery, claimed}
 use Rattle.dds_core.specs.declared.matching.WriterName.{WriterName}
 use Rattle.dds_core.specs.declared.matching.WriterRow.{WriterRow}
-use Rattle.dds_core.specs.Kept.{ReaderKept, CoreKept, ReaderIdentity, reader_identity}
+use Rattle.dds_core.specs.Kept.{ReaderKept, CoreKept, reader_identity}
 use Rattle.dds_core.specs.Receiving.{IsFirstRow, IsAtPlace, IsNext, IsFull, Comes, IsOf, place_moves, arrival, with_part, writer_guid}
 use Rattle.dds_core.specs.Standing.{ReaderStands, StandsFor, writer_proxy}
 use Rattle.dds_core.proofs.Ends.{with_reader, own_reader_stepped}
 use Rattle.dds_core.proofs.Lists.{map-set_same}
 use Rattle.dds_core.proofs.Names.{IsNamed, one_guid, IsOwnReader, own_reader_is}
 use Rattle.dds_core.proofs.Rows.{IsFirstOf, is_first_of, publication_is, place_is, place_goes}
+use Rattle.dds_core.proofs.Identities.{identity_as}
 
 -- there is room for a change where nothing is limited
 
@@ -98,10 +98,7 @@ same_reader : (old new : ReaderKept) (n : ℕ) (row : WriterRow) (change : Chang
 same_reader old new n row change moment at comes =
     let names : map (λ (w : WriterRow). w.name) new.writers ≡ map (λ (w : WriterRow). w.name) old.writers =
     ap (λ (ws : List WriterRow). map (λ (w : WriterRow). w.name) ws) comes.writers ∙ map-set_same (λ (w : WriterRow). w.name) old.writers n row (record row { place = row.place + 1 }) at refl in
-    same_as new.entity old.entity (map (λ (w : WriterRow). w.name) new.writers) (map (λ (w : WriterRow). w.name) old.writers) comes.entity names
-  where
-    same_as : (a b : EntityId) (x y : List WriterName) → a ≡ b → x ≡ y → ◌≡◌ {A = ReaderIdentity} (record { entity = a; writers = x }) (record { entity = b; writers = y })
-    same_as a b x y e f = cc
+    identity_as new.entity old.entity (map (λ (w : WriterRow). w.name) new.writers) (map (λ (w : WriterRow). w.name) old.writers) comes.entity names
 
 -- what a step of one reader gives
 abbrev pub OneMove : Config → List Delivery → List ℕ → ℕ → Peer → Part → Move → CoreKept → Type 0

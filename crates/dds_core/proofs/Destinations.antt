@@ -1,9 +1,8 @@
 -- Whom a writer sends to: each peer with a matched reader, once.
-use Rattle.std.proofs.Common.{◌≡◌, ◌⊎◌, ℕ, zero, suc, ◌+◌, ◌-◌, ◌<◌, ◌≤◌, ◌==◌, Bool, true, false, cond, ◌||◌, List, [], ◌∷◌, ◌++◌, Some, map, slice_get, refl, ap, sym, ◌∙◌, subst, arith, inl, inr, ⊎_elim, eqb-true, eq-eqb}
+use Rattle.std.proofs.Common.{◌≡◌, ℕ, zero, suc, ◌+◌, ◌<◌, ◌==◌, Bool, true, false, cond, ◌||◌, List, [], ◌∷◌, ◌++◌, Some, map, slice_get, refl, ap, sym, ◌∙◌, subst, arith, ⊎_elim, eqb-true, eq-eqb}
 use Rattle.std.specs.Prelude.{if◌then◌else◌, IsSome}
 use Rattle.std.specs.List.{list_any}
 use Rattle.std.specs.Option.{option_map}
-use Rattle.std.proofs.lemmas.Option.{same_Some}
 use Rattle.dds_base.specs.declared.config.Config.{Config}
 use Rattle.dds_base.specs.declared.config.PeerConfig.{PeerConfig}
 use Rattle.dds_base.specs.declared.config.ReaderConfig.{ReaderConfig}
@@ -17,6 +16,7 @@ use Rattle.dds_core.specs.declared.matching.Destination.{Destination}
 use Rattle.dds_core.specs.declared.matching.ReaderRow.{ReaderRow}
 use Rattle.dds_core.specs.Matching.{has_reader, destinations, reader_names}
 use Rattle.dds_core.specs.Standing.{reader_proxy}
+use Rattle.dds_core.proofs.Numbered.{IsRest, rest_whole, rest_first, rest_later, cond_get, is_told}
 
 -- the peers of these names, each once
 peers_in : List Endpoint → List ℕ
@@ -90,29 +90,22 @@ sends_to topic peers rows ds names is =
 
 -- a destination is a peer of the configuration
 
-cond_get : {X : Type 0} (b : Bool) (x : X) (xs : List X) (k : ℕ) (y : X) → slice_get (cond b (x ∷ xs) xs) k ≡ Some y → (x ≡ y) ⊎ ((j : ℕ) × (slice_get xs j ≡ Some y))
-cond_get true x xs zero y at = inl (same_Some x y at)
-cond_get true x xs (suc k) y at = inr (k, at)
-cond_get false x xs k y at = inr (k, at)
-
 -- a peer of this number and prefix
 pub record IsPeer (peers : List PeerConfig) (d : Destination) : Type 0 where
   pub peer : PeerConfig
   pub at : IsNumbered peers d.peer peer
   pub prefix : peer.prefix ≡ d.prefix
 
-peers_from : (all : List PeerConfig) (topic n : ℕ) (ps : List PeerConfig) → 1 ≤ n → ((j : ℕ) (p : PeerConfig) → slice_get ps j ≡ Some p → slice_get all (n + j - 1) ≡ Some p) → (k : ℕ) (d : Destination) → slice_get (destinations topic n ps) k ≡ Some d → IsPeer all d
-peers_from all topic n [] low there k d at = absurd cc
-peers_from all topic n (p ∷ ps) low there k d at =
+peers_from : (all : List PeerConfig) (topic n : ℕ) (ps : List PeerConfig) → IsRest all n ps → (k : ℕ) (d : Destination) → slice_get (destinations topic n ps) k ≡ Some d → IsPeer all d
+peers_from all topic n [] rest k d at = absurd cc
+peers_from all topic n (p ∷ ps) rest k d at =
     ⊎_elim
-    (λ same.
-    let first : n + 0 - 1 ≡ n - 1 = omega arith in
-    subst (λ (x : Destination). IsPeer all x) same (record { peer = p; at = (low, subst (λ (m : ℕ). slice_get all m ≡ Some p) first (there zero p refl)); prefix = refl }))
-    (λ f. peers_from all topic (n + 1) ps (omega arith) (λ j q in_rest. let same : n + suc j - 1 ≡ n + 1 + j - 1 = omega (arith, low) in subst (λ (m : ℕ). slice_get all m ≡ Some q) same (there (suc j) q in_rest)) f.0 d f.1)
+    (λ f. subst (λ (x : Destination). IsPeer all x) f.1 (record { peer = p; at = rest_first all n p ps rest; prefix = refl }))
+    (λ f. peers_from all topic (n + 1) ps (rest_later all n p ps rest) f.0 d f.1)
     (cond_get (has_reader topic p.readers) (record { peer = n; prefix = p.prefix }) (destinations topic (n + 1) ps) k d at)
 
 pub is_peer : (peers : List PeerConfig) (topic k : ℕ) (d : Destination) → slice_get (destinations topic 1 peers) k ≡ Some d → IsPeer peers d
-is_peer peers topic k d at = peers_from peers topic 1 peers (omega arith) (λ j p there. let same : 1 + j - 1 ≡ j = omega arith in subst (λ (m : ℕ). slice_get peers m ≡ Some p) (sym same) there) k d at
+is_peer peers topic k d at = peers_from peers topic 1 peers (rest_whole peers) k d at
 
 -- a matched reader is one of the topic
 
@@ -122,42 +115,6 @@ pub record IsReaderOf (config : Config) (topic : ℕ) (reader : Endpoint) : Type
   pub end : ReaderConfig
   pub at_reader : IsNumbered peer.readers reader.number end
   pub same_topic : end.topic ≡ topic
-
-row_or_later : {X : Type 0} (b : Bool) (x : X) (xs : List X) (k : ℕ) (y : X) → slice_get (cond b (x ∷ xs) xs) k ≡ Some y → ((b ≡ true) × (x ≡ y)) ⊎ ((j : ℕ) × (slice_get xs j ≡ Some y))
-row_or_later true x xs zero y at = inl (refl, same_Some x y at)
-row_or_later true x xs (suc k) y at = inr (k, at)
-row_or_later false x xs k y at = inr (k, at)
-
-append_get : {X : Type 0} (xs ys : List X) (k : ℕ) (y : X) → slice_get (xs ++ ys) k ≡ Some y → ((j : ℕ) × (slice_get xs j ≡ Some y)) ⊎ ((j : ℕ) × (slice_get ys j ≡ Some y))
-append_get [] ys k y at = inr (k, at)
-append_get (x ∷ xs) ys zero y at = inl (zero, at)
-append_get (x ∷ xs) ys (suc k) y at = ⊎_elim (λ f. inl (suc f.0, f.1)) (λ f. inr f) (append_get xs ys k y at)
-
-readers_in : (config : Config) (topic i : ℕ) (p : PeerConfig) (n : ℕ) (rs : List ReaderConfig) → IsNumbered config.peers i p → 1 ≤ n → ((j : ℕ) (r : ReaderConfig) → slice_get rs j ≡ Some r → slice_get p.readers (n + j - 1) ≡ Some r)
-    → (k : ℕ) (e : Endpoint) → slice_get (of_readers_in (name_at i) topic n rs) k ≡ Some e → IsReaderOf config topic e
-readers_in config topic i p n [] here low there k e at = absurd cc
-readers_in config topic i p n (r ∷ rs) here low there k e at =
-    ⊎_elim
-    (λ f.
-    let first : n + 0 - 1 ≡ n - 1 = omega arith in
-    subst (λ (x : Endpoint). IsReaderOf config topic x) f.1
-    (record { peer = p; at_peer = here; end = r; at_reader = (low, subst (λ (m : ℕ). slice_get p.readers m ≡ Some r) first (there zero r refl)); same_topic = eqb-true r.topic topic f.0 }))
-    (λ f. readers_in config topic i p (n + 1) rs here (omega arith)
-    (λ j x in_rest. let same : n + suc j - 1 ≡ n + 1 + j - 1 = omega (arith, low) in subst (λ (m : ℕ). slice_get p.readers m ≡ Some x) same (there (suc j) x in_rest)) f.0 e f.1)
-    (row_or_later (same_topic r.topic topic) (name_at i n r) (of_readers_in (name_at i) topic (n + 1) rs) k e at)
-
-readers_from : (config : Config) (topic i : ℕ) (ps : List PeerConfig) → 1 ≤ i → ((j : ℕ) (p : PeerConfig) → slice_get ps j ≡ Some p → slice_get config.peers (i + j - 1) ≡ Some p) → (k : ℕ) (e : Endpoint)
-    → slice_get (of_matched_readers (λ h q l r. name_at h l r) topic i ps) k ≡ Some e → IsReaderOf config topic e
-readers_from config topic i [] low there k e at = absurd cc
-readers_from config topic i (p ∷ ps) low there k e at =
-    ⊎_elim
-    (λ f.
-    let first : i + 0 - 1 ≡ i - 1 = omega arith in
-    readers_in config topic i p 1 p.readers (low, subst (λ (m : ℕ). slice_get config.peers m ≡ Some p) first (there zero p refl)) (omega arith)
-    (λ j r in_readers. let same : 1 + j - 1 ≡ j = omega arith in subst (λ (m : ℕ). slice_get p.readers m ≡ Some r) (sym same) in_readers) f.0 e f.1)
-    (λ f. readers_from config topic (i + 1) ps (omega arith)
-    (λ j q in_rest. let same : i + suc j - 1 ≡ i + 1 + j - 1 = omega (arith, low) in subst (λ (m : ℕ). slice_get config.peers m ≡ Some q) same (there (suc j) q in_rest)) f.0 e f.1)
-    (append_get (of_readers_in (name_at i) topic 1 p.readers) (of_matched_readers (λ h q l r. name_at h l r) topic (i + 1) ps) k e at)
 
 -- a reader that has a row
 abbrev HasRow : List ReaderRow → Endpoint → Type 0
@@ -176,5 +133,6 @@ has_row (r ∷ rs) reader some = first_or_later r rs reader (same_endpoint r.rea
 pub is_reader : (config : Config) (topic : ℕ) (rows : List ReaderRow) (reader : Endpoint) → map (λ (r : ReaderRow). r.reader) rows ≡ reader_names topic config.peers → IsSome (acknowledged_of (map reader_proxy rows) reader) → IsReaderOf config topic reader
 is_reader config topic rows reader names some =
     let f = has_row rows reader some in
-    readers_from config topic 1 config.peers (omega arith) (λ j p there. let same : 1 + j - 1 ≡ j = omega arith in subst (λ (m : ℕ). slice_get config.peers m ≡ Some p) (sym same) there) f.0 reader
-    (subst (λ (es : List Endpoint). slice_get es f.0 ≡ Some reader) names f.1)
+    let there : slice_get (reader_names topic config.peers) f.0 ≡ Some reader = subst (λ (es : List Endpoint). slice_get es f.0 ≡ Some reader) names f.1 in
+    let t = is_told config.peers (λ (p : PeerConfig). p.readers) (λ (r : ReaderConfig). r.topic) (λ i p n r. name_at i n r) topic f.0 reader there in
+    subst (λ (e : Endpoint). IsReaderOf config topic e) t.told (record { peer = t.peer; at_peer = t.at_peer; end = t.end; at_reader = t.at_end; same_topic = t.same_topic })

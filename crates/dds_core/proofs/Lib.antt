@@ -4,9 +4,11 @@ pub mod Comes
 pub mod Coming
 pub mod Destinations
 pub mod Ends
+pub mod Identities
 pub mod Lists
 pub mod Makes
 pub mod Names
+pub mod Numbered
 pub mod OpeningLaws
 pub mod Over
 pub mod ReaderEnds

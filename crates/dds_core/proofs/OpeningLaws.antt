@@ -1,6 +1,6 @@
 -- A peer at its opening: each of its writers and readers in its turn, and all of them at once.
 use Rattle.std.proofs.Common.{◌≡◌, ℕ, zero, suc, ◌+◌, ◌-◌, ◌^◌, ◌<◌, List, [], ◌∷◌, ◌++◌, Some, None, map, take, length, get_or, slice_get, refl, subst, ap, sym, ◌∙◌, ⊎_elim, arith}
-use Rattle.std.proofs.lemmas.List.{length-map, length-append}
+use Rattle.std.proofs.lemmas.List.{length-map, length-append, take_more}
 use Rattle.std.proofs.lemmas.Option.{same_Some, slice_get-get_or}
 use Rattle.dds_base.specs.declared.config.PeerConfig.{PeerConfig}
 use Rattle.dds_base.specs.declared.config.WriterConfig.{WriterConfig}
@@ -15,11 +15,6 @@ use Rattle.dds_core.specs.Standing.{WriterStands, ReaderStands, WritersStand, Re
 use Rattle.dds_core.proofs.Ready.{last-cases}
 
 -- ---- one element more
-
-take_more : {X : Type 0} (xs : List X) (i : ℕ) (d : X) → i < length xs → take (i + 1) xs ≡ take i xs ++ get_or xs i d ∷ []
-take_more [] i d lt = absurd (omega (arith, lt))
-take_more (x ∷ xs) zero d lt = refl
-take_more (x ∷ xs) (suc i) d lt = let n : suc i + 1 ≡ suc (i + 1) = omega arith in ap (λ (k : ℕ). take k (x ∷ xs)) n ∙ ap (λ ys. x ∷ ys) (take_more xs i d (omega (arith, lt)))
 
 -- each element of a list and that of the same index in another are so related
 abbrev Pairs : {X Y : Type 0} → (X → Y → Type 0) → List X → List Y → Type 0

@@ -33,7 +33,7 @@ use Rattle.dds_core.specs.declared.reader_end.Coming.{Coming}
 use Rattle.dds_core.specs.Kept.{ReaderKept, CoreKept}
 use Rattle.dds_core.specs.Receiving.{IsFirstRow, IsAtPlace, IsFull, IsReady, AreReady, GoOver, IsOf, writer_guid}
 use Rattle.dds_core.specs.Standing.{ReaderStands, StandsFor}
-use Rattle.dds_core.proofs.Names.{IsNamed, IsOwnReader, own_reader_is}
+use Rattle.dds_core.proofs.Names.{IsNamed, IsOwnReader, own_reader_is, guid_as}
 use Rattle.dds_core.specs.declared.matching.WriterName.{WriterName}
 use Rattle.dds_model.proofs.OwnGuids.{one_writer}
 use Rattle.dds_core.proofs.ReaderEnds.{same_first}
@@ -58,9 +58,6 @@ no_room q h arrival many =
     let full : nat_lt (arrivals h + 1) (2 ^ 31 - 1) ≡ false = grind (arith, nat_tests) in
     ap (λ (b : Bool). b && (not (is_accepted q h e) || (is_within q.max_samples (present_writes q (e ∷ h)) && is_within q.max_instances (length (known_instances q (e ∷ h)))))) full
 
-abbrev guid_with : GuidPrefix → EntityId → Guid
-guid_with prefix entity = record { prefix = prefix; entity = entity }
-
 -- the writer of this name is the one of a row, whose name is then the same
 named_so : (config : Config) (topic : ℕ) (row : WriterRow) (prefix : GuidPrefix) (entity : EntityId) (w : Endpoint) → IsNamed config topic row.name → row.name.writer ≡ w → IsWriter config prefix entity w
     → row.name.guid ≡ record { prefix = prefix; entity = entity }
@@ -72,7 +69,7 @@ named_so config topic row prefix entity w named same is =
     let ends : named.end ≡ is.end = same_Some named.end is.end (sym at_writer ∙ is.at_writer.1) in
     let prefixes : row.name.guid.prefix ≡ prefix = sym named.same_prefix ∙ (ap (λ (p : PeerConfig). p.prefix) peers ∙ is.same_prefix) in
     let entities : row.name.guid.entity ≡ entity = sym named.same_entity ∙ (ap (λ (v : WriterConfig). v.entity) ends ∙ is.same_entity) in
-    ap (λ (x : GuidPrefix). guid_with x row.name.guid.entity) prefixes ∙ ap (λ (x : EntityId). guid_with prefix x) entities
+    guid_as row.name.guid (record { prefix = prefix; entity = entity }) prefixes entities
 
 -- a name of the configuration names a writer
 is_writer : (config : Config) (topic : ℕ) (name : WriterName) (named : IsNamed config topic name) (guid : Guid) → name.guid ≡ guid → IsWriter config guid.prefix guid.entity name.writer
@@ -171,7 +168,7 @@ moves_over config before bytes index peer kept s at body ready made are over is_
     (λ f.
     let is : r ≡ record { peer = peer.number; number = suc f.0 } = ap (λ (m : ℕ). endpoint_with m r.number) own ∙ ap (λ (m : ℕ). endpoint_with peer.number m) f.1 in
     let says' = subst (λ (e : Endpoint). Says config kept.prefix at (Data body) (ChangeIs w e n change)) is says in
-    let matched' = subst (λ (m : ℕ). IsMatched peer.part w m p n) f.1 matched in
+    let matched' = subst (λ (m : ℕ). IsMatched peer.part w m p n) {y = suc f.0} f.1 matched in
     let result = over_there config before bytes index peer kept s at body ready made are over is_of w f.0 p n change says' matched' high in
     subst (λ (m : ℕ). GoesOver w m n made ⊎ HasNoRoom (claimed config before bytes peer.number index) peer.part w m p n) (sym f.1) result)
     (index_of r.number)

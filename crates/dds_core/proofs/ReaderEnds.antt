@@ -3,7 +3,6 @@ use Rattle.std.proofs.Common.{◌≡◌, ℕ, ◌≤◌, true, not, List, [], Op
 use Rattle.std.specs.Prelude.{is_some, IfSome, IfNone}
 use Rattle.dds_base.specs.declared.config.PeerConfig.{PeerConfig}
 use Rattle.dds_base.specs.declared.config.ReaderConfig.{ReaderConfig}
-use Rattle.dds_base.specs.declared.guid.EntityId.{EntityId}
 use Rattle.dds_base.specs.declared.guid.GuidPrefix.{GuidPrefix}
 use Rattle.dds_base.specs.declared.qos.HistoryQos.{HistoryQos}
 use Rattle.dds_base.specs.declared.qos.MatchedWriter.{MatchedWriter}
@@ -16,9 +15,8 @@ use Rattle.dds_model.specs.Calls.{limit_of}
 use Rattle.dds_model.specs.Claims.{Receiver, is_for, Names}
 use Rattle.dds_model.specs.Opening.{writer_qos}
 use Rattle.dds_model.proofs.OwnGuids.{as_many}
-use Rattle.dds_core.specs.declared.matching.WriterName.{WriterName}
 use Rattle.dds_core.specs.declared.matching.WriterRow.{WriterRow}
-use Rattle.dds_core.specs.Kept.{ReaderKept, ReaderIdentity}
+use Rattle.dds_core.specs.Kept.{ReaderKept}
 use Rattle.dds_core.specs.Matching.{writer_row, matched_writer}
 use Rattle.dds_core.specs.Opening.{is_shared, keeps_all, is_unlimited, is_plain_reader, OpensReader}
 use Rattle.dds_base.specs.declared.guid.Guid.{Guid}
@@ -28,15 +26,13 @@ use Rattle.dds_core.specs.Receiving.{IsFirstRow, IsRowAt, IsFull, IsNext, IsNotN
 use Rattle.dds_core.specs.Standing.{writer_proxy}
 use Rattle.dds_core.proofs.Tables.{map-matched_writers}
 use Rattle.dds_core.proofs.WriterEnds.{both_parts, no_limit}
+use Rattle.dds_core.proofs.Identities.{identity_as}
 
 -- a reader at its opening
 
 qos_as : (o : OwnershipQos) (h : HistoryQos) (s t i j : Option ℕ) (ws vs : List MatchedWriter) → s ≡ t → i ≡ j → ws ≡ vs
     → ◌≡◌ {A = ReaderQos} (record { ownership = o; history = h; max_samples = s; max_instances = i; writers = ws }) (record { ownership = o; history = h; max_samples = t; max_instances = j; writers = vs })
 qos_as o h s t i j ws vs e f g = cc
-
-identity_as : (entity : EntityId) (a b : List WriterName) → a ≡ b → ◌≡◌ {A = ReaderIdentity} (record { entity = entity; writers = a }) (record { entity = entity; writers = b })
-identity_as entity a b e = cc
 
 plain_limits : (r : ReaderConfig) → is_plain_reader r ≡ true → (limit_of r.max_samples ≡ None) × (limit_of r.max_instances ≡ None)
 plain_limits r plain =
@@ -56,7 +52,7 @@ pub opens_reader : (peers : List PeerConfig) (r : ReaderConfig) (rows : List Wri
 opens_reader peers r rows writers cache plain matched told qos stands =
     let limits = plain_limits r plain in
     record {
-      identity = identity_as r.entity (map (λ (w : WriterRow). w.name) rows) _
+      identity = identity_as r.entity r.entity (map (λ (w : WriterRow). w.name) rows) _ refl
           (ap (λ (ws : List WriterRow). map (λ (w : WriterRow). w.name) ws) matched ∙ map-matched_writers (λ (w : WriterRow). w.name) writer_row r.topic 1 peers);
       stands = record {
         proxies_are = sym (ap (λ (ws : List WriterRow). map writer_proxy ws) matched ∙ map-matched_writers writer_proxy writer_row r.topic 1 peers);

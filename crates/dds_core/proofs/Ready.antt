@@ -5,14 +5,13 @@ use Rattle.dds_base.specs.declared.guid.GuidPrefix.{GuidPrefix}
 use Rattle.rtps_wire.specs.declared.data.Data.{Data as DataBody}
 use Rattle.dds_model.specs.Claims.{Receiver}
 use Rattle.dds_model.specs.Part.{WriterProxy, Reader, no_reader}
-use Rattle.dds_core.specs.declared.matching.WriterName.{WriterName}
 use Rattle.dds_core.specs.declared.matching.WriterRow.{WriterRow}
-use Rattle.dds_base.specs.declared.guid.EntityId.{EntityId}
 use Rattle.dds_core.specs.declared.reader_end.Coming.{Coming}
 use Rattle.dds_core.specs.Kept.{ReaderKept, CoreKept, ReaderIdentity, Identity, reader_identity, writer_identity, IsPeerOf}
 use Rattle.dds_core.specs.Receiving.{IsReady, AreReady, IsAlike, AreAlike, CanCome, AllCanCome, StandsAsWell}
 use Rattle.dds_core.specs.Standing.{ReaderStands, writer_proxy}
 use Rattle.std.specs.Prelude.{◌-◌, ◌^◌, map}
+use Rattle.dds_core.proofs.Identities.{same_identity}
 
 -- after a change of one element, another is as before, and that one is the new one
 pub set-cases : {X : Type 0} (xs : List X) (i : ℕ) (x : X) (j : ℕ) (y : X) → slice_get (set xs i x) j ≡ Some y → ((j ≡ i) × (x ≡ y)) ⊎ (((j ≡ i) → ⊥) × (slice_get xs j ≡ Some y))
@@ -108,19 +107,13 @@ alike_stands a b proxies r h s = record {
   cache = h.cache r.happened s.cache;
 }
 
-identity_as : (a b : EntityId) (x y : List WriterName) → a ≡ b → x ≡ y → ◌≡◌ {A = ReaderIdentity} (record { entity = a; writers = x }) (record { entity = b; writers = y })
-identity_as a b x y e f = cc
-
-same_identity : (a b : ReaderKept) → IsAlike a b → reader_identity b ≡ reader_identity a
-same_identity a b h = identity_as b.entity a.entity (map (λ (w : WriterRow). w.name) b.writers) (map (λ (w : WriterRow). w.name) a.writers) h.entity (ap (λ (ws : List WriterRow). map (λ (w : WriterRow). w.name) ws) h.writers)
-
 same_identities : (old new : List ReaderKept) → AreAlike old new → map reader_identity new ≡ map reader_identity old
 same_identities [] [] h = refl
 same_identities [] (b ∷ bs) h = let count = h.count in absurd (omega (arith, count))
 same_identities (a ∷ as') [] h = let count = h.count in absurd (omega (arith, count))
 same_identities (a ∷ as') (b ∷ bs) h =
     let count = h.count in
-    cons_as (reader_identity b) (reader_identity a) _ _ (same_identity a b (h.each zero a b refl refl)) (same_identities as' bs (record { count = omega (arith, count); each = λ i x y at_x at_y. h.each (suc i) x y at_x at_y }))
+    cons_as (reader_identity b) (reader_identity a) _ _ (let one = h.each zero a b refl refl in same_identity b a one.entity one.writers) (same_identities as' bs (record { count = omega (arith, count); each = λ i x y at_x at_y. h.each (suc i) x y at_x at_y }))
   where
     cons_as : {X : Type 0} (x y : X) (xs ys : List X) → x ≡ y → xs ≡ ys → x ∷ xs ≡ y ∷ ys
     cons_as x y xs ys e f = cc

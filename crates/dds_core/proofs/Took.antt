@@ -25,14 +25,14 @@ use Rattle.dds_model.specs.Calls.{Answers as CallAnswers, CallStep, access_refus
 use Rattle.dds_model.specs.Machine.{no_filters}
 use Rattle.dds_model.specs.Part.{Part, Dds, Reader, WriterProxy, own_reader, own_proxies}
 use Rattle.dds_model.specs.Peer.{Peer}
-use Rattle.dds_core.specs.declared.matching.WriterName.{WriterName}
 use Rattle.dds_core.specs.declared.matching.WriterRow.{WriterRow}
-use Rattle.dds_core.specs.Kept.{ReaderKept, CoreKept, ReaderIdentity, reader_identity}
+use Rattle.dds_core.specs.Kept.{ReaderKept, CoreKept}
 use Rattle.dds_core.specs.Receiving.{TakesOnly, access_reply}
 use Rattle.dds_core.specs.Standing.{ReaderStands, StandsFor, writer_proxy}
 use Rattle.dds_core.proofs.CallSteps.{Follows, refused_call, there_is}
 use Rattle.dds_core.proofs.Ends.{with_reader, with_read, own_reader_stepped}
 use Rattle.dds_core.proofs.Taking.{silent}
+use Rattle.dds_core.proofs.Identities.{same_identity}
 
 -- an access of a reader that the peer does not have, or of a max that is none, and one that is good
 
@@ -55,13 +55,6 @@ good_access : (a b : Bool) → a ≡ true → b ≡ true → (if not a || not b 
 good_access true true h k = refl
 good_access true false h k = absurd cc
 good_access false b h k = absurd cc
-
--- a reader to which nothing but an access happened
-same_reader : (old new : ReaderKept) → TakesOnly old new → reader_identity new ≡ reader_identity old
-same_reader old new same = identity_as new.entity old.entity (map (λ (w : WriterRow). w.name) new.writers) (map (λ (w : WriterRow). w.name) old.writers) same.entity (ap (λ (ws : List WriterRow). map (λ (w : WriterRow). w.name) ws) same.writers)
-  where
-    identity_as : (a b : EntityId) (x y : List WriterName) → a ≡ b → x ≡ y → ◌≡◌ {A = ReaderIdentity} (record { entity = a; writers = x }) (record { entity = b; writers = y })
-    identity_as a b x y e f = cc
 
 -- the reader with one more entry, a take
 took_one : (k k' : ReaderKept) (proxies : List WriterProxy) (r : Reader) (samples : List SamplePosition) → TakesOnly k k' → ReaderStands k proxies r → CacheStandsFor k'.cache (Took samples ∷ r.happened)
@@ -98,7 +91,7 @@ entered kept i k k' config peer s at same max masks reply samples stands step =
     let r : Reader = own_reader part (suc i) in
     let one : ReaderStands k' proxies (record r { happened = Took samples ∷ r.happened }) = took_one k k' proxies r samples same (s.readers.each i k at) stands in
     let all : StandsFor (with_reader kept i k') config (record peer { part = with_read part (suc i) proxies (record r { happened = Took samples ∷ r.happened }) }) =
-    own_reader_stepped kept i k k' proxies (record r { happened = Took samples ∷ r.happened }) config peer s at (same_reader k k' same) one in
+    own_reader_stepped kept i k k' proxies (record r { happened = Took samples ∷ r.happened }) config peer s at (same_identity k' k same.entity same.writers) one in
     let rows : set part.rtps.readers i proxies ≡ part.rtps.readers = set_same part.rtps.readers i [] in (
       record peer { part = after_take part (suc i) samples },
       record { same_number = refl; step = (step, refl); sent = λ p x m h. absurd (omega (arith, m.1)) },

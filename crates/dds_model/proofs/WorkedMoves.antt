@@ -1,6 +1,6 @@
 -- Which moves a place makes, computed at two peers: over changes that come and over runs that are passed over. Peer 1 has a
 -- writer w1, peer 2 a matched reader r1.
-use Rattle.std.proofs.Common.{◌≡◌, ℕ, zero, suc, ◌≤◌, true, Option, None, List, [], ◌∷◌, refl, ap, subst, arith}
+use Rattle.std.proofs.Common.{◌≡◌, ℕ, zero, suc, ◌+◌, ◌≤◌, true, Option, None, List, [], ◌∷◌, refl, ap, subst, arith}
 use Rattle.std.specs.Prelude.{ℤ, slice_index}
 use Rattle.dds_base.specs.declared.change.Change.{Change}
 use Rattle.dds_base.specs.declared.config.Config.{Config}
@@ -10,13 +10,14 @@ use Rattle.dds_base.specs.declared.happening.Happening.TheVariants.{Came, Passed
 use Rattle.dds_base.specs.declared.qos.HistoryQos.{HistoryQos}
 use Rattle.dds_base.specs.declared.qos.HistoryQos.TheVariants.{KeepAll, KeepLast}
 use Rattle.dds_base.specs.Kept.{is_dropped}
+use Rattle.dds_base.specs.Presence.{has_room}
 use Rattle.dds_base.specs.Written.{Written, Changed}
 use Rattle.dds_model.specs.declared.reply.PassedRun.{PassedRun}
 use Rattle.dds_model.specs.declared.reply.Move.{Move}
 use Rattle.dds_model.specs.declared.reply.Move.TheVariants.{Place}
 use Rattle.dds_model.specs.declared.reply.Reply.TheVariants.{Reported}
 use Rattle.dds_model.specs.Part.{Part, Writer, history_of}
-use Rattle.dds_model.specs.Moves.{Grounds, Match, match_of, Position, Comes, AllCome, Passes, IsApart, GoesTo, Places, DeliveryStep}
+use Rattle.dds_model.specs.Moves.{Grounds, AreMoves, Match, match_of, Position, Comes, AllCome, Passes, IsApart, GoesTo, Places, DeliveryStep}
 use Rattle.dds_model.specs.Machine.{Machine, grounds_of}
 use Rattle.dds_model.specs.Opening.{opening, reader_qos}
 use Rattle.dds_model.proofs.WorkedReceivers.{prefix_1, prefix_2, r1_id, writer, reader, w1, r1, some_is}
@@ -82,20 +83,25 @@ came_1 = came 1 (write_of 1 1) ∷ []
 abbrev came_3 : List Happening
 came_3 = came 3 (write_of 1 3) ∷ came 2 (write_of 1 2) ∷ came_1
 
-place-goes_to_2 : Delivers kept (part_2 1 None []) (Place w1 1 2 [] ∷ []) (part_2 2 None came_1)
-place-goes_to_2 = (
-  part_2 2 None came_1,
+-- the change at r1's place comes, where there is room for it, and the place is then one more
+pub comes_next : (grounds : Grounds) (n : ℕ) (change : Change) (happened : List Happening) → grounds.is_change w1 1 n change → has_room (reader_qos (pair KeepAll).peers (reader r1_id 0)) happened (came n change) ≡ true
+    → AreMoves grounds (part_2 n None happened) (Place w1 1 (n + 1) [] ∷ []) (part_2 (n + 1) None (came n change ∷ happened))
+comes_next grounds n change happened is_change room = (
+  part_2 (n + 1) None (came n change ∷ happened),
   record {
     publication = 1;
-    place = 1;
+    place = n;
     matched = record { handle = refl; at = refl };
     forward = omega arith;
-    end = position 2 came_1;
-    goes = (write_of 1 1 ∷ [], (position 2 came_1, record { is_change = refl; room = refl; after = refl }, refl), refl);
+    end = position (n + 1) (came n change ∷ happened);
+    goes = (change ∷ [], (position (n + 1) (came n change ∷ happened), record { is_change = is_change; room = room; after = refl }, refl), refl);
     after = refl;
   },
   refl,
 )
+
+place-goes_to_2 : Delivers kept (part_2 1 None []) (Place w1 1 2 [] ∷ []) (part_2 2 None came_1)
+place-goes_to_2 = comes_next (grounds_at_2 kept) 1 (write_of 1 1) [] refl refl
 
 -- one move takes the place over two changes
 place-goes_to_4 : Delivers kept (part_2 2 None came_1) (Place w1 1 4 [] ∷ []) (part_2 4 None came_3)

@@ -1,7 +1,8 @@
 -- What three packets claim, from their bytes on: one with a GAP, one with an ACKNACK and one with a HEARTBEAT that asserts
 -- its writer, of which the reader hears once. Each begins with an INFO_DST.
-use Rattle.std.proofs.Common.{ℕ, ◌^◌, true, false, Some, None, List, [], ◌∷◌, ◌++◌, replicate, refl, inl, inr, arith, codes}
+use Rattle.std.proofs.Common.{◌≡◌, ℕ, ◌+◌, ◌^◌, length, sym, true, false, Some, None, List, [], ◌∷◌, ◌++◌, replicate, refl, inl, inr, arith, codes}
 use Rattle.std.proofs.lemmas.Int.{ints}
+use Rattle.std.proofs.lemmas.List.{append-nil, length-append}
 use Rattle.std.specs.Prelude.{pos}
 use Rattle.dds_base.specs.declared.guid.GuidPrefix.{GuidPrefix}
 use Rattle.rtps_sets.specs.NumberSet.{empty_from}
@@ -12,7 +13,8 @@ use Rattle.rtps_wire.specs.declared.message.Message.{Message}
 use Rattle.rtps_wire.specs.declared.submessage.Submessage.{Submessage}
 use Rattle.rtps_wire.specs.declared.submessage.Submessage.TheVariants.{InfoDst, Gap, Heartbeat, AckNack}
 use Rattle.rtps_wire.specs.Messages.{ReadsMessage}
-use Rattle.rtps_wire.specs.Submessages.{IsKnown}
+use Rattle.rtps_wire.specs.Frames.{IsFrame}
+use Rattle.rtps_wire.specs.Submessages.{IsKnown, Reads}
 use Rattle.rtps_wire.specs.Sets.{set_of, bits_below}
 use Rattle.dds_model.specs.declared.reply.Move.TheVariants.{Heard}
 use Rattle.dds_model.specs.Claims.{every_reader, MayPass, PlaceReached, Asserts, Claims}
@@ -21,10 +23,42 @@ use Rattle.dds_model.proofs.WorkedReceivers.{prefix_1, prefix_2, w1_id, r1_id, w
 
 -- an INFO_DST and a submessage with 28 octets of body, from one peer to the other
 abbrev packet : GuidPrefix → GuidPrefix → ℕ → ℕ → List ℕ → List ℕ
-packet from to id flags body = codes "RTPS" ++ 2 ∷ 5 ∷ 0 ∷ 0 ∷ from.0 ++ 0x0e ∷ 1 ∷ 12 ∷ 0 ∷ to.0 ++ id ∷ flags ∷ 28 ∷ 0 ∷ body
+packet from to id flags body = codes "RTPS" ++ 2 ∷ 5 ∷ 0 ∷ 0 ∷ (from.0 ++ 0x0e ∷ 1 ∷ 12 ∷ 0 ∷ (to.0 ++ id ∷ flags ∷ 28 ∷ 0 ∷ body))
 
 abbrev message : GuidPrefix → GuidPrefix → Submessage → Message
 message from to submessage = record { prefix = from; submessages = InfoDst to ∷ submessage ∷ [] }
+
+octets : (from to body : List ℕ) (id flags : ℕ) → length from ≡ 12 → length to ≡ 12 → length body ≡ 28
+    → 68 + 0 ≡ length (codes "RTPS" ++ 2 ∷ 5 ∷ 0 ∷ 0 ∷ (from ++ 0x0e ∷ 1 ∷ 12 ∷ 0 ∷ (to ++ id ∷ flags ∷ 28 ∷ 0 ∷ body)))
+octets from to body id flags source destination long =
+    let last : List ℕ = id ∷ flags ∷ 28 ∷ 0 ∷ body in
+    let all = length-append from (0x0e ∷ 1 ∷ 12 ∷ 0 ∷ (to ++ last)) in
+    let rest = length-append to last in
+    omega (arith, all, rest, source, destination, long)
+
+-- such a packet is such a message, and is read to its end
+packet-read : (from to : GuidPrefix) (id flags : ℕ) (body : List ℕ) (submessage : Submessage) → length from.0 ≡ 12 → length to.0 ≡ 12 → length body ≡ 28
+    → IsFrame (id ∷ flags ∷ 28 ∷ 0 ∷ body) id flags body [] → Reads id flags body submessage → ReadsMessage (packet from to id flags body) (message from to submessage) 68
+packet-read from to id flags body submessage source destination long frame reads = record {
+  minor = 5;
+  vendor = 0 ∷ 0 ∷ [];
+  body = 0x0e ∷ 1 ∷ 12 ∷ 0 ∷ (to.0 ++ id ∷ flags ∷ 28 ∷ 0 ∷ body);
+  left = [];
+  two = refl;
+  prefix = source;
+  header = refl;
+  submessages = (
+    0x0e,
+    1,
+    to.0,
+    id ∷ flags ∷ 28 ∷ 0 ∷ body,
+    record { len = 12; small = omega arith; text = refl; extent = destination },
+    record { kind = refl; flags_are = tt; body_is = ([], sym (append-nil to.0)); valid = destination },
+    (id, flags, body, [], frame, reads, (inl (omega arith), refl)),
+  );
+  stop = octets from.0 to.0 body id flags source destination long;
+  short = let all = octets from.0 to.0 body id flags source destination long in omega (arith, all);
+}
 
 -- ---- the GAP of gapStart 2 and the empty set from 3 on
 
@@ -54,26 +88,7 @@ gap-known = record {
 }
 
 gap-read : ReadsMessage (packet prefix_1 prefix_2 0x08 1 gap_body) (message prefix_1 prefix_2 (Gap gap)) 68
-gap-read = record {
-  minor = 5;
-  vendor = 0 ∷ 0 ∷ [];
-  body = 0x0e ∷ 1 ∷ 12 ∷ 0 ∷ prefix_2.0 ++ 0x08 ∷ 1 ∷ 28 ∷ 0 ∷ gap_body;
-  left = [];
-  two = refl;
-  prefix = refl;
-  header = refl;
-  submessages = (
-    0x0e,
-    1,
-    prefix_2.0,
-    0x08 ∷ 1 ∷ 28 ∷ 0 ∷ gap_body,
-    record { len = 12; small = omega arith; text = refl; extent = refl },
-    record { kind = refl; flags_are = tt; body_is = ([], refl); valid = refl },
-    (0x08, 1, gap_body, [], record { len = 28; small = omega arith; text = refl; extent = refl }, gap-known, (inl (omega arith), refl)),
-  );
-  stop = refl;
-  short = omega arith;
-}
+gap-read = packet-read prefix_1 prefix_2 0x08 1 gap_body (Gap gap) refl refl refl (record { len = 28; small = omega arith; text = refl; extent = refl }) gap-known
 
 -- so the packet lets r1 pass 2
 gap-claims : Claims network (packet prefix_1 prefix_2 0x08 1 gap_body) (MayPass w1 r1 2)
@@ -119,26 +134,7 @@ acknack-known = record {
 }
 
 acknack-read : ReadsMessage (packet prefix_2 prefix_1 0x06 1 acknack_body) (message prefix_2 prefix_1 (AckNack acknack)) 68
-acknack-read = record {
-  minor = 5;
-  vendor = 0 ∷ 0 ∷ [];
-  body = 0x0e ∷ 1 ∷ 12 ∷ 0 ∷ prefix_1.0 ++ 0x06 ∷ 1 ∷ 28 ∷ 0 ∷ acknack_body;
-  left = [];
-  two = refl;
-  prefix = refl;
-  header = refl;
-  submessages = (
-    0x0e,
-    1,
-    prefix_1.0,
-    0x06 ∷ 1 ∷ 28 ∷ 0 ∷ acknack_body,
-    record { len = 12; small = omega arith; text = refl; extent = refl },
-    record { kind = refl; flags_are = tt; body_is = ([], refl); valid = refl },
-    (0x06, 1, acknack_body, [], record { len = 28; small = omega arith; text = refl; extent = refl }, acknack-known, (inl (omega arith), refl)),
-  );
-  stop = refl;
-  short = omega arith;
-}
+acknack-read = packet-read prefix_2 prefix_1 0x06 1 acknack_body (AckNack acknack) refl refl refl (record { len = 28; small = omega arith; text = refl; extent = refl }) acknack-known
 
 -- so r1 has reached 2
 acknack-claims : Claims network (packet prefix_2 prefix_1 0x06 1 acknack_body) (PlaceReached w1 r1 2)
@@ -165,40 +161,16 @@ heartbeat = record { reader_id = every_reader; writer_id = w1_id; first_sn = 1; 
 abbrev heartbeat_packet : List ℕ
 heartbeat_packet = packet prefix_1 prefix_2 0x07 7 heartbeat_body
 
-heartbeat-read : ReadsMessage heartbeat_packet (message prefix_1 prefix_2 (Heartbeat heartbeat)) 68
-heartbeat-read = record {
-  minor = 5;
-  vendor = 0 ∷ 0 ∷ [];
-  body = 0x0e ∷ 1 ∷ 12 ∷ 0 ∷ prefix_2.0 ++ 0x07 ∷ 7 ∷ 28 ∷ 0 ∷ heartbeat_body;
-  left = [];
-  two = refl;
-  prefix = refl;
-  header = refl;
-  submessages = (
-    0x0e,
-    1,
-    prefix_2.0,
-    0x07 ∷ 7 ∷ 28 ∷ 0 ∷ heartbeat_body,
-    record { len = 12; small = omega arith; text = refl; extent = refl },
-    record { kind = refl; flags_are = tt; body_is = ([], refl); valid = refl },
-    (
-      0x07,
-      7,
-      heartbeat_body,
-      [],
-      record { len = 28; small = omega arith; text = refl; extent = refl },
-      record {
-        kind = refl;
-        flags_are = (refl, refl);
-        body_is = ([], refl);
-        valid = record { reader = refl; writer = refl; first = omega arith; not_past = omega arith; first_small = omega arith; last_small = omega arith; count = omega (arith, ints) };
-      },
-      (inl (omega arith), refl),
-    ),
-  );
-  stop = refl;
-  short = omega arith;
+heartbeat-known : IsKnown 0x07 7 heartbeat_body (Heartbeat heartbeat)
+heartbeat-known = record {
+  kind = refl;
+  flags_are = (refl, refl);
+  body_is = ([], refl);
+  valid = record { reader = refl; writer = refl; first = omega arith; not_past = omega arith; first_small = omega arith; last_small = omega arith; count = omega (arith, ints) };
 }
+
+heartbeat-read : ReadsMessage heartbeat_packet (message prefix_1 prefix_2 (Heartbeat heartbeat)) 68
+heartbeat-read = packet-read prefix_1 prefix_2 0x07 7 heartbeat_body (Heartbeat heartbeat) refl refl refl (record { len = 28; small = omega arith; text = refl; extent = refl }) heartbeat-known
 
 heartbeat-claims : Claims network heartbeat_packet (Asserts w1 r1 (pos 1))
 heartbeat-claims = record {

@@ -26,7 +26,7 @@ use Rattle.dds_model.specs.Machine.{grounds_of}
 use Rattle.dds_model.specs.Receipt.{GoesOver, HasNoRoom, MovesOver, TakesUp}
 use Rattle.dds_model.proofs.WorkedReceivers.{prefix_1, prefix_2, w1_id, r1_id, writer, reader, w1, r1, to_2, some_is}
 use Rattle.dds_model.proofs.WorkedExamples.{key}
-use Rattle.dds_model.proofs.WorkedMoves.{peer_1, peer_2, pair, writing, part_2, machine, write_of, came, came_1, position}
+use Rattle.dds_model.proofs.WorkedMoves.{peer_1, peer_2, pair, writing, part_2, machine, write_of, came, came_1, comes_next}
 
 -- ---- what goes over a place
 
@@ -144,34 +144,10 @@ data-moves_its_place part number = λ w r publication n change says same matched
 
 -- each DATA moves the place by one
 moves-1 : AreMoves grounds begun (Place w1 1 2 [] ∷ []) (part_2 2 None came_1)
-moves-1 = (
-  part_2 2 None came_1,
-  record {
-    publication = 1;
-    place = 1;
-    matched = record { handle = refl; at = refl };
-    forward = omega arith;
-    end = position 2 came_1;
-    goes = (write_of 1 1 ∷ [], (position 2 came_1, record { is_change = refl; room = refl; after = refl }, refl), refl);
-    after = refl;
-  },
-  refl,
-)
+moves-1 = comes_next grounds 1 (write_of 1 1) [] refl refl
 
 moves-2 : AreMoves grounds (part_2 2 None came_1) (Place w1 1 3 [] ∷ []) (part_2 3 None came_2)
-moves-2 = (
-  part_2 3 None came_2,
-  record {
-    publication = 1;
-    place = 2;
-    matched = record { handle = refl; at = refl };
-    forward = omega arith;
-    end = position 3 came_2;
-    goes = (write_of 1 2 ∷ [], (position 3 came_2, record { is_change = refl; room = refl; after = refl }, refl), refl);
-    after = refl;
-  },
-  refl,
-)
+moves-2 = comes_next grounds 2 (write_of 1 2) came_1 refl refl
 
 behind_the_infos : (moves : List Move) (refused : Option ℕ) (new : Part) → TakenFrom 2 to_2 from_data_1 begun moves refused new → TakenUp moves refused new
 behind_the_infos moves refused new rest =
