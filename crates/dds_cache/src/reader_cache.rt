@@ -43,7 +43,9 @@ impl Model for ReaderCache {
 impl ReaderCache {
     /// Of a reader at which nothing has happened.
     pub fn open(alloc: Global, qos: ReaderQos) -> Self
+        // Nothing has happened.
         ensures opening { StandsFor result [] }
+        // The policies are those given.
         ensures qos { qos_of result ≡ qos }
     {
         ReaderCache {
@@ -59,10 +61,15 @@ impl ReaderCache {
     ///
     /// `Memory` where a growth was refused; the cache is then as it was.
     pub fn reserve(&mut self, additional: usize) -> Result<(), Code>
+        // Nothing happens.
         ensures same { (h : List Happening) → StandsFor self.old h → StandsFor self.new h }
+        // The policies stay.
         ensures qos { qos_of self.new ≡ qos_of self.old }
+        // There is room for so many entries.
         ensures room { OnOk result (additional ≤ room_of self.new) }
+        // A refusal leaves the cache as it was.
         ensures err { OnErr result (self.new ≡ self.old) }
+        // It is refused for want of memory alone.
         ensures memory { IfErr result (λ e. e ≡ Memory) }
     {
         self.entries.reserve(additional)?;
@@ -92,11 +99,17 @@ impl ReaderCache {
     ///
     /// RTPS 2.5, 8.2 (HistoryCache, add_change).
     pub fn come(&mut self, arrival: Arrival) -> Result<(), Code>
+        // The writer is a matched one.
         requires matched { IsMatched (qos_of self.old) arrival.writer }
+        // The change came, and nothing else happened.
         ensures ok { OnOk result ((h : List Happening) → StandsFor self.old h → StandsFor self.new (Came arrival ∷ h)) }
+        // The policies stay.
         ensures qos { qos_of self.new ≡ qos_of self.old }
+        // Where there is room it comes.
         ensures reserved { 1 ≤ room_of self.old → IsOk result }
+        // A refusal leaves the cache as it was.
         ensures err { OnErr result (self.new ≡ self.old) }
+        // It is refused for want of memory alone.
         ensures memory { IfErr result (λ e. e ≡ Memory) }
     {
         self.enter(Happening::Came(arrival))
@@ -110,10 +123,15 @@ impl ReaderCache {
     ///
     /// DDS 1.4, 2.2.3 (LIVELINESS).
     pub fn died(&mut self, writer: Handle, moment: Moment) -> Result<(), Code>
+        // The writer is a matched one.
         requires matched { IsMatched (qos_of self.old) writer }
+        // The writer died, and nothing else happened.
         ensures ok { OnOk result ((h : List Happening) → StandsFor self.old h → StandsFor self.new (Died writer moment ∷ h)) }
+        // The policies stay.
         ensures qos { qos_of self.new ≡ qos_of self.old }
+        // A refusal leaves the cache as it was.
         ensures err { OnErr result (self.new ≡ self.old) }
+        // It is refused for want of memory alone.
         ensures memory { IfErr result (λ e. e ≡ Memory) }
     {
         self.enter(Happening::Died { writer, moment })
@@ -144,8 +162,11 @@ impl ReaderCache {
     ///
     /// DDS 1.4, 2.2.2.5 (read).
     pub fn read(&mut self, max: Option<u32>, masks: Masks) -> Result<Sequence<Sample>, Code>
+        // The samples are those that the definitions pick of what happened, or there is none.
         ensures answer { (h : List Happening) → StandsFor self.old h → Answers self.old h max masks result }
+        // The read is entered, and nothing else; one for which there is no memory is not.
         ensures after { (h : List Happening) → StandsFor self.old h → AfterAccess Read self.old h max masks result self.new }
+        // The policies stay.
         ensures qos { qos_of self.new ≡ qos_of self.old }
     {
         let Access { positions, samples } = self.access(max, masks)?;
@@ -164,8 +185,11 @@ impl ReaderCache {
     ///
     /// DDS 1.4, 2.2.2.5 (take).
     pub fn take(&mut self, max: Option<u32>, masks: Masks) -> Result<Sequence<Sample>, Code>
+        // The samples are those that the definitions pick of what happened, or there is none.
         ensures answer { (h : List Happening) → StandsFor self.old h → Answers self.old h max masks result }
+        // The take is entered, and nothing else; one for which there is no memory is not.
         ensures after { (h : List Happening) → StandsFor self.old h → AfterAccess Took self.old h max masks result self.new }
+        // The policies stay.
         ensures qos { qos_of self.new ≡ qos_of self.old }
     {
         let Access { positions, samples } = self.access(max, masks)?;

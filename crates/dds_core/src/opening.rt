@@ -127,8 +127,11 @@ impl Core {
     /// number, or has a writer or a reader that is not shared, does not keep all, or has a limit or a lease; `Memory`
     /// where a growth was refused.
     pub fn open(alloc: Global, config: &Config, peer: u8) -> Result<Core, Code>
+        // The peer stands for its opening in the configuration.
         ensures opening { IfOk result (λ core. StandsFor core config.now (opening_peer config.now peer)) }
+        // Against what is opened there is no cause.
         ensures taken { IfOk result (λ core. core_refusal config.now.peers peer ≡ None) }
+        // A refusal is by the first cause that there is, or for want of memory.
         ensures refused { IfErr result (Refuses (core_refusal config.now.peers peer)) }
     {
         config.check()?;

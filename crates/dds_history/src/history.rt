@@ -75,11 +75,15 @@ impl History {
     ///
     /// DDS 1.4, 2.2.3 (RESOURCE_LIMITS).
     pub fn append(&mut self, change: Change) -> Result<Sn, Code>
+        // Against an accepted change there is no cause; it gets the next number, and is the newest.
         ensures ok { (w : WriterHistory) → StandsFor self.old w → IfOk result (λ number.
             (append_refusal w change ≡ None) × (number ≡ length w.changes + 1) × StandsFor self.new (appended w change)) }
+        // A refusal is by the first cause that there is, or for want of memory.
         ensures refused { (w : WriterHistory) → StandsFor self.old w
             → IfErr result (Refuses (append_refusal w change)) }
+        // Numbers are 1 to 2^48.
         ensures number { IfOk result (λ number. (1 ≤ number) × (number ≤ 2 ^ 48)) }
+        // A refusal leaves the history as it was.
         ensures err { OnErr result (self.new ≡ self.old) }
     {
         if let Some(code) = self.cause(&change.key) {

@@ -106,9 +106,13 @@ impl World {
     /// The first of these: what `Config::check` answers; `BadParameter` for a writer or a reader that is not shared, does
     /// not keep all, or has a limit or a lease; `Memory` where a growth was refused.
     pub fn open(alloc: Global, config: &Config) -> Result<World, Code>
+        // The network stands for the opening of its configuration.
         ensures opening { IfOk result (λ world. StandsFor world config.now (opening_world config.now)) }
+        // Nothing was sent, and nothing is counted.
         ensures quiet { IfOk result (λ world. traffic world ≡ no_traffic) }
+        // Against what is opened there is no cause.
         ensures taken { IfOk result (λ world. opening_refusal config.now.peers ≡ None) }
+        // A refusal is by the first cause that there is, or for want of memory.
         ensures refused { IfErr result (Refuses (opening_refusal config.now.peers)) }
     {
         config.check()?;
@@ -126,8 +130,12 @@ impl World {
     /// An event at a peer that does not exist, and the delivery of a packet that was never sent, are refused with
     /// `BadParameter`; a call or a tick is refused as it says itself, or with `Memory`. What is refused changes nothing.
     pub fn step(&mut self, event: WorldEvent) -> Reply
+        // For each state that the network stands for, the reply is one that the machine without packets gives, and the
+        // network stands for the state afterwards: this is the theorem.
         ensures step { Steps self.old event result self.new }
+        // What is sent at the event, and what is counted as unsent.
         ensures sends { Announces self.old event result self.new }
+        // A delivered packet is taken up, submessage by submessage: what it brings that is due is not left out.
         ensures progress { MovesOn self.old event result }
     {
         match event {
@@ -143,8 +151,11 @@ impl World {
     ///
     /// `Memory` where no memory was found for the replies; nothing was done then. No events need none.
     pub fn run(&mut self, events: Vec<WorldEvent>) -> Result<Sequence<Reply>, Code>
+        // The replies are a run of the network's peers, and of the machine without packets.
         ensures run { IfOk result (λ replies. Runs self.old events.items replies self.new) }
+        // It is refused for want of memory alone, and never where there are no events.
         ensures memory { IfErr result (λ code. (code ≡ Memory) × (1 ≤ length events.items)) }
+        // A refusal leaves the network as it was.
         ensures err { OnErr result (self.new ≡ self.old) }
     {
         let mut replies = Vec::with_capacity(self.alloc, events.len())?;
@@ -268,7 +279,9 @@ impl World {
 
     /// The packet of this number, counted from 1 among all that were sent.
     pub fn packet(&self, number: u64) -> Option<&Packet>
+        // The packet of this number, exactly if it was sent.
         ensures found { 1 ≤ number → option_copied result ≡ slice_get self.now.sent (number - 1) }
+        // No packet has the number 0.
         ensures none { number ≡ 0 → result ≡ None }
     {
         if number == 0 {

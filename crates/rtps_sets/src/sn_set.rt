@@ -33,7 +33,9 @@ impl Model for SnSet {
 impl SnSet {
     /// The empty set from a base on.
     pub fn new(base: Sn) -> SnSet
+        // It is the empty set from this base.
         ensures empty { result ≡ empty_from base }
+        // It has no member.
         ensures none { (n : ℕ) → has_number result n ≡ false }
     {
         SnSet {
@@ -44,7 +46,9 @@ impl SnSet {
 
     /// The number from which on the members lie.
     pub fn base(&self) -> Sn
+        // The number from which on members lie.
         ensures base { result ≡ self.now.base }
+        // There are 256 places.
         ensures places { length self.now.members ≡ 256 }
     {
         let members: &[bool] = &self.members;
@@ -54,10 +58,15 @@ impl SnSet {
 
     /// Makes a number a member, whether or not it is one.
     pub fn insert(&mut self, number: Sn)
+        // The number is not below the base.
         requires from { self.old.base ≤ number }
+        // It is one of the 256 from the base on.
         requires to { number < self.old.base + 256 }
+        // The base stays.
         ensures base { self.new.base ≡ self.old.base }
+        // The number is a member, and each other one is if it was.
         ensures member { (n : ℕ) → has_number self.new n ≡ (has_number self.old n || n == number) }
+        // Its flag is set.
         ensures members { self.new.members ≡ slice_set self.old.members (number - self.old.base) true }
     {
         self.members[(number.number() - self.base) as usize] = true;
@@ -79,9 +88,13 @@ impl SnSet {
     ///
     /// RTPS 2.5, 9.4.2.6 (numBits): the least that names each member.
     pub fn bits(&self) -> usize
+        // One more than the last place with a member.
         ensures bits { result ≡ span self.now.members }
+        // At most 256.
         ensures within { result ≤ 256 }
+        // The last of these bits is a member.
         ensures last { 0 < result → IsTrue (has_number self.now (self.now.base + result - 1)) }
+        // No number past them is.
         ensures past { (n : ℕ) → self.now.base + result ≤ n → has_number self.now n ≡ false }
     {
         span_of(&self.members)

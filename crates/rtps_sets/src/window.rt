@@ -54,7 +54,9 @@ impl Model for Window {
 impl Window {
     /// The window of a writer of which nothing was heard: its place is 1.
     pub fn open(alloc: Global) -> Window
+        // It begins at 1.
         ensures place { place_of result ≡ 1 }
+        // Nothing is known of any number.
         ensures none { (n : ℕ) → mark_of result n ≡ None }
     {
         Window {
@@ -65,7 +67,9 @@ impl Window {
 
     /// The next number: all before it were passed. The window is the 256 numbers from it on.
     pub fn place(&self) -> Sn
+        // The number that the window begins with.
         ensures place { result ≡ place_of self.now }
+        // Nothing is known of a number outside.
         ensures window { (n : ℕ) → is_in_window (place_of self.now) n ≡ false → mark_of self.now n ≡ None }
     {
         Sn::new(self.place)
@@ -77,10 +81,15 @@ impl Window {
     ///
     /// `Memory` where a growth was refused; the window is as it was.
     pub fn reserve(&mut self, n: usize) -> Result<(), Code>
+        // Place and marks stay.
         ensures same { SameMarks self.old self.new }
+        // There is room for so many marks.
         ensures ok { OnOk result (n ≤ room_of self.new) }
+        // It has no less room than before.
         ensures room { room_of self.old ≤ room_of self.new }
+        // Where there was room enough it succeeds.
         ensures succeeds { n ≤ room_of self.old → IsOk result }
+        // It is refused for want of memory alone.
         ensures memory { IfErr result (λ code. code ≡ Memory) }
     {
         self.marked.reserve(n)?;
@@ -93,13 +102,21 @@ impl Window {
     ///
     /// `Memory` where there was no room and a growth was refused; the window is as it was.
     pub fn mark(&mut self, number: Sn, mark: Mark) -> Result<bool, Code>
+        // The place stays.
         ensures place { place_of self.new ≡ place_of self.old }
+        // True exactly for a number of the window that had no mark.
         ensures answer { IfOk result (λ is_new. is_new ≡ can_mark self.old number) }
+        // That number has the mark, and all others have theirs.
         ensures marks { IfOk result (λ is_new. (n : ℕ) → mark_of self.new n ≡ (if is_new && (number == n) then Some mark else mark_of self.old n)) }
+        // It takes room for one mark at most.
         ensures room { room_of self.old ≤ room_of self.new + 1 }
+        // A number that takes no mark changes nothing.
         ensures refused { can_mark self.old number ≡ false → (result ≡ Ok false) × (self.new ≡ self.old) }
+        // Where there is room it succeeds.
         ensures succeeds { 0 < room_of self.old → IsOk result }
+        // It is refused for want of memory alone.
         ensures memory { IfErr result (λ code. code ≡ Memory) }
+        // A refusal leaves place and marks as they were.
         ensures err { OnErr result (SameMarks self.old self.new) }
     {
         let number = number.number();
@@ -117,7 +134,9 @@ impl Window {
     ///
     /// RTPS 2.5, 8.4.10 (WriterProxy: missing_changes), 8.3.8 (AckNack: readerSNState).
     pub fn missing(&self, bound: Sn) -> SnSet
+        // The set begins at the place.
         ensures base { result.base ≡ place_of self.now }
+        // It has exactly the numbers of the window up to the bound that have no mark.
         ensures members { (n : ℕ) → has_number result n ≡ (is_in_window (place_of self.now) n && (nat_le n bound && is_none (mark_of self.now n))) }
     {
         let last = u64::min(bound.number(), self.place.saturating_add(WIDTH - 1));
@@ -132,11 +151,17 @@ impl Window {
 
     /// Moves the place over marked numbers, as far as they go, but not past `to`.
     pub fn slide(&mut self, to: Sn)
+        // The place does not go back.
         ensures forward { place_of self.old ≤ place_of self.new }
+        // It goes no further than asked.
         ensures asked { place_of self.new ≤ max (place_of self.old) to }
+        // It goes over marked numbers alone.
         ensures over { (n : ℕ) → place_of self.old ≤ n → n < place_of self.new → IsSome (mark_of self.old n) }
+        // It stops short of where it was asked to go only at a number without a mark.
         ensures stops { place_of self.new < to → mark_of self.old (place_of self.new) ≡ None }
+        // Marks below the place are forgotten, and all others stay.
         ensures marks { (n : ℕ) → mark_of self.new n ≡ (if nat_le (place_of self.new) n then mark_of self.old n else None) }
+        // It has no less room than before.
         ensures room { room_of self.old ≤ room_of self.new }
     {
         let place = run_end(&self.marked, self.place, to.number());
