@@ -1,8 +1,8 @@
 -- What the history of a writer has dropped, what it keeps, and when it refuses a change
 -- (DDS 1.4, 2.2.3: HISTORY, RESOURCE_LIMITS; RTPS 2.5, 8.2: HistoryCache).
-use Rattle.std.specs.Prelude.{ℕ, zero, suc, ◌+◌, ◌-◌, ◌^◌, List, [], ◌∷◌, ◌++◌, length, drop, count_by, slice_get, Bool, false, ◌&&◌, not, Option, Some, None, is_some, nat_lt, nat_le, if◌then◌else◌}
+use Rattle.std.specs.Prelude.{ℕ, zero, suc, ◌+◌, ◌-◌, ◌^◌, max, List, [], ◌∷◌, ◌++◌, length, drop, count_by, find, slice_get, slice_index, slice_set, Bool, false, ◌&&◌, not, Option, Some, None, is_some, nat_lt, nat_le, if◌then◌else◌}
 use Rattle.std.specs.List.{list_any}
-use Rattle.std.specs.Option.{option_map_or}
+use Rattle.std.specs.Option.{option_map_or, unwrap_or}
 use Rattle.dds_base.specs.declared.key.Key.{Key}
 use Rattle.dds_base.specs.declared.change.Change.{Change}
 use Rattle.dds_base.specs.declared.code.Code.{Code}
@@ -56,6 +56,10 @@ numbers_from number (suc count) = number ∷ numbers_from (number + 1) count
 abbrev pub kept_count : WriterHistory → ℕ
 kept_count w = count_by (λ number. is_kept w number) (numbers_from 1 (length w.changes))
 
+-- the first number that is kept, or the one past the last (RTPS 2.5, 8.3.8: Heartbeat, firstSN)
+abbrev pub first_kept : WriterHistory → ℕ
+first_kept w = unwrap_or (find (λ number. is_kept w number) (numbers_from 1 (length w.changes))) (length w.changes + 1)
+
 -- the history with one more change, which has the next number
 abbrev pub appended : WriterHistory → Change → WriterHistory
 appended w change = record { policy = w.policy; max_samples = w.max_samples; changes = w.changes ++ change ∷ []; acknowledged = w.acknowledged }
@@ -70,3 +74,8 @@ abbrev pub append_refusal : WriterHistory → Change → Option Code
 append_refusal w change =
     if nat_le (2 ^ 48) (length w.changes) then Some OutOfResources
     else (if exceeds w.max_samples (kept_count (appended w change)) then Some Timeout else None)
+
+-- the history once this reader, counted from 0, has acknowledged all numbers below this one; an acknowledgement doesn't go
+-- back (RTPS 2.5, 8.4.9: ReaderProxy, acked_changes_set)
+abbrev pub acknowledge : WriterHistory → ℕ → ℕ → WriterHistory
+acknowledge w reader to = record w { acknowledged = slice_set w.acknowledged reader (max (slice_index w.acknowledged reader) to) }

@@ -14,3 +14,4 @@ pub mod Matched
 pub mod Checked
 pub mod Faults
 pub mod FaultAt
+pub mod Places

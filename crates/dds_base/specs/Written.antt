@@ -1,7 +1,7 @@
 -- What happened at a writer, the newest first, and its changes in the order of their numbers
 -- (DDS 1.4, 2.2.2.4: register_instance, write, dispose, unregister_instance, assert_liveliness; 2.2.3: LIVELINESS;
 -- RTPS 2.5, 8.2: HistoryCache, CacheChange).
-use Rattle.std.specs.Prelude.{ℕ, ◌+◌, nat_le, Option, Some, None, List, [], ◌∷◌, ◌++◌, Bool, false, ◌||◌, not, if◌then◌else◌}
+use Rattle.std.specs.Prelude.{ℕ, ◌+◌, nat_le, Option, Some, None, List, [], ◌∷◌, ◌++◌, Bool, true, false, ◌||◌, not, if◌then◌else◌}
 use Rattle.dds_base.specs.declared.key.Key.{Key}
 use Rattle.dds_base.specs.declared.change.Change.{Change}
 use Rattle.dds_base.specs.Happening.{same_key, is_unregister}
@@ -51,3 +51,11 @@ abbrev pub losses : Option ℕ → List Written → ℕ
 losses lease [] = 0
 losses lease (Ticked now behind ∷ c) = losses lease c + (if is_over lease (live_since lease c) now then 1 else 0)
 losses lease (_ ∷ c) = losses lease c
+
+-- What each HEARTBEAT count of a writer numbers, in order: an assertion, or not. A count is due to each assertion of a
+-- writer that has matched readers, and to each tick at which some reader was behind.
+abbrev pub counts_of : Bool → List Written → List Bool
+counts_of matched [] = []
+counts_of matched (Asserted moment ∷ c) = if matched then counts_of matched c ++ true ∷ [] else counts_of matched c
+counts_of matched (Ticked now behind ∷ c) = if behind then counts_of matched c ++ false ∷ [] else counts_of matched c
+counts_of matched (_ ∷ c) = counts_of matched c

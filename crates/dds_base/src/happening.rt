@@ -22,6 +22,13 @@ pub struct Arrival {
     pub moment: Moment,
 }
 
+/// The changes from `first` to `last` of a writer, both of them too, which a reader passed over.
+#[derive(Clone, Copy, Debug, PartialEq, Eq)]
+pub struct PassedRun {
+    pub first: Sn,
+    pub last: Sn,
+}
+
 /// A sample of a reader: its instance, and which happening is its change or death.
 #[derive(Clone, Copy)]
 pub struct SamplePosition {

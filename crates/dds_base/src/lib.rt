@@ -39,7 +39,7 @@ pub use endianness::Endianness;
 pub use field::{take_octets, take_u16, take_u32};
 pub use guid::{EntityId, Guid, GuidPrefix};
 pub use handle::Handle;
-pub use happening::{Arrival, Happening, SamplePosition, StatusKind};
+pub use happening::{Arrival, Happening, PassedRun, SamplePosition, StatusKind};
 pub use key::Key;
 pub use laws::owner_is_found;
 pub use mask::{InstanceStateMask, Masks, SampleStateMask, ViewStateMask};
