@@ -75,6 +75,15 @@ impl Window {
         Sn::new(self.place)
     }
 
+    /// What is known of a number. Every number may be asked for; nothing is known of one outside the window.
+    ///
+    /// RTPS 2.5, 8.4.10 (ChangeFromWriter: status).
+    pub fn mark_of(&self, number: Sn) -> Option<Mark>
+        ensures { result ≡ mark_of self.now number }
+    {
+        find_mark(&self.marked, number.number())
+    }
+
     /// Makes room for `n` marks, so that the next `n` calls of `mark` can't fail.
     ///
     /// # Errors
@@ -167,6 +176,24 @@ impl Window {
         let place = run_end(&self.marked, self.place, to.number());
         drop_below(&mut self.marked, place);
         self.place = place;
+    }
+
+    /// Moves the place to `to` in one step, over numbers whatever is known of them. It takes no memory, and its cost goes
+    /// by the marks, not by the numbers.
+    ///
+    /// RTPS 2.5, 8.4.10 (WriterProxy: lost_changes_update).
+    pub fn pass(&mut self, to: Sn)
+        // The number is not below the place.
+        requires forward { place_of self.old ≤ to }
+        // The place is where it was asked to go.
+        ensures place { place_of self.new ≡ to }
+        // Marks below the place are forgotten, and all others stay.
+        ensures marks { (n : ℕ) → mark_of self.new n ≡ (if nat_le to n then mark_of self.old n else None) }
+        // It has no less room than before.
+        ensures room { room_of self.old ≤ room_of self.new }
+    {
+        self.place = to.number();
+        drop_below(&mut self.marked, self.place);
     }
 }
 
