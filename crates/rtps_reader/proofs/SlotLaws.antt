@@ -1,0 +1,99 @@
+-- Held changes by their number, and what they say with the marks of a window.
+use Rattle.std.proofs.Common.{◌≡◌, ◌≢◌, ℕ, zero, suc, ◌<◌, ◌≤◌, ◌+◌, Bool, true, false, cond, List, [], ◌∷◌, ◌++◌}
+use Rattle.std.proofs.Common.{refl, sym, ap, ◌∙◌, arith, length, get_or, set, take, drop}
+use Rattle.std.specs.Prelude.{Option, None, Some, nat_le, nat_lt, ◌==◌, if◌then◌else◌, ◌&&◌, is_none, remove}
+use Rattle.std.proofs.lemmas.Bool.Decides.{nat_tests}
+use Rattle.dds_base.specs.declared.change.Change.{Change}
+use Rattle.dds_base.specs.declared.happening.Arrival.{Arrival}
+use Rattle.rtps_sets.specs.Window.{Marks, mark_of, place_of, is_in_window}
+use Rattle.rtps_sets.specs.NumberSet.{NumberSet}
+use Rattle.rtps_sets.specs.declared.window.Mark.{Mark}
+use Rattle.rtps_sets.specs.declared.window.Mark.TheVariants as mark
+use Rattle.rtps_reader.specs.Tracked.{is_named}
+use Rattle.rtps_reader.specs.declared.writer_proxy.Source.{Source}
+use Rattle.rtps_reader.specs.Proxy.{change_at, mark_named, stamped}
+
+-- without one arrival the changes of the other numbers are found as before
+change_at-parts : (xs : List Arrival) (at : ℕ) (a : Arrival) (n : ℕ) → at < length xs → a ≡ get_or xs at a
+    → n ≢ a.number → change_at (take at xs ++ drop (suc at) xs) n ≡ change_at xs n
+change_at-parts [] at a n lt is ne = absurd (omega (arith, lt))
+change_at-parts (x ∷ xs) zero a n lt is ne = skip (x.number == n)
+    (let e : a.number ≡ x.number = ap (λ (y : Arrival). y.number) is in grind (arith, nat_tests))
+  where
+    skip : (b : Bool) → b ≡ false → change_at xs n ≡ cond b (Some x.change) (change_at xs n)
+    skip b e = rw e refl
+change_at-parts (x ∷ xs) (suc at) a n lt is ne =
+    ap (λ (o : Option Change). cond (x.number == n) (Some x.change) o) (change_at-parts xs at a n (omega arith) is ne)
+
+pub change_at-remove : (xs : List Arrival) (at : ℕ) (a : Arrival) (n : ℕ) → at < length xs → a ≡ get_or xs at a
+    → n ≢ a.number → change_at (remove xs at) n ≡ change_at xs n
+change_at-remove xs at a n lt is ne = change_at-parts xs at a n lt is ne
+
+-- the changes are found as before where one arrival is stamped
+pub change_at-set : (xs : List Arrival) (at : ℕ) (a : Arrival) (source : Source) (n : ℕ) → at < length xs
+    → a ≡ get_or xs at a → change_at (set xs at (stamped source a)) n ≡ change_at xs n
+change_at-set [] at a source n lt is = absurd (omega (arith, lt))
+change_at-set (x ∷ xs) zero a source n lt is = ap
+    (λ (y : Arrival). cond (y.number == n) (Some y.change) (change_at xs n)) is
+change_at-set (x ∷ xs) (suc at) a source n lt is = ap (λ (o : Option Change). cond (x.number == n) (Some x.change) o)
+    (change_at-set xs at a source n (omega arith) is)
+
+and_false : (b : Bool) → (b && false) ≡ false
+and_false true = refl
+and_false false = refl
+
+and_true : (b : Bool) → (b && true) ≡ b
+and_true true = refl
+and_true false = refl
+
+marks_step : (same named_n named_number low lt more window : Bool) (m now_n now_number new_n : Option Mark)
+    → (same ≡ true → named_number ≡ named_n) → (same ≡ true → now_number ≡ now_n) → (same ≡ true → lt ≡ false)
+    → (same ≡ true → more ≡ true) → (same ≡ true → low ≡ true) → window ≡ true → (same ≡ false → more ≡ lt)
+    → now_n ≡ cond (named_n && ((low && lt) && is_none m)) (Some mark.Irrelevant) m
+    → new_n ≡ cond ((named_number && (window && is_none now_number)) && same) (Some mark.Irrelevant) now_n
+    → new_n ≡ cond (named_n && ((low && more) && is_none m)) (Some mark.Irrelevant) m
+marks_step false named_n named_number low lt more window m now_n now_number new_n e1 e2 l1 l2 l3 l4 l5 now_is new_is =
+    rw (l5 refl) (new_is ∙ (ap (λ (b : Bool). cond b (Some mark.Irrelevant) now_n)
+    (and_false (named_number && (window && is_none now_number))) ∙ now_is))
+marks_step true true named_number low lt more window m now_n now_number new_n e1 e2 l1 l2 l3 l4 l5 now_is new_is =
+    let e3 : now_n ≡ m = rw (l1 refl, l3 refl) at now_is in
+    rw (new_is, e1 refl, e2 refl, e3, l4, l2 refl, l3 refl)
+    (ap (λ (b : Bool). cond b (Some mark.Irrelevant) m) (and_true (is_none m)))
+marks_step true false named_number low lt more window m now_n now_number new_n e1 e2 l1 l2 l3 l4 l5 now_is new_is = rw
+    (new_is, e1 refl) now_is
+
+-- one number more is marked if it is named
+pub marks_more : (start : ℕ) (list : NumberSet) (w now new : Marks) (number n : ℕ) (named : Bool) → place_of w ≤ number
+    → number < place_of w + 256 → place_of now ≡ place_of w
+    → named ≡ is_named start list number → ((k : ℕ) → mark_of now k ≡ mark_named start list number w k)
+    → mark_of new n ≡ (if (named && (is_in_window (place_of now) number && is_none (mark_of now number))) &&
+    (number == n) then Some mark.Irrelevant else mark_of now n)
+    → mark_of new n ≡ mark_named start list (number + 1) w n
+marks_more start list w now new number n named low high at is so_far next =
+    marks_step (number == n) (is_named start list n) named (nat_le (place_of w) n) (nat_lt n number)
+    (nat_lt n (number + 1)) (is_in_window (place_of now) number) (mark_of w n) (mark_of now n) (mark_of now number)
+    (mark_of new n)
+    (λ same. is ∙ ap (λ (k : ℕ). is_named start list k) (equal same))
+    (λ same. ap (λ (k : ℕ). mark_of now k) (equal same))
+    (λ same. let e = equal same in grind (arith, nat_tests)) (λ same. let e = equal same in grind (arith, nat_tests))
+    (λ same. let e = equal same in grind (arith, nat_tests))
+    (let l : nat_le (place_of now) number ≡ true = grind (arith, nat_tests) in let h : nat_lt number
+    (place_of now + 256) ≡ true = grind (arith, nat_tests) in rw (l, h) refl)
+    (λ other. grind (arith, nat_tests)) (so_far n) next
+  where
+    equal : (number == n) ≡ true → number ≡ n
+    equal same = grind (arith, nat_tests)
+
+-- a number that is not marked stays so where only smaller ones are named
+pub unmarked_more : (named is_open same : Bool) (m m' : Option Mark)
+    → m' ≡ cond ((named && is_open) && same) (Some mark.Irrelevant) m → (named ≡ true → same ≡ false) → m ≡ None
+    → m' ≡ None
+unmarked_more false is_open same m m' is other none = is ∙ none
+unmarked_more true false same m m' is other none = is ∙ none
+unmarked_more true true same m m' is other none = rw (other refl) at is ∙ none
+
+-- a number that is held was held before what a GAP names was marked
+pub held_before : (b : Bool) (m m' : Option Mark) → m' ≡ cond b (Some mark.Irrelevant) m → m' ≡ Some mark.Held
+    → m ≡ Some mark.Held
+held_before true m m' is held = absurd (let e : Some mark.Irrelevant ≡ Some mark.Held = sym is ∙ held in cc)
+held_before false m m' is held = sym is ∙ held

@@ -1,0 +1,5 @@
+use Rattle.rtps_reader.proofs.writer_proxy.WriterProxy.moved.Goals as goal
+
+pub returns-clause-moves : goal.returns-clause-moves
+returns-clause-moves g c =
+    rw (c.from_vec.ensures, c.place.ensures.place) c.advance.ensures.moves

@@ -1,0 +1,73 @@
+-- What a HEARTBEAT does, and the ACKNACK due to it once the place went on.
+--
+-- RTPS 2.5, 8.4.12 (reliable StatefulReader: when to send an ACKNACK), 8.3.8 (AckNack).
+use Rattle.std.specs.Prelude.{◌≡◌, ℕ, ◌+◌, ◌-◌, ◌<◌, ◌≤◌, ◌^◌, ◌⊎◌, List, [], ◌∷◌, Bool, true, false, ◌&&◌, nat_le}
+use Rattle.std.specs.Prelude.{Option, None, Some, pos, if◌then◌else◌}
+use Rattle.rtps_sets.specs.NumberSet.{has_number}
+use Rattle.dds_base.specs.declared.happening.Happening.{Happening}
+use Rattle.dds_base.specs.declared.happening.Happening.TheVariants.{Heard}
+use Rattle.dds_base.specs.Places.{Match}
+use Rattle.rtps_reader.specs.declared.step.AckNackDue.{AckNackDue}
+use Rattle.rtps_reader.specs.declared.step.HeartbeatSeen.{HeartbeatSeen}
+use Rattle.rtps_reader.specs.declared.step.Step.{Step}
+use Rattle.rtps_reader.specs.Tracked.{Tracked, is_open, with_heartbeat}
+use Rattle.rtps_reader.specs.Advance.{Advances}
+
+-- the number is asked for: it is one of the window up to lastSN, and nothing is known of it
+abbrev pub is_asked : Tracked → ℕ → ℕ → Bool
+is_asked t last n = is_open t n && nat_le n last
+
+-- nothing is asked for
+abbrev pub IsComplete : Tracked → ℕ → Type 0
+IsComplete t last = (n : ℕ) → is_asked t last n ≡ false
+
+-- none can be sent: the place is no number that a set may begin with, or all counts are used up
+abbrev pub CanNotAnswer : Tracked → Type 0
+CanNotAnswer t = (2 ^ 62 < t.place) ⊎ (2 ^ 31 - 1 ≤ t.acknacks)
+
+-- an ACKNACK tells what is known: it has the next count, and is final where it asks for nothing
+pub record Tells (t : Tracked) (last : ℕ) (due : AckNackDue) : Type 0 where
+  pub base : due.base ≡ t.place
+  pub set_base : due.missing.base ≡ t.place
+  pub members : (n : ℕ) → has_number due.missing n ≡ is_asked t last n
+  pub count : due.count ≡ pos (t.acknacks + 1)
+  pub complete : due.is_final ≡ true → IsComplete t last
+  pub lacking : due.is_final ≡ false → (n : ℕ) × (is_asked t last n ≡ true)
+
+-- the answer: none where none can be sent, or where the HEARTBEAT is final and nothing is asked for; else one
+abbrev pub Answers : Tracked → ℕ → Bool → Option AckNackDue → Type 0
+Answers t last is_final None = CanNotAnswer t ⊎ ((is_final ≡ true) × IsComplete t last)
+Answers t last is_final (Some due) = (t.place ≤ 2 ^ 62) × (t.acknacks < 2 ^ 31 - 1)
+    × (is_final ≡ true → due.is_final ≡ false) × Tells t last due
+
+-- what is known once the answer was made: its count is used
+abbrev pub answered : Option AckNackDue → Tracked → Tracked
+answered None t = t
+answered (Some due) t = record t { acknacks = t.acknacks + 1 }
+
+-- what happened once the writer's liveliness was asserted, if it was
+abbrev pub heard_after : Match → Bool → List Happening → List Happening
+heard_after match liveliness h = if liveliness then Heard match.publication match.moment ∷ h else h
+
+-- an accepted HEARTBEAT: the writer is heard, then the place goes on, then the answer is made
+pub record Accepts (match : Match) (t : Tracked) (h : List Happening) (heartbeat : HeartbeatSeen) (step : Step)
+    (new : Tracked) (after : List Happening) : Type 0 where
+  pub mid : Tracked
+  pub heard : step.heard ≡ heartbeat.liveliness
+  pub advances : Advances match (with_heartbeat heartbeat.first heartbeat.count t)
+      (heard_after match heartbeat.liveliness h) step.to step.passed mid after
+  pub answers : Answers mid heartbeat.last heartbeat.is_final step.acknack
+  pub counted : new ≡ answered step.acknack mid
+
+-- nothing happened, at this place
+pub record IsIdle (place : ℕ) (step : Step) : Type 0 where
+  pub to : step.to ≡ place
+  pub passed : step.passed ≡ []
+  pub heard : step.heard ≡ false
+  pub acknack : step.acknack ≡ None
+
+-- what an accepted HEARTBEAT did: for all that the sink stood for, it stands for what was entered
+abbrev pub HeartbeatMoves : Match → (List Happening → Type 0) → (List Happening → Type 0) → Tracked → HeartbeatSeen
+    → Step → Tracked → Type 0
+HeartbeatMoves match before after t heartbeat step new = (h : List Happening) → before h
+    → (happened : List Happening) × Accepts match t h heartbeat step new happened × after happened

@@ -1,0 +1,5 @@
+pub mod Tracked
+pub mod Advance
+pub mod Proxy
+pub mod Answer
+pub mod Reader

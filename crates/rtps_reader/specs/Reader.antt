@@ -1,0 +1,66 @@
+-- What a reader knows of each of its matched writers, which are named by index from 0, and what a submessage did.
+--
+-- RTPS 2.5, 8.4.10 (StatefulReader: matched_writers), 8.4.12.
+use Rattle.std.specs.Prelude.{◌≡◌, ◌≢◌, ℕ, ◌+◌, List, length, false, None, Some, slice_get}
+use Rattle.dds_base.specs.declared.happening.Happening.{Happening}
+use Rattle.dds_base.specs.declared.qos.ReaderQos.{ReaderQos}
+use Rattle.dds_base.specs.Places.{Match}
+use Rattle.rtps_reader.specs.declared.writer_proxy.WriterProxy.{WriterProxy}
+use Rattle.rtps_reader.specs.declared.step.HeartbeatSeen.{HeartbeatSeen}
+use Rattle.rtps_reader.specs.declared.step.Step.{Step}
+use Rattle.rtps_reader.specs.Tracked.{Tracked, SameTracked}
+use Rattle.rtps_reader.specs.Advance.{Advances}
+use Rattle.rtps_reader.specs.Answer.{Accepts}
+use Rattle.rtps_reader.specs.Proxy.{tracked, IsSound, IsProxyReady}
+
+-- what a reader keeps; callers see it through Tracks, count_of and IsReady
+pub record Proxies : Type 0 where
+  pub proxies : List WriterProxy
+
+-- this is what the reader knows of its writer of this index
+abbrev pub Tracks : Proxies → ℕ → Tracked → Type 0
+Tracks reader index t = (p : WriterProxy) × (slice_get reader.proxies index ≡ Some p) × SameTracked (tracked p) t
+
+-- how many writers are matched
+abbrev pub count_of : Proxies → ℕ
+count_of reader = length reader.proxies
+
+-- with a sink of so much spare memory the next submessage, of any of the writers, can't fail
+abbrev pub IsReady : Proxies → ℕ → Type 0
+IsReady reader spare = (index : ℕ) (p : WriterProxy) → slice_get reader.proxies index ≡ Some p → IsProxyReady p spare
+
+-- each proxy is sound
+abbrev pub AreSound : List WriterProxy → Type 0
+AreSound proxies = (index : ℕ) (p : WriterProxy) → slice_get proxies index ≡ Some p → IsSound p
+
+-- of all writers the same is known
+abbrev pub AllStay : Proxies → Proxies → Type 0
+AllStay old new = (index : ℕ) (t : Tracked) → Tracks old index t → Tracks new index t
+
+-- of all other writers the same is known
+abbrev pub OthersStay : ℕ → Proxies → Proxies → Type 0
+OthersStay writer old new = (index : ℕ) (t : Tracked) → index ≢ writer → Tracks old index t → Tracks new index t
+
+-- the match of the reader with the writer of an index
+abbrev pub match_at : ReaderQos → ℕ → ℕ → Match
+match_at qos writer moment = record { qos = qos; publication = writer + 1; moment = moment }
+
+-- what a DATA or a GAP did: from what was then known the place went on, and nothing else happened
+pub record MovesOn (match : Match) (t : Tracked) (h : List Happening) (step : Step) (Knows : Tracked → Type 0)
+    (Stands : List Happening → Type 0) : Type 0 where
+  pub new : Tracked
+  pub after : List Happening
+  pub advances : Advances match t h step.to step.passed new after
+  pub known : Knows new
+  pub stands : Stands after
+  pub heard : step.heard ≡ false
+  pub acknack : step.acknack ≡ None
+
+-- what an accepted HEARTBEAT did
+pub record TakesHeartbeat (match : Match) (t : Tracked) (h : List Happening) (heartbeat : HeartbeatSeen) (step : Step)
+    (Knows : Tracked → Type 0) (Stands : List Happening → Type 0) : Type 0 where
+  pub new : Tracked
+  pub after : List Happening
+  pub accepts : Accepts match t h heartbeat step new after
+  pub known : Knows new
+  pub stands : Stands after

@@ -1,0 +1,117 @@
+//! Where the changes go that a reader hands on.
+
+ghost use Rattle.std.specs.Prelude.{◌≡◌, ℕ, ◌+◌, ◌≤◌, List, ◌∷◌, OnOk, OnErr, IsOk, IfErr};
+ghost use Rattle.dds_base.specs.declared.code.Code.TheVariants.{Memory};
+ghost use Rattle.dds_base.specs.declared.happening.Happening.{Happening};
+ghost use Rattle.dds_base.specs.declared.happening.Happening.TheVariants.{Came, Passed, Heard};
+ghost use Rattle.dds_base.specs.declared.qos.ReaderQos.{ReaderQos};
+ghost use Rattle.dds_base.specs.Ownership.{IsMatched};
+ghost use Rattle.dds_base.specs.Presence.{has_room};
+
+use dds_base::{Arrival, Code, Handle, Moment, Sn};
+
+/// Where a reader enters what happens at it: its cache. Writers are named by their publication handles, from 1.
+///
+/// RTPS 2.5, 8.2 (HistoryCache of a reader).
+pub trait Sink {
+    /// What it keeps stands for this list of what happened, the newest first.
+    ghost stands: { Self → List Happening → Type 0 };
+
+    /// The reader's policies and its matched writers.
+    ghost qos: { Self → ReaderQos };
+
+    /// How many more entries can't fail.
+    ghost spare: { Self → ℕ };
+
+    /// Makes memory for `n` more entries. It changes that alone.
+    ///
+    /// # Errors
+    ///
+    /// `Memory` where a growth was refused.
+    fn reserve(&mut self, n: usize) -> Result<(), Code>
+        // Nothing happens.
+        ensures stands { (h : List Happening) → stands self.old h → stands self.new h }
+        // The policies stay.
+        ensures qos { qos self.new ≡ qos self.old }
+        // The next `n` entries can't fail.
+        ensures ok { OnOk result (n ≤ spare self.new) }
+        // It has no less memory than before.
+        ensures spare { spare self.old ≤ spare self.new }
+        // Where there is memory enough it succeeds.
+        ensures succeeds { n ≤ spare self.old → IsOk result }
+        // It is refused for want of memory alone.
+        ensures memory { IfErr result (λ code. code ≡ Memory) };
+
+    /// Whether there is room for this change by the reader's resource limits.
+    ///
+    /// DDS 1.4, 2.2.3 (RESOURCE_LIMITS).
+    fn room(&self, arrival: &Arrival) -> bool
+        // It goes by what happened.
+        ensures room { (h : List Happening) → stands self.now h
+            → result ≡ has_room (qos self.now) h (Came arrival.now) };
+
+    /// Enters that a change came.
+    ///
+    /// # Errors
+    ///
+    /// `Memory` where a growth was refused; nothing has happened then.
+    fn come(&mut self, arrival: Arrival) -> Result<(), Code>
+        // The writer is a matched one.
+        requires matched { IsMatched (qos self.old) arrival.writer }
+        // The change came, and nothing else happened.
+        ensures ok { OnOk result ((h : List Happening) → stands self.old h → stands self.new (Came arrival ∷ h)) }
+        // A refusal leaves what happened as it was.
+        ensures err { OnErr result ((h : List Happening) → stands self.old h → stands self.new h) }
+        // The policies stay.
+        ensures qos { qos self.new ≡ qos self.old }
+        // It takes the memory of one entry at most.
+        ensures spare { spare self.old ≤ spare self.new + 1 }
+        // Where there is memory for an entry it succeeds.
+        ensures succeeds { 1 ≤ spare self.old → IsOk result }
+        // It is refused for want of memory alone.
+        ensures memory { IfErr result (λ code. code ≡ Memory) };
+
+    /// Enters that the changes from `first` to `last` of a writer were passed over.
+    ///
+    /// # Errors
+    ///
+    /// `Memory` where a growth was refused; nothing has happened then.
+    fn pass(&mut self, writer: Handle, first: Sn, last: Sn) -> Result<(), Code>
+        // The writer is a matched one.
+        requires matched { IsMatched (qos self.old) writer }
+        // They were passed over, and nothing else happened.
+        ensures ok { OnOk result ((h : List Happening) → stands self.old h
+            → stands self.new (Passed writer first last ∷ h)) }
+        // A refusal leaves what happened as it was.
+        ensures err { OnErr result ((h : List Happening) → stands self.old h → stands self.new h) }
+        // The policies stay.
+        ensures qos { qos self.new ≡ qos self.old }
+        // It takes the memory of one entry at most.
+        ensures spare { spare self.old ≤ spare self.new + 1 }
+        // Where there is memory for an entry it succeeds.
+        ensures succeeds { 1 ≤ spare self.old → IsOk result }
+        // It is refused for want of memory alone.
+        ensures memory { IfErr result (λ code. code ≡ Memory) };
+
+    /// Enters that a writer asserted its liveliness without a change, at a moment of the reader's peer.
+    ///
+    /// # Errors
+    ///
+    /// `Memory` where a growth was refused; nothing has happened then.
+    fn hear(&mut self, writer: Handle, moment: Moment) -> Result<(), Code>
+        // The writer is a matched one.
+        requires matched { IsMatched (qos self.old) writer }
+        // It was heard, and nothing else happened.
+        ensures ok { OnOk result ((h : List Happening) → stands self.old h
+            → stands self.new (Heard writer moment ∷ h)) }
+        // A refusal leaves what happened as it was.
+        ensures err { OnErr result ((h : List Happening) → stands self.old h → stands self.new h) }
+        // The policies stay.
+        ensures qos { qos self.new ≡ qos self.old }
+        // It takes the memory of one entry at most.
+        ensures spare { spare self.old ≤ spare self.new + 1 }
+        // Where there is memory for an entry it succeeds.
+        ensures succeeds { 1 ≤ spare self.old → IsOk result }
+        // It is refused for want of memory alone.
+        ensures memory { IfErr result (λ code. code ≡ Memory) };
+}

@@ -1,0 +1,263 @@
+//! A reliable reader and its matched writers.
+
+ghost use Rattle.std.specs.Prelude.{◌≡◌, ℕ, ◌+◌, ◌-◌, ◌^◌, ◌<◌, ◌≤◌, List, length, true, false, OnOk, OnErr, IsOk, IfOk, IfErr};
+ghost use Rattle.dds_base.specs.declared.code.Code.TheVariants.{Memory};
+ghost use Rattle.dds_base.specs.declared.happening.Happening.{Happening};
+ghost use Rattle.rtps_reader.specs.Tracked.{Tracked, fresh, is_later, with_data, with_gap};
+ghost use Rattle.rtps_reader.specs.Answer.{IsIdle};
+ghost use Rattle.rtps_reader.specs.Reader.{Tracks, count_of, IsReady, AllStay, OthersStay, match_at, MovesOn, TakesHeartbeat};
+
+use crate::sink::Sink;
+use crate::step::{HeartbeatSeen, Step};
+use crate::writer_proxy::{Source, WriterProxy};
+use dds_base::{Change, Code, Handle, Moment, Sn};
+use rtps_sets::SnSet;
+use std::alloc::Global;
+use std::marker::Model;
+
+/// A reliable reader: for each of its matched writers, named by index from 0, its place there and what it knows from
+/// the place on. A writer's publication handle is its index plus 1.
+///
+/// RTPS 2.5, 8.4.10 (StatefulReader).
+#[derive(Drop)]
+pub struct StatefulReader {
+    proxies: Vec<WriterProxy>,
+}
+
+impl Model for StatefulReader {
+    ghost use Rattle.rtps_reader.specs.Reader.{Proxies, AreSound};
+
+    ghost Value = { Proxies };
+
+    ghost view = { λ r. record { proxies = r.proxies.items } };
+
+    ghost invariant = { λ r. AreSound r.proxies.items };
+}
+
+/// Which writer is heard, and when.
+fn source_of(writer: usize, moment: Moment) -> Source
+    requires { writer < 2 ^ 64 - 1 }
+    ensures { result ≡ record { publication = writer + 1; moment = moment } }
+{
+    Source {
+        publication: Handle::new(writer as u64 + 1),
+        moment,
+    }
+}
+
+impl StatefulReader {
+    /// A reader with so many matched writers, of which nothing was heard.
+    ///
+    /// # Errors
+    ///
+    /// `Memory` where a growth was refused.
+    pub fn open(alloc: Global, writers: usize) -> Result<StatefulReader, Code>
+        // It has so many.
+        ensures count { IfOk result (λ reader. count_of reader ≡ writers) }
+        // Of each nothing was heard.
+        ensures fresh { IfOk result (λ reader. (index : ℕ) → index < writers → Tracks reader index fresh) }
+        // It is refused for want of memory alone.
+        ensures memory { IfErr result (λ code. code ≡ Memory) }
+    {
+        let mut proxies = Vec::new(alloc);
+        for _ in 0..writers {
+            proxies.push(WriterProxy::open(alloc))?;
+        }
+        Ok(StatefulReader { proxies })
+    }
+
+    /// The place at a writer: the number of its next change.
+    pub fn place(&self, writer: usize) -> Sn
+        // The writer is a matched one.
+        requires matched { writer < count_of self.now }
+        // It is what is known of the writer.
+        ensures place { (t : Tracked) → Tracks self.now writer t → result ≡ t.place }
+        // Something is known of it.
+        ensures known { (t : Tracked) × Tracks self.now writer t }
+    {
+        self.proxies[writer].place()
+    }
+
+    /// Makes all memory that the next submessage may take, here and at the sink. It changes that alone.
+    ///
+    /// # Errors
+    ///
+    /// `Memory` where a growth was refused.
+    pub fn reserve<S: Sink>(&mut self, sink: &mut S) -> Result<(), Code>
+        // Nothing becomes known.
+        ensures same { AllStay self.old self.new }
+        // The writers stay.
+        ensures count { count_of self.new ≡ count_of self.old }
+        // Nothing happens.
+        ensures stands { (h : List Happening) → S.stands sink.old h → S.stands sink.new h }
+        // The policies stay.
+        ensures qos { S.qos sink.new ≡ S.qos sink.old }
+        // The next submessage can't fail.
+        ensures ok { OnOk result (IsReady self.new (S.spare sink.new)) }
+        // The sink has no less memory than before.
+        ensures spare { S.spare sink.old ≤ S.spare sink.new }
+        // Where there is memory enough it succeeds.
+        ensures succeeds { IsReady self.old (S.spare sink.old) → IsOk result }
+        // It is refused for want of memory alone.
+        ensures memory { IfErr result (λ code. code ≡ Memory) }
+    {
+        for at in 0..self.proxies.len() {
+            let proxy = &mut self.proxies[at];
+            proxy.reserve(sink)?;
+        }
+        Ok(())
+    }
+
+    /// A change of a writer was received: it is held, if its number is one of the window of which nothing is known, and
+    /// then the place goes as far as it can.
+    ///
+    /// The number is at most 2^62.
+    ///
+    /// # Errors
+    ///
+    /// `Memory` where a growth was refused, and never after `reserve`; what is known and what happened is as it was.
+    ///
+    /// RTPS 2.5, 8.4.10, 8.4.12 (received_change_set).
+    pub fn on_data<S: Sink>(
+        &mut self,
+        sink: &mut S,
+        writer: usize,
+        number: Sn,
+        change: Change,
+        moment: Moment,
+    ) -> Result<Step, Code>
+        // The writer is a matched one.
+        requires matched { writer < count_of self.old }
+        // The sink knows the matched writers.
+        requires writers { count_of self.old ≤ length (S.qos sink.old).writers }
+        // The number is one that the wire has.
+        requires number { number ≤ 2 ^ 62 }
+        // The place goes on from what is known with the change.
+        ensures moves { IfOk result (λ step. (t : Tracked) (h : List Happening)
+            → Tracks self.old writer t → S.stands sink.old h
+            → MovesOn (match_at (S.qos sink.old) writer moment) (with_data number change t) h step
+            (Tracks self.new writer) (S.stands sink.new)) }
+        // Nothing becomes known of other writers.
+        ensures others { OthersStay writer self.old self.new }
+        // The writers stay.
+        ensures count { count_of self.new ≡ count_of self.old }
+        // The policies stay.
+        ensures qos { S.qos sink.new ≡ S.qos sink.old }
+        // A refusal leaves all that is known as it was.
+        ensures err { OnErr result (AllStay self.old self.new) }
+        // A refusal leaves what happened as it was.
+        ensures err_sink { OnErr result ((h : List Happening) → S.stands sink.old h → S.stands sink.new h) }
+        // It is refused for want of memory alone.
+        ensures memory { IfErr result (λ code. code ≡ Memory) }
+        // Where memory was made for it, it succeeds.
+        ensures succeeds { IsReady self.old (S.spare sink.old) → IsOk result }
+    {
+        let proxy = &mut self.proxies[writer];
+        let source = source_of(writer, moment);
+        proxy.on_data(sink, &source, number, change)
+    }
+
+    /// A GAP of a writer was received: the numbers from `start` to below the list's base, and those of the list, are
+    /// irrelevant, as far as they are of the window and nothing is known of them; then the place goes as far as it
+    /// can.
+    ///
+    /// The list's base is at most 2^62.
+    ///
+    /// # Errors
+    ///
+    /// `Memory` where a growth was refused, and never after `reserve`; what is known and what happened is as it was.
+    ///
+    /// RTPS 2.5, 8.4.10, 8.4.12 (irrelevant_change_set).
+    pub fn on_gap<S: Sink>(
+        &mut self,
+        sink: &mut S,
+        writer: usize,
+        start: Sn,
+        list: &SnSet,
+        moment: Moment,
+    ) -> Result<Step, Code>
+        // The writer is a matched one.
+        requires matched { writer < count_of self.old }
+        // The sink knows the matched writers.
+        requires writers { count_of self.old ≤ length (S.qos sink.old).writers }
+        // The base is one that the wire has.
+        requires base { list.now.base ≤ 2 ^ 62 }
+        // The place goes on from what is known with the GAP.
+        ensures moves { IfOk result (λ step. (t : Tracked) (h : List Happening)
+            → Tracks self.old writer t → S.stands sink.old h
+            → MovesOn (match_at (S.qos sink.old) writer moment) (with_gap start list.now t) h step
+            (Tracks self.new writer) (S.stands sink.new)) }
+        // Nothing becomes known of other writers.
+        ensures others { OthersStay writer self.old self.new }
+        // The writers stay.
+        ensures count { count_of self.new ≡ count_of self.old }
+        // The policies stay.
+        ensures qos { S.qos sink.new ≡ S.qos sink.old }
+        // A refusal leaves all that is known as it was.
+        ensures err { OnErr result (AllStay self.old self.new) }
+        // A refusal leaves what happened as it was.
+        ensures err_sink { OnErr result ((h : List Happening) → S.stands sink.old h → S.stands sink.new h) }
+        // It is refused for want of memory alone.
+        ensures memory { IfErr result (λ code. code ≡ Memory) }
+        // Where memory was made for it, it succeeds.
+        ensures succeeds { IsReady self.old (S.spare sink.old) → IsOk result }
+    {
+        let proxy = &mut self.proxies[writer];
+        let source = source_of(writer, moment);
+        proxy.on_gap(sink, &source, start, list)
+    }
+
+    /// A HEARTBEAT of a writer was received. It is accepted if its count is greater than those before: then the writer
+    /// is heard, if it asserts its liveliness, the place goes as far as it can, and an ACKNACK is due, unless the
+    /// HEARTBEAT is final and nothing is missing, the place is above 2^62, or 2^31 - 1 counts were used. One that is
+    /// repeated does nothing.
+    ///
+    /// firstSN is at most 2^62.
+    ///
+    /// # Errors
+    ///
+    /// `Memory` where a growth was refused, and never after `reserve`; what is known and what happened is as it was.
+    ///
+    /// RTPS 2.5, 8.4.10, 8.4.12 (missing_changes_update, lost_changes_update; ACKNACK), 8.3.8 (Heartbeat: count).
+    pub fn on_heartbeat<S: Sink>(
+        &mut self,
+        sink: &mut S,
+        writer: usize,
+        heartbeat: &HeartbeatSeen,
+        moment: Moment,
+    ) -> Result<Step, Code>
+        // The writer is a matched one.
+        requires matched { writer < count_of self.old }
+        // The sink knows the matched writers.
+        requires writers { count_of self.old ≤ length (S.qos sink.old).writers }
+        // firstSN is one that the wire has.
+        requires first { heartbeat.now.first ≤ 2 ^ 62 }
+        // One of a greater count is heard, moves the place, and is answered.
+        ensures accepted { IfOk result (λ step. (t : Tracked) (h : List Happening)
+            → Tracks self.old writer t → S.stands sink.old h → is_later t.count heartbeat.now.count ≡ true
+            → TakesHeartbeat (match_at (S.qos sink.old) writer moment) t h heartbeat.now step
+            (Tracks self.new writer) (S.stands sink.new)) }
+        // Any other does nothing.
+        ensures repeated { (t : Tracked) (h : List Happening)
+            → Tracks self.old writer t → S.stands sink.old h → is_later t.count heartbeat.now.count ≡ false
+            → IsOk result × IfOk result (λ step. IsIdle t.place step × Tracks self.new writer t × S.stands sink.new h) }
+        // Nothing becomes known of other writers.
+        ensures others { OthersStay writer self.old self.new }
+        // The writers stay.
+        ensures count { count_of self.new ≡ count_of self.old }
+        // The policies stay.
+        ensures qos { S.qos sink.new ≡ S.qos sink.old }
+        // A refusal leaves all that is known as it was.
+        ensures err { OnErr result (AllStay self.old self.new) }
+        // A refusal leaves what happened as it was.
+        ensures err_sink { OnErr result ((h : List Happening) → S.stands sink.old h → S.stands sink.new h) }
+        // It is refused for want of memory alone.
+        ensures memory { IfErr result (λ code. code ≡ Memory) }
+        // Where memory was made for it, it succeeds.
+        ensures succeeds { IsReady self.old (S.spare sink.old) → IsOk result }
+    {
+        let proxy = &mut self.proxies[writer];
+        let source = source_of(writer, moment);
+        proxy.on_heartbeat(sink, &source, heartbeat)
+    }
+}

@@ -1,0 +1,516 @@
+//! What a reader keeps of one matched writer.
+
+ghost use Rattle.std.specs.Prelude.{◌≡◌, ◌≢◌, ℕ, ◌+◌, ◌-◌, ◌*◌, ◌^◌, ◌<◌, ◌≤◌, ◌&&◌, ◌||◌, ◌==◌, min, List, ◌∷◌, ◌++◌, [], length, Bool, true, false, nat_lt, nat_le, is_none, None, Some, if◌then◌else◌, slice_index_or, OnOk, OnErr, IsOk, IfOk, IfErr, IfSome, IfNone, vec_len, vec_capacity};
+ghost use Rattle.dds_base.specs.declared.code.Code.TheVariants.{Memory};
+ghost use Rattle.dds_base.specs.declared.change.Change.{Change};
+ghost use Rattle.dds_base.specs.declared.happening.Arrival.{Arrival};
+ghost use Rattle.dds_base.specs.declared.happening.Happening.{Happening};
+ghost use Rattle.dds_base.specs.Ownership.{IsMatched};
+ghost use Rattle.dds_base.specs.Presence.{has_room};
+ghost use Rattle.dds_base.specs.Places.{coming};
+ghost use Rattle.rtps_sets.specs.Window.{mark_of, place_of, room_of, can_mark};
+ghost use Rattle.rtps_sets.specs.declared.window.Mark.TheVariants as mark;
+ghost use Rattle.rtps_reader.specs.Tracked.{Tracked, Held, fresh, is_named, is_passable, is_later, with_data, with_gap, with_heartbeat, SameTracked};
+ghost use Rattle.rtps_reader.specs.Advance.{ArePassable, PassesOver, HandsOn, Moves, run_of, passed_from};
+ghost use Rattle.rtps_reader.specs.Proxy.{match_of, change_at, stamped, tracked, mark_named, IsSound, CanMove, IsProxyReady};
+ghost use Rattle.rtps_reader.specs.Answer.{Answers, HeartbeatMoves, IsIdle, answered, heard_after};
+
+use crate::sink::Sink;
+use crate::step::{AckNackDue, HeartbeatSeen, Step};
+use dds_base::{Arrival, Change, Code, Handle, Moment, PassedRun, Sequence, Sn};
+use rtps_sets::{Mark, SnSet, Window};
+use std::alloc::Global;
+use std::mem;
+
+/// The greatest number that a submessage may have as a base.
+const MAX_NUMBER: u64 = 1 << 62;
+
+/// The greatest count of an ACKNACK.
+const MAX_COUNT: u32 = (1 << 31) - 1;
+
+/// So many numbers, from the place on, are looked at.
+const WIDTH: u64 = 256;
+
+/// So many changes can come in one move: as many as a window holds.
+const MAX_MOVES: usize = 256;
+
+/// Which writer is heard, and when.
+#[derive(Clone, Copy)]
+pub struct Source {
+    /// The writer's publication handle.
+    pub publication: Handle,
+    /// The moment of the reader's peer.
+    pub moment: Moment,
+}
+
+/// What a reader keeps of one matched writer.
+///
+/// RTPS 2.5, 8.4.10 (WriterProxy).
+#[derive(Drop)]
+pub struct WriterProxy {
+    alloc: Global,
+    window: Window,
+    /// The changes of the numbers that are marked as held, the newest first.
+    held: Vec<Arrival>,
+    first: u64,
+    count: Option<i32>,
+    acknacks: u32,
+    /// Memory for the runs of the next step.
+    runs: Vec<PassedRun>,
+}
+
+/// Whether a GAP names a number.
+fn is_named(start: Sn, list: &SnSet, number: u64) -> bool
+    requires small { list.now.base ≤ 2 ^ 62 }
+    ensures named { result ≡ is_named start list.now number }
+    ensures small { result ≡ true → number < 2 ^ 62 + 256 }
+{
+    let base = list.base().number();
+    (start.number() <= number && number < base) || list.has(Sn::new(number))
+}
+
+/// Marks a number as irrelevant, if it is named.
+fn mark_if(window: &mut Window, number: u64, named: bool)
+    requires room { 1 ≤ room_of window.old }
+    ensures place { place_of window.new ≡ place_of window.old }
+    ensures marks { (n : ℕ) → mark_of window.new n ≡ (if (named && can_mark window.old number) && (number == n) then Some mark.Irrelevant else mark_of window.old n) }
+    ensures room { room_of window.old ≤ room_of window.new + 1 }
+{
+    if named && window.mark(Sn::new(number), Mark::Irrelevant).is_err() {
+        unreachable!();
+    }
+}
+
+/// Marks as irrelevant what a GAP names of the window.
+fn mark_named(window: &mut Window, start: Sn, list: &SnSet)
+    requires small { list.now.base ≤ 2 ^ 62 }
+    requires place { place_of window.old ≤ 2 ^ 62 + 256 }
+    requires room { 256 ≤ room_of window.old }
+    ensures place { place_of window.new ≡ place_of window.old }
+    ensures marks { (n : ℕ) → mark_of window.new n ≡ mark_named start list.now (place_of window.old + 256) window.old n }
+    ensures small { (n : ℕ) → 2 ^ 62 + 256 ≤ n → mark_of window.old n ≡ None → mark_of window.new n ≡ None }
+{
+    let place = window.place().number();
+    for number in place..place + WIDTH {
+        let named = is_named(start, list, number);
+        mark_if(window, number, named);
+    }
+}
+
+/// Where the change that is held for a number stands.
+fn position_of(held: &[Arrival], number: Sn) -> Option<usize>
+    ensures within { IfSome result (λ at. at < length held.now) }
+    ensures found { IfSome result (λ at. (d : Arrival) → change_at held.now number ≡ Some (slice_index_or held.now at d).change) }
+    ensures number { IfSome result (λ at. (d : Arrival) → (slice_index_or held.now at d).number ≡ number) }
+    ensures none { IfNone result (change_at held.now number ≡ None) }
+{
+    for (at, arrival) in held.iter().enumerate() {
+        if arrival.number == number {
+            return Some(at);
+        }
+    }
+    None
+}
+
+/// Notes from which writer a held change comes, and when.
+fn stamp(held: &mut Vec<Arrival>, at: usize, source: &Source)
+    requires within { at < vec_len held.old }
+    ensures changes { (n : ℕ) → change_at held.new.items n ≡ change_at held.old.items n }
+    ensures arrival { (d : Arrival) → slice_index_or held.new.items at d ≡ stamped source.now (slice_index_or held.old.items at d) }
+    ensures len { vec_len held.new ≡ vec_len held.old }
+    ensures capacity { vec_capacity held.new ≡ vec_capacity held.old }
+{
+    let arrival = &mut held[at];
+    arrival.writer = source.publication;
+    arrival.moment = source.moment;
+}
+
+/// Takes a held change.
+fn take_out(held: &mut Vec<Arrival>, at: usize) -> Arrival
+    requires within { at < vec_len held.old }
+    ensures taken { (d : Arrival) → result ≡ slice_index_or held.old.items at d }
+    ensures others { (n : ℕ) → n ≢ result.number → change_at held.new.items n ≡ change_at held.old.items n }
+    ensures len { vec_len held.new + 1 ≡ vec_len held.old }
+    ensures capacity { vec_capacity held.new ≡ vec_capacity held.old }
+{
+    held.remove(at)
+}
+
+/// Enters a run from one number to below another, if there is one.
+fn note_run<S: Sink>(sink: &mut S, source: &Source, from: u64, to: u64, runs: &mut Vec<PassedRun>)
+    requires matched { IsMatched (S.qos sink.old) source.now.publication }
+    requires runs { vec_len runs.old < vec_capacity runs.old }
+    requires spare { 1 ≤ S.spare sink.old }
+    ensures runs_is { runs.new.items ≡ runs.old.items ++ run_of from to }
+    ensures entered { (h : List Happening) → S.stands sink.old h → S.stands sink.new (passed_from source.now.publication from to h) }
+    ensures runs { vec_len runs.new ≤ vec_len runs.old + 1 }
+    ensures capacity { vec_capacity runs.old ≤ vec_capacity runs.new }
+    ensures qos { S.qos sink.new ≡ S.qos sink.old }
+    ensures spare { S.spare sink.old ≤ S.spare sink.new + 1 }
+{
+    if to <= from {
+        return;
+    }
+    let first = Sn::new(from);
+    let last = Sn::new(to - 1);
+    if runs.push(PassedRun { first, last }).is_err() {
+        unreachable!();
+    }
+    if sink.pass(source.publication, first, last).is_err() {
+        unreachable!();
+    }
+}
+
+/// Enters that the writer's liveliness was asserted, if it was.
+fn hear_if<S: Sink>(sink: &mut S, source: &Source, liveliness: bool)
+    requires matched { IsMatched (S.qos sink.old) source.now.publication }
+    requires spare { 1 ≤ S.spare sink.old }
+    ensures entered { (h : List Happening) → S.stands sink.old h → S.stands sink.new (heard_after (match_of (S.qos sink.old) source.now) liveliness h) }
+    ensures qos { S.qos sink.new ≡ S.qos sink.old }
+    ensures spare { S.spare sink.old ≤ S.spare sink.new + 1 }
+{
+    if liveliness && sink.hear(source.publication, source.moment).is_err() {
+        unreachable!();
+    }
+}
+
+impl WriterProxy {
+    /// Of a writer of which nothing was heard.
+    pub fn open(alloc: Global) -> WriterProxy
+        ensures sound { IsSound result }
+        ensures tracked { SameTracked fresh (tracked result) }
+    {
+        WriterProxy {
+            alloc,
+            window: Window::open(alloc),
+            held: Vec::new(alloc),
+            first: 0,
+            count: None,
+            acknacks: 0,
+            runs: Vec::new(alloc),
+        }
+    }
+
+    /// The number of the next change.
+    pub fn place(&self) -> Sn
+        ensures { result ≡ (tracked self.now).place }
+    {
+        self.window.place()
+    }
+
+    /// Makes all memory that the next submessage may take, here and at the sink. It changes that alone.
+    pub fn reserve<S: Sink>(&mut self, sink: &mut S) -> Result<(), Code>
+        ensures same { SameTracked (tracked self.old) (tracked self.new) }
+        ensures sound { IsSound self.old → IsSound self.new }
+        ensures stands { (h : List Happening) → S.stands sink.old h → S.stands sink.new h }
+        ensures qos { S.qos sink.new ≡ S.qos sink.old }
+        ensures ok { OnOk result (IsProxyReady self.new (S.spare sink.new)) }
+        ensures spare { S.spare sink.old ≤ S.spare sink.new }
+        ensures succeeds { IsProxyReady self.old (S.spare sink.old) → IsOk result }
+        ensures memory { IfErr result (λ code. code ≡ Memory) }
+    {
+        let waiting = usize::min(self.held.len(), MAX_MOVES - 1) + 1;
+        self.window.reserve(WIDTH as usize)?;
+        self.held.reserve(1)?;
+        self.runs.clear();
+        self.runs.reserve(waiting + 1)?;
+        sink.reserve(2 * waiting + 3)
+    }
+
+    /// Whether the place may go over a number.
+    fn is_passable(&self, number: u64) -> bool
+        requires sound { IsSound self.now }
+        ensures { result ≡ is_passable (tracked self.now) number }
+    {
+        match self.window.mark_of(Sn::new(number)) {
+            None => number < self.first,
+            Some(Mark::Irrelevant) => true,
+            Some(Mark::Held) => false,
+        }
+    }
+
+    /// The first number from the place on that can't be passed over. It looks at the window alone.
+    fn run_end(&self) -> u64
+        requires sound { IsSound self.now }
+        ensures forward { place_of self.now.window ≤ result }
+        ensures passable { ArePassable (tracked self.now) (place_of self.now.window) result }
+        ensures stops { is_passable (tracked self.now) result ≡ false }
+        ensures small { result ≤ 2 ^ 62 + 256 }
+    {
+        let place = self.window.place().number();
+        for number in place..place + WIDTH {
+            if !self.is_passable(number) {
+                return number;
+            }
+        }
+        u64::max(self.first, place + WIDTH)
+    }
+
+    /// Goes over all numbers that can be passed over, and enters them as a run.
+    fn pass_over<S: Sink>(&mut self, sink: &mut S, source: &Source, runs: &mut Vec<PassedRun>)
+        requires sound { IsSound self.old }
+        requires matched { IsMatched (S.qos sink.old) source.now.publication }
+        requires runs { vec_len runs.old < vec_capacity runs.old }
+        requires spare { 1 ≤ S.spare sink.old }
+        ensures sound { IsSound self.new }
+        ensures passes { PassesOver source.now.publication (S.stands sink.old) (S.stands sink.new) (tracked self.old) (tracked self.new) runs.old.items runs.new.items }
+        ensures outside { (n : ℕ) → mark_of self.old.window n ≡ None → mark_of self.new.window n ≡ None }
+        ensures runs { vec_len runs.new ≤ vec_len runs.old + 1 }
+        ensures capacity { vec_capacity runs.old ≤ vec_capacity runs.new }
+        ensures qos { S.qos sink.new ≡ S.qos sink.old }
+        ensures spare { S.spare sink.old ≤ S.spare sink.new + 1 }
+        ensures held { self.new.held ≡ self.old.held }
+    {
+        let place = self.window.place().number();
+        let end = self.run_end();
+        note_run(sink, source, place, end, runs);
+        self.window.pass(Sn::new(end));
+    }
+
+    /// Hands on the change at the place, if one is held there and there is room for it.
+    fn hand_on<S: Sink>(&mut self, sink: &mut S, source: &Source) -> bool
+        requires sound { IsSound self.old }
+        requires matched { IsMatched (S.qos sink.old) source.now.publication }
+        requires spare { 1 ≤ S.spare sink.old }
+        ensures sound { IsSound self.new }
+        ensures handed { result ≡ true → HandsOn (match_of (S.qos sink.old) source.now) (S.stands sink.old) (S.stands sink.new) (tracked self.old) (tracked self.new) }
+        ensures stays { result ≡ false → SameTracked (tracked self.old) (tracked self.new) × (sink.new ≡ sink.old) }
+        ensures full { result ≡ false → (change : Change) (h : List Happening) → (tracked self.old).slot (place_of self.old.window) ≡ Held change → S.stands sink.old h → has_room (S.qos sink.old) h (coming (match_of (S.qos sink.old) source.now) (record { place = place_of self.old.window; happened = h }) change) ≡ false }
+        ensures was_marked { result ≡ true → mark_of self.old.window (place_of self.old.window) ≡ Some mark.Held }
+        ensures outside { (n : ℕ) → mark_of self.old.window n ≡ None → mark_of self.new.window n ≡ None }
+        ensures fewer { result ≡ true → vec_len self.new.held + 1 ≡ vec_len self.old.held }
+        ensures qos { S.qos sink.new ≡ S.qos sink.old }
+        ensures spare { S.spare sink.old ≤ S.spare sink.new + 1 }
+    {
+        let place = self.window.place();
+        if self.window.mark_of(place) != Some(Mark::Held) {
+            return false;
+        }
+        let Some(at) = position_of(&self.held, place) else {
+            return false;
+        };
+        stamp(&mut self.held, at, source);
+        if !sink.room(&self.held[at]) {
+            return false;
+        }
+        let arrival = take_out(&mut self.held, at);
+        if sink.come(arrival).is_err() {
+            unreachable!();
+        }
+        self.window.pass(Sn::new(place.number() + 1));
+        true
+    }
+
+    /// Moves the place as far as it can, and notes the runs that are passed over.
+    fn advance<S: Sink>(&mut self, sink: &mut S, source: &Source, runs: &mut Vec<PassedRun>)
+        requires sound { IsSound self.old }
+        requires matched { IsMatched (S.qos sink.old) source.now.publication }
+        requires none { runs.old.items ≡ [] }
+        requires len { vec_len runs.old ≡ 0 }
+        requires memory { CanMove (vec_len self.old.held) (vec_capacity runs.old) (S.spare sink.old) }
+        ensures sound { IsSound self.new }
+        ensures qos { S.qos sink.new ≡ S.qos sink.old }
+        ensures moves { Moves (match_of (S.qos sink.old) source.now) (S.stands sink.old) (S.stands sink.new) (tracked self.old) (place_of self.new.window) runs.new.items (tracked self.new) }
+    {
+        // Nothing is known of numbers past the window: the proof has it from here.
+        let _tells_the_window = self.window.place();
+        'moving: loop {
+            self.pass_over(sink, source, runs);
+            if !self.hand_on(sink, source) {
+                return;
+            }
+        }
+    }
+
+    /// Holds a received change, if its number is one of the window of which nothing is known.
+    fn hold(&mut self, arrival: Arrival)
+        requires sound { IsSound self.old }
+        requires small { arrival.number ≤ 2 ^ 62 }
+        requires marks { 1 ≤ room_of self.old.window }
+        requires changes { vec_len self.old.held < vec_capacity self.old.held }
+        ensures sound { IsSound self.new }
+        ensures holds { SameTracked (with_data arrival.number arrival.change (tracked self.old)) (tracked self.new) }
+        ensures held { vec_len self.new.held ≤ vec_len self.old.held + 1 }
+        ensures runs { self.new.runs ≡ self.old.runs }
+    {
+        let Ok(is_new) = self.window.mark(arrival.number, Mark::Held) else {
+            unreachable!();
+        };
+        if is_new && self.held.insert(0, arrival).is_err() {
+            unreachable!();
+        }
+    }
+
+    /// Makes irrelevant what a GAP names, as far as it is of the window and nothing is known of it.
+    fn make_irrelevant(&mut self, start: Sn, list: &SnSet)
+        requires sound { IsSound self.old }
+        requires small { list.now.base ≤ 2 ^ 62 }
+        requires marks { 256 ≤ room_of self.old.window }
+        ensures sound { IsSound self.new }
+        ensures forgets { SameTracked (with_gap start list.now (tracked self.old)) (tracked self.new) }
+        ensures held { self.new.held ≡ self.old.held }
+        ensures runs { self.new.runs ≡ self.old.runs }
+    {
+        mark_named(&mut self.window, start, list);
+    }
+
+    /// Notes what an accepted HEARTBEAT tells.
+    fn accept(&mut self, heartbeat: &HeartbeatSeen)
+        requires sound { IsSound self.old }
+        requires small { heartbeat.now.first ≤ 2 ^ 62 }
+        ensures sound { IsSound self.new }
+        ensures tells { SameTracked (with_heartbeat heartbeat.now.first heartbeat.now.count (tracked self.old)) (tracked self.new) }
+        ensures held { self.new.held ≡ self.old.held }
+        ensures runs { self.new.runs ≡ self.old.runs }
+    {
+        self.first = u64::max(self.first, heartbeat.first.number());
+        self.count = Some(heartbeat.count);
+    }
+
+    /// Whether a count is greater than that of the last accepted HEARTBEAT.
+    fn is_later(&self, count: i32) -> bool
+        ensures { result ≡ is_later self.now.count count }
+    {
+        match self.count {
+            None => true,
+            Some(last) => last < count,
+        }
+    }
+
+    /// What to answer to an accepted HEARTBEAT. It uses up a count.
+    fn acknowledge(&mut self, last: Sn, is_final: bool) -> Option<AckNackDue>
+        requires sound { IsSound self.old }
+        ensures sound { IsSound self.new }
+        ensures answers { Answers (tracked self.old) last is_final result }
+        ensures counted { tracked self.new ≡ answered result (tracked self.old) }
+    {
+        let base = self.window.place();
+        if base.number() > MAX_NUMBER || self.acknacks >= MAX_COUNT {
+            return None;
+        }
+        let missing = self.window.missing(last);
+        let is_complete = missing.bits() == 0;
+        if is_final && is_complete {
+            return None;
+        }
+        self.acknacks += 1;
+        Some(AckNackDue {
+            base,
+            missing,
+            count: self.acknacks as i32,
+            is_final: is_complete,
+        })
+    }
+
+    /// Moves the place as far as it can, and tells what was passed over.
+    fn moved<S: Sink>(&mut self, sink: &mut S, source: &Source) -> Step
+        requires sound { IsSound self.old }
+        requires matched { IsMatched (S.qos sink.old) source.now.publication }
+        requires memory { CanMove (vec_len self.old.held) (vec_capacity self.old.runs) (S.spare sink.old) }
+        ensures sound { IsSound self.new }
+        ensures quiet { (result.heard ≡ false) × (result.acknack ≡ None) }
+        ensures qos { S.qos sink.new ≡ S.qos sink.old }
+        ensures moves { Moves (match_of (S.qos sink.old) source.now) (S.stands sink.old) (S.stands sink.new) (tracked self.old) result.to result.passed (tracked self.new) }
+    {
+        let mut runs = mem::replace(&mut self.runs, Vec::new(self.alloc));
+        runs.clear();
+        self.advance(sink, source, &mut runs);
+        Step {
+            to: self.window.place(),
+            passed: Sequence::from_vec(runs),
+            heard: false,
+            acknack: None,
+        }
+    }
+
+    /// A change was received.
+    pub fn on_data<S: Sink>(
+        &mut self,
+        sink: &mut S,
+        source: &Source,
+        number: Sn,
+        change: Change,
+    ) -> Result<Step, Code>
+        requires sound { IsSound self.old }
+        requires matched { IsMatched (S.qos sink.old) source.now.publication }
+        requires small { number ≤ 2 ^ 62 }
+        ensures sound { IsSound self.new }
+        ensures moves { IfOk result (λ step. Moves (match_of (S.qos sink.old) source.now) (S.stands sink.old) (S.stands sink.new) (with_data number change (tracked self.old)) step.to step.passed (tracked self.new)) }
+        ensures quiet { IfOk result (λ step. (step.heard ≡ false) × (step.acknack ≡ None)) }
+        ensures qos { S.qos sink.new ≡ S.qos sink.old }
+        ensures err { OnErr result (SameTracked (tracked self.old) (tracked self.new)) }
+        ensures sink_err { OnErr result ((h : List Happening) → S.stands sink.old h → S.stands sink.new h) }
+        ensures memory { IfErr result (λ code. code ≡ Memory) }
+        ensures succeeds { IsProxyReady self.old (S.spare sink.old) → IsOk result }
+    {
+        self.reserve(sink)?;
+        self.hold(Arrival {
+            writer: source.publication,
+            number,
+            change,
+            moment: source.moment,
+        });
+        Ok(self.moved(sink, source))
+    }
+
+    /// A GAP was received.
+    pub fn on_gap<S: Sink>(
+        &mut self,
+        sink: &mut S,
+        source: &Source,
+        start: Sn,
+        list: &SnSet,
+    ) -> Result<Step, Code>
+        requires sound { IsSound self.old }
+        requires matched { IsMatched (S.qos sink.old) source.now.publication }
+        requires small { list.now.base ≤ 2 ^ 62 }
+        ensures sound { IsSound self.new }
+        ensures moves { IfOk result (λ step. Moves (match_of (S.qos sink.old) source.now) (S.stands sink.old) (S.stands sink.new) (with_gap start list.now (tracked self.old)) step.to step.passed (tracked self.new)) }
+        ensures quiet { IfOk result (λ step. (step.heard ≡ false) × (step.acknack ≡ None)) }
+        ensures qos { S.qos sink.new ≡ S.qos sink.old }
+        ensures err { OnErr result (SameTracked (tracked self.old) (tracked self.new)) }
+        ensures sink_err { OnErr result ((h : List Happening) → S.stands sink.old h → S.stands sink.new h) }
+        ensures memory { IfErr result (λ code. code ≡ Memory) }
+        ensures succeeds { IsProxyReady self.old (S.spare sink.old) → IsOk result }
+    {
+        self.reserve(sink)?;
+        self.make_irrelevant(start, list);
+        Ok(self.moved(sink, source))
+    }
+
+    /// A HEARTBEAT was received.
+    pub fn on_heartbeat<S: Sink>(
+        &mut self,
+        sink: &mut S,
+        source: &Source,
+        heartbeat: &HeartbeatSeen,
+    ) -> Result<Step, Code>
+        requires sound { IsSound self.old }
+        requires matched { IsMatched (S.qos sink.old) source.now.publication }
+        requires small { heartbeat.now.first ≤ 2 ^ 62 }
+        ensures sound { IsSound self.new }
+        ensures moves { is_later self.old.count heartbeat.now.count ≡ true → IfOk result (λ step. HeartbeatMoves (match_of (S.qos sink.old) source.now) (S.stands sink.old) (S.stands sink.new) (tracked self.old) heartbeat.now step (tracked self.new)) }
+        ensures repeated { is_later self.old.count heartbeat.now.count ≡ false → (self.new ≡ self.old) × (sink.new ≡ sink.old) × IsOk result × IfOk result (λ step. IsIdle (tracked self.old).place step) }
+        ensures qos { S.qos sink.new ≡ S.qos sink.old }
+        ensures err { OnErr result (SameTracked (tracked self.old) (tracked self.new)) }
+        ensures sink_err { OnErr result ((h : List Happening) → S.stands sink.old h → S.stands sink.new h) }
+        ensures memory { IfErr result (λ code. code ≡ Memory) }
+        ensures succeeds { IsProxyReady self.old (S.spare sink.old) → IsOk result }
+    {
+        if !self.is_later(heartbeat.count) {
+            return Ok(Step {
+                to: self.window.place(),
+                passed: Sequence::from_vec(Vec::new(self.alloc)),
+                heard: false,
+                acknack: None,
+            });
+        }
+        self.reserve(sink)?;
+        self.accept(heartbeat);
+        hear_if(sink, source, heartbeat.liveliness);
+        let mut step = self.moved(sink, source);
+        step.heard = heartbeat.liveliness;
+        step.acknack = self.acknowledge(heartbeat.last, heartbeat.is_final);
+        Ok(step)
+    }
+}
