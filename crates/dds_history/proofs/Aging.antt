@@ -1,57 +1,58 @@
--- What is held stands for the list of changes, and one more change ages it.
-use Rattle.std.proofs.Common.{◌≡◌, ℕ, ◌+◌, ◌-◌, Bool, true, false, cond, List, [], ◌∷◌, ◌++◌, map, count_by, refl, ap, ◌∙◌, arith}
-use Rattle.std.specs.Prelude.{if◌then◌else◌, nat_eq}
-use Rattle.std.proofs.lemmas.Bool.Decides.{Decides-eqb}
-use Rattle.std.proofs.lemmas.Slice.Eq.{slice_eq-Decides}
-use Rattle.std.proofs.lemmas.List.{map-append}
+-- One more change ages those before it.
+use Rattle.std.proofs.Common.{◌≡◌, ℕ, ◌+◌, ◌-◌, Bool, true, false, cond, List, [], ◌∷◌, ◌++◌, length, count_by, refl, ap, arith}
+use Rattle.std.specs.Prelude.{if◌then◌else◌}
 use Rattle.std.proofs.lemmas.List.Sums.{sum_by-append}
 use Rattle.dds_base.specs.declared.key.Key.{Key}
 use Rattle.dds_base.specs.declared.change.Change.{Change}
 use Rattle.dds_base.specs.declared.qos.HistoryQos.{HistoryQos}
 use Rattle.dds_base.specs.declared.qos.HistoryQos.TheVariants.{KeepAll, KeepLast}
 use Rattle.dds_base.specs.Happening.{same_key}
+use Rattle.dds_base.proofs.KeyLaws.{same_key-refl}
 use Rattle.dds_history.specs.declared.held.HeldChange.{HeldChange}
-use Rattle.dds_history.specs.Held.{aged, with_change}
-use Rattle.dds_history.specs.Standing.{AreAged, change_of}
-
-pub same_key-refl : (a : Key) → same_key a a ≡ true
-same_key-refl a = (slice_eq-Decides {E = nat_eq} Decides-eqb a.0 a.0 (same_key a a) refl).1 refl
-
--- the changes of aged entries
-pub changes-aged : (key : Key) (es : List HeldChange) → map change_of (map (aged key) es) ≡ map change_of es
-changes-aged key [] = refl
-changes-aged key (e ∷ es) = ap (λ (cs : List Change). e.change ∷ cs) (changes-aged key es)
+use Rattle.dds_history.specs.Held.{with_change}
+use Rattle.dds_history.specs.Standing.{all_from}
 
 -- how many of these changes have the key
 abbrev of_key : Key → List Change → ℕ
 of_key key cs = count_by (λ (c : Change). same_key c.key key) cs
 
-aged_head : (b : Bool) (remaining depth later : ℕ) → remaining ≡ depth - later → (if b then remaining - 1 else remaining) ≡ depth - (later + cond b 1 0)
-aged_head true remaining depth later h = omega arith
-aged_head false remaining depth later h = omega arith
+of_key-append : (key : Key) (cs : List Change) (c : Change) → of_key key (cs ++ c ∷ [])
+    ≡ of_key key cs + cond (same_key c.key key) 1 0
+of_key-append key cs c = let e = sum_by-append (λ (x : Change). cond (same_key x.key key) 1 0) cs (c ∷ []) in
+    omega (arith, e)
 
-of_key-append : (key : Key) (cs : List Change) (c : Change) → of_key key (cs ++ c ∷ []) ≡ of_key key cs + cond (same_key c.key key) 1 0
-of_key-append key cs c = let e = sum_by-append (λ (x : Change). cond (same_key x.key key) 1 0) cs (c ∷ []) in omega (arith, e)
+one_fewer : (b : Bool) (depth later more : ℕ) → more ≡ later + cond b 1 0 → depth - more
+    ≡ (if b then depth - later - 1 else depth - later)
+one_fewer true depth later more h = omega arith
+one_fewer false depth later more h = omega arith
 
-aged-more : (depth : ℕ) (c : Change) (es : List HeldChange) → AreAged (KeepLast depth) es → AreAged (KeepLast depth) (map (aged c.key) (es ++ record { change = c; remaining = depth + 1 } ∷ []))
-aged-more depth c [] h = (let e = ap (λ (b : Bool). cond b (depth + 1 - 1) (depth + 1)) (same_key-refl c.key) in omega (arith, e), tt)
-aged-more depth c (e ∷ es) h =
-    let all : map change_of (map (aged c.key) (es ++ record { change = c; remaining = depth + 1 } ∷ [])) ≡ map change_of es ++ c ∷ [] =
-    changes-aged c.key (es ++ record { change = c; remaining = depth + 1 } ∷ []) ∙ map-append change_of es (record { change = c; remaining = depth + 1 } ∷ []) in
-    let counted = ap (λ (cs : List Change). of_key e.change.key cs) all in
-    let more = of_key-append e.change.key (map change_of es) c in
-    let head = aged_head (same_key c.key e.change.key) e.remaining depth (of_key e.change.key (map change_of es)) h.0 in
-    (omega (arith, head, counted, more), aged-more depth c es h.1)
+entry_as : (n m : ℕ) (c : Change) (a b : ℕ) → n ≡ m → a ≡ b
+    → ◌≡◌ {A = HeldChange} (record { number = n; change = c; remaining = a })
+    (record { number = m; change = c; remaining = b })
+entry_as n m c a b e f = cc
 
-unaged-more : (c : Change) (es : List HeldChange) → AreAged KeepAll es → AreAged KeepAll (es ++ record { change = c; remaining = 1 } ∷ [])
-unaged-more c [] h = (refl, tt)
-unaged-more c (e ∷ es) h = (h.0, unaged-more c es h.1)
+put_before : (x y : HeldChange) (xs ys : List HeldChange) → x ≡ y → xs ≡ ys → x ∷ xs ≡ y ∷ ys
+put_before x y xs ys e f = cc
 
-pub still-aged : (policy : HistoryQos) (c : Change) (es : List HeldChange) → AreAged policy es → AreAged policy (with_change policy es c)
-still-aged KeepAll c es h = unaged-more c es h
-still-aged (KeepLast depth) c es h = aged-more depth c es h
+more-unaged : (n m : ℕ) (cs : List Change) (c : Change) → m ≡ n + length cs
+    → all_from KeepAll n (cs ++ c ∷ []) ≡ with_change KeepAll (all_from KeepAll n cs) m c
+more-unaged n m [] c at = put_before _ _ [] [] (entry_as n m c 1 1 (omega arith) refl) refl
+more-unaged n m (x ∷ cs) c at = put_before _ _ _ _ refl (more-unaged (n + 1) m cs c (omega arith))
 
-pub changes-more : (policy : HistoryQos) (c : Change) (es : List HeldChange) → map change_of (with_change policy es c) ≡ map change_of es ++ c ∷ []
-changes-more KeepAll c es = map-append change_of es (record { change = c; remaining = 1 } ∷ [])
-changes-more (KeepLast depth) c es =
-    changes-aged c.key (es ++ record { change = c; remaining = depth + 1 } ∷ []) ∙ map-append change_of es (record { change = c; remaining = depth + 1 } ∷ [])
+more-aged : (depth n m : ℕ) (cs : List Change) (c : Change) → m ≡ n + length cs
+    → all_from (KeepLast depth) n (cs ++ c ∷ []) ≡ with_change (KeepLast depth) (all_from (KeepLast depth) n cs) m c
+more-aged depth n m [] c at =
+    let own = ap (λ (b : Bool). cond b (depth + 1 - 1) (depth + 1)) (same_key-refl c.key) in
+    put_before _ _ [] [] (entry_as n m c (depth - 0) _ (omega arith) (omega (arith, own))) refl
+more-aged depth n m (x ∷ cs) c at =
+    put_before _ _ _ _
+    (entry_as n n x _ _ refl
+    (one_fewer (same_key c.key x.key) depth (of_key x.key cs) (of_key x.key (cs ++ c ∷ []))
+    (of_key-append x.key cs c)))
+    (more-aged depth (n + 1) m cs c (omega arith))
+
+-- all changes and one more, which has the next number
+pub all-more : (policy : HistoryQos) (n m : ℕ) (cs : List Change) (c : Change) → m ≡ n + length cs
+    → all_from policy n (cs ++ c ∷ []) ≡ with_change policy (all_from policy n cs) m c
+all-more KeepAll n m cs c at = more-unaged n m cs c at
+all-more (KeepLast depth) n m cs c at = more-aged depth n m cs c at

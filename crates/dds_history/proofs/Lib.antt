@@ -1,2 +1,4 @@
 pub mod Aging
+pub mod Numbering
 pub mod Keeping
+pub mod Letting

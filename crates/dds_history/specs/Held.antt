@@ -1,5 +1,6 @@
 -- The changes that a history holds, with how many more of their keys each of them outlives.
-use Rattle.std.specs.Prelude.{ℕ, ◌==◌, ◌+◌, ◌-◌, List, [], ◌∷◌, ◌++◌, map, length, count_by, nat_lt, if◌then◌else◌}
+use Rattle.std.specs.Prelude.{ℕ, ◌+◌, ◌-◌, ◌&&◌, Bool, List, [], ◌∷◌, ◌++◌, map, length, count_by, nat_lt, nat_le, if◌then◌else◌}
+use Rattle.std.specs.List.{list_any}
 use Rattle.dds_base.specs.declared.key.Key.{Key}
 use Rattle.dds_base.specs.declared.change.Change.{Change}
 use Rattle.dds_base.specs.declared.qos.HistoryQos.{HistoryQos}
@@ -7,20 +8,30 @@ use Rattle.dds_base.specs.declared.qos.HistoryQos.TheVariants.{KeepAll, KeepLast
 use Rattle.dds_base.specs.Happening.{same_key}
 use Rattle.dds_history.specs.declared.held.HeldChange.{HeldChange}
 
+-- some reader has not acknowledged the number
+abbrev pub awaits : List ℕ → ℕ → Bool
+awaits acknowledged number = list_any (λ a. nat_le a number) acknowledged
+
+-- the change is not dropped, and some reader has not acknowledged it
+abbrev pub is_held : List ℕ → HeldChange → Bool
+is_held acknowledged e = nat_lt 0 e.remaining && awaits acknowledged e.number
+
 -- the change, once one more of this key was made
 abbrev pub aged : Key → HeldChange → HeldChange
-aged key e = record { change = e.change; remaining = (if same_key key e.change.key then e.remaining - 1 else e.remaining) }
+aged key e = record {
+  number = e.number;
+  change = e.change;
+  remaining = (if same_key key e.change.key then e.remaining - 1 else e.remaining);
+}
 
--- the changes, with one more
-abbrev pub with_change : HistoryQos → List HeldChange → Change → List HeldChange
-with_change KeepAll entries change = entries ++ record { change = change; remaining = 1 } ∷ []
-with_change (KeepLast depth) entries change = map (λ e. aged change.key e) (entries ++ record { change = change; remaining = depth + 1 } ∷ [])
+-- the changes, with one more of this number
+abbrev pub with_change : HistoryQos → List HeldChange → ℕ → Change → List HeldChange
+with_change KeepAll entries number change = entries ++ record { number = number; change = change; remaining = 1 } ∷ []
+with_change (KeepLast depth) entries number change =
+    map (λ e. aged change.key e) (entries ++ record { number = number; change = change; remaining = depth + 1 } ∷ [])
 
--- how many changes are kept once one more of this key was made
-abbrev pub kept_after : HistoryQos → List HeldChange → Key → ℕ
-kept_after KeepAll entries key = length entries + 1
-kept_after (KeepLast depth) entries key = count_by (λ e. nat_lt 0 (aged key e).remaining) entries + (if nat_lt 0 depth then 1 else 0)
-
--- the same where this many reliable readers are matched, which have acknowledged nothing: without a reader nothing is kept
-abbrev pub kept_for : ℕ → HistoryQos → List HeldChange → Key → ℕ
-kept_for readers policy entries key = if readers == 0 then 0 else kept_after policy entries key
+-- how many changes are kept once one more of this key was made, which some reader awaits or not
+abbrev pub kept_after : HistoryQos → List HeldChange → Key → Bool → ℕ
+kept_after KeepAll entries key is_awaited = length entries + (if is_awaited then 1 else 0)
+kept_after (KeepLast depth) entries key is_awaited =
+    count_by (λ e. nat_lt 0 (aged key e).remaining) entries + (if nat_lt 0 depth && is_awaited then 1 else 0)

@@ -1,17 +1,48 @@
 //! The changes that a history holds, with how many more of their keys each of them outlives.
 
-ghost use Rattle.std.specs.Prelude.{◌≡◌, ◌+◌, ◌^◌, ◌<◌, map, length, nat_lt, IfErr, OnOk, OnErr};
+ghost use Rattle.std.specs.Prelude.{◌≡◌, ◌+◌, ◌==◌, find, map, filter, IfErr, OnOk, OnErr};
+ghost use Rattle.std.specs.Option.{option_copied};
 ghost use Rattle.dds_base.specs.declared.code.Code.TheVariants.{Memory};
-ghost use Rattle.dds_history.specs.Held.{aged, with_change, kept_after};
+ghost use Rattle.dds_history.specs.declared.held.HeldChange.{HeldChange};
+ghost use Rattle.dds_history.specs.Held.{aged, awaits, is_held, with_change, kept_after};
 
 use dds_base::{Change, Code, HistoryQos, Key};
 
 /// A change with what its history still grants it.
 #[derive(Drop)]
 pub struct HeldChange {
+    pub number: u64,
     pub change: Change,
     /// So many more changes of its key drop it; nothing counts under KEEP_ALL.
     pub remaining: u64,
+}
+
+/// Whether some reader has not acknowledged the number.
+pub fn is_awaited(acknowledged: &[u64], number: u64) -> bool
+    ensures { result ≡ awaits acknowledged.now number }
+{
+    acknowledged.iter().any(|to| *to <= number)
+}
+
+/// Whether a change is neither dropped nor acknowledged by all.
+fn is_held(entry: &HeldChange, acknowledged: &[u64]) -> bool
+    ensures { result ≡ is_held acknowledged.now entry.now }
+{
+    0 < entry.remaining && is_awaited(acknowledged, entry.number)
+}
+
+/// Lets go of the changes that are dropped, or acknowledged by all.
+pub fn let_go(entries: &mut Vec<HeldChange>, acknowledged: &[u64])
+    ensures { entries.new.items ≡ filter (is_held acknowledged.now) entries.old.items }
+{
+    entries.retain(|entry| is_held(entry, acknowledged));
+}
+
+/// The change of a number, if it is here.
+pub fn find(entries: &[HeldChange], number: u64) -> Option<&HeldChange>
+    ensures { option_copied result ≡ find (λ (e : HeldChange). e.number == number) entries.now }
+{
+    entries.iter().find(|entry| entry.number == number)
 }
 
 /// What the change still has once one more of this key was made.
@@ -36,13 +67,19 @@ fn age(entries: &mut Vec<HeldChange>, key: &Key)
 }
 
 /// Adds a change, which may drop an older one of its key.
-pub fn add(entries: &mut Vec<HeldChange>, policy: HistoryQos, change: Change) -> Result<(), Code>
-    ensures ok { OnOk result (entries.new.items ≡ with_change policy entries.old.items change) }
+pub fn add(
+    entries: &mut Vec<HeldChange>,
+    policy: HistoryQos,
+    number: u64,
+    change: Change,
+) -> Result<(), Code>
+    ensures ok { OnOk result (entries.new.items ≡ with_change policy entries.old.items number change) }
     ensures memory { IfErr result (λ code. code ≡ Memory) }
     ensures err { OnErr result (entries.new.items ≡ entries.old.items) }
 {
     match policy {
         HistoryQos::KeepAll => entries.push(HeldChange {
+            number,
             change,
             remaining: 1,
         })?,
@@ -50,26 +87,39 @@ pub fn add(entries: &mut Vec<HeldChange>, policy: HistoryQos, change: Change) ->
             let key = change.key;
             // The new change ages with the others.
             let remaining = u64::from(depth) + 1;
-            entries.push(HeldChange { change, remaining })?;
+            entries.push(HeldChange {
+                number,
+                change,
+                remaining,
+            })?;
             age(entries, &key);
         }
     }
     Ok(())
 }
 
-/// How many changes are kept once one more of this key was made, the new one among them.
-pub fn kept_with(entries: &[HeldChange], policy: HistoryQos, key: &Key) -> usize
-    requires { length entries.now < 2 ^ 48 }
-    ensures { result ≡ kept_after policy entries.now key.now }
+/// How many changes are kept once one more of this key was made, the new one among them if some reader awaits it.
+pub fn kept_with(entries: &[HeldChange], policy: HistoryQos, key: &Key, is_awaited: bool) -> usize
+    ensures { result ≡ kept_after policy entries.now key.now is_awaited }
 {
     match policy {
-        HistoryQos::KeepAll => entries.len() + 1,
+        HistoryQos::KeepAll => {
+            if is_awaited {
+                entries.len() + 1
+            } else {
+                entries.len()
+            }
+        }
         HistoryQos::KeepLast(depth) => {
             let older = entries
                 .iter()
                 .filter(|entry| 0 < remaining_after(entry, key))
                 .count();
-            if 0 < depth { older + 1 } else { older }
+            if 0 < depth && is_awaited {
+                older + 1
+            } else {
+                older
+            }
         }
     }
 }

@@ -1,31 +1,38 @@
 //! The history of a writer.
 
-ghost use Rattle.std.specs.Prelude.{◌≡◌, ◌+◌, ◌^◌, ◌<◌, ◌≤◌, None, [], length, replicate, IfOk, IfErr, OnErr, nat_lt};
-ghost use Rattle.dds_base.specs.declared.change.Change.{Change};
+ghost use Rattle.std.specs.Prelude.{◌≡◌, ◌+◌, ◌^◌, ◌<◌, ◌≤◌, None, [], length, replicate, slice_index, IfOk, IfErr, OnErr};
 ghost use Rattle.std.specs.Option.{option_copied};
-ghost use Rattle.dds_base.specs.Kept.{WriterHistory, appended, append_refusal, exceeds, kept_change};
+ghost use Rattle.dds_base.specs.declared.change.Change.{Change};
+ghost use Rattle.dds_base.specs.declared.code.Code.TheVariants.{Memory};
+ghost use Rattle.dds_base.specs.Kept.{WriterHistory, acknowledge, appended, append_refusal, exceeds, first_kept, is_awaited, is_kept, kept_change};
 ghost use Rattle.dds_base.specs.Refusal.{Refuses};
-ghost use Rattle.dds_history.specs.Held.{kept_for};
-ghost use Rattle.dds_history.specs.Standing.{StandsFor};
+ghost use Rattle.dds_history.specs.Held.{awaits, kept_after};
+ghost use Rattle.dds_history.specs.Standing.{StandsFor, reader_count};
 
-use crate::held::{HeldChange, add, kept_with};
+use crate::held::{HeldChange, add, find, is_awaited, kept_with, let_go};
 use dds_base::{Change, Code, HistoryQos, Key, Sn};
 use std::alloc::Global;
 use std::marker::Model;
 
 /// A writer makes this many changes.
-const MAX_CHANGES: usize = 1 << 48;
+const MAX_CHANGES: u64 = 1 << 48;
 
-/// The changes of a writer, numbered from 1, of which it keeps those that its policy has not dropped.
+/// The changes of a writer, numbered from 1, of which it keeps those that its policy has not dropped and that some
+/// matched reliable reader has not acknowledged. What is not kept takes no room, and costs no time.
 ///
-/// Its matched reliable readers have acknowledged nothing. Where there is none, a change gets its number and is not kept.
+/// Its matched reliable readers are named by an index from 0. Where there is none, a change gets its number and is not
+/// kept.
 ///
-/// DDS 1.4, 2.2.3 (HISTORY, RESOURCE_LIMITS); RTPS 2.5, 8.2 (HistoryCache).
+/// DDS 1.4, 2.2.3 (HISTORY, RESOURCE_LIMITS); RTPS 2.5, 8.2 (HistoryCache), 8.4.9 (ReaderProxy).
 #[derive(Drop)]
 pub struct History {
     policy: HistoryQos,
     max_samples: Option<u32>,
-    readers: usize,
+    /// The number of the last change.
+    last: u64,
+    /// Of each reader, the number below which it has acknowledged all.
+    acknowledged: Vec<u64>,
+    /// What is kept, in the order of the numbers.
     entries: Vec<HeldChange>,
 }
 
@@ -37,33 +44,45 @@ impl Model for History {
     ghost view = { λ h. record {
       policy = h.policy;
       max_samples = h.max_samples;
-      readers = h.readers;
+      last = h.last;
+      acknowledged = h.acknowledged.items;
       entries = h.entries.items;
     } };
 }
 
 impl History {
     /// The history of a writer that has made no change. `max_samples` is how many numbers it may keep, `None` any;
-    /// `readers` is how many matched reliable readers it has.
+    /// `readers` is how many matched reliable readers it has, which have acknowledged nothing.
+    ///
+    /// # Errors
+    ///
+    /// `Memory` where a growth was refused.
     pub fn open(
         alloc: Global,
         policy: HistoryQos,
         max_samples: Option<u32>,
         readers: usize,
-    ) -> History
-        ensures { StandsFor result (record {
+    ) -> Result<History, Code>
+        // It stands for no change, of which each reader awaits the first.
+        ensures ok { IfOk result (λ history. StandsFor history (record {
           policy = policy;
           max_samples = max_samples;
           changes = [];
           acknowledged = replicate readers 1;
-        }) }
+        })) }
+        // It has this many readers.
+        ensures readers { IfOk result (λ history. reader_count history ≡ readers) }
+        // The only refusal is for want of memory.
+        ensures memory { IfErr result (λ code. code ≡ Memory) }
     {
-        History {
+        let acknowledged = vec![in alloc; 1u64; readers]?;
+        Ok(History {
             policy,
             max_samples,
-            readers,
+            last: 0,
+            acknowledged,
             entries: Vec::new(alloc),
-        }
+        })
     }
 
     /// Appends a change and gives its number, counted from 1.
@@ -83,14 +102,19 @@ impl History {
             → IfErr result (Refuses (append_refusal w change)) }
         // Numbers are 1 to 2^48.
         ensures number { IfOk result (λ number. (1 ≤ number) × (number ≤ 2 ^ 48)) }
+        // The readers stay the same ones.
+        ensures readers { reader_count self.new ≡ reader_count self.old }
         // A refusal leaves the history as it was.
         ensures err { OnErr result (self.new ≡ self.old) }
     {
         if let Some(code) = self.cause(&change.key) {
             return Err(code);
         }
-        add(&mut self.entries, self.policy, change)?;
-        Ok(Sn::new(self.entries.len() as u64))
+        let number = self.last + 1;
+        add(&mut self.entries, self.policy, number, change)?;
+        let_go(&mut self.entries, &self.acknowledged);
+        self.last = number;
+        Ok(Sn::new(number))
     }
 
     /// Why one more change would be refused, but for want of memory: the code that `append` would answer.
@@ -107,9 +131,9 @@ impl History {
     fn cause(&self, key: &Key) -> Option<Code>
         ensures refusal { (w : WriterHistory) (change : Change) → StandsFor self.now w
             → change.key ≡ key.now → result ≡ append_refusal w change }
-        ensures few { result ≡ None → length self.now.entries < 2 ^ 48 }
+        ensures few { result ≡ None → self.now.last < 2 ^ 48 }
     {
-        if MAX_CHANGES <= self.entries.len() {
+        if MAX_CHANGES <= self.last {
             return Some(Code::OutOfResources);
         }
         if self.is_full(key) {
@@ -120,9 +144,9 @@ impl History {
 
     /// Whether one more change of this key would exceed the limit.
     fn is_full(&self, key: &Key) -> bool
-        requires { length self.now.entries < 2 ^ 48 }
+        requires { self.now.last < 2 ^ 48 }
         ensures { result ≡ exceeds self.now.max_samples
-            (kept_for self.now.readers self.now.policy self.now.entries key.now) }
+            (kept_after self.now.policy self.now.entries key.now (awaits self.now.acknowledged (self.now.last + 1))) }
     {
         match self.max_samples {
             Some(most) => (most as usize) < self.kept_with(key),
@@ -132,39 +156,96 @@ impl History {
 
     /// How many numbers are kept once one more change of this key was made.
     fn kept_with(&self, key: &Key) -> usize
-        requires { length self.now.entries < 2 ^ 48 }
-        ensures { result ≡ kept_for self.now.readers self.now.policy self.now.entries key.now }
+        requires { self.now.last < 2 ^ 48 }
+        ensures { result ≡ kept_after self.now.policy self.now.entries key.now
+            (awaits self.now.acknowledged (self.now.last + 1)) }
     {
-        if 0 < self.readers {
-            kept_with(&self.entries, self.policy, key)
-        } else {
-            0
+        let is_new_kept = is_awaited(&self.acknowledged, self.last + 1);
+        kept_with(&self.entries, self.policy, key, is_new_kept)
+    }
+
+    /// How many matched reliable readers there are: their indices lie below.
+    pub fn readers(&self) -> usize
+        // An index below it names a reader.
+        ensures readers { result ≡ reader_count self.now }
+        // So many acknowledgements are known.
+        ensures acknowledged { (w : WriterHistory) → StandsFor self.now w → result ≡ length w.acknowledged }
+    {
+        self.acknowledged.len()
+    }
+
+    /// This reader, by its index from 0, has acknowledged all numbers below this one. An acknowledgement doesn't go
+    /// back.
+    ///
+    /// RTPS 2.5, 8.4.9 (ReaderProxy, acked_changes_set).
+    pub fn acked(&mut self, reader: usize, to: Sn)
+        // There is such a reader.
+        requires { reader < reader_count self.old }
+        // What it stands for knows of the acknowledgement, and of nothing else.
+        ensures stands { (w : WriterHistory) → StandsFor self.old w → StandsFor self.new (acknowledge w reader to) }
+        // The readers stay the same ones.
+        ensures readers { reader_count self.new ≡ reader_count self.old }
+    {
+        let to = to.number();
+        if self.acknowledged[reader] < to {
+            self.acknowledged[reader] = to;
+            let_go(&mut self.entries, &self.acknowledged);
         }
+    }
+
+    /// The number below which this reader, by its index from 0, has acknowledged all: 1 at first.
+    ///
+    /// RTPS 2.5, 8.4.9 (ReaderProxy, acked_changes_set).
+    pub fn acknowledged(&self, reader: usize) -> Sn
+        requires { reader < reader_count self.now }
+        ensures { (w : WriterHistory) → StandsFor self.now w → result ≡ slice_index w.acknowledged reader }
+    {
+        Sn::new(self.acknowledged[reader])
+    }
+
+    /// Whether some matched reliable reader has not acknowledged the number. Every number may be asked for.
+    ///
+    /// RTPS 2.5, 8.4.9 (ReaderProxy, unacked_changes).
+    pub fn is_awaited(&self, number: Sn) -> bool
+        ensures { (w : WriterHistory) → StandsFor self.now w → result ≡ is_awaited w number }
+    {
+        is_awaited(&self.acknowledged, number.number())
+    }
+
+    /// Whether the number is kept: it is a change's that is not dropped, and that some reader has not acknowledged.
+    pub fn kept(&self, number: Sn) -> bool
+        ensures { (w : WriterHistory) → StandsFor self.now w → result ≡ is_kept w number }
+    {
+        find(&self.entries, number.number()).is_some()
     }
 
     /// The change of a kept number; `None` where the number is not kept.
     pub fn get(&self, number: Sn) -> Option<&Change>
         ensures { (w : WriterHistory) → StandsFor self.now w → option_copied result ≡ kept_change w number }
     {
-        let is_awaited = 0 < self.readers;
-        if !is_awaited {
-            return None;
-        }
-        let number = number.number();
-        if number == 0 {
-            return None;
-        }
-        let entry = self.entries.get((number - 1) as usize)?;
-        if entry.remaining == 0 {
-            return None;
-        }
+        let entry = find(&self.entries, number.number())?;
         Some(&entry.change)
+    }
+
+    /// The first number that is kept, or the one past the last.
+    ///
+    /// RTPS 2.5, 8.3.8 (Heartbeat: firstSN).
+    pub fn first(&self) -> Sn
+        ensures { (w : WriterHistory) → StandsFor self.now w → result ≡ first_kept w }
+    {
+        match self.entries.first() {
+            Some(entry) => Sn::new(entry.number),
+            None => Sn::new(self.last.saturating_add(1)),
+        }
     }
 
     /// The number of the last change; 0 before the first.
     pub fn last(&self) -> Sn
-        ensures { (w : WriterHistory) → StandsFor self.now w → result ≡ length w.changes }
+        // So many changes were made.
+        ensures last { (w : WriterHistory) → StandsFor self.now w → result ≡ length w.changes }
+        // At most 2^48.
+        ensures few { (w : WriterHistory) → StandsFor self.now w → result ≤ 2 ^ 48 }
     {
-        Sn::new(self.entries.len() as u64)
+        Sn::new(self.last)
     }
 }
