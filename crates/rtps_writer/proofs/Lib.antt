@@ -1,0 +1,6 @@
+mod Registrations
+mod Parts
+mod AnswerLaws
+mod TickLaws
+mod AcknackLaws
+pub mod AnswerFacts

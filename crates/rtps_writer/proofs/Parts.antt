@@ -1,0 +1,40 @@
+-- The parts of what a writer keeps, and what they stand for.
+use Rattle.std.proofs.Common.{◌≡◌, Bool, not, List, sym, ap, ◌∙◌, subst}
+use Rattle.std.specs.Prelude.{if◌then◌else◌}
+use Rattle.dds_base.specs.declared.change.Change.{Change}
+use Rattle.dds_base.specs.declared.key.Key.{Key}
+use Rattle.dds_base.specs.Happening.{same_key, is_unregister}
+use Rattle.dds_base.specs.Kept.{appended}
+use Rattle.dds_base.specs.Written.{Changed}
+use Rattle.dds_history.specs.Standing.{Held, StandsFor as HistoryStandsFor}
+use Rattle.rtps_writer.specs.Registered.{is_among}
+use Rattle.rtps_writer.specs.Standing.{Kept, StandsFor}
+use Rattle.rtps_writer.specs.WriterState.{WriterState, entering, history_of}
+
+-- the same, of another name for what is kept
+pub stands_as : (a b : Kept) (s : WriterState) → a ≡ b → StandsFor a s → StandsFor b s
+stands_as a b s same given = subst (λ (k : Kept). StandsFor k s) same given
+
+pub history_at : (kept now : Kept) (s : WriterState) → kept ≡ now → StandsFor now s
+    → HistoryStandsFor kept.history (history_of s)
+history_at kept now s same given = (stands_as now kept s (sym same) given).history
+
+-- a writer with one more change
+pub changes : (kept now : Kept) (s : WriterState) → kept ≡ now → StandsFor now s
+    → (before keys : List Key) (held : Held) (change : Change) → before ≡ kept.registered
+    → ((k : Key) → is_among keys k
+    ≡ (if same_key change.key k then not (is_unregister change.kind) else is_among before k))
+    → HistoryStandsFor held (appended (history_of s) change)
+    → StandsFor (record kept { history = held; registered = keys }) (entering s (Changed change))
+changes kept now s same given before keys held change reserved noted more =
+    let here = stands_as now kept s (sym same) given in
+    record {
+      history = more;
+      registered = λ k.
+          noted k ∙ (ap (λ (ks : List Key). if same_key change.key k then not (is_unregister change.kind)
+          else is_among ks k) reserved
+          ∙ ap (λ (b : Bool). if same_key change.key k then not (is_unregister change.kind) else b)
+          (here.registered k));
+      counts = here.counts;
+      counts_used = here.counts_used;
+    }

@@ -1,0 +1,102 @@
+-- What a tick does to a writer, and the HEARTBEAT that it asks for.
+use Rattle.std.proofs.Common.{◌≡◌, ℕ, ◌+◌, ◌-◌, ◌^◌, ◌<◌, ◌≤◌, min, Bool, true, false, ◌&&◌, ◌⊎◌, inl, inr, cond, List, [], ◌∷◌, ◌++◌, length, Option, Some, None, ℤ, pos, refl, ap, ◌∙◌, arith, length-append}
+use Rattle.std.specs.Prelude.{if◌then◌else◌, nat_lt}
+use Rattle.std.proofs.lemmas.Bool.Decides.{nat_tests}
+use Rattle.dds_base.specs.Kept.{first_kept}
+use Rattle.dds_base.specs.Written.{counts_of}
+use Rattle.rtps_writer.specs.declared.heartbeat.HeartbeatDue.{HeartbeatDue}
+use Rattle.rtps_writer.specs.Standing.{Kept, StandsFor}
+use Rattle.rtps_writer.specs.WriterState.{WriterState, counts_due, heartbeat_due, history_of, is_behind, last_of, ticked}
+
+length_if : (b : Bool) (xs : List Bool) → length (if b then xs ++ false ∷ [] else xs) ≡ length xs + cond b 1 0
+length_if true xs = let n = length-append xs (false ∷ []) in omega (arith, n)
+length_if false xs = omega arith
+
+-- a tick takes a count where some reader is behind
+counts-ticked : (s : WriterState) (now : ℕ) → counts_due (ticked s now) ≡ counts_due s + cond (is_behind s) 1 0
+counts-ticked s now = length_if (is_behind s) (counts_of (nat_lt 0 (length s.acknowledged)) s.written)
+
+stands-ticked : (kept : Kept) (s : WriterState) (now used : ℕ) → StandsFor kept s → used
+    ≡ min (counts_due (ticked s now)) (2 ^ 31 - 1)
+    → StandsFor (record kept { counts_used = used }) (ticked s now)
+stands-ticked kept s now used given is = record {
+  history = given.history;
+  registered = given.registered;
+  counts = given.counts;
+  counts_used = is;
+}
+
+none_due : (b c : Bool) (h : HeartbeatDue) → (b && c) ≡ false → (if b && c then Some h else None) ≡ None
+none_due b c h is = ap (λ (v : Bool). if v then Some h else None) is
+
+-- a tick at which nothing is due
+abbrev pub Idle : Kept → WriterState → ℕ → Type 0
+Idle kept s now = StandsFor kept (ticked s now) × (heartbeat_due s now ≡ None)
+
+none_left : (b : Bool) (more due : ℕ) → more ≡ due + cond b 1 0 → 2 ^ 31 - 1 ≤ due → (b && nat_lt more (2 ^ 31)) ≡ false
+none_left true more due is most = grind (arith, nat_tests, is, most)
+none_left false more due is most = refl
+
+still_used : (b : Bool) (more due : ℕ) → more ≡ due + cond b 1 0 → 2 ^ 31 - 1 ≤ due → min due (2 ^ 31 - 1)
+    ≡ min more (2 ^ 31 - 1)
+still_used true more due is most = omega arith
+still_used false more due is most = omega arith
+
+-- where nobody is behind, or the counts are used up, nothing is due
+pub idle : (kept : Kept) (s : WriterState) (now : ℕ) → StandsFor kept s
+    → (is_behind s ≡ false) ⊎ (2 ^ 31 - 1 ≤ kept.counts_used) → Idle kept s now
+idle kept s now given (inl nobody) =
+    let more = counts-ticked s now ∙ ap (λ (b : Bool). counts_due s + cond b 1 0) nobody in
+    let used = given.counts_used in (
+      stands-ticked kept s now kept.counts_used given (omega (arith, more, used)),
+      ap (λ (b : Bool). if b && nat_lt (counts_due (ticked s now)) (2 ^ 31)
+          then Some (record {
+            first = first_kept (history_of s);
+            last = last_of s;
+            count = pos (counts_due (ticked s now));
+          }) else None) nobody,
+    )
+idle kept s now given (inr out) =
+    let more = counts-ticked s now in
+    let used = given.counts_used in
+    let most : 2 ^ 31 - 1 ≤ counts_due s = omega (arith, used, out) in (
+      stands-ticked kept s now kept.counts_used given
+          (used ∙ still_used (is_behind s) (counts_due (ticked s now)) (counts_due s) more most),
+      none_due (is_behind s) (nat_lt (counts_due (ticked s now)) (2 ^ 31)) _
+          (none_left (is_behind s) (counts_due (ticked s now)) (counts_due s) more most),
+    )
+
+counts-used : (kept : Kept) (s : WriterState) (now : ℕ) → StandsFor kept s → is_behind s ≡ true
+    → kept.counts_used < 2 ^ 31 - 1 → counts_due (ticked s now) ≡ kept.counts_used + 1
+counts-used kept s now given behind few =
+    let more = counts-ticked s now ∙ ap (λ (b : Bool). counts_due s + cond b 1 0) behind in
+    let used = given.counts_used in
+    omega (arith, more, used, few)
+
+-- where some reader is behind and a count is left, the tick takes it
+pub stands-due : (kept : Kept) (s : WriterState) (now : ℕ) → StandsFor kept s → is_behind s ≡ true
+    → kept.counts_used < 2 ^ 31 - 1
+    → StandsFor (record kept { counts_used = kept.counts_used + 1 }) (ticked s now)
+stands-due kept s now given behind few =
+    let count = counts-used kept s now given behind few in
+    stands-ticked kept s now (kept.counts_used + 1) given (omega (arith, count, few))
+
+pub due_as : (f l : ℕ) (g m : ℕ) (c d : ℤ) → f ≡ g → l ≡ m → c ≡ d
+    → ◌≡◌ {A = Option HeartbeatDue} (Some (record { first = f; last = l; count = c }))
+    (Some (record { first = g; last = m; count = d }))
+due_as f l g m c d e h i = cc
+
+-- and the HEARTBEAT is due
+pub due : (kept : Kept) (s : WriterState) (now : ℕ) → StandsFor kept s → is_behind s ≡ true
+    → kept.counts_used < 2 ^ 31 - 1
+    → heartbeat_due s now
+    ≡ Some (record { first = first_kept (history_of s); last = last_of s; count = pos (kept.counts_used + 1) })
+due kept s now given behind few =
+    let count = counts-used kept s now given behind few in
+    let left : nat_lt (counts_due (ticked s now)) (2 ^ 31) ≡ true = grind (arith, nat_tests, count, few) in
+    let heartbeat : ℕ → HeartbeatDue =
+    λ n. record { first = first_kept (history_of s); last = last_of s; count = pos n } in
+    ap (λ (b : Bool). if b && nat_lt (counts_due (ticked s now)) (2 ^ 31)
+    then Some (heartbeat (counts_due (ticked s now))) else None) behind
+    ∙ (ap (λ (b : Bool). if b then Some (heartbeat (counts_due (ticked s now))) else None) left
+    ∙ ap (λ (n : ℕ). Some (heartbeat n)) count)

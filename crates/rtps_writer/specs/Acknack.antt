@@ -1,0 +1,47 @@
+-- What an ACKNACK does to a writer, and what it is answered (RTPS 2.5, 8.3.8: AckNack; 8.4.9: ReaderProxy).
+use Rattle.std.specs.Prelude.{ℕ, ◌+◌, ◌&&◌, Bool, true, List, [], get_or, slice_set, nat_le, nat_lt, int_lt, Option, None, Some, ℤ, if◌then◌else◌}
+use Rattle.dds_base.specs.Kept.{acknowledge, is_kept}
+use Rattle.rtps_sets.specs.NumberSet.{NumberSet}
+use Rattle.rtps_writer.specs.declared.answer.Answer.{Answer}
+use Rattle.rtps_writer.specs.Answers.{answers_to, requested}
+use Rattle.rtps_writer.specs.WriterState.{WriterState, acknowledged_by, history_of, last_of}
+
+-- the count is greater than the last one; the first is always new
+abbrev pub is_new_count : Option ℤ → ℤ → Bool
+is_new_count None count = true
+is_new_count (Some last) count = int_lt last count
+
+-- an ACKNACK of this reader is applied: its count is new, and its base is no more than one past the last number
+abbrev pub is_applied : WriterState → ℕ → ℕ → ℤ → Bool
+is_applied s reader base count = is_new_count (get_or s.counts reader None) count && nat_le base (last_of s + 1)
+
+-- the writer once it was applied: the reader has acknowledged all below the base, and the count is the last one
+abbrev pub applied : WriterState → ℕ → ℕ → ℤ → WriterState
+applied s reader base count =
+    record s {
+      acknowledged = (acknowledge (history_of s) reader base).acknowledged;
+      counts = slice_set s.counts reader (Some count);
+    }
+
+-- the writer after an ACKNACK: one that is not applied changes nothing
+abbrev pub after_acknack : WriterState → ℕ → ℕ → ℤ → WriterState
+after_acknack s reader base count = if is_applied s reader base count then applied s reader base count else s
+
+-- the second number, where it is greater
+abbrev pub if_later : ℕ → ℕ → Option ℕ
+if_later before after = if nat_lt before after then Some after else None
+
+-- the number below which this reader has acknowledged all, where that is greater than before
+abbrev pub newly_acknowledged : WriterState → WriterState → ℕ → Option ℕ
+newly_acknowledged old new reader = if_later (acknowledged_by old reader) (acknowledged_by new reader)
+
+-- the answers to an ACKNACK that was applied, after which the writer is this one: to each member of its set from what the
+-- reader has acknowledged to the last number
+abbrev pub answers_after : WriterState → ℕ → NumberSet → List Answer
+answers_after s reader set =
+    answers_to (λ n. is_kept (history_of s) n) (requested set (acknowledged_by s reader) (last_of s))
+
+-- the answers to an ACKNACK: none where it is not applied
+abbrev pub acknack_answers : WriterState → ℕ → ℕ → NumberSet → ℤ → List Answer
+acknack_answers s reader base set count = if is_applied s reader base count
+    then answers_after (applied s reader base count) reader set else []

@@ -1,0 +1,5 @@
+pub mod WriterState
+pub mod Answers
+pub mod Acknack
+pub mod Registered
+pub mod Standing

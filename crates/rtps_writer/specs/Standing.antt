@@ -1,0 +1,25 @@
+-- What a writer keeps, and the state that it stands for.
+use Rattle.std.specs.Prelude.{◌≡◌, ℕ, ◌-◌, ◌^◌, List, length, min, Option, ℤ}
+use Rattle.dds_base.specs.declared.key.Key.{Key}
+use Rattle.dds_base.specs.Written.{is_key_registered}
+use Rattle.dds_history.specs.Standing.{Held, StandsFor as HistoryStandsFor}
+use Rattle.rtps_writer.specs.Registered.{is_among}
+use Rattle.rtps_writer.specs.WriterState.{WriterState, counts_due, history_of}
+
+-- what a writer keeps; callers see it through reader_count and StandsFor
+pub record Kept : Type 0 where
+  pub history : Held
+  pub registered : List Key
+  pub counts : List (Option ℤ)
+  pub counts_used : ℕ
+
+-- how many matched reliable readers there are
+abbrev pub reader_count : Kept → ℕ
+reader_count kept = length kept.counts
+
+-- a writer's state that this one stands for
+pub record StandsFor (kept : Kept) (s : WriterState) : Type 0 where
+  pub history : HistoryStandsFor kept.history (history_of s)
+  pub registered : (key : Key) → is_among kept.registered key ≡ is_key_registered key s.written
+  pub counts : kept.counts ≡ s.counts
+  pub counts_used : kept.counts_used ≡ min (counts_due s) (2 ^ 31 - 1)

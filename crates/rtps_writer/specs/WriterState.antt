@@ -1,0 +1,71 @@
+-- The state of a writer with its matched reliable readers, which are named by an index from 0
+-- (RTPS 2.5, 8.4.7: StatefulWriter; 8.4.9: ReaderProxy).
+use Rattle.std.specs.Prelude.{ℕ, ◌^◌, ◌&&◌, Bool, List, [], ◌∷◌, length, replicate, slice_index, nat_le, nat_lt, Option, None, Some, ℤ, pos, if◌then◌else◌}
+use Rattle.dds_base.specs.declared.qos.HistoryQos.{HistoryQos}
+use Rattle.dds_base.specs.Kept.{WriterHistory, first_kept, is_awaited}
+use Rattle.dds_base.specs.Written.{Written, Ticked, changes_of, counts_of}
+use Rattle.rtps_writer.specs.declared.heartbeat.HeartbeatDue.{HeartbeatDue}
+
+-- a writer: its policy and limit, what happened there, the newest first, and of each matched reliable reader the number
+-- below which it has acknowledged all, and the count of the last ACKNACK that was applied
+pub record WriterState : Type 0 where
+  pub policy : HistoryQos
+  pub max_samples : Option ℕ
+  pub written : List Written
+  pub acknowledged : List ℕ
+  pub counts : List (Option ℤ)
+
+-- a writer of so many readers, at which nothing has happened
+abbrev pub opening : HistoryQos → Option ℕ → ℕ → WriterState
+opening policy max_samples readers =
+    record {
+      policy = policy;
+      max_samples = max_samples;
+      written = [];
+      acknowledged = replicate readers 1;
+      counts = replicate readers None;
+    }
+
+-- the writer once this has happened besides
+abbrev pub entering : WriterState → Written → WriterState
+entering s entry = record s { written = entry ∷ s.written }
+
+-- its history
+abbrev pub history_of : WriterState → WriterHistory
+history_of s = record {
+  policy = s.policy;
+  max_samples = s.max_samples;
+  changes = changes_of s.written;
+  acknowledged = s.acknowledged;
+}
+
+-- the number of its last change; 0 before the first
+abbrev pub last_of : WriterState → ℕ
+last_of s = length (changes_of s.written)
+
+-- the number below which this reader has acknowledged all
+abbrev pub acknowledged_by : WriterState → ℕ → ℕ
+acknowledged_by s reader = slice_index s.acknowledged reader
+
+-- this reader has not acknowledged all changes
+abbrev pub is_reader_behind : WriterState → ℕ → Bool
+is_reader_behind s reader = nat_le (acknowledged_by s reader) (last_of s)
+
+-- some reader has not acknowledged all changes
+abbrev pub is_behind : WriterState → Bool
+is_behind s = is_awaited (history_of s) (last_of s)
+
+-- how many HEARTBEAT counts were due so far
+abbrev pub counts_due : WriterState → ℕ
+counts_due s = length (counts_of (nat_lt 0 (length s.acknowledged)) s.written)
+
+-- a tick of its peer: what happened besides
+abbrev pub ticked : WriterState → ℕ → WriterState
+ticked s now = entering s (Ticked now (is_behind s))
+
+-- the HEARTBEAT that this tick asks for: none where nobody is behind, or the counts 1 to 2^31 - 1 are used up
+abbrev pub heartbeat_due : WriterState → ℕ → Option HeartbeatDue
+heartbeat_due s now =
+    if is_behind s && nat_lt (counts_due (ticked s now)) (2 ^ 31)
+    then Some (record { first = first_kept (history_of s); last = last_of s; count = pos (counts_due (ticked s now)) })
+    else None

@@ -1,0 +1,16 @@
+//! The HEARTBEAT that a tick asks for.
+
+use dds_base::Sn;
+
+/// A HEARTBEAT that is due to the matched readers.
+///
+/// RTPS 2.5, 8.3.8 (Heartbeat: firstSN, lastSN, count).
+#[derive(Clone, Copy, Debug, PartialEq, Eq)]
+pub struct HeartbeatDue {
+    /// The first number that is kept, or the one past the last.
+    pub first: Sn,
+    /// The number of the last change.
+    pub last: Sn,
+    /// From 1 to 2^31 - 1.
+    pub count: i32,
+}

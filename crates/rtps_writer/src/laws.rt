@@ -1,0 +1,40 @@
+//! What holds of the answers to an ACKNACK: functions that do nothing, and whose clauses are the laws.
+
+ghost use Rattle.std.specs.Prelude.{◌≡◌, ◌≤◌, ◌<◌, ℕ, ℤ, Option, length, true};
+ghost use Rattle.std.specs.List.{All, list_any};
+ghost use Rattle.dds_base.specs.declared.qos.HistoryQos.{HistoryQos};
+ghost use Rattle.dds_base.specs.Kept.{is_dropped, is_kept};
+ghost use Rattle.rtps_sets.specs.NumberSet.{NumberSet};
+ghost use Rattle.rtps_writer.specs.Acknack.{after_acknack, answers_after};
+ghost use Rattle.rtps_writer.specs.Answers.{GapsAre, IsBetween, IsRight, is_answer_to, is_requested};
+ghost use Rattle.rtps_writer.specs.WriterState.{WriterState, acknowledged_by, history_of, last_of, opening};
+
+/// The answers to an ACKNACK say what the writer keeps, to each member of the set that the reader lacks.
+///
+/// RTPS 2.5, 8.4.9 (ReaderProxy, requested_changes), 8.3.8 (Data, Gap).
+pub fn answers_are_right()
+    // A DATA names a kept number, a GAP numbers that are not kept, and each lies among those asked for.
+    ensures right { (s : WriterState) (reader : ℕ) (set : NumberSet)
+        → All (IsRight (λ n. is_kept (history_of s) n) (IsBetween set (acknowledged_by s reader) (last_of s)))
+        (answers_after s reader set) }
+    // Each number of a GAP is dropped, since the reader itself awaits it.
+    ensures dropped { (s : WriterState) (reader : ℕ) (set : NumberSet) → reader < length s.acknowledged
+        → 0 < acknowledged_by s reader
+        → All (GapsAre (λ n. is_dropped (history_of s) n ≡ true)) (answers_after s reader set) }
+    // A number is answered exactly if it is asked for.
+    ensures complete { (s : WriterState) (reader : ℕ) (set : NumberSet) (n : ℕ) → length set.members ≤ 256
+        → list_any (is_answer_to n) (answers_after s reader set)
+        ≡ is_requested set (acknowledged_by s reader) (last_of s) n }
+{}
+
+/// What a reader has acknowledged counts from 1 on, at the opening and after each ACKNACK; nothing else changes it.
+///
+/// RTPS 2.5, 8.4.9 (ReaderProxy, acked_changes_set).
+pub fn acknowledgements_count_from_1()
+    // At the opening each is 1.
+    ensures opening { (policy : HistoryQos) (max_samples : Option ℕ) (readers : ℕ)
+        → All (λ n. 0 < n) (opening policy max_samples readers).acknowledged }
+    // No ACKNACK takes one below 1.
+    ensures acknack { (s : WriterState) (reader base : ℕ) (count : ℤ) → All (λ n. 0 < n) s.acknowledged
+        → All (λ n. 0 < n) (after_acknack s reader base count).acknowledged }
+{}

@@ -1,0 +1,16 @@
+//! The writer's side of reliable RTPS: one writer with its matched reliable readers, named by an index from 0.
+//!
+//! RTPS 2.5, 8.4.7 (StatefulWriter), 8.4.9 (ReaderProxy); DDS 1.4, 2.2.2.4 (DataWriter).
+//! Not here: who the readers are, and the packets.
+#![tactic(auto)]
+
+mod answer;
+mod heartbeat;
+mod laws;
+mod registration;
+mod stateful_writer;
+
+pub use answer::{Answer, Answered};
+pub use heartbeat::HeartbeatDue;
+pub use laws::{acknowledgements_count_from_1, answers_are_right};
+pub use stateful_writer::StatefulWriter;

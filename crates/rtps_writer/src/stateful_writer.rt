@@ -1,0 +1,331 @@
+//! A writer with its matched reliable readers.
+
+ghost use Rattle.std.specs.Prelude.{◌≡◌, ◌≤◌, ◌<◌, ◌+◌, ◌^◌, length, None, IfOk, IfErr, OnOk, OnErr};
+ghost use Rattle.std.specs.Option.{option_copied};
+ghost use Rattle.dds_base.specs.declared.code.Code.TheVariants.{Memory};
+ghost use Rattle.dds_base.specs.Kept.{append_refusal, first_kept, kept_change};
+ghost use Rattle.dds_base.specs.Refusal.{Refuses};
+ghost use Rattle.dds_base.specs.Written.{Registered, Changed, is_key_registered};
+ghost use Rattle.rtps_writer.specs.Acknack.{acknack_answers, after_acknack, if_later, is_applied, is_new_count, newly_acknowledged};
+ghost use Rattle.rtps_writer.specs.Standing.{StandsFor, reader_count};
+ghost use Rattle.rtps_writer.specs.WriterState.{WriterState, acknowledged_by, entering, heartbeat_due, history_of, is_reader_behind, last_of, opening, ticked};
+
+use crate::answer::{Answered, put_answers};
+use crate::heartbeat::HeartbeatDue;
+use crate::registration::{is_registered, note, register, reserve};
+use dds_base::{Change, Code, HistoryQos, Key, Moment, Sn};
+use dds_history::History;
+use rtps_sets::SnSet;
+use std::alloc::Global;
+use std::marker::Model;
+
+/// The greatest count of a HEARTBEAT.
+const MAX_COUNT: u32 = 2_147_483_647;
+
+/// Whether a count is greater than the last one; the first is always new.
+fn is_new_count(last: Option<i32>, count: i32) -> bool
+    ensures { result ≡ is_new_count last count }
+{
+    match last {
+        Some(last) => last < count,
+        None => true,
+    }
+}
+
+/// The second number, where it is greater.
+fn if_later(before: Sn, after: Sn) -> Option<Sn>
+    ensures { result ≡ if_later before after }
+{
+    if before.number() < after.number() {
+        Some(after)
+    } else {
+        None
+    }
+}
+
+/// One writer with its matched reliable readers, which are named by an index from 0.
+///
+/// RTPS 2.5, 8.4.7 (StatefulWriter), 8.4.9 (ReaderProxy).
+#[derive(Drop)]
+pub struct StatefulWriter {
+    alloc: Global,
+    history: History,
+    /// The instances that it has registered.
+    registered: Vec<Key>,
+    /// Of each reader, the count of the last ACKNACK that was applied.
+    counts: Vec<Option<i32>>,
+    /// How many HEARTBEAT counts were used.
+    counts_used: u32,
+}
+
+impl Model for StatefulWriter {
+    ghost use Rattle.std.specs.Prelude.{◌≡◌, length};
+    ghost use Rattle.dds_history.specs.Standing.{reader_count as history_readers};
+    ghost use Rattle.rtps_writer.specs.Standing.{Kept};
+
+    ghost Value = { Kept };
+
+    ghost view = { λ w. record {
+      history = w.history;
+      registered = w.registered.items;
+      counts = w.counts.items;
+      counts_used = w.counts_used;
+    } };
+
+    ghost invariant = { λ w. length w.counts.items ≡ history_readers w.history };
+}
+
+impl StatefulWriter {
+    /// A writer at which nothing has happened. `max_samples` is how many numbers it may keep, `None` any; `readers` is
+    /// how many matched reliable readers it has, which have acknowledged nothing.
+    ///
+    /// # Errors
+    ///
+    /// `Memory` where a growth was refused.
+    pub fn open(
+        alloc: Global,
+        policy: HistoryQos,
+        max_samples: Option<u32>,
+        readers: usize,
+    ) -> Result<StatefulWriter, Code>
+        // It stands for a writer at which nothing has happened.
+        ensures ok { IfOk result (λ writer. StandsFor writer (opening policy max_samples readers)) }
+        // It has this many readers.
+        ensures readers { IfOk result (λ writer. reader_count writer ≡ readers) }
+        // The only refusal is for want of memory.
+        ensures memory { IfErr result (λ code. code ≡ Memory) }
+    {
+        let history = History::open(alloc, policy, max_samples, readers)?;
+        let counts = vec![in alloc; None; readers]?;
+        Ok(StatefulWriter {
+            alloc,
+            history,
+            registered: Vec::new(alloc),
+            counts,
+            counts_used: 0,
+        })
+    }
+
+    /// Whether it has registered the instance.
+    ///
+    /// DDS 1.4, 2.2.2.4 (register_instance).
+    pub fn is_registered(&self, key: Key) -> bool
+        ensures { (s : WriterState) → StandsFor self.now s → result ≡ is_key_registered key s.written }
+    {
+        is_registered(&self.registered, key)
+    }
+
+    /// Registers an instance.
+    ///
+    /// # Errors
+    ///
+    /// `Memory` where a growth was refused; the writer is then as it was.
+    ///
+    /// DDS 1.4, 2.2.2.4 (register_instance).
+    pub fn register(&mut self, key: Key) -> Result<(), Code>
+        // The registration is entered.
+        ensures ok { (s : WriterState) → StandsFor self.old s
+            → OnOk result (StandsFor self.new (entering s (Registered key))) }
+        // The readers stay the same ones.
+        ensures readers { reader_count self.new ≡ reader_count self.old }
+        // A refusal leaves the writer as it was.
+        ensures err { OnErr result (self.new ≡ self.old) }
+        // The only refusal is for want of memory.
+        ensures memory { IfErr result (λ code. code ≡ Memory) }
+    {
+        self.registered.reserve(1)?;
+        register(&mut self.registered, key);
+        Ok(())
+    }
+
+    /// Why one more change would be refused, but for want of memory: the code that `write` would answer.
+    ///
+    /// DDS 1.4, 2.2.3 (RESOURCE_LIMITS).
+    pub fn refusal(&self, change: &Change) -> Option<Code>
+        ensures { (s : WriterState) → StandsFor self.now s → result ≡ append_refusal (history_of s) change.now }
+    {
+        self.history.refusal(change)
+    }
+
+    /// Makes a change, and gives its number, counted from 1. A write or a dispose registers its instance, the others
+    /// end its registration.
+    ///
+    /// # Errors
+    ///
+    /// In this order, and each leaves the writer as it was: `OutOfResources` after 2^48 changes, `Timeout` where more
+    /// than `max_samples` numbers would be kept (max_blocking_time is 0), `Memory` where a growth was refused.
+    ///
+    /// DDS 1.4, 2.2.2.4 (write, dispose, unregister_instance), 2.2.3 (RESOURCE_LIMITS).
+    pub fn write(&mut self, change: Change) -> Result<Sn, Code>
+        // The change is entered.
+        ensures ok { (s : WriterState) → StandsFor self.old s
+            → OnOk result (StandsFor self.new (entering s (Changed change))) }
+        // Against an accepted change there is no cause, and it gets the next number.
+        ensures accepted { (s : WriterState) → StandsFor self.old s → IfOk result (λ number.
+            (append_refusal (history_of s) change ≡ None) × (number ≡ last_of s + 1)) }
+        // A refusal is by the first cause that there is, or for want of memory.
+        ensures refused { (s : WriterState) → StandsFor self.old s
+            → IfErr result (Refuses (append_refusal (history_of s) change)) }
+        // Numbers are 1 to 2^48.
+        ensures number { IfOk result (λ number. (1 ≤ number) × (number ≤ 2 ^ 48)) }
+        // The readers stay the same ones.
+        ensures readers { reader_count self.new ≡ reader_count self.old }
+        // A refusal leaves the writer as it was.
+        ensures err { OnErr result (self.new ≡ self.old) }
+    {
+        if let Some(code) = self.history.refusal(&change) {
+            return Err(code);
+        }
+        let (key, kind) = (change.key, change.kind);
+        if reserve(&mut self.registered, kind).is_err() {
+            return Err(Code::Memory);
+        }
+        match self.history.append(change) {
+            Ok(number) => {
+                note(&mut self.registered, key, kind);
+                Ok(number)
+            }
+            Err(code) => Err(code),
+        }
+    }
+
+    /// The change of a kept number; `None` where the number is not kept.
+    pub fn get(&self, number: Sn) -> Option<&Change>
+        ensures { (s : WriterState) → StandsFor self.now s → option_copied result ≡ kept_change (history_of s) number }
+    {
+        self.history.get(number)
+    }
+
+    /// The first number that is kept, or the one past the last.
+    ///
+    /// RTPS 2.5, 8.3.8 (Heartbeat: firstSN).
+    pub fn first(&self) -> Sn
+        ensures { (s : WriterState) → StandsFor self.now s → result ≡ first_kept (history_of s) }
+    {
+        self.history.first()
+    }
+
+    /// The number of the last change; 0 before the first.
+    pub fn last(&self) -> Sn
+        ensures { (s : WriterState) → StandsFor self.now s → result ≡ last_of s }
+    {
+        self.history.last()
+    }
+
+    /// How many matched reliable readers there are: their indices lie below.
+    pub fn readers(&self) -> usize
+        // An index below it names a reader.
+        ensures readers { result ≡ reader_count self.now }
+        // So many acknowledgements are known.
+        ensures acknowledged { (s : WriterState) → StandsFor self.now s → result ≡ length s.acknowledged }
+    {
+        self.history.readers()
+    }
+
+    /// The number below which this reader, by its index from 0, has acknowledged all: 1 at first.
+    ///
+    /// RTPS 2.5, 8.4.9 (ReaderProxy, acked_changes_set).
+    pub fn acknowledged(&self, reader: usize) -> Sn
+        requires { reader < reader_count self.now }
+        ensures { (s : WriterState) → StandsFor self.now s → result ≡ acknowledged_by s reader }
+    {
+        self.history.acknowledged(reader)
+    }
+
+    /// Whether this reader, by its index from 0, has not acknowledged all changes.
+    ///
+    /// RTPS 2.5, 8.4.9 (ReaderProxy, unacked_changes).
+    pub fn is_behind(&self, reader: usize) -> bool
+        requires { reader < reader_count self.now }
+        ensures { (s : WriterState) → StandsFor self.now s → result ≡ is_reader_behind s reader }
+    {
+        self.history.acknowledged(reader).number() <= self.history.last().number()
+    }
+
+    /// The time of its peer has gone on: the HEARTBEAT that this asks for, if some reader has not acknowledged all
+    /// changes. Each HEARTBEAT of the writer has the next count from 1 on; after 2^31 - 1 there are no more.
+    ///
+    /// RTPS 2.5, 8.4.9 (reliable StatefulWriter: heartbeatPeriod).
+    pub fn tick(&mut self, now: Moment) -> Option<HeartbeatDue>
+        // The tick is entered, with whether some reader was behind.
+        ensures stands { (s : WriterState) → StandsFor self.old s → StandsFor self.new (ticked s now) }
+        // A HEARTBEAT is due exactly where some reader is behind and a count is left, with the numbers that are kept.
+        ensures due { (s : WriterState) → StandsFor self.old s → result ≡ heartbeat_due s now }
+        // The readers stay the same ones.
+        ensures readers { reader_count self.new ≡ reader_count self.old }
+    {
+        let last = self.history.last();
+        if !self.history.is_awaited(last) || MAX_COUNT <= self.counts_used {
+            return None;
+        }
+        self.counts_used += 1;
+        Some(HeartbeatDue {
+            first: self.history.first(),
+            last,
+            count: self.counts_used as i32,
+        })
+    }
+
+    /// Whether an ACKNACK of this reader is applied.
+    fn applies(&self, reader: usize, base: Sn, count: i32) -> bool
+        requires { reader < reader_count self.now }
+        ensures { (s : WriterState) → StandsFor self.now s → result ≡ is_applied s reader base count }
+    {
+        is_new_count(self.counts[reader], count)
+            && base.number() <= self.history.last().number().saturating_add(1)
+    }
+
+    /// An ACKNACK of this reader, by its index from 0: it has all below the base, and asks for the members of the set.
+    ///
+    /// It is ignored unless its count is greater than that of the last one applied, and its base is no more than one
+    /// past the last number.
+    ///
+    /// # Errors
+    ///
+    /// `Memory` where a growth was refused; the writer is then as it was.
+    ///
+    /// RTPS 2.5, 8.3.8 (AckNack), 8.4.9 (ReaderProxy).
+    pub fn on_acknack(
+        &mut self,
+        reader: usize,
+        base: Sn,
+        set: &SnSet,
+        count: i32,
+    ) -> Result<Answered, Code>
+        // There is such a reader.
+        requires { reader < reader_count self.old }
+        // The acknowledgement and the count are the reader's, or nothing changes.
+        ensures stands { (s : WriterState) → StandsFor self.old s
+            → OnOk result (StandsFor self.new (after_acknack s reader base count)) }
+        // It says whether the reader has acknowledged more than before.
+        ensures acknowledged { (s : WriterState) → StandsFor self.old s → IfOk result (λ answered.
+            answered.acknowledged ≡ newly_acknowledged s (after_acknack s reader base count) reader) }
+        // Each member from there to the last number is answered, in order.
+        ensures answers { (s : WriterState) → StandsFor self.old s → IfOk result (λ answered.
+            answered.answers.items ≡ acknack_answers s reader base set.now count) }
+        // The readers stay the same ones.
+        ensures readers { reader_count self.new ≡ reader_count self.old }
+        // A refusal leaves the writer as it was.
+        ensures err { OnErr result (self.new ≡ self.old) }
+        // The only refusal is for want of memory.
+        ensures memory { IfErr result (λ code. code ≡ Memory) }
+    {
+        let mut answers = Vec::new(self.alloc);
+        if !self.applies(reader, base, count) {
+            return Ok(Answered {
+                acknowledged: None,
+                answers,
+            });
+        }
+        answers.reserve(set.bits())?;
+        let before = self.history.acknowledged(reader);
+        self.history.acked(reader, base);
+        self.counts[reader] = Some(count);
+        let after = self.history.acknowledged(reader);
+        put_answers(&mut answers, &self.history, set, after);
+        Ok(Answered {
+            acknowledged: if_later(before, after),
+            answers,
+        })
+    }
+}
