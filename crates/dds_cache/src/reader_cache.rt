@@ -1,8 +1,8 @@
 //! A reader's cache: what happened at the reader, stored.
 
-ghost use Rattle.std.specs.Prelude.{◌≡◌, ◌≤◌, ◌∷◌, [], if◌then◌else◌, List, IsOk, OnOk, OnErr, IfOk, IfErr};
+ghost use Rattle.std.specs.Prelude.{◌≡◌, ◌+◌, ◌≤◌, ◌∷◌, [], if◌then◌else◌, List, IsOk, OnOk, OnErr, IfOk, IfErr};
 ghost use Rattle.dds_base.specs.declared.happening.Happening.{Happening};
-ghost use Rattle.dds_base.specs.declared.happening.Happening.TheVariants.{Came, Died, Read, Took};
+ghost use Rattle.dds_base.specs.declared.happening.Happening.TheVariants.{Came, Passed, Heard, Died, Read, Took};
 ghost use Rattle.dds_base.specs.declared.code.Code.TheVariants.{Memory, NoData};
 ghost use Rattle.dds_base.specs.Ownership.{IsMatched};
 ghost use Rattle.dds_base.specs.Access.{picked_samples, no_filter, collection_of};
@@ -12,6 +12,7 @@ use crate::access::{collect, pick};
 use crate::found::Found;
 use dds_base::{
     Arrival, Code, Handle, Happening, Masks, Moment, ReaderQos, Sample, SamplePosition, Sequence,
+    Sn,
 };
 use std::alloc::Global;
 use std::marker::Model;
@@ -67,6 +68,10 @@ impl ReaderCache {
         ensures qos { qos_of self.new ≡ qos_of self.old }
         // There is room for so many entries.
         ensures room { OnOk result (additional ≤ room_of self.new) }
+        // There is no less room than before.
+        ensures more { room_of self.old ≤ room_of self.new }
+        // Where there is room enough it succeeds.
+        ensures succeeds { additional ≤ room_of self.old → IsOk result }
         // A refusal leaves the cache as it was.
         ensures err { OnErr result (self.new ≡ self.old) }
         // It is refused for want of memory alone.
@@ -80,6 +85,7 @@ impl ReaderCache {
         ensures ok { OnOk result (self.new.happenings ≡ entry ∷ self.old.happenings) }
         ensures qos { self.new.qos ≡ self.old.qos }
         ensures reserved { 1 ≤ self.old.room → IsOk result }
+        ensures room { self.old.room ≤ self.new.room + 1 }
         ensures err { OnErr result (self.new ≡ self.old) }
         ensures memory { IfErr result (λ e. e ≡ Memory) }
     {
@@ -107,12 +113,70 @@ impl ReaderCache {
         ensures qos { qos_of self.new ≡ qos_of self.old }
         // Where there is room it comes.
         ensures reserved { 1 ≤ room_of self.old → IsOk result }
+        // It takes the room of one entry at most.
+        ensures room { room_of self.old ≤ room_of self.new + 1 }
         // A refusal leaves the cache as it was.
         ensures err { OnErr result (self.new ≡ self.old) }
         // It is refused for want of memory alone.
         ensures memory { IfErr result (λ e. e ≡ Memory) }
     {
         self.enter(Happening::Came(arrival))
+    }
+
+    /// Takes up that the changes from `first` to `last` of a matched writer, both of them too, were passed over.
+    ///
+    /// # Errors
+    ///
+    /// `Memory` where a growth was refused, and never where room was reserved; the cache is then as it was.
+    ///
+    /// DDS 1.4, 2.2.4.1 (SAMPLE_LOST); RTPS 2.5, 8.4.12 (irrelevant_change_set, lost_changes_update).
+    pub fn pass(&mut self, writer: Handle, first: Sn, last: Sn) -> Result<(), Code>
+        // The writer is a matched one.
+        requires matched { IsMatched (qos_of self.old) writer }
+        // They were passed over, and nothing else happened.
+        ensures ok { OnOk result ((h : List Happening) → StandsFor self.old h → StandsFor self.new (Passed writer first last ∷ h)) }
+        // The policies stay.
+        ensures qos { qos_of self.new ≡ qos_of self.old }
+        // Where there is room it is taken up.
+        ensures reserved { 1 ≤ room_of self.old → IsOk result }
+        // It takes the room of one entry at most.
+        ensures room { room_of self.old ≤ room_of self.new + 1 }
+        // A refusal leaves the cache as it was.
+        ensures err { OnErr result (self.new ≡ self.old) }
+        // It is refused for want of memory alone.
+        ensures memory { IfErr result (λ e. e ≡ Memory) }
+    {
+        self.enter(Happening::Passed {
+            writer,
+            first,
+            last,
+        })
+    }
+
+    /// Takes up that a matched writer asserted its liveliness without a change, at a moment of the reader's peer.
+    ///
+    /// # Errors
+    ///
+    /// `Memory` where a growth was refused, and never where room was reserved; the cache is then as it was.
+    ///
+    /// RTPS 2.5, 8.4.13 (writer liveliness protocol).
+    pub fn hear(&mut self, writer: Handle, moment: Moment) -> Result<(), Code>
+        // The writer is a matched one.
+        requires matched { IsMatched (qos_of self.old) writer }
+        // It was heard, and nothing else happened.
+        ensures ok { OnOk result ((h : List Happening) → StandsFor self.old h → StandsFor self.new (Heard writer moment ∷ h)) }
+        // The policies stay.
+        ensures qos { qos_of self.new ≡ qos_of self.old }
+        // Where there is room it is taken up.
+        ensures reserved { 1 ≤ room_of self.old → IsOk result }
+        // It takes the room of one entry at most.
+        ensures room { room_of self.old ≤ room_of self.new + 1 }
+        // A refusal leaves the cache as it was.
+        ensures err { OnErr result (self.new ≡ self.old) }
+        // It is refused for want of memory alone.
+        ensures memory { IfErr result (λ e. e ≡ Memory) }
+    {
+        self.enter(Happening::Heard { writer, moment })
     }
 
     /// Takes up that the lease of a matched writer ran out, at a moment of the reader's peer.
