@@ -19,12 +19,12 @@ use Rattle.dds_model.specs.declared.reply.Move.TheVariants.{Place, Acknowledged,
 use Rattle.dds_base.specs.declared.guid.GuidPrefix.{GuidPrefix}
 use Rattle.rtps_wire.specs.declared.submessage.Submessage.{Submessage}
 use Rattle.dds_model.specs.declared.reply.Report.{Report}
-use Rattle.dds_model.specs.declared.reply.PassedRun.{PassedRun}
 use Rattle.dds_model.specs.declared.reply.Reply.{Reply}
 use Rattle.dds_model.specs.declared.reply.Reply.TheVariants.{Reported}
 use Rattle.dds_model.specs.Numbered.{with_numbered, HasNumber}
 use Rattle.dds_model.specs.Part.{ReaderProxy, Writer, Part, no_part, no_writer, own_writer, own_proxies, acknowledged_of, with_acknowledged, place_of, writer_changes, history_of, is_assertion, IsBelow, IsAtMost, NoLess}
-use Rattle.dds_model.specs.Moves.{Grounds, Match, match_of, Position, position_of, AllCome, ComeTo, Passes, GoesTo, IsMove, AreMoves, DeliveryStep}
+use Rattle.dds_base.proofs.PlaceLaws.{SayAsMuch, goes_on}
+use Rattle.dds_model.specs.Moves.{Grounds, as_to, match_of, position_of, IsMove, AreMoves, DeliveryStep}
 use Rattle.dds_model.specs.Receipt.{HasNoRoom, MovesOver, TakesUp, Receives, prefix_of}
 use Rattle.dds_model.specs.Progress.{ReceivesIn, Progresses}
 use Rattle.dds_model.specs.Calls.{Tests, CallStep, TickStep}
@@ -61,52 +61,16 @@ claimed-true config m i before packet index all = record {
 
 -- a place goes on over true claims as the machine's does
 
-all_come-sound : (m : Machine) (i : ℕ) (g : Grounds) → AreTrue m i g → (match : Match) (old : Position) (changes : List Change) (new : Position)
-    → AllCome g match old changes new → AllCome (grounds_of m i) match old changes new × (old.place ≤ new.place)
-all_come-sound m i g t match old [] new h = let e = ap (λ (p : Position). p.place) h in (h, omega (arith, e))
-all_come-sound m i g t match old (c ∷ cs) new h =
-    let rest = all_come-sound m i g t match h.0 cs new h.2 in
-    let next = ap (λ (p : Position). p.place) h.1.after in
-    let is : change_at (writer_changes (writer_at m match.writer)) old.place ≡ Some c = t.change match.writer match.reader old.place c h.1.is_change in
-    ((h.0, record { is_change = is; room = h.1.room; after = h.1.after }, rest.0), omega (arith, next, rest.1))
-
-come_to-sound : (m : Machine) (i : ℕ) (g : Grounds) → AreTrue m i g → (match : Match) (old : Position) (to : ℕ) (new : Position) → ComeTo g match old to new → ComeTo (grounds_of m i) match old to new × (old.place ≤ new.place)
-come_to-sound m i g t match old to new h = let r = all_come-sound m i g t match old h.0 new h.1 in ((h.0, r.0, h.2), r.1)
-
--- the machine's place is no greater than this
-abbrev IsFrom : Machine → ℕ → Match → ℕ → Type 0
-IsFrom m i match place = NoLess (place_at m (at i match.reader) match.writer) (Some place)
-
-from_on : (m : Machine) (i : ℕ) (match : Match) (a b : ℕ) → IsFrom m i match a → a ≤ b → IsFrom m i match b
-from_on m i match a b f le = no_less_on (place_at m (at i match.reader) match.writer) (Some a) (Some b) f le
-
-passes-sound : (m : Machine) (i : ℕ) (g : Grounds) → AreTrue m i g → (match : Match) (old : Position) (run : PassedRun) (new : Position) → IsFrom m i match old.place → Passes g match old run new
-    → Passes (grounds_of m i) match old run new × (old.place ≤ new.place)
-passes-sound m i g t match old run new low h =
-    let begins = h.begins in
-    let ordered = h.ordered in
-    let next = ap (λ (p : Position). p.place) h.after in (
-      record {
-        begins = h.begins;
-        ordered = h.ordered;
-        may_pass = λ n above below.
-            ⊎_elim (λ d. d)
-            (λ past. let under : n < old.place = below_on n (place_at m (at i match.reader) match.writer) (Some old.place) past low in absurd (omega (arith, begins, under, above)))
-            (t.pass match.writer match.reader n (h.may_pass n above below));
-        after = h.after;
-      },
-      omega (arith, begins, ordered, next),
-    )
-
-goes_to-sound : (m : Machine) (i : ℕ) (g : Grounds) → AreTrue m i g → (match : Match) (old : Position) (runs : List PassedRun) (to : ℕ) (new : Position) → IsFrom m i match old.place
-    → GoesTo g match old runs to new → GoesTo (grounds_of m i) match old runs to new
-goes_to-sound m i g t match old [] to new low h = (come_to-sound m i g t match old to new h).0
-goes_to-sound m i g t match old (run ∷ runs) to new low h =
-    let before = come_to-sound m i g t match old run.first h.0 h.2 in
-    let low_before : IsFrom m i match h.0.place = from_on m i match old.place h.0.place low before.1 in
-    let passed = passes-sound m i g t match h.0 run h.1 low_before h.3 in
-    let low_after : IsFrom m i match h.1.place = from_on m i match h.0.place h.1.place low_before passed.1 in
-    (h.0, h.1, before.0, passed.0, h.4, goes_to-sound m i g t match h.1 runs to new low_after h.5)
+-- from the reader's place on, what is true says as much as what a delivery rests on: a change that it may pass over
+-- is not one that it has passed
+says_as_much : (m : Machine) (i : ℕ) (g : Grounds) → AreTrue m i g → (w : Endpoint) (r place : ℕ) → NoLess (place_at m (at i r) w) (Some place) → SayAsMuch (as_to g w r) (as_to (grounds_of m i) w r) place
+says_as_much m i g t w r place low = record {
+  is_change = λ n c above h. t.change w r n c h;
+  may_pass = λ n above h.
+      ⊎_elim (λ d. d)
+      (λ past. let under : n < place = below_on n (place_at m (at i r) w) (Some place) past low in absurd (omega (arith, under, above)))
+      (t.pass w r n h);
+}
 
 -- moves on true claims are moves of the machine
 abbrev IsAbove : Machine → ℕ → Part → Type 0
@@ -121,7 +85,7 @@ sound_move m i g t old (Place w r to passed) new low h =
       matched = h.matched;
       forward = h.forward;
       end = h.end;
-      goes = goes_to-sound m i g t (match_of old w r h.publication) (position_of old r h.place) passed to h.end from h.goes;
+      goes = goes_on (as_to g w r) (as_to (grounds_of m i) w r) h.place (says_as_much m i g t w r h.place from) (match_of old r h.publication) (position_of old r h.place) passed to h.end (omega arith) h.goes;
       after = h.after;
     }
 sound_move m i g t old (Acknowledged w r to) new low h = record {
@@ -265,11 +229,11 @@ abbrev DeliveredHold : Config → Machine → List Delivery → Type 0
 DeliveredHold config m deliveries = (delivery : Delivery) (claim : Claim) → Contains deliveries delivery → Claims config delivery.packet claim → Holds m claim
 
 -- an element of a list with one more in front
-front_or_rest : {X : Type 0} (x : X) (xs : List X) (y : X) (k : ℕ) → k < length (x ∷ xs) → slice_index_or (x ∷ xs) k y ≡ y → (x ≡ y) ⊎ Contains xs y
+pub front_or_rest : {X : Type 0} (x : X) (xs : List X) (y : X) (k : ℕ) → k < length (x ∷ xs) → slice_index_or (x ∷ xs) k y ≡ y → (x ≡ y) ⊎ Contains xs y
 front_or_rest x xs y zero lt is = inl is
 front_or_rest x xs y (suc k) lt is = inr (k, omega (arith, lt), is)
 
-later_in : {X : Type 0} (x : X) (xs : List X) (y : X) → Contains xs y → Contains (x ∷ xs) y
+pub later_in : {X : Type 0} (x : X) (xs : List X) (y : X) → Contains xs y → Contains (x ∷ xs) y
 later_in x xs y c = (suc c.0, omega (arith, c.1), c.2)
 
 packets_hold : (config : Config) (m : Machine) (ds : List Delivery) → DeliveredHold config m ds → AllHold config m (packets_of ds)

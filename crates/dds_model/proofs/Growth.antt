@@ -10,7 +10,7 @@ use Rattle.dds_base.specs.declared.change.Change.{Change}
 use Rattle.dds_base.specs.declared.qos.HistoryQos.{HistoryQos}
 use Rattle.dds_base.specs.declared.qos.HistoryQos.TheVariants.{KeepAll, KeepLast}
 use Rattle.dds_base.specs.Happening.{same_key}
-use Rattle.dds_base.specs.Written.{Written, Registered, Changed, Asserted, LookedAt, Ticked, changes_of}
+use Rattle.dds_base.specs.Written.{Written, Registered, Changed, Asserted, LookedAt, Ticked, changes_of, counts_of}
 use Rattle.dds_base.specs.Kept.{change_at, is_dropped, is_dropped_by, later_changes}
 use Rattle.dds_model.specs.declared.call.Call.{Call}
 use Rattle.dds_model.specs.declared.endpoint.Endpoint.{Endpoint}
@@ -19,7 +19,7 @@ use Rattle.dds_model.specs.declared.reply.Move.TheVariants.{Place, Acknowledged,
 use Rattle.dds_model.specs.declared.reply.Reply.{Reply}
 use Rattle.dds_model.specs.declared.reply.Reply.TheVariants.{Done, Samples, Refused, Reported}
 use Rattle.dds_model.specs.Numbered.{numbered, with_numbered}
-use Rattle.dds_model.specs.Part.{WriterProxy, ReaderProxy, Writer, Rtps, Part, no_writer, no_part, own_writer, own_proxies, place_of, with_place, with_heard, with_acknowledged, writer_changes, history_of, has_readers, is_behind, counts_of, is_assertion, NoLess}
+use Rattle.dds_model.specs.Part.{WriterProxy, ReaderProxy, Writer, Rtps, Part, no_writer, no_part, own_writer, own_proxies, place_of, with_place, with_heard, with_acknowledged, writer_changes, history_of, has_readers, is_behind, is_assertion, NoLess}
 use Rattle.dds_model.specs.Moves.{Grounds, IsMove, AreMoves, DeliveryStep}
 use Rattle.dds_model.specs.Calls.{Effect, nothing, writes, effect, effect_of, with_written, ticked, Tests, CallStep, TickStep}
 use Rattle.dds_model.specs.Claims.{Claim, ChangeIs, MayPass, PlaceReached, Asserts}

@@ -6,9 +6,9 @@ use Rattle.std.proofs.lemmas.Option.{same_Some}
 use Rattle.dds_base.specs.declared.change.Change.{Change}
 use Rattle.dds_base.specs.Kept.{change_at}
 use Rattle.dds_model.specs.declared.endpoint.Endpoint.{Endpoint}
-use Rattle.dds_model.specs.declared.reply.PassedRun.{PassedRun}
+use Rattle.dds_base.specs.declared.happening.PassedRun.{PassedRun}
+use Rattle.dds_base.specs.Places.{WriterGrounds, Match, Position, coming, AllCome, GoesTo}
 use Rattle.dds_model.specs.Part.{same_endpoint, WriterProxy, row_of, with_row, place_of, publication_from, publication_of}
-use Rattle.dds_model.specs.Moves.{Grounds, Match, Position, coming, AllCome, GoesTo}
 use Rattle.dds_model.specs.InOrder.{came_from}
 use Rattle.dds_model.proofs.Tables.{same_is}
 
@@ -111,17 +111,17 @@ along_next changes match old c a is =
     }
 
 -- what comes may rest on these changes alone
-abbrev pub RestsOn : List Change → Grounds → Endpoint → ℕ → Type 0
-RestsOn changes g w r = ((n : ℕ) (c : Change) → g.is_change w r n c → change_at changes n ≡ Some c) × ((n : ℕ) → g.may_pass w r n → ⊥)
+abbrev pub RestsOn : List Change → WriterGrounds → Type 0
+RestsOn changes g = ((n : ℕ) (c : Change) → g.is_change n c → change_at changes n ≡ Some c) × ((n : ℕ) → g.may_pass n → ⊥)
 
-pub all_along : (changes : List Change) (g : Grounds) (match : Match) (old : Position) (cs : List Change) (new : Position) → RestsOn changes g match.writer match.reader → AllCome g match old cs new
+pub all_along : (changes : List Change) (g : WriterGrounds) (match : Match) (old : Position) (cs : List Change) (new : Position) → RestsOn changes g → AllCome g match old cs new
     → Along changes match.publication old → Along changes match.publication new
 all_along changes g match old [] new f h a = subst (λ (x : Position). Along changes match.publication x) (sym h) a
 all_along changes g match old (c ∷ cs) new f h a =
     all_along changes g match h.0 cs new f h.2
     (subst (λ (x : Position). Along changes match.publication x) (sym h.1.after) (along_next changes match old c a (f.0 old.place c h.1.is_change)))
 
-pub goes_along : (changes : List Change) (g : Grounds) (match : Match) (old : Position) (passed : List PassedRun) (to : ℕ) (new : Position) → RestsOn changes g match.writer match.reader
+pub goes_along : (changes : List Change) (g : WriterGrounds) (match : Match) (old : Position) (passed : List PassedRun) (to : ℕ) (new : Position) → RestsOn changes g
     → GoesTo g match old passed to new → Along changes match.publication old → Along changes match.publication new × (new.place ≡ to)
 goes_along changes g match old [] to new f h a = (all_along changes g match old h.0 new f h.1 a, h.2)
 goes_along changes g match old (run ∷ runs) to new f h a =
@@ -133,14 +133,14 @@ other_come : (p q : ℕ) (c : Change) (xs : List Change) (b : Bool) → (q == p)
 other_come p q c xs true e h = absurd (h (eqb-true q p e))
 other_come p q c xs false e h = refl
 
-others_come : (p : ℕ) (g : Grounds) (match : Match) (old : Position) (cs : List Change) (new : Position) → (match.publication ≡ p → ⊥) → AllCome g match old cs new
+others_come : (p : ℕ) (g : WriterGrounds) (match : Match) (old : Position) (cs : List Change) (new : Position) → (match.publication ≡ p → ⊥) → AllCome g match old cs new
     → came_from p new.happened ≡ came_from p old.happened
 others_come p g match old [] new f h = ap (λ (x : Position). came_from p x.happened) h
 others_come p g match old (c ∷ cs) new f h =
     others_come p g match h.0 cs new f h.2
     ∙ (ap (λ (x : Position). came_from p x.happened) h.1.after ∙ other_come p match.publication c (came_from p old.happened) (match.publication == p) refl f)
 
-pub others_go : (p : ℕ) (g : Grounds) (match : Match) (old : Position) (passed : List PassedRun) (to : ℕ) (new : Position) → (match.publication ≡ p → ⊥) → GoesTo g match old passed to new
+pub others_go : (p : ℕ) (g : WriterGrounds) (match : Match) (old : Position) (passed : List PassedRun) (to : ℕ) (new : Position) → (match.publication ≡ p → ⊥) → GoesTo g match old passed to new
     → came_from p new.happened ≡ came_from p old.happened
 others_go p g match old [] to new f h = others_come p g match old h.0 new f h.1
 others_go p g match old (run ∷ runs) to new f h =

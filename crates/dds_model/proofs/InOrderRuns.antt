@@ -23,12 +23,12 @@ use Rattle.dds_model.specs.declared.event.WorldEvent.{WorldEvent}
 use Rattle.dds_model.specs.declared.event.WorldEvent.TheVariants as world
 use Rattle.dds_model.specs.declared.reply.Move.{Move}
 use Rattle.dds_model.specs.declared.reply.Move.TheVariants.{Place, Acknowledged, Heard}
-use Rattle.dds_model.specs.declared.reply.PassedRun.{PassedRun}
+use Rattle.dds_base.specs.declared.happening.PassedRun.{PassedRun}
 use Rattle.dds_model.specs.declared.reply.Reply.{Reply}
 use Rattle.dds_model.specs.declared.reply.Reply.TheVariants.{Done, Samples, Reported, Refused}
 use Rattle.dds_model.specs.Numbered.{numbered, with_numbered, HasNumber}
 use Rattle.dds_model.specs.Part.{same_endpoint, WriterProxy, Reader, Dds, Part, no_reader, no_part, own_writer, own_proxies, own_reader, at_reader, at_writer, row_of, place_of, with_place, with_heard, with_acknowledged, publication_of, writer_changes}
-use Rattle.dds_model.specs.Moves.{Grounds, match_of, IsMatched, position_of, AreMoves, Places, Hears, DeliveryStep}
+use Rattle.dds_model.specs.Moves.{Grounds, as_to, match_of, IsMatched, position_of, AreMoves, Places, Hears, DeliveryStep}
 use Rattle.dds_model.specs.Calls.{Effect, nothing, writes, effect, effect_of, with_happening, register_refusal, write_refusal, dispose_refusal, unregister_refusal, IsDoneUnless, Tests, Answers, CallStep, TickStep}
 use Rattle.dds_model.specs.Machine.{Machine, AllTests, part_at, writer_at, place_at, grounds_of, Step}
 use Rattle.dds_model.specs.Runs.{Traffic, Run}
@@ -95,7 +95,7 @@ moved_here changes old w r publication place rows happened l handle at a =
       along = along_as changes publication publication (record { place = place; happened = happened }) (position_of new r place) a (ap (λ (x : List Happening). came_from publication x) reads) refl;
     }
 
-same_writer : (changes : List Change) (g : Grounds) (old : Part) (w : Endpoint) (r to : ℕ) (passed : List PassedRun) (new : Part) → RestsOn changes g w r → Lane changes old w r → (h : Places g old w r to passed new)
+same_writer : (changes : List Change) (g : Grounds) (old : Part) (w : Endpoint) (r to : ℕ) (passed : List PassedRun) (new : Part) → RestsOn changes (as_to g w r) → Lane changes old w r → (h : Places g old w r to passed new)
     → Lane changes (at_reader old r (with_place (own_proxies old r) w to) h.end.happened) w r
 same_writer changes g old w r to passed new f l h =
     let rows = with_place (own_proxies old r) w to in
@@ -103,7 +103,7 @@ same_writer changes g old w r to passed new f l h =
     let same_place : l.place ≡ h.place = same_Some l.place h.place (sym l.matched.at ∙ h.matched.at) in
     let begins : Along changes h.publication (position_of old r h.place) =
     along_as changes l.publication h.publication (position_of old r l.place) (position_of old r h.place) l.along (ap (λ (x : ℕ). came_from x (own_reader old r).happened) (sym same_handle)) (sym same_place) in
-    let end = goes_along changes g (match_of old w r h.publication) (position_of old r h.place) passed to h.end f h.goes begins in
+    let end = goes_along changes (as_to g w r) (match_of old r h.publication) (position_of old r h.place) passed to h.end f h.goes begins in
     moved_here changes old w r h.publication to rows h.end.happened l
     (publication_kept (λ (p : WriterProxy). record p { place = to }) (λ p. refl) (own_proxies old r) w w ∙ h.matched.handle) (place-hits (own_proxies old r) w h.place to h.matched.at)
     (along_as changes h.publication h.publication h.end (record { place = to; happened = h.end.happened }) end.0 refl (sym end.1))
@@ -117,9 +117,9 @@ other_writer changes g old w v r to passed new f l h =
     moved_here changes old w r l.publication l.place rows h.end.happened l
     (publication_kept (λ (p : WriterProxy). record p { place = to }) (λ p. refl) (own_proxies old r) v w ∙ l.matched.handle) (same ∙ l.matched.at)
     (along_as changes l.publication l.publication (position_of old r l.place) (record { place = l.place; happened = h.end.happened }) l.along
-    (others_go l.publication g (match_of old v r h.publication) (position_of old r h.place) passed to h.end apart h.goes) refl)
+    (others_go l.publication (as_to g v r) (match_of old r h.publication) (position_of old r h.place) passed to h.end apart h.goes) refl)
 
-either_writer : (changes : List Change) (g : Grounds) (old : Part) (w v : Endpoint) (r to : ℕ) (passed : List PassedRun) (new : Part) (b : Bool) → same_endpoint v w ≡ b → RestsOn changes g w r → Lane changes old w r
+either_writer : (changes : List Change) (g : Grounds) (old : Part) (w v : Endpoint) (r to : ℕ) (passed : List PassedRun) (new : Part) (b : Bool) → same_endpoint v w ≡ b → RestsOn changes (as_to g w r) → Lane changes old w r
     → (h : Places g old v r to passed new) → Lane changes (at_reader old r (with_place (own_proxies old r) v to) h.end.happened) w r
 either_writer changes g old w v r to passed new true e f l h =
     subst (λ (x : Endpoint). (k : Places g old x r to passed new) → Lane changes (at_reader old r (with_place (own_proxies old r) x to) k.end.happened) w r) (sym (same_is v w e))
@@ -127,10 +127,10 @@ either_writer changes g old w v r to passed new true e f l h =
 either_writer changes g old w v r to passed new false e f l h =
     other_writer changes g old w v r to passed new (λ q. let s = ap (λ (x : Endpoint). same_endpoint x w) q in let t = same_self w in cc) l h
 
-lane_here : (changes : List Change) (g : Grounds) (old : Part) (w v : Endpoint) (r to : ℕ) (passed : List PassedRun) (new : Part) → RestsOn changes g w r → Lane changes old w r → Places g old v r to passed new → Lane changes new w r
+lane_here : (changes : List Change) (g : Grounds) (old : Part) (w v : Endpoint) (r to : ℕ) (passed : List PassedRun) (new : Part) → RestsOn changes (as_to g w r) → Lane changes old w r → Places g old v r to passed new → Lane changes new w r
 lane_here changes g old w v r to passed new f l h = subst (λ (x : Part). Lane changes x w r) (sym h.after) (either_writer changes g old w v r to passed new (same_endpoint v w) refl f l h)
 
-lane_place : (changes : List Change) (g : Grounds) (old : Part) (w v : Endpoint) (r k to : ℕ) (passed : List PassedRun) (new : Part) (b : Bool) → (k == r) ≡ b → RestsOn changes g w r → Lane changes old w r
+lane_place : (changes : List Change) (g : Grounds) (old : Part) (w v : Endpoint) (r k to : ℕ) (passed : List PassedRun) (new : Part) (b : Bool) → (k == r) ≡ b → RestsOn changes (as_to g w r) → Lane changes old w r
     → Places g old v k to passed new → Lane changes new w r
 lane_place changes g old w v r k to passed new true e f l h =
     subst (λ (j : ℕ). Places g old v j to passed new → Lane changes new w r) (sym (eqb-true k r e)) (λ p. lane_here changes g old w v r to passed new f l p) h
@@ -156,14 +156,14 @@ lane_heard changes g old w v r k new false e l h =
     subst (λ (x : Part). Lane changes x w r) (sym h.after)
     (moved_other changes old w r k (with_heard (own_proxies old k) v h.count) (WasHeard h.publication old.dds.moment ∷ (own_reader old k).happened) (λ q. let s = eq-eqb k r (sym q) in cc) l)
 
-lane_moves : (changes : List Change) (g : Grounds) (old : Part) (w : Endpoint) (r : ℕ) (ms : List Move) (new : Part) → RestsOn changes g w r → Lane changes old w r → AreMoves g old ms new → Lane changes new w r
+lane_moves : (changes : List Change) (g : Grounds) (old : Part) (w : Endpoint) (r : ℕ) (ms : List Move) (new : Part) → RestsOn changes (as_to g w r) → Lane changes old w r → AreMoves g old ms new → Lane changes new w r
 lane_moves changes g old w r [] new f l h = subst (λ (x : Part). Lane changes x w r) (sym h) l
 lane_moves changes g old w r (Place v k to passed ∷ ms) new f l h = lane_moves changes g h.0 w r ms new f (lane_place changes g old w v r k to passed h.0 (k == r) refl f l h.1) h.2
 lane_moves changes g old w r (Acknowledged v k to ∷ ms) new f l h =
     lane_moves changes g h.0 w r ms new f (subst (λ (x : Part). Lane changes x w r) (sym h.1.after) (lane_as changes old (at_writer old v (record (own_writer old v) { readers = with_acknowledged (own_writer old v).readers k to })) w r l l.rows l.own refl refl refl)) h.2
 lane_moves changes g old w r (Heard v k ∷ ms) new f l h = lane_moves changes g h.0 w r ms new f (lane_heard changes g old w v r k h.0 (k == r) refl l h.1) h.2
 
-lane_delivery : (changes : List Change) (g : Grounds) (old : Part) (w : Endpoint) (r : ℕ) (reply : Reply) (new : Part) → RestsOn changes g w r → Lane changes old w r → DeliveryStep g old reply new → Lane changes new w r
+lane_delivery : (changes : List Change) (g : Grounds) (old : Part) (w : Endpoint) (r : ℕ) (reply : Reply) (new : Part) → RestsOn changes (as_to g w r) → Lane changes old w r → DeliveryStep g old reply new → Lane changes new w r
 lane_delivery changes g old w r (Reported report) new f l h = lane_moves changes g old w r report.moves new f l h
 lane_delivery changes g old w r reply new f l h = absurd h
 
@@ -250,7 +250,7 @@ record InOrder (m : Machine) (w r : Endpoint) : Type 0 where
   all : (writer_at m w).policy ≡ KeepAll
   lane : Lane (writer_changes (writer_at m w)) (part_at m r.peer) w r.number
 
-rests_on : (m : Machine) (peer : ℕ) (w : Endpoint) (r : ℕ) → (writer_at m w).policy ≡ KeepAll → RestsOn (writer_changes (writer_at m w)) (grounds_of m peer) w r
+rests_on : (m : Machine) (peer : ℕ) (w : Endpoint) (r : ℕ) → (writer_at m w).policy ≡ KeepAll → RestsOn (writer_changes (writer_at m w)) (as_to (grounds_of m peer) w r)
 rests_on m peer w r all = (λ n c h. h, λ n h. keeps_all (writer_at m w).policy m w n refl all h)
 
 -- one part has changed

@@ -5,6 +5,7 @@ pub mod RunLaws
 pub mod InOrder
 pub mod InOrderRuns
 pub mod Opened
+pub mod OpenedPeers
 mod WorkedReceivers
 mod WorkedExamples
 mod WorkedPackets
@@ -12,3 +13,20 @@ mod WorkedMoves
 mod WorkedPeers
 mod WorkedReceipt
 pub mod OwnGuids
+pub mod Knowing
+pub mod Framing
+pub mod Ruled
+pub mod RuledReaders
+pub mod RuledTurns
+pub mod RuledWriters
+pub mod RuledPackets
+pub mod Dues
+pub mod DuesGrowth
+pub mod DuesAcknacks
+pub mod DuesUnkept
+pub mod DuesMatched
+pub mod DuesHeartbeats
+pub mod DuesAnswers
+pub mod DuesTurns
+pub mod DuesPackets
+pub mod DuesWritable

@@ -1,7 +1,7 @@
 -- The matched writers of a reader have GUIDs of their own, where the configuration is not refused: a prefix is one peer's, and
 -- an entity one writer's of it. Both are counted.
 use Rattle.std.proofs.Common.{◌≡◌, ℕ, zero, suc, ◌+◌, ◌-◌, ◌<◌, ◌≤◌, ◌⊎◌, Bool, true, false, cond, ◌&&◌, ◌||◌, Option, Some, None, List, [], ◌∷◌, refl, sym, ◌∙◌, ap, subst, inl, inr, ⊎_elim, arith, length, length-append, slice_get, if◌then◌else◌}
-use Rattle.std.specs.Prelude.{nat_eq, nat_lt, ◌==◌}
+use Rattle.std.specs.Prelude.{nat_eq, nat_lt, ◌==◌, not}
 use Rattle.std.specs.Bool.{Decides}
 use Rattle.std.specs.List.{count_by, list_any}
 use Rattle.std.proofs.lemmas.Bool.{or_parts, ltb-false}
@@ -17,12 +17,12 @@ use Rattle.dds_base.specs.declared.guid.Guid.{Guid}
 use Rattle.dds_base.specs.declared.guid.GuidPrefix.{GuidPrefix}
 use Rattle.dds_base.specs.declared.guid.EntityId.{EntityId}
 use Rattle.dds_base.specs.declared.qos.MatchedWriter.{MatchedWriter}
-use Rattle.dds_base.specs.Checked.{unknown_prefix, same_prefix, same_entity, prefix_count, entity_count, is_bad_peer, has_bad_parameter, has_inconsistent_policy, check_refusal}
+use Rattle.dds_base.specs.Checked.{unknown_prefix, same_prefix, same_entity, has_kind, prefix_count, entity_count, is_bad_writer, is_bad_reader, is_bad_peer, has_bad_parameter, has_inconsistent_policy, check_refusal}
 use Rattle.dds_base.specs.Matched.{same_topic, of_writers_in, of_matched_writers}
 use Rattle.dds_base.specs.Ownership.{HaveOwnGuids}
 use Rattle.dds_model.specs.declared.endpoint.Endpoint.{Endpoint}
 use Rattle.dds_base.specs.declared.config.Config.{Config}
-use Rattle.dds_model.specs.Claims.{IsWriter}
+use Rattle.dds_model.specs.Claims.{IsNumbered, IsWriter, IsReader, every_reader, every_peer}
 use Rattle.std.proofs.lemmas.Option.{same_Some}
 use Rattle.dds_model.specs.Part.{WriterProxy, same_endpoint, publication_from}
 use Rattle.dds_model.specs.Opening.{matched_writers, writer_qos, reader_qos}
@@ -157,6 +157,9 @@ not_bad false inconsistent cause other h = refl
 record IsChecked (peers : List PeerConfig) : Type 0 where
   prefixes : (i : ℕ) (p : PeerConfig) → slice_get peers i ≡ Some p → prefix_count peers p.prefix ≤ 1
   entities : (i : ℕ) (p : PeerConfig) → slice_get peers i ≡ Some p → (j : ℕ) (w : WriterConfig) → slice_get p.writers j ≡ Some w → entity_count p w.entity ≤ 1
+  readers : (i : ℕ) (p : PeerConfig) → slice_get peers i ≡ Some p → (j : ℕ) (r : ReaderConfig) → slice_get p.readers j ≡ Some r → entity_count p r.entity ≤ 1
+  kinds : (i : ℕ) (p : PeerConfig) → slice_get peers i ≡ Some p → (j : ℕ) (r : ReaderConfig) → slice_get p.readers j ≡ Some r → has_kind 7 r.entity ≡ true
+  known : (i : ℕ) (p : PeerConfig) → slice_get peers i ≡ Some p → same_prefix p.prefix unknown_prefix ≡ false
 
 good_writers : (p : PeerConfig) → is_bad_peer p ≡ false → list_any (λ (w : WriterConfig). nat_lt 1 (entity_count p w.entity)) p.writers ≡ false
 good_writers p good =
@@ -165,6 +168,21 @@ good_writers p good =
     let writers = list_any (λ (w : WriterConfig). twice w.entity) p.writers in
     let readers = list_any (λ (r : ReaderConfig). twice r.entity) p.readers in
     (or_parts writers readers (or_parts (writers || readers) _ rest).0).0
+
+-- what is asked of a peer's readers: their entities are apart, and none is bad
+good_readers : (p : PeerConfig) → is_bad_peer p ≡ false
+    → (list_any (λ (r : ReaderConfig). nat_lt 1 (entity_count p r.entity)) p.readers ≡ false) × (list_any is_bad_reader p.readers ≡ false)
+good_readers p good =
+    let rest = (or_parts (nat_lt 16 (length p.writers) || nat_lt 16 (length p.readers)) _ good).1 in
+    let twice : EntityId → Bool = λ entity. nat_lt 1 (entity_count p entity) in
+    let writers = list_any (λ (w : WriterConfig). twice w.entity) p.writers in
+    let readers = list_any (λ (r : ReaderConfig). twice r.entity) p.readers in
+    let both = or_parts (writers || readers) _ rest in
+    ((or_parts writers readers both.0).1, (or_parts (list_any is_bad_writer p.writers) (list_any is_bad_reader p.readers) both.1).1)
+
+not_not : (b : Bool) → not b ≡ false → b ≡ true
+not_not true h = refl
+not_not false h = absurd cc
 
 checked : (peers : List PeerConfig) → check_refusal peers ≡ None → IsChecked peers
 checked peers fits =
@@ -178,6 +196,15 @@ checked peers fits =
       entities = λ i p at j w within.
           let writers = good_writers p (none-passes is_bad_peer peers i p parts.1 at) in
           ltb-false 1 (entity_count p w.entity) (none-passes (λ (v : WriterConfig). nat_lt 1 (entity_count p v.entity)) p.writers j w writers within);
+      readers = λ i p at j r within.
+          let both = good_readers p (none-passes is_bad_peer peers i p parts.1 at) in
+          ltb-false 1 (entity_count p r.entity) (none-passes (λ (v : ReaderConfig). nat_lt 1 (entity_count p v.entity)) p.readers j r both.0 within);
+      kinds = λ i p at j r within.
+          let both = good_readers p (none-passes is_bad_peer peers i p parts.1 at) in
+          not_not (has_kind 7 r.entity) (or_parts (not (has_kind 7 r.entity)) _ (none-passes is_bad_reader p.readers j r both.1 within)).0;
+      known = λ i p at.
+          let both = none-passes bad_prefix peers i p parts.0 at in
+          (or_parts (same_prefix p.prefix unknown_prefix) (nat_lt 1 (prefix_count peers p.prefix)) both).0;
     }
 
 -- ---- the matched writers of a reader
@@ -257,7 +284,7 @@ one_place test xs i j a b once at_i at_j first second =
 endpoint_of : ℕ → ℕ → Endpoint
 endpoint_of peer number = record { peer = peer; number = number }
 
-same_endpoints : (a b : Endpoint) → a.peer ≡ b.peer → a.number ≡ b.number → a ≡ b
+pub same_endpoints : (a b : Endpoint) → a.peer ≡ b.peer → a.number ≡ b.number → a ≡ b
 unfolding endpoint_of
 same_endpoints a b p n = ap (λ (x : ℕ). endpoint_of x a.number) p ∙ ap (λ (x : ℕ). endpoint_of b.peer x) n
 
@@ -265,19 +292,58 @@ same_endpoints a b p n = ap (λ (x : ℕ). endpoint_of x a.number) p ∙ ap (λ 
 number_of : (m n : ℕ) → 1 ≤ m → 1 ≤ n → m - 1 ≡ n - 1 → m ≡ n
 number_of m n low_m low_n same = omega arith
 
+-- a prefix of the configuration is that of one peer
+one_peer : (peers : List PeerConfig) → IsChecked peers → (prefix : GuidPrefix) (a b : ℕ) (p q : PeerConfig) → IsNumbered peers a p → IsNumbered peers b q → p.prefix ≡ prefix → q.prefix ≡ prefix
+    → (a ≡ b) × (p ≡ q)
+one_peer peers good prefix a b p q at_a at_b of_p of_q =
+    let is_prefix : PeerConfig → Bool = λ x. same_prefix x.prefix prefix in
+    let once = one_of_each same_prefix (λ (x : PeerConfig). x.prefix) peers (λ x y. (prefix-Decides x y).0) good.prefixes prefix in
+    let places : a - 1 ≡ b - 1 =
+    one_place is_prefix peers (a - 1) (b - 1) p q once at_a.1 at_b.1 ((prefix-Decides p.prefix prefix).1 of_p) ((prefix-Decides q.prefix prefix).1 of_q) in
+    let there : slice_get peers (b - 1) ≡ Some p = subst (λ (n : ℕ). slice_get peers n ≡ Some p) places at_a.1 in
+    (number_of a b at_a.0 at_b.0 places, same_Some p q (sym there ∙ at_b.1))
+
+-- an entity that stands once among these ends is that of one of them
+one_end : {E : Type 0} (entity_of : E → EntityId) (ends : List E) (entity : EntityId) (a b : ℕ) (x y : E) → count_by (λ e. same_entity (entity_of e) entity) ends ≤ 1
+    → IsNumbered ends a x → IsNumbered ends b y → entity_of x ≡ entity → entity_of y ≡ entity → a ≡ b
+one_end {E} entity_of ends entity a b x y once at_a at_b of_x of_y =
+    let is_entity : E → Bool = λ e. same_entity (entity_of e) entity in
+    let places : a - 1 ≡ b - 1 =
+    one_place is_entity ends (a - 1) (b - 1) x y once at_a.1 at_b.1 ((entity-Decides (entity_of x) entity).1 of_x) ((entity-Decides (entity_of y) entity).1 of_y) in
+    number_of a b at_a.0 at_b.0 places
+
 pub one_writer : (config : Config) (prefix : GuidPrefix) (entity : EntityId) (a b : Endpoint) → check_refusal config.peers ≡ None → IsWriter config prefix entity a → IsWriter config prefix entity b → a ≡ b
 one_writer config prefix entity a b fits x y =
     let good = checked config.peers fits in
-    let is_prefix : PeerConfig → Bool = λ p. same_prefix p.prefix prefix in
-    let prefixes = one_of_each same_prefix (λ (p : PeerConfig). p.prefix) config.peers (λ p q. (prefix-Decides p q).0) good.prefixes prefix in
-    let peers : a.peer - 1 ≡ b.peer - 1 =
-    one_place is_prefix config.peers (a.peer - 1) (b.peer - 1) x.peer y.peer prefixes x.at_peer.1 y.at_peer.1 ((prefix-Decides x.peer.prefix prefix).1 x.same_prefix) ((prefix-Decides y.peer.prefix prefix).1 y.same_prefix) in
-    let peer : a.peer ≡ b.peer = number_of a.peer b.peer x.at_peer.0 y.at_peer.0 peers in
-    let at_a : slice_get config.peers (b.peer - 1) ≡ Some x.peer = subst (λ (n : ℕ). slice_get config.peers n ≡ Some x.peer) peers x.at_peer.1 in
-    let same_peer : x.peer ≡ y.peer = same_Some x.peer y.peer (sym at_a ∙ y.at_peer.1) in
-    let within : slice_get y.peer.writers (a.number - 1) ≡ Some x.end = subst (λ (p : PeerConfig). slice_get p.writers (a.number - 1) ≡ Some x.end) same_peer x.at_writer.1 in
-    let is_entity : WriterConfig → Bool = λ w. same_entity w.entity entity in
-    let once : count_by is_entity y.peer.writers ≤ 1 = entity_once config.peers good (b.peer - 1) y.peer y.at_peer.1 entity in
-    let numbers : a.number - 1 ≡ b.number - 1 =
-    one_place is_entity y.peer.writers (a.number - 1) (b.number - 1) x.end y.end once within y.at_writer.1 ((entity-Decides x.end.entity entity).1 x.same_entity) ((entity-Decides y.end.entity entity).1 y.same_entity) in
-    same_endpoints a b peer (number_of a.number b.number x.at_writer.0 y.at_writer.0 numbers)
+    let peer = one_peer config.peers good prefix a.peer b.peer x.peer y.peer x.at_peer y.at_peer x.same_prefix y.same_prefix in
+    let within : IsNumbered y.peer.writers a.number x.end = subst (λ (p : PeerConfig). IsNumbered p.writers a.number x.end) peer.1 x.at_writer in
+    let once = entity_once config.peers good (b.peer - 1) y.peer y.at_peer.1 entity in
+    same_endpoints a b peer.0 (one_end (λ (w : WriterConfig). w.entity) y.peer.writers entity a.number b.number x.end y.end once within y.at_writer x.same_entity y.same_entity)
+
+-- an entity is that of one reader of a peer at most
+reader_once : (peers : List PeerConfig) → IsChecked peers → (i : ℕ) (p : PeerConfig) → slice_get peers i ≡ Some p → (entity : EntityId)
+    → count_by (λ (r : ReaderConfig). same_entity r.entity entity) p.readers ≤ 1
+reader_once peers good i p at entity =
+    one_of_each same_entity (λ (r : ReaderConfig). r.entity) p.readers (λ a b. (entity-Decides a b).0) (λ j r within. let all = good.readers i p at j r within in omega arith) entity
+
+pub one_reader : (config : Config) (prefix : GuidPrefix) (entity : EntityId) (a b : Endpoint) → check_refusal config.peers ≡ None → IsReader config prefix entity a → IsReader config prefix entity b → a ≡ b
+one_reader config prefix entity a b fits x y =
+    let good = checked config.peers fits in
+    let peer = one_peer config.peers good prefix a.peer b.peer x.peer y.peer x.at_peer y.at_peer x.same_prefix y.same_prefix in
+    let within : IsNumbered y.peer.readers a.number x.end = subst (λ (p : PeerConfig). IsNumbered p.readers a.number x.end) peer.1 x.at_reader in
+    let once = reader_once config.peers good (b.peer - 1) y.peer y.at_peer.1 entity in
+    same_endpoints a b peer.0 (one_end (λ (r : ReaderConfig). r.entity) y.peer.readers entity a.number b.number x.end y.end once within y.at_reader x.same_entity y.same_entity)
+
+-- no reader has the entity id that names all readers
+pub not_every_reader : (config : Config) (prefix : GuidPrefix) (entity : EntityId) (a : Endpoint) → check_refusal config.peers ≡ None → IsReader config prefix entity a → entity ≡ every_reader → ⊥
+not_every_reader config prefix entity a fits x every =
+    let good = checked config.peers fits in
+    let kind : has_kind 7 x.end.entity ≡ true = good.kinds (a.peer - 1) x.peer x.at_peer.1 (a.number - 1) x.end x.at_reader.1 in
+    let other : has_kind 7 x.end.entity ≡ false = ap (λ (e : EntityId). has_kind 7 e) (x.same_entity ∙ every) in
+    absurd cc
+
+-- no writer's prefix is the one that names every peer
+pub not_every_peer : (config : Config) (prefix : GuidPrefix) (entity : EntityId) (a : Endpoint) → check_refusal config.peers ≡ None → IsWriter config prefix entity a → same_prefix prefix every_peer ≡ false
+not_every_peer config prefix entity a fits x =
+    let good = checked config.peers fits in
+    ap (λ (p : GuidPrefix). same_prefix p unknown_prefix) (sym x.same_prefix) ∙ good.known (a.peer - 1) x.peer x.at_peer.1

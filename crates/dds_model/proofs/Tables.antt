@@ -180,3 +180,8 @@ acknowledged-cases rows r from to v h =
     ⊎_elim (λ e. inl (ap (λ (o : Option ReaderProxy). option_map (λ (p : ReaderProxy). p.acknowledged) o) e))
     (λ s. inr (s.0, ap (λ (o : Option ReaderProxy). option_map (λ (p : ReaderProxy). p.acknowledged) o) s.1 ∙ acked to (row_of (λ (p : ReaderProxy). p.reader) rows r) from h))
     (row-cases (λ (p : ReaderProxy). p.reader) (λ (p : ReaderProxy). record p { acknowledged = to }) (λ p. refl) rows r v)
+
+pub acknowledged-hits : (rows : List ReaderProxy) (r : Endpoint) (from to : ℕ) → acknowledged_of rows r ≡ Some from → acknowledged_of (with_acknowledged rows r to) r ≡ Some to
+acknowledged-hits rows r from to h =
+    ap (λ (o : Option ReaderProxy). option_map (λ (p : ReaderProxy). p.acknowledged) o) (row-hits (λ (p : ReaderProxy). p.reader) (λ (p : ReaderProxy). record p { acknowledged = to }) (λ p. refl) rows r)
+    ∙ acked to (row_of (λ (p : ReaderProxy). p.reader) rows r) from h

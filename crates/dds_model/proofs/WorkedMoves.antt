@@ -12,12 +12,13 @@ use Rattle.dds_base.specs.declared.qos.HistoryQos.TheVariants.{KeepAll, KeepLast
 use Rattle.dds_base.specs.Kept.{is_dropped}
 use Rattle.dds_base.specs.Presence.{has_room}
 use Rattle.dds_base.specs.Written.{Written, Changed}
-use Rattle.dds_model.specs.declared.reply.PassedRun.{PassedRun}
+use Rattle.dds_base.specs.declared.happening.PassedRun.{PassedRun}
+use Rattle.dds_base.specs.Places.{WriterGrounds, Match, Position, Comes, AllCome, Passes, IsApart, GoesTo}
 use Rattle.dds_model.specs.declared.reply.Move.{Move}
 use Rattle.dds_model.specs.declared.reply.Move.TheVariants.{Place}
 use Rattle.dds_model.specs.declared.reply.Reply.TheVariants.{Reported}
 use Rattle.dds_model.specs.Part.{Part, Writer, history_of}
-use Rattle.dds_model.specs.Moves.{Grounds, AreMoves, Match, match_of, Position, Comes, AllCome, Passes, IsApart, GoesTo, Places, DeliveryStep}
+use Rattle.dds_model.specs.Moves.{Grounds, as_to, AreMoves, match_of, Places, DeliveryStep}
 use Rattle.dds_model.specs.Machine.{Machine, grounds_of}
 use Rattle.dds_model.specs.Opening.{opening, reader_qos}
 use Rattle.dds_model.proofs.WorkedReceivers.{prefix_1, prefix_2, r1_id, writer, reader, w1, r1, some_is}
@@ -129,13 +130,13 @@ place-goes_to_4 = (
 
 -- w1 and r1, as peer 2 has them
 abbrev the_match : Match
-the_match = match_of (part_2 1 None []) w1 1 1
+the_match = match_of (part_2 1 None []) 1 1
 
 -- no change comes that the writer has not made, and none out of its turn
-comes-not_4 : (happened : List Happening) (change : Change) (new : Position) → Comes (grounds_at_2 kept) the_match (position 4 happened) change new → ⊥
+comes-not_4 : (happened : List Happening) (change : Change) (new : Position) → Comes (as_to (grounds_at_2 kept) w1 1) the_match (position 4 happened) change new → ⊥
 comes-not_4 happened change new h = let is = h.is_change in absurd cc
 
-comes-not_2_before_1 : (new : Position) → Comes (grounds_at_2 kept) the_match (position 1 []) (write_of 1 2) new → ⊥
+comes-not_2_before_1 : (new : Position) → Comes (as_to (grounds_at_2 kept) w1 1) the_match (position 1 []) (write_of 1 2) new → ⊥
 comes-not_2_before_1 new h = let value = ap (λ (c : Change). slice_index c.value 0) (some_is (write_of 1 1) (write_of 1 2) h.is_change) in absurd (omega arith)
 
 -- a place goes forward alone
@@ -195,18 +196,18 @@ place-passes_2 = (
 abbrev two_dropped : Writer
 two_dropped = writing (KeepLast 1) None (Changed (write_of 2 4) ∷ one_dropped.written) 1
 
-passes-2_and_3 : Passes (grounds_at_2 two_dropped) the_match (position 2 came_1) (run 2 3) (position 4 (Passed 1 2 3 ∷ came_1))
+passes-2_and_3 : Passes (as_to (grounds_at_2 two_dropped) w1 1) the_match (position 2 came_1) (run 2 3) (position 4 (Passed 1 2 3 ∷ came_1))
 passes-2_and_3 = record { begins = refl; ordered = omega arith; may_pass = each_of_2_and_3 (Dropped two_dropped) refl refl; after = refl }
 
 -- a run ends where a change is not dropped, and begins at the place
-passes-not_4 : (old new : Position) (first : ℕ) → first ≤ 4 → Passes (grounds_at_2 two_dropped) the_match old (run first 4) new → ⊥
+passes-not_4 : (old new : Position) (first : ℕ) → first ≤ 4 → Passes (as_to (grounds_at_2 two_dropped) w1 1) the_match old (run first 4) new → ⊥
 passes-not_4 old new first low h = let dropped = h.may_pass 4 low (omega arith) in absurd cc
 
-passes-not_from_3 : (happened : List Happening) (new : Position) → Passes (grounds_at_2 two_dropped) the_match (position 2 happened) (run 3 3) new → ⊥
+passes-not_from_3 : (happened : List Happening) (new : Position) → Passes (as_to (grounds_at_2 two_dropped) w1 1) the_match (position 2 happened) (run 3 3) new → ⊥
 passes-not_from_3 happened new h = let begins = h.begins in absurd (omega arith)
 
 -- of a writer that keeps all no change is passed over
-passes-none_of_keep_all : (old new : Position) (first last : ℕ) → Passes (grounds_at_2 kept) the_match old (run first last) new → ⊥
+passes-none_of_keep_all : (old new : Position) (first last : ℕ) → Passes (as_to (grounds_at_2 kept) w1 1) the_match old (run first last) new → ⊥
 passes-none_of_keep_all old new first last h = let dropped = h.may_pass first (omega arith) h.ordered in absurd cc
 
 -- ---- runs that are apart
@@ -218,7 +219,7 @@ apart = writing (KeepLast 1) None (Changed (write_of 1 4) ∷ Changed (write_of 
 abbrev lost_1_and_3 : List Happening
 lost_1_and_3 = came 4 (write_of 1 4) ∷ Passed 1 3 3 ∷ came 2 (write_of 2 2) ∷ Passed 1 1 1 ∷ []
 
-goes-over_two_runs : GoesTo (grounds_at_2 apart) the_match (position 1 []) (run 1 1 ∷ run 3 3 ∷ []) 5 (position 5 lost_1_and_3)
+goes-over_two_runs : GoesTo (as_to (grounds_at_2 apart) w1 1) the_match (position 1 []) (run 1 1 ∷ run 3 3 ∷ []) 5 (position 5 lost_1_and_3)
 goes-over_two_runs = (
   position 1 [],
   position 2 (Passed 1 1 1 ∷ []),
@@ -239,18 +240,18 @@ goes-over_two_runs = (
 apart-not_touching : IsApart (run 1 1) (run 2 2 ∷ []) → ⊥
 apart-not_touching h = absurd (omega (arith, h))
 
-goes-not_over_touching_runs : (grounds : Grounds) (match : Match) (old new : Position) (to : ℕ) → GoesTo grounds match old (run 1 1 ∷ run 2 2 ∷ []) to new → ⊥
+goes-not_over_touching_runs : (grounds : WriterGrounds) (match : Match) (old new : Position) (to : ℕ) → GoesTo grounds match old (run 1 1 ∷ run 2 2 ∷ []) to new → ⊥
 goes-not_over_touching_runs grounds match old new to h = absurd (omega (arith, h.4))
 
 -- a place never stands within a run that it went over
-come-forward : (grounds : Grounds) (match : Match) (old : Position) (changes : List Change) (new : Position) → AllCome grounds match old changes new → old.place ≤ new.place
+come-forward : (grounds : WriterGrounds) (match : Match) (old : Position) (changes : List Change) (new : Position) → AllCome grounds match old changes new → old.place ≤ new.place
 come-forward grounds match old [] new h = let same = ap (λ (p : Position). p.place) h in omega arith
 come-forward grounds match old (change ∷ changes) new h =
     let next = ap (λ (p : Position). p.place) h.1.after in
     let rest = come-forward grounds match h.0 changes new h.2 in
     omega arith
 
-goes-behind_the_run : (grounds : Grounds) (match : Match) (old new : Position) (to : ℕ) → GoesTo grounds match old (run 1 2 ∷ []) to new → 3 ≤ to
+goes-behind_the_run : (grounds : WriterGrounds) (match : Match) (old new : Position) (to : ℕ) → GoesTo grounds match old (run 1 2 ∷ []) to new → 3 ≤ to
 goes-behind_the_run grounds match old new to h =
     let behind = ap (λ (p : Position). p.place) h.3.after in
     let rest = come-forward grounds match h.1 h.5.0 new h.5.1 in

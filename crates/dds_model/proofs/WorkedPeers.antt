@@ -7,10 +7,10 @@ use Rattle.dds_base.specs.declared.change.Change.{Change}
 use Rattle.dds_base.specs.declared.code.Code.TheVariants.{Timeout}
 use Rattle.dds_base.specs.declared.happening.Happening.TheVariants.{Heard as WasHeard}
 use Rattle.dds_base.specs.declared.qos.HistoryQos.TheVariants.{KeepAll, KeepLast}
-use Rattle.dds_base.specs.Written.{Written, Registered, Changed, Asserted, Ticked}
+use Rattle.dds_base.specs.Written.{Written, Registered, Changed, Asserted, Ticked, counts_of}
 use Rattle.dds_model.specs.declared.reply.Move.TheVariants.{Acknowledged, Heard}
 use Rattle.dds_model.specs.declared.reply.Reply.TheVariants.{Reported}
-use Rattle.dds_model.specs.Part.{Part, Writer, counts_of, is_assertion}
+use Rattle.dds_model.specs.Part.{Part, Writer, is_assertion}
 use Rattle.dds_model.specs.Moves.{Grounds, Acknowledges, IsLater, Hears, DeliveryStep}
 use Rattle.dds_model.specs.Calls.{change_refusal}
 use Rattle.dds_model.specs.Machine.{grounds_of}

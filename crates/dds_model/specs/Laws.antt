@@ -13,12 +13,20 @@ use Rattle.dds_model.specs.declared.event.WorldEvent.{WorldEvent}
 use Rattle.dds_model.specs.declared.reply.Move.{Move}
 use Rattle.dds_model.specs.declared.reply.Move.TheVariants.{Place}
 use Rattle.dds_model.specs.declared.reply.Reply.{Reply}
+use Rattle.dds_model.specs.declared.reply.Report.{Report}
 use Rattle.dds_model.specs.declared.reply.Reply.TheVariants.{Reported}
+use Rattle.dds_model.specs.Numbered.{numbered}
+use Rattle.dds_model.specs.Receipt.{Receives}
+use Rattle.dds_model.specs.Peer.{Delivery, no_peer, state_of, packets_of, claimed}
+use Rattle.dds_model.specs.Protocol.{State, Due, TakesPacket, heartbeats_due}
+use Rattle.dds_model.specs.Backed.{IsBacked}
+use Rattle.dds_model.specs.Dues.{AreTellable, IsPartOf, AreTruthful}
+use Rattle.dds_model.specs.Calls.{TickStep}
 use Rattle.dds_model.specs.Machine.{Machine, AllTests, writer_at, Step}
 use Rattle.dds_model.specs.World.{WorldState, WorldStep, machine_of, Sound}
 use Rattle.dds_model.specs.Progress.{Progresses}
 use Rattle.dds_model.specs.Runs.{Traffic, Sends, Run}
-use Rattle.dds_model.specs.Part.{publication_of}
+use Rattle.dds_model.specs.Part.{Part, publication_of}
 use Rattle.dds_model.specs.Opening.{opening_world, matched_writers, reader_qos}
 
 -- a step of peers, on packets that were sent, is a step of the machine, which takes up what is delivered, and leaves all
@@ -79,3 +87,26 @@ ReadersTellWritersApart = (config : Config) (peer : PeerConfig) (reader : Reader
 abbrev pub OwnersExist : Type 0
 OwnersExist = (config : Config) (peer : PeerConfig) (reader : ReaderConfig) (i : Key) (h : List Happening) → check_refusal config.peers ≡ None → Contains config.peers peer
     → Contains peer.readers reader → registered_writers (reader_qos config.peers reader) i h ≢ [] → IsSome (owner_of (reader_qos config.peers reader) (registered_writers (reader_qos config.peers reader) i h))
+
+-- what a peer does with a packet by the rules of the protocol rests on what that packet and earlier ones claim, and what it
+-- knows then is what they claim
+abbrev pub RulesRestOnClaims : Type 0
+RulesRestOnClaims = (config : Config) (peer : ℕ) (before : List Delivery) (bytes : List ℕ) (old : State) (report : Report) (dues : List Due) (new : State) → check_refusal config.peers ≡ None
+    → IsBacked config peer (packets_of before) before old → TakesPacket config peer bytes old report dues new
+    → Receives config (claimed config before bytes peer) peer bytes old.part report new.part
+    × IsBacked config peer (bytes ∷ packets_of before) (record { packet = bytes; report = report } ∷ before) new
+
+-- at the opening a peer knows nothing, so all that it knows is what was claimed
+abbrev pub OpensBacked : Type 0
+OpensBacked = (config : Config) (peer : ℕ) → IsBacked config peer [] [] (state_of (numbered (opening_world config).peers peer no_peer))
+
+-- what is due once a peer took a packet up by the rules claims only what is true of the peer's own lists and places
+abbrev pub AnswersAreTrue : Type 0
+AnswersAreTrue = (config : Config) (peer : ℕ) (before : List Delivery) (bytes : List ℕ) (old : State) (report : Report) (dues : List Due) (new : State) → check_refusal config.peers ≡ None
+    → IsBacked config peer (packets_of before) before old → AreTellable old.part → TakesPacket config peer bytes old report dues new
+    → AreTruthful config peer new.part dues
+
+-- so do the HEARTBEATs that are due at a tick
+abbrev pub HeartbeatsAreTrue : Type 0
+HeartbeatsAreTrue = (config : Config) (peer : ℕ) (old : Part) (now : ℕ) (reply : Reply) (new : Part) → check_refusal config.peers ≡ None → IsPartOf config peer old → TickStep old now reply new
+    → AreTruthful config peer new (heartbeats_due config peer old)

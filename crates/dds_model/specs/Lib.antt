@@ -12,3 +12,6 @@ pub mod Progress
 pub mod Opening
 pub mod Laws
 pub mod InOrder
+pub mod Protocol
+pub mod Backed
+pub mod Dues

@@ -11,6 +11,7 @@ use Rattle.dds_base.specs.Matched.{of_writers_in, of_matched_writers, of_readers
 use Rattle.dds_model.specs.Part.{ReaderProxy, WriterProxy, Writer, Part}
 use Rattle.dds_model.specs.Calls.{limit_of}
 use Rattle.dds_model.specs.Peer.{Peer}
+use Rattle.dds_model.specs.Protocol.{knows_nothing}
 use Rattle.dds_model.specs.Machine.{Machine}
 use Rattle.dds_model.specs.World.{WorldState, machine_of}
 
@@ -49,7 +50,7 @@ opening_part peers p = record {
 
 abbrev pub opening_peers : List PeerConfig → ℕ → List PeerConfig → List Peer
 opening_peers peers number [] = []
-opening_peers peers number (p ∷ ps) = record { number = number; part = opening_part peers p; delivered = [] } ∷ opening_peers peers (number + 1) ps
+opening_peers peers number (p ∷ ps) = record { number = number; part = opening_part peers p; known = knows_nothing; delivered = [] } ∷ opening_peers peers (number + 1) ps
 
 -- the network at its opening
 abbrev pub opening_world : Config → WorldState

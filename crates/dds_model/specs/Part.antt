@@ -2,7 +2,7 @@
 -- each matched pair. What other peers may learn of stands apart from what only its own calls ask for.
 --
 -- RTPS 2.5, 8.4.7 (StatefulWriter, ReaderProxy), 8.4.10 (StatefulReader, WriterProxy).
-use Rattle.std.specs.Prelude.{ℕ, ◌+◌, ◌<◌, ◌≤◌, Bool, true, false, cond, if◌then◌else◌, ◌==◌, nat_le, nat_lt, List, [], ◌∷◌, ◌++◌, length, map, Option, Some, None, ℤ, pos, negsuc}
+use Rattle.std.specs.Prelude.{ℕ, ◌+◌, ◌<◌, ◌≤◌, Bool, false, cond, if◌then◌else◌, ◌==◌, nat_le, nat_lt, List, [], ◌∷◌, length, map, Option, Some, None, ℤ, pos, negsuc}
 use Rattle.std.specs.List.{list_any}
 use Rattle.std.specs.Option.{option_map}
 use Rattle.dds_base.specs.declared.change.Change.{Change}
@@ -11,7 +11,7 @@ use Rattle.dds_base.specs.declared.qos.HistoryQos.{HistoryQos}
 use Rattle.dds_base.specs.declared.qos.HistoryQos.TheVariants.{KeepAll}
 use Rattle.dds_base.specs.declared.qos.OwnershipQos.TheVariants.{Shared}
 use Rattle.dds_base.specs.declared.qos.ReaderQos.{ReaderQos}
-use Rattle.dds_base.specs.Written.{Written, Asserted, Ticked, changes_of}
+use Rattle.dds_base.specs.Written.{Written, changes_of, counts_of}
 use Rattle.dds_base.specs.Kept.{WriterHistory}
 use Rattle.dds_model.specs.declared.endpoint.Endpoint.{Endpoint}
 use Rattle.dds_model.specs.Numbered.{numbered, with_numbered}
@@ -146,17 +146,14 @@ NoLess (Some first) second = IsAtMost first second
 abbrev pub is_behind : Writer → Bool
 is_behind w = list_any (λ (p : ReaderProxy). nat_le p.acknowledged (length (writer_changes w))) w.readers
 
+-- the peers of these readers, each once
+abbrev pub peers_of : List ReaderProxy → List ℕ
+peers_of [] = []
+peers_of (p ∷ ps) = if list_any (λ peer. peer == p.reader.peer) (peers_of ps) then peers_of ps else p.reader.peer ∷ peers_of ps
+
 -- the writer has a matched reader
 abbrev pub has_readers : Writer → Bool
 has_readers w = nat_lt 0 (length w.readers)
-
--- What each HEARTBEAT count of a writer numbers, in order: an assertion, or not. A count is due to each assertion of a
--- writer that has matched readers, and to each tick at which some reader was behind.
-abbrev pub counts_of : Bool → List Written → List Bool
-counts_of matched [] = []
-counts_of matched (Asserted moment ∷ c) = if matched then counts_of matched c ++ true ∷ [] else counts_of matched c
-counts_of matched (Ticked now behind ∷ c) = if behind then counts_of matched c ++ false ∷ [] else counts_of matched c
-counts_of matched (_ ∷ c) = counts_of matched c
 
 -- the count numbers an assertion of the writer
 abbrev pub is_assertion : Writer → ℤ → Bool

@@ -21,20 +21,26 @@ use Rattle.dds_model.specs.Moves.{Grounds}
 use Rattle.dds_model.specs.Calls.{Tests, CallStep, TickStep}
 use Rattle.dds_model.specs.Claims.{Receiver, receiver_of, StandsAt, IsToReader, Claim, ChangeIs, MayPass, PlaceReached, Asserts, Claims, Claimed}
 use Rattle.dds_model.specs.Receipt.{Receives}
+use Rattle.dds_model.specs.Protocol.{Known, State, knows_nothing}
 
 -- a packet that was delivered, and what it did
 pub record Delivery : Type 0 where
   pub packet : List ℕ
   pub report : Report
 
--- a peer, by its number, with its part and the packets that were delivered to it, the newest first
+-- a peer, by its number, with its part, what it knows beside that, and the packets that were delivered to it, the newest first
 pub record Peer : Type 0 where
   pub number : ℕ
   pub part : Part
+  pub known : Known
   pub delivered : List Delivery
 
 abbrev pub no_peer : Peer
-no_peer = record { number = 0; part = no_part; delivered = [] }
+no_peer = record { number = 0; part = no_part; known = knows_nothing; delivered = [] }
+
+-- its part, and what it knows
+abbrev pub state_of : Peer → State
+state_of p = record { part = p.part; known = p.known }
 
 abbrev pub packets_of : List Delivery → List (List ℕ)
 packets_of ds = map (λ (d : Delivery). d.packet) ds

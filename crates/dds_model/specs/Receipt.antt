@@ -6,6 +6,7 @@ use Rattle.dds_base.specs.declared.change.Change.{Change}
 use Rattle.dds_base.specs.declared.config.Config.{Config}
 use Rattle.dds_base.specs.declared.guid.GuidPrefix.{GuidPrefix}
 use Rattle.dds_base.specs.Checked.{unknown_prefix}
+use Rattle.dds_base.specs.Places.{coming}
 use Rattle.dds_base.specs.Presence.{has_room}
 use Rattle.rtps_wire.specs.declared.message.Message.{Message}
 use Rattle.rtps_wire.specs.declared.submessage.Submessage.{Submessage}
@@ -16,7 +17,7 @@ use Rattle.dds_model.specs.declared.reply.Move.TheVariants.{Place}
 use Rattle.dds_model.specs.declared.reply.Report.{Report}
 use Rattle.dds_model.specs.Numbered.{numbered}
 use Rattle.dds_model.specs.Part.{Part, own_reader}
-use Rattle.dds_model.specs.Moves.{Grounds, match_of, IsMatched, position_of, coming, AreMoves}
+use Rattle.dds_model.specs.Moves.{Grounds, match_of, IsMatched, position_of, AreMoves}
 use Rattle.dds_model.specs.Claims.{Receiver, receiver_of, after_submessage, ChangeIs, Says}
 
 -- the prefix of the peer of this number
@@ -33,7 +34,7 @@ GoesOver writer reader number (m ∷ moves) = GoesOver writer reader number move
 pub record HasNoRoom (grounds : Grounds) (part : Part) (writer : Endpoint) (reader publication place : ℕ) : Type 0 where
   pub change : Change
   pub is_change : grounds.is_change writer reader place change
-  pub no_room : has_room (own_reader part reader).qos (own_reader part reader).happened (coming (match_of part writer reader publication) (position_of part reader place) change) ≡ false
+  pub no_room : has_room (own_reader part reader).qos (own_reader part reader).happened (coming (match_of part reader publication) (position_of part reader place) change) ≡ false
 
 -- A submessage with the change at the place of one of the peer's readers moves that place, unless there is no room. No
 -- number of a message is above 2^62.

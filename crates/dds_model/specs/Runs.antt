@@ -1,6 +1,5 @@
 -- Runs: replies to lists of events, with the packets that are sent meanwhile.
-use Rattle.std.specs.Prelude.{◌≡◌, ◌≢◌, ℕ, ◌+◌, ◌-◌, ◌^◌, List, [], ◌∷◌, ◌++◌, length, min, IsSome, ◌==◌, if◌then◌else◌, Contains, AllPairs}
-use Rattle.std.specs.List.{list_any}
+use Rattle.std.specs.Prelude.{◌≡◌, ◌≢◌, ℕ, ◌+◌, ◌-◌, ◌^◌, List, [], ◌∷◌, ◌++◌, length, min, IsSome, Contains, AllPairs}
 use Rattle.dds_base.specs.declared.change.Change.{Change}
 use Rattle.dds_base.specs.declared.config.Config.{Config}
 use Rattle.dds_base.specs.Written.{Changed}
@@ -9,7 +8,7 @@ use Rattle.dds_model.specs.declared.event.WorldEvent.{WorldEvent}
 use Rattle.dds_model.specs.declared.event.WorldEvent.TheVariants as world
 use Rattle.dds_model.specs.declared.event.Packet.{Packet}
 use Rattle.dds_model.specs.declared.reply.Reply.{Reply}
-use Rattle.dds_model.specs.Part.{ReaderProxy, acknowledged_of, writer_changes}
+use Rattle.dds_model.specs.Part.{ReaderProxy, peers_of, acknowledged_of, writer_changes}
 use Rattle.dds_model.specs.Calls.{Effect, writes, effect_of}
 use Rattle.dds_model.specs.Claims.{ChangeIs, Claims}
 use Rattle.dds_model.specs.Machine.{Machine, AllTests, part_at, writer_at, Step}
@@ -19,11 +18,6 @@ use Rattle.dds_model.specs.Progress.{Progresses}
 pub record Traffic : Type 0 where
   pub sent : List Packet
   pub unsent : ℕ
-
--- the peers of these readers, each once
-abbrev pub peers_of : List ReaderProxy → List ℕ
-peers_of [] = []
-peers_of (p ∷ ps) = if list_any (λ peer. peer == p.reader.peer) (peers_of ps) then peers_of ps else p.reader.peer ∷ peers_of ps
 
 -- A change of a writer is announced: each peer with a matched reader is sent one packet, in which the change is for each
 -- such reader, or the packet is counted as unsent.

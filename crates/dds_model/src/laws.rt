@@ -1,7 +1,7 @@
 //! What holds of every network and every run.
 
 ghost use Rattle.dds_model.specs.InOrder.{ChangesComeInOrder};
-ghost use Rattle.dds_model.specs.Laws.{Composes, ComposesRuns, KeepAllIsKept, OpensSound, OwnersExist, ReadersTellWritersApart};
+ghost use Rattle.dds_model.specs.Laws.{AnswersAreTrue, Composes, ComposesRuns, HeartbeatsAreTrue, KeepAllIsKept, OpensBacked, OpensSound, OwnersExist, ReadersTellWritersApart, RulesRestOnClaims};
 
 use dds_base::owner_is_found;
 
@@ -39,3 +39,25 @@ pub fn owners_exist()
 {
     owner_is_found();
 }
+
+/// What a peer does with a packet by the rules of the protocol rests on what that packet and earlier ones claim. What it
+/// knows beside its part of the machine is claimed by them too, at the opening and after each packet.
+///
+/// RTPS 2.5, 8.4.9, 8.4.12.
+pub fn rules_rest_on_claims()
+    // At the opening a peer knows nothing.
+    ensures opening { OpensBacked }
+    // A packet that is taken up by the rules moves what it may move, and leaves known what is claimed.
+    ensures packet { RulesRestOnClaims }
+{}
+
+/// What the rules of the protocol ask a peer to send claims, once it is written, only what is true of the peer's own lists
+/// and places.
+///
+/// RTPS 2.5, 8.4.9, 8.4.12.
+pub fn what_is_due_is_true()
+    // So do the ACKNACKs and the answers that are due to a packet.
+    ensures packet { AnswersAreTrue }
+    // So do the HEARTBEATs that are due at a tick.
+    ensures tick { HeartbeatsAreTrue }
+{}

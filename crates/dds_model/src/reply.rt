@@ -1,14 +1,7 @@
 //! What a peer answers.
 
 use crate::endpoint::Endpoint;
-use dds_base::{Code, Sample, Sequence, Sn};
-
-/// The changes from `first` to `last` of a writer, which a reader passed over.
-#[derive(Clone, Copy, Debug, PartialEq, Eq)]
-pub struct PassedRun {
-    pub first: Sn,
-    pub last: Sn,
-}
+use dds_base::{Code, PassedRun, Sample, Sequence, Sn};
 
 /// What a delivery moved.
 #[derive(Debug, Drop)]

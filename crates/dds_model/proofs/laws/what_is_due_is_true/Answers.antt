@@ -1,0 +1,8 @@
+use Rattle.dds_model.proofs.DuesPackets.{packet_truthful, tick_truthful}
+use Rattle.dds_model.proofs.laws.what_is_due_is_true.Goals as goal
+
+pub returns-clause-packet : goal.returns-clause-packet
+returns-clause-packet c = packet_truthful
+
+pub returns-clause-tick : goal.returns-clause-tick
+returns-clause-tick c = tick_truthful
