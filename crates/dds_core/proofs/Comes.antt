@@ -5,14 +5,13 @@ use Rattle.dds_base.specs.declared.guid.GuidPrefix.{GuidPrefix}
 use Rattle.rtps_wire.specs.declared.submessage.Submessage.TheVariants.{Data}
 use Rattle.std.proofs.lemmas.List.{append-nil}
 use Rattle.rtps_wire.specs.declared.data.Data.{Data as DataBody}
-use Rattle.dds_model.specs.declared.endpoint.Endpoint.{Endpoint}
 use Rattle.dds_model.specs.declared.reply.Move.{Move}
-use Rattle.dds_model.specs.declared.reply.Move.TheVariants.{Place, Heard, Acknowledged}
 use Rattle.dds_model.specs.Moves.{Grounds}
 use Rattle.dds_model.specs.Claims.{Receiver}
 use Rattle.dds_model.specs.Receipt.{GoesOver}
 use Rattle.dds_model.specs.Peer.{claimed}
 use Rattle.dds_model.proofs.Composed.{moves_on}
+use Rattle.dds_model.proofs.RuledTurns.{goes_first, goes_last}
 use Rattle.dds_core.specs.declared.matching.WriterRow.{WriterRow}
 use Rattle.dds_core.specs.declared.reader_end.Coming.{Coming}
 use Rattle.dds_core.specs.Kept.{ReaderKept, CoreKept}
@@ -20,18 +19,6 @@ use Rattle.dds_core.specs.Receiving.{IsNext, IsReady, Comes, ComesAt, MovesAt, C
 use Rattle.dds_core.proofs.Coming.{comes_there, OneMove, stands_part}
 use Rattle.dds_core.proofs.Ends.{with_reader}
 use Rattle.dds_core.proofs.Lists.{left_at, left_more, drop_set, get-within}
-
-goes_first : (w : Endpoint) (r n : ℕ) (xs ys : List Move) → GoesOver w r n xs → GoesOver w r n (xs ++ ys)
-goes_first w r n [] ys h = absurd h
-goes_first w r n (Place v s to passed ∷ xs) ys h = ⊎_elim (λ f. inl f) (λ g. inr (goes_first w r n xs ys g)) h
-goes_first w r n (Heard v s ∷ xs) ys h = goes_first w r n xs ys h
-goes_first w r n (Acknowledged v s to ∷ xs) ys h = goes_first w r n xs ys h
-
-goes_last : (w : Endpoint) (r n : ℕ) (xs ys : List Move) → GoesOver w r n ys → GoesOver w r n (xs ++ ys)
-goes_last w r n [] ys h = h
-goes_last w r n (Place v s to passed ∷ xs) ys h = inr (goes_last w r n xs ys h)
-goes_last w r n (Heard v s ∷ xs) ys h = goes_last w r n xs ys h
-goes_last w r n (Acknowledged v s to ∷ xs) ys h = goes_last w r n xs ys h
 
 -- nothing has come yet
 pub come_none : (old : CoreKept) (ready : List (Option Coming)) (moves : List Move) → ComeTo old ready 0 moves old moves

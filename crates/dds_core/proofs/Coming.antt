@@ -19,7 +19,8 @@ use Rattle.rtps_wire.specs.Content.{change_in}
 use Rattle.dds_model.specs.declared.endpoint.Endpoint.{Endpoint}
 use Rattle.dds_model.specs.declared.reply.Move.{Move}
 use Rattle.dds_model.specs.Part.{Part, Reader, WriterProxy, own_proxies, own_reader, publication_of, place_of, with_place, at_reader}
-use Rattle.dds_model.specs.Moves.{Grounds, Position, match_of, position_of, IsMatched, Comes as ComesNext, Places, IsMove}
+use Rattle.dds_base.specs.Places.{Position, Comes as ComesNext}
+use Rattle.dds_model.specs.Moves.{Grounds, as_to, match_of, position_of, IsMatched, Places, IsMove}
 use Rattle.dds_model.specs.Claims.{Receiver, ChangeIs, IsToReader, Says, IsWriter, IsReader}
 use Rattle.dds_model.specs.Peer.{Peer, Delivery, claimed}
 use Rattle.dds_core.specs.declared.matching.WriterName.{WriterName}
@@ -134,7 +135,7 @@ comes_there config before bytes index peer part kept s i k k' at_k at body n row
     room_there reader.qos reader.happened (record { writer = n + 1; number = row.place; change = change; moment = part.dds.moment })
     (ap (λ (x : ReaderQos). x.max_samples) rs.qos_is ∙ rs.no_samples_limit) (ap (λ (x : ReaderQos). x.max_instances) rs.qos_is ∙ rs.no_instances_limit) few in
     let end : Position = record { place = row.place + 1; happened = entry ∷ reader.happened } in
-    let step : ComesNext grounds (match_of part w (suc i) (n + 1)) (position_of part (suc i) row.place) change end = record { is_change = is; room = room; after = refl } in
+    let step : ComesNext (as_to grounds w (suc i)) (match_of part (suc i) (n + 1)) (position_of part (suc i) row.place) change end = record { is_change = is; room = room; after = refl } in
     let after : Part = at_reader part (suc i) (with_place proxies w (row.place + 1)) (entry ∷ reader.happened) in
     let places : Places grounds part w (suc i) (row.place + 1) [] after =
     record { publication = n + 1; place = row.place; matched = matched; forward = omega arith; end = end; goes = (change ∷ [], (end, step, refl), refl); after = refl } in

@@ -10,7 +10,7 @@ use Rattle.dds_base.specs.Matched.{same_topic, of_readers_in, of_matched_readers
 use Rattle.dds_model.specs.declared.endpoint.Endpoint.{Endpoint}
 use Rattle.dds_model.specs.Claims.{IsNumbered}
 use Rattle.dds_model.specs.Part.{ReaderProxy, same_endpoint, row_of, acknowledged_of}
-use Rattle.dds_model.specs.Runs.{peers_of}
+use Rattle.dds_model.specs.Part.{peers_of}
 use Rattle.dds_model.proofs.Tables.{same_is}
 use Rattle.dds_core.specs.declared.matching.Destination.{Destination}
 use Rattle.dds_core.specs.declared.matching.ReaderRow.{ReaderRow}

@@ -8,6 +8,7 @@ use Rattle.dds_base.specs.declared.config.ReaderConfig.{ReaderConfig}
 use Rattle.dds_base.specs.Checked.{check_refusal}
 use Rattle.dds_model.specs.Opening.{opening_writer, matched_writers, reader_qos, opening_part, opening_peers}
 use Rattle.dds_model.specs.Part.{Writer, Reader, WriterProxy, no_writer, no_reader}
+use Rattle.dds_model.specs.Protocol.{knows_nothing}
 use Rattle.dds_model.specs.Peer.{Peer, no_peer}
 use Rattle.dds_core.specs.Kept.{WriterKept, ReaderKept, writer_identity, reader_identity, configured_writer, configured_reader}
 use Rattle.dds_core.specs.Opening.{OpensWriter, OpensReader, OpenWriters, OpenReaders, OpensCore, opening_peer}
@@ -107,7 +108,7 @@ readers_stand peers rs kept opens =
 -- ---- the peer of the opening
 
 abbrev begun : List PeerConfig → PeerConfig → ℕ → Peer
-begun peers p n = record { number = n; part = opening_part peers p; delivered = [] }
+begun peers p n = record { number = n; part = opening_part peers p; known = knows_nothing; delivered = [] }
 
 opening_at : (peers : List PeerConfig) (n : ℕ) (ps : List PeerConfig) (i : ℕ) (p : PeerConfig) → slice_get ps i ≡ Some p → begun peers p (n + i) ≡ get_or (opening_peers peers n ps) i no_peer
 opening_at peers n [] i p at = absurd cc

@@ -161,7 +161,7 @@ silent reply = record { reply = reply; packets = []; unsent = 0 }
 pub delivers : (old new : CoreKept) (bytes : List ℕ) (report : Report) → ReceivesPacket old bytes report new → Steps old (event.Deliver bytes) (silent (Reported report)) new
 delivers old new bytes report receives config peer s =
     let r = receives config peer s in
-    let after : Peer = record { number = peer.number; part = r.0; delivered = record { packet = bytes; report = report } ∷ peer.delivered } in (
+    let after : Peer = record { number = peer.number; part = r.0; known = peer.known; delivered = record { packet = bytes; report = report } ∷ peer.delivered } in (
       after,
       record { same_number = refl; step = (r.1, refl); sent = λ p c m h. absurd (omega (arith, m.1)) },
       stands_again new config (with_part peer r.0) (record { packet = bytes; report = report } ∷ peer.delivered) r.2,

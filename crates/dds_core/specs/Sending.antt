@@ -20,7 +20,7 @@ use Rattle.dds_model.specs.Part.{ReaderProxy, own_writer, acknowledged_of, write
 use Rattle.dds_model.specs.Calls.{Effect, writes, effect_of}
 use Rattle.dds_model.specs.Claims.{ChangeIs, Claims}
 use Rattle.dds_model.specs.Peer.{Peer}
-use Rattle.dds_model.specs.Runs.{peers_of}
+use Rattle.dds_model.specs.Part.{peers_of}
 use Rattle.dds_core.specs.declared.matching.Destination.{Destination}
 use Rattle.dds_core.specs.declared.sending.Sender.{Sender}
 use Rattle.dds_core.specs.Kept.{CoreKept, WriterKept}

@@ -60,7 +60,9 @@ impl WriterEnd {
     {
         let destinations = destinations(alloc, peers, config.topic)?;
         let readers = matched_readers(alloc, peers, config.topic)?;
-        let history = History::open(alloc, config.history, None, readers.len());
+        let Ok(history) = History::open(alloc, config.history, None, readers.len()) else {
+            return Err(AllocError);
+        };
         Ok(WriterEnd {
             entity: config.entity,
             autodispose: config.autodispose,

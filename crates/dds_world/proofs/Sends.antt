@@ -18,7 +18,8 @@ use Rattle.dds_model.specs.Part.{Part, ReaderProxy, own_writer, writer_changes}
 use Rattle.dds_model.specs.Calls.{Effect, nothing, writes, effect_of}
 use Rattle.dds_model.specs.Machine.{part_at}
 use Rattle.dds_model.specs.Peer.{Peer, no_peer}
-use Rattle.dds_model.specs.Runs.{Traffic, Announced, SendsOf, peers_of}
+use Rattle.dds_model.specs.Runs.{Traffic, Announced, SendsOf}
+use Rattle.dds_model.specs.Part.{peers_of}
 use Rattle.dds_model.specs.World.{WorldState, machine_of}
 use Rattle.dds_model.proofs.Tables.{numbered-map}
 use Rattle.dds_core.specs.Sending.{SendsNothing, SendsChange, SendsFor}

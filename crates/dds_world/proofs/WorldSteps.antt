@@ -181,7 +181,7 @@ nothing_moved = record { reply = Reported (record { moves = []; refused = Some 0
 comes_to_nothing : (core : CoreKept) (bytes : List ℕ) → HasSubmessage bytes → CoreSteps core (event.Deliver bytes) nothing_moved core
 comes_to_nothing core bytes some config peer s =
     let delivery : Delivery = record { packet = bytes; report = record { moves = []; refused = Some 0 } } in
-    let after : Peer = record { number = peer.number; part = peer.part; delivered = delivery ∷ peer.delivered } in
+    let after : Peer = record { number = peer.number; part = peer.part; known = peer.known; delivered = delivery ∷ peer.delivered } in
     let step : PeerStep config no_filters peer (event.Deliver bytes) nothing_moved after = record {
       same_number = refl;
       step = (inr (record { moves = refl; after = refl; cause = inr (refl, some) }), refl);

@@ -7,3 +7,4 @@ mod rows;
 mod sets;
 mod wire;
 mod world;
+mod writer;

@@ -1,12 +1,13 @@
 //! What a writer keeps.
 
 use crate::tests::rows::{Subject, Words, expect_rows, number_of, octets_of, push_hex, words_of};
-use dds_base::{Change, ChangeKind, HistoryQos, Key, Moment, Octets, Sn};
+use dds_base::{Change, ChangeKind, Code, HistoryQos, Key, Moment, Octets, Sn};
 use dds_history::History;
 use std::alloc::Global;
 
 /// `open` begins anew, for one matched reader, with a depth or `all`, and with the most that may be kept or `any`: the number of the last change, which `last`
-/// tells too. `append` and `refusal` have the key and the value of a write. `get` has a number: the value of that change.
+/// tells too. `append` and `refusal` have the key and the value of a write. `get` has a number: the value of that change. `acked` has the number
+/// below which the reader has acknowledged all: the first number that is kept, which `first` tells too. `kept` and `awaited` have a number.
 const HISTORIES: &str = "\
 # Under KEEP_ALL every change is kept.
 open all any => 0
@@ -35,9 +36,27 @@ refusal 3 03 => Some(Timeout)
 append 3 03 => Err(Timeout)
 refusal 2 04 => None
 append 2 04 => Ok(Sn { number: 3 })
+
+# What its reader has acknowledged makes room.
+open all 2 => 0
+append 1 01 => Ok(Sn { number: 1 })
+append 2 02 => Ok(Sn { number: 2 })
+append 3 03 => Err(Timeout)
+acked 2 => 2
+acknowledged => 2
+get 1 => none
+kept 1 => false
+awaited 1 => false
+kept 2 => true
+awaited 3 => true
+append 3 03 => Ok(Sn { number: 3 })
+acked 1 => 2
+acked 4 => 4
+first => 4
+last => 3
 ";
 
-fn open(alloc: Global, words: Words<'_>) -> History {
+fn open(alloc: Global, words: Words<'_>) -> Result<History, Code> {
     let policy = match words.first.parse() {
         Ok(depth) => HistoryQos::KeepLast(depth),
         Err(_) => HistoryQos::KeepAll,
@@ -79,15 +98,47 @@ fn push_last(text: &mut String, history: &History) {
     let _ = write!(text, "{last}");
 }
 
+fn push_first(text: &mut String, history: &History) {
+    let first = history.first().number();
+    let _ = write!(text, "{first}");
+}
+
+fn acknowledge(history: &mut History, to: u64) {
+    if 0 < history.readers() {
+        history.acked(0, Sn::new(to));
+    }
+}
+
+fn push_acknowledged(text: &mut String, history: &History) {
+    if 0 < history.readers() {
+        let acknowledged = history.acknowledged(0).number();
+        let _ = write!(text, "{acknowledged}");
+    }
+}
+
+fn push_flag(text: &mut String, flag: bool) {
+    let _ = write!(text, "{flag}");
+}
+
 impl Subject for History {
     fn answer(&mut self, alloc: Global, text: &mut String, name: &str, operands: &str) {
         let words = words_of(operands);
         match name {
             "open" => {
-                *self = open(alloc, words);
-                push_last(text, self);
+                if let Ok(history) = open(alloc, words) {
+                    *self = history;
+                    push_last(text, self);
+                }
             }
             "last" => push_last(text, self),
+            "first" => push_first(text, self),
+            "acked" => {
+                acknowledge(self, number_of(words.first));
+                push_first(text, self);
+            }
+            "acknowledged" => push_acknowledged(text, self),
+            "kept" => push_flag(text, self.kept(Sn::new(number_of(words.first)))),
+            "awaited" => push_flag(text, self.is_awaited(Sn::new(number_of(words.first)))),
             "append" => push_append(text, self, write_of(alloc, words)),
             "refusal" => push_refusal(text, self, &write_of(alloc, words)),
             "get" => push_get(text, self, number_of(words.first)),
@@ -98,6 +149,9 @@ impl Subject for History {
 
 #[test]
 fn histories_answer(rt: HostRuntime) {
-    let mut history = History::open(rt.alloc(), HistoryQos::KeepAll, None, 1);
-    expect_rows(&rt, rt.alloc(), &mut history, HISTORIES);
+    let opened = History::open(rt.alloc(), HistoryQos::KeepAll, None, 1);
+    assert!(rt; opened.is_ok(), "no memory");
+    if let Ok(mut history) = opened {
+        expect_rows(&rt, rt.alloc(), &mut history, HISTORIES);
+    }
 }

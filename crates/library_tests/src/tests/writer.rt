@@ -1,0 +1,183 @@
+//! A writer with its matched reliable readers.
+
+use crate::tests::rows::{Subject, Words, expect_rows, number_of, octets_of, words_of};
+use dds_base::{Change, ChangeKind, Code, HistoryQos, Key, Moment, Octets, Sn};
+use rtps_sets::SnSet;
+use rtps_writer::StatefulWriter;
+use std::alloc::Global;
+
+/// `open` begins anew, for two matched readers, with a depth or `all`, and with the most that may be kept or `any`. `write`,
+/// `unregister` and `refusal` have the key and the value of a change, `registered` and `register` a key. `get` has a number: whether it is
+/// kept. `behind` and `acknowledged` have a reader. `tick` gives the HEARTBEAT that is due. `acknack` has a reader, the base and the count,
+/// and perhaps the number of a member and one of those after it.
+const WRITERS: &str = "\
+# A change is awaited by both readers, until each has acknowledged it.
+open all 2 => 0
+tick => None
+register 9 => Ok(())
+registered 9 => true
+registered 1 => false
+write 1 01 => Ok(Sn { number: 1 })
+registered 1 => true
+write 1 02 => Ok(Sn { number: 2 })
+refusal 1 03 => Some(Timeout)
+write 1 03 => Err(Timeout)
+tick => Some(HeartbeatDue { first: Sn { number: 1 }, last: Sn { number: 2 }, count: 1 })
+behind 0 => true
+acknack 0 3 1 => Ok(Answered { acknowledged: Some(Sn { number: 3 }), answers: [] })
+behind 0 => false
+behind 1 => true
+acknowledged 0 => 3
+acknowledged 1 => 1
+get 1 => true
+tick => Some(HeartbeatDue { first: Sn { number: 1 }, last: Sn { number: 2 }, count: 2 })
+
+# What is kept is sent again, once for each new count.
+acknack 1 1 1 1 2 => Ok(Answered { acknowledged: None, answers: [Data(Sn { number: 1 }), Data(Sn { number: 2 })] })
+acknack 1 1 1 1 2 => Ok(Answered { acknowledged: None, answers: [] })
+acknack 1 4 2 4 => Ok(Answered { acknowledged: None, answers: [] })
+acknack 1 2 2 2 => Ok(Answered { acknowledged: Some(Sn { number: 2 }), answers: [Data(Sn { number: 2 })] })
+get 1 => false
+write 1 03 => Ok(Sn { number: 3 })
+tick => Some(HeartbeatDue { first: Sn { number: 2 }, last: Sn { number: 3 }, count: 3 })
+unregister 1 00 => Err(Timeout)
+acknack 1 4 3 => Ok(Answered { acknowledged: Some(Sn { number: 4 }), answers: [] })
+first => 3
+acknack 0 4 2 => Ok(Answered { acknowledged: Some(Sn { number: 4 }), answers: [] })
+first => 4
+tick => None
+unregister 1 00 => Ok(Sn { number: 4 })
+registered 1 => false
+
+# A dropped change is irrelevant: one GAP for a run of them.
+open 1 any => 0
+write 1 01 => Ok(Sn { number: 1 })
+write 1 02 => Ok(Sn { number: 2 })
+write 2 03 => Ok(Sn { number: 3 })
+write 1 04 => Ok(Sn { number: 4 })
+acknack 0 1 1 1 2 => Ok(Answered { acknowledged: None, answers: [Gap { first: Sn { number: 1 }, last: Sn { number: 2 } }] })
+acknack 0 1 2 1 4 => Ok(Answered { acknowledged: None, answers: [Gap { first: Sn { number: 1 }, last: Sn { number: 1 } }, Data(Sn { number: 4 })] })
+first => 3
+last => 4
+";
+
+fn open(alloc: Global, words: Words<'_>) -> Result<StatefulWriter, Code> {
+    let policy = match words.first.parse() {
+        Ok(depth) => HistoryQos::KeepLast(depth),
+        Err(_) => HistoryQos::KeepAll,
+    };
+    StatefulWriter::open(alloc, policy, words.second.parse().ok(), 2)
+}
+
+fn key_of(word: &str) -> Key {
+    let key = word.parse().unwrap_or(0);
+    Key([0, 0, 0, 0, 0, 0, 0, 0, 0, 0, 0, 0, 0, 0, 0, key])
+}
+
+fn change_of(alloc: Global, kind: ChangeKind, words: Words<'_>) -> Change {
+    Change {
+        kind,
+        key: key_of(words.first),
+        value: Octets::from_vec(octets_of(alloc, words.second)),
+        source_timestamp: Moment::new(0),
+    }
+}
+
+fn push_write(text: &mut String, writer: &mut StatefulWriter, change: Change) {
+    let answer = writer.write(change);
+    let _ = write!(text, "{answer:?}");
+}
+
+fn push_refusal(text: &mut String, writer: &StatefulWriter, change: &Change) {
+    let answer = writer.refusal(change);
+    let _ = write!(text, "{answer:?}");
+}
+
+fn push_register(text: &mut String, writer: &mut StatefulWriter, key: Key) {
+    let answer = writer.register(key);
+    let _ = write!(text, "{answer:?}");
+}
+
+fn push_tick(text: &mut String, writer: &mut StatefulWriter) {
+    let due = writer.tick(Moment::new(0));
+    let _ = write!(text, "{due:?}");
+}
+
+fn push_number(text: &mut String, number: Sn) {
+    let number = number.number();
+    let _ = write!(text, "{number}");
+}
+
+fn push_flag(text: &mut String, flag: bool) {
+    let _ = write!(text, "{flag}");
+}
+
+fn push_acknowledged(text: &mut String, writer: &StatefulWriter, reader: usize) {
+    if reader < writer.readers() {
+        push_number(text, writer.acknowledged(reader));
+    }
+}
+
+fn push_behind(text: &mut String, writer: &StatefulWriter, reader: usize) {
+    if reader < writer.readers() {
+        push_flag(text, writer.is_behind(reader));
+    }
+}
+
+/// Makes the number that the word spells a member, if it is one of the 256 from the base on.
+fn insert(set: &mut SnSet, word: &str) {
+    let (base, number) = (set.base().number(), number_of(word));
+    if base <= number && number - base < 256 {
+        set.insert(Sn::new(number));
+    }
+}
+
+fn push_acknack(text: &mut String, writer: &mut StatefulWriter, operands: &str) {
+    let mut words = operands.split(' ');
+    let reader = words.next().unwrap_or("").parse().unwrap_or(0);
+    let base = Sn::new(number_of(words.next().unwrap_or("")));
+    let count = words.next().unwrap_or("").parse().unwrap_or(0);
+    let mut set = SnSet::new(base);
+    insert(&mut set, words.next().unwrap_or(""));
+    insert(&mut set, words.next().unwrap_or(""));
+    if reader < writer.readers() {
+        let answered = writer.on_acknack(reader, base, &set, count);
+        let _ = write!(text, "{answered:?}");
+    }
+}
+
+impl Subject for StatefulWriter {
+    fn answer(&mut self, alloc: Global, text: &mut String, name: &str, operands: &str) {
+        let words = words_of(operands);
+        match name {
+            "open" => {
+                if let Ok(writer) = open(alloc, words) {
+                    *self = writer;
+                    push_number(text, self.last());
+                }
+            }
+            "first" => push_number(text, self.first()),
+            "last" => push_number(text, self.last()),
+            "write" => push_write(text, self, change_of(alloc, ChangeKind::Write, words)),
+            "unregister" => push_write(text, self, change_of(alloc, ChangeKind::Unregister, words)),
+            "refusal" => push_refusal(text, self, &change_of(alloc, ChangeKind::Write, words)),
+            "register" => push_register(text, self, key_of(words.first)),
+            "registered" => push_flag(text, self.is_registered(key_of(words.first))),
+            "get" => push_flag(text, self.get(Sn::new(number_of(words.first))).is_some()),
+            "acknowledged" => push_acknowledged(text, self, words.first.parse().unwrap_or(0)),
+            "behind" => push_behind(text, self, words.first.parse().unwrap_or(0)),
+            "tick" => push_tick(text, self),
+            "acknack" => push_acknack(text, self, operands),
+            _ => {}
+        }
+    }
+}
+
+#[test]
+fn writers_answer(rt: HostRuntime) {
+    let opened = StatefulWriter::open(rt.alloc(), HistoryQos::KeepAll, None, 2);
+    assert!(rt; opened.is_ok(), "no memory");
+    if let Ok(mut writer) = opened {
+        expect_rows(&rt, rt.alloc(), &mut writer, WRITERS);
+    }
+}
