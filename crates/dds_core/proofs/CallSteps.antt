@@ -1,8 +1,7 @@
 -- What a call of one of the peer's writers does.
-use Rattle.std.proofs.Common.{◌≡◌, ◌⊎◌, ℕ, zero, suc, ◌+◌, ◌^◌, ◌<◌, ◌≤◌, Bool, true, false, not, ◌&&◌, ◌||◌, List, [], ◌∷◌, Option, Some, None, length, slice_get, get_or, map, refl, ap, sym, ◌∙◌, subst, arith, inl, inr, ⊎_elim}
-use Rattle.std.specs.Prelude.{nat_lt, nat_le, if◌then◌else◌}
+use Rattle.std.proofs.Common.{◌≡◌, ◌⊎◌, ℕ, suc, ◌+◌, ◌^◌, ◌<◌, ◌≤◌, Bool, true, false, not, ◌&&◌, ◌||◌, List, [], Option, Some, None, length, slice_get, map, refl, ap, sym, ◌∙◌, subst, arith, inl, inr, ⊎_elim}
+use Rattle.std.specs.Prelude.{ℤ, nat_lt, nat_le, if◌then◌else◌}
 use Rattle.std.proofs.lemmas.Bool.Decides.{nat_tests}
-use Rattle.std.proofs.lemmas.List.{length-map}
 use Rattle.dds_base.specs.declared.change.Change.{Change}
 use Rattle.dds_base.specs.declared.change.ChangeKind.{ChangeKind}
 use Rattle.dds_base.specs.declared.change.ChangeKind.TheVariants as kind
@@ -19,16 +18,20 @@ use Rattle.dds_model.specs.declared.event.Event.TheVariants as event
 use Rattle.dds_model.specs.declared.event.Output.{Output}
 use Rattle.dds_model.specs.declared.reply.Reply.{Reply}
 use Rattle.dds_model.specs.declared.reply.Reply.TheVariants.{Done, Refused}
-use Rattle.dds_model.specs.Calls.{Effect, nothing, writes, effect, effect_of, IsDoneUnless, Answers, CallStep, has_number, register_refusal, write_refusal, dispose_refusal, unregister_refusal, change_refusal, change_made, unregister_kind, tick_refusal, after_tick, ticked}
+use Rattle.dds_model.specs.declared.endpoint.Endpoint.{Endpoint}
+use Rattle.dds_model.specs.Calls.{Effect, nothing, writes, effect, effect_of, IsDoneUnless, Answers, CallStep, has_number, register_refusal, write_refusal, dispose_refusal, unregister_refusal, change_refusal, change_made, unregister_kind, tick_refusal, after_tick, TickStep}
 use Rattle.dds_model.specs.Machine.{no_filters}
-use Rattle.dds_model.specs.Part.{Part, Dds, Writer, no_writer, own_writer}
+use Rattle.dds_model.specs.Part.{Part, Dds, Writer, own_writer}
 use Rattle.dds_model.specs.Peer.{Peer, PeerStep}
-use Rattle.dds_core.specs.Kept.{WriterKept, CoreKept}
+use Rattle.dds_core.specs.Kept.{WriterKept, CoreKept, WriterIdentity, reader_identity, IsPeerOf}
 use Rattle.dds_core.specs.Making.{IsMade, IsNotMade, entered}
 use Rattle.dds_core.specs.Sending.{SendsFor, SendsNothing}
-use Rattle.dds_core.specs.Standing.{WriterStands, StandsFor, Enters}
+use Rattle.dds_core.specs.Standing.{WriterStands, StandsFor, Enters, AllTick}
+use Rattle.dds_core.specs.Beating.{BeatsOfAll}
+use Rattle.dds_core.proofs.BeatsDue.{due_true}
 use Rattle.dds_core.proofs.Ends.{with_writer, entered_at, own_writer_stepped}
 use Rattle.dds_core.proofs.Taking.{silent}
+use Rattle.dds_core.proofs.Ticking.{same_names, writers_ticked}
 
 pub silent_sends : (reply : Reply) → SendsNothing (silent reply)
 silent_sends reply = record { packets = refl; unsent = refl }
@@ -56,6 +59,7 @@ refused_call kept config peer s c code is = (
   peer,
   record {
     same_number = refl;
+    knows = refl;
     step = (record { answers = is; rtps = ap (λ (e : Effect). effect peer.part.rtps e) (sym (refused_nothing peer.part c code)) }, refl);
     sent = λ p x m h. absurd (omega (arith, m.1));
   },
@@ -125,7 +129,7 @@ registers kept i k k' key config peer s at lt enters =
     let count = s.writers.count in
     let known : has_number peer.part.rtps.writers (suc i) ≡ true = there_is peer.part.rtps.writers i (omega (arith, lt, count)) in (
       entered_at peer (suc i) (Registered key),
-      record { same_number = refl; step = (record { answers = (good_register peer.part (suc i) known, refl); rtps = refl }, refl); sent = λ p x m h. absurd (omega (arith, m.1)) },
+      record { same_number = refl; knows = refl; step = (record { answers = (good_register peer.part (suc i) known, refl); rtps = refl }, refl); sent = λ p x m h. absurd (omega (arith, m.1)) },
       own_writer_stepped kept i k k' (Registered key) config peer s at enters,
     )
 
@@ -183,7 +187,7 @@ made_steps kept new config peer s c w change output makes (inl made) =
     let after : Peer = record peer { part = entered peer.part w change } in
     let step : CallStep no_filters peer.part c Done after.part = record { answers = makes.answers Done peer.part.dds (made.accepted, refl); rtps = ap (λ (e : Effect). effect peer.part.rtps e) (sym makes.enters) } in (
       after,
-      record { same_number = refl; step = (subst (λ (r : Reply). CallStep no_filters peer.part c r after.part) (sym made.reply) step, refl); sent = made.is_true },
+      record { same_number = refl; knows = refl; step = (subst (λ (r : Reply). CallStep no_filters peer.part c r after.part) (sym made.reply) step, refl); sent = made.is_true },
       made.stands,
     )
 
@@ -201,21 +205,24 @@ refused_sends config peer c code = subst (λ (e : Effect). SendsFor config peer 
 
 -- a tick
 
-pub ticks : (kept : CoreKept) (config : Config) (peer : Peer) → StandsFor kept config peer → (now : ℕ) → kept.moment ≤ now → now < 2 ^ 63 → Follows (record kept { moment = now }) config peer (event.Tick now) (silent Done)
-ticks kept config peer s now on early =
+pub ticks : (kept : CoreKept) (writers : List WriterKept) (config : Config) (peer : Peer) → StandsFor kept config peer → (now : ℕ) → kept.moment ≤ now → now < 2 ^ 63 → AllTick kept.writers now writers
+    → (output : Output) → output.reply ≡ Done → BeatsOfAll kept.prefix kept.writers output.packets output.unsent → Follows (record kept { moment = now; writers = writers }) config peer (event.Tick now) output
+ticks kept writers config peer s now on early all output done beats =
     let moment = s.moment in
     let good : (nat_lt now peer.part.dds.moment || nat_le (2 ^ 63) now) ≡ false = neither (nat_lt now peer.part.dds.moment) (nat_le (2 ^ 63) now) (grind (arith, nat_tests)) (grind (arith, nat_tests)) in
     let accepted : tick_refusal peer.part now ≡ None = ap (λ (b : Bool). if b then Some BadParameter else None) good in (
       record peer { part = after_tick peer.part now },
-      record { same_number = refl; step = ((accepted, refl), refl); sent = λ p x m h. absurd (omega (arith, m.1)) },
       record {
-        is_peer = s.is_peer;
+        same_number = refl;
+        knows = refl;
+        step = (subst (λ (r : Reply). TickStep peer.part now r (after_tick peer.part now)) (sym done) (accepted, refl), refl);
+        sent = due_true config peer kept now output.packets output.unsent s accepted beats;
+      },
+      record {
+        is_peer = subst (λ (is : List WriterIdentity). IsPeerOf config peer.number (record { prefix = kept.prefix; writers = is; readers = map reader_identity kept.readers })) (sym (same_names now kept.writers writers all)) s.is_peer;
         moment = refl;
         early = early;
-        writers = record {
-          count = length-map peer.part.rtps.writers (ticked now) ∙ s.writers.count;
-          each = λ i k at. still kept.writers peer.part.rtps.writers i k s.writers.count s.writers.each at;
-        };
+        writers = writers_ticked now kept.writers writers peer.part.rtps.writers peer.known.answered all s.writers;
         readers = s.readers;
       },
     )
@@ -224,23 +231,13 @@ ticks kept config peer s now on early =
     neither false b h k = k
     neither true b h k = absurd cc
 
-    one : (k : WriterKept) (w : Writer) → WriterStands k w → WriterStands k (ticked now w)
-    one k w stands = record { autodispose = stands.autodispose; readers = stands.readers; registered = stands.registered; history = stands.history }
-
-    still : (ks : List WriterKept) (ws : List Writer) (i : ℕ) (k : WriterKept) → length ws ≡ length ks → ((j : ℕ) (x : WriterKept) → slice_get ks j ≡ Some x → WriterStands x (get_or ws j no_writer)) → slice_get ks i ≡ Some k
-        → WriterStands k (get_or (map (ticked now) ws) i no_writer)
-    still [] ws i k count each at = absurd cc
-    still (x ∷ xs) [] i k count each at = absurd (omega (arith, count))
-    still (x ∷ xs) (w ∷ ws) zero k count each at = one k w (each zero k at)
-    still (x ∷ xs) (w ∷ ws) (suc i) k count each at = still xs ws i k (omega (arith, count)) (λ j y there. each (suc j) y there) at
-
 pub refused_tick : (kept : CoreKept) (config : Config) (peer : Peer) → StandsFor kept config peer → (now : ℕ) → (now < kept.moment) ⊎ (2 ^ 63 ≤ now) → Follows kept config peer (event.Tick now) (silent (Refused BadParameter))
 refused_tick kept config peer s now bad =
     let moment = s.moment in
     let is_bad : (nat_lt now peer.part.dds.moment || nat_le (2 ^ 63) now) ≡ true =
     ⊎_elim (λ back. first (nat_lt now peer.part.dds.moment) (nat_le (2 ^ 63) now) (grind (arith, nat_tests))) (λ late. second (nat_lt now peer.part.dds.moment) (nat_le (2 ^ 63) now) (grind (arith, nat_tests))) bad in
     let is : tick_refusal peer.part now ≡ Some BadParameter = ap (λ (b : Bool). if b then Some BadParameter else None) is_bad in
-    (peer, record { same_number = refl; step = ((subst (λ (o : Option Code). Refuses o BadParameter) (sym is) refl, refl), refl); sent = λ p x m h. absurd (omega (arith, m.1)) }, s)
+    (peer, record { same_number = refl; knows = refl; step = ((subst (λ (o : Option Code). Refuses o BadParameter) (sym is) refl, refl), refl); sent = λ p x m h. absurd (omega (arith, m.1)) }, s)
   where
     first : (a b : Bool) → a ≡ true → (a || b) ≡ true
     first true b h = refl
@@ -265,6 +262,16 @@ pub register_at : (kept : CoreKept) (writer i : ℕ) (k k' : WriterKept) (key : 
 register_at kept writer i k k' key config peer s is at lt enters =
     subst (λ (n : ℕ). Follows (with_writer kept i k') config peer (event.Call (call.Register n key)) (silent Done)) (number_is writer i is) (registers kept i k k' key config peer s at lt enters)
 
+-- an instance that the writer of this index has not registered
+pub unregistered_at : (kept : CoreKept) (writer i : ℕ) (k : WriterKept) (key : Key) (config : Config) (peer : Peer) → StandsFor kept config peer → writer ≡ i + 1 → i < length kept.writers → slice_get kept.writers i ≡ Some k
+    → ((w : Writer) (answered : Endpoint → Option ℤ) → WriterStands k w answered → is_key_registered key w.written ≡ false)
+    → Follows kept config peer (event.Call (call.Unregister writer key)) (silent (Refused PreconditionNotMet))
+unregistered_at kept writer i k key config peer s is lt at none =
+    let answered = peer.known.answered (suc i) in
+    let unknown : is_key_registered key (own_writer peer.part writer).written ≡ false =
+    subst (λ (n : ℕ). is_key_registered key (own_writer peer.part n).written ≡ false) (number_is writer i is) (none (own_writer peer.part (suc i)) answered (s.writers.each i k at)) in
+    refused_call kept config peer s (call.Unregister writer key) PreconditionNotMet (unregistered peer.part writer key (known_writer kept config peer s writer i is lt) unknown)
+
 -- what a call of a writer makes, where it is one of the peer's
 pub write_at : (kept : CoreKept) (writer i : ℕ) (key : Key) (value : List ℕ) (config : Config) (peer : Peer) → StandsFor kept config peer → writer ≡ i + 1 → i < length kept.writers → length value ≤ 1024
     → MakesChange peer.part (call.Write writer key value) (i + 1) (change_made peer.part kind.Write key value)
@@ -277,13 +284,14 @@ dispose_at kept writer i key config peer s is lt =
     subst (λ (n : ℕ). MakesChange peer.part (call.Dispose writer key) n (change_made peer.part kind.Dispose key [])) is (dispose_makes peer.part writer key (known_writer kept config peer s writer i is lt))
 
 pub unregister_at : (kept : CoreKept) (writer i : ℕ) (k : WriterKept) (key : Key) (made : ChangeKind) (config : Config) (peer : Peer) → StandsFor kept config peer → writer ≡ i + 1 → i < length kept.writers → slice_get kept.writers i ≡ Some k
-    → ((w : Writer) → WriterStands k w → is_key_registered key w.written ≡ true) → ((w : Writer) → WriterStands k w → made ≡ unregister_kind w.autodispose)
+    → ((w : Writer) (answered : Endpoint → Option ℤ) → WriterStands k w answered → is_key_registered key w.written ≡ true) → ((w : Writer) (answered : Endpoint → Option ℤ) → WriterStands k w answered → made ≡ unregister_kind w.autodispose)
     → MakesChange peer.part (call.Unregister writer key) (i + 1) (change_made peer.part made key [])
 unregister_at kept writer i k key made config peer s is lt at there kind_is =
     let w : Writer = own_writer peer.part (suc i) in
-    let ws : WriterStands k w = s.writers.each i k at in
+    let answered = peer.known.answered (suc i) in
+    let ws : WriterStands k w answered = s.writers.each i k at in
     let number = number_is writer i is in
-    let registered : is_key_registered key (own_writer peer.part writer).written ≡ true = subst (λ (n : ℕ). is_key_registered key (own_writer peer.part n).written ≡ true) number (there w ws) in
-    let kinds : unregister_kind (own_writer peer.part writer).autodispose ≡ made = subst (λ (n : ℕ). unregister_kind (own_writer peer.part n).autodispose ≡ made) number (sym (kind_is w ws)) in
+    let registered : is_key_registered key (own_writer peer.part writer).written ≡ true = subst (λ (n : ℕ). is_key_registered key (own_writer peer.part n).written ≡ true) number (there w answered ws) in
+    let kinds : unregister_kind (own_writer peer.part writer).autodispose ≡ made = subst (λ (n : ℕ). unregister_kind (own_writer peer.part n).autodispose ≡ made) number (sym (kind_is w answered ws)) in
     subst (λ (n : ℕ). MakesChange peer.part (call.Unregister writer key) n (change_made peer.part made key [])) is
     (subst (λ (x : ChangeKind). MakesChange peer.part (call.Unregister writer key) writer (change_made peer.part x key [])) kinds (unregister_makes peer.part writer key (known_writer kept config peer s writer i is lt) registered))

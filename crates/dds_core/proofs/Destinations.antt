@@ -13,9 +13,9 @@ use Rattle.dds_model.specs.Part.{ReaderProxy, same_endpoint, row_of, acknowledge
 use Rattle.dds_model.specs.Part.{peers_of}
 use Rattle.dds_model.proofs.Tables.{same_is}
 use Rattle.dds_core.specs.declared.matching.Destination.{Destination}
-use Rattle.dds_core.specs.declared.matching.ReaderRow.{ReaderRow}
-use Rattle.dds_core.specs.Matching.{has_reader, destinations, reader_names}
-use Rattle.dds_core.specs.Standing.{reader_proxy}
+use Rattle.dds_core.specs.declared.matching.ReaderName.{ReaderName}
+use Rattle.dds_core.specs.Matching.{has_reader, destinations, reader_name, reader_names}
+use Rattle.dds_core.proofs.Tables.{map-matched_readers}
 use Rattle.dds_core.proofs.Numbered.{IsRest, rest_whole, rest_first, rest_later, cond_get, is_told}
 
 -- the peers of these names, each once
@@ -23,13 +23,20 @@ peers_in : List Endpoint → List ℕ
 peers_in [] = []
 peers_in (e ∷ es) = if list_any (λ peer. peer == e.peer) (peers_in es) then peers_in es else e.peer ∷ peers_in es
 
-same_peers : (rows : List ReaderRow) → peers_of (map reader_proxy rows) ≡ peers_in (map (λ (r : ReaderRow). r.reader) rows)
+same_peers : (rows : List ReaderProxy) → peers_of rows ≡ peers_in (map (λ (p : ReaderProxy). p.reader) rows)
 unfolding peers_in
 same_peers [] = refl
 same_peers (r ∷ rs) = ap (λ ns. if list_any (λ peer. peer == r.reader.peer) ns then ns else r.reader.peer ∷ ns) (same_peers rs)
 
 abbrev name_at : ℕ → ℕ → ReaderConfig → Endpoint
 name_at peer number r = record { peer = peer; number = number }
+
+-- the readers of the topic, by their numbers
+abbrev pub reader_ends : ℕ → List PeerConfig → List Endpoint
+reader_ends topic peers = of_matched_readers (λ i p k r. name_at i k r) topic 1 peers
+
+pub ends_of_names : (topic : ℕ) (peers : List PeerConfig) → map (λ (n : ReaderName). n.reader) (reader_names topic peers) ≡ reader_ends topic peers
+ends_of_names topic peers = map-matched_readers (λ (n : ReaderName). n.reader) reader_name topic 1 peers
 
 -- the number of a peer before or after its readers
 one_peer : (b any : Bool) (peer : ℕ) (numbers : List ℕ) → list_any (λ p. p == peer) numbers ≡ false → any ≡ b
@@ -83,8 +90,8 @@ peers_are topic n (p ∷ ps) =
     peers_of_one topic n 1 p.readers rest none ∙ (ap (λ ns. cond (has_reader topic p.readers) (n ∷ ns) ns) later ∙ map-cond (has_reader topic p.readers) (record { peer = n; prefix = p.prefix }) (destinations topic (n + 1) ps))
 
 -- the peers of a writer's matched readers are those that it sends to
-pub sends_to : (topic : ℕ) (peers : List PeerConfig) (rows : List ReaderRow) (ds : List Destination) → map (λ (r : ReaderRow). r.reader) rows ≡ reader_names topic peers → ds ≡ destinations topic 1 peers
-    → peers_of (map reader_proxy rows) ≡ map (λ (d : Destination). d.peer) ds
+pub sends_to : (topic : ℕ) (peers : List PeerConfig) (rows : List ReaderProxy) (ds : List Destination) → map (λ (p : ReaderProxy). p.reader) rows ≡ reader_ends topic peers → ds ≡ destinations topic 1 peers
+    → peers_of rows ≡ map (λ (d : Destination). d.peer) ds
 sends_to topic peers rows ds names is =
     same_peers rows ∙ (ap (λ (es : List Endpoint). peers_in es) names ∙ (peers_are topic 1 peers ∙ ap (λ (xs : List Destination). map (λ (d : Destination). d.peer) xs) (sym is)))
 
@@ -117,22 +124,22 @@ pub record IsReaderOf (config : Config) (topic : ℕ) (reader : Endpoint) : Type
   pub same_topic : end.topic ≡ topic
 
 -- a reader that has a row
-abbrev HasRow : List ReaderRow → Endpoint → Type 0
-HasRow rows reader = (k : ℕ) × (slice_get (map (λ (r : ReaderRow). r.reader) rows) k ≡ Some reader)
+abbrev HasRow : List ReaderProxy → Endpoint → Type 0
+HasRow rows reader = (k : ℕ) × (slice_get (map (λ (p : ReaderProxy). p.reader) rows) k ≡ Some reader)
 
-first_or_later : (r : ReaderRow) (rs : List ReaderRow) (reader : Endpoint) (b : Bool) → same_endpoint r.reader reader ≡ b
-    → IsSome (option_map (λ (p : ReaderProxy). p.acknowledged) (cond b (Some (reader_proxy r)) (row_of (λ (p : ReaderProxy). p.reader) (map reader_proxy rs) reader))) → (IsSome (acknowledged_of (map reader_proxy rs) reader) → HasRow rs reader)
+first_or_later : (r : ReaderProxy) (rs : List ReaderProxy) (reader : Endpoint) (b : Bool) → same_endpoint r.reader reader ≡ b
+    → IsSome (option_map (λ (p : ReaderProxy). p.acknowledged) (cond b (Some r) (row_of (λ (p : ReaderProxy). p.reader) rs reader))) → (IsSome (acknowledged_of rs reader) → HasRow rs reader)
     → HasRow (r ∷ rs) reader
 first_or_later r rs reader true is there rest = (zero, ap (λ (e : Endpoint). Some e) (same_is r.reader reader is))
 first_or_later r rs reader false is there rest = let f = rest there in (suc f.0, f.1)
 
-has_row : (rows : List ReaderRow) (reader : Endpoint) → IsSome (acknowledged_of (map reader_proxy rows) reader) → HasRow rows reader
+has_row : (rows : List ReaderProxy) (reader : Endpoint) → IsSome (acknowledged_of rows reader) → HasRow rows reader
 has_row [] reader some = absurd cc
 has_row (r ∷ rs) reader some = first_or_later r rs reader (same_endpoint r.reader reader) refl some (λ there. has_row rs reader there)
 
-pub is_reader : (config : Config) (topic : ℕ) (rows : List ReaderRow) (reader : Endpoint) → map (λ (r : ReaderRow). r.reader) rows ≡ reader_names topic config.peers → IsSome (acknowledged_of (map reader_proxy rows) reader) → IsReaderOf config topic reader
+pub is_reader : (config : Config) (topic : ℕ) (rows : List ReaderProxy) (reader : Endpoint) → map (λ (p : ReaderProxy). p.reader) rows ≡ reader_ends topic config.peers → IsSome (acknowledged_of rows reader) → IsReaderOf config topic reader
 is_reader config topic rows reader names some =
     let f = has_row rows reader some in
-    let there : slice_get (reader_names topic config.peers) f.0 ≡ Some reader = subst (λ (es : List Endpoint). slice_get es f.0 ≡ Some reader) names f.1 in
+    let there : slice_get (reader_ends topic config.peers) f.0 ≡ Some reader = subst (λ (es : List Endpoint). slice_get es f.0 ≡ Some reader) names f.1 in
     let t = is_told config.peers (λ (p : PeerConfig). p.readers) (λ (r : ReaderConfig). r.topic) (λ i p n r. name_at i n r) topic f.0 reader there in
     subst (λ (e : Endpoint). IsReaderOf config topic e) t.told (record { peer = t.peer; at_peer = t.at_peer; end = t.end; at_reader = t.at_end; same_topic = t.same_topic })

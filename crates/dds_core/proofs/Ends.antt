@@ -1,14 +1,20 @@
 -- A step of one of the peer's own writers or readers is a step of the peer.
-use Rattle.std.proofs.Common.{◌≡◌, ℕ, suc, List, [], Some, map, set, get_or, slice_get, length-set, subst, ap, sym, ◌∙◌}
+use Rattle.std.proofs.Common.{◌≡◌, ℕ, zero, suc, List, [], ◌∷◌, length, arith, Option, Some, map, set, get_or, slice_get, length-set, subst, ap, sym, ◌∙◌}
+use Rattle.std.specs.Prelude.{ℤ}
+use Rattle.std.proofs.lemmas.Option.{same_Some}
 use Rattle.dds_base.specs.declared.config.Config.{Config}
 use Rattle.dds_base.specs.Written.{Written}
+use Rattle.dds_model.specs.declared.endpoint.Endpoint.{Endpoint}
 use Rattle.dds_model.specs.Numbered.{with_numbered}
 use Rattle.dds_model.specs.Part.{Part, Writer, Reader, WriterProxy, no_writer, no_reader}
 use Rattle.dds_model.specs.Calls.{writes, effect, with_written}
 use Rattle.dds_model.specs.Peer.{Peer}
+use Rattle.dds_model.specs.Protocol.{Known}
+use Rattle.rtps_reader.specs.Tracked.{Tracked}
+use Rattle.rtps_reader.specs.Reader.{Tracks}
 use Rattle.dds_core.specs.Kept.{WriterKept, ReaderKept, CoreKept, Identity, WriterIdentity, ReaderIdentity, writer_identity, reader_identity, identity_of, IsPeerOf}
-use Rattle.dds_core.specs.Standing.{WriterStands, ReaderStands, StandsFor, Enters}
-use Rattle.dds_core.proofs.Lists.{each_set, each_set2, map-set_same}
+use Rattle.dds_core.specs.Standing.{WriterStands, WritersStand, ReaderStands, StandsFor, Enters}
+use Rattle.dds_core.proofs.Lists.{each_set_at, map-set_same}
 
 -- what is kept, with another writer or reader of this index
 
@@ -33,6 +39,18 @@ same_with_reader kept i k k' at same =
 abbrev pub entered_at : Peer → ℕ → Written → Peer
 entered_at peer writer entry = record peer { part = record peer.part { rtps = effect peer.part.rtps (writes writer entry) } }
 
+-- each writer stands, also where one stepped
+writers_set : (ks : List WriterKept) (ws : List Writer) (i : ℕ) (k : WriterKept) (w : Writer) (answered : ℕ → Endpoint → Option ℤ) → length ws ≡ length ks
+    → ((j : ℕ) (x : WriterKept) → slice_get ks j ≡ Some x → WriterStands x (get_or ws j no_writer) (answered (suc j))) → WriterStands k w (answered (suc i))
+    → (j : ℕ) (x : WriterKept) → slice_get (set ks i k) j ≡ Some x → WriterStands x (get_or (set ws i w) j no_writer) (answered (suc j))
+writers_set [] ws i k w answered count each new j x at = absurd cc
+writers_set (a ∷ ks) [] i k w answered count each new j x at = absurd (omega (arith, count))
+writers_set (a ∷ ks) (b ∷ ws) zero k w answered count each new zero x at = subst (λ (z : WriterKept). WriterStands z w (answered 1)) (same_Some k x at) new
+writers_set (a ∷ ks) (b ∷ ws) zero k w answered count each new (suc j) x at = each (suc j) x at
+writers_set (a ∷ ks) (b ∷ ws) (suc i) k w answered count each new zero x at = each zero x at
+writers_set (a ∷ ks) (b ∷ ws) (suc i) k w answered count each new (suc j) x at =
+    writers_set ks ws i k w (λ n. answered (suc n)) (omega (arith, count)) (λ n y h. each (suc n) y h) new j x at
+
 -- own writer n stepped
 pub own_writer_stepped : (kept : CoreKept) (i : ℕ) (k k' : WriterKept) (entry : Written) (config : Config) (peer : Peer) → StandsFor kept config peer → slice_get kept.writers i ≡ Some k → Enters k entry k'
     → StandsFor (with_writer kept i k') config (entered_at peer (suc i) entry)
@@ -44,7 +62,8 @@ own_writer_stepped kept i k k' entry config peer s at enters =
       early = s.early;
       writers = record {
         count = length-set ws i (with_written (get_or ws i no_writer) entry) ∙ (s.writers.count ∙ sym (length-set kept.writers i k'));
-        each = each_set WriterStands kept.writers ws i k' (with_written (get_or ws i no_writer) entry) no_writer s.writers.count s.writers.each (enters.stands (get_or ws i no_writer) (s.writers.each i k at));
+        each = writers_set kept.writers ws i k' (with_written (get_or ws i no_writer) entry) peer.known.answered s.writers.count s.writers.each
+            (enters.stands (get_or ws i no_writer) (peer.known.answered (suc i)) (s.writers.each i k at));
       };
       readers = s.readers;
     }
@@ -56,20 +75,33 @@ with_read part reader proxies r = record part {
   dds = record part.dds { readers = with_numbered part.dds.readers reader r };
 }
 
--- own reader n stepped
-pub own_reader_stepped : (kept : CoreKept) (i : ℕ) (k k' : ReaderKept) (proxies : List WriterProxy) (r : Reader) (config : Config) (peer : Peer) → StandsFor kept config peer → slice_get kept.readers i ≡ Some k
-    → reader_identity k' ≡ reader_identity k → ReaderStands k' proxies r → StandsFor (with_reader kept i k') config (record peer { part = with_read peer.part (suc i) proxies r })
-own_reader_stepped kept i k k' proxies r config peer s at same stands =
+-- what is known is the same, said by another function
+pub reader_stands_on : (k : ReaderKept) (proxies : List WriterProxy) (r : Reader) (old new : Endpoint → Tracked) → ((w : Endpoint) → new w ≡ old w) → ReaderStands k proxies r old → ReaderStands k proxies r new
+reader_stands_on k proxies r old new same s = record {
+  writers_are = s.writers_are;
+  places = λ w p at. ap (λ (t : Tracked). t.place) (same w) ∙ s.places w p at;
+  knows = λ w j first. subst (λ (t : Tracked). Tracks k.reader j t) (sym (same w)) (s.knows w j first);
+  qos_is = s.qos_is;
+  holds = s.holds;
+}
+
+-- own reader n stepped, and knows what it knows now
+pub own_reader_stepped : (kept : CoreKept) (i : ℕ) (k k' : ReaderKept) (proxies : List WriterProxy) (r : Reader) (known : Known) (config : Config) (peer : Peer) → StandsFor kept config peer → slice_get kept.readers i ≡ Some k
+    → reader_identity k' ≡ reader_identity k → known.answered ≡ peer.known.answered → ((w : Endpoint) (n : ℕ) → (n ≡ suc i → ⊥) → known.tracked w n ≡ peer.known.tracked w n) → ReaderStands k' proxies r (λ w. known.tracked w (suc i))
+    → StandsFor (with_reader kept i k') config (record peer { part = with_read peer.part (suc i) proxies r; known = known })
+own_reader_stepped kept i k k' proxies r known config peer s at same counts others stands =
     let ps : List (List WriterProxy) = peer.part.rtps.readers in
     let rs : List Reader = peer.part.dds.readers in
     record {
       is_peer = subst (λ (x : Identity). IsPeerOf config peer.number x) (sym (same_with_reader kept i k k' at same)) s.is_peer;
       moment = s.moment;
       early = s.early;
-      writers = s.writers;
+      writers = subst (λ (answered : ℕ → Endpoint → Option ℤ). WritersStand kept.writers peer.part.rtps.writers answered) (sym counts) s.writers;
       readers = record {
         rows = length-set ps i proxies ∙ (s.readers.rows ∙ sym (length-set kept.readers i k'));
         count = length-set rs i r ∙ (s.readers.count ∙ sym (length-set kept.readers i k'));
-        each = each_set2 ReaderStands kept.readers ps rs i k' proxies [] r no_reader s.readers.rows s.readers.count s.readers.each stands;
+        each = each_set_at (λ (j : ℕ) (x : ReaderKept) (y : List WriterProxy) (z : Reader). ReaderStands x y z (λ w. known.tracked w (suc j))) kept.readers ps rs i k' proxies [] r no_reader s.readers.rows s.readers.count
+            (λ j x apart there. reader_stands_on x (get_or ps j []) (get_or rs j no_reader) (λ w. peer.known.tracked w (suc j)) (λ w. known.tracked w (suc j)) (λ w. others w (suc j) (λ e. apart (omega (arith, e)))) (s.readers.each j x there))
+            stands;
       };
     }

@@ -1,8 +1,7 @@
 -- What never changes of an end, from its parts.
-use Rattle.std.proofs.Common.{◌≡◌, List, map, ap}
+use Rattle.std.proofs.Common.{◌≡◌, List}
 use Rattle.dds_base.specs.declared.guid.EntityId.{EntityId}
 use Rattle.dds_core.specs.declared.matching.WriterName.{WriterName}
-use Rattle.dds_core.specs.declared.matching.WriterRow.{WriterRow}
 use Rattle.dds_core.specs.Kept.{ReaderIdentity, ReaderKept, reader_identity}
 
 -- a reader's identity is its entity and the names of its writers
@@ -11,5 +10,4 @@ identity_as a b x y e f = cc
 
 -- with the same entity and rows it is the same reader
 pub same_identity : (a b : ReaderKept) → a.entity ≡ b.entity → a.writers ≡ b.writers → reader_identity a ≡ reader_identity b
-same_identity a b entities rows =
-    identity_as a.entity b.entity (map (λ (w : WriterRow). w.name) a.writers) (map (λ (w : WriterRow). w.name) b.writers) entities (ap (λ (ws : List WriterRow). map (λ (w : WriterRow). w.name) ws) rows)
+same_identity a b entities rows = identity_as a.entity b.entity a.writers b.writers entities rows

@@ -1,5 +1,5 @@
 -- Lists with one element changed, by what is read of them.
-use Rattle.std.proofs.Common.{◌≡◌, ℕ, zero, suc, ◌+◌, ◌<◌, List, [], ◌∷◌, Some, None, map, set, drop, length, get_or, slice_get, refl, subst, ap, sym, ◌∙◌, arith}
+use Rattle.std.proofs.Common.{◌≡◌, ℕ, zero, suc, ◌+◌, ◌<◌, List, [], ◌∷◌, ◌++◌, Some, None, map, set, take, drop, length, get_or, slice_get, refl, subst, ap, sym, ◌∙◌, arith}
 use Rattle.std.proofs.lemmas.Option.{same_Some}
 
 -- what holds of each element and of its partner holds after both were changed
@@ -24,6 +24,19 @@ each_set2 R (a ∷ xs) (b ∷ ys) (c ∷ zs) zero x y d z e c1 c2 each new (suc 
 each_set2 R (a ∷ xs) (b ∷ ys) (c ∷ zs) (suc i) x y d z e c1 c2 each new zero k at = each zero k at
 each_set2 R (a ∷ xs) (b ∷ ys) (c ∷ zs) (suc i) x y d z e c1 c2 each new (suc j) k at =
     each_set2 R xs ys zs i x y d z e (omega (arith, c1)) (omega (arith, c2)) (λ n v h. each (suc n) v h) new j k at
+
+-- the same of a relation that asks for the index
+pub each_set_at : {X Y Z : Type 0} (R : ℕ → X → Y → Z → Type 0) (xs : List X) (ys : List Y) (zs : List Z) (i : ℕ) (x : X) (y d : Y) (z e : Z) → length ys ≡ length xs → length zs ≡ length xs
+    → ((j : ℕ) (k : X) → (j ≡ i → ⊥) → slice_get xs j ≡ Some k → R j k (get_or ys j d) (get_or zs j e)) → R i x y z
+    → (j : ℕ) (k : X) → slice_get (set xs i x) j ≡ Some k → R j k (get_or (set ys i y) j d) (get_or (set zs i z) j e)
+each_set_at R [] ys zs i x y d z e c1 c2 each new j k at = absurd cc
+each_set_at R (a ∷ xs) [] zs i x y d z e c1 c2 each new j k at = absurd (omega (arith, c1))
+each_set_at R (a ∷ xs) (b ∷ ys) [] i x y d z e c1 c2 each new j k at = absurd (omega (arith, c2))
+each_set_at R (a ∷ xs) (b ∷ ys) (c ∷ zs) zero x y d z e c1 c2 each new zero k at = subst (λ v. R zero v y z) (same_Some x k at) new
+each_set_at R (a ∷ xs) (b ∷ ys) (c ∷ zs) zero x y d z e c1 c2 each new (suc j) k at = each (suc j) k (λ s. omega (arith, s)) at
+each_set_at R (a ∷ xs) (b ∷ ys) (c ∷ zs) (suc i) x y d z e c1 c2 each new zero k at = each zero k (λ s. omega (arith, s)) at
+each_set_at R (a ∷ xs) (b ∷ ys) (c ∷ zs) (suc i) x y d z e c1 c2 each new (suc j) k at =
+    each_set_at (λ n. R (suc n)) xs ys zs i x y d z e (omega (arith, c1)) (omega (arith, c2)) (λ n v f h. each (suc n) v (λ s. f (omega (arith, s))) h) new j k at
 
 -- an element that looks as before changes nothing that is seen
 pub map-set_same : {X Y : Type 0} (f : X → Y) (xs : List X) (i : ℕ) (x y : X) → slice_get xs i ≡ Some x → f y ≡ f x → map f (set xs i y) ≡ map f xs
@@ -83,3 +96,12 @@ left_more xs ys i same = sym (one_more i xs) ∙ (ap (λ zs. drop 1 zs) same ∙
     one_more zero xs = refl
     one_more (suc i) [] = refl
     one_more (suc i) (x ∷ xs) = one_more i xs
+
+-- a slice of all elements, written back
+pub written_back : {X : Type 0} (new old : List X) (len : ℕ) → length new ≡ length old → len ≡ length old → take len (new ++ drop (length new) old) ≡ new
+written_back new old len count is =
+    ap (λ (n : ℕ). take len (new ++ drop n old)) count ∙ (ap (λ zs. take len (new ++ zs)) (drop_all old) ∙ (ap (λ (n : ℕ). take n (new ++ [])) (is ∙ sym count) ∙ take_first new))
+  where
+    take_first : {X : Type 0} (xs : List X) → take (length xs) (xs ++ []) ≡ xs
+    take_first [] = refl
+    take_first (x ∷ xs) = ap (λ zs. x ∷ zs) (take_first xs)

@@ -1,6 +1,6 @@
 -- A change of one of the peer's writers is made and announced, or refused.
 use Rattle.std.proofs.Common.{◌≡◌, ℕ, zero, suc, ◌+◌, ◌-◌, ◌<◌, true, List, [], ◌∷◌, ◌++◌, Some, None, map, set, length, slice_get, refl, ap, sym, ◌∙◌, subst, arith, get_or-set_same}
-use Rattle.std.specs.Prelude.{nat_lt, if◌then◌else◌, Result, Ok, Err, IfOk}
+use Rattle.std.specs.Prelude.{nat_lt, if◌then◌else◌, Option, ℤ, Result, Ok, Err, IfOk}
 use Rattle.std.specs.declared.alloc.AllocError.{AllocError}
 use Rattle.std.proofs.lemmas.Bool.Decides.{nat_tests}
 use Rattle.std.proofs.lemmas.List.{set-get_or}
@@ -31,7 +31,9 @@ use Rattle.dds_core.specs.declared.sending.Sender.{Sender}
 use Rattle.dds_core.specs.Kept.{WriterKept, CoreKept, WriterIdentity, writer_identity, configured_writer, identity_of, IsPeerOf}
 use Rattle.dds_core.specs.Making.{IsMade, IsNotMade, IsValueOf, entered}
 use Rattle.dds_core.specs.Sending.{AreAnnouncements, AnnounceCopy, AnnouncesAll, SendsChange}
-use Rattle.dds_core.specs.Standing.{WriterStands, StandsFor, Enters, reader_proxy}
+use Rattle.dds_core.specs.Standing.{WriterStands, StandsFor, Enters}
+use Rattle.dds_core.specs.declared.matching.ReaderName.{ReaderName}
+use Rattle.dds_core.proofs.Destinations.{ends_of_names, reader_ends}
 use Rattle.dds_core.proofs.Ends.{with_writer, own_writer_stepped}
 use Rattle.dds_core.proofs.Lists.{get-map, map-get, get-within}
 use Rattle.dds_core.proofs.Sent.{IsOnly, IsThere, IsMatched, sends_change, sent_true}
@@ -90,14 +92,14 @@ made_by kind key value moment = record { kind = kind; key = key; value = value; 
 -- the change is made
 made_there : (old : CoreKept) (i : ℕ) (k k' : WriterKept) (kind : ChangeKind) (key : Key) (value : List ℕ) (number : ℕ) (content : Result DataContent AllocError) (output : Output) (config : Config) (peer : Peer) → StandsFor old config peer
     → slice_get old.writers i ≡ Some k → Enters k (Changed (made_by kind key value old.moment)) k'
-    → ((w : Writer) → WriterStands k w → (append_refusal (history_of w) (made_by kind key value old.moment) ≡ None) × (number ≡ length (writer_changes w) + 1)) → IsValueOf kind value
+    → ((w : Writer) (answered : Endpoint → Option ℤ) → WriterStands k w answered → (append_refusal (history_of w) (made_by kind key value old.moment) ≡ None) × (number ≡ length (writer_changes w) + 1)) → IsValueOf kind value
     → IfOk content (λ c. c ≡ content_of (made_by kind key value old.moment)) → output.reply ≡ Done → AnnouncesAll (with_writer old i k') i number content output
     → IsMade config peer (suc i) (made_by kind key value old.moment) output (with_writer old i k')
 made_there old i k k' kind key value number content output config peer s at enters accepts valued copied reply all =
     let change : Change = made_by kind key value old.moment in
     let w : Writer = own_writer peer.part (suc i) in
-    let ws : WriterStands k w = s.writers.each i k at in
-    let a = accepts w ws in
+    let ws : WriterStands k w (peer.known.answered (suc i)) = s.writers.each i k at in
+    let a = accepts w (peer.known.answered (suc i)) ws in
     let new : CoreKept = with_writer old i k' in
     let after : Peer = record peer { part = entered peer.part (suc i) change } in
     let stands : StandsFor new config after = own_writer_stepped old i k k' (Changed change) config peer s at enters in
@@ -110,12 +112,13 @@ made_there old i k k' kind key value number content output config peer s at ente
     let are : AreAnnouncements sender number (content_of change) k'.destinations output.packets = announced_so sender number content (content_of change) k'.destinations output.packets copied packets in
     let own : IsOwnWriter config new peer.number i k' = own_writer_is config peer.number new stands.is_peer i k' at_new in
     let endpoint : Endpoint = record { peer = peer.number; number = suc i } in
-    let matched : IsMatched config own.end.topic k'.readers k'.destinations =
-    record { names = ap (λ (x : WriterIdentity). x.readers) own.is; sent_to = ap (λ (x : WriterIdentity). x.destinations) own.is } in
+    let names : map (λ (p : ReaderProxy). p.reader) w.readers ≡ reader_ends own.end.topic config.peers =
+    (enters.stands w (peer.known.answered (suc i)) ws).readers ∙ (ap (λ (x : WriterIdentity). map (λ (n : ReaderName). n.reader) x.readers) own.is ∙ ends_of_names own.end.topic config.peers) in
+    let matched : IsMatched config own.end.topic w.readers k'.destinations =
+    record { names = names; sent_to = ap (λ (x : WriterIdentity). x.destinations) own.is } in
     let means : change_in (content_of change) old.moment ≡ change = change_in-content_of change valued in
-    let rows : map reader_proxy k'.readers ≡ w.readers = sym (enters.stands w ws).readers in
-    let sends : SendsChange config endpoint (map reader_proxy k'.readers) number (change_in (content_of change) old.moment) output =
-    sends_change config sender endpoint own.end.topic k'.readers k'.destinations number (content_of change) output (record { from = own.from; same_topic = own.same_topic }) matched s.early are counted in
+    let sends : SendsChange config endpoint w.readers number (change_in (content_of change) old.moment) output =
+    sends_change config sender endpoint own.end.topic w.readers k'.destinations number (content_of change) output (record { from = own.from; same_topic = own.same_topic }) matched s.early are counted in
     let only : IsOnly config sender endpoint = λ e name. one_writer config old.prefix k'.entity e endpoint s.is_peer.checked name own.from in
     let count = s.writers.count in
     let within : i < length peer.part.rtps.writers = let lt = get-within old.writers i k at in omega (arith, lt, count) in
@@ -126,7 +129,7 @@ made_there old i k k' kind key value number content output config peer s at ente
       accepted = a.0;
       reply = reply;
       sends = subst (λ (n : ℕ). SendsChange config endpoint w.readers n change output) a.1
-          (subst (λ (x : Change). SendsChange config endpoint w.readers number x output) means (subst (λ (rs : List ReaderProxy). SendsChange config endpoint rs number (change_in (content_of change) old.moment) output) rows sends));
+          (subst (λ (x : Change). SendsChange config endpoint w.readers number x output) means sends);
       is_true = λ packet claim among h. sent_true config sender endpoint after.part k'.destinations number (content_of change) output.packets only s.early there are packet claim among h;
       stands = stands;
     }
@@ -134,7 +137,7 @@ made_there old i k k' kind key value number content output config peer s at ente
 -- the same, by the moment of the part
 pub made : (old : CoreKept) (i : ℕ) (k k' : WriterKept) (kind : ChangeKind) (key : Key) (value : List ℕ) (number : ℕ) (content : Result DataContent AllocError) (output : Output) (config : Config) (peer : Peer) → StandsFor old config peer
     → slice_get old.writers i ≡ Some k → Enters k (Changed (made_by kind key value old.moment)) k'
-    → ((w : Writer) → WriterStands k w → (append_refusal (history_of w) (made_by kind key value old.moment) ≡ None) × (number ≡ length (writer_changes w) + 1)) → IsValueOf kind value
+    → ((w : Writer) (answered : Endpoint → Option ℤ) → WriterStands k w answered → (append_refusal (history_of w) (made_by kind key value old.moment) ≡ None) × (number ≡ length (writer_changes w) + 1)) → IsValueOf kind value
     → IfOk content (λ c. c ≡ content_of (made_by kind key value old.moment)) → output.reply ≡ Done → AnnouncesAll (with_writer old i k') i number content output
     → IsMade config peer (i + 1) (change_made peer.part kind key value) output (with_writer old i k')
 made old i k k' kind key value number content output config peer s at enters accepts valued copied reply all =
@@ -145,7 +148,7 @@ made old i k k' kind key value number content output config peer s at enters acc
 
 -- the change is refused
 pub not_made : (old : CoreKept) (i : ℕ) (k k' : WriterKept) (kind : ChangeKind) (key : Key) (value : List ℕ) (code : Code) (output : Output) (config : Config) (peer : Peer) → StandsFor old config peer → slice_get old.writers i ≡ Some k → k' ≡ k
-    → ((w : Writer) → WriterStands k w → Refuses (append_refusal (history_of w) (made_by kind key value old.moment)) code) → output ≡ record { reply = Refused code; packets = []; unsent = 0 }
+    → ((w : Writer) (answered : Endpoint → Option ℤ) → WriterStands k w answered → Refuses (append_refusal (history_of w) (made_by kind key value old.moment)) code) → output ≡ record { reply = Refused code; packets = []; unsent = 0 }
     → IsNotMade config peer (i + 1) (change_made peer.part kind key value) output (with_writer old i k')
 not_made old i k k' kind key value code output config peer s at same refuses is =
     let index : i + 1 ≡ suc i = omega arith in
@@ -153,7 +156,7 @@ not_made old i k k' kind key value code output config peer s at same refuses is 
     record {
       code = code;
       cause = subst (λ (n : ℕ). Refuses (change_refusal peer.part n (change_made peer.part kind key value)) code) (sym index)
-          (subst (λ (m : ℕ). Refuses (append_refusal (history_of (own_writer peer.part (suc i))) (made_by kind key value m)) code) (sym s.moment) (refuses (own_writer peer.part (suc i)) (s.writers.each i k at)));
+          (subst (λ (m : ℕ). Refuses (append_refusal (history_of (own_writer peer.part (suc i))) (made_by kind key value m)) code) (sym s.moment) (refuses (own_writer peer.part (suc i)) (peer.known.answered (suc i)) (s.writers.each i k at)));
       output_is = is;
       stands = subst (λ (ws : List WriterKept). StandsFor (record old { writers = ws }) config peer) (sym unchanged) s;
     }

@@ -11,7 +11,6 @@ use Rattle.dds_base.specs.declared.guid.GuidPrefix.{GuidPrefix}
 use Rattle.dds_model.specs.declared.endpoint.Endpoint.{Endpoint}
 use Rattle.dds_model.specs.Claims.{IsNumbered}
 use Rattle.dds_core.specs.declared.matching.WriterName.{WriterName}
-use Rattle.dds_core.specs.declared.matching.WriterRow.{WriterRow}
 use Rattle.dds_core.specs.Kept.{ReaderKept, CoreKept, ReaderIdentity, reader_identity, configured_reader, identity_of, IsPeerOf}
 use Rattle.dds_core.specs.Matching.{writer_name, writer_names}
 use Rattle.dds_core.proofs.Lists.{get-map, map-get}
@@ -56,7 +55,8 @@ pub record IsOwnReader (config : Config) (own : PeerConfig) (i : ℕ) (k : Reade
   pub end : ReaderConfig
   pub at : slice_get own.readers i ≡ Some end
   pub entity : end.entity ≡ k.entity
-  pub names : (j : ℕ) (row : WriterRow) → slice_get k.writers j ≡ Some row → IsNamed config end.topic row.name
+  pub names : (j : ℕ) (name : WriterName) → slice_get k.writers j ≡ Some name → IsNamed config end.topic name
+  pub all : k.writers ≡ writer_names end.topic config.peers
 
 pub own_reader_is : (config : Config) (number : ℕ) (kept : CoreKept) (is : IsPeerOf config number (identity_of kept)) (i : ℕ) (k : ReaderKept) → slice_get kept.readers i ≡ Some k → IsOwnReader config is.own i k
 own_reader_is config number kept is i k at =
@@ -66,7 +66,6 @@ own_reader_is config number kept is i k at =
       end = f.0;
       at = f.1;
       entity = ap (λ (x : ReaderIdentity). x.entity) f.2;
-      names = λ j row in_rows.
-          let named = map-get (λ (w : WriterRow). w.name) k.writers j row in_rows in
-          names_are config f.0.topic j row.name (subst (λ (xs : List WriterName). slice_get xs j ≡ Some row.name) (sym (ap (λ (x : ReaderIdentity). x.writers) f.2)) named);
+      names = λ j name in_names. names_are config f.0.topic j name (subst (λ (xs : List WriterName). slice_get xs j ≡ Some name) (sym (ap (λ (x : ReaderIdentity). x.writers) f.2)) in_names);
+      all = sym (ap (λ (x : ReaderIdentity). x.writers) f.2);
     }

@@ -8,6 +8,7 @@ use Rattle.dds_base.specs.declared.config.ReaderConfig.{ReaderConfig}
 use Rattle.dds_base.specs.Checked.{check_refusal}
 use Rattle.dds_model.specs.Opening.{opening_writer, matched_writers, reader_qos, opening_part, opening_peers}
 use Rattle.dds_model.specs.Part.{Writer, Reader, WriterProxy, no_writer, no_reader}
+use Rattle.rtps_reader.specs.Tracked.{fresh}
 use Rattle.dds_model.specs.Protocol.{knows_nothing}
 use Rattle.dds_model.specs.Peer.{Peer, no_peer}
 use Rattle.dds_core.specs.Kept.{WriterKept, ReaderKept, writer_identity, reader_identity, configured_writer, configured_reader}
@@ -83,16 +84,16 @@ mapped_at f [] i x d at = absurd cc
 mapped_at f (a ∷ xs) zero x d at = ap f (sym (same_Some a x at))
 mapped_at f (a ∷ xs) (suc i) x d at = mapped_at f xs i x d at
 
-writers_stand : (peers : List PeerConfig) (ws : List WriterConfig) (kept : List WriterKept) → OpenWriters peers ws kept → WritersStand kept (map (opening_writer peers) ws)
+writers_stand : (peers : List PeerConfig) (ws : List WriterConfig) (kept : List WriterKept) → OpenWriters peers ws kept → WritersStand kept (map (opening_writer peers) ws) (λ n r. None)
 writers_stand peers ws kept opened = record {
   count = length-map ws (opening_writer peers) ∙ sym opened.count;
   each = λ i k at.
       let w = partner ws kept i k opened.count at in
-      subst (λ (v : Writer). WriterStands k v) (mapped_at (opening_writer peers) ws i w.0 no_writer w.1) (opened.each i w.0 k w.1 at).stands;
+      subst (λ (v : Writer). WriterStands k v (λ r. None)) (mapped_at (opening_writer peers) ws i w.0 no_writer w.1) (opened.each i w.0 k w.1 at).stands;
 }
 
 readers_stand : (peers : List PeerConfig) (rs : List ReaderConfig) (kept : List ReaderKept) → OpenReaders peers rs kept
-    → ReadersStand kept (map (λ (r : ReaderConfig). matched_writers r.topic 1 peers) rs) (map (λ (r : ReaderConfig). record { qos = reader_qos peers r; happened = [] }) rs)
+    → ReadersStand kept (map (λ (r : ReaderConfig). matched_writers r.topic 1 peers) rs) (map (λ (r : ReaderConfig). record { qos = reader_qos peers r; happened = [] }) rs) knows_nothing
 readers_stand peers rs kept opens =
     let proxies : ReaderConfig → List WriterProxy = λ r. matched_writers r.topic 1 peers in
     let opened : ReaderConfig → Reader = λ r. record { qos = reader_qos peers r; happened = [] } in
@@ -101,8 +102,8 @@ readers_stand peers rs kept opens =
       count = length-map rs opened ∙ sym opens.count;
       each = λ i k at.
           let r = partner rs kept i k opens.count at in
-          subst (λ (ps : List WriterProxy). ReaderStands k ps (get_or (map opened rs) i no_reader)) (mapped_at proxies rs i r.0 [] r.1)
-          (subst (λ (v : Reader). ReaderStands k (proxies r.0) v) (mapped_at opened rs i r.0 no_reader r.1) (opens.each i r.0 k r.1 at).stands);
+          subst (λ (ps : List WriterProxy). ReaderStands k ps (get_or (map opened rs) i no_reader) (λ w. fresh)) (mapped_at proxies rs i r.0 [] r.1)
+          (subst (λ (v : Reader). ReaderStands k (proxies r.0) v (λ w. fresh)) (mapped_at opened rs i r.0 no_reader r.1) (opens.each i r.0 k r.1 at).stands);
     }
 
 -- ---- the peer of the opening

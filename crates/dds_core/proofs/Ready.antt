@@ -1,17 +1,29 @@
 -- What is made ready for each reader.
-use Rattle.std.proofs.Common.{◌≡◌, ◌⊎◌, ℕ, zero, suc, ◌<◌, ◌≤◌, List, [], ◌∷◌, ◌++◌, Option, Some, set, length, slice_get, get_or, refl, ap, sym, ◌∙◌, subst, arith, inl, inr, ⊎_elim, length-set}
+use Rattle.std.proofs.Common.{◌≡◌, ◌⊎◌, ℕ, zero, suc, ◌+◌, ◌<◌, ◌≤◌, List, [], ◌∷◌, ◌++◌, Option, Some, None, set, drop, map, length, slice_get, get_or, refl, ap, sym, ◌∙◌, subst, arith, inl, inr, ⊎_elim, length-set}
 use Rattle.std.proofs.lemmas.Option.{same_Some, slice_get-get_or}
 use Rattle.dds_base.specs.declared.guid.GuidPrefix.{GuidPrefix}
-use Rattle.rtps_wire.specs.declared.data.Data.{Data as DataBody}
+use Rattle.dds_base.specs.declared.guid.EntityId.{EntityId}
+use Rattle.rtps_reader.specs.Tracked.{Tracked}
+use Rattle.rtps_reader.specs.Reader.{Tracks}
+use Rattle.rtps_reader.specs.declared.step.HeartbeatSeen.{HeartbeatSeen}
+use Rattle.rtps_wire.specs.declared.submessage.Submessage.{Submessage}
+use Rattle.rtps_wire.specs.declared.submessage.Submessage.TheVariants.{Data, Heartbeat, Gap}
+use Rattle.rtps_sets.specs.NumberSet.{NumberSet}
+use Rattle.dds_model.specs.declared.endpoint.Endpoint.{Endpoint}
+use Rattle.rtps_reader.specs.declared.step.Step.{Step}
+use Rattle.dds_model.specs.declared.reply.Move.{Move}
 use Rattle.dds_model.specs.Claims.{Receiver}
 use Rattle.dds_model.specs.Part.{WriterProxy, Reader, no_reader}
-use Rattle.dds_core.specs.declared.matching.WriterRow.{WriterRow}
-use Rattle.dds_core.specs.declared.reader_end.Coming.{Coming}
+use Rattle.dds_core.specs.declared.matching.WriterName.{WriterName}
+use Rattle.dds_core.specs.declared.reader_end.Ready.{Ready}
+use Rattle.dds_core.specs.declared.reader_end.Told.{Told}
+use Rattle.dds_core.specs.declared.reader_end.Told.TheVariants as told
 use Rattle.dds_core.specs.Kept.{ReaderKept, CoreKept, ReaderIdentity, Identity, reader_identity, writer_identity, IsPeerOf}
-use Rattle.dds_core.specs.Receiving.{IsReady, AreReady, IsAlike, AreAlike, CanCome, AllCanCome, StandsAsWell}
-use Rattle.dds_core.specs.Standing.{ReaderStands, writer_proxy}
-use Rattle.std.specs.Prelude.{◌-◌, ◌^◌, map}
+use Rattle.dds_core.specs.Receiving.{IsReadyFor, IsReadyWith, AreReady, IsAlike, AreAlike, CanTake, AllCanTake, CanTakeAt, TookAt, TakesTold, SameReader, TakesSome, TakesAll, ReadersTake, moves_of, IsBounded, IsToldBounded, IsToldBy, StandsAsWell}
+use Rattle.dds_core.specs.Standing.{IsFirstRow, ReaderStands}
 use Rattle.dds_core.proofs.Identities.{same_identity}
+use Rattle.dds_core.proofs.Lists.{get-within, left_at, left_more, drop_set}
+use Rattle.dds_core.proofs.Rows.{writers_of}
 
 -- after a change of one element, another is as before, and that one is the new one
 pub set-cases : {X : Type 0} (xs : List X) (i : ℕ) (x : X) (j : ℕ) (y : X) → slice_get (set xs i x) j ≡ Some y → ((j ≡ i) × (x ≡ y)) ⊎ (((j ≡ i) → ⊥) × (slice_get xs j ≡ Some y))
@@ -28,13 +40,13 @@ last-cases (a ∷ xs) x zero y at = inr (omega arith, at)
 last-cases (a ∷ xs) x (suc j) y at = ⊎_elim (λ s. inl (ap suc s.0, s.1)) (λ o. let lt = o.0 in inr (omega (arith, lt), o.1)) (last-cases xs x j y at)
 
 pub alike_self : (k : ReaderKept) → IsAlike k k
-alike_self k = record { entity = refl; writers = refl; arrivals = refl; qos = refl; cache = λ h s. s }
+alike_self k = record { entity = refl; writers = refl; reader = λ i t h. h; qos = refl; holds = λ h s. s }
 
 pub all_alike_self : (ks : List ReaderKept) → AreAlike ks ks
 all_alike_self ks = record { count = refl; each = λ i a b at_a at_b. subst (λ (x : ReaderKept). IsAlike a x) (same_Some a b (sym at_a ∙ at_b)) (alike_self a) }
 
 alike_on : (a b c : ReaderKept) → IsAlike a b → IsAlike b c → IsAlike a c
-alike_on a b c x y = record { entity = y.entity ∙ x.entity; writers = y.writers ∙ x.writers; arrivals = y.arrivals ∙ x.arrivals; qos = y.qos ∙ x.qos; cache = λ h s. y.cache h (x.cache h s) }
+alike_on a b c x y = record { entity = y.entity ∙ x.entity; writers = y.writers ∙ x.writers; reader = λ i t h. y.reader i t (x.reader i t h); qos = y.qos ∙ x.qos; holds = λ h s. y.holds h (x.holds h s) }
 
 -- one more was made ready
 pub alike_more : (old now : List ReaderKept) (i : ℕ) (k k' : ReaderKept) → AreAlike old now → i < length now → get_or now i k ≡ k → IsAlike k k' → AreAlike old (set now i k')
@@ -49,62 +61,62 @@ alike_more old now i k k' h lt is one = record {
       (λ o. h.each j a b at_a o.1) (set-cases now i k' j b at_b);
 }
 
-pub ready_more : (own : GuidPrefix) (at : Receiver) (body : DataBody) (now : List ReaderKept) (ready ready' : List (Option Coming)) (i : ℕ) (k' : ReaderKept) (one : Option Coming) → length ready ≡ i → ready' ≡ ready ++ one ∷ []
-    → ((j : ℕ) (k : ReaderKept) (r : Option Coming) → slice_get now j ≡ Some k → slice_get ready j ≡ Some r → IsReady own at body k r) → IsReady own at body k' one
-    → (j : ℕ) (k : ReaderKept) (r : Option Coming) → slice_get (set now i k') j ≡ Some k → slice_get ready' j ≡ Some r → IsReady own at body k r
-ready_more own at body now ready ready' i k' one count is each new j k r at_k at_r =
-    let at_last : slice_get (ready ++ one ∷ []) j ≡ Some r = subst (λ (rs : List (Option Coming)). slice_get rs j ≡ Some r) is at_r in
+pub ready_more : (own : GuidPrefix) (at : Receiver) (sub : Submessage) (now : List ReaderKept) (ready ready' : List (Option Ready)) (i : ℕ) (k' : ReaderKept) (one : Option Ready) → length ready ≡ i → ready' ≡ ready ++ one ∷ []
+    → ((j : ℕ) (k : ReaderKept) (r : Option Ready) → slice_get now j ≡ Some k → slice_get ready j ≡ Some r → IsReadyFor own at sub k r) → IsReadyFor own at sub k' one
+    → (j : ℕ) (k : ReaderKept) (r : Option Ready) → slice_get (set now i k') j ≡ Some k → slice_get ready' j ≡ Some r → IsReadyFor own at sub k r
+ready_more own at sub now ready ready' i k' one count is each new j k r at_k at_r =
+    let at_last : slice_get (ready ++ one ∷ []) j ≡ Some r = subst (λ (rs : List (Option Ready)). slice_get rs j ≡ Some r) is at_r in
     ⊎_elim
     (λ s.
     ⊎_elim
-    (λ t. subst (λ (x : Option Coming). IsReady own at body k x) t.1 (subst (λ (x : ReaderKept). IsReady own at body x one) s.1 new))
+    (λ t. subst (λ (x : Option Ready). IsReadyFor own at sub k x) t.1 (subst (λ (x : ReaderKept). IsReadyFor own at sub x one) s.1 new))
     (λ t. let lt = t.0 in let same = s.0 in absurd (omega (arith, lt, same, count)))
     (last-cases ready one j r at_last))
     (λ o.
     ⊎_elim (λ t. let last = t.0 in absurd (o.0 (omega (arith, last, count)))) (λ t. each j k r o.1 t.1) (last-cases ready one j r at_last))
     (set-cases now i k' j k at_k)
 
--- what is ready can come
-pub can_come : (own : GuidPrefix) (at : Receiver) (body : DataBody) (k : ReaderKept) (coming : Coming) → IsReady own at body k (Some coming) → CanCome k coming
-can_come own at body k coming ready =
-    let next = ready.0 in
-    let not_many : 2 ^ 31 - 2 ≤ k.arrivals → ⊥ = λ many. next.free (inl many) in
-    let not_last : 2 ^ 64 - 1 ≤ body.writer_sn → ⊥ = λ last. next.free (inr last) in
-    let same = next.here.number in
-    record { row = next.here.first.row; at = next.here.first.at; place = omega (arith, same, not_last); few = omega (arith, not_many); room = ready.2 }
+-- what is told keeps to the wire's bounds
+told_bounded : (at : Receiver) (s : Submessage) (said : Told) → IsBounded s → IsToldBy at s said → IsToldBounded said
+told_bounded at (Data d) (told.Change number change) b is = let same = is.0 in omega (arith, same, b)
+told_bounded at (Gap g) (told.Gap start list) b is = let same = ap (λ (x : NumberSet). x.base) is.1 in omega (arith, same, b)
+told_bounded at (Heartbeat h) (told.Heartbeat seen) b is = let same = ap (λ (x : HeartbeatSeen). x.first) is in omega (arith, same, b)
+told_bounded at s said b is = absurd is
 
-pub all_can : (own : GuidPrefix) (at : Receiver) (body : DataBody) (readers : List ReaderKept) (ready : List (Option Coming)) → AreReady own at body readers ready → AllCanCome readers ready
-all_can own at body readers ready h i coming there =
-    let lt : i < length readers = within readers ready i (Some coming) h.count there in
-    let k : ReaderKept = get_or readers i nothing in
-    let at_k : slice_get readers i ≡ Some k = slice_get-get_or readers i nothing lt in
-    (k, at_k, can_come own at body k coming (h.each i k (Some coming) at_k there))
-  where
-    nothing : ReaderKept
-    nothing = record {
-      entity = record { 0 = [] };
-      writers = [];
-      arrivals = 0;
-      cache = record { qos = no_reader.qos; happenings = []; room = 0 };
-    }
+-- the element of the same index
+pub partner : {X Y : Type 0} (xs : List X) (ys : List Y) (i : ℕ) (y : Y) → length ys ≡ length xs → slice_get ys i ≡ Some y → (x : X) × (slice_get xs i ≡ Some x)
+partner [] [] i y count at = absurd cc
+partner [] (b ∷ ys) i y count at = absurd (omega (arith, count))
+partner (a ∷ xs) [] i y count at = absurd cc
+partner (a ∷ xs) (b ∷ ys) zero y count at = (a, refl)
+partner (a ∷ xs) (b ∷ ys) (suc i) y count at = partner xs ys i y (omega (arith, count)) at
 
-    within : {X Y : Type 0} (xs : List X) (ys : List Y) (i : ℕ) (y : Y) → length ys ≡ length xs → slice_get ys i ≡ Some y → i < length xs
-    within [] [] i y count at = absurd cc
-    within [] (b ∷ ys) i y count at = absurd (omega (arith, count))
-    within (a ∷ xs) [] i y count at = absurd cc
-    within (a ∷ xs) (b ∷ ys) zero y count at = omega arith
-    within (a ∷ xs) (b ∷ ys) (suc i) y count at = let later = within xs ys i y (omega (arith, count)) at in omega (arith, later)
+pub can_take : (own : GuidPrefix) (at : Receiver) (s : Submessage) (k : ReaderKept) (ready : Ready) → IsBounded s → IsReadyWith own at s k ready → CanTake k ready
+can_take own at s k ready b is = record { row = get-within k.writers ready.row is.named.first.name is.named.first.at; bounded = told_bounded at s ready.told b is.told; room = is.room }
+
+pub all_can : (own : GuidPrefix) (at : Receiver) (s : Submessage) (readers : List ReaderKept) (ready : List (Option Ready)) → IsBounded s → AreReady own at s readers ready → AllCanTake readers ready
+all_can own at s readers ready b h i one there =
+    let k = partner readers ready i (Some one) h.count there in (k.0, k.1, can_take own at s k.0 one b (h.each i k.0 (Some one) k.1 there))
+
+-- what is ready for a reader, while what was ready for others is taken
+pub still_ready : (ready now : List (Option Ready)) (i : ℕ) (one d : Option Ready) → drop i now ≡ drop i ready → i < length now → one ≡ get_or now i d → slice_get ready i ≡ Some one
+still_ready ready now i one d left lt is = left_at ready now i one (sym left) (slice_get-get_or now i d lt ∙ ap (λ (x : Option Ready). Some x) (sym is))
+
+-- what was taken leaves the rest
+pub rest_more : (ready now : List (Option Ready)) (i : ℕ) (x : Option Ready) → drop i now ≡ drop i ready → drop (i + 1) (set now i x) ≡ drop (i + 1) ready
+rest_more ready now i x left =
+    let same : i + 1 ≡ suc i = omega arith in
+    subst (λ (n : ℕ). drop n (set now i x) ≡ drop n ready) (sym same) (drop_set now i x ∙ left_more now ready i left)
 
 -- readers with more room stand for what they stood for
 
-alike_stands : (a b : ReaderKept) (proxies : List WriterProxy) (r : Reader) → IsAlike a b → ReaderStands a proxies r → ReaderStands b proxies r
-alike_stands a b proxies r h s = record {
-  proxies_are = s.proxies_are ∙ ap (λ (ws : List WriterRow). map writer_proxy ws) (sym h.writers);
+alike_stands : (a b : ReaderKept) (proxies : List WriterProxy) (r : Reader) (tracked : Endpoint → Tracked) → IsAlike a b → ReaderStands a proxies r tracked → ReaderStands b proxies r tracked
+alike_stands a b proxies r tracked h s = record {
+  writers_are = s.writers_are ∙ ap (λ (ns : List WriterName). writers_of ns) (sym h.writers);
+  places = s.places;
+  knows = λ w k f. h.reader k (tracked w) (s.knows w k (subst (λ (ns : List WriterName). IsFirstRow ns w k) h.writers f));
   qos_is = s.qos_is ∙ sym h.qos;
-  no_samples_limit = ap (λ q. q.max_samples) h.qos ∙ s.no_samples_limit;
-  no_instances_limit = ap (λ q. q.max_instances) h.qos ∙ s.no_instances_limit;
-  arrivals_are = h.arrivals ∙ s.arrivals_are;
-  cache = h.cache r.happened s.cache;
+  holds = h.holds r.happened s.holds;
 }
 
 same_identities : (old new : List ReaderKept) → AreAlike old new → map reader_identity new ≡ map reader_identity old
@@ -129,13 +141,46 @@ alike_core kept readers h config peer s =
       readers = record {
         rows = s.readers.rows ∙ sym h.count;
         count = s.readers.count ∙ sym h.count;
-        each = λ i k at. let old = back kept.readers readers i k h.count at in alike_stands old.0 k _ _ (h.each i old.0 k old.1 at) (s.readers.each i old.0 old.1);
+        each = λ i k at. let old = partner kept.readers readers i k h.count at in alike_stands old.0 k _ _ _ (h.each i old.0 k old.1 at) (s.readers.each i old.0 old.1);
       };
     }
+
+-- nothing stands in a list of nothing
+pub none_there : {X : Type 0} (xs : List X) (i : ℕ) (x : X) → xs ≡ [] → slice_get xs i ≡ Some x → ⊥
+none_there [] i x is at = cc
+none_there (y ∷ ys) i x is at = cc
+
+-- the reader of this index was told what was ready
+pub took_by : (old : CoreKept) (index : ℕ) (ready : Ready) (k now k' : ReaderKept) (moves : List Move) (new : CoreKept) (after : List Move) (writer : Endpoint) (from : ℕ) (step : Step) → now ≡ k → CanTakeAt old.readers index ready
+    → slice_get old.readers index ≡ Some k → ((name : WriterName) → slice_get now.writers ready.row ≡ Some name → writer ≡ name.writer) → ((t : Tracked) → Tracks now.reader ready.row t → from ≡ t.place) → {m : ℕ} → m ≡ old.moment → TakesTold now ready m step k'
+    → SameReader now k' → new ≡ record old { readers = set old.readers index k' } → after ≡ moves ++ moves_of writer (index + 1) from step → TookAt old index ready k moves new after
+took_by old index ready k now k' moves new after writer from step is can at named place {m} moment told same new_is after_is =
+    let here : CanTake k ready = subst (λ (x : ReaderKept). CanTake x ready) (same_Some can.0 k (sym can.1 ∙ at)) can.2 in
+    let name = element k.writers ready.row here.row in
+    record {
+      name = name.0;
+      at_name = name.1;
+      from = from;
+      place = λ t knows. place t (subst (λ (x : ReaderKept). Tracks x.reader ready.row t) (sym is) knows);
+      step = step;
+      reader = k';
+      told = subst (λ (n : ℕ). TakesTold k ready n step k') moment (subst (λ (x : ReaderKept). TakesTold x ready m step k') is told);
+      same = subst (λ (x : ReaderKept). SameReader x k') is same;
+      new_is = new_is;
+      after_is = after_is ∙ ap (λ (w : Endpoint). moves ++ moves_of w (index + 1) from step) (named name.0 (subst (λ (x : ReaderKept). slice_get x.writers ready.row ≡ Some name.0) (sym is) name.1));
+    }
   where
-    back : {X Y : Type 0} (xs : List X) (ys : List Y) (i : ℕ) (y : Y) → length ys ≡ length xs → slice_get ys i ≡ Some y → (x : X) × (slice_get xs i ≡ Some x)
-    back [] [] i y count at = absurd cc
-    back [] (b ∷ ys) i y count at = absurd (omega (arith, count))
-    back (a ∷ xs) [] i y count at = absurd cc
-    back (a ∷ xs) (b ∷ ys) zero y count at = (a, refl)
-    back (a ∷ xs) (b ∷ ys) (suc i) y count at = back xs ys i y (omega (arith, count)) at
+    element : {X : Type 0} (xs : List X) (i : ℕ) → i < length xs → (x : X) × (slice_get xs i ≡ Some x)
+    element [] i lt = absurd (omega (arith, lt))
+    element (x ∷ xs) zero lt = (x, refl)
+    element (x ∷ xs) (suc i) lt = element xs i (omega (arith, lt))
+
+-- all were told what was ready for them
+pub takes_all : (old now : CoreKept) (ready : List (Option Ready)) (moves after : List Move) (index : ℕ) → length ready ≤ index → index ≤ length ready → TakesSome old ready index moves now after → TakesAll old ready moves now after
+takes_all old now ready moves after index low high h = record {
+  made = h.made;
+  after_is = h.after_is;
+  takes = λ at s are.
+      let count = are.count in
+      subst (λ (n : ℕ). ReadersTake old at s n h.made now) (omega (arith, count, low, high)) (h.takes at s are);
+}

@@ -1,36 +1,42 @@
--- A reader's rows of matched writers, of which the first of an endpoint is looked for.
-use Rattle.std.proofs.Common.{◌≡◌, ℕ, zero, suc, ◌+◌, ◌<◌, Bool, true, false, cond, ◌==◌, List, [], ◌∷◌, Option, Some, map, set, slice_get, refl, ap, sym, ◌∙◌, subst, arith, eq-eqb}
+-- A reader's matched writers, of which the first of an endpoint is looked for.
+use Rattle.std.proofs.Common.{◌≡◌, ℕ, zero, suc, ◌+◌, ◌<◌, Bool, true, false, cond, ◌==◌, List, [], ◌∷◌, Option, Some, map, slice_get, refl, ap, sym, ◌∙◌, subst, arith}
 use Rattle.std.specs.Option.{option_map}
 use Rattle.std.proofs.lemmas.Option.{same_Some}
 use Rattle.dds_model.specs.declared.endpoint.Endpoint.{Endpoint}
-use Rattle.dds_model.specs.Part.{WriterProxy, same_endpoint, row_of, place_of, with_place, publication_from, publication_of}
+use Rattle.dds_model.specs.Part.{WriterProxy, same_endpoint, row_of, with_row, place_of, publication_from, publication_of}
+use Rattle.dds_model.proofs.InOrder.{same_self}
 use Rattle.dds_model.proofs.Tables.{same_is}
-use Rattle.dds_core.specs.declared.matching.WriterRow.{WriterRow}
-use Rattle.dds_core.specs.Standing.{writer_proxy}
+use Rattle.dds_core.specs.declared.matching.WriterName.{WriterName}
+use Rattle.dds_core.specs.Standing.{IsFirstRow}
 
--- the row of this index is the first one of the endpoint
-abbrev pub IsFirstOf : List WriterRow → Endpoint → ℕ → WriterRow → Type 0
-IsFirstOf [] e k row = ⊥
-IsFirstOf (r ∷ rs) e zero row = (r ≡ row) × (same_endpoint r.name.writer e ≡ true)
-IsFirstOf (r ∷ rs) e (suc k) row = (same_endpoint r.name.writer e ≡ false) × IsFirstOf rs e k row
+abbrev pub writers_of : List WriterName → List Endpoint
+writers_of names = map (λ (n : WriterName). n.writer) names
 
-same_self : (e : Endpoint) → same_endpoint e e ≡ true
-same_self e = ap (λ (b : Bool). cond b (e.number == e.number) false) (eq-eqb e.peer e.peer refl) ∙ eq-eqb e.number e.number refl
+abbrev pub proxied : List WriterProxy → List Endpoint
+proxied proxies = map (λ (p : WriterProxy). p.writer) proxies
+
+-- the endpoint stands at this index, and at no earlier one
+abbrev pub IsFirstOf : List Endpoint → Endpoint → ℕ → Type 0
+IsFirstOf [] e k = ⊥
+IsFirstOf (x ∷ xs) e zero = same_endpoint x e ≡ true
+IsFirstOf (x ∷ xs) e (suc k) = (same_endpoint x e ≡ false) × IsFirstOf xs e k
 
 not_same : (b : Bool) → (b ≡ true → ⊥) → b ≡ false
 not_same true never = absurd (never refl)
 not_same false never = refl
 
--- a row that stands before all others of its endpoint
-pub is_first_of : (rows : List WriterRow) (k : ℕ) (row : WriterRow) → slice_get rows k ≡ Some row → ((j : ℕ) (r : WriterRow) → j < k → slice_get rows j ≡ Some r → r.name.writer ≡ row.name.writer → ⊥)
-    → IsFirstOf rows row.name.writer k row
-is_first_of [] k row at before = absurd cc
-is_first_of (r ∷ rs) zero row at before =
-    let same : r ≡ row = same_Some r row at in (same, subst (λ (x : WriterRow). same_endpoint r.name.writer x.name.writer ≡ true) same (same_self r.name.writer))
-is_first_of (r ∷ rs) (suc k) row at before = (
-  not_same (same_endpoint r.name.writer row.name.writer) (λ t. before zero r (omega arith) refl (same_is r.name.writer row.name.writer t)),
-  is_first_of rs k row at (λ j x lt there same. before (suc j) x (omega (arith, lt)) there same),
+first_of : (names : List WriterName) (e : Endpoint) (k : ℕ) (name : WriterName) → slice_get names k ≡ Some name → name.writer ≡ e → ((j : ℕ) (n : WriterName) → j < k → slice_get names j ≡ Some n → n.writer ≡ e → ⊥) → IsFirstOf (writers_of names) e k
+first_of [] e k name at is before = absurd cc
+first_of (n ∷ ns) e zero name at is before =
+    let same : n ≡ name = same_Some n name at in
+    ap (λ (x : WriterName). same_endpoint x.writer e) same ∙ (ap (λ (x : Endpoint). same_endpoint x e) is ∙ same_self e)
+first_of (n ∷ ns) e (suc k) name at is before = (
+  not_same (same_endpoint n.writer e) (λ t. before zero n (omega arith) refl (same_is n.writer e t)),
+  first_of ns e k name at is (λ j x lt there same. before (suc j) x (omega (arith, lt)) there same),
 )
+
+pub is_first_of : (names : List WriterName) (e : Endpoint) (k : ℕ) → IsFirstRow names e k → IsFirstOf (writers_of names) e k
+is_first_of names e k h = first_of names e k h.name h.at h.is h.first
 
 hit : {X : Type 0} (b : Bool) (x y : X) → b ≡ true → cond b x y ≡ x
 hit true x y h = refl
@@ -40,79 +46,38 @@ miss : {X : Type 0} (b : Bool) (x y : X) → b ≡ false → cond b x y ≡ y
 miss true x y h = absurd cc
 miss false x y h = refl
 
--- what is looked up by an endpoint is that of its first row
-
-first_publication : (rows : List WriterRow) (e : Endpoint) (k : ℕ) (row : WriterRow) (n : ℕ) → IsFirstOf rows e k row → publication_from n (map writer_proxy rows) e ≡ Some (n + k)
-first_publication [] e k row n first = absurd first
-first_publication (r ∷ rs) e zero row n first = let same : n + 0 ≡ n = omega arith in hit (same_endpoint r.name.writer e) (Some n) (publication_from (n + 1) (map writer_proxy rs) e) first.1 ∙ ap (λ (m : ℕ). Some m) (sym same)
-first_publication (r ∷ rs) e (suc k) row n first =
+-- its publication handle
+handle_from : (proxies : List WriterProxy) (e : Endpoint) (k n : ℕ) → IsFirstOf (proxied proxies) e k → publication_from n proxies e ≡ Some (n + k)
+handle_from [] e k n first = absurd first
+handle_from (p ∷ ps) e zero n first = let same : n + 0 ≡ n = omega arith in hit (same_endpoint p.writer e) (Some n) (publication_from (n + 1) ps e) first ∙ ap (λ (m : ℕ). Some m) (sym same)
+handle_from (p ∷ ps) e (suc k) n first =
     let same : n + 1 + k ≡ n + suc k = omega arith in
-    miss (same_endpoint r.name.writer e) (Some n) (publication_from (n + 1) (map writer_proxy rs) e) first.0 ∙ (first_publication rs e k row (n + 1) first.1 ∙ ap (λ (m : ℕ). Some m) same)
+    miss (same_endpoint p.writer e) (Some n) (publication_from (n + 1) ps e) first.0 ∙ (handle_from ps e k (n + 1) first.1 ∙ ap (λ (m : ℕ). Some m) same)
 
-pub publication_is : (rows : List WriterRow) (e : Endpoint) (k : ℕ) (row : WriterRow) → IsFirstOf rows e k row → publication_of (map writer_proxy rows) e ≡ Some (k + 1)
-publication_is rows e k row first = let same : 1 + k ≡ k + 1 = omega arith in first_publication rows e k row 1 first ∙ ap (λ (m : ℕ). Some m) same
+pub handle_is : (proxies : List WriterProxy) (e : Endpoint) (k : ℕ) → IsFirstOf (proxied proxies) e k → publication_of proxies e ≡ Some (k + 1)
+handle_is proxies e k first = let same : 1 + k ≡ k + 1 = omega arith in handle_from proxies e k 1 first ∙ ap (λ (m : ℕ). Some m) same
 
-abbrev found_row : List WriterRow → Endpoint → Option WriterProxy
-found_row rows e = row_of (λ (p : WriterProxy). p.writer) (map writer_proxy rows) e
+-- there is a place
+pub place_there : (proxies : List WriterProxy) (e : Endpoint) (k : ℕ) → IsFirstOf (proxied proxies) e k → (p : ℕ) × (place_of proxies e ≡ Some p)
+place_there [] e k first = absurd first
+place_there (p ∷ ps) e zero first =
+    (p.place, ap (λ (o : Option WriterProxy). option_map (λ (q : WriterProxy). q.place) o) (hit (same_endpoint p.writer e) (Some p) (row_of (λ (q : WriterProxy). q.writer) ps e) first))
+place_there (p ∷ ps) e (suc k) first =
+    let rest = place_there ps e k first.1 in
+    (rest.0, ap (λ (o : Option WriterProxy). option_map (λ (q : WriterProxy). q.place) o) (miss (same_endpoint p.writer e) (Some p) (row_of (λ (q : WriterProxy). q.writer) ps e) first.0) ∙ rest.1)
 
-first_row : (rows : List WriterRow) (e : Endpoint) (k : ℕ) (row : WriterRow) → IsFirstOf rows e k row → found_row rows e ≡ Some (writer_proxy row)
-first_row [] e k row first = absurd first
-first_row (r ∷ rs) e zero row first = hit (same_endpoint r.name.writer e) (Some (writer_proxy r)) (found_row rs e) first.1 ∙ ap (λ (x : WriterRow). Some (writer_proxy x)) first.0
-first_row (r ∷ rs) e (suc k) row first = miss (same_endpoint r.name.writer e) (Some (writer_proxy r)) (found_row rs e) first.0 ∙ first_row rs e k row first.1
+-- a changed row is still of its writer
+kept_step : (change : WriterProxy → WriterProxy) (p : WriterProxy) (ps qs : List WriterProxy) (b : Bool) → (change p).writer ≡ p.writer → proxied qs ≡ proxied ps → proxied (cond b (change p ∷ ps) (p ∷ qs)) ≡ proxied (p ∷ ps)
+kept_step change p ps qs true kept h = ap (λ (e : Endpoint). e ∷ proxied ps) kept
+kept_step change p ps qs false kept h = ap (λ (es : List Endpoint). p.writer ∷ es) h
 
-pub place_is : (rows : List WriterRow) (e : Endpoint) (k : ℕ) (row : WriterRow) → IsFirstOf rows e k row → place_of (map writer_proxy rows) e ≡ Some row.place
-place_is rows e k row first = ap (λ (o : Option WriterProxy). option_map (λ (p : WriterProxy). p.place) o) (first_row rows e k row first)
+pub writers_kept : (change : WriterProxy → WriterProxy) → ((p : WriterProxy) → (change p).writer ≡ p.writer) → (rows : List WriterProxy) (w : Endpoint) → proxied (with_row (λ (p : WriterProxy). p.writer) change rows w) ≡ proxied rows
+writers_kept change kept [] w = refl
+writers_kept change kept (p ∷ ps) w = kept_step change p ps (with_row (λ (q : WriterProxy). q.writer) change ps w) (same_endpoint p.writer w) (kept p) (writers_kept change kept ps w)
 
-pub place_goes : (rows : List WriterRow) (e : Endpoint) (k : ℕ) (row : WriterRow) (to : ℕ) → IsFirstOf rows e k row → with_place (map writer_proxy rows) e to ≡ map writer_proxy (set rows k (record row { place = to }))
-place_goes [] e k row to first = absurd first
-place_goes (r ∷ rs) e zero row to first =
-    let moved : WriterRow → List WriterProxy = λ x. writer_proxy (record x { place = to }) ∷ map writer_proxy rs in
-    hit (same_endpoint r.name.writer e) (moved r) (writer_proxy r ∷ with_place (map writer_proxy rs) e to) first.1 ∙ ap moved first.0
-place_goes (r ∷ rs) e (suc k) row to first =
-    miss (same_endpoint r.name.writer e) (writer_proxy (record r { place = to }) ∷ map writer_proxy rs) (writer_proxy r ∷ with_place (map writer_proxy rs) e to) first.0
-    ∙ ap (λ (ps : List WriterProxy). writer_proxy r ∷ ps) (place_goes rs e k row to first.1)
-
--- where a place is found there is a first row
-record Found (rows : List WriterRow) (e : Endpoint) (place : ℕ) : Type 0 where
-  k : ℕ
-  row : WriterRow
-  first : IsFirstOf rows e k row
-  place_is : row.place ≡ place
-
-found_at : (r : WriterRow) (rs : List WriterRow) (e : Endpoint) (place : ℕ) (b : Bool) → same_endpoint r.name.writer e ≡ b → option_map (λ (p : WriterProxy). p.place) (cond b (Some (writer_proxy r)) (found_row rs e)) ≡ Some place
-    → (place_of (map writer_proxy rs) e ≡ Some place → Found rs e place) → Found (r ∷ rs) e place
-found_at r rs e place true same at later = record { k = zero; row = r; first = (refl, same); place_is = same_Some r.place place at }
-found_at r rs e place false same at later = let f = later at in record { k = suc f.k; row = f.row; first = (same, f.first); place_is = f.place_is }
-
-find_row : (rows : List WriterRow) (e : Endpoint) (place : ℕ) → place_of (map writer_proxy rows) e ≡ Some place → Found rows e place
-find_row [] e place at = absurd cc
-find_row (r ∷ rs) e place at = found_at r rs e place (same_endpoint r.name.writer e) refl at (λ there. find_row rs e place there)
-
-first_at : (rows : List WriterRow) (e : Endpoint) (k : ℕ) (row : WriterRow) → IsFirstOf rows e k row → (slice_get rows k ≡ Some row) × (row.name.writer ≡ e)
-first_at [] e k row first = absurd first
-first_at (r ∷ rs) e zero row first = (ap (λ (x : WriterRow). Some x) first.0, sym (ap (λ (x : WriterRow). x.name.writer) first.0) ∙ same_is r.name.writer e first.1)
-first_at (r ∷ rs) e (suc k) row first = first_at rs e k row first.1
-
-before_first : (rows : List WriterRow) (e : Endpoint) (k : ℕ) (row : WriterRow) → IsFirstOf rows e k row → (j : ℕ) (r : WriterRow) → j < k → slice_get rows j ≡ Some r → r.name.writer ≡ e → ⊥
-before_first [] e k row first j r lt at same = absurd first
-before_first (x ∷ xs) e zero row first j r lt at same = absurd (omega (arith, lt))
-before_first (x ∷ xs) e (suc k) row first zero r lt at same =
-    let other : same_endpoint r.name.writer e ≡ false = ap (λ (y : WriterRow). same_endpoint y.name.writer e) (sym (same_Some x r at)) ∙ first.0 in
-    let here : same_endpoint r.name.writer e ≡ true = ap (λ (y : Endpoint). same_endpoint y e) same ∙ same_self e in
-    absurd cc
-before_first (x ∷ xs) e (suc k) row first (suc j) r lt at same = before_first xs e k row first.1 j r (omega (arith, lt)) at same
-
--- the row at whose place a matched writer is
-pub record IsRowOf (rows : List WriterRow) (e : Endpoint) (place : ℕ) : Type 0 where
-  pub k : ℕ
-  pub row : WriterRow
-  pub at : slice_get rows k ≡ Some row
-  pub writer : row.name.writer ≡ e
-  pub place_is : row.place ≡ place
-  pub first : (j : ℕ) (r : WriterRow) → j < k → slice_get rows j ≡ Some r → r.name.writer ≡ e → ⊥
-
-pub row_there : (rows : List WriterRow) (e : Endpoint) (place : ℕ) → place_of (map writer_proxy rows) e ≡ Some place → IsRowOf rows e place
-row_there rows e place at =
-    let f = find_row rows e place at in
-    let a = first_at rows e f.k f.row f.first in
-    record { k = f.k; row = f.row; at = a.0; writer = a.1; place_is = f.place_is; first = before_first rows e f.k f.row f.first }
+-- one row is the first
+pub one_first : (names : List WriterName) (e : Endpoint) (j k : ℕ) → IsFirstRow names e j → IsFirstRow names e k → j ≡ k
+one_first names e j k a b =
+    let not_before : j < k → ⊥ = λ lt. b.first j a.name lt a.at a.is in
+    let not_after : k < j → ⊥ = λ lt. a.first k b.name lt b.at b.is in
+    omega (arith, not_before, not_after)

@@ -26,16 +26,14 @@ use Rattle.rtps_wire.proofs.SpellingLaws.{message_again}
 use Rattle.dds_model.specs.declared.endpoint.Endpoint.{Endpoint}
 use Rattle.dds_model.specs.declared.event.Packet.{Packet}
 use Rattle.dds_model.specs.declared.event.Output.{Output}
-use Rattle.dds_model.specs.Part.{Part, own_writer, writer_changes}
+use Rattle.dds_model.specs.Part.{Part, ReaderProxy, own_writer, writer_changes}
 use Rattle.dds_model.specs.Claims.{Claim, ChangeIs, MayPass, PlaceReached, Asserts, Receiver, receiver_of, every_peer, every_reader, is_for, stamp_of, after_submessage, StandsAt, IsWriter, IsReader, IsToReader, Says, Claims}
 use Rattle.dds_model.specs.Peer.{IsTrueAt}
 use Rattle.dds_core.specs.declared.matching.Destination.{Destination}
-use Rattle.dds_core.specs.declared.matching.ReaderRow.{ReaderRow}
 use Rattle.dds_core.specs.declared.sending.Sender.{Sender}
-use Rattle.dds_core.specs.Matching.{has_reader, destinations, reader_names}
+use Rattle.dds_core.specs.Matching.{has_reader, destinations}
 use Rattle.dds_core.specs.Sending.{announcement, IsAnnouncement, AreAnnouncements, AnnounceCopy, AreMessages, SendsChange}
-use Rattle.dds_core.specs.Standing.{reader_proxy}
-use Rattle.dds_core.proofs.Destinations.{IsPeer, is_peer, IsReaderOf, is_reader, sends_to}
+use Rattle.dds_core.proofs.Destinations.{IsPeer, is_peer, IsReaderOf, is_reader, reader_ends, sends_to}
 
 abbrev data_of : Sender → ℕ → DataContent → Submessage
 data_of sender number content = Data (record { reader_id = record { 0 = 0 ∷ 0 ∷ 0 ∷ 0 ∷ [] }; writer_id = sender.entity; writer_sn = number; content = content })
@@ -180,7 +178,7 @@ record Target (sender : Sender) (number : ℕ) (content : DataContent) (ds : Lis
   at : slice_get ds index ≡ Some to
   is : IsAnnouncement sender to number content packet
 
-contains_cases : {X : Type 0} (x : X) (xs : List X) (y : X) → Contains (x ∷ xs) y → (x ≡ y) ⊎ Contains xs y
+pub contains_cases : {X : Type 0} (x : X) (xs : List X) (y : X) → Contains (x ∷ xs) y → (x ≡ y) ⊎ Contains xs y
 contains_cases x xs y (zero, lt, is) = inl is
 contains_cases x xs y (suc k, lt, is) = inr (k, omega (arith, lt), is)
 
@@ -240,13 +238,13 @@ contains_map (x ∷ xs) zero d at = (zero, omega arith, ap (λ (y : Destination)
 contains_map (x ∷ xs) (suc k) d at = let c = contains_map xs k d at in let lt = c.1 in (suc c.0, omega (arith, lt), c.2)
 
 -- what a writer knows of those that it sends to
-pub record IsMatched (config : Config) (topic : ℕ) (rows : List ReaderRow) (ds : List Destination) : Type 0 where
-  pub names : map (λ (r : ReaderRow). r.reader) rows ≡ reader_names topic config.peers
+pub record IsMatched (config : Config) (topic : ℕ) (rows : List ReaderProxy) (ds : List Destination) : Type 0 where
+  pub names : map (λ (p : ReaderProxy). p.reader) rows ≡ reader_ends topic config.peers
   pub sent_to : ds ≡ destinations topic 1 config.peers
 
-pub sends_change : (config : Config) (sender : Sender) (own : Endpoint) (topic : ℕ) (rows : List ReaderRow) (ds : List Destination) (number : ℕ) (content : DataContent) (output : Output) → IsSender config sender own topic → IsMatched config topic rows ds
+pub sends_change : (config : Config) (sender : Sender) (own : Endpoint) (topic : ℕ) (rows : List ReaderProxy) (ds : List Destination) (number : ℕ) (content : DataContent) (output : Output) → IsSender config sender own topic → IsMatched config topic rows ds
     → sender.moment < 2 ^ 63 → AreAnnouncements sender number content ds output.packets → length output.packets + output.unsent ≡ length ds
-    → SendsChange config own (map reader_proxy rows) number (change_in content sender.moment) output
+    → SendsChange config own rows number (change_in content sender.moment) output
 sends_change config sender own topic rows ds number content output from matched early are counted =
     let peers = sends_to topic config.peers rows ds matched.names matched.sent_to in
     let ordered : AreFrom 1 ds = subst (λ (xs : List Destination). AreFrom 1 xs) (sym matched.sent_to) (all_from topic 1 config.peers) in

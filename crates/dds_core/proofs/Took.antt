@@ -25,10 +25,15 @@ use Rattle.dds_model.specs.Calls.{Answers as CallAnswers, CallStep, access_refus
 use Rattle.dds_model.specs.Machine.{no_filters}
 use Rattle.dds_model.specs.Part.{Part, Dds, Reader, WriterProxy, own_reader, own_proxies}
 use Rattle.dds_model.specs.Peer.{Peer}
-use Rattle.dds_core.specs.declared.matching.WriterRow.{WriterRow}
+use Rattle.dds_core.specs.declared.matching.WriterName.{WriterName}
+use Rattle.rtps_reader.specs.Reader.{Proxies, Tracks}
+use Rattle.rtps_reader.specs.Tracked.{Tracked}
+use Rattle.dds_core.specs.Stored.{Holds}
+use Rattle.dds_model.specs.declared.endpoint.Endpoint.{Endpoint}
+use Rattle.dds_core.proofs.Rows.{writers_of}
 use Rattle.dds_core.specs.Kept.{ReaderKept, CoreKept}
 use Rattle.dds_core.specs.Receiving.{TakesOnly, access_reply}
-use Rattle.dds_core.specs.Standing.{ReaderStands, StandsFor, writer_proxy}
+use Rattle.dds_core.specs.Standing.{IsFirstRow, ReaderStands, StandsFor}
 use Rattle.dds_core.proofs.CallSteps.{Follows, refused_call, there_is}
 use Rattle.dds_core.proofs.Ends.{with_reader, with_read, own_reader_stepped}
 use Rattle.dds_core.proofs.Taking.{silent}
@@ -57,15 +62,14 @@ good_access true false h k = absurd cc
 good_access false b h k = absurd cc
 
 -- the reader with one more entry, a take
-took_one : (k k' : ReaderKept) (proxies : List WriterProxy) (r : Reader) (samples : List SamplePosition) → TakesOnly k k' → ReaderStands k proxies r → CacheStandsFor k'.cache (Took samples ∷ r.happened)
-    → ReaderStands k' proxies (record r { happened = Took samples ∷ r.happened })
-took_one k k' proxies r samples same s stands = record {
-  proxies_are = s.proxies_are ∙ ap (λ (ws : List WriterRow). map writer_proxy ws) (sym same.writers);
+took_one : (k k' : ReaderKept) (proxies : List WriterProxy) (r : Reader) (tracked : Endpoint → Tracked) (samples : List SamplePosition) → TakesOnly k k' → ReaderStands k proxies r tracked → CacheStandsFor k'.store.cache (Took samples ∷ r.happened)
+    → ReaderStands k' proxies (record r { happened = Took samples ∷ r.happened }) tracked
+took_one k k' proxies r tracked samples same s stands = record {
+  writers_are = s.writers_are ∙ ap (λ (ns : List WriterName). writers_of ns) (sym same.writers);
+  places = s.places;
+  knows = λ w n f. subst (λ (x : Proxies). Tracks x n (tracked w)) (sym same.reader) (s.knows w n (subst (λ (ns : List WriterName). IsFirstRow ns w n) same.writers f));
   qos_is = s.qos_is ∙ sym same.qos;
-  no_samples_limit = ap (λ (q : ReaderQos). q.max_samples) same.qos ∙ s.no_samples_limit;
-  no_instances_limit = ap (λ (q : ReaderQos). q.max_instances) same.qos ∙ s.no_instances_limit;
-  arrivals_are = same.arrivals ∙ s.arrivals_are;
-  cache = stands;
+  holds = record { cache = stands; arrivals_are = same.arrivals ∙ s.holds.arrivals_are };
 }
 
 -- setting what is there changes nothing
@@ -83,18 +87,18 @@ after_take part reader samples = record part { dds = with_happening part reader 
 
 -- a take that was entered
 entered : (kept : CoreKept) (i : ℕ) (k k' : ReaderKept) (config : Config) (peer : Peer) → StandsFor kept config peer → slice_get kept.readers i ≡ Some k → TakesOnly k k' → (max : ℤ) (masks : Masks) (reply : Reply) (samples : List SamplePosition)
-    → CacheStandsFor k'.cache (Took samples ∷ (own_reader peer.part (suc i)).happened) → CallStep no_filters peer.part (call.Take (suc i) max masks) reply (after_take peer.part (suc i) samples)
+    → CacheStandsFor k'.store.cache (Took samples ∷ (own_reader peer.part (suc i)).happened) → CallStep no_filters peer.part (call.Take (suc i) max masks) reply (after_take peer.part (suc i) samples)
     → Follows (with_reader kept i k') config peer (event.Call (call.Take (suc i) max masks)) (silent reply)
 entered kept i k k' config peer s at same max masks reply samples stands step =
     let part : Part = peer.part in
     let proxies : List WriterProxy = own_proxies part (suc i) in
     let r : Reader = own_reader part (suc i) in
-    let one : ReaderStands k' proxies (record r { happened = Took samples ∷ r.happened }) = took_one k k' proxies r samples same (s.readers.each i k at) stands in
+    let one : ReaderStands k' proxies (record r { happened = Took samples ∷ r.happened }) (λ w. peer.known.tracked w (suc i)) = took_one k k' proxies r (λ w. peer.known.tracked w (suc i)) samples same (s.readers.each i k at) stands in
     let all : StandsFor (with_reader kept i k') config (record peer { part = with_read part (suc i) proxies (record r { happened = Took samples ∷ r.happened }) }) =
-    own_reader_stepped kept i k k' proxies (record r { happened = Took samples ∷ r.happened }) config peer s at (same_identity k' k same.entity same.writers) one in
+    own_reader_stepped kept i k k' proxies (record r { happened = Took samples ∷ r.happened }) peer.known config peer s at (same_identity k' k same.entity same.writers) refl (λ w n apart. refl) one in
     let rows : set part.rtps.readers i proxies ≡ part.rtps.readers = set_same part.rtps.readers i [] in (
       record peer { part = after_take part (suc i) samples },
-      record { same_number = refl; step = (step, refl); sent = λ p x m h. absurd (omega (arith, m.1)) },
+      record { same_number = refl; knows = refl; step = (step, refl); sent = λ p x m h. absurd (omega (arith, m.1)) },
       subst (λ (ps : List (List WriterProxy)). StandsFor (with_reader kept i k') config (record peer { part = with_rows part ps (with_happening part (suc i) (Took samples)) })) rows all,
     )
 
@@ -106,39 +110,36 @@ no_memory kept i k k' config peer s at same max masks good =
     subst (λ (rs : List ReaderKept). Follows (record kept { readers = rs }) config peer (event.Call (call.Take (suc i) max masks)) (silent (Refused Memory))) (sym unchanged)
     (refused_call kept config peer s (call.Take (suc i) max masks) Memory (subst (λ (o : Option Code). Refuses o Memory) (sym good) refl, refl))
 
-abbrev reader_with : ReaderKept → Stored → ReaderKept
-reader_with k cache = record k { cache = cache }
-
-kept_same : (k k' : ReaderKept) → TakesOnly k k' → k'.cache ≡ k.cache → k' ≡ k
-kept_same k k' same cache = reader_as k'.entity k.entity k'.writers k.writers k'.arrivals k.arrivals k'.cache k.cache same.entity same.writers same.arrivals cache
+kept_same : (k k' : ReaderKept) → TakesOnly k k' → k'.store.cache ≡ k.store.cache → k' ≡ k
+kept_same k k' same cache = reader_as k'.entity k.entity k'.writers k.writers k'.reader k.reader k'.store.arrivals k.store.arrivals k'.store.cache k.store.cache same.entity same.writers same.reader same.arrivals cache
   where
-    reader_as : (a b : EntityId) (x y : List WriterRow) (m n : ℕ) (c d : Stored) → a ≡ b → x ≡ y → m ≡ n → c ≡ d
-        → ◌≡◌ {A = ReaderKept} (record { entity = a; writers = x; arrivals = m; cache = c }) (record { entity = b; writers = y; arrivals = n; cache = d })
-    reader_as a b x y m n c d e f g h = cc
+    reader_as : (a b : EntityId) (x y : List WriterName) (p q : Proxies) (m n : ℕ) (c d : Stored) → a ≡ b → x ≡ y → p ≡ q → m ≡ n → c ≡ d
+        → ◌≡◌ {A = ReaderKept} (record { entity = a; writers = x; reader = p; store = record { arrivals = m; cache = c } }) (record { entity = b; writers = y; reader = q; store = record { arrivals = n; cache = d } })
+    reader_as a b x y p q m n c d e f g h i = cc
 
 -- what a cache answers is what the machine answers
 took : (kept : CoreKept) (i : ℕ) (k k' : ReaderKept) (config : Config) (peer : Peer) → StandsFor kept config peer → slice_get kept.readers i ≡ Some k → TakesOnly k k' → (max : ℤ) (masks : Masks) (r : Result (List Sample) Code)
-    → access_refusal peer.part (suc i) max ≡ None → (own_reader peer.part (suc i)).qos ≡ qos_of k.cache → Answers k.cache (own_reader peer.part (suc i)).happened (limit_of max) masks r
-    → AfterAccess Took k.cache (own_reader peer.part (suc i)).happened (limit_of max) masks r k'.cache → Follows (with_reader kept i k') config peer (event.Call (call.Take (suc i) max masks)) (silent (access_reply r))
+    → access_refusal peer.part (suc i) max ≡ None → (own_reader peer.part (suc i)).qos ≡ qos_of k.store.cache → Answers k.store.cache (own_reader peer.part (suc i)).happened (limit_of max) masks r
+    → AfterAccess Took k.store.cache (own_reader peer.part (suc i)).happened (limit_of max) masks r k'.store.cache → Follows (with_reader kept i k') config peer (event.Call (call.Take (suc i) max masks)) (silent (access_reply r))
 took kept i k k' config peer s at same max masks (Ok samples) good qos answer after =
     let h : List Happening = (own_reader peer.part (suc i)).happened in
-    let found : picked k.cache h (limit_of max) masks ≡ picked_at peer.part (suc i) max masks = ap (λ (q : ReaderQos). picked_samples q h (limit_of max) masks no_filter) (sym qos) in
+    let found : picked k.store.cache h (limit_of max) masks ≡ picked_at peer.part (suc i) max masks = ap (λ (q : ReaderQos). picked_samples q h (limit_of max) masks no_filter) (sym qos) in
     let some : picked_at peer.part (suc i) max masks ≢ [] = λ none. answer.0 (found ∙ none) in
     let collected : samples ≡ collection_of (own_reader peer.part (suc i)).qos h (picked_at peer.part (suc i) max masks) =
-    answer.1 ∙ (ap (λ (ps : List SamplePosition). collection_of (qos_of k.cache) h ps) found ∙ ap (λ (q : ReaderQos). collection_of q h (picked_at peer.part (suc i) max masks)) (sym qos)) in
-    entered kept i k k' config peer s at same max masks (Samples samples) (picked_at peer.part (suc i) max masks) (subst (λ (ps : List SamplePosition). CacheStandsFor k'.cache (Took ps ∷ h)) found after)
+    answer.1 ∙ (ap (λ (ps : List SamplePosition). collection_of (qos_of k.store.cache) h ps) found ∙ ap (λ (q : ReaderQos). collection_of q h (picked_at peer.part (suc i) max masks)) (sym qos)) in
+    entered kept i k k' config peer s at same max masks (Samples samples) (picked_at peer.part (suc i) max masks) (subst (λ (ps : List SamplePosition). CacheStandsFor k'.store.cache (Took ps ∷ h)) found after)
     (record { answers = (good, some, collected, refl); rtps = refl })
 took kept i k k' config peer s at same max masks (Err NoData) good qos answer after =
     let h : List Happening = (own_reader peer.part (suc i)).happened in
-    let found : picked k.cache h (limit_of max) masks ≡ picked_at peer.part (suc i) max masks = ap (λ (q : ReaderQos). picked_samples q h (limit_of max) masks no_filter) (sym qos) in
-    entered kept i k k' config peer s at same max masks (Refused NoData) [] (subst (λ (ps : List SamplePosition). CacheStandsFor k'.cache (Took ps ∷ h)) answer after) (record { answers = (good, sym found ∙ answer, refl); rtps = refl })
+    let found : picked k.store.cache h (limit_of max) masks ≡ picked_at peer.part (suc i) max masks = ap (λ (q : ReaderQos). picked_samples q h (limit_of max) masks no_filter) (sym qos) in
+    entered kept i k k' config peer s at same max masks (Refused NoData) [] (subst (λ (ps : List SamplePosition). CacheStandsFor k'.store.cache (Took ps ∷ h)) answer after) (record { answers = (good, sym found ∙ answer, refl); rtps = refl })
 took kept i k k' config peer s at same max masks (Err Memory) good qos answer after = no_memory kept i k k' config peer s at (kept_same k k' same after) max masks good
 took kept i k k' config peer s at same max masks (Err c) good qos answer after = absurd answer
 
 -- the same of the reader of a number
 pub took_at : (kept : CoreKept) (reader i : ℕ) (k k' : ReaderKept) (config : Config) (peer : Peer) → StandsFor kept config peer → reader ≡ i + 1 → i < length kept.readers → slice_get kept.readers i ≡ Some k → TakesOnly k k' → (max : ℤ) (limit : Option ℕ)
-    (masks : Masks) (r : Result (List Sample) Code) → is_maximum max ≡ true → limit ≡ limit_of max → ((h : List Happening) → CacheStandsFor k.cache h → Answers k.cache h limit masks r)
-    → ((h : List Happening) → CacheStandsFor k.cache h → AfterAccess Took k.cache h limit masks r k'.cache) → Follows (with_reader kept i k') config peer (event.Call (call.Take reader max masks)) (silent (access_reply r))
+    (masks : Masks) (r : Result (List Sample) Code) → is_maximum max ≡ true → limit ≡ limit_of max → ((h : List Happening) → Holds k.store h → Answers k.store.cache h limit masks r)
+    → ((h : List Happening) → Holds k.store h → AfterAccess Took k.store.cache h limit masks r k'.store.cache) → Follows (with_reader kept i k') config peer (event.Call (call.Take reader max masks)) (silent (access_reply r))
 took_at kept reader i k k' config peer s is lt at same max limit masks r good limited answer after =
     let index : i + 1 ≡ suc i = omega arith in
     let rs = s.readers.each i k at in
@@ -147,4 +148,4 @@ took_at kept reader i k k' config peer s is lt at same max limit masks r good li
     let h : List Happening = (own_reader peer.part (suc i)).happened in
     subst (λ (n : ℕ). Follows (with_reader kept i k') config peer (event.Call (call.Take n max masks)) (silent (access_reply r))) (sym (is ∙ index))
     (took kept i k k' config peer s at same max masks r (good_access (has_number peer.part.dds.readers (suc i)) (is_maximum max) known good) rs.qos_is
-    (subst (λ (l : Option ℕ). Answers k.cache h l masks r) limited (answer h rs.cache)) (subst (λ (l : Option ℕ). AfterAccess Took k.cache h l masks r k'.cache) limited (after h rs.cache)))
+    (subst (λ (l : Option ℕ). Answers k.store.cache h l masks r) limited (answer h rs.holds)) (subst (λ (l : Option ℕ). AfterAccess Took k.store.cache h l masks r k'.store.cache) limited (after h rs.holds)))

@@ -1,28 +1,28 @@
 -- A writer at its opening, and after what happens there.
-use Rattle.std.proofs.Common.{◌≡◌, ℕ, Bool, true, false, not, ◌&&◌, ◌||◌, List, [], Option, None, map, replicate, length, refl, ap, sym, ◌∙◌, subst}
-use Rattle.std.specs.Prelude.{if◌then◌else◌, ℤ, pos, negsuc, is_some}
+use Rattle.std.proofs.Common.{◌≡◌, ℕ, zero, suc, ◌≤◌, Bool, true, false, ◌&&◌, List, [], ◌∷◌, Option, None, map, replicate, length, get_or, refl, ap, sym, ◌∙◌, subst, arith}
+use Rattle.std.specs.Prelude.{◌+◌, ◌||◌, nat_le, ℤ, pos, negsuc, Result, Ok, Err, IfOk, IfErr, OnOk}
+use Rattle.std.specs.List.{AllByRecursion, list_any}
+use Rattle.std.proofs.lemmas.List.Elements.{All-from_recursion}
+use Rattle.dds_base.specs.declared.change.Change.{Change}
+use Rattle.dds_base.specs.declared.code.Code.{Code}
 use Rattle.dds_base.specs.declared.config.PeerConfig.{PeerConfig}
 use Rattle.dds_base.specs.declared.config.WriterConfig.{WriterConfig}
 use Rattle.dds_base.specs.declared.guid.EntityId.{EntityId}
-use Rattle.dds_base.specs.declared.change.Change.{Change}
-use Rattle.dds_base.specs.declared.key.Key.{Key}
-use Rattle.dds_base.specs.declared.qos.HistoryQos.{HistoryQos}
-use Rattle.dds_base.specs.Happening.{same_key, is_unregister}
-use Rattle.dds_base.specs.Kept.{WriterHistory, appended}
-use Rattle.dds_base.specs.Matched.{of_matched_readers}
-use Rattle.dds_base.specs.Written.{Written, Registered, Changed}
-use Rattle.dds_history.specs.Standing.{Held, StandsFor as HistoryStandsFor}
+use Rattle.dds_base.specs.Kept.{append_refusal}
+use Rattle.dds_base.specs.Refusal.{Refuses}
+use Rattle.dds_base.specs.Written.{Written, Ticked}
+use Rattle.rtps_writer.specs.Standing.{Kept, StandsFor as RtpsStandsFor}
+use Rattle.rtps_writer.specs.WriterState.{WriterState, entering, history_of, is_behind, last_of, opening, ticked}
 use Rattle.dds_model.specs.declared.endpoint.Endpoint.{Endpoint}
 use Rattle.dds_model.specs.Opening.{matched_readers}
-use Rattle.dds_model.specs.Part.{ReaderProxy, history_of}
+use Rattle.dds_model.specs.Part.{Writer, ReaderProxy, writer_changes, history_of as writer_history, is_behind as is_writer_behind}
 use Rattle.dds_model.specs.Calls.{limit_of}
 use Rattle.dds_core.specs.declared.matching.Destination.{Destination}
-use Rattle.dds_core.specs.declared.matching.ReaderRow.{ReaderRow}
-use Rattle.dds_core.specs.Kept.{WriterKept, WriterIdentity}
-use Rattle.dds_core.specs.Matching.{destinations, reader_row}
-use Rattle.dds_core.specs.Opening.{is_shared, keeps_all, is_unlimited, is_plain_writer, OpensWriter}
-use Rattle.dds_core.specs.Registered.{is_among}
-use Rattle.dds_core.specs.Standing.{Enters, reader_proxy}
+use Rattle.dds_core.specs.declared.matching.ReaderName.{ReaderName}
+use Rattle.dds_core.specs.Kept.{WriterKept, WriterIdentity, writer_identity}
+use Rattle.dds_core.specs.Matching.{destinations, reader_name, reader_names}
+use Rattle.dds_core.specs.Opening.{OpensWriter, is_unlimited}
+use Rattle.dds_core.specs.Standing.{Enters, Ticks, WriterStands, state_of}
 use Rattle.dds_core.proofs.Tables.{map-matched_readers, told_alike}
 
 -- what is plain has no limit
@@ -42,75 +42,107 @@ no_limit (negsuc n) h = refl
 pub both_parts : (a b : Bool) → (a && b) ≡ true → (a ≡ true) × (b ≡ true)
 both_parts a b h = (and_left a b h, and_right a b h)
 
-plain_limit : (w : WriterConfig) → is_plain_writer w ≡ true → limit_of w.max_samples ≡ None
-plain_limit w plain =
-    let rest = and_right (is_shared w.ownership) (keeps_all w.history && (is_unlimited w.max_samples && not (is_some w.lease))) plain in
-    let limits = and_right (keeps_all w.history) (is_unlimited w.max_samples && not (is_some w.lease)) rest in
-    no_limit w.max_samples (and_left (is_unlimited w.max_samples) (not (is_some w.lease)) limits)
-
 -- a writer at its opening
 
-history_as : (p : HistoryQos) (m n : Option ℕ) (a b : List ℕ) → m ≡ n → a ≡ b
-    → ◌≡◌ {A = WriterHistory} (record { policy = p; max_samples = m; changes = []; acknowledged = a }) (record { policy = p; max_samples = n; changes = []; acknowledged = b })
-history_as p m n a b e f = cc
+state_as : (w : WriterConfig) (a b : List ℕ) (c d : List (Option ℤ)) → a ≡ b → c ≡ d
+    → ◌≡◌ {A = WriterState} (record { policy = w.history; max_samples = limit_of w.max_samples; written = []; acknowledged = a; counts = c })
+    (record { policy = w.history; max_samples = limit_of w.max_samples; written = []; acknowledged = b; counts = d })
+state_as w a b c d e f = cc
 
-identity_as : (entity : EntityId) (autodispose : Bool) (a b : List Destination) (c d : List Endpoint) → a ≡ b → c ≡ d
+identity_as : (entity : EntityId) (autodispose : Bool) (a b : List Destination) (c d : List ReaderName) → a ≡ b → c ≡ d
     → ◌≡◌ {A = WriterIdentity} (record { entity = entity; autodispose = autodispose; destinations = a; readers = c }) (record { entity = entity; autodispose = autodispose; destinations = b; readers = d })
 identity_as entity autodispose a b c d e f = cc
 
-pub opens_writer : (peers : List PeerConfig) (w : WriterConfig) (ds : List Destination) (rows : List ReaderRow) (keys : List Key) (held : Held) (count : ℕ) → count ≡ length rows → is_plain_writer w ≡ true
-    → ds ≡ destinations w.topic 1 peers → rows ≡ of_matched_readers (λ i p. reader_row i) w.topic 1 peers → keys ≡ []
-    → HistoryStandsFor held (record { policy = w.history; max_samples = None; changes = []; acknowledged = replicate count 1 })
-    → OpensWriter peers w (record { entity = w.entity; autodispose = w.autodispose; destinations = ds; readers = rows; registered = keys; history = held })
-opens_writer peers w ds rows keys held count counted plain sent matched none stands =
-    let tell : ℕ → PeerConfig → ℕ → _ → ReaderRow = λ i p. reader_row i in
-    let proxies : matched_readers w.topic 1 peers ≡ map reader_proxy rows = sym (ap (λ (rs : List ReaderRow). map reader_proxy rs) matched ∙ map-matched_readers reader_proxy tell w.topic 1 peers) in
-    let acknowledged : map (λ (p : ReaderProxy). p.acknowledged) (matched_readers w.topic 1 peers) ≡ replicate (length rows) 1 =
-    map-matched_readers (λ (p : ReaderProxy). p.acknowledged) _ w.topic 1 peers ∙ (told_alike 1 tell w.topic 1 peers ∙ ap (λ (rs : List ReaderRow). replicate (length rs) 1) (sym matched)) in
+-- what looks alike of each row is of one value
+rows_begun : (rows : List ReaderProxy) (count : ℕ) → map (λ (p : ReaderProxy). p.acknowledged) rows ≡ replicate count 1 → AllByRecursion (λ (p : ReaderProxy). 1 ≤ p.acknowledged) rows
+rows_begun [] count same = tt
+rows_begun (p ∷ ps) zero same = absurd cc
+rows_begun (p ∷ ps) (suc count) same = (first p.acknowledged (map (λ (q : ReaderProxy). q.acknowledged) ps) (replicate count 1) same, rows_begun ps count (rest p.acknowledged _ _ same))
+  where
+    first : (a : ℕ) (xs ys : List ℕ) → a ∷ xs ≡ 1 ∷ ys → 1 ≤ a
+    first a xs ys e = let one = ap (λ (ns : List ℕ). get_or ns 0 0) e in omega (arith, one)
+
+    rest : (a : ℕ) (xs ys : List ℕ) → a ∷ xs ≡ 1 ∷ ys → xs ≡ ys
+    rest a xs ys e = cc
+
+pub opens_writer : (peers : List PeerConfig) (w : WriterConfig) (ds : List Destination) (names : List ReaderName) (limit : Option ℕ) (kept : Kept) (count : ℕ) → count ≡ length names
+    → ds ≡ destinations w.topic 1 peers → names ≡ reader_names w.topic peers → limit ≡ limit_of w.max_samples
+    → RtpsStandsFor kept (opening w.history limit count)
+    → OpensWriter peers w (record { entity = w.entity; autodispose = w.autodispose; destinations = ds; readers = names; writer = kept })
+opens_writer peers w ds names limit kept count counted sent matched limited stands =
+    let rows : List ReaderProxy = matched_readers w.topic 1 peers in
+    let many : length (reader_names w.topic peers) ≡ count = sym (counted ∙ ap (λ (ns : List ReaderName). length ns) matched) in
+    let acknowledged : map (λ (p : ReaderProxy). p.acknowledged) rows ≡ replicate count 1 =
+    map-matched_readers (λ (p : ReaderProxy). p.acknowledged) _ w.topic 1 peers ∙ (told_alike 1 reader_name w.topic 1 peers ∙ ap (λ (n : ℕ). replicate n 1) many) in
+    let none : Option ℤ = None in
+    let counts : map (λ (p : ReaderProxy). none) rows ≡ replicate count none =
+    map-matched_readers (λ (p : ReaderProxy). none) _ w.topic 1 peers ∙ (told_alike none reader_name w.topic 1 peers ∙ ap (λ (n : ℕ). replicate n none) many) in
     record {
-      identity = identity_as w.entity w.autodispose ds _ (map (λ (r : ReaderRow). r.reader) rows) _ sent (ap (λ (rs : List ReaderRow). map (λ (r : ReaderRow). r.reader) rs) matched ∙ map-matched_readers (λ (r : ReaderRow). r.reader) tell w.topic 1 peers);
+      identity = identity_as w.entity w.autodispose ds _ names _ sent matched;
       stands = record {
         autodispose = refl;
-        readers = proxies;
-        registered = λ key. ap (λ (ks : List Key). is_among ks key) none;
-        history = subst (λ (h : WriterHistory). HistoryStandsFor held h)
-            (history_as w.history None (limit_of w.max_samples) (replicate count 1) (map (λ (p : ReaderProxy). p.acknowledged) (matched_readers w.topic 1 peers)) (sym (plain_limit w plain))
-            (ap (λ (n : ℕ). replicate n 1) counted ∙ sym acknowledged)) stands;
+        readers = map-matched_readers (λ (p : ReaderProxy). p.reader) _ w.topic 1 peers
+            ∙ sym (ap (λ (ns : List ReaderName). map (λ (n : ReaderName). n.reader) ns) matched ∙ map-matched_readers (λ (n : ReaderName). n.reader) reader_name w.topic 1 peers);
+        writer = subst (λ (s : WriterState). RtpsStandsFor kept s) (state_as w (replicate count 1) _ (replicate count none) _ (sym acknowledged) (sym counts))
+            (subst (λ (o : Option ℕ). RtpsStandsFor kept (opening w.history o count)) limited stands);
+        begun = All-from_recursion (λ (p : ReaderProxy). 1 ≤ p.acknowledged) rows (rows_begun rows count acknowledged);
       };
     }
 
--- a writer with more registered, or one change more
+-- what stands for a writer does so under another name
+pub stands_there : (kept now : WriterKept) (w : Writer) (answered : Endpoint → Option ℤ) → kept ≡ now → WriterStands now w answered → WriterStands kept w answered
+stands_there kept now w answered same s = subst (λ (k : WriterKept). WriterStands k w answered) (sym same) s
 
-abbrev pub with_keys : WriterKept → List Key → WriterKept
-with_keys kept keys = record kept { registered = keys }
+-- a writer at which this happened besides
 
-abbrev pub with_change : WriterKept → List Key → Held → WriterKept
-with_change kept keys held = record kept { registered = keys; history = held }
-
-pub registers : (kept : WriterKept) (keys : List Key) (key : Key) → ((k : Key) → is_among keys k ≡ (same_key key k || is_among kept.registered k)) → Enters kept (Registered key) (with_keys kept keys)
-registers kept keys key more = record {
+pub enters : (kept : WriterKept) (entry : Written) (after : Kept) → ((s : WriterState) → RtpsStandsFor kept.writer s → RtpsStandsFor after (entering s entry))
+    → Enters kept entry (record kept { writer = after })
+enters kept entry after more = record {
   same = refl;
-  stands = λ w s. record {
-    autodispose = s.autodispose;
-    readers = s.readers;
-    registered = λ k. more k ∙ ap (λ (b : Bool). same_key key k || b) (s.registered k);
-    history = s.history;
-  };
+  stands = λ w answered s. record { autodispose = s.autodispose; readers = s.readers; writer = more (state_of w answered) s.writer; begun = s.begun };
 }
 
-pub changes : (kept : WriterKept) (keys : List Key) (held : Held) (change : Change)
-    → ((k : Key) → is_among keys k ≡ (if same_key change.key k then not (is_unregister change.kind) else is_among kept.registered k))
-    → ((h : WriterHistory) → HistoryStandsFor kept.history h → HistoryStandsFor held (appended h change)) → Enters kept (Changed change) (with_change kept keys held)
-changes kept keys held change noted more = record {
-  same = refl;
-  stands = λ w s. record {
-    autodispose = s.autodispose;
-    readers = s.readers;
-    registered = λ k. noted k ∙ ap (λ (b : Bool). if same_key change.key k then not (is_unregister change.kind) else b) (s.registered k);
-    history = more (history_of w) s.history;
-  };
-}
+-- the same, where it was not refused
+pub enters_if : {A B : Type 0} (result : Result A B) (kept now : WriterKept) (entry : Written) (after : Kept) → kept ≡ now → ((s : WriterState) → RtpsStandsFor kept.writer s → OnOk result (RtpsStandsFor after (entering s entry)))
+    → OnOk result (Enters now entry (record kept { writer = after }))
+enters_if (Ok x) kept now entry after same more = subst (λ (k : WriterKept). Enters k entry (record kept { writer = after })) same (enters kept entry after more)
+enters_if (Err e) kept now entry after same more = tt
 
--- the same, of another name for what was kept
-pub enters_as : (a b : WriterKept) (entry : Written) (new : WriterKept) → a ≡ b → Enters a entry new → Enters b entry new
-enters_as a b entry new same enters = subst (λ (k : WriterKept). Enters k entry new) same enters
+-- a change that was accepted, and one that was refused
+
+pub accepts_if : (result : Result ℕ Code) (kept now : WriterKept) (change : Change) → kept ≡ now
+    → ((s : WriterState) → RtpsStandsFor kept.writer s → IfOk result (λ number. (append_refusal (history_of s) change ≡ None) × (number ≡ last_of s + 1)))
+    → IfOk result (λ number. (w : Writer) (answered : Endpoint → Option ℤ) → WriterStands now w answered → (append_refusal (writer_history w) change ≡ None) × (number ≡ length (writer_changes w) + 1))
+accepts_if (Ok n) kept now change same accepts = λ w answered s. accepts (state_of w answered) (stands_there kept now w answered same s).writer
+accepts_if (Err e) kept now change same accepts = tt
+
+pub refuses_if : (result : Result ℕ Code) (kept now : WriterKept) (change : Change) → kept ≡ now
+    → ((s : WriterState) → RtpsStandsFor kept.writer s → IfErr result (Refuses (append_refusal (history_of s) change)))
+    → IfErr result (λ code. (w : Writer) (answered : Endpoint → Option ℤ) → WriterStands now w answered → Refuses (append_refusal (writer_history w) change) code)
+refuses_if (Ok n) kept now change same refuses = tt
+refuses_if (Err e) kept now change same refuses = λ w answered s. refuses (state_of w answered) (stands_there kept now w answered same s).writer
+
+-- a tick
+
+-- a writer of the machine is behind where its state is
+pub behind_same : (w : Writer) (answered : Endpoint → Option ℤ) → is_behind (state_of w answered) ≡ is_writer_behind w
+behind_same w answered = any_same w.readers (length (writer_changes w))
+  where
+    any_same : (rows : List ReaderProxy) (last : ℕ) → list_any (λ a. nat_le a last) (map (λ (p : ReaderProxy). p.acknowledged) rows) ≡ list_any (λ (p : ReaderProxy). nat_le p.acknowledged last) rows
+    any_same [] last = refl
+    any_same (p ∷ ps) last = ap (λ (b : Bool). nat_le p.acknowledged last || b) (any_same ps last)
+
+pub ticks : (kept current : WriterKept) (now : ℕ) (after : Kept) → kept ≡ current → ((s : WriterState) → RtpsStandsFor kept.writer s → RtpsStandsFor after (ticked s now))
+    → Ticks current now (record kept { writer = after })
+ticks kept current now after same more = record {
+  same = ap writer_identity same;
+  stands = λ w answered s.
+      let here = stands_there kept current w answered same s in
+      let state : WriterState = state_of w answered in
+      record {
+        autodispose = here.autodispose;
+        readers = here.readers;
+        writer = subst (λ (b : Bool). RtpsStandsFor after (entering state (Ticked now b))) (behind_same w answered) (more state here.writer);
+        begun = here.begun;
+      };
+}

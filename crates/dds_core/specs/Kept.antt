@@ -1,39 +1,42 @@
 -- What a peer keeps: what never changes, which the configuration says, and what events change.
-use Rattle.std.specs.Prelude.{◌≡◌, ℕ, Bool, List, map, None}
+use Rattle.std.specs.Prelude.{◌≡◌, ◌≤◌, ℕ, Bool, List, length, map, None}
 use Rattle.dds_base.specs.declared.config.Config.{Config}
 use Rattle.dds_base.specs.declared.config.PeerConfig.{PeerConfig}
 use Rattle.dds_base.specs.declared.config.WriterConfig.{WriterConfig}
 use Rattle.dds_base.specs.declared.config.ReaderConfig.{ReaderConfig}
 use Rattle.dds_base.specs.declared.guid.GuidPrefix.{GuidPrefix}
 use Rattle.dds_base.specs.declared.guid.EntityId.{EntityId}
-use Rattle.dds_base.specs.declared.key.Key.{Key}
 use Rattle.dds_base.specs.Checked.{check_refusal}
-use Rattle.dds_history.specs.Standing.{Held}
-use Rattle.dds_cache.specs.Standing.{Stored}
+use Rattle.dds_cache.specs.Standing.{qos_of}
+use Rattle.rtps_reader.specs.Reader.{Proxies, count_of}
+use Rattle.rtps_writer.specs.Standing.{Kept}
+use Rattle.dds_core.specs.Stored.{StoreKept}
 use Rattle.dds_model.specs.declared.endpoint.Endpoint.{Endpoint}
 use Rattle.dds_model.specs.Claims.{IsNumbered}
 use Rattle.dds_core.specs.declared.matching.Destination.{Destination}
-use Rattle.dds_core.specs.declared.matching.ReaderRow.{ReaderRow}
+use Rattle.dds_core.specs.declared.matching.ReaderName.{ReaderName}
 use Rattle.dds_core.specs.declared.matching.WriterName.{WriterName}
-use Rattle.dds_core.specs.declared.matching.WriterRow.{WriterRow}
 use Rattle.dds_core.specs.Matching.{destinations, reader_names, writer_names}
 
--- a writer: whom it sends to, its matched readers with what they acknowledged, the instances that it has registered, and
--- its history
+-- a writer: whom it sends to, its matched readers by their names, and what it keeps of its changes and of those readers
 pub record WriterKept : Type 0 where
   pub entity : EntityId
   pub autodispose : Bool
   pub destinations : List Destination
-  pub readers : List ReaderRow
-  pub registered : List Key
-  pub history : Held
+  pub readers : List ReaderName
+  pub writer : Kept
 
--- a reader: its matched writers with its places there, how many changes came, and its cache
+-- a reader: its matched writers, what it knows of them, and what it stores
 pub record ReaderKept : Type 0 where
   pub entity : EntityId
-  pub writers : List WriterRow
-  pub arrivals : ℕ
-  pub cache : Stored
+  pub writers : List WriterName
+  pub reader : Proxies
+  pub store : StoreKept
+
+-- each matched writer is known, and is among those of the policies
+pub record FitsWriters (names : List WriterName) (reader : Proxies) (store : StoreKept) : Type 0 where
+  pub count : count_of reader ≡ length names
+  pub fits : length names ≤ length (qos_of store.cache).writers
 
 pub record CoreKept : Type 0 where
   pub prefix : GuidPrefix
@@ -46,7 +49,7 @@ pub record WriterIdentity : Type 0 where
   pub entity : EntityId
   pub autodispose : Bool
   pub destinations : List Destination
-  pub readers : List Endpoint
+  pub readers : List ReaderName
 
 pub record ReaderIdentity : Type 0 where
   pub entity : EntityId
@@ -58,10 +61,10 @@ pub record Identity : Type 0 where
   pub readers : List ReaderIdentity
 
 abbrev pub writer_identity : WriterKept → WriterIdentity
-writer_identity w = record { entity = w.entity; autodispose = w.autodispose; destinations = w.destinations; readers = map (λ (r : ReaderRow). r.reader) w.readers }
+writer_identity w = record { entity = w.entity; autodispose = w.autodispose; destinations = w.destinations; readers = w.readers }
 
 abbrev pub reader_identity : ReaderKept → ReaderIdentity
-reader_identity r = record { entity = r.entity; writers = map (λ (w : WriterRow). w.name) r.writers }
+reader_identity r = record { entity = r.entity; writers = r.writers }
 
 abbrev pub identity_of : CoreKept → Identity
 identity_of kept = record { prefix = kept.prefix; writers = map writer_identity kept.writers; readers = map reader_identity kept.readers }

@@ -1,4 +1,3 @@
-pub mod Registered
 pub mod Matching
 pub mod Kept
 pub mod Standing
@@ -6,3 +5,5 @@ pub mod Opening
 pub mod Sending
 pub mod Making
 pub mod Receiving
+pub mod Stored
+pub mod Beating

@@ -7,13 +7,11 @@ use Rattle.std.specs.List.{list_any}
 use Rattle.dds_base.specs.declared.config.PeerConfig.{PeerConfig}
 use Rattle.dds_base.specs.declared.config.ReaderConfig.{ReaderConfig}
 use Rattle.dds_base.specs.Matched.{same_topic, of_matched_writers, of_matched_readers}
-use Rattle.dds_model.specs.declared.endpoint.Endpoint.{Endpoint}
 use Rattle.dds_core.specs.declared.matching.Destination.{Destination}
 use Rattle.dds_base.specs.declared.config.WriterConfig.{WriterConfig}
 use Rattle.dds_base.specs.declared.qos.MatchedWriter.{MatchedWriter}
-use Rattle.dds_core.specs.declared.matching.ReaderRow.{ReaderRow}
+use Rattle.dds_core.specs.declared.matching.ReaderName.{ReaderName}
 use Rattle.dds_core.specs.declared.matching.WriterName.{WriterName}
-use Rattle.dds_core.specs.declared.matching.WriterRow.{WriterRow}
 
 -- some of these readers is of the topic
 abbrev pub has_reader : ℕ → List ReaderConfig → Bool
@@ -24,9 +22,13 @@ abbrev pub destinations : ℕ → ℕ → List PeerConfig → List Destination
 destinations topic peer [] = []
 destinations topic peer (p ∷ ps) = cond (has_reader topic p.readers) (record { peer = peer; prefix = p.prefix } ∷ destinations topic (peer + 1) ps) (destinations topic (peer + 1) ps)
 
+-- the name of a reader
+abbrev pub reader_name : ℕ → PeerConfig → ℕ → ReaderConfig → ReaderName
+reader_name peer p number r = record { reader = record { peer = peer; number = number }; guid = record { prefix = p.prefix; entity = r.entity } }
+
 -- the readers of the topic, in the order of the configuration
-abbrev pub reader_names : ℕ → List PeerConfig → List Endpoint
-reader_names topic peers = of_matched_readers (λ peer p number r. record { peer = peer; number = number }) topic 1 peers
+abbrev pub reader_names : ℕ → List PeerConfig → List ReaderName
+reader_names topic peers = of_matched_readers reader_name topic 1 peers
 
 -- the name of a writer
 abbrev pub writer_name : ℕ → PeerConfig → ℕ → WriterConfig → WriterName
@@ -36,12 +38,6 @@ writer_name peer p number w = record { writer = record { peer = peer; number = n
 abbrev pub writer_names : ℕ → List PeerConfig → List WriterName
 writer_names topic peers = of_matched_writers writer_name topic 1 peers
 
--- the rows of matched ends at the opening, and what a reader's QoS says of a matched writer
-abbrev pub reader_row : ℕ → ℕ → ReaderConfig → ReaderRow
-reader_row peer number r = record { reader = record { peer = peer; number = number }; acknowledged = 1 }
-
-abbrev pub writer_row : ℕ → PeerConfig → ℕ → WriterConfig → WriterRow
-writer_row peer p number w = record { name = writer_name peer p number w; place = 1 }
-
+-- what a reader's QoS says of a matched writer
 abbrev pub matched_writer : ℕ → PeerConfig → ℕ → WriterConfig → MatchedWriter
 matched_writer peer p number w = record { guid = record { prefix = p.prefix; entity = w.entity }; strength = w.strength; lease = w.lease }

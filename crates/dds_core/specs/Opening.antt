@@ -12,6 +12,7 @@ use Rattle.dds_base.specs.declared.qos.HistoryQos.TheVariants.{KeepAll, KeepLast
 use Rattle.dds_base.specs.declared.qos.OwnershipQos.{OwnershipQos}
 use Rattle.dds_base.specs.declared.qos.OwnershipQos.TheVariants.{Shared, Exclusive}
 use Rattle.dds_base.specs.Checked.{check_refusal}
+use Rattle.rtps_reader.specs.Tracked.{fresh}
 use Rattle.dds_model.specs.Calls.{has_number}
 use Rattle.dds_model.specs.Opening.{opening_writer, matched_writers, reader_qos, opening_world}
 use Rattle.dds_model.specs.Peer.{Peer}
@@ -32,9 +33,9 @@ abbrev pub is_unlimited : ℤ → Bool
 is_unlimited (negsuc zero) = true
 is_unlimited _ = false
 
--- a shared writer that keeps all, without a limit or a lease
+-- a shared writer without a lease
 abbrev pub is_plain_writer : WriterConfig → Bool
-is_plain_writer w = is_shared w.ownership && (keeps_all w.history && (is_unlimited w.max_samples && not (is_some w.lease)))
+is_plain_writer w = is_shared w.ownership && not (is_some w.lease)
 
 -- a shared reader that keeps all, without a limit or a lease
 abbrev pub is_plain_reader : ReaderConfig → Bool
@@ -61,12 +62,12 @@ opening_peer config peer = peer_at (opening_world config) peer
 -- a writer that stands for the one of its configuration, at the opening
 pub record OpensWriter (peers : List PeerConfig) (config : WriterConfig) (kept : WriterKept) : Type 0 where
   pub identity : writer_identity kept ≡ configured_writer peers config
-  pub stands : WriterStands kept (opening_writer peers config)
+  pub stands : WriterStands kept (opening_writer peers config) (λ r. None)
 
 -- a reader that stands for the one of its configuration, at the opening
 pub record OpensReader (peers : List PeerConfig) (config : ReaderConfig) (kept : ReaderKept) : Type 0 where
   pub identity : reader_identity kept ≡ configured_reader peers config
-  pub stands : ReaderStands kept (matched_writers config.topic 1 peers) (record { qos = reader_qos peers config; happened = [] })
+  pub stands : ReaderStands kept (matched_writers config.topic 1 peers) (record { qos = reader_qos peers config; happened = [] }) (λ w. fresh)
 
 pub record OpenWriters (peers : List PeerConfig) (configs : List WriterConfig) (kept : List WriterKept) : Type 0 where
   pub count : length kept ≡ length configs

@@ -1,234 +1,286 @@
--- How a peer takes up the submessages of a packet: a DATA with the change at a reader's place is made ready for every such
--- reader before it comes at the first of them, so that it comes at all of them or at none.
+-- How a peer takes up the submessages of a packet: what one tells the readers that it names is made ready for each of them,
+-- with memory for all that it does, before the first of them is told; so it is taken up by all of them or by none.
 --
 -- RTPS 2.5, 8.3.4 (the message receiver), 8.4.12 (the behaviour of a reliable StatefulReader).
-use Rattle.std.specs.Prelude.{◌≡◌, ◌⊎◌, ◌+◌, ◌-◌, ◌^◌, ◌<◌, ◌≤◌, true, ℕ, List, [], ◌∷◌, ◌++◌, drop, set, length, slice_get, Option, Some, None, Result, Ok, Err}
+use Rattle.std.specs.Prelude.{◌≡◌, ◌⊎◌, ◌+◌, ◌-◌, ◌^◌, ◌<◌, ◌≤◌, true, false, ℕ, List, [], ◌∷◌, ◌++◌, drop, set, length, slice_get, nat_lt, if◌then◌else◌, Option, Some, None, Result, Ok, Err}
 use Rattle.dds_base.specs.declared.code.Code.{Code}
 use Rattle.dds_base.specs.declared.config.Config.{Config}
 use Rattle.dds_base.specs.declared.change.Change.{Change}
+use Rattle.dds_base.specs.declared.guid.EntityId.{EntityId}
 use Rattle.dds_base.specs.declared.guid.Guid.{Guid}
 use Rattle.dds_base.specs.declared.guid.GuidPrefix.{GuidPrefix}
 use Rattle.dds_base.specs.declared.happening.Happening.{Happening}
-use Rattle.dds_base.specs.declared.happening.Happening.TheVariants.{Came}
 use Rattle.dds_base.specs.declared.sample.Sample.{Sample}
-use Rattle.dds_cache.specs.Standing.{qos_of, room_of, StandsFor as CacheStandsFor}
-use Rattle.rtps_wire.specs.declared.data.Data.{Data as DataBody}
+use Rattle.dds_base.specs.Kept.{numbers_from}
+use Rattle.dds_base.specs.Places.{Match}
+use Rattle.dds_cache.specs.Standing.{qos_of, room_of}
+use Rattle.rtps_reader.specs.declared.step.HeartbeatSeen.{HeartbeatSeen}
+use Rattle.rtps_reader.specs.declared.step.Step.{Step}
+use Rattle.rtps_reader.specs.Tracked.{Tracked, is_later, with_data, with_gap}
+use Rattle.rtps_reader.specs.Answer.{IsIdle}
+use Rattle.rtps_reader.specs.Reader.{Tracks, IsReady, AllStay, OthersStay, match_at, MovesOn, TakesHeartbeat}
 use Rattle.rtps_wire.specs.declared.message.Message.{Message}
 use Rattle.rtps_wire.specs.declared.submessage.Submessage.{Submessage}
-use Rattle.rtps_wire.specs.declared.submessage.Submessage.TheVariants.{Data}
+use Rattle.rtps_wire.specs.declared.submessage.Submessage.TheVariants.{Data, Heartbeat, Gap}
+use Rattle.rtps_wire.specs.Content.{change_in}
 use Rattle.rtps_wire.specs.Messages.{ReadsMessage}
 use Rattle.dds_model.specs.declared.endpoint.Endpoint.{Endpoint}
 use Rattle.dds_model.specs.declared.reply.Move.{Move}
-use Rattle.dds_model.specs.declared.reply.Move.TheVariants.{Place}
+use Rattle.dds_model.specs.declared.reply.Move.TheVariants.{Place, Heard}
 use Rattle.dds_model.specs.declared.reply.Reply.{Reply}
 use Rattle.dds_model.specs.declared.reply.Report.{Report}
 use Rattle.dds_model.specs.declared.reply.Reply.TheVariants.{Samples, Refused}
-use Rattle.dds_model.specs.Part.{Part}
-use Rattle.dds_model.specs.Moves.{AreMoves}
-use Rattle.dds_model.specs.Claims.{Receiver, receiver_of, is_for, Names, StandsAt, Claim, Says, Claims}
-use Rattle.rtps_wire.specs.Content.{change_in}
-use Rattle.dds_model.specs.Receipt.{GoesOver, MovesOver, TakesUp, Receives}
-use Rattle.dds_model.specs.Peer.{Peer, Delivery, claimed}
-use Rattle.dds_core.specs.declared.matching.WriterRow.{WriterRow}
-use Rattle.dds_core.specs.declared.reader_end.Coming.{Coming}
+use Rattle.dds_model.specs.Claims.{Receiver, receiver_of, is_for, Names}
+use Rattle.dds_model.specs.Receipt.{TakesUp, Receives}
+use Rattle.dds_model.specs.Backed.{IsBacked}
+use Rattle.dds_model.specs.Peer.{Peer, Delivery, claimed, packets_of, delivered_to, state_of}
+use Rattle.dds_model.specs.Protocol.{Due, State, InTurn, ReaderTakes}
+use Rattle.dds_core.specs.declared.matching.WriterName.{WriterName}
+use Rattle.dds_core.specs.declared.reader_end.Ready.{Ready}
+use Rattle.dds_core.specs.declared.reader_end.Told.{Told}
+use Rattle.dds_core.specs.declared.reader_end.Told.TheVariants as told
 use Rattle.dds_core.specs.declared.receiver.MessageReceiver.{MessageReceiver}
 use Rattle.dds_core.specs.Kept.{ReaderKept, CoreKept}
-use Rattle.dds_core.specs.Standing.{StandsFor}
+use Rattle.dds_core.specs.Stored.{Holds}
+use Rattle.dds_core.specs.Standing.{StandsFor, IsSound}
 
 -- the receiver of a message, as a peer keeps it
 abbrev pub receiver_at : MessageReceiver → Receiver
 receiver_at r = record { source_guid_prefix = r.source; dest_guid_prefix = r.dest; timestamp = r.timestamp }
 
--- the first row of this name
-pub record IsFirstRow (rows : List WriterRow) (guid : Guid) (k : ℕ) : Type 0 where
-  pub row : WriterRow
-  pub at : slice_get rows k ≡ Some row
-  pub named : row.name.guid ≡ guid
-  pub first : (j : ℕ) (r : WriterRow) → j < k → slice_get rows j ≡ Some r → r.name.guid ≡ guid → ⊥
+-- ---- whom a submessage names
 
--- no row has the name
-abbrev pub HasNoRow : List WriterRow → Guid → Type 0
-HasNoRow rows guid = (j : ℕ) (r : WriterRow) → slice_get rows j ≡ Some r → r.name.guid ≡ guid → ⊥
+-- the first writer of this name
+pub record IsFirstName (names : List WriterName) (guid : Guid) (k : ℕ) : Type 0 where
+  pub name : WriterName
+  pub at : slice_get names k ≡ Some name
+  pub named : name.guid ≡ guid
+  pub first : (j : ℕ) (n : WriterName) → j < k → slice_get names j ≡ Some n → n.guid ≡ guid → ⊥
 
--- the first row of this name, whose place is this number
-pub record IsRowAt (rows : List WriterRow) (guid : Guid) (number k : ℕ) : Type 0 where
-  pub first : IsFirstRow rows guid k
-  pub place : number ≡ first.row.place
+-- the name of the writer that a submessage is from
+abbrev pub writer_guid : Receiver → EntityId → Guid
+writer_guid at writer_id = record { prefix = at.source_guid_prefix; entity = writer_id }
 
--- the name of the writer that a DATA is from
-abbrev pub writer_guid : Receiver → DataBody → Guid
-writer_guid at body = record { prefix = at.source_guid_prefix; entity = body.writer_id }
-
--- the DATA is for the reader, and has the change at its place in the list of the writer of this row
-pub record IsAtPlace (own : GuidPrefix) (kept : ReaderKept) (at : Receiver) (body : DataBody) (k : ℕ) : Type 0 where
+-- the submessage is for the reader, and from its writer of this row
+pub record IsNamedFor (own : GuidPrefix) (kept : ReaderKept) (at : Receiver) (reader_id writer_id : EntityId) (k : ℕ) : Type 0 where
   pub is_for : is_for at own ≡ true
-  pub named : Names body.reader_id kept.entity
-  pub first : IsFirstRow kept.writers (writer_guid at body) k
-  pub number : body.writer_sn ≡ first.row.place
+  pub named : Names reader_id kept.entity
+  pub first : IsFirstName kept.writers (writer_guid at writer_id) k
 
--- there is no more room for changes, or for a number after this one
-abbrev pub IsFull : ReaderKept → ℕ → Type 0
-IsFull kept number = (2 ^ 31 - 2 ≤ kept.arrivals) ⊎ (2 ^ 64 - 1 ≤ number)
+-- these are the readerId and the writerId of a submessage of a writer
+abbrev pub NamedBy : Submessage → EntityId → EntityId → Type 0
+NamedBy (Data d) reader_id writer_id = (reader_id ≡ d.reader_id) × (writer_id ≡ d.writer_id)
+NamedBy (Gap g) reader_id writer_id = (reader_id ≡ g.reader_id) × (writer_id ≡ g.writer_id)
+NamedBy (Heartbeat h) reader_id writer_id = (reader_id ≡ h.reader_id) × (writer_id ≡ h.writer_id)
+NamedBy submessage reader_id writer_id = ⊥
 
--- the DATA has the next change, and there is room
-pub record IsNext (own : GuidPrefix) (kept : ReaderKept) (at : Receiver) (body : DataBody) (k : ℕ) : Type 0 where
-  pub here : IsAtPlace own kept at body k
-  pub free : IsFull kept body.writer_sn → ⊥
+abbrev pub NamesNobody : Submessage → Type 0
+NamesNobody submessage = (reader_id writer_id : EntityId) → NamedBy submessage reader_id writer_id → ⊥
 
--- the DATA has not the next change, or there is no room
-abbrev pub IsNotNext : GuidPrefix → ReaderKept → Receiver → DataBody → Type 0
-IsNotNext own kept at body = (k : ℕ) → IsAtPlace own kept at body k → IsFull kept body.writer_sn
+-- ---- what it tells
 
--- what is ready for a reader: the change, and room for it, where it is the next one there
-abbrev pub IsReady : GuidPrefix → Receiver → DataBody → ReaderKept → Option Coming → Type 0
-IsReady own at body kept None = IsNotNext own kept at body
-IsReady own at body kept (Some coming) = IsNext own kept at body coming.row × (coming.change ≡ change_in body.content at.timestamp) × (1 ≤ room_of kept.cache)
+abbrev pub IsToldBy : Receiver → Submessage → Told → Type 0
+IsToldBy at (Data d) (told.Change number change) = (number ≡ d.writer_sn) × (change ≡ change_in d.content at.timestamp)
+IsToldBy at (Gap g) (told.Gap start list) = (start ≡ g.gap_start) × (list ≡ g.gap_list)
+IsToldBy at (Heartbeat h) (told.Heartbeat seen) = seen ≡ record { first = h.first_sn; last = h.last_sn; count = h.count; is_final = h.final_flag; liveliness = h.liveliness_flag }
+IsToldBy at submessage other = ⊥
+
+-- its numbers are such that the wire has
+abbrev pub IsBounded : Submessage → Type 0
+IsBounded (Data d) = d.writer_sn ≤ 2 ^ 62
+IsBounded (Gap g) = g.gap_list.base ≤ 2 ^ 62
+IsBounded (Heartbeat h) = h.first_sn ≤ 2 ^ 62
+IsBounded submessage = Unit {0}
+
+abbrev pub AreBounded : List Submessage → Type 0
+AreBounded submessages = (i : ℕ) (s : Submessage) → slice_get submessages i ≡ Some s → IsBounded s
+
+abbrev pub IsToldBounded : Told → Type 0
+IsToldBounded (told.Change number change) = number ≤ 2 ^ 62
+IsToldBounded (told.Gap start list) = list.base ≤ 2 ^ 62
+IsToldBounded (told.Heartbeat seen) = seen.first ≤ 2 ^ 62
+
+-- ---- what is ready
+
+-- the next submessage finds memory
+abbrev pub HasMemory : ReaderKept → Type 0
+HasMemory kept = IsReady kept.reader (room_of kept.store.cache)
+
+-- what is ready for a reader that a submessage names
+pub record IsReadyWith (own : GuidPrefix) (at : Receiver) (submessage : Submessage) (kept : ReaderKept) (ready : Ready) : Type 0 where
+  pub reader_id : EntityId
+  pub writer_id : EntityId
+  pub by : NamedBy submessage reader_id writer_id
+  pub named : IsNamedFor own kept at reader_id writer_id ready.row
+  pub told : IsToldBy at submessage ready.told
+  pub room : HasMemory kept
+
+abbrev pub IsReadyFor : GuidPrefix → Receiver → Submessage → ReaderKept → Option Ready → Type 0
+IsReadyFor own at submessage kept None = (reader_id writer_id : EntityId) → NamedBy submessage reader_id writer_id → (k : ℕ) → IsNamedFor own kept at reader_id writer_id k → ⊥
+IsReadyFor own at submessage kept (Some ready) = IsReadyWith own at submessage kept ready
 
 -- what is ready for each of a peer's readers
-pub record AreReady (own : GuidPrefix) (at : Receiver) (body : DataBody) (readers : List ReaderKept) (ready : List (Option Coming)) : Type 0 where
+pub record AreReady (own : GuidPrefix) (at : Receiver) (submessage : Submessage) (readers : List ReaderKept) (ready : List (Option Ready)) : Type 0 where
   pub count : length ready ≡ length readers
-  pub each : (i : ℕ) (k : ReaderKept) (r : Option Coming) → slice_get readers i ≡ Some k → slice_get ready i ≡ Some r → IsReady own at body k r
+  pub each : (i : ℕ) (k : ReaderKept) (r : Option Ready) → slice_get readers i ≡ Some k → slice_get ready i ≡ Some r → IsReadyFor own at submessage k r
 
--- a reader with more room, and nothing else
+-- a reader with more memory, and nothing else
 pub record IsAlike (old new : ReaderKept) : Type 0 where
   pub entity : new.entity ≡ old.entity
   pub writers : new.writers ≡ old.writers
-  pub arrivals : new.arrivals ≡ old.arrivals
-  pub qos : qos_of new.cache ≡ qos_of old.cache
-  pub cache : (h : List Happening) → CacheStandsFor old.cache h → CacheStandsFor new.cache h
+  pub reader : AllStay old.reader new.reader
+  pub qos : qos_of new.store.cache ≡ qos_of old.store.cache
+  pub holds : (h : List Happening) → Holds old.store h → Holds new.store h
 
 pub record AreAlike (old new : List ReaderKept) : Type 0 where
   pub count : length new ≡ length old
   pub each : (i : ℕ) (a b : ReaderKept) → slice_get old i ≡ Some a → slice_get new i ≡ Some b → IsAlike a b
 
--- the change can come: its row is there, and there is room for it
-pub record CanCome (kept : ReaderKept) (coming : Coming) : Type 0 where
-  pub row : WriterRow
-  pub at : slice_get kept.writers coming.row ≡ Some row
-  pub place : row.place < 2 ^ 64 - 1
-  pub few : kept.arrivals < 2 ^ 31 - 2
-  pub room : 1 ≤ room_of kept.cache
+-- the reader can be told what is ready
+pub record CanTake (kept : ReaderKept) (ready : Ready) : Type 0 where
+  pub row : ready.row < length kept.writers
+  pub bounded : IsToldBounded ready.told
+  pub room : HasMemory kept
 
--- the move of a reader's place in a writer's list to this number, over changes that came
-abbrev pub place_moves : Endpoint → ℕ → ℕ → Move
-place_moves writer reader to = Place writer reader to []
+-- ---- what a reader does
 
--- what happens at a reader when the change at its place in the list of this row's writer comes
-abbrev pub arrival : ℕ → WriterRow → Change → ℕ → Happening
-arrival k row change moment = Came (record { writer = k + 1; number = row.place; change = change; moment = moment })
+-- what it knows of the writer, and what happened, go on by what it is told
+abbrev pub TellsSo : Match → Told → Tracked → List Happening → Step → (Tracked → Type 0) → (List Happening → Type 0) → Type 0
+TellsSo match (told.Change number change) t h step Knows Has = MovesOn match (with_data number change t) h step Knows Has
+TellsSo match (told.Gap start list) t h step Knows Has = MovesOn match (with_gap start list t) h step Knows Has
+TellsSo match (told.Heartbeat seen) t h step Knows Has =
+    ((is_later t.count seen.count ≡ true) × TakesHeartbeat match t h seen step Knows Has)
+    ⊎ ((is_later t.count seen.count ≡ false) × IsIdle t.place step × Knows t × Has h)
 
--- the change of this row's writer comes at a reader
-pub record Comes (old : ReaderKept) (k : ℕ) (row : WriterRow) (change : Change) (moment : ℕ) (new : ReaderKept) : Type 0 where
+-- nothing but what is known and what happened has changed
+pub record SameReader (old new : ReaderKept) : Type 0 where
   pub entity : new.entity ≡ old.entity
-  pub writers : new.writers ≡ set old.writers k (record row { place = row.place + 1 })
-  pub arrivals : new.arrivals ≡ old.arrivals + 1
-  pub qos : qos_of new.cache ≡ qos_of old.cache
-  pub cache : (h : List Happening) → CacheStandsFor old.cache h → CacheStandsFor new.cache (arrival k row change moment ∷ h)
+  pub writers : new.writers ≡ old.writers
+  pub qos : qos_of new.store.cache ≡ qos_of old.store.cache
 
--- what this state of a peer is with another part
-abbrev pub with_part : Peer → Part → Peer
-with_part peer part = record peer { part = part }
+-- the reader was told, at this moment
+pub record TakesTold (old : ReaderKept) (ready : Ready) (moment : ℕ) (step : Step) (new : ReaderKept) : Type 0 where
+  pub told : (t : Tracked) (h : List Happening) → Tracks old.reader ready.row t → Holds old.store h
+      → TellsSo (match_at (qos_of old.store.cache) ready.row moment) ready.told t h step (Tracks new.reader ready.row) (Holds new.store)
+  pub others : OthersStay ready.row old.reader new.reader
 
--- the packet claims all that the submessage says
-abbrev pub IsOf : Config → List ℕ → GuidPrefix → Receiver → Submessage → Type 0
-IsOf config bytes own at submessage = (claim : Claim) → Says config own at submessage claim → Claims config bytes claim
+-- the place at the writer of this row
+abbrev pub IsPlaceAt : ReaderKept → ℕ → Tracked → ℕ → Type 0
+IsPlaceAt kept row t place = Tracks kept.reader row t → place ≡ t.place
 
--- for each state that the old values stand for, the changes that a packet's DATA has come by these moves
-abbrev pub TakesData : CoreKept → Receiver → DataBody → List Move → CoreKept → Type 0
-TakesData old at body made new = (config : Config) (before : List Delivery) (bytes : List ℕ) (index : ℕ) (peer : Peer) → StandsFor old config peer → IsOf config bytes old.prefix at (Data body)
-    → (after : Part) × AreMoves (claimed config before bytes peer.number index) peer.part made after × StandsFor new config (with_part peer after)
+-- what a step moves, from this place on
+abbrev pub moves_of : Endpoint → ℕ → ℕ → Step → List Move
+moves_of writer reader from step =
+    (if step.heard then Heard writer reader ∷ [] else []) ++ (if nat_lt from step.to then Place writer reader step.to step.passed ∷ [] else [])
 
--- each change that is ready goes over the place of its reader
-abbrev pub GoOver : List ReaderKept → List (Option Coming) → List Move → Type 0
-GoOver readers ready made = (i : ℕ) (k : ReaderKept) (coming : Coming) (row : WriterRow) → slice_get readers i ≡ Some k → slice_get ready i ≡ Some (Some coming) → slice_get k.writers coming.row ≡ Some row
-    → GoesOver row.name.writer (i + 1) row.place made
+-- ---- what a peer does
 
--- what is ready comes, with these moves
-pub record AllCome (old : CoreKept) (ready : List (Option Coming)) (moves : List Move) (new : CoreKept) (after : List Move) : Type 0 where
+abbrev pub CanTakeAt : List ReaderKept → ℕ → Ready → Type 0
+CanTakeAt readers index ready = (k : ReaderKept) × (slice_get readers index ≡ Some k) × CanTake k ready
+
+abbrev pub AllCanTake : List ReaderKept → List (Option Ready) → Type 0
+AllCanTake readers ready = (i : ℕ) (one : Ready) → slice_get ready i ≡ Some (Some one) → CanTakeAt readers i one
+
+-- the reader of this index was told what was ready
+pub record TookAt (old : CoreKept) (index : ℕ) (ready : Ready) (k : ReaderKept) (moves : List Move) (new : CoreKept) (after : List Move) : Type 0 where
+  pub name : WriterName
+  pub at_name : slice_get k.writers ready.row ≡ Some name
+  pub from : ℕ
+  pub place : (t : Tracked) → Tracks k.reader ready.row t → from ≡ t.place
+  pub step : Step
+  pub reader : ReaderKept
+  pub told : TakesTold k ready old.moment step reader
+  pub same : SameReader k reader
+  pub new_is : new ≡ record old { readers = set old.readers index reader }
+  pub after_is : after ≡ moves ++ moves_of name.writer (index + 1) from step
+
+abbrev pub TakesAt : CoreKept → ℕ → Ready → List Move → CoreKept → List Move → Type 0
+TakesAt old index ready moves new after = (k : ReaderKept) → slice_get old.readers index ≡ Some k → TookAt old index ready k moves new after
+
+-- what this state of a peer is with another part, and other knowledge
+abbrev pub with_state : Peer → State → Peer
+with_state peer state = record peer { part = state.part; known = state.known }
+
+-- for each state that the old values stand for, so many of its readers took the submessage up, one after the other
+pub record ReadersTook (config : Config) (own : GuidPrefix) (at : Receiver) (submessage : Submessage) (count : ℕ) (peer : Peer) (made : List Move) (new : CoreKept) : Type 0 where
+  pub state : State
+  pub dues : List Due
+  pub turn : InTurn (ReaderTakes config own peer.number at submessage) (numbers_from 1 count) (state_of peer) made dues state
+  pub stands : StandsFor new config (with_state peer state)
+
+abbrev pub ReadersTake : CoreKept → Receiver → Submessage → ℕ → List Move → CoreKept → Type 0
+ReadersTake old at submessage count made new = (config : Config) (peer : Peer) → StandsFor old config peer → ReadersTook config old.prefix at submessage count peer made new
+
+-- each reader is told what was ready for it
+pub record TakesAll (old : CoreKept) (ready : List (Option Ready)) (moves : List Move) (new : CoreKept) (after : List Move) : Type 0 where
   pub made : List Move
   pub after_is : after ≡ moves ++ made
-  pub over : GoOver old.readers ready made
-  pub takes : (at : Receiver) (body : DataBody) → AreReady old.prefix at body old.readers ready → TakesData old at body made new
+  pub takes : (at : Receiver) (submessage : Submessage) → AreReady old.prefix at submessage old.readers ready → ReadersTake old at submessage (length old.readers) made new
 
--- the same of what is ready for the readers before this index; the others are as they were
-pub record ComeTo (old : CoreKept) (ready : List (Option Coming)) (index : ℕ) (moves : List Move) (now : CoreKept) (after : List Move) : Type 0 where
+-- the same of the readers before this index; the others are as they were
+pub record TakesSome (old : CoreKept) (ready : List (Option Ready)) (index : ℕ) (moves : List Move) (now : CoreKept) (after : List Move) : Type 0 where
   pub made : List Move
   pub after_is : after ≡ moves ++ made
-  pub over : (i : ℕ) (k : ReaderKept) (coming : Coming) (row : WriterRow) → i < index → slice_get old.readers i ≡ Some k → slice_get ready i ≡ Some (Some coming) → slice_get k.writers coming.row ≡ Some row
-      → GoesOver row.name.writer (i + 1) row.place made
-  pub takes : (at : Receiver) (body : DataBody) → AreReady old.prefix at body old.readers ready → TakesData old at body made now
+  pub takes : (at : Receiver) (submessage : Submessage) → AreReady old.prefix at submessage old.readers ready → ReadersTake old at submessage index made now
   pub left : drop index now.readers ≡ drop index old.readers
   pub prefix : now.prefix ≡ old.prefix
-  pub moment : now.moment ≡ old.moment
 
--- for each state that the old values stand for, the submessage of a packet is taken up by these moves
-abbrev pub TakesSubmessage : CoreKept → Receiver → Submessage → List Move → CoreKept → Type 0
-TakesSubmessage old at submessage made new = (config : Config) (before : List Delivery) (bytes : List ℕ) (index : ℕ) (peer : Peer) → StandsFor old config peer → IsOf config bytes old.prefix at submessage
-    → (after : Part) × AreMoves (claimed config before bytes peer.number index) peer.part made after × MovesOver config (claimed config before bytes peer.number index) peer.number old.prefix at submessage peer.part made
-    × StandsFor new config (with_part peer after)
-
--- the same, after other moves
+-- a submessage is taken up, after other moves
 abbrev pub TakesOneMore : CoreKept → Receiver → Submessage → List Move → CoreKept → List Move → Type 0
-TakesOneMore old at submessage moves new after = (made : List Move) × (after ≡ moves ++ made) × TakesSubmessage old at submessage made new
+TakesOneMore old at submessage moves new after = (made : List Move) × (after ≡ moves ++ made) × ReadersTake old at submessage (length old.readers) made new
 
 -- the new values stand for what the old ones stood for
 abbrev pub StandsAsWell : CoreKept → CoreKept → Type 0
 StandsAsWell old new = (config : Config) (peer : Peer) → StandsFor old config peer → StandsFor new config peer
 
+-- what it knows is claimed by that, and by the packet, up to the submessage of this index
+abbrev pub IsSoundTo : Config → Peer → List ℕ → Option ℕ → State → Type 0
+IsSoundTo config peer bytes refused state =
+    IsBacked config peer.number (bytes ∷ packets_of peer.delivered) (record { packet = bytes; report = record { moves = []; refused = refused } } ∷ peer.delivered) state
+
 -- for each state that the old values stand for, the message's submessages are taken up with this report
+pub record TookMessage (config : Config) (peer : Peer) (own : GuidPrefix) (message : Message) (bytes : List ℕ) (report : Report) (new : CoreKept) : Type 0 where
+  pub state : State
+  pub takes : TakesUp config (claimed config peer.delivered bytes peer.number) peer.number own 0 (receiver_of message.prefix) message.submessages peer.part report.moves report.refused state.part
+  pub stands : StandsFor new config (with_state peer state)
+  pub sound : IsSoundTo config peer bytes report.refused state
+
 abbrev pub TakesMessage : CoreKept → Message → Report → CoreKept → Type 0
-TakesMessage old message report new = (config : Config) (before : List Delivery) (bytes : List ℕ) (offset : ℕ) (peer : Peer) → ReadsMessage bytes message offset → StandsFor old config peer
-    → (after : Part) × TakesUp config (claimed config before bytes peer.number) peer.number old.prefix 0 (receiver_of message.prefix) message.submessages peer.part report.moves report.refused after
-    × StandsFor new config (with_part peer after)
+TakesMessage old message report new = (config : Config) (bytes : List ℕ) (offset : ℕ) (peer : Peer) → ReadsMessage bytes message offset → StandsFor old config peer → IsSound config peer
+    → TookMessage config peer old.prefix message bytes report new
 
 -- the same, up to the submessage of this index
-pub record TakenTo (old : CoreKept) (message : Message) (index : ℕ) (at : Receiver) (moves : List Move) (now : CoreKept) (config : Config) (before : List Delivery) (bytes : List ℕ) (peer : Peer) : Type 0 where
-  pub part : Part
-  pub stands : StandsFor now config (with_part peer part)
-  pub on : (later : List Move) (refused : Option ℕ) (after : Part)
-      → TakesUp config (claimed config before bytes peer.number) peer.number old.prefix index at (drop index message.submessages) part later refused after
-      → TakesUp config (claimed config before bytes peer.number) peer.number old.prefix 0 (receiver_of message.prefix) message.submessages peer.part (moves ++ later) refused after
+pub record TakenTo (old : CoreKept) (message : Message) (index : ℕ) (at : Receiver) (moves : List Move) (now : CoreKept) (config : Config) (bytes : List ℕ) (peer : Peer) : Type 0 where
+  pub state : State
+  pub stands : StandsFor now config (with_state peer state)
+  pub sound : IsSoundTo config peer bytes (Some index) state
+  pub on : (later : List Move) (refused : Option ℕ) (after : State)
+      → TakesUp config (claimed config peer.delivered bytes peer.number) peer.number old.prefix index at (drop index message.submessages) state.part later refused after.part
+      → TakesUp config (claimed config peer.delivered bytes peer.number) peer.number old.prefix 0 (receiver_of message.prefix) message.submessages peer.part (moves ++ later) refused after.part
 
 abbrev pub TakesTo : CoreKept → Message → ℕ → Receiver → List Move → CoreKept → Type 0
-TakesTo old message index at moves now = (config : Config) (before : List Delivery) (bytes : List ℕ) (offset : ℕ) (peer : Peer) → ReadsMessage bytes message offset → StandsFor old config peer
-    → TakenTo old message index at moves now config before bytes peer
-
--- what is left of the message stands in it
-abbrev pub IsLeft : GuidPrefix → Message → ℕ → Receiver → Type 0
-IsLeft own message index at = (k : ℕ) (later : Receiver) (submessage : Submessage) → StandsAt own at (drop index message.submessages) k later submessage
-    → StandsAt own (receiver_of message.prefix) message.submessages (index + k) later submessage
+TakesTo old message index at moves now = (config : Config) (bytes : List ℕ) (offset : ℕ) (peer : Peer) → ReadsMessage bytes message offset → StandsFor old config peer → IsSound config peer
+    → TakenTo old message index at moves now config bytes peer
 
 -- for each state that the old values stand for, this is what is done with a packet
+pub record ReceivedPacket (config : Config) (peer : Peer) (bytes : List ℕ) (report : Report) (new : CoreKept) : Type 0 where
+  pub state : State
+  pub receives : Receives config (claimed config peer.delivered bytes peer.number) peer.number bytes peer.part report state.part
+  pub stands : StandsFor new config (with_state peer state)
+  pub sound : IsBacked config peer.number (bytes ∷ packets_of peer.delivered) (record { packet = bytes; report = report } ∷ peer.delivered) state
+
 abbrev pub ReceivesPacket : CoreKept → List ℕ → Report → CoreKept → Type 0
-ReceivesPacket old bytes report new = (config : Config) (peer : Peer) → StandsFor old config peer
-    → (after : Part) × Receives config (claimed config peer.delivered bytes peer.number) peer.number bytes peer.part report after × StandsFor new config (with_part peer after)
+ReceivesPacket old bytes report new = (config : Config) (peer : Peer) → StandsFor old config peer → IsSound config peer → ReceivedPacket config peer bytes report new
 
 -- the reply to an access that its cache answers so
 abbrev pub access_reply : Result (List Sample) Code → Reply
 access_reply (Ok samples) = Samples samples
 access_reply (Err code) = Refused code
 
--- the change can come at the reader of this index
-abbrev pub CanComeAt : List ReaderKept → ℕ → Coming → Type 0
-CanComeAt readers index coming = (k : ReaderKept) × (slice_get readers index ≡ Some k) × CanCome k coming
-
--- whatever is ready can come
-abbrev pub AllCanCome : List ReaderKept → List (Option Coming) → Type 0
-AllCanCome readers ready = (i : ℕ) (coming : Coming) → slice_get ready i ≡ Some (Some coming) → CanComeAt readers i coming
-
--- the change comes at the reader of this index
-abbrev pub ComesAt : CoreKept → ℕ → Coming → CoreKept → Type 0
-ComesAt old index coming new = (k : ReaderKept) (row : WriterRow) → slice_get old.readers index ≡ Some k → slice_get k.writers coming.row ≡ Some row
-    → (k' : ReaderKept) × Comes k coming.row row coming.change old.moment k' × (new ≡ record old { readers = set old.readers index k' })
-
--- the move that this adds
-abbrev pub MovesAt : CoreKept → ℕ → Coming → List Move → List Move → Type 0
-MovesAt old index coming moves after = (k : ReaderKept) (row : WriterRow) → slice_get old.readers index ≡ Some k → slice_get k.writers coming.row ≡ Some row
-    → after ≡ moves ++ place_moves row.name.writer (index + 1) (row.place + 1) ∷ []
-
 -- nothing but the cache has changed, and its policies have not
 pub record TakesOnly (old new : ReaderKept) : Type 0 where
   pub entity : new.entity ≡ old.entity
   pub writers : new.writers ≡ old.writers
-  pub arrivals : new.arrivals ≡ old.arrivals
-  pub qos : qos_of new.cache ≡ qos_of old.cache
+  pub reader : new.reader ≡ old.reader
+  pub arrivals : new.store.arrivals ≡ old.store.arrivals
+  pub qos : qos_of new.store.cache ≡ qos_of old.store.cache

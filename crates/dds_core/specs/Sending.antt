@@ -21,6 +21,9 @@ use Rattle.dds_model.specs.Calls.{Effect, writes, effect_of}
 use Rattle.dds_model.specs.Claims.{ChangeIs, Claims}
 use Rattle.dds_model.specs.Peer.{Peer}
 use Rattle.dds_model.specs.Part.{peers_of}
+use Rattle.dds_model.specs.declared.reply.Reply.{Reply}
+use Rattle.dds_model.specs.declared.reply.Reply.TheVariants.{Done}
+use Rattle.dds_model.specs.Protocol.{Due, AreSent, heartbeats_due}
 use Rattle.dds_core.specs.declared.matching.Destination.{Destination}
 use Rattle.dds_core.specs.declared.sending.Sender.{Sender}
 use Rattle.dds_core.specs.Kept.{CoreKept, WriterKept}
@@ -49,10 +52,16 @@ SendsFor config peer other output = SendsNothing output
 abbrev pub AreMessages : List Packet → Type 0
 AreMessages packets = (packet : Packet) → Contains packets packet → HasSubmessage packet.bytes
 
+-- what is due at a tick that this answers: the HEARTBEATs of the peer's writers, and nothing where it is refused
+abbrev pub due_at_tick : Config → Peer → Reply → List Due
+due_at_tick config peer Done = heartbeats_due config peer.number peer.part
+due_at_tick config peer reply = []
+
 -- for each state that the values stand for, this is what is sent at the event
 abbrev pub Sends : CoreKept → Event → Output → Type 0
 Sends old (event.Call call) output = (config : Config) (peer : Peer) → StandsFor old config peer → SendsFor config peer (effect_of peer.part call output.reply) output
-Sends old other output = SendsNothing output
+Sends old (event.Tick now) output = (config : Config) (peer : Peer) → StandsFor old config peer → AreSent (due_at_tick config peer output.reply) output.packets output.unsent
+Sends old (event.Deliver packet) output = SendsNothing output
 
 -- the message that announces a change to a peer
 abbrev pub announcement : Sender → Destination → ℕ → DataContent → Message

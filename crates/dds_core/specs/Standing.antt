@@ -1,70 +1,112 @@
 -- What a peer stands for: each of its writers for a writer of the machine, each of its readers for a reader, and what
 -- never changes for what the configuration says of it.
-use Rattle.std.specs.Prelude.{◌≡◌, ℕ, ◌^◌, ◌<◌, List, [], map, length, get_or, slice_get, Some, None}
+use Rattle.std.specs.Prelude.{◌≡◌, ℕ, suc, ◌^◌, ◌<◌, ◌≤◌, List, [], map, length, get_or, slice_get, Option, Some, None, ℤ, All}
+use Rattle.std.specs.List.{AllZip}
 use Rattle.dds_base.specs.declared.config.Config.{Config}
-use Rattle.dds_base.specs.declared.key.Key.{Key}
-use Rattle.dds_base.specs.Happening.{arrivals}
-use Rattle.dds_base.specs.Written.{Written, is_key_registered}
-use Rattle.dds_history.specs.Standing.{StandsFor as HistoryStandsFor}
-use Rattle.dds_cache.specs.Standing.{qos_of, StandsFor as CacheStandsFor}
+use Rattle.dds_base.specs.Written.{Written}
+use Rattle.dds_cache.specs.Standing.{qos_of}
+use Rattle.rtps_reader.specs.Tracked.{Tracked}
+use Rattle.rtps_reader.specs.Reader.{Tracks}
+use Rattle.rtps_writer.specs.Standing.{Kept, reader_count, StandsFor as RtpsStandsFor}
+use Rattle.rtps_writer.specs.WriterState.{WriterState}
+use Rattle.dds_model.specs.declared.endpoint.Endpoint.{Endpoint}
 use Rattle.dds_model.specs.declared.event.Event.{Event}
 use Rattle.dds_model.specs.declared.event.Output.{Output}
-use Rattle.dds_model.specs.Part.{Writer, Reader, ReaderProxy, WriterProxy, no_writer, no_reader, history_of}
-use Rattle.dds_model.specs.Calls.{with_written}
+use Rattle.dds_model.specs.Backed.{IsBacked}
+use Rattle.dds_model.specs.Part.{Writer, Reader, ReaderProxy, WriterProxy, no_writer, no_reader, place_of}
+use Rattle.dds_model.specs.Calls.{with_written, ticked}
 use Rattle.dds_model.specs.Machine.{no_filters}
-use Rattle.dds_model.specs.Peer.{Peer, PeerStep}
-use Rattle.dds_core.specs.declared.matching.ReaderRow.{ReaderRow}
-use Rattle.dds_core.specs.declared.matching.WriterRow.{WriterRow}
+use Rattle.dds_model.specs.Peer.{Peer, PeerStep, packets_of, state_of as network_of}
+use Rattle.dds_model.specs.Protocol.{Known}
+use Rattle.dds_core.specs.declared.matching.Destination.{Destination}
+use Rattle.dds_core.specs.declared.matching.ReaderName.{ReaderName}
+use Rattle.dds_core.specs.declared.matching.WriterName.{WriterName}
+use Rattle.dds_core.specs.Stored.{Holds}
 use Rattle.dds_core.specs.Kept.{WriterKept, ReaderKept, CoreKept, writer_identity, identity_of, IsPeerOf}
-use Rattle.dds_core.specs.Registered.{is_among}
 
--- the rows of matched ends, as the machine has them
-abbrev pub reader_proxy : ReaderRow → ReaderProxy
-reader_proxy row = record { reader = row.reader; acknowledged = row.acknowledged }
+-- the state of a writer of the machine, with the count of the last ACKNACK that it took of each matched reader
+abbrev pub state_of : Writer → (Endpoint → Option ℤ) → WriterState
+state_of w answered = record {
+  policy = w.policy;
+  max_samples = w.max_samples;
+  written = w.written;
+  acknowledged = map (λ (p : ReaderProxy). p.acknowledged) w.readers;
+  counts = map (λ (p : ReaderProxy). answered p.reader) w.readers;
+}
 
-abbrev pub writer_proxy : WriterRow → WriterProxy
-writer_proxy row = record { writer = row.name.writer; place = row.place; heard = None }
-
--- a writer of the machine for which what is kept stands
-pub record WriterStands (kept : WriterKept) (w : Writer) : Type 0 where
+-- a writer of the machine for which what is kept stands, with those counts
+pub record WriterStands (kept : WriterKept) (w : Writer) (answered : Endpoint → Option ℤ) : Type 0 where
   pub autodispose : w.autodispose ≡ kept.autodispose
-  pub readers : w.readers ≡ map reader_proxy kept.readers
-  pub registered : (key : Key) → is_among kept.registered key ≡ is_key_registered key w.written
-  pub history : HistoryStandsFor kept.history (history_of w)
+  pub readers : map (λ (p : ReaderProxy). p.reader) w.readers ≡ map (λ (r : ReaderName). r.reader) kept.readers
+  pub writer : RtpsStandsFor kept.writer (state_of w answered)
+  pub begun : All (λ (p : ReaderProxy). 1 ≤ p.acknowledged) w.readers
 
--- a reader of the machine, with its matched writers, for which what is kept stands: it has no limits
-pub record ReaderStands (kept : ReaderKept) (proxies : List WriterProxy) (r : Reader) : Type 0 where
-  pub proxies_are : proxies ≡ map writer_proxy kept.writers
-  pub qos_is : r.qos ≡ qos_of kept.cache
-  pub no_samples_limit : (qos_of kept.cache).max_samples ≡ None
-  pub no_instances_limit : (qos_of kept.cache).max_instances ≡ None
-  pub arrivals_are : kept.arrivals ≡ arrivals r.happened
-  pub cache : CacheStandsFor kept.cache r.happened
+-- what is so of each writer: it sends to at most 16 peers, its readers are those of what it keeps, and that stands for
+-- some state
+pub record IsWhole (destinations : List Destination) (readers : List ReaderName) (writer : Kept) : Type 0 where
+  pub few : length destinations ≤ 16
+  pub count : reader_count writer ≡ length readers
+  pub state : WriterState
+  pub stands : RtpsStandsFor writer state
 
--- each of a peer's writers stands for the one of its number
-pub record WritersStand (kept : List WriterKept) (ws : List Writer) : Type 0 where
+-- the reader's writer of this row is this one, and no earlier row is
+pub record IsFirstRow (names : List WriterName) (writer : Endpoint) (k : ℕ) : Type 0 where
+  pub name : WriterName
+  pub at : slice_get names k ≡ Some name
+  pub is : name.writer ≡ writer
+  pub first : (j : ℕ) (n : WriterName) → j < k → slice_get names j ≡ Some n → n.writer ≡ writer → ⊥
+
+-- a reader of the machine, with its matched writers and what is known of them, for which what is kept stands
+pub record ReaderStands (kept : ReaderKept) (proxies : List WriterProxy) (r : Reader) (tracked : Endpoint → Tracked) : Type 0 where
+  pub writers_are : map (λ (p : WriterProxy). p.writer) proxies ≡ map (λ (n : WriterName). n.writer) kept.writers
+  pub places : (w : Endpoint) (p : ℕ) → place_of proxies w ≡ Some p → (tracked w).place ≡ p
+  pub knows : (w : Endpoint) (k : ℕ) → IsFirstRow kept.writers w k → Tracks kept.reader k (tracked w)
+  pub qos_is : r.qos ≡ qos_of kept.store.cache
+  pub holds : Holds kept.store r.happened
+
+-- each of a peer's writers stands for the one of its number, with the counts of the last ACKNACKs that it took
+pub record WritersStand (kept : List WriterKept) (ws : List Writer) (answered : ℕ → Endpoint → Option ℤ) : Type 0 where
   pub count : length ws ≡ length kept
-  pub each : (i : ℕ) (k : WriterKept) → slice_get kept i ≡ Some k → WriterStands k (get_or ws i no_writer)
+  pub each : (i : ℕ) (k : WriterKept) → slice_get kept i ≡ Some k → WriterStands k (get_or ws i no_writer) (answered (suc i))
 
 -- each of a peer's readers stands for the one of its number
-pub record ReadersStand (kept : List ReaderKept) (proxies : List (List WriterProxy)) (rs : List Reader) : Type 0 where
+pub record ReadersStand (kept : List ReaderKept) (proxies : List (List WriterProxy)) (rs : List Reader) (known : Known) : Type 0 where
   pub rows : length proxies ≡ length kept
   pub count : length rs ≡ length kept
-  pub each : (i : ℕ) (k : ReaderKept) → slice_get kept i ≡ Some k → ReaderStands k (get_or proxies i []) (get_or rs i no_reader)
+  pub each : (i : ℕ) (k : ReaderKept) → slice_get kept i ≡ Some k → ReaderStands k (get_or proxies i []) (get_or rs i no_reader) (λ w. known.tracked w (suc i))
 
 -- a state of the peer for which what is kept stands
 pub record StandsFor (kept : CoreKept) (config : Config) (peer : Peer) : Type 0 where
   pub is_peer : IsPeerOf config peer.number (identity_of kept)
   pub moment : peer.part.dds.moment ≡ kept.moment
   pub early : kept.moment < 2 ^ 63
-  pub writers : WritersStand kept.writers peer.part.rtps.writers
-  pub readers : ReadersStand kept.readers peer.part.rtps.readers peer.part.dds.readers
+  pub writers : WritersStand kept.writers peer.part.rtps.writers peer.known.answered
+  pub readers : ReadersStand kept.readers peer.part.rtps.readers peer.part.dds.readers peer.known
 
 -- for each state that the old values stand for, the event is a step to one that the new values stand for
 abbrev pub Steps : CoreKept → Event → Output → CoreKept → Type 0
 Steps old event output new = (config : Config) (peer : Peer) → StandsFor old config peer → (after : Peer) × PeerStep config no_filters peer event output after × StandsFor new config after
 
+-- all that the peer knows is claimed by what was delivered to it
+abbrev pub IsSound : Config → Peer → Type 0
+IsSound config peer = IsBacked config peer.number (packets_of peer.delivered) peer.delivered (network_of peer)
+
+-- For each state that the old values stand for, and of which all that is known was claimed, the event is a step to one that
+-- the new values stand for, and of which all that is known was claimed.
+abbrev pub SoundSteps : CoreKept → Event → Output → CoreKept → Type 0
+SoundSteps old event output new = (config : Config) (peer : Peer) → StandsFor old config peer → IsSound config peer
+    → (after : Peer) × PeerStep config no_filters peer event output after × StandsFor new config after × IsSound config after
+
+-- a writer whose peer's time went on to this moment, and nothing else
+pub record Ticks (old : WriterKept) (now : ℕ) (new : WriterKept) : Type 0 where
+  pub same : writer_identity new ≡ writer_identity old
+  pub stands : (w : Writer) (answered : Endpoint → Option ℤ) → WriterStands old w answered → WriterStands new (ticked now w) answered
+
+-- the same of each of these writers
+abbrev pub AllTick : List WriterKept → ℕ → List WriterKept → Type 0
+AllTick old now new = AllZip (λ (k : WriterKept) (x : WriterKept). Ticks k now x) old new
+
 -- a writer to which this has happened besides, and nothing else
 pub record Enters (old : WriterKept) (entry : Written) (new : WriterKept) : Type 0 where
   pub same : writer_identity new ≡ writer_identity old
-  pub stands : (w : Writer) → WriterStands old w → WriterStands new (with_written w entry)
+  pub stands : (w : Writer) (answered : Endpoint → Option ℤ) → WriterStands old w answered → WriterStands new (with_written w entry) answered

@@ -1,19 +1,20 @@
 //! One peer: its writers and readers, and what its calls, its time and the packets that come to it do to them.
 //!
-//! Not here: the network between peers (`dds_world`), the bytes of messages (`rtps_wire`), what a writer keeps
-//! (`dds_history`) and what a reader holds (`dds_cache`).
+//! Not here: the network between peers (`dds_world`), the bytes of messages (`rtps_wire`), a writer and what it
+//! keeps (`rtps_writer`) and what a reader holds (`dds_cache`).
 #![tactic(auto)]
 
 mod calls;
 mod delivery;
+mod heartbeat;
 mod matching;
 mod opening;
 mod output;
 mod peer;
 mod reader_end;
 mod receiver;
-mod registration;
 mod sending;
+mod store;
 mod writer_end;
 
 pub use peer::Core;

@@ -4,10 +4,10 @@
 
 ghost use Rattle.std.specs.Prelude.{◌≡◌, ◌++◌, ◌≤◌, length, IfOk, OnOk, None};
 ghost use Rattle.dds_base.specs.Checked.{check_refusal};
-ghost use Rattle.dds_base.specs.Matched.{of_readers_in, of_writers_in, of_matched_readers, of_matched_writers};
-ghost use Rattle.dds_core.specs.Matching.{has_reader, destinations, reader_row, writer_row, matched_writer};
+ghost use Rattle.dds_base.specs.Matched.{of_readers_in, of_writers_in, of_matched_writers};
+ghost use Rattle.dds_core.specs.Matching.{has_reader, destinations, reader_name, reader_names, writer_name, matched_writer};
 
-use dds_base::{Guid, GuidPrefix, MatchedWriter, PeerConfig, ReaderConfig};
+use dds_base::{Guid, GuidPrefix, MatchedWriter, PeerConfig};
 use dds_model::Endpoint;
 use std::alloc::{AllocError, Global};
 
@@ -18,11 +18,11 @@ pub struct Destination {
     pub prefix: GuidPrefix,
 }
 
-/// A reader that a writer is matched with: it has acknowledged all changes below this number.
+/// A reader that a writer is matched with, by its number and by its name.
 #[derive(Clone, Copy)]
-pub struct ReaderRow {
+pub struct ReaderName {
     pub reader: Endpoint,
-    pub acknowledged: u64,
+    pub guid: Guid,
 }
 
 /// A writer that a reader is matched with, by its number and by its name.
@@ -30,13 +30,6 @@ pub struct ReaderRow {
 pub struct WriterName {
     pub writer: Endpoint,
     pub guid: Guid,
-}
-
-/// A writer that a reader is matched with, and the number of the next of its changes.
-#[derive(Clone, Copy)]
-pub struct WriterRow {
-    pub name: WriterName,
-    pub place: u64,
 }
 
 /// Whether a peer has a reader of the topic.
@@ -53,7 +46,8 @@ pub fn destinations(
     topic: u32,
 ) -> Result<Vec<Destination>, AllocError>
     requires few { length peers.now ≤ 16 }
-    ensures { IfOk result (λ all. all.items ≡ destinations topic 1 peers.now) }
+    ensures names { IfOk result (λ all. all.items ≡ destinations topic 1 peers.now) }
+    ensures few { IfOk result (λ all. length all.items ≤ 16) }
 {
     let mut all = Vec::new(alloc);
     for (index, peer) in peers.iter().enumerate() {
@@ -69,40 +63,43 @@ pub fn destinations(
 
 /// Adds the readers of the topic among those of a peer.
 fn push_readers(
-    all: &mut Vec<ReaderRow>,
-    peer: u8,
-    readers: &[ReaderConfig],
+    all: &mut Vec<ReaderName>,
+    number: u8,
+    peer: &PeerConfig,
     topic: u32,
 ) -> Result<(), AllocError>
-    requires few { length readers.now ≤ 16 }
-    ensures { OnOk result (all.new.items ≡ all.old.items ++ of_readers_in (reader_row peer) topic 1 readers.now) }
+    requires few { length peer.now.readers ≤ 16 }
+    ensures { OnOk result (all.new.items ≡ all.old.items ++ of_readers_in (reader_name number peer.now) topic 1 peer.now.readers) }
 {
-    for (index, reader) in readers.iter().enumerate() {
+    for (index, reader) in peer.readers.as_slice().iter().enumerate() {
         if reader.topic == topic {
-            all.push(ReaderRow {
+            all.push(ReaderName {
                 reader: Endpoint {
-                    peer,
+                    peer: number,
                     number: (index + 1) as u8,
                 },
-                acknowledged: 1,
+                guid: Guid {
+                    prefix: peer.prefix,
+                    entity: reader.entity,
+                },
             })?;
         }
     }
     Ok(())
 }
 
-/// The readers that a writer of the topic is matched with; none has acknowledged anything.
+/// The readers that a writer of the topic is matched with.
 pub fn matched_readers(
     alloc: Global,
     peers: &[PeerConfig],
     topic: u32,
-) -> Result<Vec<ReaderRow>, AllocError>
+) -> Result<Vec<ReaderName>, AllocError>
     requires checked { check_refusal peers.now ≡ None }
-    ensures { IfOk result (λ all. all.items ≡ of_matched_readers (λ i p. reader_row i) topic 1 peers.now) }
+    ensures { IfOk result (λ all. all.items ≡ reader_names topic peers.now) }
 {
     let mut all = Vec::new(alloc);
     for (index, peer) in peers.iter().enumerate() {
-        push_readers(&mut all, (index + 1) as u8, peer.readers.as_slice(), topic)?;
+        push_readers(&mut all, (index + 1) as u8, peer, topic)?;
     }
     Ok(all)
 }
@@ -110,7 +107,7 @@ pub fn matched_readers(
 /// What a reader has of the writers that it is matched with, in the order of their publication handles.
 #[derive(Drop)]
 pub struct MatchedWriters {
-    pub rows: Vec<WriterRow>,
+    pub names: Vec<WriterName>,
     pub qos: Vec<MatchedWriter>,
 }
 
@@ -122,7 +119,7 @@ fn push_writers(
     topic: u32,
 ) -> Result<(), AllocError>
     requires few { length peer.now.writers ≤ 16 }
-    ensures rows { OnOk result (all.new.rows.items ≡ all.old.rows.items ++ of_writers_in (writer_row number peer.now) topic 1 peer.now.writers) }
+    ensures names { OnOk result (all.new.names.items ≡ all.old.names.items ++ of_writers_in (writer_name number peer.now) topic 1 peer.now.writers) }
     ensures qos { OnOk result (all.new.qos.items ≡ all.old.qos.items ++ of_writers_in (matched_writer number peer.now) topic 1 peer.now.writers) }
 {
     for (index, writer) in peer.writers.as_slice().iter().enumerate() {
@@ -135,12 +132,9 @@ fn push_writers(
                 peer: number,
                 number: (index + 1) as u8,
             };
-            all.rows.push(WriterRow {
-                name: WriterName {
-                    writer: writer_number,
-                    guid,
-                },
-                place: 1,
+            all.names.push(WriterName {
+                writer: writer_number,
+                guid,
             })?;
             all.qos.push(MatchedWriter {
                 guid,
@@ -152,18 +146,18 @@ fn push_writers(
     Ok(())
 }
 
-/// The writers that a reader of the topic is matched with; each place is 1.
+/// The writers that a reader of the topic is matched with.
 pub fn matched_writers(
     alloc: Global,
     peers: &[PeerConfig],
     topic: u32,
 ) -> Result<MatchedWriters, AllocError>
     requires checked { check_refusal peers.now ≡ None }
-    ensures rows { IfOk result (λ all. all.rows.items ≡ of_matched_writers writer_row topic 1 peers.now) }
+    ensures names { IfOk result (λ all. all.names.items ≡ of_matched_writers writer_name topic 1 peers.now) }
     ensures qos { IfOk result (λ all. all.qos.items ≡ of_matched_writers matched_writer topic 1 peers.now) }
 {
     let mut all = MatchedWriters {
-        rows: Vec::new(alloc),
+        names: Vec::new(alloc),
         qos: Vec::new(alloc),
     };
     for (index, peer) in peers.iter().enumerate() {

@@ -16,14 +16,11 @@ use dds_base::{
 };
 use std::alloc::{AllocError, Global};
 
-/// Whether a writer is shared and keeps all, without a limit or a lease.
+/// Whether a writer is shared, without a lease.
 fn is_plain_writer(writer: &WriterConfig) -> bool
     ensures { result ≡ is_plain_writer writer.now }
 {
-    matches!(writer.ownership, OwnershipQos::Shared)
-        && matches!(writer.history, HistoryQos::KeepAll)
-        && writer.max_samples == -1
-        && writer.lease.is_none()
+    matches!(writer.ownership, OwnershipQos::Shared) && writer.lease.is_none()
 }
 
 /// Whether a reader is shared and keeps all, without a limit or a lease.
@@ -124,8 +121,8 @@ impl Core {
     /// # Errors
     ///
     /// The first of these: what `Config::check` answers; `BadParameter` where the configuration has no peer of this
-    /// number, or has a writer or a reader that is not shared, does not keep all, or has a limit or a lease; `Memory`
-    /// where a growth was refused.
+    /// number, or has a writer or a reader that is not shared or has a lease, or a reader that does not keep all or has a
+    /// limit; `Memory` where a growth was refused.
     pub fn open(alloc: Global, config: &Config, peer: u8) -> Result<Core, Code>
         // The peer stands for its opening in the configuration.
         ensures opening { IfOk result (λ core. StandsFor core config.now (opening_peer config.now peer)) }

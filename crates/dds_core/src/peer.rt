@@ -2,14 +2,15 @@
 
 ghost use Rattle.std.specs.Prelude.{◌≡◌};
 ghost use Rattle.dds_model.specs.declared.event.Event.TheVariants as event;
-ghost use Rattle.dds_core.specs.Standing.{Steps};
-ghost use Rattle.dds_core.specs.Sending.{Sends, SendsNothing, AreMessages};
+ghost use Rattle.dds_core.specs.Standing.{Steps, SoundSteps};
+ghost use Rattle.dds_core.specs.Sending.{Sends, AreMessages};
 
 use crate::output::answered;
 use crate::reader_end::ReaderEnd;
 use crate::receiver::NO_MOMENT;
-use crate::writer_end::WriterEnd;
-use dds_base::{Code, GuidPrefix, Moment};
+use crate::sending::Announced;
+use crate::writer_end::{WriterEnd, tick_all};
+use dds_base::{Code, GuidPrefix, Moment, Sequence};
 use dds_model::{Event, Output, Reply};
 use std::alloc::Global;
 use std::marker::Model;
@@ -41,7 +42,7 @@ impl Model for Core {
       readers = c.readers.items;
     } };
 
-    ghost invariant = { λ c. length c.readers.items ≤ 16 };
+    ghost invariant = { λ c. (length c.writers.items ≤ 16) × (length c.readers.items ≤ 16) };
 }
 
 impl Core {
@@ -49,13 +50,13 @@ impl Core {
     ///
     /// A call is answered as `Call` says; a tick `Done`, or `BadParameter` where the time would go back, or to 2^63 units
     /// of 2^-32 second and beyond; a packet by a report of what it moved, whatever its bytes are. What is refused changes
-    /// nothing. Packets go out only for a change that was made: one for each peer with a matched reader, or it is counted
-    /// in `unsent` for want of memory.
+    /// nothing. Packets go out for a change that was made, one for each peer with a matched reader, and at a tick for each
+    /// writer, a HEARTBEAT for each peer with a reader that is behind; or they are counted in `unsent` for want of memory.
     ///
     /// DDS 1.4, 2.2.2.4 and 2.2.2.5 (DataWriter, DataReader); RTPS 2.5, 8.4 (behaviour).
     pub fn step(&mut self, event: Event) -> Output
         // For each state that the peer stands for, the event is a step to one that it stands for afterwards.
-        ensures step { Steps self.old event result self.new }
+        ensures step { SoundSteps self.old event result self.new }
         // What goes out at the event, and what is counted as unsent.
         ensures sends { Sends self.old event result }
         // What goes out is the written form of a message.
@@ -68,15 +69,26 @@ impl Core {
         }
     }
 
-    /// The time of the peer goes on: not back, and not to 2^63 or beyond.
+    /// The time of the peer goes on: not back, and not to 2^63 or beyond. The HEARTBEATs that are then due are sent.
     fn tick(&mut self, now: Moment) -> Output
         ensures step { Steps self.old (event.Tick now) result self.new }
-        ensures sends { SendsNothing result }
+        ensures sends { Sends self.old (event.Tick now) result }
+        ensures messages { AreMessages result.packets }
     {
         if now.units() < self.moment.units() || NO_MOMENT <= now.units() {
             return answered(self.alloc, Reply::Refused(Code::BadParameter));
         }
+        let Announced { packets, unsent } = tick_all(
+            self.alloc,
+            self.prefix,
+            self.writers.as_mut_slice(),
+            now,
+        );
         self.moment = now;
-        answered(self.alloc, Reply::Done)
+        Output {
+            reply: Reply::Done,
+            packets: Sequence::from_vec(packets),
+            unsent,
+        }
     }
 }

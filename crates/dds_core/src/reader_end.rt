@@ -2,97 +2,92 @@
 //!
 //! RTPS 2.5, 8.4.10 (StatefulReader, WriterProxy); DDS 1.4, 2.2.2.5 (DataReader).
 
-ghost use Rattle.std.specs.Prelude.{◌≡◌, ◌↔◌, ◌+◌, ℕ, List, slice_get, None, Some, true, IsTrue, IfSome, IfNone, IfOk};
+ghost use Rattle.std.specs.Prelude.{◌≡◌, ◌↔◌, ◌<◌, ◌≤◌, ℕ, List, length, slice_get, None, Some, true, IsTrue, IfSome, IfNone, IfOk, IfErr, OnOk, IsOk, Ok, MatchOption};
 ghost use Rattle.dds_base.specs.Checked.{check_refusal};
+ghost use Rattle.dds_base.specs.declared.code.Code.TheVariants.{Memory};
 ghost use Rattle.dds_base.specs.declared.happening.Happening.{Happening};
 ghost use Rattle.dds_base.specs.declared.happening.Happening.TheVariants.{Took};
-ghost use Rattle.dds_cache.specs.Standing.{qos_of, StandsFor as CacheStandsFor, Answers, AfterAccess};
-ghost use Rattle.dds_core.specs.declared.matching.WriterRow.{WriterRow};
+ghost use Rattle.rtps_wire.specs.declared.submessage.Submessage.TheVariants as submessage;
+ghost use Rattle.rtps_reader.specs.Tracked.{Tracked};
 ghost use Rattle.dds_core.specs.Opening.{is_plain_reader, OpensReader};
-ghost use Rattle.dds_core.specs.Receiving.{receiver_at, IsFirstRow, HasNoRow, IsRowAt, IsFull, IsNext, IsNotNext, IsReady, IsAlike, CanCome, Comes, TakesOnly, place_moves};
+ghost use Rattle.dds_core.specs.Receiving.{receiver_at, IsFirstName, IsNamedFor, NamedBy, NamesNobody, IsToldBy, HasMemory, IsReadyFor, IsAlike, CanTake, TakesTold, SameReader, TakesOnly, IsPlaceAt};
+ghost use Rattle.dds_core.specs.Stored.{Holds};
+ghost use Rattle.dds_core.specs.declared.matching.WriterName.{WriterName};
+ghost use Rattle.dds_cache.specs.Standing.{Answers, AfterAccess};
 ghost use Rattle.dds_model.specs.Claims.{is_for, Names};
 
-use crate::matching::{MatchedWriters, WriterRow, matched_writers};
+use crate::matching::{MatchedWriters, WriterName, matched_writers};
 use crate::receiver::{MessageReceiver, is_for};
+use crate::store::Store;
 use dds_base::{
-    Arrival, Change, Code, EntityId, Guid, GuidPrefix, Handle, Masks, Moment, PeerConfig,
-    ReaderConfig, ReaderQos, Sample, Sequence, Sn,
+    Change, Code, EntityId, Guid, GuidPrefix, Masks, Moment, PeerConfig, ReaderConfig, ReaderQos,
+    Sample, Sequence, Sn,
 };
-use dds_cache::ReaderCache;
-use dds_model::{Endpoint, Move};
-use rtps_wire::Data;
+use dds_model::Endpoint;
+use rtps_reader::{HeartbeatSeen, StatefulReader, Step};
+use rtps_sets::SnSet;
+use rtps_wire::{Data, Gap, Heartbeat, Submessage};
 use std::alloc::{AllocError, Global};
 use std::marker::Model;
 
-/// As many changes come as a reader has room for.
-const MAX_ARRIVALS: u32 = (1 << 31) - 2;
-
-/// A change that is the next one of a matched writer, by the writer's row. There is room for it.
+/// What a submessage tells a reader.
 #[derive(Drop)]
-pub struct Coming {
-    pub row: usize,
-    pub change: Change,
+pub enum Told {
+    Change { number: Sn, change: Change },
+    Gap { start: Sn, list: SnSet },
+    Heartbeat(HeartbeatSeen),
 }
 
-/// A reader, with its place in the list of each writer that it is matched with.
+/// What a reader is told, by the writer of this row. There is memory for all that it does.
+#[derive(Drop)]
+pub struct Ready {
+    pub row: usize,
+    pub told: Told,
+}
+
+/// A reader, with the names of the writers that it is matched with, what it knows of them, and what it holds.
 #[derive(Drop)]
 pub struct ReaderEnd {
     alloc: Global,
     entity: EntityId,
-    writers: Vec<WriterRow>,
-    /// How many changes came.
-    arrivals: u32,
-    cache: ReaderCache,
+    writers: Vec<WriterName>,
+    reader: StatefulReader,
+    store: Store,
 }
 
 impl Model for ReaderEnd {
-    ghost use Rattle.std.specs.Prelude.{length, ◌≤◌};
-    ghost use Rattle.dds_cache.specs.Standing.{qos_of};
-    ghost use Rattle.dds_core.specs.Kept.{ReaderKept};
+    ghost use Rattle.dds_core.specs.Kept.{ReaderKept, FitsWriters};
 
     ghost Value = { ReaderKept };
 
     ghost view = { λ r. record {
       entity = r.entity;
       writers = r.writers.items;
-      arrivals = r.arrivals;
-      cache = r.cache;
+      reader = r.reader;
+      store = r.store;
     } };
 
-    ghost invariant = { λ r. length r.writers.items ≤ length (qos_of r.cache).writers };
+    ghost invariant = { λ r. FitsWriters r.writers.items r.reader r.store };
 }
 
-/// Whether it is the row of a writer of this name.
-fn is_of(row: &WriterRow, guid: &Guid) -> bool
-    ensures { IsTrue result ↔ (row.now.name.guid ≡ guid.now) }
+/// Whether it is the name of a writer of this GUID.
+fn is_of(name: &WriterName, guid: &Guid) -> bool
+    ensures { IsTrue result ↔ (name.now.guid ≡ guid.now) }
 {
-    row.name.guid == *guid
+    name.guid == *guid
 }
 
-/// The first row of a writer of this name.
-fn find(rows: &[WriterRow], guid: &Guid) -> Option<usize>
-    ensures found { IfSome result (IsFirstRow rows.now guid.now) }
-    ensures none { IfNone result (HasNoRow rows.now guid.now) }
+/// The first writer of this name.
+fn find(names: &[WriterName], guid: &Guid) -> Option<usize>
+    ensures found { IfSome result (IsFirstName names.now guid.now) }
+    ensures none { IfNone result ((k : ℕ) → IsFirstName names.now guid.now k → ⊥) }
 {
-    for (index, row) in rows.iter().enumerate() {
-        if is_of(row, guid) {
+    for (index, name) in names.iter().enumerate() {
+        if is_of(name, guid) {
             return Some(index);
         }
     }
     None
-}
-
-/// The first row of a writer of this name, if the reader's place there is this number.
-fn row_at(rows: &[WriterRow], guid: &Guid, number: u64) -> Option<usize>
-    ensures found { IfSome result (IsRowAt rows.now guid.now number) }
-    ensures none { IfNone result ((k : ℕ) → IsRowAt rows.now guid.now number k → ⊥) }
-{
-    let index = find(rows, guid)?;
-    if rows[index].place == number {
-        Some(index)
-    } else {
-        None
-    }
 }
 
 impl ReaderEnd {
@@ -106,7 +101,11 @@ impl ReaderEnd {
         requires plain { is_plain_reader config.now ≡ true }
         ensures { IfOk result (OpensReader peers.now config.now) }
     {
-        let MatchedWriters { rows, qos } = matched_writers(alloc, peers, config.topic)?;
+        let MatchedWriters { names, qos } = matched_writers(alloc, peers, config.topic)?;
+        // Its only refusal is for want of memory.
+        let Ok(reader) = StatefulReader::open(alloc, names.len()) else {
+            return Err(AllocError);
+        };
         let qos = ReaderQos {
             ownership: config.ownership,
             history: config.history,
@@ -117,91 +116,210 @@ impl ReaderEnd {
         Ok(ReaderEnd {
             alloc,
             entity: config.entity,
-            writers: rows,
-            arrivals: 0,
-            cache: ReaderCache::open(alloc, qos),
+            writers: names,
+            reader,
+            store: Store::open(alloc, qos),
         })
     }
 
-    /// Whether the DATA is for this reader of the peer of this prefix.
-    fn is_meant(&self, own: &GuidPrefix, receiver: &MessageReceiver, body: &Data) -> bool
-        ensures { IsTrue result ↔ ((is_for (receiver_at receiver.now) own.now ≡ true) × Names body.now.reader_id self.now.entity) }
+    /// The writer of this row.
+    pub fn writer(&self, row: usize) -> Endpoint
+        requires { row < length self.now.writers }
+        ensures { (name : WriterName) → slice_get self.now.writers row ≡ Some name → result ≡ name.writer }
     {
-        is_for(receiver, own)
-            && (body.reader_id == self.entity || body.reader_id == EntityId::UNKNOWN)
+        self.writers[row].writer
     }
 
-    /// Whether there is no more room for changes, or for a number after this one.
-    fn is_full(&self, number: u64) -> bool
-        ensures { IsTrue result ↔ IsFull self.now number }
+    /// The place at the writer of this row.
+    pub fn place(&self, row: usize) -> Sn
+        requires { row < length self.now.writers }
+        ensures { (t : Tracked) → IsPlaceAt self.now row t result }
     {
-        MAX_ARRIVALS <= self.arrivals || number == u64::MAX
+        self.reader.place(row)
     }
 
-    /// The row of the writer whose next change the DATA has, if it is for this reader, and if there is room.
-    fn next_row(&self, own: &GuidPrefix, receiver: &MessageReceiver, body: &Data) -> Option<usize>
-        ensures found { IfSome result (IsNext own.now self.now (receiver_at receiver.now) body.now) }
-        ensures none { IfNone result (IsNotNext own.now self.now (receiver_at receiver.now) body.now) }
+    /// The row of the writer that a submessage is from, if it is for this reader of the peer of this prefix, and the writer
+    /// is matched.
+    fn row_of(
+        &self,
+        own: &GuidPrefix,
+        receiver: &MessageReceiver,
+        reader_id: &EntityId,
+        writer_id: &EntityId,
+    ) -> Option<usize>
+        ensures found { IfSome result (IsNamedFor own.now self.now (receiver_at receiver.now) reader_id.now writer_id.now) }
+        ensures none { IfNone result ((k : ℕ) → IsNamedFor own.now self.now (receiver_at receiver.now) reader_id.now writer_id.now k → ⊥) }
     {
-        let number = body.writer_sn.number();
-        if !self.is_meant(own, receiver, body) || self.is_full(number) {
+        let is_named = *reader_id == self.entity || *reader_id == EntityId::UNKNOWN;
+        if !is_named || !is_for(receiver, own) {
             return None;
         }
         let guid = Guid {
             prefix: receiver.source,
-            entity: body.writer_id,
+            entity: *writer_id,
         };
-        row_at(&self.writers, &guid, number)
+        find(&self.writers, &guid)
+    }
+}
+
+/// What a DATA says of the reader's writer, as its change and its number.
+fn told_by_data(alloc: Global, receiver: &MessageReceiver, body: &Data) -> Result<Told, Code>
+    ensures told { IfOk result (IsToldBy (receiver_at receiver.now) (submessage.Data body.now)) }
+    ensures memory { IfErr result (λ code. code ≡ Memory) }
+{
+    let content = body.content.try_clone(alloc)?;
+    let change = content.into_change(alloc, Moment::new(receiver.timestamp));
+    Ok(Told::Change {
+        number: body.writer_sn,
+        change,
+    })
+}
+
+/// What a GAP says.
+fn told_by_gap(receiver: &MessageReceiver, body: &Gap) -> Told
+    ensures { IsToldBy (receiver_at receiver.now) (submessage.Gap body.now) result }
+{
+    Told::Gap {
+        start: body.gap_start,
+        list: body.gap_list,
+    }
+}
+
+/// What a HEARTBEAT says.
+fn told_by_heartbeat(receiver: &MessageReceiver, body: &Heartbeat) -> Told
+    ensures { IsToldBy (receiver_at receiver.now) (submessage.Heartbeat body.now) result }
+{
+    Told::Heartbeat(HeartbeatSeen {
+        first: body.first_sn,
+        last: body.last_sn,
+        count: body.count,
+        is_final: body.final_flag,
+        liveliness: body.liveliness_flag,
+    })
+}
+
+/// Whom a submessage of a writer names: its readerId and its writerId.
+#[derive(Clone, Copy)]
+struct Ids {
+    reader: EntityId,
+    writer: EntityId,
+}
+
+/// Whom a submessage names, if it is one of a writer.
+fn ids_of(submessage: &Submessage) -> Option<Ids>
+    ensures { MatchOption result (NamesNobody submessage.now) (λ ids. NamedBy submessage.now ids.reader ids.writer) }
+{
+    match submessage {
+        Submessage::Data(body) => Some(Ids {
+            reader: body.reader_id,
+            writer: body.writer_id,
+        }),
+        Submessage::Gap(body) => Some(Ids {
+            reader: body.reader_id,
+            writer: body.writer_id,
+        }),
+        Submessage::Heartbeat(body) => Some(Ids {
+            reader: body.reader_id,
+            writer: body.writer_id,
+        }),
+        _ => None,
+    }
+}
+
+/// What a submessage of a writer says to a reader.
+fn told_by(
+    alloc: Global,
+    receiver: &MessageReceiver,
+    submessage: &Submessage,
+) -> Result<Option<Told>, Code>
+    ensures told { IfOk result (λ told. MatchOption told (NamesNobody submessage.now) (IsToldBy (receiver_at receiver.now) submessage.now)) }
+    ensures memory { IfErr result (λ code. code ≡ Memory) }
+{
+    match submessage {
+        Submessage::Data(body) => {
+            let told = told_by_data(alloc, receiver, body)?;
+            Ok(Some(told))
+        }
+        Submessage::Gap(body) => Ok(Some(told_by_gap(receiver, body))),
+        Submessage::Heartbeat(body) => Ok(Some(told_by_heartbeat(receiver, body))),
+        _ => Ok(None),
+    }
+}
+
+/// What was done where there was memory for it.
+fn done(step: Result<Step, Code>) -> Step
+    requires { IsOk step }
+    ensures { step ≡ Ok result }
+{
+    match step {
+        Ok(step) => step,
+        Err(_) => unreachable!(),
+    }
+}
+
+impl ReaderEnd {
+    /// Makes memory for the next submessage.
+    fn make_room(&mut self) -> Result<(), Code>
+        ensures room { OnOk result (HasMemory self.new) }
+        ensures alike { IsAlike self.old self.new }
+        ensures memory { IfErr result (λ code. code ≡ Memory) }
+    {
+        self.reader.reserve(&mut self.store)
     }
 
-    /// Makes ready what a DATA brings: the change and the room for it, where it is the next one of its writer.
+    /// Makes ready what a submessage tells this reader of the peer of this prefix: a copy of it, and memory for all that it
+    /// does.
     ///
     /// # Errors
     ///
-    /// `Memory` where a growth was refused.
+    /// `Memory` where a growth was refused; the reader is then as it was.
     pub fn prepare(
         &mut self,
         own: &GuidPrefix,
         receiver: &MessageReceiver,
-        body: &Data,
-    ) -> Result<Option<Coming>, Code>
-        ensures ready { IfOk result (IsReady own.now (receiver_at receiver.now) body.now self.new) }
+        submessage: &Submessage,
+    ) -> Result<Option<Ready>, Code>
+        ensures ready { IfOk result (IsReadyFor own.now (receiver_at receiver.now) submessage.now self.new) }
         ensures alike { IsAlike self.old self.new }
+        ensures memory { IfErr result (λ code. code ≡ Memory) }
     {
-        let Some(row) = self.next_row(own, receiver, body) else {
+        let Some(ids) = ids_of(submessage) else {
             return Ok(None);
         };
-        self.cache.reserve(1)?;
-        let content = body.content.try_clone(self.alloc)?;
-        let change = content.into_change(self.alloc, Moment::new(receiver.timestamp));
-        Ok(Some(Coming { row, change }))
+        let Some(row) = self.row_of(own, receiver, &ids.reader, &ids.writer) else {
+            return Ok(None);
+        };
+        self.make_room()?;
+        match told_by(self.alloc, receiver, submessage)? {
+            Some(told) => Ok(Some(Ready { row, told })),
+            None => Ok(None),
+        }
     }
 
-    /// The change that is ready comes at this reader, the one of this number, at this moment of its peer.
-    pub fn come(&mut self, reader: u8, coming: Coming, moment: Moment) -> Move
-        requires can { CanCome self.old coming }
-        ensures moved { (row : WriterRow) → slice_get self.old.writers coming.row ≡ Some row → result ≡ place_moves row.name.writer reader (row.place + 1) }
-        ensures comes { (row : WriterRow) → slice_get self.old.writers coming.row ≡ Some row → Comes self.old coming.row row coming.change moment self.new }
+    /// The reader is told what is ready for it, at this moment of its peer.
+    pub fn take_up(&mut self, ready: Ready, moment: Moment) -> Step
+        requires can { CanTake self.old ready }
+        ensures told { TakesTold self.old ready moment result self.new }
+        ensures same { SameReader self.old self.new }
     {
-        let Coming { row: index, change } = coming;
-        let mut row = self.writers[index];
-        let arrival = Arrival {
-            writer: Handle::new((index + 1) as u64),
-            number: Sn::new(row.place),
-            change,
-            moment,
-        };
-        row.place += 1;
-        self.writers[index] = row;
-        self.arrivals += 1;
-        if self.cache.come(arrival).is_err() {
-            unreachable!();
-        }
-        Move::Place {
-            writer: row.name.writer,
-            reader,
-            to: Sn::new(row.place),
-            passed: Sequence::from_vec(Vec::new(self.alloc)),
+        let Ready { row, told } = ready;
+        match told {
+            Told::Change { number, change } => done(
+                self.reader
+                    .on_data(&mut self.store, row, number, change, moment),
+            ),
+            Told::Gap { start, list } => {
+                done(
+                    self.reader
+                        .on_gap(&mut self.store, row, start, &list, moment),
+                )
+            }
+            Told::Heartbeat(heartbeat) => {
+                done(
+                    self.reader
+                        .on_heartbeat(&mut self.store, row, &heartbeat, moment),
+                )
+            }
         }
     }
 
@@ -213,10 +331,10 @@ impl ReaderEnd {
     ///
     /// DDS 1.4, 2.2.2.5 (take).
     pub fn take(&mut self, max: Option<u32>, masks: Masks) -> Result<Sequence<Sample>, Code>
-        ensures answer { (h : List Happening) → CacheStandsFor self.old.cache h → Answers self.old.cache h max masks result }
-        ensures after { (h : List Happening) → CacheStandsFor self.old.cache h → AfterAccess Took self.old.cache h max masks result self.new.cache }
+        ensures answer { (h : List Happening) → Holds self.old.store h → Answers self.old.store.cache h max masks result }
+        ensures after { (h : List Happening) → Holds self.old.store h → AfterAccess Took self.old.store.cache h max masks result self.new.store.cache }
         ensures same { TakesOnly self.old self.new }
     {
-        self.cache.take(max, masks)
+        self.store.take(max, masks)
     }
 }

@@ -81,7 +81,7 @@ fn addressed(message: Message, to: GuidPrefix) -> Message
 }
 
 /// Adds the packet of a message to a peer, if there is memory for it.
-fn push_packet(alloc: Global, packets: &mut Vec<Packet>, message: &Message, to: u8)
+pub fn push_packet(alloc: Global, packets: &mut Vec<Packet>, message: &Message, to: u8)
     requires { IsWritable message.now }
     ensures { AddsPacket packets.old.items message.now to packets.new.items }
 {

@@ -2,21 +2,27 @@
 //!
 //! RTPS 2.5, 8.4.7 (StatefulWriter); DDS 1.4, 2.2.2.4 (DataWriter).
 
-ghost use Rattle.std.specs.Prelude.{◌≡◌, ◌+◌, ◌^◌, ◌≤◌, length, None, true, IfOk, IfErr, OnOk, OnErr};
+ghost use Rattle.std.specs.Prelude.{◌≡◌, ◌+◌, ◌^◌, ◌≤◌, ℤ, Option, length, None, true, IfOk, IfErr, OnOk, OnErr};
 ghost use Rattle.dds_base.specs.Checked.{check_refusal};
 ghost use Rattle.dds_base.specs.declared.code.Code.TheVariants.{Memory};
 ghost use Rattle.dds_base.specs.Kept.{append_refusal};
 ghost use Rattle.dds_base.specs.Refusal.{Refuses};
 ghost use Rattle.dds_base.specs.Written.{Registered, Changed, is_key_registered};
-ghost use Rattle.dds_model.specs.Calls.{unregister_kind};
+ghost use Rattle.dds_model.specs.declared.endpoint.Endpoint.{Endpoint as EndpointOf};
+ghost use Rattle.dds_model.specs.Calls.{limit_of, unregister_kind};
 ghost use Rattle.dds_model.specs.Part.{Writer, history_of, writer_changes};
+ghost use Rattle.dds_core.specs.Beating.{BeatsOf, BeatsOfAll};
 ghost use Rattle.dds_core.specs.Opening.{is_plain_writer, OpensWriter};
-ghost use Rattle.dds_core.specs.Standing.{WriterStands, Enters};
+ghost use Rattle.dds_core.specs.Sending.{AreMessages};
+ghost use Rattle.dds_core.specs.Standing.{WriterStands, Enters, Ticks, AllTick};
 
-use crate::matching::{Destination, ReaderRow, destinations, matched_readers};
-use crate::registration::{is_registered, note, register, reserve};
-use dds_base::{Change, ChangeKind, Code, EntityId, Key, PeerConfig, Sn, WriterConfig};
-use dds_history::History;
+use crate::heartbeat::{Beat, send_beats};
+use crate::matching::{Destination, ReaderName, destinations, matched_readers};
+use crate::sending::Announced;
+use dds_base::{
+    Change, ChangeKind, Code, EntityId, GuidPrefix, Key, Moment, PeerConfig, Sn, WriterConfig,
+};
+use rtps_writer::StatefulWriter;
 use std::alloc::{AllocError, Global};
 use std::marker::Model;
 
@@ -26,14 +32,15 @@ pub struct WriterEnd {
     entity: EntityId,
     autodispose: bool,
     destinations: Vec<Destination>,
-    readers: Vec<ReaderRow>,
-    /// The instances that it has registered.
-    registered: Vec<Key>,
-    history: History,
+    /// Its matched readers, in the order of their indices in `writer`.
+    readers: Vec<ReaderName>,
+    writer: StatefulWriter,
 }
 
 impl Model for WriterEnd {
     ghost use Rattle.dds_core.specs.Kept.{WriterKept};
+    ghost use Rattle.dds_core.specs.Sending.{AreMessages};
+    ghost use Rattle.dds_core.specs.Standing.{IsWhole};
 
     ghost Value = { WriterKept };
 
@@ -42,9 +49,17 @@ impl Model for WriterEnd {
       autodispose = w.autodispose;
       destinations = w.destinations.items;
       readers = w.readers.items;
-      registered = w.registered.items;
-      history = w.history;
+      writer = w.writer;
     } };
+
+    ghost invariant = { λ w. IsWhole w.destinations.items w.readers.items w.writer };
+}
+
+/// A limit as a number; `None` where there is none.
+fn limit_of(max: i32) -> Option<u32>
+    ensures { result ≡ limit_of max }
+{
+    if max < 0 { None } else { Some(max as u32) }
 }
 
 impl WriterEnd {
@@ -60,7 +75,8 @@ impl WriterEnd {
     {
         let destinations = destinations(alloc, peers, config.topic)?;
         let readers = matched_readers(alloc, peers, config.topic)?;
-        let Ok(history) = History::open(alloc, config.history, None, readers.len()) else {
+        let limit = limit_of(config.max_samples);
+        let Ok(writer) = StatefulWriter::open(alloc, config.history, limit, readers.len()) else {
             return Err(AllocError);
         };
         Ok(WriterEnd {
@@ -68,8 +84,7 @@ impl WriterEnd {
             autodispose: config.autodispose,
             destinations,
             readers,
-            registered: Vec::new(alloc),
-            history,
+            writer,
         })
     }
 
@@ -89,14 +104,14 @@ impl WriterEnd {
 
     /// Whether it has registered the instance.
     pub fn is_registered(&self, key: Key) -> bool
-        ensures { (w : Writer) → WriterStands self.now w → result ≡ is_key_registered key w.written }
+        ensures { (w : Writer) (answered : EndpointOf → Option ℤ) → WriterStands self.now w answered → result ≡ is_key_registered key w.written }
     {
-        is_registered(&self.registered, key)
+        self.writer.is_registered(key)
     }
 
     /// What an unregister makes (DDS 1.4, 2.2.3, WRITER_DATA_LIFECYCLE).
     pub fn unregister_kind(&self) -> ChangeKind
-        ensures { (w : Writer) → WriterStands self.now w → result ≡ unregister_kind w.autodispose }
+        ensures { (w : Writer) (answered : EndpointOf → Option ℤ) → WriterStands self.now w answered → result ≡ unregister_kind w.autodispose }
     {
         if self.autodispose {
             ChangeKind::DisposeUnregister
@@ -117,16 +132,7 @@ impl WriterEnd {
         ensures err { OnErr result (self.new ≡ self.old) }
         ensures memory { IfErr result (λ code. code ≡ Memory) }
     {
-        self.registered.reserve(1)?;
-        register(&mut self.registered, key);
-        Ok(())
-    }
-
-    /// Why one more change would be refused, but for want of memory.
-    pub fn refusal(&self, change: &Change) -> Option<Code>
-        ensures { (w : Writer) → WriterStands self.now w → result ≡ append_refusal (history_of w) change.now }
-    {
-        self.history.refusal(change)
+        self.writer.register(key)
     }
 
     /// Makes a change, and gives its number. A write or a dispose registers its instance, the others end its registration.
@@ -137,25 +143,56 @@ impl WriterEnd {
     /// than `max_samples` numbers would be kept, `Memory` where a growth was refused.
     pub fn append(&mut self, change: Change) -> Result<Sn, Code>
         ensures ok { OnOk result (Enters self.old (Changed change) self.new) }
-        ensures accepted { IfOk result (λ number. (w : Writer) → WriterStands self.old w →
+        ensures accepted { IfOk result (λ number. (w : Writer) (answered : EndpointOf → Option ℤ) → WriterStands self.old w answered →
             (append_refusal (history_of w) change ≡ None) × (number ≡ length (writer_changes w) + 1)) }
-        ensures refused { IfErr result (λ code. (w : Writer) → WriterStands self.old w → Refuses (append_refusal (history_of w) change) code) }
+        ensures refused { IfErr result (λ code. (w : Writer) (answered : EndpointOf → Option ℤ) → WriterStands self.old w answered → Refuses (append_refusal (history_of w) change) code) }
         ensures number { IfOk result (λ number. (1 ≤ number) × (number ≤ 2 ^ 48)) }
         ensures err { OnErr result (self.new ≡ self.old) }
     {
-        if let Some(code) = self.history.refusal(&change) {
-            return Err(code);
-        }
-        let (key, kind) = (change.key, change.kind);
-        if reserve(&mut self.registered, kind).is_err() {
-            return Err(Code::Memory);
-        }
-        match self.history.append(change) {
-            Ok(number) => {
-                note(&mut self.registered, key, kind);
-                Ok(number)
-            }
-            Err(code) => Err(code),
-        }
+        self.writer.write(change)
     }
+
+    /// The time of its peer, of this prefix, has gone on to this moment: sends the HEARTBEATs that are then due.
+    ///
+    /// RTPS 2.5, 8.4.9 (reliable StatefulWriter: heartbeatPeriod).
+    pub fn tick(&mut self, alloc: Global, prefix: GuidPrefix, now: Moment, sent: &mut Announced)
+        requires room { sent.old.unsent ≤ 256 }
+        ensures few { sent.new.unsent ≤ sent.old.unsent + 16 }
+        ensures ticks { Ticks self.old now self.new }
+        ensures beats { BeatsOf prefix self.old sent.old.packets.items sent.old.unsent sent.new.packets.items sent.new.unsent }
+        ensures messages { AreMessages sent.old.packets.items → AreMessages sent.new.packets.items }
+    {
+        let Some(due) = self.writer.tick(now) else {
+            return;
+        };
+        let beat = Beat {
+            prefix,
+            entity: self.entity,
+            due,
+        };
+        let (readers, destinations) = (self.readers.as_slice(), self.destinations.as_slice());
+        send_beats(alloc, &beat, &self.writer, readers, destinations, sent);
+    }
+}
+
+/// The time of a peer, of this prefix, has gone on to this moment: each of its writers ticks.
+pub fn tick_all(
+    alloc: Global,
+    prefix: GuidPrefix,
+    writers: &mut [WriterEnd],
+    now: Moment,
+) -> Announced
+    requires few { length writers.old ≤ 16 }
+    ensures ticks { AllTick writers.old now writers.new }
+    ensures beats { BeatsOfAll prefix writers.old result.packets.items result.unsent }
+    ensures messages { AreMessages result.packets.items }
+{
+    let mut sent = Announced {
+        packets: Vec::new(alloc),
+        unsent: 0,
+    };
+    for writer in writers.iter_mut() {
+        writer.tick(alloc, prefix, now, &mut sent);
+    }
+    sent
 }

@@ -1,5 +1,7 @@
 -- What a writer answers to an ACKNACK is true: a DATA tells a change of its list, and a GAP names what it has dropped.
-use Rattle.std.proofs.Common.{◌≡◌, ℕ, zero, suc, ◌+◌, ◌^◌, ◌<◌, ◌≤◌, max, Bool, true, false, List, [], ◌∷◌, ◌++◌, Option, Some, None, length, get_or, map, nat_lt, refl, subst, ap, sym, ◌∙◌, inl, inr, ⊎_elim, arith}
+use Rattle.std.proofs.Common.{◌≡◌, ℕ, zero, suc, ◌+◌, ◌^◌, ◌<◌, ◌≤◌, max, Bool, true, false, List, [], ◌∷◌, ◌++◌}
+use Rattle.std.proofs.Common.{Option, Some, None, length, get_or, map, nat_lt, refl, subst, ap, sym, ◌∙◌, inl, inr}
+use Rattle.std.proofs.Common.{⊎_elim, arith}
 use Rattle.std.specs.Prelude.{if◌then◌else◌, nat_le, ◌&&◌}
 use Rattle.std.specs.List.{All, flat_map}
 use Rattle.std.proofs.lemmas.Bool.{and_parts, leb-true}
@@ -25,10 +27,13 @@ use Rattle.rtps_writer.proofs.AnswerFacts.{answers-right}
 use Rattle.dds_model.specs.declared.endpoint.Endpoint.{Endpoint}
 use Rattle.dds_model.specs.declared.reply.Move.{Move}
 use Rattle.dds_model.specs.Numbered.{HasNumber}
-use Rattle.dds_model.specs.Part.{Part, Writer, no_writer, own_writer, acknowledged_of, writer_changes, history_of, at_writer}
-use Rattle.dds_model.specs.Claims.{Receiver, is_for, stamp_of, after_submessage, StandsAt, IsWriter, IsToWriter, Claim, ChangeIs, MayPass, PlaceReached, Asserts, Says}
+use Rattle.dds_model.specs.Part.{Part, Writer, no_writer, own_writer, acknowledged_of, writer_changes, history_of}
+use Rattle.dds_model.specs.Part.{at_writer}
+use Rattle.dds_model.specs.Claims.{Receiver, is_for, stamp_of, after_submessage, StandsAt, IsWriter, IsToWriter, Claim}
+use Rattle.dds_model.specs.Claims.{ChangeIs, MayPass, PlaceReached, Asserts, Says}
 use Rattle.dds_model.specs.Peer.{IsTrueAt}
-use Rattle.dds_model.specs.Protocol.{Due, State, TakesAckNack, WriterTakes, AreGrouped, answer_message, data_of, submessages_of}
+use Rattle.dds_model.specs.Protocol.{Due, State, TakesAckNack, WriterTakes, AreGrouped, answer_message, data_of}
+use Rattle.dds_model.specs.Protocol.{submessages_of}
 use Rattle.dds_model.specs.Dues.{IsTellable, AreTellable, IsTruthful, AreTruthful}
 use Rattle.dds_model.proofs.Dues.{addressed, told_to, ts_says}
 use Rattle.dds_model.proofs.DuesAcknacks.{none_due}
@@ -63,11 +68,20 @@ written_there : (x : Answering) (w : Endpoint) → w ≡ record { peer = x.peer;
     → own_writer x.part w.number ≡ x.writer
 written_there x w same = ap (λ (e : Endpoint). own_writer x.part e.number) same ∙ x.is
 
+-- the DATA with a change, and the GAP from one number to another
+abbrev data_with : Answering → EntityId → ℕ → Change → Submessage
+data_with x reader n c =
+    Data (record { reader_id = reader; writer_id = x.entity; writer_sn = n; content = content_of c })
+
+abbrev gap_with : Answering → EntityId → ℕ → ℕ → Submessage
+gap_with x reader first last =
+    Gap (record { reader_id = reader; writer_id = x.entity; gap_start = first; gap_list = empty_from (last + 1) })
+
 -- a DATA tells the change
 data_says : (x : Answering) (reader : EntityId) (far : GuidPrefix) (at : Receiver) (n : ℕ) (c : Change)
     → at.source_guid_prefix ≡ x.own → (is_for at far ≡ true → at.timestamp ≡ c.source_timestamp)
     → change_at (writer_changes x.writer) n ≡ Some c → (claim : Claim)
-    → Says x.config far at (Data (record { reader_id = reader; writer_id = x.entity; writer_sn = n; content = content_of c })) claim → IsTrueAt x.peer x.part claim
+    → Says x.config far at (data_with x reader n c) claim → IsTrueAt x.peer x.part claim
 data_says x reader far at n c source time there (MayPass w r k) h = absurd h
 data_says x reader far at n c source time there (PlaceReached w r b) h = absurd h
 data_says x reader far at n c source time there (Asserts w r k) h = absurd h
@@ -87,7 +101,7 @@ data_says x reader far at n c source time there (ChangeIs w r k d) h =
 gap_says : (x : Answering) (reader : EntityId) (far : GuidPrefix) (at : Receiver) (first last : ℕ)
     → at.source_guid_prefix ≡ x.own
     → ((n : ℕ) → first ≤ n → n ≤ last → is_dropped (history_of x.writer) n ≡ true) → (claim : Claim)
-    → Says x.config far at (Gap (record { reader_id = reader; writer_id = x.entity; gap_start = first; gap_list = empty_from (last + 1) })) claim → IsTrueAt x.peer x.part claim
+    → Says x.config far at (gap_with x reader first last) claim → IsTrueAt x.peer x.part claim
 gap_says x reader far at first last source dropped (ChangeIs w r n c) h = absurd h
 gap_says x reader far at first last source dropped (PlaceReached w r b) h = absurd h
 gap_says x reader far at first last source dropped (Asserts w r k) h = absurd h
@@ -159,7 +173,7 @@ data_first x reader far r n (Some c) rest source there later (suc (suc index)) a
 gap_first : (x : Answering) (reader : EntityId) (far : GuidPrefix) (r : Receiver) (first last : ℕ)
     (rest : List Submessage) → r.source_guid_prefix ≡ x.own
     → ((n : ℕ) → first ≤ n → n ≤ last → is_dropped (history_of x.writer) n ≡ true) → SayTrue x far r rest
-    → SayTrue x far r (Gap (record { reader_id = reader; writer_id = x.entity; gap_start = first; gap_list = empty_from (last + 1) }) ∷ rest)
+    → SayTrue x far r (gap_with x reader first last ∷ rest)
 gap_first x reader far r first last rest source dropped later zero at s stands claim h =
     gap_says x reader far at first last (ap (λ (y : Receiver). y.source_guid_prefix) stands.0 ∙ source) dropped claim
     (subst (λ (y : Submessage). Says x.config far at y claim) stands.1 h)
@@ -203,38 +217,58 @@ all_back P [] ys h = h
 all_back P (x ∷ xs) ys h = all_back P xs ys (All-tail P x (xs ++ ys) h)
 
 -- what is so of all answers is so of those in each group
-all_grouped : (P : Answer → Type 0) (answers : List Answer) (groups : List (List Answer)) → AreGrouped answers groups
+pub all_grouped : (P : Answer → Type 0) (answers : List Answer) (groups : List (List Answer))
+    → AreGrouped answers groups
     → All P answers → All (All P) groups
 all_grouped P answers [] g h = All-nil (All P)
 all_grouped P answers (group ∷ groups) g h =
     let all : All P (group ++ g.0) = subst (λ (all : List Answer). All P all) g.1 h in
     All-cons (All P) group groups (all_front P group g.0 all) (all_grouped P g.0 groups g.5 (all_back P group g.0 all))
 
--- what is requested of a writer, and not kept, is dropped, where a reader has acknowledged what goes before
+-- what a reader asks a writer for: a number from the base of its set on, and from what it has acknowledged to the last
+abbrev pub IsAskedOf : Writer → NumberSet → ℕ → ℕ → Type 0
+IsAskedOf w set from n = (set.base ≤ n) × (from ≤ n) × (n ≤ length (writer_changes w))
+
+asked_of : (w : Writer) (set : NumberSet) (from n : ℕ) → is_requested set from (length (writer_changes w)) n ≡ true
+    → IsAskedOf w set from n
+asked_of w set from n h =
+    let parts = and_parts (has_number set n) (nat_le from n && nat_le n (length (writer_changes w))) h in
+    let range = and_parts (nat_le from n) (nat_le n (length (writer_changes w))) parts.1 in (
+      leb-true set.base n (and_parts (nat_le set.base n) _ parts.0).0,
+      leb-true from n range.0,
+      leb-true n (length (writer_changes w)) range.1,
+    )
+
+-- the answers of a writer to what is requested of it
+abbrev pub answers_of : Writer → NumberSet → ℕ → List Answer
+answers_of w set from = answers_to (is_kept (history_of w)) (requested set from (length (writer_changes w)))
+
+-- they are right
+pub answers_of-right : (w : Writer) (set : NumberSet) (from : ℕ)
+    → All (IsRight (λ n. is_kept (history_of w) n) (IsAskedOf w set from)) (answers_of w set from)
+answers_of-right w set from =
+    let ns : List ℕ = requested set from (length (writer_changes w)) in
+    answers-right (λ n. is_kept (history_of w) n) (IsAskedOf w set from) ns
+    (All-weaker (λ n. is_requested set from (length (writer_changes w)) n ≡ true) (IsAskedOf w set from)
+    (λ n h. asked_of w set from n h) ns
+    (filter_passes (is_requested set from (length (writer_changes w))) (numbers_from set.base 256)))
+
+-- what is asked of a writer, and not kept, is dropped, where a reader has acknowledged what goes before
 gap_dropped : (w : Writer) (r : Endpoint) (set : NumberSet) (from : ℕ) → acknowledged_of w.readers r ≡ Some from
-    → 1 ≤ set.base → (a : Answer)
-    → IsRight (λ n. is_kept (history_of w) n) (λ n. is_requested set from (length (writer_changes w)) n ≡ true) a
+    → 1 ≤ set.base → (a : Answer) → IsRight (λ n. is_kept (history_of w) n) (IsAskedOf w set from) a
     → GapsAre (λ n. is_dropped (history_of w) n ≡ true) a
 gap_dropped w r set from is low (AnswersData n) right = tt
 gap_dropped w r set from is low (AnswersGap first last) right = λ n least most.
     let one = right.1 n least most in
-    let parts = and_parts (has_number set n) (nat_le from n && nat_le n (length (writer_changes w))) one.1 in
-    let range = and_parts (nat_le from n) (nat_le n (length (writer_changes w))) parts.1 in
-    let base = leb-true set.base n (and_parts (nat_le set.base n) _ parts.0).0 in
-    unkept_dropped w r from n is (leb-true from n range.0) (omega (arith, low, base))
-    (leb-true n (length (writer_changes w)) range.1) one.0
+    let base = one.1.0 in
+    unkept_dropped w r from n is one.1.1 (omega (arith, low, base)) one.1.2 one.0
 
 gaps_dropped : (w : Writer) (r : Endpoint) (set : NumberSet) (from : ℕ) → acknowledged_of w.readers r ≡ Some from
-    → 1 ≤ set.base
-    → All (GapsAre (λ n. is_dropped (history_of w) n ≡ true))
-    (answers_to (is_kept (history_of w)) (requested set from (length (writer_changes w))))
+    → 1 ≤ set.base → All (GapsAre (λ n. is_dropped (history_of w) n ≡ true)) (answers_of w set from)
 gaps_dropped w r set from is low =
-    let asked : ℕ → Type 0 = λ n. is_requested set from (length (writer_changes w)) n ≡ true in
-    All-weaker (IsRight (λ n. is_kept (history_of w) n) asked) (GapsAre (λ n. is_dropped (history_of w) n ≡ true))
-    (λ a right. gap_dropped w r set from is low a right)
-    (answers_to (is_kept (history_of w)) (requested set from (length (writer_changes w))))
-    (answers-right (λ n. is_kept (history_of w) n) asked (requested set from (length (writer_changes w)))
-    (filter_passes (is_requested set from (length (writer_changes w))) (numbers_from set.base 256)))
+    All-weaker (IsRight (λ n. is_kept (history_of w) n) (IsAskedOf w set from))
+    (GapsAre (λ n. is_dropped (history_of w) n ≡ true)) (λ a right. gap_dropped w r set from is low a right)
+    (answers_of w set from) (answers_of-right w set from)
 
 -- a writer with a matched reader is there
 has_writer : (part : Part) (w a : ℕ) (r : Endpoint) → acknowledged_of (own_writer part w).readers r ≡ Some a

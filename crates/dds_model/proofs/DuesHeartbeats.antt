@@ -1,12 +1,15 @@
 -- A HEARTBEAT that is due at a tick claims only what its writer has dropped, or the reader has acknowledged.
-use Rattle.std.proofs.Common.{◌≡◌, ℕ, suc, ◌+◌, ◌-◌, ◌^◌, ◌<◌, Bool, true, false, List, [], ◌∷◌, length, get_or, map, refl, subst, ap, sym, ◌∙◌, arith, nat_lt}
-use Rattle.std.specs.Prelude.{if◌then◌else◌, pos, None}
+use Rattle.std.proofs.Common.{◌≡◌, ℕ, zero, suc, ◌+◌, ◌-◌, ◌^◌, ◌<◌, Bool, true, false, List, [], ◌∷◌, length, get_or}
+use Rattle.std.proofs.Common.{map, refl, subst, ap, sym, ◌∙◌, arith, nat_lt}
+use Rattle.std.specs.Prelude.{if◌then◌else◌, pos, Some, None, slice_get}
+use Rattle.std.proofs.lemmas.Bool.Decides.{nat_tests}
 use Rattle.std.specs.List.{All}
 use Rattle.std.proofs.lemmas.List.Elements.{All-append, All-map, All-nil}
 use Rattle.dds_base.specs.declared.config.Config.{Config}
 use Rattle.dds_base.specs.declared.guid.EntityId.{EntityId}
 use Rattle.dds_base.specs.declared.guid.GuidPrefix.{GuidPrefix}
-use Rattle.dds_base.specs.Checked.{check_refusal}
+use Rattle.dds_base.specs.Checked.{check_refusal, unknown_prefix}
+use Rattle.dds_base.specs.declared.config.PeerConfig.{PeerConfig}
 use Rattle.dds_base.specs.Kept.{first_kept}
 use Rattle.dds_base.specs.Written.{counts_of}
 use Rattle.rtps_wire.specs.declared.heartbeat.Heartbeat.{Heartbeat as HeartbeatBody}
@@ -17,11 +20,14 @@ use Rattle.dds_model.specs.Part.{Part, Writer, no_writer, own_writer, writer_cha
 use Rattle.dds_model.specs.Claims.{every_reader, Claim, ChangeIs, MayPass, PlaceReached, Asserts, Says}
 use Rattle.dds_model.specs.Receipt.{prefix_of}
 use Rattle.dds_model.specs.Peer.{IsTrueAt}
-use Rattle.dds_model.specs.Protocol.{Due, writer_entity, readers_behind, heartbeat_message, heartbeats_of, heartbeats_from, heartbeats_due}
-use Rattle.dds_model.specs.Dues.{IsPartOf, IsTruthful, AreTruthful}
+use Rattle.dds_model.specs.Protocol.{Due, writer_entity, readers_behind, heartbeat_message, heartbeats_of}
+use Rattle.dds_model.specs.Protocol.{heartbeats_from, heartbeats_due}
+use Rattle.dds_model.specs.Dues.{IsPartOf, IsTruthful, AreTruthful, IsSized, HasSmallChanges, CanBeWritten}
 use Rattle.dds_model.proofs.Dues.{addressed, told_alone}
 use Rattle.dds_model.proofs.DuesMatched.{OwnName, own_name, same_end}
 use Rattle.dds_model.proofs.DuesUnkept.{Passes, below_first_passes}
+use Rattle.dds_model.proofs.DuesWritable.{heartbeat_writable}
+use Rattle.dds_model.proofs.DuesWritten.{writer_octets}
 use Rattle.dds_model.proofs.OwnGuids.{one_writer}
 
 -- a writer of the peer, which the configuration has
@@ -64,79 +70,124 @@ beat_says b far to (MayPass v r n) h =
           (below_first_passes (own_writer b.part b.number) r row.0 n row.1 h.1 h.2),
     )
 
--- the message with it, to the peer of this number
-abbrev beat_due : Beating → ℕ → Due
-beat_due b to = record {
+-- the message with the HEARTBEAT of a writer, to the peer of this number
+abbrev pub heartbeat_due : Config → ℕ → Part → ℕ → ℕ → Due
+heartbeat_due config peer part number to = record {
   to = to;
-  message = heartbeat_message (prefix_of b.config b.peer) (prefix_of b.config to)
-      (writer_entity b.config b.peer b.number) (own_writer b.part b.number);
+  message = heartbeat_message (prefix_of config peer) (prefix_of config to) (writer_entity config peer number)
+      (own_writer part number);
 }
 
 -- That message is true.
-beat_truthful : (b : Beating) (to : ℕ) → IsTruthful b.config b.peer b.part (beat_due b to)
+beat_truthful : (b : Beating) (to : ℕ)
+    → IsTruthful b.config b.peer b.part (heartbeat_due b.config b.peer b.part b.number to)
 beat_truthful b to claim writable says =
-    let t = told_alone b.config (prefix_of b.config b.peer) (prefix_of b.config to) (Heartbeat (beat b)) claim writable says in
+    let own : GuidPrefix = prefix_of b.config b.peer in
+    let t = told_alone b.config own (prefix_of b.config to) (Heartbeat (beat b)) claim writable says in
     beat_says b t.0 (prefix_of b.config to) claim t.1
+
+-- ---- all that is due at a tick
+
+-- how many HEARTBEAT counts are used up
+abbrev used : Writer → ℕ
+used w = length (counts_of (has_readers w) w.written)
+
+-- it is so of each HEARTBEAT of the peer's writers, while there are counts left
+abbrev OfEach : Config → ℕ → Part → (Due → Type 0) → Type 0
+OfEach config peer part P =
+    (number to : ℕ) → HasNumber part.rtps.writers number → used (own_writer part number) < 2 ^ 31 - 1
+    → P (heartbeat_due config peer part number to)
 
 -- what is so of all is so of those in a list
 all_of : {X : Type 0} (P : X → Type 0) → ((x : X) → P x) → (xs : List X) → All P xs
 all_of P f xs = λ i d lt. f (get_or xs i d)
 
 -- the HEARTBEATs of one writer
-beats_truthful : (b : Beating)
-    → AreTruthful b.config b.peer b.part (heartbeats_of b.config b.peer b.number (own_writer b.part b.number))
-beats_truthful b = by (nat_lt (length (counts_of (has_readers w) w.written)) (2 ^ 31 - 1))
+of_writer : (config : Config) (peer : ℕ) (part : Part) (P : Due → Type 0) → OfEach config peer part P → (number : ℕ)
+    → HasNumber part.rtps.writers number → All P (heartbeats_of config peer number (own_writer part number))
+of_writer config peer part P each number there = by (nat_lt (used w) (2 ^ 31 - 1)) refl
   where
     w : Writer
-    w = own_writer b.part b.number
+    w = own_writer part number
 
-    sent : ℕ → Due
-    sent to =
-        record {
-          to = to;
-          message = heartbeat_message (prefix_of b.config b.peer) (prefix_of b.config to)
-              (writer_entity b.config b.peer b.number) w;
-        }
+    ends : List ℕ
+    ends = peers_of (readers_behind w)
 
-    by : (left : Bool) → AreTruthful b.config b.peer b.part (if left then map sent (peers_of (readers_behind w)) else [])
-    by true =
-        All-map (IsTruthful b.config b.peer b.part) sent (peers_of (readers_behind w))
-        (all_of (λ (to : ℕ). IsTruthful b.config b.peer b.part (sent to)) (λ to. beat_truthful b to)
-        (peers_of (readers_behind w)))
-    by false = All-nil (IsTruthful b.config b.peer b.part)
+    by : (left : Bool) → nat_lt (used w) (2 ^ 31 - 1) ≡ left
+        → All P (if left then map (heartbeat_due config peer part number) ends else [])
+    by true e =
+        let left : used w < 2 ^ 31 - 1 = grind (arith, nat_tests) in
+        All-map P (heartbeat_due config peer part number) ends
+        (all_of (λ to. P (heartbeat_due config peer part number to)) (λ to. each number to there left) ends)
+    by false e = All-nil P
 
 -- these are the peer's writers from this number on
 abbrev AreFrom : Part → ℕ → List Writer → Type 0
 AreFrom part number ws =
-    (k : ℕ) → k < length ws → HasNumber part.rtps.writers
-    (number + k) × (own_writer part (number + k) ≡ get_or ws k no_writer)
+    (k : ℕ) → k < length ws
+    → HasNumber part.rtps.writers (number + k) × (own_writer part (number + k) ≡ get_or ws k no_writer)
 
-beats_from : (config : Config) → check_refusal config.peers ≡ None → (peer : ℕ) (part : Part)
-    → IsPartOf config peer part → (number : ℕ) (ws : List Writer) → AreFrom part number ws
-    → AreTruthful config peer part (heartbeats_from config peer number ws)
-beats_from config checked peer part of number [] rest = All-nil (IsTruthful config peer part)
-beats_from config checked peer part of number (w ∷ ws) rest =
+of_writers : (config : Config) (peer : ℕ) (part : Part) (P : Due → Type 0) → OfEach config peer part P
+    → (number : ℕ) (ws : List Writer) → AreFrom part number ws → All P (heartbeats_from config peer number ws)
+of_writers config peer part P each number [] rest = All-nil P
+of_writers config peer part P each number (w ∷ ws) rest =
     let here : number + 0 ≡ number = omega arith in
     let first = rest 0 (omega arith) in
     let there : HasNumber part.rtps.writers number = subst (λ (n : ℕ). HasNumber part.rtps.writers n) here first.0 in
     let is : own_writer part number ≡ w = subst (λ (n : ℕ). own_writer part n ≡ w) here first.1 in
-    let b : Beating =
-    record { config = config; checked = checked; peer = peer; part = part; number = number; own = own_name config peer part of number there } in
-    All-append (IsTruthful config peer part) (heartbeats_of config peer number w)
-    (heartbeats_from config peer (number + 1) ws)
-    (subst (λ (x : Writer). AreTruthful config peer part (heartbeats_of config peer number x)) is (beats_truthful b))
-    (beats_from config checked peer part of (number + 1) ws
+    All-append P (heartbeats_of config peer number w) (heartbeats_from config peer (number + 1) ws)
+    (subst (λ (x : Writer). All P (heartbeats_of config peer number x)) is
+    (of_writer config peer part P each number there))
+    (of_writers config peer part P each (number + 1) ws
     (λ k lt.
     let over : number + suc k ≡ number + 1 + k = omega arith in
     subst (λ (n : ℕ). HasNumber part.rtps.writers n × (own_writer part n ≡ get_or ws k no_writer)) over
     (rest (suc k) (omega (arith, lt)))))
 
--- All that is due at a tick is true of the part that it finds.
-pub heartbeats_truthful : (config : Config) (peer : ℕ) (part : Part) → check_refusal config.peers ≡ None
-    → IsPartOf config peer part → AreTruthful config peer part (heartbeats_due config peer part)
-heartbeats_truthful config peer part checked of =
-    beats_from config checked peer part of 1 part.rtps.writers
+of_all : (config : Config) (peer : ℕ) (part : Part) (P : Due → Type 0) → OfEach config peer part P
+    → All P (heartbeats_due config peer part)
+of_all config peer part P each =
+    of_writers config peer part P each 1 part.rtps.writers
     (λ k lt.
     let over : suc k ≡ 1 + k = omega arith in
     subst (λ (n : ℕ). HasNumber part.rtps.writers n × (own_writer part n ≡ get_or part.rtps.writers k no_writer)) over
     ((omega arith, omega (arith, lt)), refl))
+
+-- All that is due at a tick is true of the part that it finds.
+pub heartbeats_truthful : (config : Config) (peer : ℕ) (part : Part) → check_refusal config.peers ≡ None
+    → IsPartOf config peer part → AreTruthful config peer part (heartbeats_due config peer part)
+heartbeats_truthful config peer part checked of =
+    of_all config peer part (IsTruthful config peer part)
+    (λ number to there left.
+    let own : OwnName config peer part number = own_name config peer part of number there in
+    beat_truthful
+    (record { config = config; checked = checked; peer = peer; part = part; number = number; own = own }) to)
+
+-- the prefix of each peer has 12 octets, and so has that of no peer
+octets_at : (ps : List PeerConfig) (i : ℕ)
+    → ((k : ℕ) (p : PeerConfig) → slice_get ps k ≡ Some p → length p.prefix.0 ≡ 12)
+    → length (get_or ps i (record { prefix = unknown_prefix; writers = []; readers = [] })).prefix.0 ≡ 12
+octets_at [] i h = refl
+octets_at (p ∷ ps) zero h = h 0 p refl
+octets_at (p ∷ ps) (suc i) h = octets_at ps i (λ k q at. h (suc k) q at)
+
+prefix_octets : (config : Config) → IsSized config → (n : ℕ) → length (prefix_of config n).0 ≡ 12
+prefix_octets config sized zero = refl
+prefix_octets config sized (suc i) =
+    octets_at config.peers i
+    (λ k p at.
+    let back : k ≡ k + 1 - 1 = omega arith in
+    sized.prefix (k + 1) p (omega arith, subst (λ (n : ℕ). slice_get config.peers n ≡ Some p) back at))
+
+-- All that is due at a tick can be written.
+pub heartbeats_writable : (config : Config) (peer : ℕ) (part : Part) → IsPartOf config peer part → IsSized config
+    → HasSmallChanges part → All CanBeWritten (heartbeats_due config peer part)
+heartbeats_writable config peer part of sized small =
+    of_all config peer part CanBeWritten
+    (λ number to there left places.
+    let me : Endpoint = record { peer = peer; number = number } in
+    let entity : EntityId = writer_entity config peer number in
+    let name = (own_name config peer part of number there).name in
+    heartbeat_writable (prefix_of config peer) (prefix_of config to) entity (own_writer part number)
+    (prefix_octets config sized peer) (prefix_octets config sized to)
+    (writer_octets config sized (prefix_of config peer) entity me name).1 (small number).few left)

@@ -1,5 +1,7 @@
 -- A writer of a configuration has its name there, and each reader of its topic has a row at it.
-use Rattle.std.proofs.Common.{◌≡◌, ◌⊎◌, ℕ, zero, suc, ◌+◌, ◌-◌, ◌<◌, Bool, true, false, cond, List, [], ◌∷◌, Option, Some, Contains, map, length, slice_get, refl, subst, ap, sym, ◌∙◌, inl, inr, ⊎_elim, arith, eq-eqb}
+use Rattle.std.proofs.Common.{◌≡◌, ◌⊎◌, ℕ, zero, suc, ◌+◌, ◌-◌, ◌<◌, Bool, true, false, cond, List, [], ◌∷◌, Option}
+use Rattle.std.proofs.Common.{Some, Contains, map, length, slice_get, refl, subst, ap, sym, ◌∙◌, inl, inr, ⊎_elim}
+use Rattle.std.proofs.Common.{arith, eq-eqb}
 use Rattle.std.specs.Option.{option_map, option_map_or}
 use Rattle.std.proofs.lemmas.List.Elements.{Contains-append_left, Contains-append_right}
 use Rattle.std.proofs.lemmas.Option.{same_Some}
@@ -27,9 +29,13 @@ use Rattle.dds_model.proofs.RuledPackets.{numbered_is}
 abbrev IsAcknowledged : List ReaderProxy → Endpoint → Type 0
 IsAcknowledged rows r = (a : ℕ) × (acknowledged_of rows r ≡ Some a)
 
+-- what a row says is acknowledged
+abbrev acknowledgement : Option ReaderProxy → Option ℕ
+acknowledgement o = option_map (λ (q : ReaderProxy). q.acknowledged) o
+
 row_here : (p : ReaderProxy) (ps : List ReaderProxy) (r : Endpoint) (b : Bool) → same_endpoint p.reader r ≡ b
     → (p.reader ≡ r) ⊎ IsAcknowledged ps r
-    → (a : ℕ) × (option_map (λ (q : ReaderProxy). q.acknowledged) (cond b (Some p) (row_of (λ (q : ReaderProxy). q.reader) ps r)) ≡ Some a)
+    → (a : ℕ) × (acknowledgement (cond b (Some p) (row_of (λ (q : ReaderProxy). q.reader) ps r)) ≡ Some a)
 row_here p ps r true is h = (p.acknowledged, refl)
 row_here p ps r false is (inl e) = let self = ap (λ (x : Endpoint). same_endpoint x r) e ∙ same_self r in absurd cc
 row_here p ps r false is (inr later) = later
@@ -109,9 +115,9 @@ reader_named config prefix entity r is topic of =
 
 -- a writer of the peer, as the configuration has it
 pub record OwnName (config : Config) (peer : ℕ) (part : Part) (number : ℕ) : Type 0 where
-  pub name : IsWriter config (prefix_of config peer) (writer_entity config peer number) (record { peer = peer; number = number })
-  pub rows : (prefix : GuidPrefix) (entity : EntityId) (r : Endpoint) (is : IsReader config prefix entity r) → is.end.topic ≡ name.end.topic
-      → (a : ℕ) × (acknowledged_of (own_writer part number).readers r ≡ Some a)
+  pub name : IsWriter config (prefix_of config peer) (writer_entity config peer number) (name_at peer number)
+  pub rows : (prefix : GuidPrefix) (entity : EntityId) (r : Endpoint) (is : IsReader config prefix entity r)
+      → is.end.topic ≡ name.end.topic → (a : ℕ) × (acknowledged_of (own_writer part number).readers r ≡ Some a)
 
 get_some : {X : Type 0} (xs : List X) (i : ℕ) → i < length xs → (x : X) × (slice_get xs i ≡ Some x)
 get_some [] i lt = absurd (omega (arith, lt))

@@ -1,12 +1,15 @@
 -- All that a peer sends by the reliable protocol is true: what is due once a packet was taken up, and at a tick.
-use Rattle.std.proofs.Common.{◌≡◌, ℕ, ◌+◌, List, [], ◌∷◌, Option, Some, None, Contains, refl, subst, ap, sym, inl, inr, ⊎_elim, arith, length}
-use Rattle.std.specs.List.{AllByRecursion}
+use Rattle.std.proofs.Common.{◌≡◌, ℕ, ◌+◌, List, [], ◌∷◌, Option, Some, None, Contains, refl, subst, ap, sym, inl, inr}
+use Rattle.std.proofs.Common.{⊎_elim, arith, length}
+use Rattle.std.specs.List.{All, AllByRecursion}
 use Rattle.std.proofs.lemmas.List.Elements.{All-append, All-contains, All-nil}
 use Rattle.dds_base.specs.declared.config.Config.{Config}
 use Rattle.dds_base.specs.Checked.{check_refusal}
+use Rattle.rtps_wire.specs.declared.message.Message.{Message}
 use Rattle.rtps_wire.specs.declared.submessage.Submessage.{Submessage}
-use Rattle.rtps_wire.specs.declared.submessage.Submessage.TheVariants.{Pad, InfoDst, InfoTs, Data, Heartbeat, AckNack, Gap, Other}
-use Rattle.rtps_wire.specs.Messages.{ReadsAll, IsWritable, spelling_of}
+use Rattle.rtps_wire.specs.declared.submessage.Submessage.TheVariants.{Pad, InfoDst, InfoTs, Data, Heartbeat, AckNack}
+use Rattle.rtps_wire.specs.declared.submessage.Submessage.TheVariants.{Gap, Other}
+use Rattle.rtps_wire.specs.Messages.{ReadsAll, ReadsMessage, IsWritable, spelling_of}
 use Rattle.rtps_wire.specs.Sets.{set_of}
 use Rattle.rtps_wire.specs.Submessages.{Reads}
 use Rattle.dds_model.specs.declared.event.Packet.{Packet}
@@ -17,15 +20,18 @@ use Rattle.dds_model.specs.Part.{Part, ReaderProxy, own_writer, acknowledged_of,
 use Rattle.dds_model.specs.Calls.{TickStep}
 use Rattle.dds_model.specs.Claims.{Receiver, receiver_of, after_submessage, Claim, Claims}
 use Rattle.dds_model.specs.Peer.{Delivery, packets_of, IsTrueAt}
-use Rattle.dds_model.specs.Protocol.{Due, State, Follows, TakesPacket, AreSent, heartbeats_due}
+use Rattle.dds_model.specs.Protocol.{Due, State, Follows, TakesMessage, TakesPacket, AreSent, heartbeats_due}
 use Rattle.dds_model.specs.Backed.{IsBacked}
-use Rattle.dds_model.specs.Dues.{AreTellable, IsPartOf, IsTruthful, AreTruthful}
+use Rattle.dds_model.specs.Dues.{AreTellable, IsPartOf, IsTruthful, AreTruthful, IsSized, HasSmallChanges, HasPlaces}
+use Rattle.dds_model.specs.Dues.{CanBeWritten}
 use Rattle.dds_model.proofs.Composed.{front_or_rest, later_in}
-use Rattle.dds_model.proofs.DuesGrowth.{Gains, gains_same, gains_on, truthful_gained, truthful_on}
+use Rattle.dds_model.proofs.DuesGrowth.{Gains, gains_same, gains_on, small_gained, truthful_gained, truthful_on}
 use Rattle.dds_model.proofs.DuesHeartbeats.{heartbeats_truthful}
 use Rattle.dds_model.proofs.DuesTurns.{Keeps, HasBase, takes_kept}
+use Rattle.dds_model.proofs.DuesWritten.{none_written}
 use Rattle.dds_model.proofs.Growth.{TickStep-grows, TickStep-acknowledged}
-use Rattle.dds_model.proofs.RuledPackets.{Packet as Arrival, own, Stands, IsRest, rest_next, Backed, coming_at, Taken, taken, next_backed, begun}
+use Rattle.dds_model.proofs.RuledPackets.{Packet as Arrival, own, Stands, IsRest, rest_next, Backed, coming_at, Taken}
+use Rattle.dds_model.proofs.RuledPackets.{taken, next_backed, begun}
 use Rattle.dds_model.proofs.Tables.{no_less_same}
 
 -- ---- a packet
@@ -51,10 +57,26 @@ bases_read : (bytes : List ℕ) (ss : List Submessage) (left : List ℕ) → Rea
 bases_read bytes [] left h = tt
 bases_read bytes (s ∷ ss) left h = (base_read h.0 h.1 h.2 s h.5, bases_read h.3 ss left h.6)
 
--- the submessages from one on were taken up, and what is due is true
+-- a message that comes to a peer
+abbrev arrival : (config : Config) (peer : ℕ) (before : List Delivery) (bytes : List ℕ)
+    → check_refusal config.peers ≡ None
+    → (message : Message) (offset : ℕ) → ReadsMessage bytes message offset → Arrival
+arrival config peer before bytes checked message offset is_read = record {
+  config = config;
+  checked = checked;
+  peer = peer;
+  before = before;
+  bytes = bytes;
+  message = message;
+  offset = offset;
+  is_read = is_read;
+}
+
+-- the submessages from one on were taken up: what is due is true, and can be written
 record Followed (p : Arrival) (old : State) (dues : List Due) (new : State) : Type 0 where
   gains : Gains old.part new.part
   truthful : AreTruthful p.config p.peer new.part dues
+  writable : IsSized p.config → HasSmallChanges old.part → All CanBeWritten dues
 
 followed_none : (p : Arrival) (old : State) (dues : List Due) (new : State) → dues ≡ [] → new ≡ old
     → Followed p old dues new
@@ -62,6 +84,7 @@ followed_none p old dues new none same = record {
   gains = subst (λ (s : State). Gains old.part s.part) (sym same) (gains_same old.part);
   truthful = subst (λ (ds : List Due). AreTruthful p.config p.peer new.part ds) (sym none)
       (All-nil (IsTruthful p.config p.peer new.part));
+  writable = λ sized small. none_written dues none;
 }
 
 followed : (p : Arrival) (index : ℕ) (at : Receiver) (ss : List Submessage) → IsRest p index at ss
@@ -89,27 +112,58 @@ followed p index at (s ∷ ss) rest bases old moves refused dues new b t (inr h)
       truthful = subst (λ (ds : List Due). AreTruthful p.config p.peer new.part ds) (sym h.6)
           (All-append (IsTruthful p.config p.peer new.part) h.2 h.3
           (truthful_gained p.config p.peer mid.part new.part later.gains h.2 kept.truthful) later.truthful);
+      writable = λ sized small. subst (λ (ds : List Due). All CanBeWritten ds) (sym h.6)
+          (All-append CanBeWritten h.2 h.3 (kept.writable sized small)
+          (later.writable sized (small_gained old.part mid.part kept.gains small)));
     }
 
--- What is due once a peer took a packet up is true: each message, once written, claims only what is so of the peer's own lists
--- and places.
+-- a message that was taken up
+message_followed : (config : Config) (peer : ℕ) (before : List Delivery) (bytes : List ℕ) (old : State)
+    (report : Report) (dues : List Due) (new : State) (checked : check_refusal config.peers ≡ None)
+    → IsBacked config peer (packets_of before) before old → AreTellable old.part
+    → (h : TakesMessage config peer bytes old report dues new)
+    → Followed (arrival config peer before bytes checked h.message h.offset h.is_read) old dues new
+message_followed config peer before bytes old report dues new checked b t h =
+    let p : Arrival = arrival config peer before bytes checked h.message h.offset h.is_read in
+    let all : IsRest p 0 (receiver_of h.message.prefix) h.message.submessages = record {
+      stand = λ k later s e. subst (λ (n : ℕ). Stands p n later s) (omega arith) e;
+      only = λ k later s e. subst (λ (n : ℕ). Stands p n later s) (omega arith) e;
+    } in
+    let bases : AllByRecursion HasBase h.message.submessages =
+    bases_read h.is_read.body h.message.submessages h.is_read.left h.is_read.submessages in
+    followed p 0 (receiver_of h.message.prefix) h.message.submessages all bases old report.moves report.refused dues new
+    (begun p old b) t h.follows
+
+-- What is due once a peer took a packet up is true: each message, once written, claims only what is so of the peer's
+-- own lists and places.
 pub packet_truthful : (config : Config) (peer : ℕ) (before : List Delivery) (bytes : List ℕ) (old : State)
     (report : Report) (dues : List Due) (new : State) → check_refusal config.peers ≡ None
     → IsBacked config peer (packets_of before) before old → AreTellable old.part
     → TakesPacket config peer bytes old report dues new → AreTruthful config peer new.part dues
 packet_truthful config peer before bytes old report dues new checked b t (inl h) =
-    let p : Arrival =
-    record { config = config; checked = checked; peer = peer; before = before; bytes = bytes; message = h.message; offset = h.offset; is_read = h.is_read } in
-    let all : IsRest p 0 (receiver_of h.message.prefix) h.message.submessages = record {
-      stand = λ k later s e. subst (λ (n : ℕ). Stands p n later s) (omega arith) e;
-      only = λ k later s e. subst (λ (n : ℕ). Stands p n later s) (omega arith) e;
-    } in
-    let done : Followed p old dues new =
-    followed p 0 (receiver_of h.message.prefix) h.message.submessages all
-    (bases_read h.is_read.body h.message.submessages h.is_read.left h.is_read.submessages) old report.moves report.refused dues new (begun p old b) t h.follows in
-    done.truthful
+    (message_followed config peer before bytes old report dues new checked b t h).truthful
 packet_truthful config peer before bytes old report dues new checked b t (inr h) =
     subst (λ (ds : List Due). AreTruthful config peer new.part ds) (sym h.2) (All-nil (IsTruthful config peer new.part))
+
+-- It can be written.
+pub packet_writable : (config : Config) (peer : ℕ) (before : List Delivery) (bytes : List ℕ) (old : State)
+    (report : Report) (dues : List Due) (new : State) → check_refusal config.peers ≡ None
+    → IsBacked config peer (packets_of before) before old → AreTellable old.part
+    → TakesPacket config peer bytes old report dues new → IsSized config → HasSmallChanges old.part
+    → All CanBeWritten dues
+packet_writable config peer before bytes old report dues new checked b t (inl h) sized small =
+    (message_followed config peer before bytes old report dues new checked b t h).writable sized small
+packet_writable config peer before bytes old report dues new checked b t (inr h) sized small = none_written dues h.2
+
+-- A packet moves places and acknowledgements on, and writes nothing: so what its dues rest on is so after it.
+pub packet_gains : (config : Config) (peer : ℕ) (before : List Delivery) (bytes : List ℕ) (old : State)
+    (report : Report) (dues : List Due) (new : State) → check_refusal config.peers ≡ None
+    → IsBacked config peer (packets_of before) before old → AreTellable old.part
+    → TakesPacket config peer bytes old report dues new → Gains old.part new.part
+packet_gains config peer before bytes old report dues new checked b t (inl h) =
+    (message_followed config peer before bytes old report dues new checked b t h).gains
+packet_gains config peer before bytes old report dues new checked b t (inr h) =
+    subst (λ (p : Part). Gains old.part p) (sym h.0.after) (gains_same old.part)
 
 -- ---- a tick
 
@@ -152,10 +206,17 @@ sent_is_due (d ∷ ds) packets unsent (inr h) packet among =
 
 -- What is sent of true messages claims the truth.
 pub sent_truthful : (config : Config) (peer : ℕ) (part : Part) (dues : List Due) (packets : List Packet) (unsent : ℕ)
-    → AreTruthful config peer part dues → AreSent dues packets unsent
-    → ((due : Due) → Contains dues due → IsWritable due.message) → (packet : Packet) (claim : Claim)
-    → Contains packets packet → Claims config packet.bytes claim → IsTrueAt peer part claim
-sent_truthful config peer part dues packets unsent truthful sent writable packet claim among says =
+    → AreTruthful config peer part dues → All (λ (due : Due). IsWritable due.message) dues
+    → AreSent dues packets unsent → (packet : Packet) (claim : Claim) → Contains packets packet
+    → Claims config packet.bytes claim → IsTrueAt peer part claim
+sent_truthful config peer part dues packets unsent truthful writable sent packet claim among says =
     let d : IsOfDue dues packet = sent_is_due dues packets unsent sent packet among in
-    All-contains (IsTruthful config peer part) dues d.due truthful d.among claim (writable d.due d.among)
+    All-contains (IsTruthful config peer part) dues d.due truthful d.among claim
+    (All-contains (λ (due : Due). IsWritable due.message) dues d.due writable d.among)
     (subst (λ (x : Packet). Claims config x.bytes claim) d.is says)
+
+-- messages can be written where the sets of their ACKNACKs have their places
+pub all_writable : (dues : List Due) → All CanBeWritten dues
+    → All (λ (due : Due). AllByRecursion HasPlaces due.message.submessages) dues
+    → All (λ (due : Due). IsWritable due.message) dues
+all_writable dues can places = λ i d lt. can i d lt (places i d lt)

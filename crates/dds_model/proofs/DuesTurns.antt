@@ -1,18 +1,22 @@
 -- What is due while the peer's readers, or its writers, take a submessage up one after the other is true.
 use Rattle.std.proofs.Common.{◌≡◌, ℕ, ◌≤◌, List, [], ◌∷◌, ◌++◌, subst, sym, length}
+use Rattle.std.specs.List.{All}
 use Rattle.std.proofs.lemmas.List.Elements.{All-append}
 use Rattle.dds_base.specs.Kept.{numbers_from}
 use Rattle.rtps_wire.specs.declared.acknack.AckNack.{AckNack as AckNackBody}
 use Rattle.rtps_wire.specs.declared.submessage.Submessage.{Submessage}
-use Rattle.rtps_wire.specs.declared.submessage.Submessage.TheVariants.{Pad, InfoDst, InfoTs, Data, Heartbeat, AckNack, Gap, Other}
+use Rattle.rtps_wire.specs.declared.submessage.Submessage.TheVariants.{Pad, InfoDst, InfoTs, Data, Heartbeat, AckNack}
+use Rattle.rtps_wire.specs.declared.submessage.Submessage.TheVariants.{Gap, Other}
 use Rattle.dds_model.specs.declared.reply.Move.{Move}
 use Rattle.dds_model.specs.Part.{ReaderProxy, own_writer}
 use Rattle.dds_model.specs.Moves.{AreMoves}
 use Rattle.dds_model.specs.Protocol.{Due, State, InTurn, ReaderTakes, WriterTakes, Takes}
-use Rattle.dds_model.specs.Dues.{AreTellable, IsTruthful, AreTruthful}
+use Rattle.dds_model.specs.Dues.{AreTellable, IsTruthful, AreTruthful, IsSized, HasSmallChanges, CanBeWritten}
 use Rattle.dds_model.proofs.DuesAcknacks.{none_due, reader_truthful}
 use Rattle.dds_model.proofs.DuesAnswers.{writer_truthful}
-use Rattle.dds_model.proofs.DuesGrowth.{Gains, gains_same, gains_on, AreMoves-gains, truthful_gained, tellable_gained}
+use Rattle.dds_model.proofs.DuesGrowth.{small_gained, Gains, gains_same, gains_on, AreMoves-gains, truthful_gained}
+use Rattle.dds_model.proofs.DuesGrowth.{tellable_gained}
+use Rattle.dds_model.proofs.DuesWritten.{none_written, reader_written, writer_written}
 use Rattle.dds_model.proofs.RuledReaders.{Coming, grounds, Backs, IsTakenAt}
 use Rattle.dds_model.proofs.RuledTurns.{IsTelling, reader_taken}
 use Rattle.dds_model.proofs.RuledWriters.{IsTaken, writer_taken}
@@ -27,14 +31,20 @@ pub record Keeps (c : Coming) (old : State) (dues : List Due) (new : State) : Ty
   pub rests : Rests c new
   pub gains : Gains old.part new.part
   pub truthful : AreTruthful c.config c.peer new.part dues
+  pub writable : IsSized c.config → HasSmallChanges old.part → All CanBeWritten dues
 
 -- legal moves, after which what is due is true
 keeps_moves : (c : Coming) (old : State) (made : List Move) (dues : List Due) (new : State) → Rests c old
     → AreMoves (grounds c) old.part made new.part → Backs c new → AreTruthful c.config c.peer new.part dues
-    → Keeps c old dues new
-keeps_moves c old made dues new r moves backed truthful =
+    → (IsSized c.config → HasSmallChanges old.part → All CanBeWritten dues) → Keeps c old dues new
+keeps_moves c old made dues new r moves backed truthful writable =
     let gains : Gains old.part new.part = AreMoves-gains (grounds c) old.part made new.part moves in
-    record { rests = record { backed = backed; tellable = tellable_gained old.part new.part gains r.tellable }; gains = gains; truthful = truthful }
+    record {
+      rests = record { backed = backed; tellable = tellable_gained old.part new.part gains r.tellable };
+      gains = gains;
+      truthful = truthful;
+      writable = writable;
+    }
 
 keeps_none : (c : Coming) (old : State) (dues : List Due) (new : State) → Rests c old → dues ≡ [] → new ≡ old
     → Keeps c old dues new
@@ -42,6 +52,7 @@ keeps_none c old dues new r none same = record {
   rests = subst (λ (s : State). Rests c s) (sym same) r;
   gains = subst (λ (s : State). Gains old.part s.part) (sym same) (gains_same old.part);
   truthful = none_due c new.part dues none;
+  writable = λ sized small. none_written dues none;
 }
 
 keeps_on : (c : Coming) (old mid new : State) (first rest all : List Due) → all ≡ first ++ rest → Keeps c old first mid
@@ -52,11 +63,15 @@ keeps_on c old mid new first rest all is f g = record {
   truthful = subst (λ (ds : List Due). AreTruthful c.config c.peer new.part ds) (sym is)
       (All-append (IsTruthful c.config c.peer new.part) first rest
       (truthful_gained c.config c.peer mid.part new.part g.gains first f.truthful) g.truthful);
+  writable = λ sized small. subst (λ (ds : List Due). All CanBeWritten ds) (sym is)
+      (All-append CanBeWritten first rest (f.writable sized small)
+      (g.writable sized (small_gained old.part mid.part f.gains small)));
 }
 
 -- steps in turn keep what each of them keeps
 in_turn : {X : Type 0} (c : Coming) (step : X → State → List Move → List Due → State → Type 0)
-    → ((x : X) (old : State) (made : List Move) (dues : List Due) (new : State) → Rests c old → step x old made dues new → Keeps c old dues new)
+    → ((x : X) (old : State) (made : List Move) (dues : List Due) (new : State) → Rests c old
+    → step x old made dues new → Keeps c old dues new)
     → (xs : List X) (old : State) (moves : List Move) (dues : List Due) (new : State) → Rests c old
     → InTurn step xs old moves dues new → Keeps c old dues new
 in_turn c step each [] old moves dues new r h = keeps_none c old dues new r h.1 h.2
@@ -71,6 +86,7 @@ reader_kept : (c : Coming) (s : Submessage) → c.submessage ≡ s → IsTelling
 reader_kept c s is telling reader old made dues new r h =
     let one : IsTakenAt c s reader old made new = reader_taken c s is telling reader old made dues new r.backed h in
     keeps_moves c old made dues new r one.moves one.backed (reader_truthful c s reader old made dues new h)
+    (λ sized small. reader_written c s reader old made dues new sized r.backed h)
 
 readers_kept : (c : Coming) (s : Submessage) → c.submessage ≡ s → IsTelling s
     → (old : State) (made : List Move) (dues : List Due) (new : State) → Rests c old
@@ -88,6 +104,7 @@ writer_kept c a is low writer p old made dues new r h =
     let one : IsTaken c old made new = writer_taken c a is writer p.reader old made dues new r.backed h in
     keeps_moves c old made dues new r one.moves one.backed
     (writer_truthful c a low writer p.reader old made dues new r.tellable h)
+    (λ sized small. writer_written c a low writer p.reader old made dues new sized r.tellable small h)
 
 writers_kept : (c : Coming) (a : AckNackBody) → c.submessage ≡ AckNack a → 1 ≤ a.reader_sn_state.base
     → (old : State) (made : List Move) (dues : List Due) (new : State) → Rests c old

@@ -1,5 +1,6 @@
 -- What a writer does not keep, a matched reader has acknowledged, or it is dropped.
-use Rattle.std.proofs.Common.{◌≡◌, ◌⊎◌, ℕ, zero, suc, ◌+◌, ◌<◌, ◌≤◌, Bool, true, false, cond, List, [], ◌∷◌, Option, Some, map, get_or, length, refl, subst, ap, sym, ◌∙◌, inl, inr, ⊎_elim, arith}
+use Rattle.std.proofs.Common.{◌≡◌, ◌⊎◌, ℕ, zero, suc, ◌+◌, ◌<◌, ◌≤◌, Bool, true, false, cond, List, [], ◌∷◌, Option}
+use Rattle.std.proofs.Common.{Some, map, get_or, length, refl, subst, ap, sym, ◌∙◌, inl, inr, ⊎_elim, arith}
 use Rattle.std.specs.Prelude.{find, nat_lt}
 use Rattle.std.specs.Option.{option_map, unwrap_or}
 use Rattle.std.proofs.lemmas.Bool.Decides.{nat_tests}
@@ -7,7 +8,8 @@ use Rattle.std.proofs.lemmas.Option.{same_Some}
 use Rattle.dds_base.specs.Kept.{WriterHistory, numbers_from, is_kept, is_dropped, first_kept}
 use Rattle.rtps_writer.proofs.AnswerFacts.{unkept-is-dropped}
 use Rattle.dds_model.specs.declared.endpoint.Endpoint.{Endpoint}
-use Rattle.dds_model.specs.Part.{ReaderProxy, Writer, same_endpoint, row_of, acknowledged_of, writer_changes, history_of, IsBelow}
+use Rattle.dds_model.specs.Part.{ReaderProxy, Writer, same_endpoint, row_of, acknowledged_of, writer_changes}
+use Rattle.dds_model.specs.Part.{history_of, IsBelow}
 use Rattle.dds_model.proofs.Framing.{number_or_not}
 
 -- the acknowledgements of these rows
@@ -46,7 +48,8 @@ above (suc m) zero le not = absurd (omega (arith, le))
 above (suc m) (suc k) le not = let less = above m k (omega (arith, le)) (λ e. not (ap suc e)) in omega (arith, less)
 
 below_here : (p : ℕ → Bool) (from count n : ℕ) (b : Bool) → p from ≡ b → from ≤ n
-    → (from + 1 ≤ n → n < unwrap_or (find p (numbers_from (from + 1) count)) ((from + 1) + count) → (p n ≡ false) × (n < (from + 1) + count))
+    → (from + 1 ≤ n → n < unwrap_or (find p (numbers_from (from + 1) count)) ((from + 1) + count)
+    → (p n ≡ false) × (n < (from + 1) + count))
     → n < unwrap_or (cond b (Some from) (find p (numbers_from (from + 1) count))) (from + suc count)
     → (p n ≡ false) × (n < from + suc count)
 below_here p from count n true is low later h = absurd (omega (arith, low, h))

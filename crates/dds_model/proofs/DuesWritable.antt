@@ -1,5 +1,6 @@
 -- The messages that are due can be written: their numbers are small, and they are short.
-use Rattle.std.proofs.Common.{◌≡◌, ℕ, zero, suc, ◌+◌, ◌-◌, ◌*◌, ◌^◌, ◌<◌, ◌≤◌, Bool, true, false, cond, List, [], ◌∷◌, ◌++◌, Option, Some, None, length, length-append, nat_lt, refl, subst, sym, arith}
+use Rattle.std.proofs.Common.{◌≡◌, ℕ, zero, suc, ◌+◌, ◌-◌, ◌*◌, ◌^◌, ◌<◌, ◌≤◌, Bool, true, false, cond, List, [], ◌∷◌}
+use Rattle.std.proofs.Common.{◌++◌, Option, Some, None, length, length-append, nat_lt, refl, subst, sym, arith}
 use Rattle.std.specs.Prelude.{FitsSigned, find, if◌then◌else◌, pos, slice_get}
 use Rattle.std.specs.Int.{w32}
 use Rattle.std.specs.List.{All, AllByRecursion, flat_map}
@@ -15,11 +16,10 @@ use Rattle.dds_base.specs.Written.{counts_of}
 use Rattle.rtps_reader.specs.declared.step.AckNackDue.{AckNackDue}
 use Rattle.rtps_reader.specs.Answer.{Answers}
 use Rattle.rtps_reader.specs.Tracked.{Tracked}
-use Rattle.rtps_sets.specs.NumberSet.{empty_from}
+use Rattle.rtps_wire.specs.declared.data.Data.{Data as DataBody}
 use Rattle.rtps_wire.specs.declared.submessage.Submessage.{Submessage}
-use Rattle.rtps_wire.specs.declared.submessage.Submessage.TheVariants.{Gap}
 use Rattle.rtps_wire.specs.Content.{content_of}
-use Rattle.rtps_wire.specs.Data.{IsContent}
+use Rattle.rtps_wire.specs.Data.{IsContent, IsData}
 use Rattle.rtps_wire.specs.Fields.{IsEntityId}
 use Rattle.rtps_wire.specs.Messages.{IsWritable}
 use Rattle.rtps_wire.specs.Sets.{IsSet}
@@ -62,13 +62,15 @@ acknack_writable own to reader writer ends t last is_final due a low places =
 
 found_here : (p : ℕ → Bool) (from count : ℕ) (b : Bool) (rest : Option ℕ)
     → (from + 1 ≤ unwrap_or rest ((from + 1) + count)) × (unwrap_or rest ((from + 1) + count) ≤ (from + 1) + count)
-    → (from ≤ unwrap_or (cond b (Some from) rest) ((from + 1) + count)) × (unwrap_or (cond b (Some from) rest) ((from + 1) + count) ≤ (from + 1) + count)
+    → (from ≤ unwrap_or (cond b (Some from) rest) ((from + 1) + count))
+    × (unwrap_or (cond b (Some from) rest) ((from + 1) + count) ≤ (from + 1) + count)
 found_here p from count true rest h = (omega arith, omega arith)
 found_here p from count false rest h = let low = h.0 in (omega (arith, low), h.1)
 
 -- the first number that passes is one of them, or the one past the last
 found_within : (p : ℕ → Bool) (from count : ℕ)
-    → (from ≤ unwrap_or (find p (numbers_from from count)) (from + count)) × (unwrap_or (find p (numbers_from from count)) (from + count) ≤ from + count)
+    → (from ≤ unwrap_or (find p (numbers_from from count)) (from + count))
+    × (unwrap_or (find p (numbers_from from count)) (from + count) ≤ from + count)
 found_within p from zero = (omega arith, omega arith)
 found_within p from (suc count) =
     let over : (from + 1) + count ≡ from + suc count = omega arith in
@@ -151,14 +153,21 @@ data_short reader writer changes n None of_reader of_writer few datable at = rec
 data_short reader writer changes n (Some c) of_reader of_writer few datable at =
     let d = datable c at in
     let within = change_at-within changes n c at in
+    let body : DataBody = record { reader_id = reader; writer_id = writer; writer_sn = n; content = content_of c } in
+    let valid : IsData body = record {
+      reader = of_reader;
+      writer = of_writer;
+      first = positive_number changes n c at;
+      small = omega (arith, within, few);
+    } in
     record {
-      each = (d.moment, ((record { reader = of_reader; writer = of_writer; first = positive_number changes n c at; small = omega (arith, within, few) }, d.content), tt));
+      each = (d.moment, ((valid, d.content), tt));
       few = omega arith;
     }
 
 gap_short : (reader writer : EntityId) (first last : ℕ) → IsEntityId reader → IsEntityId writer
     → (1 ≤ first) × (first ≤ last) × (last < 2 ^ 62)
-    → AreShort (Gap (record { reader_id = reader; writer_id = writer; gap_start = first; gap_list = empty_from (last + 1) }) ∷ []) 2
+    → AreShort (submessages_of [] reader writer (AnswersGap first last)) 2
 gap_short reader writer first last of_reader of_writer h =
     let low = h.0 in
     let order = h.1 in

@@ -30,3 +30,5 @@ pub mod DuesAnswers
 pub mod DuesTurns
 pub mod DuesPackets
 pub mod DuesWritable
+pub mod DuesWritten
+pub mod DuesParts

@@ -145,7 +145,7 @@ opening_number peers n [] i lt = absurd (omega (arith, lt))
 opening_number peers n (p ∷ ps) zero lt = omega arith
 opening_number peers n (p ∷ ps) (suc i) lt = let e = opening_number peers (n + 1) ps i (omega (arith, lt)) in omega (arith, e)
 
-opening_delivered : (peers : List PeerConfig) (n : ℕ) (ps : List PeerConfig) (i : ℕ) → (get_or (opening_peers peers n ps) i no_peer).delivered ≡ []
+pub opening_delivered : (peers : List PeerConfig) (n : ℕ) (ps : List PeerConfig) (i : ℕ) → (get_or (opening_peers peers n ps) i no_peer).delivered ≡ []
 opening_delivered peers n [] i = refl
 opening_delivered peers n (p ∷ ps) zero = refl
 opening_delivered peers n (p ∷ ps) (suc i) = opening_delivered peers (n + 1) ps i

@@ -1,5 +1,5 @@
 -- At the opening a peer knows nothing, so all that it knows is what was claimed: nothing was heard of a matched writer.
-use Rattle.std.proofs.Common.{◌≡◌, ℕ, ℤ, zero, suc, ◌+◌, ◌<◌, ◌==◌, nat_lt, Bool, true, false, cond, Option, Some, None, List, [], ◌∷◌, ◌++◌, refl, ap, sym, ◌∙◌, arith, map, get_or}
+use Rattle.std.proofs.Common.{◌≡◌, ℕ, ℤ, zero, suc, ◌+◌, ◌<◌, ◌==◌, nat_lt, Bool, true, false, cond, Option, Some, None, List, [], ◌∷◌, ◌++◌, refl, subst, ap, sym, ◌∙◌, arith, map, get_or}
 use Rattle.std.specs.Option.{option_map}
 use Rattle.std.proofs.lemmas.Bool.Decides.{nat_tests}
 use Rattle.std.proofs.lemmas.Option.{same_Some}
@@ -11,10 +11,11 @@ use Rattle.rtps_reader.specs.Tracked.{is_passable}
 use Rattle.dds_model.specs.declared.endpoint.Endpoint.{Endpoint}
 use Rattle.dds_model.specs.Numbered.{numbered}
 use Rattle.dds_model.specs.Part.{row_of, same_endpoint, WriterProxy, own_proxies, place_of, heard_of}
-use Rattle.dds_model.specs.Peer.{Peer, no_peer, state_of}
+use Rattle.dds_model.specs.Peer.{Peer, Delivery, no_peer, state_of, packets_of}
 use Rattle.dds_model.specs.Protocol.{Known, knows_nothing}
 use Rattle.dds_model.specs.Opening.{writers_in, matched_writers, opening_peers, opening_world}
 use Rattle.dds_model.specs.Backed.{IsBacked}
+use Rattle.dds_model.proofs.Opened.{opening_delivered}
 
 -- no change of these writers has come, and nothing was heard
 abbrev AreFresh : List WriterProxy → Type 0
@@ -123,3 +124,13 @@ opens_backed config zero = backed config zero no_peer none_is_fresh
 opens_backed config (suc i) =
     let peer : Peer = get_or (opening_peers config.peers 1 config.peers) i no_peer in
     backed config (suc i) peer (peer_is_fresh config.peers 1 config.peers i)
+
+-- the same of the peer of this index, counted from 0, with what was delivered to it, which is nothing
+abbrev opened_peer : Config → ℕ → Peer
+opened_peer config i = get_or (opening_peers config.peers 1 config.peers) i no_peer
+
+pub opens_known : (config : Config) (i number : ℕ)
+    → IsBacked config number (packets_of (opened_peer config i).delivered) (opened_peer config i).delivered (state_of (opened_peer config i))
+opens_known config i number =
+    subst (λ (ds : List Delivery). IsBacked config number (packets_of ds) ds (state_of (opened_peer config i))) (sym (opening_delivered config.peers 1 config.peers i))
+    (backed config number (opened_peer config i) (peer_is_fresh config.peers 1 config.peers i))

@@ -1,5 +1,5 @@
 -- A packet that a peer takes up by the rules of the protocol makes moves that rest on what packets claim.
-use Rattle.std.proofs.Common.{◌≡◌, ◌⊎◌, ℕ, ℤ, zero, suc, ◌+◌, ◌-◌, ◌<◌, ◌≤◌, false, List, [], ◌∷◌, Option, Some, None, Contains, refl, subst, ap, sym, ◌∙◌, inl, inr, ⊎_elim, arith, length, slice_get, get_or}
+use Rattle.std.proofs.Common.{◌≡◌, ◌⊎◌, ℕ, ℤ, zero, suc, ◌+◌, ◌-◌, ◌<◌, ◌≤◌, false, List, [], ◌∷◌, ◌++◌, Option, Some, None, Contains, refl, subst, ap, sym, ◌∙◌, inl, inr, ⊎_elim, arith, length, slice_get, get_or}
 use Rattle.std.proofs.lemmas.Option.{same_Some}
 use Rattle.dds_base.specs.declared.change.Change.{Change}
 use Rattle.dds_base.specs.declared.config.Config.{Config}
@@ -9,6 +9,7 @@ use Rattle.dds_base.specs.declared.guid.GuidPrefix.{GuidPrefix}
 use Rattle.dds_base.specs.Checked.{check_refusal}
 use Rattle.dds_base.specs.Kept.{numbers_from}
 use Rattle.rtps_reader.specs.Tracked.{is_later}
+use Rattle.rtps_wire.specs.declared.acknack.AckNack.{AckNack as AckNackBody}
 use Rattle.rtps_wire.specs.declared.heartbeat.Heartbeat.{Heartbeat as HeartbeatBody}
 use Rattle.rtps_wire.specs.declared.message.Message.{Message}
 use Rattle.rtps_wire.specs.declared.submessage.Submessage.{Submessage}
@@ -20,15 +21,15 @@ use Rattle.dds_model.specs.declared.reply.Report.{Report}
 use Rattle.dds_model.specs.Numbered.{numbered, HasNumber}
 use Rattle.dds_model.specs.Part.{Part, own_proxies, place_of, heard_of}
 use Rattle.dds_model.specs.Moves.{IsMatched, AreMoves}
-use Rattle.dds_model.specs.Claims.{Receiver, receiver_of, after_submessage, StandsAt, IsReader, IsToReader, ChangeIs, Says}
-use Rattle.dds_model.specs.Receipt.{prefix_of, MovesOver, TakesUp, IsNotTaken, Receives}
-use Rattle.dds_model.specs.Peer.{Delivery, IsApplied, IsBefore, claimed, packets_of}
-use Rattle.dds_model.specs.Protocol.{Due, Known, State, Takes, Follows, TakesPacket}
-use Rattle.dds_model.specs.Backed.{reader_at, IsClaimed, IsBacked}
+use Rattle.dds_model.specs.Claims.{Receiver, receiver_of, after_submessage, StandsAt, IsReader, IsToReader, Claim, ChangeIs, Says, Claims, Claimed}
+use Rattle.dds_model.specs.Receipt.{prefix_of, GoesOver, HasNoRoom, MovesOver, TakesUp, IsNotTaken, Receives}
+use Rattle.dds_model.specs.Peer.{Delivery, IsApplied, IsBefore, claimed, packets_of, delivered_to}
+use Rattle.dds_model.specs.Protocol.{Due, Known, State, InTurn, ReaderTakes, Takes, Follows, TakesMessage, TakesPacket}
+use Rattle.dds_model.specs.Backed.{reader_at, IsClaimed, TookNone, IsBacked}
 use Rattle.dds_model.proofs.Knowing.{claimed_on}
-use Rattle.dds_model.proofs.Composed.{front_or_rest, later_in}
+use Rattle.dds_model.proofs.Composed.{front_or_rest, later_in, moves_on}
 use Rattle.dds_model.proofs.Framing.{has_reader}
-use Rattle.dds_model.proofs.RuledReaders.{Coming, grounds, Backs, IsPast}
+use Rattle.dds_model.proofs.RuledReaders.{Coming, grounds, packets, deliveries, Backs, IsPast}
 use Rattle.dds_model.proofs.RuledTurns.{IsTelling, Turn, readers_taken}
 use Rattle.dds_model.proofs.RuledWriters.{IsTaken, writers_taken}
 use Rattle.rtps_wire.proofs.MessageLaws.{message_one}
@@ -43,7 +44,7 @@ pub record Taken (c : Coming) (old : State) (made : List Move) (new : State) : T
   pub past : (r : ℕ) → HasNumber new.part.rtps.readers r → IsPast c c.submessage r new
   pub over : MovesOver c.config (grounds c) c.peer c.own c.at c.submessage old.part made
 
-by_readers : (c : Coming) (s : Submessage) → c.submessage ≡ s → IsTelling s → (old : State) (made : List Move) (dues : List Due) (new : State) → ((w : Endpoint) (r p n : ℕ) → IsMatched old.part w r p n → HasNumber old.part.rtps.readers r) → Backs c old
+pub by_readers : (c : Coming) (s : Submessage) → c.submessage ≡ s → IsTelling s → (old : State) (made : List Move) (dues : List Due) (new : State) → ((w : Endpoint) (r p n : ℕ) → IsMatched old.part w r p n → HasNumber old.part.rtps.readers r) → Backs c old
     → Turn c s 1 (length old.part.rtps.readers) old made new → Taken c old made new
 by_readers c s is telling old made dues new there b t = record {
   moves = t.moves;
@@ -66,7 +67,7 @@ by_readers c s is telling old made dues new there b t = record {
     endpoint_at : (r : Endpoint) → r.peer ≡ c.peer → r ≡ reader_at c.peer r.number
     endpoint_at r e = ap (λ (p : ℕ). reader_at p r.number) e
 
-by_writers : (c : Coming) (s : Submessage) → c.submessage ≡ s → ((r : ℕ) (x : State) → IsPast c s r x) → ((w r : Endpoint) (n : ℕ) (change : Change) → Says c.config c.own c.at s (ChangeIs w r n change) → ⊥) → (old : State) (made : List Move) (new : State)
+pub by_writers : (c : Coming) (s : Submessage) → c.submessage ≡ s → ((r : ℕ) (x : State) → IsPast c s r x) → ((w r : Endpoint) (n : ℕ) (change : Change) → Says c.config c.own c.at s (ChangeIs w r n change) → ⊥) → (old : State) (made : List Move) (new : State)
     → IsTaken c old made new → Taken c old made new
 by_writers c s is past says old made new t = record {
   moves = t.moves;
@@ -263,7 +264,7 @@ pub record Up (p : Packet) (index : ℕ) (at : Receiver) (ss : List Submessage) 
   pub backed : Backed p refused new
 
 -- none is left: all that stand in the packet were
-all_of : (p : Packet) (index : ℕ) (at : Receiver) → IsRest p index at [] → (s : State) → Backed p (Some index) s → Backed p None s
+pub all_of : (p : Packet) (index : ℕ) (at : Receiver) → IsRest p index at [] → (s : State) → Backed p (Some index) s → Backed p None s
 all_of p index at rest s b =
     rebacked p (Some index) None s
     (λ w r count has a. ⊎_elim (λ l. inl (record { index = a.index; before = l; at = a.at; heartbeat = a.heartbeat; stands = a.stands; is_to = a.is_to; same_count = a.same_count }))
@@ -308,7 +309,7 @@ begun p s b = record {
 }
 
 -- the delivery is so reported
-reported : (p : Packet) (report : Report) (s : State) → Backed p report.refused s → IsBacked p.config p.peer (p.bytes ∷ packets_of p.before) (record { packet = p.bytes; report = report } ∷ p.before) s
+pub reported : (p : Packet) (report : Report) (s : State) → Backed p report.refused s → IsBacked p.config p.peer (p.bytes ∷ packets_of p.before) (record { packet = p.bytes; report = report } ∷ p.before) s
 reported p report s b = record {
   place = b.place;
   claimed = b.claimed;
@@ -320,11 +321,28 @@ reported p report s b = record {
 }
 
 -- a packet that is none, or for which there was no memory, tells nothing
-tells_nothing : (config : Config) (peer : ℕ) (before : List Delivery) (bytes : List ℕ) (old new : Part) (report : Report) → IsNotTaken bytes old report new → (w : Endpoint) (r : ℕ) (count : ℤ)
+pub tells_nothing : (config : Config) (peer : ℕ) (before : List Delivery) (bytes : List ℕ) (old new : Part) (report : Report) → IsNotTaken bytes old report new → (w : Endpoint) (r : ℕ) (count : ℤ)
     → IsApplied config (record { packet = bytes; report = report }) w (reader_at peer r) count → ⊥
 tells_nothing config peer before bytes old new report n w r count h =
     ⊎_elim (λ none. none.1 h.message h.offset h.is_read)
     (λ (some : (report.refused ≡ Some 0) × HasSubmessage bytes). let low : IsBefore h.index (Some 0) = subst (λ (o : Option ℕ). IsBefore h.index o) some.0 h.before in absurd (omega (arith, low))) n.cause
+
+-- what is known is backed, as it was
+pub unread_backed : (config : Config) (peer : ℕ) (before : List Delivery) (bytes : List ℕ) (old new : State) (report : Report) → IsNotTaken bytes old.part report new.part → new.known ≡ old.known → IsBacked config peer (packets_of before) before old
+    → IsBacked config peer (bytes ∷ packets_of before) (record { packet = bytes; report = report } ∷ before) new
+unread_backed config peer before bytes old new report taken same b = record {
+  place = λ w r p e. ap (λ (k : Known). (k.tracked w r).place) same ∙ b.place w r p (ap (λ (q : Part). place_of (own_proxies q r) w) (sym taken.after) ∙ e);
+  claimed = λ w r.
+      subst (λ (k : Known). IsClaimed config peer (bytes ∷ packets_of before) w r (k.tracked w r)) (sym same)
+      (claimed_on config peer (packets_of before) (bytes ∷ packets_of before) w r (old.known.tracked w r) (b.claimed w r)
+      (λ n c k. record { packet = k.packet; among = later_in bytes (packets_of before) k.packet k.among; claims = k.claims })
+      (λ n k. record { packet = k.packet; among = later_in bytes (packets_of before) k.packet k.among; claims = k.claims }));
+  newest = λ w r has d count among k.
+      ap (λ (x : Known). is_later (x.tracked w r).count count) same
+      ∙ ⊎_elim (λ e. absurd (tells_nothing config peer before bytes old.part new.part report taken w r count (subst (λ (x : Delivery). IsApplied config x w (reader_at peer r) count) (sym e) k)))
+      (λ a. b.newest w r (subst (λ (q : Part). HasNumber q.rtps.readers r) taken.after has) d count a k) (newer (record { packet = bytes; report = report }) before d among);
+  heard = λ w r count e. ap (λ (x : Known). is_later (x.tracked w r).count count) same ∙ b.heard w r count (ap (λ (q : Part). heard_of (own_proxies q r) w) (sym taken.after) ∙ e);
+}
 
 pub record IsTakenUp (config : Config) (peer : ℕ) (before : List Delivery) (bytes : List ℕ) (old : State) (report : Report) (new : State) : Type 0 where
   pub receives : Receives config (claimed config before bytes peer) peer bytes old.part report new.part
@@ -343,19 +361,12 @@ takes_packet config peer before bytes old report dues new checked b (inl h) =
     let up : Up p 0 (receiver_of h.message.prefix) h.message.submessages old report.moves report.refused new =
     follows_up p 0 (receiver_of h.message.prefix) h.message.submessages all old report.moves report.refused dues new (begun p old b) h.follows in
     record { receives = inl (record { message = h.message; offset = h.offset; is_read = h.is_read; taken = up.takes }); backed = reported p report new up.backed }
-takes_packet config peer before bytes old report dues new checked b (inr h) = record {
-  receives = inr h.0;
-  backed = record {
-    place = λ w r p e. ap (λ (k : Known). (k.tracked w r).place) h.1 ∙ b.place w r p (ap (λ (q : Part). place_of (own_proxies q r) w) (sym h.0.after) ∙ e);
-    claimed = λ w r.
-        subst (λ (k : Known). IsClaimed config peer (bytes ∷ packets_of before) w r (k.tracked w r)) (sym h.1)
-        (claimed_on config peer (packets_of before) (bytes ∷ packets_of before) w r (old.known.tracked w r) (b.claimed w r)
-        (λ n c k. record { packet = k.packet; among = later_in bytes (packets_of before) k.packet k.among; claims = k.claims })
-        (λ n k. record { packet = k.packet; among = later_in bytes (packets_of before) k.packet k.among; claims = k.claims }));
-    newest = λ w r has d count among k.
-        ap (λ (x : Known). is_later (x.tracked w r).count count) h.1
-        ∙ ⊎_elim (λ e. absurd (tells_nothing config peer before bytes old.part new.part report h.0 w r count (subst (λ (x : Delivery). IsApplied config x w (reader_at peer r) count) (sym e) k)))
-        (λ a. b.newest w r (subst (λ (q : Part). HasNumber q.rtps.readers r) h.0.after has) d count a k) (newer (record { packet = bytes; report = report }) before d among);
-    heard = λ w r count e. ap (λ (x : Known). is_later (x.tracked w r).count count) h.1 ∙ b.heard w r count (ap (λ (q : Part). heard_of (own_proxies q r) w) (sym h.0.after) ∙ e);
-  };
-}
+takes_packet config peer before bytes old report dues new checked b (inr h) = record { receives = inr h.0; backed = unread_backed config peer before bytes old new report h.0 h.1 b }
+
+-- to the peer's readers an ACKNACK is nothing
+pub nothing_told : (c : Coming) (a : AckNackBody) (readers : List ℕ) (old : State) (made : List Move) (dues : List Due) (new : State)
+    → InTurn (ReaderTakes c.config c.own c.peer c.at (AckNack a)) readers old made dues new → (made ≡ []) × (new ≡ old)
+nothing_told c a [] old made dues new h = (h.0, h.2)
+nothing_told c a (r ∷ rs) old made dues new h =
+    let rest = nothing_told c a rs h.4 h.1 h.3 new h.8 in
+    (h.5 ∙ (ap (λ (ms : List Move). ms ++ h.1) h.7.0 ∙ rest.0), rest.1 ∙ h.7.2)

@@ -100,8 +100,14 @@ EventStep config tests old (event.Deliver packet) (Reported report) new =
     Receives config (claimed config old.delivered packet old.number) old.number packet old.part report new.part × (new.delivered ≡ record { packet = packet; report = report } ∷ old.delivered)
 EventStep config tests old (event.Deliver packet) reply new = ⊥
 
+-- what a peer knows changes by deliveries alone
+abbrev pub Knows : Peer → Event → Peer → Type 0
+Knows old (event.Deliver packet) new = Unit {0}
+Knows old other new = new.known ≡ old.known
+
 -- one step of a peer, and what it sends is true
 pub record PeerStep (config : Config) (tests : Tests) (old : Peer) (event : Event) (output : Output) (new : Peer) : Type 0 where
   pub same_number : new.number ≡ old.number
+  pub knows : Knows old event new
   pub step : EventStep config tests old event output.reply new
   pub sent : (packet : Packet) (claim : Claim) → Contains output.packets packet → Claims config packet.bytes claim → IsTrueAt new.number new.part claim

@@ -1,5 +1,6 @@
 -- Runs: replies to lists of events, with the packets that are sent meanwhile.
-use Rattle.std.specs.Prelude.{◌≡◌, ◌≢◌, ℕ, ◌+◌, ◌-◌, ◌^◌, List, [], ◌∷◌, ◌++◌, length, min, IsSome, Contains, AllPairs}
+use Rattle.std.specs.Prelude.{◌≡◌, ◌≢◌, ℕ, ◌+◌, ◌-◌, ◌^◌, List, [], ◌∷◌, ◌++◌, length, min, IsSome, ◌==◌, if◌then◌else◌, Contains, AllPairs}
+use Rattle.std.specs.List.{list_any}
 use Rattle.dds_base.specs.declared.change.Change.{Change}
 use Rattle.dds_base.specs.declared.config.Config.{Config}
 use Rattle.dds_base.specs.Written.{Changed}
@@ -8,10 +9,12 @@ use Rattle.dds_model.specs.declared.event.WorldEvent.{WorldEvent}
 use Rattle.dds_model.specs.declared.event.WorldEvent.TheVariants as world
 use Rattle.dds_model.specs.declared.event.Packet.{Packet}
 use Rattle.dds_model.specs.declared.reply.Reply.{Reply}
+use Rattle.dds_model.specs.declared.reply.Reply.TheVariants.{Done}
 use Rattle.dds_model.specs.Part.{ReaderProxy, peers_of, acknowledged_of, writer_changes}
 use Rattle.dds_model.specs.Calls.{Effect, writes, effect_of}
 use Rattle.dds_model.specs.Claims.{ChangeIs, Claims}
 use Rattle.dds_model.specs.Machine.{Machine, AllTests, part_at, writer_at, Step}
+use Rattle.dds_model.specs.Protocol.{Due, AreSent, heartbeats_due}
 use Rattle.dds_model.specs.Progress.{Progresses}
 
 -- the packets that were sent, and how many found no memory, which stays at its greatest value
@@ -38,10 +41,20 @@ SendsOf config old m peer (writes writer (Changed change)) new =
     (length (writer_changes (writer_at m (record { peer = peer; number = writer }))) + 1) change new
 SendsOf config old m peer other new = new ≡ old
 
--- What is sent at an event: an accepted change is announced; another call, a refused one, a tick and a delivery send
--- nothing, and lose nothing.
+-- Of the messages that are due some are sent, in their order, each in its one written form; the others found no memory, and
+-- are counted.
+pub record SendsDues (dues : List Due) (old new : Traffic) : Type 0 where
+  pub packets : List Packet
+  pub sent : new.sent ≡ old.sent ++ packets
+  pub lost : ℕ
+  pub are_sent : AreSent dues packets lost
+  pub unsent : new.unsent ≡ min (old.unsent + lost) (2 ^ 64 - 1)
+
+-- What is sent at an event: an accepted change is announced, and a tick that is done sends the HEARTBEATs that are due at the
+-- peer; another call, what is refused and a delivery send nothing, and lose nothing.
 abbrev pub Sends : Config → Traffic → Machine → WorldEvent → Reply → Traffic → Type 0
 Sends config old m (world.Call peer call) reply new = SendsOf config old m peer (effect_of (part_at m peer) call reply) new
+Sends config old m (world.Tick peer now) Done new = SendsDues (heartbeats_due config peer (part_at m peer)) old new
 Sends config old m (world.Tick peer now) reply new = new ≡ old
 Sends config old m (world.Deliver peer packet) reply new = new ≡ old
 

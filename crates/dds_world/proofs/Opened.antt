@@ -1,5 +1,5 @@
 -- What the peers of a configuration that is taken stand for at the opening.
-use Rattle.std.proofs.Common.{◌≡◌, ◌⊎◌, ℕ, zero, suc, ◌+◌, ◌<◌, ◌≤◌, Bool, true, false, List, [], ◌∷◌, ◌++◌, Option, Some, None, length, slice_get, Contains, refl, ap, sym, ◌∙◌, subst, inl, inr, ⊎_elim, arith, length-append}
+use Rattle.std.proofs.Common.{◌≡◌, ◌⊎◌, ℕ, zero, suc, ◌+◌, ◌<◌, ◌≤◌, Bool, true, false, List, [], ◌∷◌, ◌++◌, Option, Some, None, length, get_or, slice_get, Contains, refl, ap, sym, ◌∙◌, subst, inl, inr, ⊎_elim, arith, length-append}
 use Rattle.std.specs.Prelude.{if◌then◌else◌, ◌&&◌, ◌||◌, ◌==◌, nat_lt, nat_le, is_some, Result, Ok, Err, IfOk, IfErr}
 use Rattle.std.proofs.lemmas.Bool.{or_parts, ltb-false}
 use Rattle.std.proofs.lemmas.Bool.Decides.{nat_tests}
@@ -13,7 +13,9 @@ use Rattle.dds_base.specs.Refusal.{Refuses}
 use Rattle.dds_model.specs.declared.event.Packet.{Packet}
 use Rattle.dds_model.specs.Calls.{has_number}
 use Rattle.dds_model.specs.Opening.{opening_peers, opening_world}
+use Rattle.dds_model.specs.Peer.{no_peer}
 use Rattle.dds_model.proofs.Opened.{opens_sound}
+use Rattle.dds_model.proofs.OpenedPeers.{opens_known}
 use Rattle.dds_core.specs.Kept.{CoreKept}
 use Rattle.dds_core.specs.Opening.{are_plain, opening_refusal, core_refusal, opening_peer}
 use Rattle.dds_core.specs.Standing.{StandsFor as CoreStandsFor}
@@ -116,6 +118,7 @@ pub opened : (config : Config) (kept : WorldKept) → OpensFirst config (length 
 opened config kept all none = record {
   count = peers_count config.peers 1 config.peers ∙ sym all.counted;
   each = λ i k at. let next : i + 1 ≡ suc i = omega arith in subst (λ (n : ℕ). CoreStandsFor k config (opening_peer config n)) next (all.each i k at);
+  known = λ i k at. opens_known config i (get_or (opening_peers config.peers 1 config.peers) i no_peer).number;
   sent = sym none;
   sound = opens_sound config;
   messages = λ packet c. let nowhere = subst (λ (ps : List Packet). Contains ps packet) none c in absurd (omega (arith, nowhere.1));

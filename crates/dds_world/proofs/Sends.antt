@@ -1,5 +1,5 @@
 -- What a network sends at an event.
-use Rattle.std.proofs.Common.{◌≡◌, ℕ, suc, ◌+◌, ◌-◌, ◌^◌, min, List, length, get_or, subst, ap, sym, ◌∙◌, refl, arith, length-append}
+use Rattle.std.proofs.Common.{◌≡◌, ℕ, suc, ◌+◌, ◌-◌, ◌^◌, min, List, [], ◌∷◌, inl, inr, ⊎_elim, length, get_or, subst, ap, sym, ◌∙◌, refl, arith, length-append}
 use Rattle.dds_base.specs.declared.change.Change.{Change}
 use Rattle.dds_base.specs.declared.code.Code.{Code}
 use Rattle.dds_base.specs.declared.config.Config.{Config}
@@ -12,19 +12,20 @@ use Rattle.dds_model.specs.declared.event.Output.{Output}
 use Rattle.dds_model.specs.declared.event.Packet.{Packet}
 use Rattle.dds_model.specs.declared.event.WorldEvent.TheVariants as world
 use Rattle.dds_model.specs.declared.reply.Reply.{Reply}
-use Rattle.dds_model.specs.declared.reply.Reply.TheVariants.{Refused}
+use Rattle.dds_model.specs.declared.reply.Reply.TheVariants.{Done, Samples, Refused, Reported}
 use Rattle.dds_base.specs.declared.code.Code.TheVariants.{BadParameter}
 use Rattle.dds_model.specs.Part.{Part, ReaderProxy, own_writer, writer_changes}
 use Rattle.dds_model.specs.Calls.{Effect, nothing, writes, effect_of}
 use Rattle.dds_model.specs.Machine.{part_at}
 use Rattle.dds_model.specs.Peer.{Peer, no_peer}
-use Rattle.dds_model.specs.Runs.{Traffic, Announced, SendsOf}
+use Rattle.dds_model.specs.Protocol.{Due, AreSent, heartbeats_due}
+use Rattle.dds_model.specs.Runs.{Traffic, Announced, Sends, SendsDues, SendsOf}
 use Rattle.dds_model.specs.Part.{peers_of}
 use Rattle.dds_model.specs.World.{WorldState, machine_of}
 use Rattle.dds_model.proofs.Tables.{numbered-map}
-use Rattle.dds_core.specs.Sending.{SendsNothing, SendsChange, SendsFor}
+use Rattle.dds_core.specs.Sending.{SendsNothing, SendsChange, SendsFor, due_at_tick}
 use Rattle.dds_core.proofs.Lists.{get-within}
-use Rattle.dds_world.specs.WorldStanding.{WorldKept, Posts, Announces, traffic}
+use Rattle.dds_world.specs.WorldStanding.{WorldKept, ArePosted, Posts, Announces, traffic}
 use Rattle.dds_world.specs.Acting.{Acts, Counts, IsQuiet}
 
 -- how many packets found no memory, at the peer or on the way
@@ -110,9 +111,79 @@ number_of i n is = omega (arith, is)
 pub called_sends : (kept new : WorldKept) (i peer : ℕ) (c : Call) (reply : Reply) → peer ≡ i + 1 → Acts kept i (event.Call c) reply new → Announces kept (world.Call peer c) reply new
 called_sends kept new i peer c reply is a = subst (λ (n : ℕ). Announces kept (world.Call n c) reply new) (number_of i peer is) (call_sends kept new i c reply a)
 
--- a tick and a delivery send nothing
-pub ticked_sends : (kept new : WorldKept) (i peer now : ℕ) (reply : Reply) → Acts kept i (event.Tick now) reply new → Announces kept (world.Tick peer now) reply new
-ticked_sends kept new i peer now reply a config network s = same_traffic kept new a.acts.output a.quiet a.sends
+-- a tick sends what is due
+
+-- of what a peer sends, some is sent in the network
+posted_on : (dues : List Due) (packets posted : List Packet) (unsent lost : ℕ) → AreSent dues packets unsent → ArePosted packets posted lost → AreSent dues posted (unsent + lost)
+posted_on [] packets posted unsent lost h p =
+    let none : ArePosted [] posted lost = subst (λ (ps : List Packet). ArePosted ps posted lost) h.0 p in
+    let first = h.1 in
+    let second = none.1 in
+    (none.0, omega (arith, first, second))
+posted_on (due ∷ dues) packets posted unsent lost (inl f) p =
+    ⊎_elim (λ k. inl (k.0, k.1, posted_on dues f.0 k.0 unsent lost f.2 k.2)) (λ k. let fewer = k.1 in inr (unsent + k.0, omega (arith, fewer), posted_on dues f.0 posted unsent k.0 f.2 k.2))
+    (subst (λ (ps : List Packet). ArePosted ps posted lost) f.1 p)
+posted_on (due ∷ dues) packets posted unsent lost (inr g) p = let fewer = g.1 in inr (g.0 + lost, omega (arith, fewer), posted_on dues packets posted g.0 lost g.2 p)
+
+posted_count : (packets posted : List Packet) (lost : ℕ) → ArePosted packets posted lost → length posted + lost ≡ length packets
+posted_count [] posted lost h = let first = ap (λ (ps : List Packet). length ps) h.0 in let second = h.1 in omega (arith, first, second)
+posted_count (p ∷ ps) posted lost (inl f) = let first = ap (λ (xs : List Packet). length xs) f.1 in let later = posted_count ps f.0 lost f.2 in omega (arith, first, later)
+posted_count (p ∷ ps) posted lost (inr g) = let fewer = g.1 in let later = posted_count ps posted g.0 g.2 in omega (arith, fewer, later)
+
+-- so it is of the dues of a peer
+dues_sent : (kept new : WorldKept) (dues : List Due) (output : Output) → Posts kept.sent output.packets new.sent → Counts kept output new → AreSent dues output.packets output.unsent → SendsDues dues (traffic kept) (traffic new)
+dues_sent kept new dues output posts counts are =
+    let count = ap (λ (ps : List Packet). length ps) posts.sent in
+    let total = length-append kept.sent posts.posted in
+    let parts = posted_count output.packets posts.posted posts.lost posts.are_posted in
+    let all = counts.1 in
+    let same : counts.0 ≡ posts.lost = omega (arith, count, total, parts, all) in
+    record {
+      packets = posts.posted;
+      sent = posts.sent;
+      lost = output.unsent + posts.lost;
+      are_sent = posted_on dues output.packets posts.posted output.unsent posts.lost are posts.are_posted;
+      unsent = unsent_in_all kept.unsent output.unsent posts.lost new.unsent (counts.2 ∙ ap (λ (n : ℕ). min (kept.unsent + output.unsent + n) (2 ^ 64 - 1)) same);
+    }
+
+-- what a tick of a peer of this number and this part sends, by its reply
+abbrev TicksAt : Config → Traffic → ℕ → Part → Reply → Traffic → Type 0
+TicksAt config old peer part Done new = SendsDues (heartbeats_due config peer part) old new
+TicksAt config old peer part reply new = new ≡ old
+
+tick_sends : (kept new : WorldKept) (config : Config) (peer : Peer) (reply : Reply) (output : Output) → Posts kept.sent output.packets new.sent → Counts kept output new → IsQuiet kept output new
+    → AreSent (due_at_tick config peer reply) output.packets output.unsent → TicksAt config (traffic kept) peer.number peer.part reply (traffic new)
+tick_sends kept new config peer Done output posts counts quiet are = dues_sent kept new (heartbeats_due config peer.number peer.part) output posts counts are
+tick_sends kept new config peer (Refused code) output posts counts quiet are = same_traffic kept new output quiet (record { packets = are.0; unsent = are.1 })
+tick_sends kept new config peer (Samples samples) output posts counts quiet are = same_traffic kept new output quiet (record { packets = are.0; unsent = are.1 })
+tick_sends kept new config peer (Reported report) output posts counts quiet are = same_traffic kept new output quiet (record { packets = are.0; unsent = are.1 })
+
+machine_ticks : (config : Config) (old new : Traffic) (network : WorldState) (peer now : ℕ) (reply : Reply) → TicksAt config old peer (part_at (machine_of network) peer) reply new
+    → Sends config old (machine_of network) (world.Tick peer now) reply new
+machine_ticks config old new network peer now Done h = h
+machine_ticks config old new network peer now (Refused code) h = h
+machine_ticks config old new network peer now (Samples samples) h = h
+machine_ticks config old new network peer now (Reported report) h = h
+
+ticks_sent : (kept new : WorldKept) (i now : ℕ) (reply : Reply) → Acts kept i (event.Tick now) reply new → Announces kept (world.Tick (suc i) now) reply new
+ticks_sent kept new i now reply a config network s =
+    let acts = a.acts in
+    let old : Traffic = traffic kept in
+    let peer : Peer = get_or network.peers i no_peer in
+    let count = s.count in
+    let low = get-within kept.peers i acts.core acts.at in
+    let number : peer.number ≡ suc i = s.sound.number (suc i) (omega arith, omega (arith, count, low)) in
+    let part : part_at (machine_of network) (suc i) ≡ peer.part = numbered-map (λ (p : Peer). p.part) network.peers (suc i) no_peer in
+    let sent : TicksAt config old peer.number peer.part acts.output.reply (traffic new) =
+    tick_sends kept new config peer acts.output.reply acts.output acts.posts a.counts a.quiet (a.sends config peer (s.each i acts.core acts.at)) in
+    let replied : TicksAt config old peer.number peer.part reply (traffic new) = subst (λ (r : Reply). TicksAt config old peer.number peer.part r (traffic new)) (sym acts.replies) sent in
+    machine_ticks config old (traffic new) network (suc i) now reply
+    (subst (λ (p : Part). TicksAt config old (suc i) p reply (traffic new)) (sym part) (subst (λ (n : ℕ). TicksAt config old n peer.part reply (traffic new)) number replied))
+
+pub ticked_sends : (kept new : WorldKept) (i peer now : ℕ) (reply : Reply) → peer ≡ i + 1 → Acts kept i (event.Tick now) reply new → Announces kept (world.Tick peer now) reply new
+ticked_sends kept new i peer now reply is a = subst (λ (n : ℕ). Announces kept (world.Tick n now) reply new) (number_of i peer is) (ticks_sent kept new i now reply a)
+
+-- a delivery sends nothing
 
 pub delivered_sends : (kept new : WorldKept) (i peer number : ℕ) (bytes : List ℕ) (reply : Reply) → Acts kept i (event.Deliver bytes) reply new → Announces kept (world.Deliver peer number) reply new
 delivered_sends kept new i peer number bytes reply a config network s = same_traffic kept new a.acts.output a.quiet a.sends
@@ -130,8 +201,8 @@ pub refused_call_sends : (kept : WorldKept) (peer : ℕ) (c : Call) → Announce
 refused_call_sends kept peer c config network s =
     subst (λ (e : Effect). SendsOf config (traffic kept) (machine_of network) peer e (traffic kept)) (sym (refused_effect (part_at (machine_of network) peer) c BadParameter)) refl
 
-pub quiet_tick_sends : (kept : WorldKept) (peer now : ℕ) (reply : Reply) → Announces kept (world.Tick peer now) reply kept
-quiet_tick_sends kept peer now reply config network s = refl
+pub refused_tick_sends : (kept : WorldKept) (peer now : ℕ) → Announces kept (world.Tick peer now) (Refused BadParameter) kept
+refused_tick_sends kept peer now config network s = refl
 
 pub quiet_delivery_sends : (kept : WorldKept) (peer number : ℕ) (reply : Reply) → Announces kept (world.Deliver peer number) reply kept
 quiet_delivery_sends kept peer number reply config network s = refl

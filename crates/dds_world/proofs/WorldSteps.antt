@@ -21,15 +21,16 @@ use Rattle.dds_model.specs.declared.reply.Reply.{Reply}
 use Rattle.dds_model.specs.declared.reply.Reply.TheVariants.{Reported, Refused}
 use Rattle.dds_model.specs.Machine.{no_filters, no_tests, Step}
 use Rattle.dds_model.specs.Numbered.{HasNumber}
-use Rattle.dds_model.specs.Peer.{Peer, Delivery, PeerStep, no_peer}
+use Rattle.dds_model.specs.Peer.{Peer, Delivery, PeerStep, no_peer, state_of}
 use Rattle.dds_model.specs.Progress.{Progresses}
 use Rattle.dds_model.specs.World.{WorldState, WorldStep, PeerSteps, machine_of}
 use Rattle.dds_model.proofs.Composed.{composes}
+use Rattle.dds_model.proofs.RuledPackets.{unread_backed}
 use Rattle.dds_model.proofs.Tables.{append_nothing}
 use Rattle.dds_core.specs.Kept.{CoreKept}
-use Rattle.dds_core.specs.Standing.{StandsFor as CoreStandsFor, Steps as CoreSteps}
+use Rattle.dds_core.specs.Standing.{StandsFor as CoreStandsFor, IsSound, SoundSteps as CoreSteps}
 use Rattle.dds_core.proofs.Lists.{each_set, get-within}
-use Rattle.dds_world.specs.WorldStanding.{WorldKept, StandsFor, Steps, MovesOn, Posts}
+use Rattle.dds_world.specs.WorldStanding.{WorldKept, StandsFor, Steps, MovesOn, ArePosted, Posts}
 use Rattle.dds_world.specs.Acting.{ActsAt, IsCopy}
 
 -- lists of which any two elements differ
@@ -59,7 +60,19 @@ more_apart R (x ∷ ps) p all each =
 
 -- nothing was sent yet
 pub posts_none : (old : List Packet) → Posts old [] old
-posts_none old = record { posted = []; sent = sym (append_nothing old); of_packets = λ p c. c; fewer = omega arith; different = λ d. d }
+posts_none old = record { posted = []; sent = sym (append_nothing old); lost = 0; are_posted = (refl, refl); of_packets = λ p c. c; fewer = omega arith; different = λ d. d }
+
+-- the packets in their order, with one more that was sent, or was lost
+
+one_posted : (packets posted : List Packet) (packet : Packet) (lost : ℕ) → ArePosted packets posted lost → ArePosted (packets ++ packet ∷ []) (posted ++ packet ∷ []) lost
+one_posted [] posted packet lost h = inl ([], ap (λ (ps : List Packet). ps ++ packet ∷ []) h.0, (refl, h.1))
+one_posted (p ∷ ps) posted packet lost (inl f) = inl (f.0 ++ packet ∷ [], ap (λ (xs : List Packet). xs ++ packet ∷ []) f.1, one_posted ps f.0 packet lost f.2)
+one_posted (p ∷ ps) posted packet lost (inr g) = inr (g.0, g.1, one_posted ps posted packet g.0 g.2)
+
+one_lost : (packets posted : List Packet) (packet : Packet) (lost : ℕ) → ArePosted packets posted lost → ArePosted (packets ++ packet ∷ []) posted (lost + 1)
+one_lost [] posted packet lost h = inr (lost, refl, h)
+one_lost (p ∷ ps) posted packet lost (inl f) = inl (f.0, f.1, one_lost ps f.0 packet lost f.2)
+one_lost (p ∷ ps) posted packet lost (inr g) = inr (lost, refl, subst (λ (n : ℕ). ArePosted (ps ++ packet ∷ []) posted n) (sym g.1) (one_lost ps posted packet g.0 g.2))
 
 -- one more packet was sent, or found no memory
 pub posts_more : (old packets now new : List Packet) (packet : Packet) (b : Bool) → Posts old packets now → new ≡ (if b then now ++ packet ∷ [] else now) → Posts old (packets ++ packet ∷ []) new
@@ -70,6 +83,8 @@ posts_more old packets now new packet true h is =
     record {
       posted = h.posted ++ packet ∷ [];
       sent = is ∙ (ap (λ (xs : List Packet). xs ++ packet ∷ []) h.sent ∙ append_assoc old h.posted (packet ∷ []));
+      lost = h.lost;
+      are_posted = one_posted packets h.posted packet h.lost h.are_posted;
       of_packets = λ p c. ⊎_elim (λ o. Contains-append_left packets (packet ∷ []) p (h.of_packets p o)) (λ o. Contains-append_right packets (packet ∷ []) p o) (Contains-append_cases h.posted (packet ∷ []) p c);
       fewer = omega (arith, count, total, fewer);
       different = λ d.
@@ -82,6 +97,8 @@ posts_more old packets now new packet false h is =
     record {
       posted = h.posted;
       sent = is ∙ h.sent;
+      lost = h.lost + 1;
+      are_posted = one_lost packets h.posted packet h.lost h.are_posted;
       of_packets = λ p c. Contains-append_left packets (packet ∷ []) p (h.of_packets p c);
       fewer = omega (arith, total, fewer);
       different = λ d. h.different (front_apart (λ (a b : Packet). a.to ≢ b.to) packets packet d);
@@ -119,7 +136,7 @@ with_peer network i after sent = record { peers = set network.peers i after; sen
 -- an event of the peer of this index is a step of the network
 pub acts_step : (kept new : WorldKept) (i : ℕ) (ev : Event) (whole : WorldEvent) (reply : Reply) → IsEventOf kept.sent ev (suc i) whole → ActsAt kept i ev reply new → Steps kept whole reply new
 acts_step kept new i ev whole reply into a config network s =
-    let r = a.steps config (get_or network.peers i no_peer) (s.each i a.core a.at) in
+    let r = a.steps config (get_or network.peers i no_peer) (s.each i a.core a.at) (s.known i a.core a.at) in
     let next : WorldState = with_peer network i r.0 new.sent in
     let low : i < length kept.peers = get-within kept.peers i a.core a.at in
     let count = s.count in
@@ -141,6 +158,7 @@ acts_step kept new i ev whole reply into a config network s =
     let stands : StandsFor new config next = record {
       count = omega (arith, c1, c2, c3, count);
       each = λ j k at. each_set (λ (x : CoreKept) (p : Peer). CoreStandsFor x config p) kept.peers network.peers i a.after r.0 no_peer s.count s.each r.2 j k (subst (λ (ks : List CoreKept). slice_get ks j ≡ Some k) a.peers at);
+      known = λ j k at. each_set (λ (x : CoreKept) (p : Peer). IsSound config p) kept.peers network.peers i a.after r.0 no_peer s.count s.known r.3 j k (subst (λ (ks : List CoreKept). slice_get ks j ≡ Some k) a.peers at);
       sent = refl;
       sound = c.2;
       messages = λ packet m.
@@ -179,16 +197,18 @@ abbrev nothing_moved : Output
 nothing_moved = record { reply = Reported (record { moves = []; refused = Some 0 }); packets = []; unsent = 0 }
 
 comes_to_nothing : (core : CoreKept) (bytes : List ℕ) → HasSubmessage bytes → CoreSteps core (event.Deliver bytes) nothing_moved core
-comes_to_nothing core bytes some config peer s =
+comes_to_nothing core bytes some config peer s sound =
     let delivery : Delivery = record { packet = bytes; report = record { moves = []; refused = Some 0 } } in
     let after : Peer = record { number = peer.number; part = peer.part; known = peer.known; delivered = delivery ∷ peer.delivered } in
     let step : PeerStep config no_filters peer (event.Deliver bytes) nothing_moved after = record {
       same_number = refl;
+      knows = tt;
       step = (inr (record { moves = refl; after = refl; cause = inr (refl, some) }), refl);
       sent = λ p claim c says. absurd (omega (arith, c.1));
     } in
     let stands : CoreStandsFor core config after = record { is_peer = s.is_peer; moment = s.moment; early = s.early; writers = s.writers; readers = s.readers } in
-    (after, step, stands)
+    let known : IsSound config after = unread_backed config peer.number peer.delivered bytes (state_of peer) (state_of peer) delivery.report (record { moves = refl; after = refl; cause = inr (refl, some) }) refl sound in
+    (after, step, stands, known)
 
 set_same : {X : Type 0} (xs : List X) (i : ℕ) (x : X) → slice_get xs i ≡ Some x → xs ≡ set xs i x
 set_same [] i x at = refl

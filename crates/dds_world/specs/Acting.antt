@@ -9,7 +9,7 @@ use Rattle.dds_model.specs.declared.reply.Reply.{Reply}
 use Rattle.dds_core.specs.Kept.{CoreKept}
 use Rattle.dds_core.specs.Opening.{opening_refusal, opening_peer}
 use Rattle.dds_core.specs.Sending.{Sends as CoreSends, SendsNothing, AreMessages}
-use Rattle.dds_core.specs.Standing.{StandsFor as CoreStandsFor, Steps as CoreSteps}
+use Rattle.dds_core.specs.Standing.{StandsFor as CoreStandsFor, SoundSteps as CoreSteps}
 use Rattle.dds_world.specs.WorldStanding.{WorldKept, Posts}
 
 -- how many packets were counted as unsent: those of the peer, and those that found no memory in the network

@@ -1,5 +1,5 @@
 -- What a network stands for.
-use Rattle.std.specs.Prelude.{◌≡◌, ◌≢◌, ℕ, ◌≤◌, List, ◌++◌, length, get_or, slice_get, Some, Contains, AllPairs}
+use Rattle.std.specs.Prelude.{◌≡◌, ◌≢◌, ◌⊎◌, ℕ, ◌+◌, ◌≤◌, List, [], ◌∷◌, ◌++◌, length, get_or, slice_get, Some, Contains, AllPairs}
 use Rattle.dds_base.specs.declared.config.Config.{Config}
 use Rattle.dds_model.specs.declared.event.Packet.{Packet}
 use Rattle.dds_model.specs.declared.event.WorldEvent.{WorldEvent}
@@ -12,7 +12,7 @@ use Rattle.dds_model.specs.Peer.{no_peer}
 use Rattle.dds_model.specs.World.{WorldState, WorldStep, machine_of, Sound}
 use Rattle.dds_core.specs.Kept.{CoreKept}
 use Rattle.dds_core.specs.Sending.{AreMessages}
-use Rattle.dds_core.specs.Standing.{StandsFor as CoreStandsFor}
+use Rattle.dds_core.specs.Standing.{StandsFor as CoreStandsFor, IsSound}
 
 -- the peers, every packet that was sent, and how many found no memory
 pub record WorldKept : Type 0 where
@@ -20,19 +20,29 @@ pub record WorldKept : Type 0 where
   pub sent : List Packet
   pub unsent : ℕ
 
--- a state of the network for which what it keeps stands: so its peers stand, all that packets claim is true, and each packet
--- is a message
+-- a state of the network for which what it keeps stands: so its peers stand, and know what was claimed to them alone; all that
+-- packets claim is true, and each packet is a message
 pub record StandsFor (kept : WorldKept) (config : Config) (network : WorldState) : Type 0 where
   pub count : length network.peers ≡ length kept.peers
   pub each : (i : ℕ) (k : CoreKept) → slice_get kept.peers i ≡ Some k → CoreStandsFor k config (get_or network.peers i no_peer)
+  pub known : (i : ℕ) (k : CoreKept) → slice_get kept.peers i ≡ Some k → IsSound config (get_or network.peers i no_peer)
   pub sent : network.sent ≡ kept.sent
   pub sound : Sound config network
   pub messages : AreMessages kept.sent
 
--- of these packets some were sent; those to different peers stay so
+-- of these packets, in their order, these were sent, and so many were not
+abbrev pub ArePosted : List Packet → List Packet → ℕ → Type 0
+ArePosted [] posted lost = (posted ≡ []) × (lost ≡ 0)
+ArePosted (packet ∷ packets) posted lost =
+    ((rest : List Packet) × (posted ≡ packet ∷ rest) × ArePosted packets rest lost)
+    ⊎ ((fewer : ℕ) × (lost ≡ fewer + 1) × ArePosted packets posted fewer)
+
+-- of these packets some were sent, in their order, and the others were lost; those to different peers stay so
 pub record Posts (old : List Packet) (packets : List Packet) (new : List Packet) : Type 0 where
   pub posted : List Packet
   pub sent : new ≡ old ++ posted
+  pub lost : ℕ
+  pub are_posted : ArePosted packets posted lost
   pub of_packets : (packet : Packet) → Contains posted packet → Contains packets packet
   pub fewer : length posted ≤ length packets
   pub different : AllPairs (λ (a b : Packet). a.to ≢ b.to) packets → AllPairs (λ (a b : Packet). a.to ≢ b.to) posted

@@ -1,13 +1,13 @@
 use Rattle.std.proofs.Common.{◌≡◌, ℕ, Some, slice_get, length}
 use Rattle.std.specs.Prelude.{Option}
-use Rattle.dds_core.specs.declared.reader_end.Coming.{Coming}
+use Rattle.dds_core.specs.declared.reader_end.Ready.{Ready}
 use Rattle.dds_core.specs.Kept.{ReaderKept}
-use Rattle.dds_core.specs.Receiving.{receiver_at, IsReady, AreAlike}
+use Rattle.dds_core.specs.Receiving.{receiver_at, IsReadyFor, AreAlike}
 use Rattle.dds_core.proofs.delivery.prepare.Given as goal
 
 abbrev pub invariant-loop-index : goal.invariant-loop-index
 invariant-loop-index l = record {
   alike : AreAlike l.initial.readers l.readers;
   count : length l.ready.items ≡ l.index;
-  each : (i : ℕ) (k : ReaderKept) (r : Option Coming) → slice_get l.readers i ≡ Some k → slice_get l.ready.items i ≡ Some r → IsReady l.fn.own (receiver_at l.fn.receiver) l.fn.body k r;
+  each : (i : ℕ) (k : ReaderKept) (r : Option Ready) → slice_get l.readers i ≡ Some k → slice_get l.ready.items i ≡ Some r → IsReadyFor l.fn.own (receiver_at l.fn.receiver) l.fn.submessage k r;
 }

@@ -1,6 +1,9 @@
-use Rattle.std.proofs.Common.{◌≡◌, ◌+◌, ◌++◌, drop}
+use Rattle.std.proofs.Common.{◌≡◌, ◌≤◌, ◌+◌, ◌++◌, drop, length}
 use Rattle.dds_core.specs.Matching.{destinations}
 use Rattle.dds_core.proofs.matching.destinations.Given as goal
 
 abbrev pub invariant-loop-index : goal.invariant-loop-index
-invariant-loop-index l = l.all.items ++ destinations l.fn.topic (l.index + 1) (drop l.index l.fn.peers) ≡ destinations l.fn.topic 1 l.fn.peers
+invariant-loop-index l = record {
+  names : l.all.items ++ destinations l.fn.topic (l.index + 1) (drop l.index l.fn.peers) ≡ destinations l.fn.topic 1 l.fn.peers;
+  few : length l.all.items ≤ l.index;
+}

@@ -1,10 +1,10 @@
 use Rattle.std.proofs.Common.{◌≡◌, ◌+◌, ◌++◌, drop}
 use Rattle.dds_base.specs.Matched.{of_matched_writers}
-use Rattle.dds_core.specs.Matching.{writer_row, matched_writer}
+use Rattle.dds_core.specs.Matching.{writer_name, matched_writer}
 use Rattle.dds_core.proofs.matching.matched_writers.Given as goal
 
 abbrev pub invariant-loop-index : goal.invariant-loop-index
 invariant-loop-index l = record {
-  rows : l.all.rows.items ++ of_matched_writers writer_row l.fn.topic (l.index + 1) (drop l.index l.fn.peers) ≡ of_matched_writers writer_row l.fn.topic 1 l.fn.peers;
+  names : l.all.names.items ++ of_matched_writers writer_name l.fn.topic (l.index + 1) (drop l.index l.fn.peers) ≡ of_matched_writers writer_name l.fn.topic 1 l.fn.peers;
   qos : l.all.qos.items ++ of_matched_writers matched_writer l.fn.topic (l.index + 1) (drop l.index l.fn.peers) ≡ of_matched_writers matched_writer l.fn.topic 1 l.fn.peers;
 }

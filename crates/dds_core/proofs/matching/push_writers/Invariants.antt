@@ -1,11 +1,11 @@
 use Rattle.std.proofs.Common.{◌≡◌, ◌+◌, ◌++◌, drop}
 use Rattle.dds_base.specs.Matched.{of_writers_in}
-use Rattle.dds_core.specs.Matching.{writer_row, matched_writer}
+use Rattle.dds_core.specs.Matching.{writer_name, matched_writer}
 use Rattle.dds_core.proofs.matching.push_writers.Given as goal
 
 abbrev pub invariant-loop-index : goal.invariant-loop-index
 invariant-loop-index l = record {
-  rows : l.all.rows.items ++ of_writers_in (writer_row l.fn.number l.fn.peer) l.fn.topic (l.index + 1) (drop l.index l.fn.peer.writers) ≡ l.initial.all.rows.items ++ of_writers_in (writer_row l.fn.number l.fn.peer) l.fn.topic 1 l.fn.peer.writers;
+  names : l.all.names.items ++ of_writers_in (writer_name l.fn.number l.fn.peer) l.fn.topic (l.index + 1) (drop l.index l.fn.peer.writers) ≡ l.initial.all.names.items ++ of_writers_in (writer_name l.fn.number l.fn.peer) l.fn.topic 1 l.fn.peer.writers;
   qos : l.all.qos.items ++ of_writers_in (matched_writer l.fn.number l.fn.peer) l.fn.topic (l.index + 1) (drop l.index l.fn.peer.writers) ≡ l.initial.all.qos.items ++ of_writers_in (matched_writer l.fn.number l.fn.peer) l.fn.topic 1 l.fn.peer.writers;
   whole : l.writer-items ≡ l.fn.peer.writers;
 }

@@ -17,13 +17,13 @@ take 2 1 => Samples(Sequence { items: [Sample { key: Key([0, 0, 0, 0, 0, 0, 0, 0
 take 2 1 => Refused(NoData) 1 0
 run => as its steps
 
-# A later change waits for the earlier one. A packet that was never sent is refused.
+# A later change is held until the earlier one has come. A packet that was never sent is refused.
 open => opened
 write 1 1 31 => Done 1 0
 write 1 1 32 => Done 2 0
 deliver 2 2 => Reported(Report { moves: Sequence { items: [] }, refused: None }) 2 0
-deliver 2 1 => Reported(Report { moves: Sequence { items: [Place { writer: Endpoint { peer: 1, number: 1 }, reader: 1, to: Sn { number: 2 }, passed: Sequence { items: [] } }] }, refused: None }) 2 0
-deliver 2 2 => Reported(Report { moves: Sequence { items: [Place { writer: Endpoint { peer: 1, number: 1 }, reader: 1, to: Sn { number: 3 }, passed: Sequence { items: [] } }] }, refused: None }) 2 0
+deliver 2 1 => Reported(Report { moves: Sequence { items: [Place { writer: Endpoint { peer: 1, number: 1 }, reader: 1, to: Sn { number: 3 }, passed: Sequence { items: [] } }] }, refused: None }) 2 0
+deliver 2 2 => Reported(Report { moves: Sequence { items: [] }, refused: None }) 2 0
 deliver 2 3 => Refused(BadParameter) 2 0
 run => as its steps
 
@@ -74,7 +74,8 @@ dispose 3 1 => Refused(BadParameter) 0 0
 unregister 3 1 => Refused(BadParameter) 0 0
 run => as its steps
 
-# Time goes on, and not back, nor to 2^63; each peer has its own. A change carries the moment of its writer's peer.
+# Time goes on, and not back, nor to 2^63; each peer has its own. A change carries the moment of its writer's peer. The reader
+# has acknowledged nothing, so that a tick after the write sends a HEARTBEAT.
 open => opened
 tick 1 7 => Done 0 0
 tick 1 7 => Done 0 0
@@ -85,10 +86,10 @@ write 1 1 31 => Done 1 0
 tick 2 3 => Done 1 0
 deliver 2 1 => Reported(Report { moves: Sequence { items: [Place { writer: Endpoint { peer: 1, number: 1 }, reader: 1, to: Sn { number: 2 }, passed: Sequence { items: [] } }] }, refused: None }) 1 0
 take 2 1 => Samples(Sequence { items: [Sample { key: Key([0, 0, 0, 0, 0, 0, 0, 0, 0, 0, 0, 0, 0, 0, 0, 1]), value: Octets { items: [49] }, info: SampleInfo { sample_state: NotRead, view_state: New, instance_state: Alive, disposed_generation_count: 0, no_writers_generation_count: 0, sample_rank: 0, generation_rank: 0, absolute_generation_rank: 0, source_timestamp: Moment { units: 7 }, instance_handle: Handle { number: 1 }, publication_handle: Handle { number: 1 }, valid_data: true } }] }) 1 0
-tick 1 9223372036854775807 => Done 1 0
-unregister 1 1 => Done 2 0
-deliver 2 2 => Reported(Report { moves: Sequence { items: [Place { writer: Endpoint { peer: 1, number: 1 }, reader: 1, to: Sn { number: 3 }, passed: Sequence { items: [] } }] }, refused: None }) 2 0
-take 2 1 => Samples(Sequence { items: [Sample { key: Key([0, 0, 0, 0, 0, 0, 0, 0, 0, 0, 0, 0, 0, 0, 0, 1]), value: Octets { items: [] }, info: SampleInfo { sample_state: NotRead, view_state: NotNew, instance_state: NotAliveDisposed, disposed_generation_count: 0, no_writers_generation_count: 0, sample_rank: 0, generation_rank: 0, absolute_generation_rank: 0, source_timestamp: Moment { units: 9223372036854775807 }, instance_handle: Handle { number: 1 }, publication_handle: Handle { number: 1 }, valid_data: false } }] }) 2 0
+tick 1 9223372036854775807 => Done 2 0
+unregister 1 1 => Done 3 0
+deliver 2 3 => Reported(Report { moves: Sequence { items: [Place { writer: Endpoint { peer: 1, number: 1 }, reader: 1, to: Sn { number: 3 }, passed: Sequence { items: [] } }] }, refused: None }) 3 0
+take 2 1 => Samples(Sequence { items: [Sample { key: Key([0, 0, 0, 0, 0, 0, 0, 0, 0, 0, 0, 0, 0, 0, 0, 1]), value: Octets { items: [] }, info: SampleInfo { sample_state: NotRead, view_state: NotNew, instance_state: NotAliveDisposed, disposed_generation_count: 0, no_writers_generation_count: 0, sample_rank: 0, generation_rank: 0, absolute_generation_rank: 0, source_timestamp: Moment { units: 9223372036854775807 }, instance_handle: Handle { number: 1 }, publication_handle: Handle { number: 1 }, valid_data: false } }] }) 3 0
 run => as its steps
 
 # A write upon a disposed instance is a rebirth: the counts and ranks of DDS 1.4, 2.2.2.5.

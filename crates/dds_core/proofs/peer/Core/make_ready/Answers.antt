@@ -9,8 +9,8 @@ use Rattle.dds_core.proofs.peer.Core.make_ready.Goals as goal
 pub returns-clause-ready : goal.returns-clause-ready
 returns-clause-ready c =
     let same = with_items_is c.self.inside.readers c.prepare.new.readers (c.prepare.ensures.alike.count ∙ c.deref_mut.ensures.len) in
-    subst (λ (rs : List ReaderKept). IfOk c.prepare.result (λ all. AreReady c.args.self.now.prefix (receiver_at c.args.receiver.now) c.args.body.now rs all.items)) (sym same)
-    (subst (λ (k : CoreKept). IfOk c.prepare.result (λ all. AreReady k.prefix (receiver_at c.args.receiver.now) c.args.body.now c.prepare.new.readers all.items)) c.self.view_is c.prepare.ensures.ready)
+    subst (λ (rs : List ReaderKept). IfOk c.prepare.result (λ all. AreReady c.args.self.now.prefix (receiver_at c.args.receiver.now) c.args.submessage.now rs all.items)) (sym same)
+    (subst (λ (k : CoreKept). IfOk c.prepare.result (λ all. AreReady k.prefix (receiver_at c.args.receiver.now) c.args.submessage.now c.prepare.new.readers all.items)) c.self.view_is c.prepare.ensures.ready)
 
 pub returns-clause-stands : goal.returns-clause-stands
 returns-clause-stands c =

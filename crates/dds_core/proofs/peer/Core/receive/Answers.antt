@@ -2,7 +2,7 @@ use Rattle.std.proofs.Common.{ℕ, List, sym, subst}
 use Rattle.rtps_wire.specs.Messages.{ReadsMessage, HasSubmessage}
 use Rattle.dds_model.specs.declared.reply.Report.{Report}
 use Rattle.dds_core.specs.Receiving.{ReceivesPacket}
-use Rattle.dds_core.proofs.Taking.{receives_message, receives_nothing, reads_nothing}
+use Rattle.dds_core.proofs.Taking.{message_bounded, receives_message, receives_nothing, reads_nothing}
 use Rattle.dds_core.proofs.peer.Core.receive.Goals as goal
 
 pub returns-in-Ok-Some : goal.returns-in-Ok-Some
@@ -22,3 +22,8 @@ pub returns-in-Err : goal.returns-in-Err
 returns-in-Err c =
     subst (λ (r : Report). ReceivesPacket c.args.self.now c.args.packet.now r c.args.self.now) (sym c.unmoved-in-Err.ensures)
     (reads_nothing c.args.self.now c.args.packet.now (subst (λ (b : List ℕ). HasSubmessage b) c.as_slice.ensures c.in-Err.ensures.memory.1))
+
+pub take_message-requires-clause-bounded : goal.take_message-requires-clause-bounded
+take_message-requires-clause-bounded c =
+    let found : ReadsMessage c.as_slice.result.now c.in-Ok-Some.read.message c.in-Ok-Some.read.stop = rw c.in-Ok-Some.field-0-is at c.in-Ok-Some.ensures.found in
+    message_bounded c.as_slice.result.now c.in-Ok-Some.read.message c.in-Ok-Some.read.stop found

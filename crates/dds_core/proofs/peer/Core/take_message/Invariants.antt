@@ -1,5 +1,6 @@
 use Rattle.std.proofs.Common.{◌≡◌}
-use Rattle.dds_core.specs.Receiving.{receiver_at, TakesTo, IsLeft}
+use Rattle.dds_core.specs.Receiving.{receiver_at, TakesTo}
+use Rattle.dds_core.proofs.Taking.{IsLeft}
 use Rattle.dds_core.proofs.peer.Core.take_message.Given as goal
 
 abbrev pub invariant-loop-index : goal.invariant-loop-index

@@ -9,7 +9,7 @@ use Rattle.dds_core.specs.Kept.{WriterKept, CoreKept}
 use Rattle.dds_core.specs.Making.{Makes}
 use Rattle.dds_core.specs.Sending.{Sends}
 use Rattle.dds_core.specs.Standing.{StandsFor, Steps, WriterStands}
-use Rattle.dds_core.proofs.CallSteps.{unregister_at, made_steps, made_sends}
+use Rattle.dds_core.proofs.CallSteps.{follows_as, unregister_at, unregistered_at, made_steps, made_sends}
 use Rattle.dds_core.proofs.peer.Core.unregister.Goals as goal
 
 -- the change is made or refused, and what goes out is said of either
@@ -24,10 +24,21 @@ unregisters c =
     let one : c.index-2.result.now ≡ c.index.result.now = same_Some c.index-2.result.now c.index.result.now (sym second ∙ first) in
     let at : slice_get c.args.self.now.writers i ≡ Some c.index.result.now = subst (λ (k : CoreKept). slice_get k.writers i ≡ Some c.index.result.now) c.self.view_is first in
     let makes = λ (config : Config) (peer : Peer) (s : StandsFor c.args.self.now config peer). unregister_at c.args.self.now c.args.writer i c.index.result.now c.args.key c.unregister_kind-kind.result config peer s c.in-Some.ensures.0 within at
-    (λ w stands. sym (c.is_registered.ensures w stands) ∙ c.if-not-is_registered.false) (λ w stands. c.unregister_kind-kind.ensures w (subst (λ (k : WriterKept). WriterStands k w) (sym one) stands)) in (
+    (λ w answered stands. sym (c.is_registered.ensures w answered stands) ∙ c.if-not-is_registered.false)
+    (λ w answered stands. c.unregister_kind-kind.ensures w answered (subst (λ (k : WriterKept). WriterStands k w answered) (sym one) stands)) in (
       λ config peer s. made_steps c.args.self.now c.make.new.self config peer s (call.Unregister c.args.writer c.args.key) _ _ c.make.result (makes config peer s) (made config peer s),
       λ config peer s. made_sends c.make.new.self config peer (call.Unregister c.args.writer c.args.key) _ _ c.make.result (makes config peer s) (made config peer s),
     )
+
+pub returns-then-not-is_registered-clause-step : goal.returns-then-not-is_registered-clause-step
+returns-then-not-is_registered-clause-step c = λ config peer s.
+    let i = c.in-Some.index in
+    let within : i < length c.args.self.now.writers = search rules in
+    let here : i < length c.self.inside.writers.items = let same = ap (λ (k : CoreKept). length k.writers) c.self.view_is in omega (arith, within, same) in
+    let there : slice_get c.self.inside.writers.items i ≡ Some c.index.result.now = slice_get-get_or c.self.inside.writers.items i _ here ∙ ap (λ (x : WriterKept). Some x) (sym c.index.ensures) in
+    let at : slice_get c.args.self.now.writers i ≡ Some c.index.result.now = subst (λ (k : CoreKept). slice_get k.writers i ≡ Some c.index.result.now) c.self.view_is there in
+    follows_as _ config peer _ _ _ c.refused-then-not-is_registered.ensures
+    (unregistered_at c.args.self.now c.args.writer i c.index.result.now c.args.key config peer s c.in-Some.ensures.0 within at (λ w answered stands. sym (c.is_registered.ensures w answered stands) ∙ c.if-not-is_registered.true))
 
 pub returns-clause-step : goal.returns-clause-step
 returns-clause-step c = (unregisters c).0

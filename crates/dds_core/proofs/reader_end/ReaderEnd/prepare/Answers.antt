@@ -1,16 +1,12 @@
-use Rattle.std.proofs.Common.{◌∙◌, ap, sym, subst}
-use Rattle.dds_core.specs.Kept.{ReaderKept}
-use Rattle.dds_core.specs.Receiving.{receiver_at, IsNext}
-use Rattle.rtps_wire.specs.declared.data.DataContent.{DataContent}
-use Rattle.rtps_wire.specs.Content.{change_in}
-use Rattle.std.specs.Prelude.{ℕ}
-use Rattle.dds_core.proofs.ReaderEnds.{with_room}
+use Rattle.std.proofs.Common.{ℕ, subst}
+use Rattle.dds_base.specs.declared.guid.EntityId.{EntityId}
+use Rattle.dds_core.specs.Receiving.{receiver_at, IsNamedFor}
+use Rattle.dds_core.proofs.Named.{names_one}
 use Rattle.dds_core.proofs.reader_end.ReaderEnd.prepare.Goals as goal
 
-pub returns-clause-ready : goal.returns-clause-ready
-returns-clause-ready c =
-    let next = subst (λ (k : ReaderKept). IsNext c.args.own.now k (receiver_at c.args.receiver.now) c.args.body.now c.in-Some.row) (sym c.self.view_is) c.in-Some.ensures.found in (
-      with_room c.args.own.now _ c.reserve.new.self (receiver_at c.args.receiver.now) c.args.body.now c.in-Some.row next,
-      c.into_change-change.ensures ∙ (ap (λ (x : DataContent). change_in x c.new.result) c.in_ok-content.ensures ∙ ap (λ (n : ℕ). change_in c.args.body.now.content n) c.new.ensures),
-      c.in_ok-reserve.ensures.room,
-    )
+pub returns-in_default-row_of-clause-ready : goal.returns-in_default-row_of-clause-ready
+returns-in_default-row_of-clause-ready c = λ reader_id writer_id by k here.
+    let one = names_one c.args.submessage.now reader_id writer_id c.in-Some.ids.reader c.in-Some.ids.writer by c.in-Some.ensures in
+    c.in_default-row_of.ensures.none k
+    (subst (λ (w : EntityId). IsNamedFor c.args.own.now c.args.self.now (receiver_at c.args.receiver.now) c.in-Some.ids.reader w k) one.1
+    (subst (λ (r : EntityId). IsNamedFor c.args.own.now c.args.self.now (receiver_at c.args.receiver.now) r writer_id k) one.0 here))

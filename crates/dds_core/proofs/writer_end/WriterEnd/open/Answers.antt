@@ -1,9 +1,16 @@
-use Rattle.std.proofs.Common.{◌≡◌, length, rules}
+use mir.Val.{SFits}
+use Rattle.std.proofs.Common.{◌≡◌, length, rules, ◌∙◌, ap}
+use Rattle.std.specs.Prelude.{ℤ}
+use Rattle.std.specs.Int.{w32}
+use Rattle.std.proofs.lemmas.Int.{to_z-of_z}
+use Rattle.dds_model.specs.Calls.{limit_of}
 use Rattle.dds_core.proofs.WriterEnds.{opens_writer}
 use Rattle.dds_core.proofs.writer_end.WriterEnd.open.Goals as goal
 
 pub returns : goal.returns
 returns c =
     let counted : c.len.result ≡ length c.in_ok-readers.readers.items = search rules in
-    opens_writer c.args.peers.now c.args.config.now c.in_ok-destinations.destinations.items c.in_ok-readers.readers.items c.new.result.items c.in-Ok.history c.len.result counted c.requires.plain
-    c.in_ok-destinations.ensures c.in_ok-readers.ensures c.new.ensures.items c.in-Ok.ensures.ok
+    let fits : SFits w32 c.args.config.now.max_samples = search rules in
+    let limit = c.limit_of-limit.ensures ∙ ap (λ (z : ℤ). limit_of z) (to_z-of_z w32 c.args.config.now.max_samples fits) in
+    opens_writer c.args.peers.now c.args.config.now c.in_ok-destinations.destinations.items c.in_ok-readers.readers.items c.limit_of-limit.result c.in-Ok.writer c.len.result counted
+    c.in_ok-destinations.ensures.names c.in_ok-readers.ensures limit c.in-Ok.ensures.ok

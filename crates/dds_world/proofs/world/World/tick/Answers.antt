@@ -1,8 +1,6 @@
 use Rattle.std.proofs.Common.{◌≡◌, ℕ, false, length, subst}
 use Rattle.std.specs.Prelude.{◌&&◌, nat_lt, nat_le}
-use Rattle.dds_base.specs.declared.code.Code.TheVariants.{BadParameter}
-use Rattle.dds_model.specs.declared.reply.Reply.TheVariants.{Refused}
-use Rattle.dds_world.proofs.Sends.{ticked_sends, quiet_tick_sends}
+use Rattle.dds_world.proofs.Sends.{ticked_sends, refused_tick_sends}
 use Rattle.dds_world.proofs.WorldSteps.{ticked, unknown_tick}
 use Rattle.dds_world.proofs.world.World.tick.Goals as goal
 
@@ -10,7 +8,7 @@ pub returns-in-Some-clause-step : goal.returns-in-Some-clause-step
 returns-in-Some-clause-step c = ticked c.args.self.now c.happen_at.new.self c.in-Some.index c.args.peer c.args.now c.happen_at.result c.in-Some.ensures.0 c.happen_at.ensures.acts
 
 pub returns-in-Some-clause-sends : goal.returns-in-Some-clause-sends
-returns-in-Some-clause-sends c = ticked_sends c.args.self.now c.happen_at.new.self c.in-Some.index c.args.peer c.args.now c.happen_at.result c.happen_at.ensures
+returns-in-Some-clause-sends c = ticked_sends c.args.self.now c.happen_at.new.self c.in-Some.index c.args.peer c.args.now c.happen_at.result c.in-Some.ensures.0 c.happen_at.ensures
 
 pub returns-in-None-clause-step : goal.returns-in-None-clause-step
 returns-in-None-clause-step c =
@@ -18,4 +16,4 @@ returns-in-None-clause-step c =
     unknown_tick c.args.self.now c.args.peer c.args.now none
 
 pub returns-in-None-clause-sends : goal.returns-in-None-clause-sends
-returns-in-None-clause-sends c = quiet_tick_sends c.args.self.now c.args.peer c.args.now (Refused BadParameter)
+returns-in-None-clause-sends c = refused_tick_sends c.args.self.now c.args.peer c.args.now

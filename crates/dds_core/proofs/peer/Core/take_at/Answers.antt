@@ -1,0 +1,16 @@
+use Rattle.std.proofs.Common.{◌≡◌, Some, List, slice_get, get_or, refl, sym, ◌∙◌, ap, subst}
+use Rattle.std.proofs.lemmas.Option.{get_or_from_slice_get, slice_get-get_or}
+use Rattle.dds_core.specs.declared.matching.WriterName.{WriterName}
+use Rattle.dds_core.specs.Kept.{ReaderKept, CoreKept}
+use Rattle.dds_core.specs.Receiving.{CanTake, TookAt, TakesTold, SameReader, moves_of}
+use Rattle.dds_core.proofs.Ends.{with_reader}
+use Rattle.dds_core.proofs.Ready.{took_by}
+use Rattle.dds_core.proofs.peer.Core.take_at.Goals as goal
+
+pub returns-clause-takes : goal.returns-clause-takes
+returns-clause-takes c = λ k at.
+    let there : slice_get c.self.inside.readers.items c.args.index ≡ Some k = subst (λ (q : CoreKept). slice_get q.readers c.args.index ≡ Some k) (sym c.self.view_is) at in
+    let is_k : c.index_mut-end.result.now ≡ k = c.index_mut-end.ensures.value ∙ get_or_from_slice_get c.self.inside.readers.items c.args.index k _ there in
+    took_by c.args.self.now c.args.index c.args.ready k c.index_mut-end.result.now c.take_up-step.new.self c.args.moves.now.items _ c.push_moves.new.moves.items c.writer-writer.result c.place-from.result c.take_up-step.result is_k c.requires.can at
+    c.writer-writer.ensures c.place-from.ensures (ap (λ (q : CoreKept). q.moment) c.self.view_is) c.take_up-step.ensures.told c.take_up-step.ensures.same (ap (λ (q : CoreKept). with_reader q c.args.index c.take_up-step.new.self) c.self.view_is)
+    c.push_moves.ensures.moved

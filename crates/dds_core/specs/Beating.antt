@@ -1,0 +1,103 @@
+-- The HEARTBEATs of a peer's writers at a tick, by what the peer keeps. Inner functions alone cite this: nothing here has to
+-- be believed.
+--
+-- RTPS 2.5, 8.4.9 (reliable StatefulWriter: heartbeatPeriod), 8.3.8 (Heartbeat).
+use Rattle.std.specs.Prelude.{◌≡◌, ◌⊎◌, ℕ, ◌+◌, ◌-◌, ◌^◌, ◌≤◌, ◌==◌, ◌&&◌, Bool, if◌then◌else◌, nat_lt, nat_le, false, List, [], ◌∷◌, ◌++◌, length, map, filter, Option, ℤ}
+use Rattle.std.specs.List.{list_any}
+use Rattle.dds_base.specs.declared.guid.GuidPrefix.{GuidPrefix}
+use Rattle.dds_base.specs.Written.{counts_of}
+use Rattle.rtps_wire.specs.declared.message.Message.{Message}
+use Rattle.rtps_wire.specs.declared.submessage.Submessage.TheVariants.{InfoDst, Heartbeat}
+use Rattle.rtps_wire.specs.Messages.{IsWritable, spelling_of}
+use Rattle.rtps_writer.specs.declared.heartbeat.HeartbeatDue.{HeartbeatDue}
+use Rattle.rtps_writer.specs.Standing.{Kept, StandsFor as RtpsStandsFor}
+use Rattle.dds_model.specs.declared.endpoint.Endpoint.{Endpoint}
+use Rattle.dds_model.specs.declared.event.Packet.{Packet}
+use Rattle.dds_model.specs.Part.{ReaderProxy, Writer, writer_changes, has_readers}
+use Rattle.dds_model.specs.Claims.{every_reader}
+use Rattle.dds_model.specs.Protocol.{Due, heartbeat_message}
+use Rattle.dds_core.specs.declared.heartbeat.Beat.{Beat}
+use Rattle.dds_core.specs.declared.matching.Destination.{Destination}
+use Rattle.dds_core.specs.declared.matching.ReaderName.{ReaderName}
+use Rattle.dds_core.specs.Kept.{WriterKept}
+use Rattle.dds_core.specs.Standing.{WriterStands, WritersStand, state_of}
+
+-- the numbers of a HEARTBEAT that can be written
+pub record IsValid (due : HeartbeatDue) : Type 0 where
+  pub first : 1 ≤ due.first
+  pub not_past : due.first ≤ due.last + 1
+  pub last : due.last ≤ 2 ^ 48
+
+-- the HEARTBEAT as a message to the peer of this prefix
+abbrev pub message_to : Beat → GuidPrefix → Message
+message_to beat to = record {
+  prefix = beat.prefix;
+  submessages = InfoDst to ∷ Heartbeat (record {
+    reader_id = every_reader;
+    writer_id = beat.entity;
+    first_sn = beat.due.first;
+    last_sn = beat.due.last;
+    count = beat.due.count;
+    final_flag = false;
+    liveliness_flag = false;
+  }) ∷ [];
+}
+
+-- a message that is due to a peer
+abbrev pub due_to : ℕ → Message → Due
+due_to to message = record { to = to; message = message }
+
+-- some matched reader of this peer has not acknowledged all changes of the writer
+abbrev pub is_peer_behind : Writer → ℕ → Bool
+is_peer_behind w peer = list_any (λ (p : ReaderProxy). (p.reader.peer == peer) && nat_le p.acknowledged (length (writer_changes w))) w.readers
+
+-- those of these peers with a reader that is behind
+abbrev pub peers_behind : Writer → List Destination → List Destination
+peers_behind w ds = filter (λ (d : Destination). is_peer_behind w d.peer) ds
+
+-- the HEARTBEAT to each of those peers
+abbrev pub beats_to : Beat → Writer → List Destination → List Due
+beats_to beat w ds = map (λ (d : Destination). due_to d.peer (message_to beat d.prefix)) (peers_behind w ds)
+
+-- what is due at a tick of a writer, from a peer of this prefix
+abbrev pub beats_of : GuidPrefix → WriterKept → Writer → List Due
+beats_of prefix kept w =
+    if nat_lt (length (counts_of (has_readers w) w.written)) (2 ^ 31 - 1)
+    then map (λ (d : Destination). due_to d.peer (heartbeat_message prefix d.prefix kept.entity w)) (peers_behind w kept.destinations)
+    else []
+
+-- what is due at a tick of these writers, in their order
+abbrev pub beats_of_all : GuidPrefix → List WriterKept → List Writer → List Due
+beats_of_all prefix [] ws = []
+beats_of_all prefix (k ∷ ks) [] = []
+beats_of_all prefix (k ∷ ks) (w ∷ ws) = beats_of prefix k w ++ beats_of_all prefix ks ws
+
+-- of the messages that are due these packets are sent, in their order, each of which can be written; so many more found no
+-- memory
+abbrev pub AreWritten : List Due → List Packet → ℕ → Type 0
+AreWritten [] packets unsent = (packets ≡ []) × (unsent ≡ 0)
+AreWritten (due ∷ dues) packets unsent =
+    ((rest : List Packet) × (packets ≡ record { to = due.to; bytes = spelling_of due.message } ∷ rest) × IsWritable due.message × AreWritten dues rest unsent)
+    ⊎ ((fewer : ℕ) × (unsent ≡ fewer + 1) × AreWritten dues packets fewer)
+
+-- so it is of what was added
+pub record Adds (dues : List Due) (old : List Packet) (before : ℕ) (new : List Packet) (after : ℕ) : Type 0 where
+  pub packets : List Packet
+  pub unsent : ℕ
+  pub sent : new ≡ old ++ packets
+  pub lost : after ≡ before + unsent
+  pub written : AreWritten dues packets unsent
+
+-- for each writer that a writer's parts stand for, the HEARTBEATs to these peers are added
+abbrev pub Beats : Beat → Kept → List ReaderName → List Destination → List Packet → ℕ → List Packet → ℕ → Type 0
+Beats beat kept readers ds old before new after = (w : Writer) (answered : Endpoint → Option ℤ)
+    → map (λ (p : ReaderProxy). p.reader) w.readers ≡ map (λ (r : ReaderName). r.reader) readers → RtpsStandsFor kept (state_of w answered)
+    → Adds (beats_to beat w ds) old before new after
+
+-- for each writer that is stood for, what is due at its tick is added
+abbrev pub BeatsOf : GuidPrefix → WriterKept → List Packet → ℕ → List Packet → ℕ → Type 0
+BeatsOf prefix kept old before new after = (w : Writer) (answered : Endpoint → Option ℤ) → WriterStands kept w answered → Adds (beats_of prefix kept w) old before new after
+
+-- the same of a peer's writers, from the first
+abbrev pub BeatsOfAll : GuidPrefix → List WriterKept → List Packet → ℕ → Type 0
+BeatsOfAll prefix kept packets unsent = (ws : List Writer) (answered : ℕ → Endpoint → Option ℤ) → WritersStand kept ws answered → AreWritten (beats_of_all prefix kept ws) packets unsent

@@ -1,9 +1,0 @@
--- The instances that a writer has registered, as a list of their keys.
-use Rattle.std.specs.Prelude.{Bool, List}
-use Rattle.std.specs.List.{list_any}
-use Rattle.dds_base.specs.declared.key.Key.{Key}
-use Rattle.dds_base.specs.Happening.{same_key}
-
--- the instance is one of these
-abbrev pub is_among : List Key → Key → Bool
-is_among keys key = list_any (λ k. same_key k key) keys

@@ -1,0 +1,122 @@
+//! The HEARTBEATs of a writer at a tick: one to each peer with a matched reader that is behind.
+//!
+//! RTPS 2.5, 8.4.9 (reliable StatefulWriter: heartbeatPeriod), 8.3.8 (Heartbeat).
+
+ghost use Rattle.std.specs.Prelude.{◌≡◌, ◌+◌, ◌^◌, ◌≤◌, ◌<◌, ℤ, Option, length, map, IfOk, [], ◌∷◌};
+ghost use Rattle.std.specs.Result.{ForOk};
+ghost use Rattle.rtps_wire.specs.declared.message.Message.{Message as MessageOf};
+ghost use Rattle.rtps_wire.specs.Messages.{IsWritable};
+ghost use Rattle.rtps_writer.specs.Standing.{reader_count, StandsFor as RtpsStandsFor};
+ghost use Rattle.dds_model.specs.declared.endpoint.Endpoint.{Endpoint};
+ghost use Rattle.dds_model.specs.Part.{ReaderProxy, Writer};
+ghost use Rattle.dds_core.specs.declared.matching.ReaderName.{ReaderName as NameOf};
+ghost use Rattle.dds_core.specs.Beating.{IsValid, message_to, due_to, is_peer_behind, Adds, Beats};
+ghost use Rattle.dds_core.specs.Sending.{AreMessages};
+ghost use Rattle.dds_core.specs.Standing.{state_of};
+
+use crate::matching::{Destination, ReaderName};
+use crate::sending::{Announced, push_packet};
+use dds_base::{EntityId, GuidPrefix};
+use rtps_wire::{Heartbeat, Message, Submessage, Submessages};
+use rtps_writer::{HeartbeatDue, StatefulWriter};
+use std::alloc::{AllocError, Global};
+
+/// A HEARTBEAT of a writer, without a peer that it is for.
+#[derive(Clone, Copy)]
+pub struct Beat {
+    pub prefix: GuidPrefix,
+    /// The writer.
+    pub entity: EntityId,
+    pub due: HeartbeatDue,
+}
+
+/// The HEARTBEAT, as a message to the peer of this prefix.
+fn message(alloc: Global, beat: &Beat, to: GuidPrefix) -> Result<Message, AllocError>
+    requires { IsValid beat.now.due }
+    ensures says { IfOk result (λ m. m ≡ message_to beat.now to) }
+    ensures writable { IfOk result IsWritable }
+    ensures some { IfOk result (λ m. 1 ≤ length m.submessages) }
+{
+    // These show the prover how many octets the names have.
+    let (_prefix, _entity, _to) = (
+        beat.prefix.as_slice(),
+        beat.entity.as_slice(),
+        to.as_slice(),
+    );
+    let heartbeat = Heartbeat {
+        reader_id: EntityId::UNKNOWN,
+        writer_id: beat.entity,
+        first_sn: beat.due.first,
+        last_sn: beat.due.last,
+        count: beat.due.count,
+        final_flag: false,
+        liveliness_flag: false,
+    };
+    let submessages = vec![in alloc; Submessage::InfoDst(to), Submessage::Heartbeat(heartbeat)]?;
+    Ok(Message {
+        prefix: beat.prefix,
+        submessages: Submessages::from_vec(submessages),
+    })
+}
+
+/// Sends a message that is due to a peer, or counts it where it finds no memory.
+fn send(alloc: Global, sent: &mut Announced, message: Result<Message, AllocError>, to: u8)
+    requires writable { ForOk message IsWritable }
+    requires some { ForOk message (λ m. 1 ≤ length m.submessages) }
+    requires room { sent.old.unsent < 2 ^ 32 }
+    ensures few { sent.new.unsent ≤ sent.old.unsent + 1 }
+    ensures adds { (m : MessageOf) → IfOk message (λ x. x ≡ m) → Adds (due_to to m ∷ []) sent.old.packets.items sent.old.unsent sent.new.packets.items sent.new.unsent }
+    ensures messages { AreMessages sent.old.packets.items → AreMessages sent.new.packets.items }
+{
+    let Ok(message) = message else {
+        sent.unsent += 1;
+        return;
+    };
+    let before = sent.packets.len();
+    push_packet(alloc, &mut sent.packets, &message, to);
+    if sent.packets.len() == before {
+        sent.unsent += 1;
+    }
+}
+
+/// Whether some reader of this peer, among these readers of a writer, has not acknowledged all changes.
+///
+/// RTPS 2.5, 8.4.9 (ReaderProxy, unacked_changes).
+fn is_peer_behind(writer: &StatefulWriter, readers: &[ReaderName], peer: u8) -> bool
+    requires { reader_count writer.now ≡ length readers.now }
+    ensures { (w : Writer) (answered : Endpoint → Option ℤ)
+        → map (λ (p : ReaderProxy). p.reader) w.readers ≡ map (λ (r : NameOf). r.reader) readers.now → RtpsStandsFor writer.now (state_of w answered)
+        → result ≡ is_peer_behind w peer }
+{
+    for (index, name) in readers.iter().enumerate() {
+        if name.reader.peer == peer && writer.is_behind(index) {
+            return true;
+        }
+    }
+    false
+}
+
+/// Sends a HEARTBEAT to each of these peers with a reader that is behind, among these readers of a writer.
+pub fn send_beats(
+    alloc: Global,
+    beat: &Beat,
+    writer: &StatefulWriter,
+    readers: &[ReaderName],
+    destinations: &[Destination],
+    sent: &mut Announced,
+)
+    requires valid { IsValid beat.now.due }
+    requires count { reader_count writer.now ≡ length readers.now }
+    requires few { length destinations.now ≤ 16 }
+    requires room { sent.old.unsent ≤ 256 }
+    ensures few { sent.new.unsent ≤ sent.old.unsent + 16 }
+    ensures beats { Beats beat.now writer.now readers.now destinations.now sent.old.packets.items sent.old.unsent sent.new.packets.items sent.new.unsent }
+    ensures messages { AreMessages sent.old.packets.items → AreMessages sent.new.packets.items }
+{
+    for destination in destinations {
+        if is_peer_behind(writer, readers, destination.peer) {
+            let message = message(alloc, beat, destination.prefix);
+            send(alloc, sent, message, destination.peer);
+        }
+    }
+}

@@ -1,0 +1,104 @@
+//! Where a reader's changes go: its cache, with its room.
+//!
+//! RTPS 2.5, 8.2 (HistoryCache of a reader); DDS 1.4, 2.2.3 (RESOURCE_LIMITS).
+
+ghost use Rattle.std.specs.Prelude.{◌≡◌, None, ℕ, List, []};
+ghost use Rattle.dds_base.specs.declared.happening.Happening.{Happening};
+ghost use Rattle.dds_base.specs.declared.happening.Happening.TheVariants.{Took};
+ghost use Rattle.dds_cache.specs.Standing.{qos_of, Answers, AfterAccess};
+ghost use Rattle.dds_core.specs.Stored.{StoreKept, Holds, Counts};
+
+use dds_base::{Arrival, Code, Handle, Masks, Moment, ReaderQos, Sample, Sequence, Sn};
+use dds_cache::ReaderCache;
+use rtps_reader::Sink;
+use std::alloc::Global;
+use std::marker::Model;
+
+/// Fewer changes than this come at a reader.
+const MAX_ARRIVALS: u32 = (1 << 31) - 1;
+
+/// What a reader without limits stores, and how many changes came.
+#[derive(Drop)]
+pub struct Store {
+    /// At most `MAX_ARRIVALS`, where it stays.
+    arrivals: u32,
+    cache: ReaderCache,
+}
+
+impl Model for Store {
+    ghost use Rattle.dds_core.specs.Stored.{StoreKept, IsPlain};
+
+    ghost Value = { StoreKept };
+
+    ghost view = { λ s. record { arrivals = s.arrivals; cache = s.cache } };
+
+    ghost invariant = { λ s. IsPlain (record { arrivals = s.arrivals; cache = s.cache }) };
+}
+
+impl Store {
+    /// Of a reader without limits, at which nothing has happened.
+    pub fn open(alloc: Global, qos: ReaderQos) -> Store
+        requires samples { qos.max_samples ≡ None }
+        requires instances { qos.max_instances ≡ None }
+        ensures opening { Holds result [] }
+        ensures qos { qos_of result.cache ≡ qos }
+    {
+        Store {
+            arrivals: 0,
+            cache: ReaderCache::open(alloc, qos),
+        }
+    }
+
+    /// One more change came.
+    fn count(&mut self)
+        ensures arrivals { Counts self.old.arrivals self.new.arrivals }
+        ensures cache { self.new.cache ≡ self.old.cache }
+    {
+        if self.arrivals < MAX_ARRIVALS {
+            self.arrivals += 1;
+        }
+    }
+
+    /// Takes samples, as the cache does.
+    pub fn take(&mut self, max: Option<u32>, masks: Masks) -> Result<Sequence<Sample>, Code>
+        ensures answer { (h : List Happening) → Holds self.old h → Answers self.old.cache h max masks result }
+        ensures after { (h : List Happening) → Holds self.old h → AfterAccess Took self.old.cache h max masks result self.new.cache }
+        ensures qos { qos_of self.new.cache ≡ qos_of self.old.cache }
+        ensures arrivals { self.new.arrivals ≡ self.old.arrivals }
+    {
+        self.cache.take(max, masks)
+    }
+}
+
+impl Sink for Store {
+    ghost use Rattle.dds_cache.specs.Standing.{qos_of, room_of};
+    ghost use Rattle.dds_core.specs.Stored.{Holds};
+
+    ghost stands = { λ s h. Holds s h };
+
+    ghost qos = { λ s. qos_of s.cache };
+
+    ghost spare = { λ s. room_of s.cache };
+
+    fn reserve(&mut self, n: usize) -> Result<(), Code> {
+        self.cache.reserve(n)
+    }
+
+    fn room(&self, _: &Arrival) -> bool {
+        self.arrivals + 1 < MAX_ARRIVALS
+    }
+
+    fn come(&mut self, arrival: Arrival) -> Result<(), Code> {
+        self.cache.come(arrival)?;
+        self.count();
+        Ok(())
+    }
+
+    fn pass(&mut self, writer: Handle, first: Sn, last: Sn) -> Result<(), Code> {
+        self.cache.pass(writer, first, last)
+    }
+
+    fn hear(&mut self, writer: Handle, moment: Moment) -> Result<(), Code> {
+        self.cache.hear(writer, moment)
+    }
+}
