@@ -1,7 +1,7 @@
 -- What a HEARTBEAT does, and the ACKNACK due to it once the place went on.
 --
 -- RTPS 2.5, 8.4.12 (reliable StatefulReader: when to send an ACKNACK), 8.3.8 (AckNack).
-use Rattle.std.specs.Prelude.{◌≡◌, ℕ, ◌+◌, ◌-◌, ◌<◌, ◌≤◌, ◌^◌, ◌⊎◌, List, [], ◌∷◌, Bool, true, false, ◌&&◌, nat_le}
+use Rattle.std.specs.Prelude.{◌≡◌, ℕ, ◌+◌, ◌-◌, ◌<◌, ◌≤◌, ◌^◌, ◌⊎◌, List, [], ◌∷◌, length, Bool, true, false, ◌&&◌, nat_le}
 use Rattle.std.specs.Prelude.{Option, None, Some, pos, if◌then◌else◌}
 use Rattle.rtps_sets.specs.NumberSet.{has_number}
 use Rattle.dds_base.specs.declared.happening.Happening.{Happening}
@@ -39,6 +39,12 @@ abbrev pub Answers : Tracked → ℕ → Bool → Option AckNackDue → Type 0
 Answers t last is_final None = CanNotAnswer t ⊎ ((is_final ≡ true) × IsComplete t last)
 Answers t last is_final (Some due) = (t.place ≤ 2 ^ 62) × (t.acknacks < 2 ^ 31 - 1)
     × (is_final ≡ true → due.is_final ≡ false) × Tells t last due
+
+-- it has a written form: its set begins with a number from 1 to 2^62, and has its 256 places (RTPS 2.5, 9.4.5: AckNack)
+pub record IsSayable (due : AckNackDue) : Type 0 where
+  pub first : 1 ≤ due.missing.base
+  pub small : due.missing.base ≤ 2 ^ 62
+  pub places : length due.missing.members ≡ 256
 
 -- what is known once the answer was made: its count is used
 abbrev pub answered : Option AckNackDue → Tracked → Tracked

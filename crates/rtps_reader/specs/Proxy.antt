@@ -43,9 +43,10 @@ tracked p = record {
   acknacks = p.acknacks;
 }
 
--- a number that is marked as held has its change, and no number is so great that a sum overflows
+-- a number that is marked as held has its change, the place is a number, and none is so great that a sum overflows
 pub record IsSound (p : WriterProxy) : Type 0 where
   pub kept : (n : ℕ) → mark_of p.window n ≡ Some mark.Held → is_some (change_at p.held.items n) ≡ true
+  pub from : 1 ≤ place_of p.window
   pub unmarked : (n : ℕ) → 2 ^ 62 + 256 ≤ n → mark_of p.window n ≡ None
   pub place_is_small : place_of p.window ≤ 2 ^ 62 + 256
   pub first_is_small : p.first ≤ 2 ^ 62

@@ -1,10 +1,10 @@
 //! A reliable reader and its matched writers.
 
-ghost use Rattle.std.specs.Prelude.{◌≡◌, ℕ, ◌+◌, ◌-◌, ◌^◌, ◌<◌, ◌≤◌, List, length, true, false, OnOk, OnErr, IsOk, IfOk, IfErr};
+ghost use Rattle.std.specs.Prelude.{◌≡◌, ℕ, ◌+◌, ◌-◌, ◌^◌, ◌<◌, ◌≤◌, List, length, true, false, OnOk, OnErr, IsOk, IfOk, IfErr, IfSome};
 ghost use Rattle.dds_base.specs.declared.code.Code.TheVariants.{Memory};
 ghost use Rattle.dds_base.specs.declared.happening.Happening.{Happening};
 ghost use Rattle.rtps_reader.specs.Tracked.{Tracked, fresh, is_later, with_data, with_gap};
-ghost use Rattle.rtps_reader.specs.Answer.{IsIdle};
+ghost use Rattle.rtps_reader.specs.Answer.{IsIdle, IsSayable};
 ghost use Rattle.rtps_reader.specs.Reader.{Tracks, count_of, IsReady, AllStay, OthersStay, match_at, MovesOn, TakesHeartbeat};
 
 use crate::sink::Sink;
@@ -137,6 +137,8 @@ impl StatefulReader {
             → Tracks self.old writer t → S.stands sink.old h
             → MovesOn (match_at (S.qos sink.old) writer moment) (with_data number change t) h step
             (Tracks self.new writer) (S.stands sink.new)) }
+        // An ACKNACK that is due can be written.
+        ensures sayable { IfOk result (λ step. IfSome step.acknack IsSayable) }
         // Nothing becomes known of other writers.
         ensures others { OthersStay writer self.old self.new }
         // The writers stay.
@@ -187,6 +189,8 @@ impl StatefulReader {
             → Tracks self.old writer t → S.stands sink.old h
             → MovesOn (match_at (S.qos sink.old) writer moment) (with_gap start list.now t) h step
             (Tracks self.new writer) (S.stands sink.new)) }
+        // An ACKNACK that is due can be written.
+        ensures sayable { IfOk result (λ step. IfSome step.acknack IsSayable) }
         // Nothing becomes known of other writers.
         ensures others { OthersStay writer self.old self.new }
         // The writers stay.
@@ -241,6 +245,8 @@ impl StatefulReader {
         ensures repeated { (t : Tracked) (h : List Happening)
             → Tracks self.old writer t → S.stands sink.old h → is_later t.count heartbeat.now.count ≡ false
             → IsOk result × IfOk result (λ step. IsIdle t.place step × Tracks self.new writer t × S.stands sink.new h) }
+        // An ACKNACK that is due can be written.
+        ensures sayable { IfOk result (λ step. IfSome step.acknack IsSayable) }
         // Nothing becomes known of other writers.
         ensures others { OthersStay writer self.old self.new }
         // The writers stay.

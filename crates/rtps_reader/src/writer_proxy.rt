@@ -13,7 +13,7 @@ ghost use Rattle.rtps_sets.specs.declared.window.Mark.TheVariants as mark;
 ghost use Rattle.rtps_reader.specs.Tracked.{Tracked, Held, fresh, is_named, is_passable, is_later, with_data, with_gap, with_heartbeat, SameTracked};
 ghost use Rattle.rtps_reader.specs.Advance.{ArePassable, PassesOver, HandsOn, Moves, run_of, passed_from};
 ghost use Rattle.rtps_reader.specs.Proxy.{match_of, change_at, stamped, tracked, mark_named, IsSound, CanMove, IsProxyReady};
-ghost use Rattle.rtps_reader.specs.Answer.{Answers, HeartbeatMoves, IsIdle, answered, heard_after};
+ghost use Rattle.rtps_reader.specs.Answer.{Answers, HeartbeatMoves, IsIdle, IsSayable, answered, heard_after};
 
 use crate::sink::Sink;
 use crate::step::{AckNackDue, HeartbeatSeen, Step};
@@ -383,6 +383,7 @@ impl WriterProxy {
         ensures sound { IsSound self.new }
         ensures answers { Answers (tracked self.old) last is_final result }
         ensures counted { tracked self.new ≡ answered result (tracked self.old) }
+        ensures sayable { IfSome result IsSayable }
     {
         let base = self.window.place();
         if base.number() > MAX_NUMBER || self.acknacks >= MAX_COUNT {
@@ -395,7 +396,7 @@ impl WriterProxy {
         }
         self.acknacks += 1;
         Some(AckNackDue {
-            base,
+            base: missing.base(),
             missing,
             count: self.acknacks as i32,
             is_final: is_complete,
@@ -491,6 +492,7 @@ impl WriterProxy {
         ensures sound { IsSound self.new }
         ensures moves { is_later self.old.count heartbeat.now.count ≡ true → IfOk result (λ step. HeartbeatMoves (match_of (S.qos sink.old) source.now) (S.stands sink.old) (S.stands sink.new) (tracked self.old) heartbeat.now step (tracked self.new)) }
         ensures repeated { is_later self.old.count heartbeat.now.count ≡ false → (self.new ≡ self.old) × (sink.new ≡ sink.old) × IsOk result × IfOk result (λ step. IsIdle (tracked self.old).place step) }
+        ensures sayable { IfOk result (λ step. IfSome step.acknack IsSayable) }
         ensures qos { S.qos sink.new ≡ S.qos sink.old }
         ensures err { OnErr result (SameTracked (tracked self.old) (tracked self.new)) }
         ensures sink_err { OnErr result ((h : List Happening) → S.stands sink.old h → S.stands sink.new h) }

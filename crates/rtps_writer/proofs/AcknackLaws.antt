@@ -6,9 +6,10 @@ use Rattle.dds_base.specs.Kept.{acknowledge}
 use Rattle.dds_base.specs.Written.{counts_of}
 use Rattle.dds_history.specs.Standing.{Held, StandsFor as HistoryStandsFor}
 use Rattle.rtps_sets.specs.NumberSet.{NumberSet}
-use Rattle.rtps_writer.specs.Acknack.{acknack_answers, after_acknack, answers_after, applied, if_later, is_applied, is_new_count, newly_acknowledged}
+use Rattle.rtps_writer.specs.declared.answer.Answer.{Answer}
+use Rattle.rtps_writer.specs.Acknack.{acknack_answers, after_acknack, answers_after, applied, is_applied, is_new_count, newly_acknowledged}
 use Rattle.rtps_writer.specs.Standing.{Kept, StandsFor, reader_count}
-use Rattle.rtps_writer.specs.WriterState.{WriterState, acknowledged_by, counts_due, history_of, last_of}
+use Rattle.rtps_writer.specs.WriterState.{WriterState, counts_due, history_of, last_of}
 
 -- whether it is applied, by the last count that is kept
 pub is_applied-at : (kept : Kept) (s : WriterState) (reader base : ℕ) (count : ℤ) (last : Option ℤ) → StandsFor kept s
@@ -26,37 +27,40 @@ after-applied s reader base count is = ap (λ (b : Bool). if b then applied s re
 
 -- a writer to which one was applied
 pub acknack-stands : (kept : Kept) (s : WriterState) (reader base : ℕ) (count : ℤ) (held : Held)
-    (counts : List (Option ℤ)) → StandsFor kept s → is_applied s reader base count ≡ true
+    (counts : List (Option ℤ)) → StandsFor kept s
     → HistoryStandsFor held (acknowledge (history_of s) reader base) → counts ≡ set kept.counts reader (Some count)
-    → StandsFor (record kept { history = held; counts = counts }) (after_acknack s reader base count)
-acknack-stands kept s reader base count held counts given is history put =
+    → StandsFor (record kept { history = held; counts = counts }) (applied s reader base count)
+acknack-stands kept s reader base count held counts given history put =
     let same : length (acknowledge (history_of s) reader base).acknowledged ≡ length s.acknowledged =
     length-set s.acknowledged reader _ in
-    let after : WriterState = applied s reader base count in
-    let due : counts_due after ≡ counts_due s = ap (λ (n : ℕ). length (counts_of (nat_lt 0 n) s.written)) same in
-    let stands : StandsFor (record kept { history = held; counts = counts }) after = record {
+    let due : counts_due (applied s reader base count) ≡ counts_due s =
+    ap (λ (n : ℕ). length (counts_of (nat_lt 0 n) s.written)) same in
+    record {
       history = history;
       registered = given.registered;
       counts = put ∙ ap (λ (cs : List (Option ℤ)). set cs reader (Some count)) given.counts;
       counts_used = given.counts_used ∙ ap (λ (n : ℕ). min n (2 ^ 31 - 1)) (sym due);
-    } in
-    subst (λ (x : WriterState). StandsFor (record kept { history = held; counts = counts }) x)
-    (sym (after-applied s reader base count is)) stands
+    }
 
--- what the reader has acknowledged newly
-pub newly-applied : (s : WriterState) (reader base : ℕ) (count : ℤ) → is_applied s reader base count ≡ true
-    → newly_acknowledged s (after_acknack s reader base count) reader
-    ≡ if_later (acknowledged_by s reader) (acknowledged_by (applied s reader base count) reader)
-newly-applied s reader base count is =
-    ap (λ (x : WriterState). newly_acknowledged s x reader) (after-applied s reader base count is)
+-- one that is applied, by what came of it
+pub stands-applied : (kept : Kept) (s : WriterState) (reader base : ℕ) (count : ℤ) → is_applied s reader base count ≡ true
+    → StandsFor kept (applied s reader base count) → StandsFor kept (after_acknack s reader base count)
+stands-applied kept s reader base count is stands =
+    subst (λ (x : WriterState). StandsFor kept x) (sym (after-applied s reader base count is)) stands
 
--- what it is answered
-pub answers-applied : (s : WriterState) (reader base : ℕ) (set : NumberSet) (count : ℤ) → is_applied s reader base count
-    ≡ true
-    → acknack_answers s reader base set count ≡ answers_after (applied s reader base count) reader set
-answers-applied s reader base set count is =
-    ap (λ (b : Bool). if b then answers_after (applied s reader base count) reader set else []) is
+pub newly-applied : (s : WriterState) (reader base : ℕ) (count : ℤ) (newly : Option ℕ)
+    → is_applied s reader base count ≡ true → newly ≡ newly_acknowledged s (applied s reader base count) reader
+    → newly ≡ newly_acknowledged s (after_acknack s reader base count) reader
+newly-applied s reader base count newly is same =
+    same ∙ ap (λ (x : WriterState). newly_acknowledged s x reader) (sym (after-applied s reader base count is))
 
+pub answers-applied : (s : WriterState) (reader base : ℕ) (set : NumberSet) (count : ℤ) (answers : List Answer)
+    → is_applied s reader base count ≡ true → answers ≡ answers_after (applied s reader base count) reader set
+    → answers ≡ acknack_answers s reader base set count
+answers-applied s reader base set count answers is same =
+    same ∙ ap (λ (b : Bool). if b then answers_after (applied s reader base count) reader set else []) (sym is)
+
+-- one that is not
 pub answers-ignored : (s : WriterState) (reader base : ℕ) (set : NumberSet) (count : ℤ) → is_applied s reader base count
     ≡ false → acknack_answers s reader base set count ≡ []
 answers-ignored s reader base set count is =

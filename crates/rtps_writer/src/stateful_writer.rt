@@ -1,16 +1,17 @@
 //! A writer with its matched reliable readers.
 
-ghost use Rattle.std.specs.Prelude.{◌≡◌, ◌≤◌, ◌<◌, ◌+◌, ◌^◌, length, None, IfOk, IfErr, OnOk, OnErr};
+ghost use Rattle.std.specs.Prelude.{◌≡◌, ◌≤◌, ◌<◌, ◌+◌, ◌^◌, [], length, vec_capacity, None, IfOk, IfErr, OnOk, OnErr};
 ghost use Rattle.std.specs.Option.{option_copied};
 ghost use Rattle.dds_base.specs.declared.code.Code.TheVariants.{Memory};
 ghost use Rattle.dds_base.specs.Kept.{append_refusal, first_kept, kept_change};
 ghost use Rattle.dds_base.specs.Refusal.{Refuses};
 ghost use Rattle.dds_base.specs.Written.{Registered, Changed, is_key_registered};
-ghost use Rattle.rtps_writer.specs.Acknack.{acknack_answers, after_acknack, if_later, is_applied, is_new_count, newly_acknowledged};
+ghost use Rattle.rtps_sets.specs.NumberSet.{span};
+ghost use Rattle.rtps_writer.specs.Acknack.{acknack_answers, after_acknack, answers_after, applied, if_later, is_applied, is_new_count, newly_acknowledged};
 ghost use Rattle.rtps_writer.specs.Standing.{StandsFor, reader_count};
 ghost use Rattle.rtps_writer.specs.WriterState.{WriterState, acknowledged_by, entering, heartbeat_due, history_of, is_reader_behind, last_of, opening, ticked};
 
-use crate::answer::{Answered, put_answers};
+use crate::answer::{Answer, Answered, put_answers};
 use crate::heartbeat::HeartbeatDue;
 use crate::registration::{is_registered, note, register, reserve};
 use dds_base::{Change, Code, HistoryQos, Key, Moment, Sn};
@@ -275,6 +276,77 @@ impl StatefulWriter {
             && base.number() <= self.history.last().number().saturating_add(1)
     }
 
+    /// What an ACKNACK of this reader that is applied does.
+    fn apply(
+        &mut self,
+        reader: usize,
+        base: Sn,
+        set: &SnSet,
+        count: i32,
+        room: Vec<Answer>,
+    ) -> Answered
+        requires reader { reader < reader_count self.old }
+        requires none { room.items ≡ [] }
+        requires room { span set.now.members ≤ vec_capacity room }
+        ensures stands { (s : WriterState) → StandsFor self.old s → StandsFor self.new (applied s reader base count) }
+        ensures acknowledged { (s : WriterState) → StandsFor self.old s
+            → result.acknowledged ≡ newly_acknowledged s (applied s reader base count) reader }
+        ensures answers { (s : WriterState) → StandsFor self.old s
+            → result.answers.items ≡ answers_after (applied s reader base count) reader set.now }
+        ensures readers { reader_count self.new ≡ reader_count self.old }
+    {
+        let mut answers = room;
+        let before = self.history.acknowledged(reader);
+        self.history.acked(reader, base);
+        self.counts[reader] = Some(count);
+        let after = self.history.acknowledged(reader);
+        put_answers(&mut answers, &self.history, set, after);
+        Answered {
+            acknowledged: if_later(before, after),
+            answers,
+        }
+    }
+
+    /// An ACKNACK of this reader, as `on_acknack` has it, with room for the answers, which was made before: it is never
+    /// refused.
+    ///
+    /// RTPS 2.5, 8.3.8 (AckNack), 8.4.9 (ReaderProxy).
+    pub fn take_acknack(
+        &mut self,
+        reader: usize,
+        base: Sn,
+        set: &SnSet,
+        count: i32,
+        room: Vec<Answer>,
+    ) -> Answered
+        // There is such a reader.
+        requires reader { reader < reader_count self.old }
+        // The room has nothing in it.
+        requires none { room.items ≡ [] }
+        // It is for each place of the set up to its last member.
+        requires room { span set.now.members ≤ vec_capacity room }
+        // The acknowledgement and the count are the reader's, or nothing changes.
+        ensures stands { (s : WriterState) → StandsFor self.old s
+            → StandsFor self.new (after_acknack s reader base count) }
+        // It says whether the reader has acknowledged more than before.
+        ensures acknowledged { (s : WriterState) → StandsFor self.old s
+            → result.acknowledged ≡ newly_acknowledged s (after_acknack s reader base count) reader }
+        // Each member from there to the last number is answered, in order.
+        ensures answers { (s : WriterState) → StandsFor self.old s
+            → result.answers.items ≡ acknack_answers s reader base set.now count }
+        // The readers stay the same ones.
+        ensures readers { reader_count self.new ≡ reader_count self.old }
+    {
+        if self.applies(reader, base, count) {
+            self.apply(reader, base, set, count, room)
+        } else {
+            Answered {
+                acknowledged: None,
+                answers: room,
+            }
+        }
+    }
+
     /// An ACKNACK of this reader, by its index from 0: it has all below the base, and asks for the members of the set.
     ///
     /// It is ignored unless its count is greater than that of the last one applied, and its base is no more than one
@@ -310,22 +382,15 @@ impl StatefulWriter {
         // The only refusal is for want of memory.
         ensures memory { IfErr result (λ code. code ≡ Memory) }
     {
-        let mut answers = Vec::new(self.alloc);
-        if !self.applies(reader, base, count) {
-            return Ok(Answered {
+        let mut room = Vec::new(self.alloc);
+        if self.applies(reader, base, count) {
+            room.reserve(set.bits())?;
+            Ok(self.apply(reader, base, set, count, room))
+        } else {
+            Ok(Answered {
                 acknowledged: None,
-                answers,
-            });
+                answers: room,
+            })
         }
-        answers.reserve(set.bits())?;
-        let before = self.history.acknowledged(reader);
-        self.history.acked(reader, base);
-        self.counts[reader] = Some(count);
-        let after = self.history.acknowledged(reader);
-        put_answers(&mut answers, &self.history, set, after);
-        Ok(Answered {
-            acknowledged: if_later(before, after),
-            answers,
-        })
     }
 }

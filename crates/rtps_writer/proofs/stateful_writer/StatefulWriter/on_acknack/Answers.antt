@@ -1,53 +1,34 @@
-use Rattle.std.proofs.Common.{◌≡◌, ℕ, ℤ, Some, true, set, ap, sym, ◌∙◌, w32}
+use Rattle.std.proofs.Common.{ℤ, true, false, ap, sym, ◌∙◌, subst, w32}
 use Rattle.std.proofs.lemmas.Int.{to_z-of_z}
-use Rattle.dds_base.specs.Kept.{acknowledge, is_kept}
-use Rattle.rtps_writer.specs.Acknack.{if_later, is_applied}
-use Rattle.rtps_writer.specs.Answers.{answers_to, requested}
+use Rattle.rtps_writer.specs.Acknack.{acknack_answers, after_acknack, is_applied, newly_acknowledged}
 use Rattle.rtps_writer.specs.Standing.{StandsFor}
-use Rattle.rtps_writer.specs.WriterState.{WriterState, acknowledged_by, history_of, last_of}
-use Rattle.rtps_writer.proofs.AcknackLaws.{acknack-stands, answers-applied, answers-ignored, newly-applied}
-use Rattle.rtps_writer.proofs.Parts.{history_at, stands_as}
+use Rattle.rtps_writer.proofs.AcknackLaws.{answers-applied, answers-ignored, newly-applied, stands-applied}
 use Rattle.rtps_writer.proofs.stateful_writer.StatefulWriter.on_acknack.Goals as goal
 
-pub returns-then-not-applies-clause-answers : goal.returns-then-not-applies-clause-answers
-returns-then-not-applies-clause-answers c = λ s given.
-    c.new-answers.ensures.items
+pub returns-in_ok-reserve-clause-stands : goal.returns-in_ok-reserve-clause-stands
+returns-in_ok-reserve-clause-stands c = λ s given.
+    subst (λ (z : ℤ). StandsFor c.apply.new.self (after_acknack s c.args.reader c.args.base z))
+    (to_z-of_z w32 c.args.count c.ranges.count)
+    (stands-applied _ s c.args.reader c.args.base _ (sym (c.applies.ensures s given) ∙ c.if-applies.true)
+    (c.apply.ensures.stands s given))
+
+pub returns-in_ok-reserve-clause-acknowledged : goal.returns-in_ok-reserve-clause-acknowledged
+returns-in_ok-reserve-clause-acknowledged c = λ s given.
+    newly-applied s c.args.reader c.args.base _ _ (sym (c.applies.ensures s given) ∙ c.if-applies.true)
+    (c.apply.ensures.acknowledged s given)
+    ∙ ap (λ (z : ℤ). newly_acknowledged s (after_acknack s c.args.reader c.args.base z) c.args.reader)
+    (to_z-of_z w32 c.args.count c.ranges.count)
+
+pub returns-in_ok-reserve-clause-answers : goal.returns-in_ok-reserve-clause-answers
+returns-in_ok-reserve-clause-answers c = λ s given.
+    answers-applied s c.args.reader c.args.base c.args.set.now _ _
+    (sym (c.applies.ensures s given) ∙ c.if-applies.true) (c.apply.ensures.answers s given)
+    ∙ ap (λ (z : ℤ). acknack_answers s c.args.reader c.args.base c.args.set.now z)
+    (to_z-of_z w32 c.args.count c.ranges.count)
+
+pub returns-else-applies-clause-answers : goal.returns-else-applies-clause-answers
+returns-else-applies-clause-answers c = λ s given.
+    c.new-room.ensures.items
     ∙ sym (answers-ignored s c.args.reader c.args.base c.args.set.now c.args.count
     (ap (λ (z : ℤ). is_applied s c.args.reader c.args.base z) (sym (to_z-of_z w32 c.args.count c.ranges.count))
-    ∙ (sym (c.applies.ensures s given) ∙ c.if-not-applies.true)))
-
-is_it : (c : goal.After-if_later) (s : WriterState) → StandsFor c.args.self.now s
-    → is_applied s c.args.reader c.args.base c.args.count ≡ true
-is_it c s given = ap (λ (z : ℤ). is_applied s c.args.reader c.args.base z)
-    (sym (to_z-of_z w32 c.args.count c.ranges.count)) ∙ (sym (c.applies.ensures s given) ∙ c.if-not-applies.false)
-
-pub returns-clause-stands : goal.returns-clause-stands
-returns-clause-stands c = λ s given.
-    let h = history_at _ c.args.self.now s c.self.view_is given in
-    acknack-stands _ s c.args.reader c.args.base c.args.count c.acked.new.self _
-    (stands_as c.args.self.now _ s (sym c.self.view_is) given) (is_it c s given)
-    (c.acked.ensures.stands (history_of s) h)
-    (ap (λ (z : ℤ). set c.self.inside.counts.items c.args.reader (Some z))
-    (to_z-of_z w32 c.args.count c.ranges.count))
-
-pub returns-clause-acknowledged : goal.returns-clause-acknowledged
-returns-clause-acknowledged c = λ s given.
-    let h = history_at _ c.args.self.now s c.self.view_is given in
-    let is = is_it c s given in
-    let moved = c.acked.ensures.stands (history_of s) h in
-    c.if_later.ensures
-    ∙ (ap (λ (n : ℕ). if_later n c.acknowledged-after.result) (c.acknowledged-before.ensures (history_of s) h)
-    ∙ (ap (λ (n : ℕ). if_later (acknowledged_by s c.args.reader) n)
-    (c.acknowledged-after.ensures (acknowledge (history_of s) c.args.reader c.args.base) moved)
-    ∙ sym (newly-applied s c.args.reader c.args.base c.args.count is)))
-
-pub returns-clause-answers : goal.returns-clause-answers
-returns-clause-answers c = λ s given.
-    let h = history_at _ c.args.self.now s c.self.view_is given in
-    let is = is_it c s given in
-    let moved = c.acked.ensures.stands (history_of s) h in
-    c.put_answers.ensures (acknowledge (history_of s) c.args.reader c.args.base) moved
-    ∙ (ap (λ (n : ℕ). answers_to (λ k. is_kept (acknowledge (history_of s) c.args.reader c.args.base) k)
-    (requested c.args.set.now n (last_of s)))
-    (c.acknowledged-after.ensures (acknowledge (history_of s) c.args.reader c.args.base) moved)
-    ∙ sym (answers-applied s c.args.reader c.args.base c.args.set.now c.args.count is))
+    ∙ (sym (c.applies.ensures s given) ∙ c.if-applies.false)))
