@@ -44,7 +44,7 @@ written_sent (due ∷ dues) packets unsent (inl f) = inl (f.0, f.1, written_sent
 written_sent (due ∷ dues) packets unsent (inr g) = inr (g.0, g.1, written_sent dues packets g.0 g.2)
 
 -- what is written of true messages is true
-written_true : (config : Config) (peer : ℕ) (part : Part) (dues : List Due) (packets : List Packet) (unsent : ℕ) → AreTruthful config peer part dues → AreWritten dues packets unsent
+pub written_true : (config : Config) (peer : ℕ) (part : Part) (dues : List Due) (packets : List Packet) (unsent : ℕ) → AreTruthful config peer part dues → AreWritten dues packets unsent
     → (packet : Packet) (claim : Claim) → Contains packets packet → Claims config packet.bytes claim → IsTrueAt peer part claim
 written_true config peer part [] packets unsent all h packet claim among says =
     let none : Contains {X = Packet} [] packet = subst (λ (ps : List Packet). Contains ps packet) h.0 among in let lt = none.1 in absurd (omega (arith, lt))

@@ -31,6 +31,7 @@ use Rattle.dds_core.specs.Beating.{BeatsOfAll}
 use Rattle.dds_core.proofs.BeatsDue.{due_true}
 use Rattle.dds_core.proofs.Ends.{with_writer, entered_at, own_writer_stepped}
 use Rattle.dds_core.proofs.Taking.{silent}
+use Rattle.dds_core.proofs.Tellable.{tellable_entered, tellable_ticked}
 use Rattle.dds_core.proofs.Ticking.{same_names, writers_ticked}
 
 pub silent_sends : (reply : Reply) → SendsNothing (silent reply)
@@ -130,7 +131,7 @@ registers kept i k k' key config peer s at lt enters =
     let known : has_number peer.part.rtps.writers (suc i) ≡ true = there_is peer.part.rtps.writers i (omega (arith, lt, count)) in (
       entered_at peer (suc i) (Registered key),
       record { same_number = refl; knows = refl; step = (record { answers = (good_register peer.part (suc i) known, refl); rtps = refl }, refl); sent = λ p x m h. absurd (omega (arith, m.1)) },
-      own_writer_stepped kept i k k' (Registered key) config peer s at enters,
+      own_writer_stepped kept i k k' (Registered key) config peer s at enters (tellable_entered peer (suc i) (Registered key) s.tellable tt),
     )
 
 -- the answer to a call is that to a change of the writer, which the call makes
@@ -224,6 +225,7 @@ ticks kept writers config peer s now on early all output done beats =
         early = early;
         writers = writers_ticked now kept.writers writers peer.part.rtps.writers peer.known.answered all s.writers;
         readers = s.readers;
+        tellable = tellable_ticked peer.part now s.tellable;
       },
     )
   where

@@ -5,6 +5,7 @@ use Rattle.std.proofs.lemmas.Option.{same_Some}
 use Rattle.dds_base.specs.declared.config.Config.{Config}
 use Rattle.dds_base.specs.Written.{Written}
 use Rattle.dds_model.specs.declared.endpoint.Endpoint.{Endpoint}
+use Rattle.dds_model.specs.Dues.{AreTellable}
 use Rattle.dds_model.specs.Numbered.{with_numbered}
 use Rattle.dds_model.specs.Part.{Part, Writer, Reader, WriterProxy, no_writer, no_reader}
 use Rattle.dds_model.specs.Calls.{writes, effect, with_written}
@@ -53,8 +54,8 @@ writers_set (a ∷ ks) (b ∷ ws) (suc i) k w answered count each new (suc j) x 
 
 -- own writer n stepped
 pub own_writer_stepped : (kept : CoreKept) (i : ℕ) (k k' : WriterKept) (entry : Written) (config : Config) (peer : Peer) → StandsFor kept config peer → slice_get kept.writers i ≡ Some k → Enters k entry k'
-    → StandsFor (with_writer kept i k') config (entered_at peer (suc i) entry)
-own_writer_stepped kept i k k' entry config peer s at enters =
+    → AreTellable (entered_at peer (suc i) entry).part → StandsFor (with_writer kept i k') config (entered_at peer (suc i) entry)
+own_writer_stepped kept i k k' entry config peer s at enters tellable =
     let ws : List Writer = peer.part.rtps.writers in
     record {
       is_peer = subst (λ (x : Identity). IsPeerOf config peer.number x) (sym (same_with_writer kept i k k' at enters.same)) s.is_peer;
@@ -66,6 +67,7 @@ own_writer_stepped kept i k k' entry config peer s at enters =
             (enters.stands (get_or ws i no_writer) (peer.known.answered (suc i)) (s.writers.each i k at));
       };
       readers = s.readers;
+      tellable = tellable;
     }
 
 -- the part of a peer with another reader of this number
@@ -104,4 +106,5 @@ own_reader_stepped kept i k k' proxies r known config peer s at same counts othe
             (λ j x apart there. reader_stands_on x (get_or ps j []) (get_or rs j no_reader) (λ w. peer.known.tracked w (suc j)) (λ w. known.tracked w (suc j)) (λ w. others w (suc j) (λ e. apart (omega (arith, e)))) (s.readers.each j x there))
             stands;
       };
+      tellable = s.tellable;
     }

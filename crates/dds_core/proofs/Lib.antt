@@ -24,3 +24,11 @@ pub mod Ready
 pub mod ReaderEnds
 pub mod Telling
 pub mod Taking
+pub mod Tellable
+pub mod Delivering
+pub mod ReadersAnswer
+pub mod Replies
+pub mod Acknowledging
+pub mod Once
+pub mod RowsAnswered
+pub mod Requesting

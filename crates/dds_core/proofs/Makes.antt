@@ -35,6 +35,7 @@ use Rattle.dds_core.specs.Standing.{WriterStands, StandsFor, Enters}
 use Rattle.dds_core.specs.declared.matching.ReaderName.{ReaderName}
 use Rattle.dds_core.proofs.Destinations.{ends_of_names, reader_ends}
 use Rattle.dds_core.proofs.Ends.{with_writer, own_writer_stepped}
+use Rattle.dds_core.proofs.Tellable.{tellable_entered}
 use Rattle.dds_core.proofs.Lists.{get-map, map-get, get-within}
 use Rattle.dds_core.proofs.Sent.{IsOnly, IsThere, IsMatched, sends_change, sent_true}
 
@@ -49,19 +50,19 @@ change_at-last cs c =
     let index : length cs + 1 - 1 ≡ length cs = omega arith in
     ap (λ b. if b then slice_get (cs ++ c ∷ []) (length cs + 1 - 1) else None) positive ∙ (ap (λ (k : ℕ). slice_get (cs ++ c ∷ []) k) index ∙ slice_get-last cs c)
 
-set_get : {X : Type 0} (xs : List X) (i : ℕ) (x y : X) → slice_get xs i ≡ Some x → slice_get (set xs i y) i ≡ Some y
+pub set_get : {X : Type 0} (xs : List X) (i : ℕ) (x y : X) → slice_get xs i ≡ Some x → slice_get (set xs i y) i ≡ Some y
 set_get [] i x y at = absurd cc
 set_get (a ∷ xs) zero x y at = refl
 set_get (a ∷ xs) (suc i) x y at = set_get xs i x y at
 
 -- a peer's own writer, as the configuration has it
-record IsOwnWriter (config : Config) (kept : CoreKept) (number i : ℕ) (k : WriterKept) : Type 0 where
-  end : WriterConfig
-  is : writer_identity k ≡ configured_writer config.peers end
-  from : IsWriter config kept.prefix k.entity (record { peer = number; number = suc i })
-  same_topic : from.end.topic ≡ end.topic
+pub record IsOwnWriter (config : Config) (kept : CoreKept) (number i : ℕ) (k : WriterKept) : Type 0 where
+  pub end : WriterConfig
+  pub is : writer_identity k ≡ configured_writer config.peers end
+  pub from : IsWriter config kept.prefix k.entity (record { peer = number; number = suc i })
+  pub same_topic : from.end.topic ≡ end.topic
 
-own_writer_is : (config : Config) (number : ℕ) (kept : CoreKept) (is : IsPeerOf config number (identity_of kept)) (i : ℕ) (k : WriterKept) → slice_get kept.writers i ≡ Some k → IsOwnWriter config kept number i k
+pub own_writer_is : (config : Config) (number : ℕ) (kept : CoreKept) (is : IsPeerOf config number (identity_of kept)) (i : ℕ) (k : WriterKept) → slice_get kept.writers i ≡ Some k → IsOwnWriter config kept number i k
 own_writer_is config number kept is i k at =
     let there = map-get writer_identity kept.writers i k at in
     let f = get-map (configured_writer config.peers) is.own.writers i (writer_identity k) (subst (λ (xs : List WriterIdentity). slice_get xs i ≡ Some (writer_identity k)) is.writers there) in
@@ -102,7 +103,8 @@ made_there old i k k' kind key value number content output config peer s at ente
     let a = accepts w (peer.known.answered (suc i)) ws in
     let new : CoreKept = with_writer old i k' in
     let after : Peer = record peer { part = entered peer.part (suc i) change } in
-    let stands : StandsFor new config after = own_writer_stepped old i k k' (Changed change) config peer s at enters in
+    let stands : StandsFor new config after =
+    own_writer_stepped old i k k' (Changed change) config peer s at enters (tellable_entered peer (suc i) (Changed change) s.tellable (record { empty = valued; early = s.early })) in
     let at_new : slice_get new.writers i ≡ Some k' = set_get old.writers i k k' at in
     let is_k : all.writer ≡ k' = same_Some all.writer k' (sym all.at ∙ at_new) in
     let sender : Sender = record { prefix = old.prefix; entity = k'.entity; moment = old.moment } in

@@ -36,7 +36,7 @@ first_row config peer kept s i k at_k guid n f =
     }
 
 -- the submessage is to the reader of this index from the writer of its row
-pub is_to : (config : Config) (peer : Peer) (kept : CoreKept) (s : StandsFor kept config peer) (i : ℕ) (k : ReaderKept) → slice_get kept.readers i ≡ Some k → (at : Receiver) (reader_id writer_id : EntityId) (n : ℕ)
+abbrev pub is_to : (config : Config) (peer : Peer) (kept : CoreKept) (s : StandsFor kept config peer) (i : ℕ) (k : ReaderKept) → slice_get kept.readers i ≡ Some k → (at : Receiver) (reader_id writer_id : EntityId) (n : ℕ)
     (here : IsNamedFor kept.prefix k at reader_id writer_id n) → IsToReader config kept.prefix at reader_id writer_id here.first.name.writer (record { peer = peer.number; number = suc i })
 is_to config peer kept s i k at_k at reader_id writer_id n here =
     let own : IsOwnReader config s.is_peer.own i k = own_reader_is config peer.number kept s.is_peer i k at_k in

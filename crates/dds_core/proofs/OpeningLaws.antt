@@ -15,6 +15,7 @@ use Rattle.dds_core.specs.Kept.{WriterKept, ReaderKept, writer_identity, reader_
 use Rattle.dds_core.specs.Opening.{OpensWriter, OpensReader, OpenWriters, OpenReaders, OpensCore, opening_peer}
 use Rattle.dds_core.specs.Standing.{WriterStands, ReaderStands, WritersStand, ReadersStand, StandsFor}
 use Rattle.dds_core.proofs.Ready.{last-cases}
+use Rattle.dds_core.proofs.Tellable.{tellable_opening}
 
 -- ---- one element more
 
@@ -140,6 +141,7 @@ stands_begun peers index moment own writers readers checked at begins ws rs = re
   early = subst (λ (m : ℕ). m < 2 ^ 63) (sym begins) (omega arith);
   writers = writers_stand peers own.writers writers ws;
   readers = readers_stand peers own.readers readers rs;
+  tellable = tellable_opening peers own;
 }
 
 pub opens_core : (peers : List PeerConfig) (index moment : ℕ) (own : PeerConfig) (writers : List WriterKept) (readers : List ReaderKept) → index < length peers → check_refusal peers ≡ None → own ≡ get_or peers index own → moment ≡ 0

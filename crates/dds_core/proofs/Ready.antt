@@ -24,6 +24,10 @@ use Rattle.dds_core.specs.Standing.{IsFirstRow, ReaderStands}
 use Rattle.dds_core.proofs.Identities.{same_identity}
 use Rattle.dds_core.proofs.Lists.{get-within, left_at, left_more, drop_set}
 use Rattle.dds_core.proofs.Rows.{writers_of}
+use Rattle.dds_base.specs.declared.guid.EntityId.{EntityId}
+use Rattle.dds_core.specs.declared.sending.Announced.{Announced}
+use Rattle.dds_core.specs.Beating.{AddsTo}
+use Rattle.dds_model.specs.Protocol.{acknacks_due}
 
 -- after a change of one element, another is as before, and that one is the new one
 pub set-cases : {X : Type 0} (xs : List X) (i : ℕ) (x : X) (j : ℕ) (y : X) → slice_get (set xs i x) j ≡ Some y → ((j ≡ i) × (x ≡ y)) ⊎ (((j ≡ i) → ⊥) × (slice_get xs j ≡ Some y))
@@ -99,11 +103,11 @@ all_can own at s readers ready b h i one there =
     let k = partner readers ready i (Some one) h.count there in (k.0, k.1, can_take own at s k.0 one b (h.each i k.0 (Some one) k.1 there))
 
 -- what is ready for a reader, while what was ready for others is taken
-pub still_ready : (ready now : List (Option Ready)) (i : ℕ) (one d : Option Ready) → drop i now ≡ drop i ready → i < length now → one ≡ get_or now i d → slice_get ready i ≡ Some one
-still_ready ready now i one d left lt is = left_at ready now i one (sym left) (slice_get-get_or now i d lt ∙ ap (λ (x : Option Ready). Some x) (sym is))
+pub still_ready : {X : Type 0} (ready now : List X) (i : ℕ) (one d : X) → drop i now ≡ drop i ready → i < length now → one ≡ get_or now i d → slice_get ready i ≡ Some one
+still_ready ready now i one d left lt is = left_at ready now i one (sym left) (slice_get-get_or now i d lt ∙ ap (λ x. Some x) (sym is))
 
 -- what was taken leaves the rest
-pub rest_more : (ready now : List (Option Ready)) (i : ℕ) (x : Option Ready) → drop i now ≡ drop i ready → drop (i + 1) (set now i x) ≡ drop (i + 1) ready
+pub rest_more : {X : Type 0} (ready now : List X) (i : ℕ) (x : X) → drop i now ≡ drop i ready → drop (i + 1) (set now i x) ≡ drop (i + 1) ready
 rest_more ready now i x left =
     let same : i + 1 ≡ suc i = omega arith in
     subst (λ (n : ℕ). drop n (set now i x) ≡ drop n ready) (sym same) (drop_set now i x ∙ left_more now ready i left)
@@ -143,6 +147,7 @@ alike_core kept readers h config peer s =
         count = s.readers.count ∙ sym h.count;
         each = λ i k at. let old = partner kept.readers readers i k h.count at in alike_stands old.0 k _ _ _ (h.each i old.0 k old.1 at) (s.readers.each i old.0 old.1);
       };
+      tellable = s.tellable;
     }
 
 -- nothing stands in a list of nothing
@@ -151,15 +156,15 @@ none_there [] i x is at = cc
 none_there (y ∷ ys) i x is at = cc
 
 -- the reader of this index was told what was ready
-pub took_by : (old : CoreKept) (index : ℕ) (ready : Ready) (k now k' : ReaderKept) (moves : List Move) (new : CoreKept) (after : List Move) (writer : Endpoint) (from : ℕ) (step : Step) → now ≡ k → CanTakeAt old.readers index ready
-    → slice_get old.readers index ≡ Some k → ((name : WriterName) → slice_get now.writers ready.row ≡ Some name → writer ≡ name.writer) → ((t : Tracked) → Tracks now.reader ready.row t → from ≡ t.place) → {m : ℕ} → m ≡ old.moment → TakesTold now ready m step k'
-    → SameReader now k' → new ≡ record old { readers = set old.readers index k' } → after ≡ moves ++ moves_of writer (index + 1) from step → TookAt old index ready k moves new after
-took_by old index ready k now k' moves new after writer from step is can at named place {m} moment told same new_is after_is =
-    let here : CanTake k ready = subst (λ (x : ReaderKept). CanTake x ready) (same_Some can.0 k (sym can.1 ∙ at)) can.2 in
-    let name = element k.writers ready.row here.row in
+pub took_by : (old : CoreKept) (index : ℕ) (ready : Ready) (k now k' : ReaderKept) (moves : List Move) (sent : Announced) (new : CoreKept) (after : List Move) (gone : Announced) (writer : WriterName) (from : ℕ) (step : Step) → now ≡ k
+    → slice_get old.readers index ≡ Some k → slice_get now.writers ready.row ≡ Some writer → ((t : Tracked) → Tracks now.reader ready.row t → from ≡ t.place) → {m : ℕ} → m ≡ old.moment → TakesTold now ready m step k'
+    → SameReader now k' → new ≡ record old { readers = set old.readers index k' } → after ≡ moves ++ moves_of writer.writer (index + 1) from step → {own : GuidPrefix} → own ≡ old.prefix → {entity : EntityId} → entity ≡ now.entity
+    → AddsTo (acknacks_due own writer.guid.prefix writer.writer.peer entity writer.guid.entity step.acknack) sent gone → TookAt old index ready k moves sent new after gone
+took_by old index ready k now k' moves sent new after gone writer from step is at named place {m} moment told same new_is after_is {own} prefix {entity} of_reader adds =
+    let of_k : entity ≡ k.entity = of_reader ∙ ap (λ (x : ReaderKept). x.entity) is in
     record {
-      name = name.0;
-      at_name = name.1;
+      name = writer;
+      at_name = subst (λ (x : ReaderKept). slice_get x.writers ready.row ≡ Some writer) is named;
       from = from;
       place = λ t knows. place t (subst (λ (x : ReaderKept). Tracks x.reader ready.row t) (sym is) knows);
       step = step;
@@ -167,20 +172,18 @@ took_by old index ready k now k' moves new after writer from step is can at name
       told = subst (λ (n : ℕ). TakesTold k ready n step k') moment (subst (λ (x : ReaderKept). TakesTold x ready m step k') is told);
       same = subst (λ (x : ReaderKept). SameReader x k') is same;
       new_is = new_is;
-      after_is = after_is ∙ ap (λ (w : Endpoint). moves ++ moves_of w (index + 1) from step) (named name.0 (subst (λ (x : ReaderKept). slice_get x.writers ready.row ≡ Some name.0) (sym is) name.1));
+      after_is = after_is;
+      answer = subst (λ (p : GuidPrefix). AddsTo (acknacks_due p writer.guid.prefix writer.writer.peer k.entity writer.guid.entity step.acknack) sent gone) prefix
+          (subst (λ (e : EntityId). AddsTo (acknacks_due own writer.guid.prefix writer.writer.peer e writer.guid.entity step.acknack) sent gone) of_k adds);
     }
-  where
-    element : {X : Type 0} (xs : List X) (i : ℕ) → i < length xs → (x : X) × (slice_get xs i ≡ Some x)
-    element [] i lt = absurd (omega (arith, lt))
-    element (x ∷ xs) zero lt = (x, refl)
-    element (x ∷ xs) (suc i) lt = element xs i (omega (arith, lt))
 
 -- all were told what was ready for them
-pub takes_all : (old now : CoreKept) (ready : List (Option Ready)) (moves after : List Move) (index : ℕ) → length ready ≤ index → index ≤ length ready → TakesSome old ready index moves now after → TakesAll old ready moves now after
-takes_all old now ready moves after index low high h = record {
+pub takes_all : (old now : CoreKept) (ready : List (Option Ready)) (moves after : List Move) (sent gone : Announced) (index : ℕ) → length ready ≤ index → index ≤ length ready → TakesSome old ready index moves sent now after gone
+    → TakesAll old ready moves sent now after gone
+takes_all old now ready moves after sent gone index low high h = record {
   made = h.made;
   after_is = h.after_is;
   takes = λ at s are.
       let count = are.count in
-      subst (λ (n : ℕ). ReadersTake old at s n h.made now) (omega (arith, count, low, high)) (h.takes at s are);
+      subst (λ (n : ℕ). ReadersTake old at s n h.made sent now gone) (omega (arith, count, low, high)) (h.takes at s are);
 }

@@ -290,10 +290,10 @@ pub heartbeat_on : (c : Telling) (own : GuidPrefix) (at : Receiver) (entity : En
     → seen ≡ record { first = h.first_sn; last = h.last_sn; count = h.count; is_final = h.final_flag; liveliness = h.liveliness_flag } → SameReader c.k k' → OthersStay c.row c.k.reader k'.reader → from ≡ (known_of c).place
     → is_later (known_of c).count h.count ≡ true
     → (m : HeartbeatTold (match_at (qos_of c.k.store.cache) c.row c.kept.moment) (known_of c) (reader_of c).happened seen step (Tracks k'.reader c.row) (λ xs. Holds k'.store xs))
-    → (state : State) × (dues : List Due) × TakesHeartbeat own at (state_of c.peer) c.writer (suc c.i) entity h (moves_of c.writer (c.i + 1) from step) dues state
+    → (state : State) × TakesHeartbeat own at (state_of c.peer) c.writer (suc c.i) entity h (moves_of c.writer (c.i + 1) from step) (acknacks_due own at.source_guid_prefix c.writer.peer entity h.writer_id step.acknack) state
     × StandsFor (with_reader c.kept c.i k') c.config (with_state c.peer state)
 heartbeat_on c own at entity k' h seen from step seen_is same others at_place later m =
-    (new, acknacks_due own at.source_guid_prefix c.writer.peer entity h.writer_id step.acknack, takes, stands)
+    (new, takes, stands)
   where
     b : Bool
     b = h.liveliness_flag

@@ -1,9 +1,9 @@
 -- The submessages of a message are taken up one after the other.
-use Rattle.std.proofs.Common.{◌≡◌, ℕ, zero, suc, ◌+◌, ◌-◌, ◌≤◌, Option, Some, None, List, [], ◌∷◌, ◌++◌, length, drop, slice_get, subst, ap, sym, ◌∙◌, refl, inl, inr, arith, append_assoc}
-use Rattle.std.proofs.lemmas.List.{append-nil}
-use Rattle.std.specs.Prelude.{◌^◌}
+use Rattle.std.proofs.Common.{◌≡◌, ℕ, zero, suc, ◌+◌, ◌-◌, ◌≤◌, Option, Some, None, List, [], ◌∷◌, ◌++◌, length, drop, slice_get, subst, ap, sym, ◌∙◌, refl, inl, inr, arith, append_assoc, append-nil, Contains}
+use Rattle.std.specs.Prelude.{◌^◌, Result, Ok, Err, OnOk}
 use Rattle.std.proofs.lemmas.Option.{same_Some, get_or_from_slice_get}
 use Rattle.rtps_sets.specs.NumberSet.{NumberSet}
+use Rattle.rtps_wire.specs.declared.acknack.AckNack.{AckNack as AckNackBody}
 use Rattle.rtps_wire.specs.declared.gap.Gap.{Gap as GapBody}
 use Rattle.dds_base.specs.declared.config.Config.{Config}
 use Rattle.dds_base.specs.declared.config.PeerConfig.{PeerConfig}
@@ -19,28 +19,27 @@ use Rattle.rtps_wire.specs.Sets.{set_of}
 use Rattle.rtps_wire.specs.Submessages.{Reads}
 use Rattle.dds_model.specs.declared.event.Event.TheVariants as event
 use Rattle.dds_model.specs.declared.event.Output.{Output}
+use Rattle.dds_model.specs.declared.event.Packet.{Packet}
 use Rattle.dds_model.specs.declared.reply.Move.{Move}
 use Rattle.dds_model.specs.declared.reply.Report.{Report}
 use Rattle.dds_model.specs.declared.reply.Reply.{Reply}
-use Rattle.dds_model.specs.declared.reply.Reply.TheVariants.{Reported}
-use Rattle.dds_model.specs.Numbered.{numbered, HasNumber}
-use Rattle.dds_model.specs.Claims.{Receiver, receiver_of, after_submessage, StandsAt, IsNumbered}
-use Rattle.dds_model.specs.Receipt.{prefix_of, MovesOver, TakesUp, IsNotTaken}
-use Rattle.dds_model.specs.Peer.{Peer, claimed, packets_of, state_of}
-use Rattle.dds_model.specs.Protocol.{Due, State, InTurn, ReaderTakes}
-use Rattle.dds_model.proofs.RuledReaders.{Coming, Backs}
-use Rattle.dds_model.proofs.RuledTurns.{IsTelling, readers_taken}
-use Rattle.dds_model.proofs.RuledWriters.{taken_none}
-use Rattle.dds_model.proofs.RuledPackets.{Packet, Stands, IsRest, Taken, Backed, by_readers, by_writers, coming_at, rest_next, next_backed, all_of, begun, reported, unread_backed, nothing_told}
-use Rattle.dds_model.proofs.Framing.{has_reader}
-use Rattle.dds_core.specs.Kept.{CoreKept}
-use Rattle.dds_core.specs.Receiving.{with_state, StandsAsWell, IsSoundTo, ReadersTook, TakesOneMore, TookMessage, TakesMessage, TakenTo, TakesTo, ReceivedPacket, ReceivesPacket, IsBounded, AreBounded}
-use Rattle.dds_core.specs.Standing.{StandsFor, IsSound, Steps, SoundSteps}
+use Rattle.dds_model.specs.declared.reply.Reply.TheVariants.{Reported, Done, Refused}
 use Rattle.dds_model.specs.declared.call.Call.{Call}
-use Rattle.dds_model.specs.declared.reply.Reply.TheVariants.{Done, Refused}
+use Rattle.dds_model.specs.Numbered.{numbered, HasNumber}
 use Rattle.dds_model.specs.Backed.{IsBacked}
 use Rattle.dds_model.specs.Calls.{Effect, nothing, writes, effect, effect_of, TickStep}
+use Rattle.dds_model.specs.Claims.{Receiver, receiver_of, after_submessage, IsNumbered}
 use Rattle.dds_model.specs.Part.{Part, Rtps, place_of, heard_of}
+use Rattle.dds_model.specs.Peer.{Peer, packets_of, state_of}
+use Rattle.dds_model.specs.Protocol.{Due, State, InTurn, ReaderTakes, Takes, Follows}
+use Rattle.dds_model.specs.Receipt.{prefix_of, IsNotTaken}
+use Rattle.dds_core.specs.declared.sending.Announced.{Announced}
+use Rattle.dds_core.specs.Beating.{AreWritten, AddsTo}
+use Rattle.dds_core.specs.Kept.{CoreKept}
+use Rattle.dds_core.specs.Receiving.{with_state, StandsAsWell, ReadersTook, TookSubmessage, TellsReaders, TakesOneMore, TookMessage, TakesMessage, TakenTo, TakesTo, ReceivedPacket, ReceivesPacket, IsBounded, AreBounded}
+use Rattle.dds_core.specs.Sending.{AreMessages}
+use Rattle.dds_core.specs.Standing.{StandsFor, IsSound, Steps, SoundSteps}
+use Rattle.dds_core.proofs.Beating.{written_on}
 
 -- ---- what a peer is, said again
 
@@ -49,7 +48,7 @@ stands_again kept config peer after number part known s =
     subst (λ n. StandsFor kept config (record { number = n; part = after.part; known = after.known; delivered = after.delivered })) (sym number)
     (subst (λ p. StandsFor kept config (record { number = peer.number; part = p; known = after.known; delivered = after.delivered })) (sym part)
     (subst (λ k. StandsFor kept config (record { number = peer.number; part = peer.part; known = k; delivered = after.delivered })) (sym known)
-    (record { is_peer = s.is_peer; moment = s.moment; early = s.early; writers = s.writers; readers = s.readers })))
+    (record { is_peer = s.is_peer; moment = s.moment; early = s.early; writers = s.writers; readers = s.readers; tellable = s.tellable })))
 
 pub numbered_prefix : (ps : List PeerConfig) (n : ℕ) (p : PeerConfig) → IsNumbered ps n p → (numbered ps n (record { prefix = unknown_prefix; writers = []; readers = [] })).prefix ≡ p.prefix
 numbered_prefix ps zero p at = let low = at.0 in absurd (omega (arith, low))
@@ -62,213 +61,164 @@ prefix_is old config peer s = numbered_prefix config.peers peer.number s.is_peer
 
 -- ---- one submessage
 
--- the readers that took it up did so on what packets claim; to the peer's writers it is nothing
-pub taken_by_readers : (c : Coming) (s : Submessage) → c.submessage ≡ s → (old : State) (made : List Move) (dues : List Due) (new : State) → Backs c old
-    → InTurn (ReaderTakes c.config c.own c.peer c.at s) (numbers_from 1 (length old.part.rtps.readers)) old made dues new → Taken c old made new
-taken_by_readers c (AckNack a) is old made dues new b h =
-    let none = nothing_told c a (numbers_from 1 (length old.part.rtps.readers)) old made dues new h in
-    by_writers c (AckNack a) is (λ r x. tt) (λ w r n change told. told) old made new (taken_none c old made new b none.0 none.1)
-taken_by_readers c (Data d) is old made dues new b h =
-    by_readers c (Data d) is tt old made dues new (λ w r p n m. has_reader old.part r n w m.at) b (readers_taken c (Data d) is tt 1 (length old.part.rtps.readers) old made dues new b h)
-taken_by_readers c (Gap d) is old made dues new b h =
-    by_readers c (Gap d) is tt old made dues new (λ w r p n m. has_reader old.part r n w m.at) b (readers_taken c (Gap d) is tt 1 (length old.part.rtps.readers) old made dues new b h)
-taken_by_readers c (Heartbeat d) is old made dues new b h =
-    by_readers c (Heartbeat d) is tt old made dues new (λ w r p n m. has_reader old.part r n w m.at) b (readers_taken c (Heartbeat d) is tt 1 (length old.part.rtps.readers) old made dues new b h)
-taken_by_readers c (InfoDst d) is old made dues new b h =
-    by_readers c (InfoDst d) is tt old made dues new (λ w r p n m. has_reader old.part r n w m.at) b (readers_taken c (InfoDst d) is tt 1 (length old.part.rtps.readers) old made dues new b h)
-taken_by_readers c (InfoTs d) is old made dues new b h =
-    by_readers c (InfoTs d) is tt old made dues new (λ w r p n m. has_reader old.part r n w m.at) b (readers_taken c (InfoTs d) is tt 1 (length old.part.rtps.readers) old made dues new b h)
-taken_by_readers c (Other d) is old made dues new b h =
-    by_readers c (Other d) is tt old made dues new (λ w r p n m. has_reader old.part r n w m.at) b (readers_taken c (Other d) is tt 1 (length old.part.rtps.readers) old made dues new b h)
-taken_by_readers c Pad is old made dues new b h =
-    by_readers c Pad is tt old made dues new (λ w r p n m. has_reader old.part r n w m.at) b (readers_taken c Pad is tt 1 (length old.part.rtps.readers) old made dues new b h)
+-- one that is no ACKNACK is taken up by the peer's readers
+takes_by_readers : (config : Config) (own : GuidPrefix) (peer : ℕ) (at : Receiver) (s : Submessage) → ((a : AckNackBody) → s ≡ AckNack a → ⊥) → (old : State) (made : List Move) (dues : List Due) (new : State)
+    → InTurn (ReaderTakes config own peer at s) (numbers_from 1 (length old.part.rtps.readers)) old made dues new → Takes config own peer at s old made dues new
+takes_by_readers config own peer at (AckNack a) other old made dues new h = absurd (other a refl)
+takes_by_readers config own peer at (Data d) other old made dues new h = h
+takes_by_readers config own peer at (Gap g) other old made dues new h = h
+takes_by_readers config own peer at (Heartbeat b) other old made dues new h = h
+takes_by_readers config own peer at (InfoDst p) other old made dues new h = h
+takes_by_readers config own peer at (InfoTs t) other old made dues new h = h
+takes_by_readers config own peer at (Other n) other old made dues new h = h
+takes_by_readers config own peer at Pad other old made dues new h = h
+
+pub readers_take : (old new : CoreKept) (at : Receiver) (s : Submessage) (moves after : List Move) (sent gone : Announced) → ((a : AckNackBody) → s ≡ AckNack a → ⊥) → TellsReaders old at s moves sent new after gone → TakesOneMore old at s moves sent new after gone
+readers_take old new at s moves after sent gone other h = record {
+  made = h.made;
+  after_is = h.after_is;
+  takes = λ config peer stands.
+      let r : ReadersTook config old.prefix at s (length old.readers) peer h.made sent new gone = h.takes config peer stands in
+      record {
+        state = r.state;
+        dues = r.dues;
+        takes = takes_by_readers config old.prefix peer.number at s other (state_of peer) h.made r.dues r.state
+            (subst (λ (n : ℕ). InTurn (ReaderTakes config old.prefix peer.number at s) (numbers_from 1 n) (state_of peer) h.made r.dues r.state) (sym stands.readers.rows) r.turn);
+        stands = r.stands;
+        adds = r.adds;
+      };
+}
+
+pub readers_take_if : {A B : Type 0} (result : Result A B) (old new : CoreKept) (at : Receiver) (s : Submessage) (moves after : List Move) (sent gone : Announced) → ((a : AckNackBody) → s ≡ AckNack a → ⊥)
+    → OnOk result (TellsReaders old at s moves sent new after gone) → OnOk result (TakesOneMore old at s moves sent new after gone)
+readers_take_if (Ok x) old new at s moves after sent gone other h = readers_take old new at s moves after sent gone other h
+readers_take_if (Err e) old new at s moves after sent gone other h = tt
+
+-- no packets are messages
+pub no_messages : (packets : List Packet) → packets ≡ [] → AreMessages packets
+no_messages packets none packet among = let c : Contains {X = Packet} [] packet = subst (λ (ps : List Packet). Contains ps packet) none among in let lt = c.1 in absurd (omega (arith, lt))
 
 -- ---- the submessages of a message
 
-abbrev packet_of : (config : Config) (bytes : List ℕ) (offset : ℕ) (peer : Peer) (message : Message) (old : CoreKept) → StandsFor old config peer → ReadsMessage bytes message offset → Packet
-packet_of config bytes offset peer message old s reads = record {
-  config = config;
-  checked = s.is_peer.checked;
-  peer = peer.number;
-  before = peer.delivered;
-  bytes = bytes;
-  message = message;
-  offset = offset;
-  is_read = reads;
-}
-
--- what is left of the message stands in it, and nothing else
-pub record IsLeft (own : GuidPrefix) (message : Message) (index : ℕ) (at : Receiver) : Type 0 where
-  pub stand : (k : ℕ) (later : Receiver) (s : Submessage) → StandsAt own at (drop index message.submessages) k later s → StandsAt own (receiver_of message.prefix) message.submessages (index + k) later s
-  pub only : (k : ℕ) (later : Receiver) (s : Submessage) → StandsAt own (receiver_of message.prefix) message.submessages (index + k) later s → StandsAt own at (drop index message.submessages) k later s
-
-pub all_left : (own : GuidPrefix) (message : Message) (at : Receiver) → at ≡ receiver_of message.prefix → IsLeft own message 0 at
-all_left own message at begins = record {
-  stand = λ k later s h. subst (λ n. StandsAt own (receiver_of message.prefix) message.submessages n later s) (zero_on k) (subst (λ r. StandsAt own r message.submessages k later s) begins h);
-  only = λ k later s h. subst (λ r. StandsAt own r message.submessages k later s) (sym begins) (subst (λ n. StandsAt own (receiver_of message.prefix) message.submessages n later s) (sym (zero_on k)) h);
-}
-  where
-    zero_on : (k : ℕ) → k ≡ 0 + k
-    zero_on k = omega arith
-
-pub left_more : (own : GuidPrefix) (message : Message) (index : ℕ) (at : Receiver) (submessage : Submessage) → IsLeft own message index at
-    → drop index message.submessages ≡ submessage ∷ drop (index + 1) message.submessages → IsLeft own message (index + 1) (after_submessage own at submessage)
-left_more own message index at submessage left here = record {
-  stand = λ k later s h.
-      subst (λ n. StandsAt own (receiver_of message.prefix) message.submessages n later s) (one_on index k) (left.stand (suc k) later s (subst (λ ss. StandsAt own at ss (suc k) later s) (sym here) h));
-  only = λ k later s h.
-      subst (λ ss. StandsAt own at ss (suc k) later s) here (left.only (suc k) later s (subst (λ n. StandsAt own (receiver_of message.prefix) message.submessages n later s) (sym (one_on index k)) h));
-}
-  where
-    one_on : (a b : ℕ) → a + suc b ≡ a + 1 + b
-    one_on a b = omega arith
-
-rest_of : (p : Packet) (own : GuidPrefix) (index : ℕ) (at : Receiver) → prefix_of p.config p.peer ≡ own → IsLeft own p.message index at → IsRest p index at (drop index p.message.submessages)
-rest_of p own index at same left = record {
-  stand = λ k later s h. subst (λ x. StandsAt x (receiver_of p.message.prefix) p.message.submessages (index + k) later s) (sym same) (left.stand k later s (subst (λ x. StandsAt x at (drop index p.message.submessages) k later s) same h));
-  only = λ k later s h. subst (λ x. StandsAt x at (drop index p.message.submessages) k later s) (sym same) (left.only k later s (subst (λ x. StandsAt x (receiver_of p.message.prefix) p.message.submessages (index + k) later s) same h));
-}
+-- what was sent, and more
+written_adds : (a b : List Due) (sent gone : Announced) → AreWritten a sent.packets.items sent.unsent → AddsTo b sent gone → AreWritten (a ++ b) gone.packets.items gone.unsent
+written_adds a b sent gone h more =
+    subst (λ (ps : List Packet). AreWritten (a ++ b) ps gone.unsent) (sym more.sent)
+    (subst (λ (n : ℕ). AreWritten (a ++ b) (sent.packets.items ++ more.packets) n) (sym more.lost) (written_on a b sent.packets.items more.packets sent.unsent more.unsent h more.written))
 
 -- nothing is taken up at first
-pub takes_none : (old : CoreKept) (message : Message) (at : Receiver) (moves : List Move) → at ≡ receiver_of message.prefix → moves ≡ [] → TakesTo old message 0 at moves old
-takes_none old message at moves begins none config bytes offset peer reads s sound = record {
+pub takes_none : (old : CoreKept) (message : Message) (at : Receiver) (moves : List Move) (gone : Announced) → at ≡ receiver_of message.prefix → moves ≡ [] → gone.packets.items ≡ [] → gone.unsent ≡ 0 → TakesTo old message 0 at moves old gone
+takes_none old message at moves gone begins none quiet zero_lost config peer s = record {
   state = state_of peer;
+  dues = [];
   stands = stands_again old config peer (with_state peer (state_of peer)) refl refl refl s;
-  sound = begun (packet_of config bytes offset peer message old s reads) (state_of peer) sound;
-  on = λ later refused after h.
-      subst (λ ms. TakesUp config (claimed config peer.delivered bytes peer.number) peer.number old.prefix 0 (receiver_of message.prefix) message.submessages peer.part (ms ++ later) refused after.part) (sym none)
-      (subst (λ r. TakesUp config (claimed config peer.delivered bytes peer.number) peer.number old.prefix 0 r message.submessages peer.part later refused after.part) begins h);
+  sent = (quiet, zero_lost);
+  on = λ later refused last after h.
+      subst (λ (ms : List Move). Follows config old.prefix peer.number 0 (receiver_of message.prefix) message.submessages (state_of peer) (ms ++ later) refused last after) (sym none)
+      (subst (λ (r : Receiver). Follows config old.prefix peer.number 0 r message.submessages (state_of peer) later refused last after) begins h);
 }
 
 -- one more is taken up
-pub takes_more : (old now new : CoreKept) (message : Message) (index : ℕ) (at : Receiver) (submessage : Submessage) (moves more : List Move) → TakesTo old message index at moves now → IsLeft old.prefix message index at
-    → drop index message.submessages ≡ submessage ∷ drop (index + 1) message.submessages → now.prefix ≡ old.prefix → TakesOneMore now at submessage moves new more
-    → TakesTo old message (index + 1) (after_submessage old.prefix at submessage) more new
-takes_more old now new message index at submessage moves more taken left here same takes config bytes offset peer reads s sound =
+pub takes_more : (old now new : CoreKept) (message : Message) (index : ℕ) (at : Receiver) (submessage : Submessage) (moves more : List Move) (sent gone : Announced) → TakesTo old message index at moves now sent
+    → drop index message.submessages ≡ submessage ∷ drop (index + 1) message.submessages → now.prefix ≡ old.prefix → TakesOneMore now at submessage moves sent new more gone
+    → TakesTo old message (index + 1) (after_submessage old.prefix at submessage) more new gone
+takes_more old now new message index at submessage moves more sent gone taken here same takes config peer s =
     record {
       state = r.state;
+      dues = t.dues ++ r.dues;
       stands = stands_again new config (with_state (with_state peer t.state) r.state) (with_state peer r.state) refl refl refl r.stands;
-      sound = next_backed p index at submessage (drop (index + 1) message.submessages) rest stands r.state one.backed one.past;
-      on = λ later refused after h.
-          let together : TakesUp config (claimed config peer.delivered bytes peer.number) peer.number old.prefix index at (submessage ∷ drop (index + 1) message.submessages) t.state.part (takes.0 ++ later) refused after.part =
-          inr (takes.0, later, r.state.part, refl, one.moves, subst (λ x. MovesOver config (claimed config peer.delivered bytes peer.number index) peer.number x at submessage t.state.part takes.0) prefix one.over, h) in
-          let whole = t.on (takes.0 ++ later) refused after
-          (subst (λ ss. TakesUp config (claimed config peer.delivered bytes peer.number) peer.number old.prefix index at ss t.state.part (takes.0 ++ later) refused after.part) (sym here) together) in
-          subst (λ ms. TakesUp config (claimed config peer.delivered bytes peer.number) peer.number old.prefix 0 (receiver_of message.prefix) message.submessages peer.part ms refused after.part)
-          (sym (append_assoc moves takes.0 later) ∙ ap (λ ms. ms ++ later) (sym takes.1)) whole;
+      sent = written_adds t.dues r.dues sent gone t.sent r.adds;
+      on = λ later refused last after h.
+          let took : Takes config old.prefix peer.number at submessage t.state takes.made r.dues r.state = subst (λ (p : GuidPrefix). Takes config p peer.number at submessage t.state takes.made r.dues r.state) same r.takes in
+          let together : Follows config old.prefix peer.number index at (submessage ∷ drop (index + 1) message.submessages) t.state (takes.made ++ later) refused (r.dues ++ last) after =
+          inr (takes.made, later, r.dues, last, r.state, refl, refl, took, h) in
+          let whole = t.on (takes.made ++ later) refused (r.dues ++ last) after
+          (subst (λ (ss : List Submessage). Follows config old.prefix peer.number index at ss t.state (takes.made ++ later) refused (r.dues ++ last) after) (sym here) together) in
+          subst (λ (ms : List Move). Follows config old.prefix peer.number 0 (receiver_of message.prefix) message.submessages (state_of peer) ms refused ((t.dues ++ r.dues) ++ last) after)
+          (sym (append_assoc moves takes.made later) ∙ ap (λ (ms : List Move). ms ++ later) (sym takes.after_is))
+          (subst (λ (ds : List Due). Follows config old.prefix peer.number 0 (receiver_of message.prefix) message.submessages (state_of peer) (moves ++ (takes.made ++ later)) refused ds after)
+          (sym (append_assoc t.dues r.dues last)) whole);
     }
   where
-    p : Packet
-    p = packet_of config bytes offset peer message old s reads
+    t : TakenTo old message index at moves now sent config peer
+    t = taken config peer s
 
-    prefix : prefix_of config peer.number ≡ old.prefix
-    prefix = prefix_is old config peer s
+    r : TookSubmessage config now.prefix at submessage (with_state peer t.state) takes.made sent new gone
+    r = takes.takes config (with_state peer t.state) t.stands
 
-    t : TakenTo old message index at moves now config bytes peer
-    t = taken config bytes offset peer reads s sound
-
-    rest : IsRest p index at (submessage ∷ drop (index + 1) message.submessages)
-    rest = subst (λ ss. IsRest p index at ss) here (rest_of p old.prefix index at prefix left)
-
-    stands : Stands p index at submessage
-    stands = subst (λ n. Stands p n at submessage) (zero_on index) (rest.stand 0 at submessage (refl, refl))
-      where
-        zero_on : (n : ℕ) → n + 0 ≡ n
-        zero_on n = omega arith
-
-    r : ReadersTook config now.prefix at submessage (length now.readers) (with_state peer t.state) takes.0 new
-    r = takes.2 config (with_state peer t.state) t.stands
-
-    count : length now.readers ≡ length t.state.part.rtps.readers
-    count = sym t.stands.readers.rows
-
-    turn : InTurn (ReaderTakes config (prefix_of config peer.number) peer.number at submessage) (numbers_from 1 (length t.state.part.rtps.readers)) t.state takes.0 r.dues r.state
-    turn =
-        subst (λ n. InTurn (ReaderTakes config (prefix_of config peer.number) peer.number at submessage) (numbers_from 1 n) t.state takes.0 r.dues r.state) count
-        (subst (λ x. InTurn (ReaderTakes config x peer.number at submessage) (numbers_from 1 (length now.readers)) t.state takes.0 r.dues r.state) (same ∙ sym prefix) r.turn)
-
-    one : Taken (coming_at p index at submessage stands) t.state takes.0 r.state
-    one = taken_by_readers (coming_at p index at submessage stands) submessage refl t.state takes.0 r.dues r.state t.sound turn
+-- what was taken up is all: what follows does nothing
+ends_here : (old now : CoreKept) (message : Message) (index : ℕ) (at : Receiver) (report : Report) (gone : Announced) (config : Config) (peer : Peer) (t : TakenTo old message index at report.moves now gone config peer)
+    → Follows config old.prefix peer.number index at (drop index message.submessages) t.state [] report.refused [] t.state
+    → Follows config old.prefix peer.number 0 (receiver_of message.prefix) message.submessages (state_of peer) report.moves report.refused t.dues t.state
+ends_here old now message index at report gone config peer t end =
+    subst (λ (ms : List Move). Follows config old.prefix peer.number 0 (receiver_of message.prefix) message.submessages (state_of peer) ms report.refused t.dues t.state) (append-nil report.moves)
+    (subst (λ (ds : List Due). Follows config old.prefix peer.number 0 (receiver_of message.prefix) message.submessages (state_of peer) (report.moves ++ []) report.refused ds t.state) (append-nil t.dues)
+    (t.on [] report.refused [] t.state end))
 
 -- all are taken up, or one finds no memory
-pub takes_all : (old now : CoreKept) (message : Message) (at : Receiver) (report : Report) → TakesTo old message (length message.submessages) at report.moves now → IsLeft old.prefix message (length message.submessages) at
-    → drop (length message.submessages) message.submessages ≡ [] → report.refused ≡ None → TakesMessage old message report now
-takes_all old now message at report taken left none fine config bytes offset peer reads s sound =
-    let t : TakenTo old message (length message.submessages) at report.moves now config bytes peer = taken config bytes offset peer reads s sound in
-    let p : Packet = packet_of config bytes offset peer message old s reads in
-    let rest : IsRest p (length message.submessages) at [] = subst (λ ss. IsRest p (length message.submessages) at ss) none (rest_of p old.prefix (length message.submessages) at (prefix_is old config peer s) left) in
-    let end : TakesUp config (claimed config peer.delivered bytes peer.number) peer.number old.prefix (length message.submessages) at (drop (length message.submessages) message.submessages) t.state.part [] report.refused t.state.part =
-    subst (λ ss. TakesUp config (claimed config peer.delivered bytes peer.number) peer.number old.prefix (length message.submessages) at ss t.state.part [] report.refused t.state.part) (sym none) (refl, fine, refl) in
-    record {
-      state = t.state;
-      takes = subst (λ ms. TakesUp config (claimed config peer.delivered bytes peer.number) peer.number old.prefix 0 (receiver_of message.prefix) message.submessages peer.part ms report.refused t.state.part) (append-nil report.moves) (t.on [] report.refused t.state end);
-      stands = t.stands;
-      sound = subst (λ o. Backed p o t.state) (sym fine) (all_of p (length message.submessages) at rest t.state t.sound);
-    }
+pub takes_all : (old now : CoreKept) (message : Message) (at : Receiver) (report : Report) (gone : Announced) → TakesTo old message (length message.submessages) at report.moves now gone
+    → drop (length message.submessages) message.submessages ≡ [] → report.refused ≡ None → TakesMessage old message report now gone
+takes_all old now message at report gone taken none fine config peer s =
+    let count : ℕ = length message.submessages in
+    let t : TakenTo old message count at report.moves now gone config peer = taken config peer s in
+    let end : Follows config old.prefix peer.number count at (drop count message.submessages) t.state [] report.refused [] t.state =
+    subst (λ (ss : List Submessage). Follows config old.prefix peer.number count at ss t.state [] report.refused [] t.state) (sym none) (fine, (refl, refl, refl)) in
+    record { state = t.state; dues = t.dues; follows = ends_here old now message count at report gone config peer t end; stands = t.stands; sent = t.sent }
 
-pub takes_some : (old now new : CoreKept) (message : Message) (index : ℕ) (at : Receiver) (submessage : Submessage) (report : Report) → TakesTo old message index at report.moves now → StandsAsWell now new
-    → drop index message.submessages ≡ submessage ∷ drop (index + 1) message.submessages → report.refused ≡ Some index → TakesMessage old message report new
-takes_some old now new message index at submessage report taken well here refused config bytes offset peer reads s sound =
-    let t : TakenTo old message index at report.moves now config bytes peer = taken config bytes offset peer reads s sound in
-    let p : Packet = packet_of config bytes offset peer message old s reads in
-    let end : TakesUp config (claimed config peer.delivered bytes peer.number) peer.number old.prefix index at (drop index message.submessages) t.state.part [] report.refused t.state.part =
-    subst (λ ss. TakesUp config (claimed config peer.delivered bytes peer.number) peer.number old.prefix index at ss t.state.part [] report.refused t.state.part) (sym here) (inl (refl, refused, refl)) in
+pub takes_some : (old now new : CoreKept) (message : Message) (index : ℕ) (at : Receiver) (submessage : Submessage) (report : Report) (sent gone : Announced) → TakesTo old message index at report.moves now sent → StandsAsWell now new → gone ≡ sent
+    → drop index message.submessages ≡ submessage ∷ drop (index + 1) message.submessages → report.refused ≡ Some index → TakesMessage old message report new gone
+takes_some old now new message index at submessage report sent gone taken well same here refused config peer s =
+    let t : TakenTo old message index at report.moves now sent config peer = taken config peer s in
+    let end : Follows config old.prefix peer.number index at (drop index message.submessages) t.state [] report.refused [] t.state =
+    subst (λ (ss : List Submessage). Follows config old.prefix peer.number index at ss t.state [] report.refused [] t.state) (sym here) (inl (refused, (refl, refl, refl))) in
     record {
       state = t.state;
-      takes = subst (λ ms. TakesUp config (claimed config peer.delivered bytes peer.number) peer.number old.prefix 0 (receiver_of message.prefix) message.submessages peer.part ms report.refused t.state.part) (append-nil report.moves) (t.on [] report.refused t.state end);
+      dues = t.dues;
+      follows = ends_here old now message index at report sent config peer t end;
       stands = well config (with_state peer t.state) t.stands;
-      sound = subst (λ o. Backed p o t.state) (sym refused) t.sound;
+      sent = subst (λ (x : Announced). AreWritten t.dues x.packets.items x.unsent) (sym same) t.sent;
     }
 
 -- ---- the whole of a packet
 
-pub receives_message : (old new : CoreKept) (bytes : List ℕ) (read : Read) (report : Report) → ReadsMessage bytes read.message read.stop → TakesMessage old read.message report new → ReceivesPacket old bytes report new
-receives_message old new bytes read report reads takes config peer s sound =
-    let r : TookMessage config peer old.prefix read.message bytes report new = takes config bytes read.stop peer reads s sound in
+pub receives_message : (old new : CoreKept) (bytes : List ℕ) (read : Read) (report : Report) (gone : Announced) → ReadsMessage bytes read.message read.stop → TakesMessage old read.message report new gone → ReceivesPacket old bytes report new gone
+receives_message old new bytes read report gone reads takes config peer s =
+    let r : TookMessage config peer old.prefix read.message report new gone = takes config peer s in
     record {
       state = r.state;
-      receives = inl (record {
+      dues = r.dues;
+      takes = inl (record {
         message = read.message;
         offset = read.stop;
         is_read = reads;
-        taken = subst (λ p. TakesUp config (claimed config peer.delivered bytes peer.number) peer.number p 0 (receiver_of read.message.prefix) read.message.submessages peer.part report.moves report.refused r.state.part) (sym (prefix_is old config peer s)) r.takes;
+        follows = subst (λ (p : GuidPrefix). Follows config p peer.number 0 (receiver_of read.message.prefix) read.message.submessages (state_of peer) report.moves report.refused r.dues r.state) (sym (prefix_is old config peer s)) r.follows;
       });
       stands = r.stands;
-      sound = reported (packet_of config bytes read.stop peer read.message old s reads) report r.state r.sound;
+      sent = r.sent;
     }
 
 -- a report of no move
 abbrev pub no_move : Option ℕ → Report
 no_move refused = record { moves = []; refused = refused }
 
-unread : (old : CoreKept) (bytes : List ℕ) (refused : Option ℕ) → ((peer : Peer) → IsNotTaken bytes peer.part (no_move refused) peer.part) → ReceivesPacket old bytes (no_move refused) old
-unread old bytes refused not config peer s sound = record {
+unread : (old : CoreKept) (bytes : List ℕ) (refused : Option ℕ) (gone : Announced) → gone.packets.items ≡ [] → gone.unsent ≡ 0 → ((peer : Peer) → IsNotTaken bytes peer.part (no_move refused) peer.part) → ReceivesPacket old bytes (no_move refused) old gone
+unread old bytes refused gone quiet zero_lost not config peer s = record {
   state = state_of peer;
-  receives = inr (not peer);
+  dues = [];
+  takes = inr (not peer, refl, refl);
   stands = stands_again old config peer (with_state peer (state_of peer)) refl refl refl s;
-  sound = unread_backed config peer.number peer.delivered bytes (state_of peer) (state_of peer) (no_move refused) (not peer) refl sound;
+  sent = (quiet, zero_lost);
 }
 
-pub receives_nothing : (old : CoreKept) (bytes : List ℕ) → ((message : Message) (offset : ℕ) → ReadsMessage bytes message offset → ⊥) → ReceivesPacket old bytes (no_move None) old
-receives_nothing old bytes none = unread old bytes None (λ peer. record { moves = refl; after = refl; cause = inl (refl, none) })
+pub receives_nothing : (old : CoreKept) (bytes : List ℕ) (gone : Announced) → gone.packets.items ≡ [] → gone.unsent ≡ 0 → ((message : Message) (offset : ℕ) → ReadsMessage bytes message offset → ⊥) → ReceivesPacket old bytes (no_move None) old gone
+receives_nothing old bytes gone quiet zero_lost none = unread old bytes None gone quiet zero_lost (λ peer. record { moves = refl; after = refl; cause = inl (refl, none) })
 
-pub reads_nothing : (old : CoreKept) (bytes : List ℕ) → HasSubmessage bytes → ReceivesPacket old bytes (no_move (Some 0)) old
-reads_nothing old bytes has = unread old bytes (Some 0) (λ peer. record { moves = refl; after = refl; cause = inr (refl, has) })
+pub reads_nothing : (old : CoreKept) (bytes : List ℕ) (gone : Announced) → gone.packets.items ≡ [] → gone.unsent ≡ 0 → HasSubmessage bytes → ReceivesPacket old bytes (no_move (Some 0)) old gone
+reads_nothing old bytes gone quiet zero_lost has = unread old bytes (Some 0) gone quiet zero_lost (λ peer. record { moves = refl; after = refl; cause = inr (refl, has) })
 
 -- an answer that sends nothing
 abbrev pub silent : Reply → Output
 silent reply = record { reply = reply; packets = []; unsent = 0 }
-
--- a delivery by which this is done
-pub delivers : (old new : CoreKept) (bytes : List ℕ) (report : Report) → ReceivesPacket old bytes report new → SoundSteps old (event.Deliver bytes) (silent (Reported report)) new
-delivers old new bytes report receives config peer s sound =
-    let r : ReceivedPacket config peer bytes report new = receives config peer s sound in
-    let after : Peer = record { number = peer.number; part = r.state.part; known = r.state.known; delivered = record { packet = bytes; report = report } ∷ peer.delivered } in (
-      after,
-      record { same_number = refl; knows = tt; step = (r.receives, refl); sent = λ p c m h. absurd (omega (arith, m.1)) },
-      stands_again new config (with_state peer r.state) after refl refl refl r.stands,
-      r.sound,
-    )
 
 -- ---- the numbers of a message are such that the wire has
 
@@ -283,7 +233,7 @@ bounded id flags body (Gap g) h = let same = ap (λ (x : NumberSet). x.base) h.b
 bounded id flags body Pad h = tt
 bounded id flags body (InfoDst d) h = tt
 bounded id flags body (InfoTs d) h = tt
-bounded id flags body (AckNack d) h = tt
+bounded id flags body (AckNack a) h = let same = ap (λ (x : NumberSet). x.base) h.body_is.set.set in let low = h.body_is.set.valid.first in omega (arith, same, low)
 bounded id flags body (Other d) h = tt
 
 first_bounded : (x : Submessage) (xs : List Submessage) → IsBounded x → AreBounded xs → AreBounded (x ∷ xs)
@@ -324,9 +274,9 @@ pub sound_call : (old new : CoreKept) (call : Call) (output : Output) → Steps 
 sound_call old new call output steps config peer s sound =
     let r = steps config peer s in
     let readers : r.0.part.rtps.readers ≡ peer.part.rtps.readers = ap (λ (x : Rtps). x.readers) r.1.step.0.rtps ∙ effect_readers peer.part.rtps (effect_of peer.part call output.reply) in
-    (r.0, r.1, r.2, sound_still config peer r.0 r.1.same_number r.1.knows r.1.step.1 readers sound)
+    (r.0, r.1, r.2, sound_still config peer r.0 r.1.same_number r.1.knows r.1.step.1 readers sound, tt)
 
 pub sound_tick : (old new : CoreKept) (now : ℕ) (output : Output) → Steps old (event.Tick now) output new → SoundSteps old (event.Tick now) output new
 sound_tick old new now output steps config peer s sound =
     let r = steps config peer s in
-    (r.0, r.1, r.2, sound_still config peer r.0 r.1.same_number r.1.knows r.1.step.1 (tick_readers peer.part now output.reply r.0.part r.1.step.0) sound)
+    (r.0, r.1, r.2, sound_still config peer r.0 r.1.same_number r.1.knows r.1.step.1 (tick_readers peer.part now output.reply r.0.part r.1.step.0) sound, tt)

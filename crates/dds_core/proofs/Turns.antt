@@ -6,10 +6,12 @@ use Rattle.std.proofs.lemmas.List.{append-nil}
 use Rattle.dds_base.specs.declared.change.Change.{Change}
 use Rattle.dds_base.specs.declared.config.Config.{Config}
 use Rattle.dds_base.specs.declared.guid.EntityId.{EntityId}
+use Rattle.dds_base.specs.declared.guid.Guid.{Guid}
 use Rattle.dds_base.specs.declared.guid.GuidPrefix.{GuidPrefix}
 use Rattle.dds_base.specs.declared.happening.Happening.{Happening}
 use Rattle.dds_base.specs.Kept.{numbers_from}
 use Rattle.dds_cache.specs.Standing.{qos_of}
+use Rattle.rtps_reader.specs.declared.step.AckNackDue.{AckNackDue}
 use Rattle.rtps_reader.specs.declared.step.Step.{Step}
 use Rattle.rtps_reader.specs.declared.step.HeartbeatSeen.{HeartbeatSeen}
 use Rattle.rtps_reader.specs.Tracked.{Tracked, is_later, with_data, with_gap}
@@ -24,15 +26,19 @@ use Rattle.rtps_wire.specs.Content.{change_in}
 use Rattle.dds_model.specs.declared.endpoint.Endpoint.{Endpoint}
 use Rattle.dds_model.specs.declared.reply.Move.{Move}
 use Rattle.dds_model.specs.declared.reply.Move.TheVariants.{Place, Heard}
-use Rattle.dds_model.specs.Claims.{Receiver, IsToReader}
+use Rattle.dds_model.specs.Claims.{Receiver, IsToReader, Names}
 use Rattle.dds_model.specs.Peer.{Peer, state_of}
-use Rattle.dds_model.specs.Protocol.{Due, State, InTurn, Idles, WhereMatched, ReaderTakes}
+use Rattle.dds_model.specs.Protocol.{Due, State, InTurn, Idles, WhereMatched, TakesHeartbeat, ReaderTakes, acknacks_due}
+use Rattle.dds_core.specs.declared.matching.WriterName.{WriterName}
+use Rattle.dds_core.specs.declared.sending.Announced.{Announced}
 use Rattle.dds_core.specs.declared.reader_end.Ready.{Ready}
 use Rattle.dds_core.specs.declared.reader_end.Told.{Told}
 use Rattle.dds_core.specs.declared.reader_end.Told.TheVariants as told
 use Rattle.dds_core.specs.Kept.{ReaderKept, CoreKept, reader_identity}
-use Rattle.dds_core.specs.Receiving.{IsReadyWith, IsReadyFor, AreReady, IsNamedFor, NamedBy, IsToldBy, TakesTold, SameReader, TellsSo, TookAt, TakesAt, moves_of, with_state, ReadersTook, ReadersTake, TakesSome, TakesAll, StandsAsWell}
+use Rattle.dds_core.specs.Receiving.{IsReadyWith, IsReadyFor, AreReady, IsNamedFor, NamedBy, IsToldBy, TakesTold, SameReader, TellsSo, TookAt, TakesAt, moves_of, with_state, ReadersTook, ReadersTake, TakesSome, TakesAll, TellsReaders, StandsAsWell, writer_guid}
+use Rattle.dds_core.specs.Beating.{AddsTo}
 use Rattle.dds_core.specs.Standing.{IsFirstRow, ReaderStands, StandsFor}
+use Rattle.dds_core.proofs.Beating.{adds_none, adds_on}
 use Rattle.dds_core.specs.Stored.{Holds}
 use Rattle.dds_core.proofs.Ends.{with_reader, with_read}
 use Rattle.dds_core.proofs.Lists.{left_at, left_more, drop_set, get-within}
@@ -43,10 +49,9 @@ use Rattle.dds_model.specs.Part.{no_reader}
 use Rattle.dds_model.proofs.Framing.{with_same}
 use Rattle.dds_core.proofs.Takes.{Telling, known_of, proxies_of, reader_of, part_of, stood, stands_after, moves_on, heartbeat_on, after_step}
 
--- what one reader did, by the rules
-pub record ReaderTook (config : Config) (own : GuidPrefix) (at : Receiver) (s : Submessage) (reader : ℕ) (peer : Peer) (made : List Move) (new : CoreKept) : Type 0 where
+-- what one reader did, by the rules, and what was then due
+pub record ReaderTook (config : Config) (own : GuidPrefix) (at : Receiver) (s : Submessage) (reader : ℕ) (peer : Peer) (made : List Move) (dues : List Due) (new : CoreKept) : Type 0 where
   pub state : State
-  pub dues : List Due
   pub takes : ReaderTakes config own peer.number at s reader (state_of peer) made dues state
   pub stands : StandsFor new config (with_state peer state)
 
@@ -70,16 +75,29 @@ no_moves writer reader from step quiet still =
     not_less n = grind (arith, nat_tests)
 
 -- the names that a submessage has
-named_as : (c : Telling) (own : GuidPrefix) (at : Receiver) (a b d e : EntityId) → a ≡ d → b ≡ e → IsToReader c.config own at a b c.writer (record { peer = c.peer.number; number = suc c.i })
+abbrev named_as : (c : Telling) (own : GuidPrefix) (at : Receiver) (a b d e : EntityId) → a ≡ d → b ≡ e → IsToReader c.config own at a b c.writer (record { peer = c.peer.number; number = suc c.i })
     → IsToReader c.config own at d e c.writer (record { peer = c.peer.number; number = suc c.i })
-named_as c own at a b d e f g to =
-    subst (λ x. IsToReader c.config own at d x c.writer (record { peer = c.peer.number; number = suc c.i })) g (subst (λ x. IsToReader c.config own at x b c.writer (record { peer = c.peer.number; number = suc c.i })) f to)
+named_as c own at a b d e f g to = record {
+  from = record { peer = to.from.peer; at_peer = to.from.at_peer; same_prefix = to.from.same_prefix; end = to.from.end; at_writer = to.from.at_writer; same_entity = to.from.same_entity ∙ g };
+  is_for = to.is_for;
+  entity = to.entity;
+  to = to.to;
+  named = subst (λ (x : EntityId). Names x to.entity) f to.named;
+  matched = to.matched;
+}
+
+-- what is due to the writer once a submessage was told
+abbrev answer_to : (c : Telling) (own : GuidPrefix) (at : Receiver) (entity writer_id : EntityId) → Step → List Due
+answer_to c own at entity writer_id step = acknacks_due own at.source_guid_prefix c.writer.peer entity writer_id step.acknack
+
+no_answer : (c : Telling) (own : GuidPrefix) (at : Receiver) (entity writer_id : EntityId) (step : Step) → step.acknack ≡ None → answer_to c own at entity writer_id step ≡ []
+no_answer c own at entity writer_id step none = ap (λ (o : Option AckNackDue). acknacks_due own at.source_guid_prefix c.writer.peer entity writer_id o) none
 
 -- what is ready for a reader is told
 told_so : (c : Telling) (own : GuidPrefix) (at : Receiver) (s : Submessage) (said : Told) (k' : ReaderKept) (from : ℕ) (step : Step) (reader_id writer_id : EntityId) → NamedBy s reader_id writer_id → IsToldBy at s said
-    → IsToReader c.config own at reader_id writer_id c.writer (record { peer = c.peer.number; number = suc c.i }) → SameReader c.k k' → OthersStay c.row c.k.reader k'.reader → from ≡ (known_of c).place
+    → (to : IsToReader c.config own at reader_id writer_id c.writer (record { peer = c.peer.number; number = suc c.i })) → SameReader c.k k' → OthersStay c.row c.k.reader k'.reader → from ≡ (known_of c).place
     → TellsSo (match_at (qos_of c.k.store.cache) c.row c.kept.moment) said (known_of c) (reader_of c).happened step (Tracks k'.reader c.row) (λ h. Holds k'.store h)
-    → ReaderTook c.config own at s (suc c.i) c.peer (moves_of c.writer (c.i + 1) from step) (with_reader c.kept c.i k')
+    → ReaderTook c.config own at s (suc c.i) c.peer (moves_of c.writer (c.i + 1) from step) (answer_to c own at to.entity writer_id step) (with_reader c.kept c.i k')
 told_so c own at (Data d) (told.Change number change) k' from step reader_id writer_id by is to same others place m =
     let t : Tracked = with_data d.writer_sn (change_in d.content at.timestamp) (known_of c) in
     let n : MovesOn (match_at (qos_of c.k.store.cache) c.row c.kept.moment) t (reader_of c).happened step (Tracks k'.reader c.row) (λ h. Holds k'.store h) =
@@ -87,7 +105,7 @@ told_so c own at (Data d) (told.Change number change) k' from step reader_id wri
     (subst (λ x. MovesOn (match_at (qos_of c.k.store.cache) c.row c.kept.moment) (with_data x change (known_of c)) (reader_of c).happened step (Tracks k'.reader c.row) (λ h. Holds k'.store h)) is.0 m) in
     let r = moves_on c k' t from step same others place n in
     let to_it : IsToReader c.config own at d.reader_id d.writer_id c.writer (record { peer = c.peer.number; number = suc c.i }) = named_as c own at reader_id writer_id d.reader_id d.writer_id by.0 by.1 to in
-    record { state = after_step c step n.new n.after; dues = []; takes = inl (c.writer, to_it, (r.0, refl)); stands = r.1 }
+    record { state = after_step c step n.new n.after; takes = inl (c.writer, to_it, (r.0, no_answer c own at to.entity writer_id step m.acknack)); stands = r.1 }
 told_so c own at (Gap g) (told.Gap start list) k' from step reader_id writer_id by is to same others place m =
     let t : Tracked = with_gap g.gap_start g.gap_list (known_of c) in
     let n : MovesOn (match_at (qos_of c.k.store.cache) c.row c.kept.moment) t (reader_of c).happened step (Tracks k'.reader c.row) (λ h. Holds k'.store h) =
@@ -95,36 +113,51 @@ told_so c own at (Gap g) (told.Gap start list) k' from step reader_id writer_id 
     (subst (λ x. MovesOn (match_at (qos_of c.k.store.cache) c.row c.kept.moment) (with_gap x list (known_of c)) (reader_of c).happened step (Tracks k'.reader c.row) (λ h. Holds k'.store h)) is.0 m) in
     let r = moves_on c k' t from step same others place n in
     let to_it : IsToReader c.config own at g.reader_id g.writer_id c.writer (record { peer = c.peer.number; number = suc c.i }) = named_as c own at reader_id writer_id g.reader_id g.writer_id by.0 by.1 to in
-    record { state = after_step c step n.new n.after; dues = []; takes = inl (c.writer, to_it, (r.0, refl)); stands = r.1 }
+    record { state = after_step c step n.new n.after; takes = inl (c.writer, to_it, (r.0, no_answer c own at to.entity writer_id step m.acknack)); stands = r.1 }
 told_so c own at (Heartbeat h) (told.Heartbeat seen) k' from step reader_id writer_id by is to same others place (inl m) =
     let to_it : IsToReader c.config own at h.reader_id h.writer_id c.writer (record { peer = c.peer.number; number = suc c.i }) = named_as c own at reader_id writer_id h.reader_id h.writer_id by.0 by.1 to in
     let later : is_later (known_of c).count h.count ≡ true = subst (λ (x : HeartbeatSeen). is_later (known_of c).count x.count ≡ true) is m.0 in
-    let r = heartbeat_on c own at to_it.entity k' h seen from step is same others place later m.1 in
-    record { state = r.0; dues = r.1; takes = inl (c.writer, to_it, inl r.2); stands = r.3 }
+    let r = heartbeat_on c own at to.entity k' h seen from step is same others place later m.1 in
+    let dues : List Due = answer_to c own at to.entity writer_id step in
+    let takes : TakesHeartbeat own at (state_of c.peer) c.writer (suc c.i) to.entity h (moves_of c.writer (c.i + 1) from step) dues r.0 =
+    subst (λ (ds : List Due). TakesHeartbeat own at (state_of c.peer) c.writer (suc c.i) to.entity h (moves_of c.writer (c.i + 1) from step) ds r.0)
+    (ap (λ (w : EntityId). answer_to c own at to.entity w step) (sym by.1)) r.1 in
+    record { state = r.0; takes = inl (c.writer, to_it, inl takes); stands = r.2 }
 told_so c own at (Heartbeat h) (told.Heartbeat seen) k' from step reader_id writer_id by is to same others place (inr m) =
     let to_it : IsToReader c.config own at h.reader_id h.writer_id c.writer (record { peer = c.peer.number; number = suc c.i }) = named_as c own at reader_id writer_id h.reader_id h.writer_id by.0 by.1 to in
     let repeated : is_later (known_of c).count h.count ≡ false = subst (λ (x : HeartbeatSeen). is_later (known_of c).count x.count ≡ false) is m.0 in
     record {
       state = state_of c.peer;
-      dues = [];
-      takes = inl (c.writer, to_it, inr (repeated, (no_moves c.writer (c.i + 1) from step m.1.heard (m.1.to ∙ sym place), refl, refl)));
+      takes = inl (c.writer, to_it, inr (repeated, (no_moves c.writer (c.i + 1) from step m.1.heard (m.1.to ∙ sym place), no_answer c own at to.entity writer_id step m.1.acknack, refl)));
       stands = idles_after c k' same others m.2 m.3;
     }
 told_so c own at s said k' from step reader_id writer_id by is to same others place m = absurd is
 
+-- what is due to a writer of this name, from a reader that keeps this
+abbrev pub answer_due : GuidPrefix → ReaderKept → WriterName → Step → List Due
+answer_due own k name step = acknacks_due own name.guid.prefix name.writer.peer k.entity name.guid.entity step.acknack
+
 -- the reader of this index took up what was ready for it
-took : (config : Config) (peer : Peer) (kept new : CoreKept) (at : Receiver) (s : Submessage) (i : ℕ) (k : ReaderKept) (ready : Ready) (moves after : List Move) → StandsFor kept config peer → slice_get kept.readers i ≡ Some k
-    → IsReadyWith kept.prefix at s k ready → (t : TookAt kept i ready k moves new after) → ReaderTook config kept.prefix at s (suc i) peer (moves_of t.name.writer (i + 1) t.from t.step) new
-took config peer kept new at s i k ready moves after stands at_k is t =
-    let name = same_Some t.name is.named.first.name (sym t.at_name ∙ is.named.first.at) in
-    let first : IsFirstRow k.writers t.name.writer ready.row =
-    subst (λ n. IsFirstRow k.writers n.writer ready.row) (sym name) (first_row config peer kept stands i k at_k _ ready.row is.named.first) in
-    let c : Telling = record { config = config; peer = peer; kept = kept; stands = stands; i = i; k = k; at = at_k; writer = t.name.writer; row = ready.row; first = first } in
-    let to : IsToReader config kept.prefix at is.reader_id is.writer_id t.name.writer (record { peer = peer.number; number = suc i }) =
-    subst (λ n. IsToReader config kept.prefix at is.reader_id is.writer_id n.writer (record { peer = peer.number; number = suc i })) (sym name) (is_to config peer kept stands i k at_k at is.reader_id is.writer_id ready.row is.named) in
-    let knows : Tracks k.reader ready.row (known_of c) = (stood c).knows t.name.writer ready.row first in
+took : (config : Config) (peer : Peer) (kept new : CoreKept) (at : Receiver) (s : Submessage) (i : ℕ) (k : ReaderKept) (ready : Ready) (moves : List Move) (sent : Announced) (after : List Move) (gone : Announced) → StandsFor kept config peer
+    → slice_get kept.readers i ≡ Some k → IsReadyWith kept.prefix at s k ready → (t : TookAt kept i ready k moves sent new after gone)
+    → ReaderTook config kept.prefix at s (suc i) peer (moves_of t.name.writer (i + 1) t.from t.step) (answer_due kept.prefix k t.name t.step) new
+took config peer kept new at s i k ready moves sent after gone stands at_k is t =
+    let first : IsFirstRow k.writers own_name.writer ready.row = first_row config peer kept stands i k at_k _ ready.row is.named.first in
+    let c : Telling = record { config = config; peer = peer; kept = kept; stands = stands; i = i; k = k; at = at_k; writer = own_name.writer; row = ready.row; first = first } in
+    let to : IsToReader config kept.prefix at is.reader_id is.writer_id own_name.writer (record { peer = peer.number; number = suc i }) = is_to config peer kept stands i k at_k at is.reader_id is.writer_id ready.row is.named in
+    let knows : Tracks k.reader ready.row (known_of c) = (stood c).knows own_name.writer ready.row first in
     let r = told_so c kept.prefix at s ready.told t.reader t.from t.step is.reader_id is.writer_id is.by is.told to t.same t.told.others (t.place (known_of c) knows) (t.told.told (known_of c) (reader_of c).happened knows (stood c).holds) in
-    record { state = r.state; dues = r.dues; takes = r.takes; stands = subst (λ x. StandsFor x config (with_state peer r.state)) (sym t.new_is) r.stands }
+    let guid : own_name.guid ≡ writer_guid at is.writer_id = is.named.first.named in
+    let there : ReaderTook config kept.prefix at s (suc i) peer (moves_of own_name.writer (i + 1) t.from t.step) (answer_due kept.prefix k own_name t.step) (with_reader kept i t.reader) =
+    subst (λ (g : Guid). ReaderTook config kept.prefix at s (suc i) peer (moves_of own_name.writer (i + 1) t.from t.step) (acknacks_due kept.prefix g.prefix own_name.writer.peer k.entity g.entity t.step.acknack) (with_reader kept i t.reader)) (sym guid) r in
+    subst (λ (x : CoreKept). ReaderTook config kept.prefix at s (suc i) peer (moves_of t.name.writer (i + 1) t.from t.step) (answer_due kept.prefix k t.name t.step) x) (sym t.new_is)
+    (subst (λ (n : WriterName). ReaderTook config kept.prefix at s (suc i) peer (moves_of n.writer (i + 1) t.from t.step) (answer_due kept.prefix k n t.step) (with_reader kept i t.reader)) same_name there)
+  where
+    own_name : WriterName
+    own_name = is.named.first.name
+
+    same_name : own_name ≡ t.name
+    same_name = same_Some own_name t.name (sym is.named.first.at ∙ t.at_name)
 
 -- nothing is ready for it, and so it has nothing to do
 idles : (config : Config) (peer : Peer) (kept : CoreKept) (at : Receiver) (s : Submessage) (i : ℕ) (k : ReaderKept) → StandsFor kept config peer → slice_get kept.readers i ≡ Some k → IsReadyFor kept.prefix at s k None
@@ -147,7 +180,7 @@ numbers_more first (suc count) = ap (λ ns. first ∷ ns) (numbers_more (first +
     one_on a b = omega arith
 
 -- one more takes its turn
-turn_more : {X : Type 0} (step : X → State → List Move → List Due → State → Type 0) (xs : List X) (x : X) (old mid new : State) (made one : List Move) (dues due : List Due)
+pub turn_more : {X : Type 0} (step : X → State → List Move → List Due → State → Type 0) (xs : List X) (x : X) (old mid new : State) (made one : List Move) (dues due : List Due)
     → InTurn step xs old made dues mid → step x mid one due new → InTurn step (xs ++ x ∷ []) old (made ++ one) (dues ++ due) new
 turn_more step [] x old mid new made one dues due h k =
     (one, [], due, [], new, ap (λ ms. ms ++ one) h.0 ∙ sym (append-nil one), ap (λ ds. ds ++ due) h.1 ∙ sym (append-nil due), subst (λ s. step x s one due new) h.2 k, (refl, refl, refl))
@@ -164,87 +197,87 @@ turn_more step (y ∷ ys) x old mid new made one dues due h k = (
 )
 
 -- none has taken it up yet
-pub takes_none : (old : CoreKept) (ready : List (Option Ready)) (moves : List Move) → TakesSome old ready 0 moves old moves
-takes_none old ready moves = record {
+pub takes_none : (old : CoreKept) (ready : List (Option Ready)) (moves : List Move) (sent : Announced) → TakesSome old ready 0 moves sent old moves sent
+takes_none old ready moves sent = record {
   made = [];
   after_is = sym (append-nil moves);
-  takes = λ at s are config peer stands. record { state = state_of peer; dues = []; turn = (refl, refl, refl); stands = stands };
+  takes = λ at s are config peer stands. record { state = state_of peer; dues = []; turn = (refl, refl, refl); stands = stands; adds = adds_none sent.packets.items sent.unsent };
   left = refl;
   prefix = refl;
 }
 
-more_took : (config : Config) (own : GuidPrefix) (at : Receiver) (s : Submessage) (i : ℕ) (peer : Peer) (made one : List Move) (new : CoreKept) (before : State) (dues due : List Due) (after : State)
-    → InTurn (ReaderTakes config own peer.number at s) (numbers_from 1 i) (state_of peer) made dues before → ReaderTakes config own peer.number at s (suc i) before one due after → StandsFor new config (with_state peer after)
-    → ReadersTook config own at s (suc i) peer (made ++ one) new
-more_took config own at s i peer made one new before dues due after turn takes stands = record {
+more_took : (config : Config) (own : GuidPrefix) (at : Receiver) (s : Submessage) (i : ℕ) (peer : Peer) (made one : List Move) (due : List Due) (sent mid gone : Announced) (now new : CoreKept) (before : ReadersTook config own at s i peer made sent now mid) (after : State)
+    → ReaderTakes config own peer.number at s (suc i) before.state one due after → StandsFor new config (with_state peer after) → AddsTo due mid gone → ReadersTook config own at s (suc i) peer (made ++ one) sent new gone
+more_took config own at s i peer made one due sent mid gone now new before after takes stands adds = record {
   state = after;
-  dues = dues ++ due;
-  turn = subst (λ ns. InTurn (ReaderTakes config own peer.number at s) ns (state_of peer) (made ++ one) (dues ++ due) after) (sym (numbers_more 1 i))
-      (turn_more (ReaderTakes config own peer.number at s) (numbers_from 1 i) (1 + i) (state_of peer) before after made one dues due turn (subst (λ n. ReaderTakes config own peer.number at s n before one due after) (one_on i) takes));
+  dues = before.dues ++ due;
+  turn = subst (λ ns. InTurn (ReaderTakes config own peer.number at s) ns (state_of peer) (made ++ one) (before.dues ++ due) after) (sym (numbers_more 1 i))
+      (turn_more (ReaderTakes config own peer.number at s) (numbers_from 1 i) (1 + i) (state_of peer) before.state after made one before.dues due before.turn (subst (λ n. ReaderTakes config own peer.number at s n before.state one due after) (one_on i) takes));
   stands = stands;
+  adds = adds_on before.dues due sent.packets.items mid.packets.items gone.packets.items sent.unsent mid.unsent gone.unsent before.adds adds;
 }
   where
     one_on : (n : ℕ) → suc n ≡ 1 + n
     one_on n = omega arith
 
+-- the reader of an index that is none past the last
+there : (xs : List ReaderKept) (i : ℕ) → i < length xs → (k : ReaderKept) × (slice_get xs i ≡ Some k)
+there [] i lt = absurd (omega (arith, lt))
+there (x ∷ xs) zero lt = (x, refl)
+there (x ∷ xs) (suc i) lt = there xs i (omega (arith, lt))
+
+next_index : (n : ℕ) → suc n ≡ n + 1
+next_index n = omega arith
+
 -- nothing was ready for this reader
-pub takes_skip : (old now : CoreKept) (ready : List (Option Ready)) (i : ℕ) (moves after : List Move) → TakesSome old ready i moves now after → i < length old.readers → slice_get ready i ≡ Some None → TakesSome old ready (i + 1) moves now after
-takes_skip old now ready i moves after h within none =
-    subst (λ n. TakesSome old ready n moves now after) (next i) (record {
+pub takes_skip : (old now : CoreKept) (ready : List (Option Ready)) (i : ℕ) (moves after : List Move) (sent gone : Announced) → TakesSome old ready i moves sent now after gone → i < length old.readers → slice_get ready i ≡ Some None
+    → TakesSome old ready (i + 1) moves sent now after gone
+takes_skip old now ready i moves after sent gone h within none =
+    subst (λ n. TakesSome old ready n moves sent now after gone) (next_index i) (record {
       made = h.made;
       after_is = h.after_is;
       takes = λ at s are config peer stands.
-          let t : ReadersTook config old.prefix at s i peer h.made now = h.takes at s are config peer stands in
+          let t : ReadersTook config old.prefix at s i peer h.made sent now gone = h.takes at s are config peer stands in
           let k = there old.readers i within in
           let at_now : slice_get now.readers i ≡ Some k.0 = left_at now.readers old.readers i k.0 h.left k.1 in
           let idle : ReaderTakes config now.prefix peer.number at s (suc i) t.state [] [] t.state =
           idles config (with_state peer t.state) now at s i k.0 t.stands at_now (subst (λ p. IsReadyFor p at s k.0 None) (sym h.prefix) (are.each i k.0 None k.1 none)) in
           let same : ReaderTakes config old.prefix peer.number at s (suc i) t.state [] [] t.state = subst (λ p. ReaderTakes config p peer.number at s (suc i) t.state [] [] t.state) h.prefix idle in
-          subst (λ ms. ReadersTook config old.prefix at s (suc i) peer ms now) (append-nil h.made) (more_took config old.prefix at s i peer h.made [] now t.state t.dues [] t.state t.turn same t.stands);
+          subst (λ ms. ReadersTook config old.prefix at s (suc i) peer ms sent now gone) (append-nil h.made)
+          (more_took config old.prefix at s i peer h.made [] [] sent gone gone now now t t.state same t.stands (adds_none gone.packets.items gone.unsent));
       left = left_more now.readers old.readers i h.left;
       prefix = h.prefix;
     })
-  where
-    next : (n : ℕ) → suc n ≡ n + 1
-    next n = omega arith
-
-    there : (xs : List ReaderKept) (i : ℕ) → i < length xs → (k : ReaderKept) × (slice_get xs i ≡ Some k)
-    there [] i lt = absurd (omega (arith, lt))
-    there (x ∷ xs) zero lt = (x, refl)
-    there (x ∷ xs) (suc i) lt = there xs i (omega (arith, lt))
 
 -- this reader took up what was ready for it
-pub takes_more : (old now new : CoreKept) (ready : List (Option Ready)) (i : ℕ) (one : Ready) (moves mid after : List Move) → TakesSome old ready i moves now mid → i < length old.readers → slice_get ready i ≡ Some (Some one)
-    → ((k : ReaderKept) → slice_get now.readers i ≡ Some k → TookAt now i one k mid new after) → TakesSome old ready (i + 1) moves new after
-takes_more old now new ready i one moves mid after h within is took_at =
+pub takes_more : (old now new : CoreKept) (ready : List (Option Ready)) (i : ℕ) (one : Ready) (moves mid after : List Move) (sent went gone : Announced) → TakesSome old ready i moves sent now mid went → i < length old.readers
+    → slice_get ready i ≡ Some (Some one) → ((k : ReaderKept) → slice_get now.readers i ≡ Some k → TookAt now i one k mid went new after gone) → TakesSome old ready (i + 1) moves sent new after gone
+takes_more old now new ready i one moves mid after sent went gone h within is took_at =
     let k = there old.readers i within in
     let at_now : slice_get now.readers i ≡ Some k.0 = left_at now.readers old.readers i k.0 h.left k.1 in
-    let t : TookAt now i one k.0 mid new after = took_at k.0 at_now in
+    let t : TookAt now i one k.0 mid went new after gone = took_at k.0 at_now in
     let made = moves_of t.name.writer (i + 1) t.from t.step in
-    subst (λ n. TakesSome old ready n moves new after) (next i) (record {
+    subst (λ n. TakesSome old ready n moves sent new after gone) (next_index i) (record {
       made = h.made ++ made;
       after_is = t.after_is ∙ (ap (λ ms. ms ++ made) h.after_is ∙ append_assoc moves h.made made);
       takes = λ at s are config peer stands.
-          let before : ReadersTook config old.prefix at s i peer h.made now = h.takes at s are config peer stands in
+          let before : ReadersTook config old.prefix at s i peer h.made sent now went = h.takes at s are config peer stands in
           let with_it : IsReadyWith now.prefix at s k.0 one = subst (λ p. IsReadyWith p at s k.0 one) (sym h.prefix) (are.each i k.0 (Some one) k.1 is) in
-          let r = took config (with_state peer before.state) now new at s i k.0 one mid after before.stands at_now with_it t in
-          more_took config old.prefix at s i peer h.made made new before.state before.dues r.dues r.state before.turn
-          (subst (λ p. ReaderTakes config p peer.number at s (suc i) before.state made r.dues r.state) h.prefix r.takes) r.stands;
+          let r = took config (with_state peer before.state) now new at s i k.0 one mid went after gone before.stands at_now with_it t in
+          let dues = answer_due now.prefix k.0 t.name t.step in
+          more_took config old.prefix at s i peer h.made made dues sent went gone now new before r.state
+          (subst (λ p. ReaderTakes config p peer.number at s (suc i) before.state made dues r.state) h.prefix r.takes) r.stands t.answer;
       left = ap (λ (c : CoreKept). drop (suc i) c.readers) t.new_is ∙ (drop_set now.readers i t.reader ∙ left_more now.readers old.readers i h.left);
       prefix = ap (λ (c : CoreKept). c.prefix) t.new_is ∙ h.prefix;
     })
-  where
-    next : (n : ℕ) → suc n ≡ n + 1
-    next n = omega arith
 
-    there : (xs : List ReaderKept) (i : ℕ) → i < length xs → (k : ReaderKept) × (slice_get xs i ≡ Some k)
-    there [] i lt = absurd (omega (arith, lt))
-    there (x ∷ xs) zero lt = (x, refl)
-    there (x ∷ xs) (suc i) lt = there xs i (omega (arith, lt))
-
--- a submessage was taken up, once it was made ready
-pub takes_submessage : (old now new : CoreKept) (at : Receiver) (s : Submessage) (ready : List (Option Ready)) (moves after : List Move) → StandsAsWell old now → now.prefix ≡ old.prefix → AreReady old.prefix at s now.readers ready
-    → (all : TakesAll now ready moves new after) → length now.readers ≡ length old.readers → ReadersTake old at s (length old.readers) all.made new
-takes_submessage old now new at s ready moves after well prefix are all count config peer stands =
-    let r : ReadersTook config now.prefix at s (length now.readers) peer all.made new = all.takes at s (subst (λ p. AreReady p at s now.readers ready) (sym prefix) are) config peer (well config peer stands) in
-    subst (λ n. ReadersTook config old.prefix at s n peer all.made new) count (subst (λ p. ReadersTook config p at s (length now.readers) peer all.made new) prefix r)
+-- the readers were told what a submessage says, once it was made ready
+pub tells_readers : (old now new : CoreKept) (at : Receiver) (s : Submessage) (ready : List (Option Ready)) (moves after : List Move) (sent gone : Announced) → StandsAsWell old now → now.prefix ≡ old.prefix → AreReady old.prefix at s now.readers ready
+    → TakesAll now ready moves sent new after gone → length now.readers ≡ length old.readers → TellsReaders old at s moves sent new after gone
+tells_readers old now new at s ready moves after sent gone well prefix are all count = record {
+  made = all.made;
+  after_is = all.after_is;
+  takes = λ config peer stands.
+      let r : ReadersTook config now.prefix at s (length now.readers) peer all.made sent new gone = all.takes at s (subst (λ p. AreReady p at s now.readers ready) (sym prefix) are) config peer (well config peer stands) in
+      subst (λ n. ReadersTook config old.prefix at s n peer all.made sent new gone) count (subst (λ p. ReadersTook config p at s (length now.readers) peer all.made sent new gone) prefix r);
+}

@@ -19,6 +19,7 @@ use Rattle.dds_model.specs.Protocol.{Due, heartbeat_message}
 use Rattle.dds_core.specs.declared.heartbeat.Beat.{Beat}
 use Rattle.dds_core.specs.declared.matching.Destination.{Destination}
 use Rattle.dds_core.specs.declared.matching.ReaderName.{ReaderName}
+use Rattle.dds_core.specs.declared.sending.Announced.{Announced}
 use Rattle.dds_core.specs.Kept.{WriterKept}
 use Rattle.dds_core.specs.Standing.{WriterStands, WritersStand, state_of}
 
@@ -87,6 +88,10 @@ pub record Adds (dues : List Due) (old : List Packet) (before : ℕ) (new : List
   pub sent : new ≡ old ++ packets
   pub lost : after ≡ before + unsent
   pub written : AreWritten dues packets unsent
+
+-- so it is of what a peer has sent so far
+abbrev pub AddsTo : List Due → Announced → Announced → Type 0
+AddsTo dues old new = Adds dues old.packets.items old.unsent new.packets.items new.unsent
 
 -- for each writer that a writer's parts stand for, the HEARTBEATs to these peers are added
 abbrev pub Beats : Beat → Kept → List ReaderName → List Destination → List Packet → ℕ → List Packet → ℕ → Type 0

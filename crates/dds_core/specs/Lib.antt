@@ -7,3 +7,4 @@ pub mod Making
 pub mod Receiving
 pub mod Stored
 pub mod Beating
+pub mod Answering

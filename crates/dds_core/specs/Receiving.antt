@@ -21,9 +21,8 @@ use Rattle.rtps_reader.specs.Answer.{IsIdle}
 use Rattle.rtps_reader.specs.Reader.{Tracks, IsReady, AllStay, OthersStay, match_at, MovesOn, TakesHeartbeat}
 use Rattle.rtps_wire.specs.declared.message.Message.{Message}
 use Rattle.rtps_wire.specs.declared.submessage.Submessage.{Submessage}
-use Rattle.rtps_wire.specs.declared.submessage.Submessage.TheVariants.{Data, Heartbeat, Gap}
+use Rattle.rtps_wire.specs.declared.submessage.Submessage.TheVariants.{Data, Heartbeat, AckNack, Gap}
 use Rattle.rtps_wire.specs.Content.{change_in}
-use Rattle.rtps_wire.specs.Messages.{ReadsMessage}
 use Rattle.dds_model.specs.declared.endpoint.Endpoint.{Endpoint}
 use Rattle.dds_model.specs.declared.reply.Move.{Move}
 use Rattle.dds_model.specs.declared.reply.Move.TheVariants.{Place, Heard}
@@ -31,18 +30,18 @@ use Rattle.dds_model.specs.declared.reply.Reply.{Reply}
 use Rattle.dds_model.specs.declared.reply.Report.{Report}
 use Rattle.dds_model.specs.declared.reply.Reply.TheVariants.{Samples, Refused}
 use Rattle.dds_model.specs.Claims.{Receiver, receiver_of, is_for, Names}
-use Rattle.dds_model.specs.Receipt.{TakesUp, Receives}
-use Rattle.dds_model.specs.Backed.{IsBacked}
-use Rattle.dds_model.specs.Peer.{Peer, Delivery, claimed, packets_of, delivered_to, state_of}
-use Rattle.dds_model.specs.Protocol.{Due, State, InTurn, ReaderTakes}
+use Rattle.dds_model.specs.Peer.{Peer, state_of}
+use Rattle.dds_model.specs.Protocol.{Due, State, InTurn, ReaderTakes, Takes, Follows, TakesPacket, acknacks_due}
 use Rattle.dds_core.specs.declared.matching.WriterName.{WriterName}
 use Rattle.dds_core.specs.declared.reader_end.Ready.{Ready}
 use Rattle.dds_core.specs.declared.reader_end.Told.{Told}
 use Rattle.dds_core.specs.declared.reader_end.Told.TheVariants as told
 use Rattle.dds_core.specs.declared.receiver.MessageReceiver.{MessageReceiver}
+use Rattle.dds_core.specs.declared.sending.Announced.{Announced}
+use Rattle.dds_core.specs.Beating.{AreWritten, AddsTo}
 use Rattle.dds_core.specs.Kept.{ReaderKept, CoreKept}
 use Rattle.dds_core.specs.Stored.{Holds}
-use Rattle.dds_core.specs.Standing.{StandsFor, IsSound}
+use Rattle.dds_core.specs.Standing.{StandsFor}
 
 -- the receiver of a message, as a peer keeps it
 abbrev pub receiver_at : MessageReceiver → Receiver
@@ -90,6 +89,7 @@ abbrev pub IsBounded : Submessage → Type 0
 IsBounded (Data d) = d.writer_sn ≤ 2 ^ 62
 IsBounded (Gap g) = g.gap_list.base ≤ 2 ^ 62
 IsBounded (Heartbeat h) = h.first_sn ≤ 2 ^ 62
+IsBounded (AckNack a) = 1 ≤ a.reader_sn_state.base
 IsBounded submessage = Unit {0}
 
 abbrev pub AreBounded : List Submessage → Type 0
@@ -181,8 +181,8 @@ CanTakeAt readers index ready = (k : ReaderKept) × (slice_get readers index ≡
 abbrev pub AllCanTake : List ReaderKept → List (Option Ready) → Type 0
 AllCanTake readers ready = (i : ℕ) (one : Ready) → slice_get ready i ≡ Some (Some one) → CanTakeAt readers i one
 
--- the reader of this index was told what was ready
-pub record TookAt (old : CoreKept) (index : ℕ) (ready : Ready) (k : ReaderKept) (moves : List Move) (new : CoreKept) (after : List Move) : Type 0 where
+-- the reader of this index was told what was ready, and the ACKNACK that is then due was sent
+pub record TookAt (old : CoreKept) (index : ℕ) (ready : Ready) (k : ReaderKept) (moves : List Move) (sent : Announced) (new : CoreKept) (after : List Move) (gone : Announced) : Type 0 where
   pub name : WriterName
   pub at_name : slice_get k.writers ready.row ≡ Some name
   pub from : ℕ
@@ -193,84 +193,99 @@ pub record TookAt (old : CoreKept) (index : ℕ) (ready : Ready) (k : ReaderKept
   pub same : SameReader k reader
   pub new_is : new ≡ record old { readers = set old.readers index reader }
   pub after_is : after ≡ moves ++ moves_of name.writer (index + 1) from step
+  pub answer : AddsTo (acknacks_due old.prefix name.guid.prefix name.writer.peer k.entity name.guid.entity step.acknack) sent gone
 
-abbrev pub TakesAt : CoreKept → ℕ → Ready → List Move → CoreKept → List Move → Type 0
-TakesAt old index ready moves new after = (k : ReaderKept) → slice_get old.readers index ≡ Some k → TookAt old index ready k moves new after
+abbrev pub TakesAt : CoreKept → ℕ → Ready → List Move → Announced → CoreKept → List Move → Announced → Type 0
+TakesAt old index ready moves sent new after gone = (k : ReaderKept) → slice_get old.readers index ≡ Some k → TookAt old index ready k moves sent new after gone
 
 -- what this state of a peer is with another part, and other knowledge
 abbrev pub with_state : Peer → State → Peer
 with_state peer state = record peer { part = state.part; known = state.known }
 
 -- for each state that the old values stand for, so many of its readers took the submessage up, one after the other
-pub record ReadersTook (config : Config) (own : GuidPrefix) (at : Receiver) (submessage : Submessage) (count : ℕ) (peer : Peer) (made : List Move) (new : CoreKept) : Type 0 where
+pub record ReadersTook (config : Config) (own : GuidPrefix) (at : Receiver) (submessage : Submessage) (count : ℕ) (peer : Peer) (made : List Move) (sent : Announced) (new : CoreKept) (gone : Announced) : Type 0 where
   pub state : State
   pub dues : List Due
   pub turn : InTurn (ReaderTakes config own peer.number at submessage) (numbers_from 1 count) (state_of peer) made dues state
   pub stands : StandsFor new config (with_state peer state)
+  pub adds : AddsTo dues sent gone
 
-abbrev pub ReadersTake : CoreKept → Receiver → Submessage → ℕ → List Move → CoreKept → Type 0
-ReadersTake old at submessage count made new = (config : Config) (peer : Peer) → StandsFor old config peer → ReadersTook config old.prefix at submessage count peer made new
+abbrev pub ReadersTake : CoreKept → Receiver → Submessage → ℕ → List Move → Announced → CoreKept → Announced → Type 0
+ReadersTake old at submessage count made sent new gone = (config : Config) (peer : Peer) → StandsFor old config peer → ReadersTook config old.prefix at submessage count peer made sent new gone
 
 -- each reader is told what was ready for it
-pub record TakesAll (old : CoreKept) (ready : List (Option Ready)) (moves : List Move) (new : CoreKept) (after : List Move) : Type 0 where
+pub record TakesAll (old : CoreKept) (ready : List (Option Ready)) (moves : List Move) (sent : Announced) (new : CoreKept) (after : List Move) (gone : Announced) : Type 0 where
   pub made : List Move
   pub after_is : after ≡ moves ++ made
-  pub takes : (at : Receiver) (submessage : Submessage) → AreReady old.prefix at submessage old.readers ready → ReadersTake old at submessage (length old.readers) made new
+  pub takes : (at : Receiver) (submessage : Submessage) → AreReady old.prefix at submessage old.readers ready → ReadersTake old at submessage (length old.readers) made sent new gone
 
 -- the same of the readers before this index; the others are as they were
-pub record TakesSome (old : CoreKept) (ready : List (Option Ready)) (index : ℕ) (moves : List Move) (now : CoreKept) (after : List Move) : Type 0 where
+pub record TakesSome (old : CoreKept) (ready : List (Option Ready)) (index : ℕ) (moves : List Move) (sent : Announced) (now : CoreKept) (after : List Move) (gone : Announced) : Type 0 where
   pub made : List Move
   pub after_is : after ≡ moves ++ made
-  pub takes : (at : Receiver) (submessage : Submessage) → AreReady old.prefix at submessage old.readers ready → ReadersTake old at submessage index made now
+  pub takes : (at : Receiver) (submessage : Submessage) → AreReady old.prefix at submessage old.readers ready → ReadersTake old at submessage index made sent now gone
   pub left : drop index now.readers ≡ drop index old.readers
   pub prefix : now.prefix ≡ old.prefix
 
--- a submessage is taken up, after other moves
-abbrev pub TakesOneMore : CoreKept → Receiver → Submessage → List Move → CoreKept → List Move → Type 0
-TakesOneMore old at submessage moves new after = (made : List Move) × (after ≡ moves ++ made) × ReadersTake old at submessage (length old.readers) made new
+-- the readers are told what a submessage says, after other moves
+pub record TellsReaders (old : CoreKept) (at : Receiver) (submessage : Submessage) (moves : List Move) (sent : Announced) (new : CoreKept) (after : List Move) (gone : Announced) : Type 0 where
+  pub made : List Move
+  pub after_is : after ≡ moves ++ made
+  pub takes : ReadersTake old at submessage (length old.readers) made sent new gone
+
+-- for each state that the old values stand for, a submessage was taken up, and what was then due was sent
+pub record TookSubmessage (config : Config) (own : GuidPrefix) (at : Receiver) (submessage : Submessage) (peer : Peer) (made : List Move) (sent : Announced) (new : CoreKept) (gone : Announced) : Type 0 where
+  pub state : State
+  pub dues : List Due
+  pub takes : Takes config own peer.number at submessage (state_of peer) made dues state
+  pub stands : StandsFor new config (with_state peer state)
+  pub adds : AddsTo dues sent gone
+
+-- the same, after other moves
+pub record TakesOneMore (old : CoreKept) (at : Receiver) (submessage : Submessage) (moves : List Move) (sent : Announced) (new : CoreKept) (after : List Move) (gone : Announced) : Type 0 where
+  pub made : List Move
+  pub after_is : after ≡ moves ++ made
+  pub takes : (config : Config) (peer : Peer) → StandsFor old config peer → TookSubmessage config old.prefix at submessage peer made sent new gone
 
 -- the new values stand for what the old ones stood for
 abbrev pub StandsAsWell : CoreKept → CoreKept → Type 0
 StandsAsWell old new = (config : Config) (peer : Peer) → StandsFor old config peer → StandsFor new config peer
 
--- what it knows is claimed by that, and by the packet, up to the submessage of this index
-abbrev pub IsSoundTo : Config → Peer → List ℕ → Option ℕ → State → Type 0
-IsSoundTo config peer bytes refused state =
-    IsBacked config peer.number (bytes ∷ packets_of peer.delivered) (record { packet = bytes; report = record { moves = []; refused = refused } } ∷ peer.delivered) state
-
--- for each state that the old values stand for, the message's submessages are taken up with this report
-pub record TookMessage (config : Config) (peer : Peer) (own : GuidPrefix) (message : Message) (bytes : List ℕ) (report : Report) (new : CoreKept) : Type 0 where
+-- for each state that the old values stand for, the message's submessages are taken up with this report, and what is then
+-- due is sent
+pub record TookMessage (config : Config) (peer : Peer) (own : GuidPrefix) (message : Message) (report : Report) (new : CoreKept) (gone : Announced) : Type 0 where
   pub state : State
-  pub takes : TakesUp config (claimed config peer.delivered bytes peer.number) peer.number own 0 (receiver_of message.prefix) message.submessages peer.part report.moves report.refused state.part
+  pub dues : List Due
+  pub follows : Follows config own peer.number 0 (receiver_of message.prefix) message.submessages (state_of peer) report.moves report.refused dues state
   pub stands : StandsFor new config (with_state peer state)
-  pub sound : IsSoundTo config peer bytes report.refused state
+  pub sent : AreWritten dues gone.packets.items gone.unsent
 
-abbrev pub TakesMessage : CoreKept → Message → Report → CoreKept → Type 0
-TakesMessage old message report new = (config : Config) (bytes : List ℕ) (offset : ℕ) (peer : Peer) → ReadsMessage bytes message offset → StandsFor old config peer → IsSound config peer
-    → TookMessage config peer old.prefix message bytes report new
+abbrev pub TakesMessage : CoreKept → Message → Report → CoreKept → Announced → Type 0
+TakesMessage old message report new gone = (config : Config) (peer : Peer) → StandsFor old config peer → TookMessage config peer old.prefix message report new gone
 
 -- the same, up to the submessage of this index
-pub record TakenTo (old : CoreKept) (message : Message) (index : ℕ) (at : Receiver) (moves : List Move) (now : CoreKept) (config : Config) (bytes : List ℕ) (peer : Peer) : Type 0 where
+pub record TakenTo (old : CoreKept) (message : Message) (index : ℕ) (at : Receiver) (moves : List Move) (now : CoreKept) (gone : Announced) (config : Config) (peer : Peer) : Type 0 where
   pub state : State
+  pub dues : List Due
   pub stands : StandsFor now config (with_state peer state)
-  pub sound : IsSoundTo config peer bytes (Some index) state
-  pub on : (later : List Move) (refused : Option ℕ) (after : State)
-      → TakesUp config (claimed config peer.delivered bytes peer.number) peer.number old.prefix index at (drop index message.submessages) state.part later refused after.part
-      → TakesUp config (claimed config peer.delivered bytes peer.number) peer.number old.prefix 0 (receiver_of message.prefix) message.submessages peer.part (moves ++ later) refused after.part
+  pub sent : AreWritten dues gone.packets.items gone.unsent
+  pub on : (later : List Move) (refused : Option ℕ) (last : List Due) (after : State)
+      → Follows config old.prefix peer.number index at (drop index message.submessages) state later refused last after
+      → Follows config old.prefix peer.number 0 (receiver_of message.prefix) message.submessages (state_of peer) (moves ++ later) refused (dues ++ last) after
 
-abbrev pub TakesTo : CoreKept → Message → ℕ → Receiver → List Move → CoreKept → Type 0
-TakesTo old message index at moves now = (config : Config) (bytes : List ℕ) (offset : ℕ) (peer : Peer) → ReadsMessage bytes message offset → StandsFor old config peer → IsSound config peer
-    → TakenTo old message index at moves now config bytes peer
+abbrev pub TakesTo : CoreKept → Message → ℕ → Receiver → List Move → CoreKept → Announced → Type 0
+TakesTo old message index at moves now gone = (config : Config) (peer : Peer) → StandsFor old config peer → TakenTo old message index at moves now gone config peer
 
 -- for each state that the old values stand for, this is what is done with a packet
-pub record ReceivedPacket (config : Config) (peer : Peer) (bytes : List ℕ) (report : Report) (new : CoreKept) : Type 0 where
+pub record ReceivedPacket (config : Config) (peer : Peer) (bytes : List ℕ) (report : Report) (new : CoreKept) (gone : Announced) : Type 0 where
   pub state : State
-  pub receives : Receives config (claimed config peer.delivered bytes peer.number) peer.number bytes peer.part report state.part
+  pub dues : List Due
+  pub takes : TakesPacket config peer.number bytes (state_of peer) report dues state
   pub stands : StandsFor new config (with_state peer state)
-  pub sound : IsBacked config peer.number (bytes ∷ packets_of peer.delivered) (record { packet = bytes; report = report } ∷ peer.delivered) state
+  pub sent : AreWritten dues gone.packets.items gone.unsent
 
-abbrev pub ReceivesPacket : CoreKept → List ℕ → Report → CoreKept → Type 0
-ReceivesPacket old bytes report new = (config : Config) (peer : Peer) → StandsFor old config peer → IsSound config peer → ReceivedPacket config peer bytes report new
+abbrev pub ReceivesPacket : CoreKept → List ℕ → Report → CoreKept → Announced → Type 0
+ReceivesPacket old bytes report new gone = (config : Config) (peer : Peer) → StandsFor old config peer → ReceivedPacket config peer bytes report new gone
 
 -- the reply to an access that its cache answers so
 abbrev pub access_reply : Result (List Sample) Code → Reply

@@ -57,11 +57,12 @@ abbrev pub due_at_tick : Config → Peer → Reply → List Due
 due_at_tick config peer Done = heartbeats_due config peer.number peer.part
 due_at_tick config peer reply = []
 
--- for each state that the values stand for, this is what is sent at the event
+-- for each state that the values stand for, this is what is sent at a call or a tick; what is sent at a delivery is said by
+-- the rules of the protocol
 abbrev pub Sends : CoreKept → Event → Output → Type 0
 Sends old (event.Call call) output = (config : Config) (peer : Peer) → StandsFor old config peer → SendsFor config peer (effect_of peer.part call output.reply) output
 Sends old (event.Tick now) output = (config : Config) (peer : Peer) → StandsFor old config peer → AreSent (due_at_tick config peer output.reply) output.packets output.unsent
-Sends old (event.Deliver packet) output = SendsNothing output
+Sends old (event.Deliver packet) output = Unit {0}
 
 -- the message that announces a change to a peer
 abbrev pub announcement : Sender → Destination → ℕ → DataContent → Message

@@ -3,7 +3,9 @@
 use Rattle.std.specs.Prelude.{◌≡◌, ℕ, suc, ◌^◌, ◌<◌, ◌≤◌, List, [], map, length, get_or, slice_get, Option, Some, None, ℤ, All}
 use Rattle.std.specs.List.{AllZip}
 use Rattle.dds_base.specs.declared.config.Config.{Config}
-use Rattle.dds_base.specs.Written.{Written}
+use Rattle.dds_base.specs.declared.change.Change.{Change}
+use Rattle.dds_base.specs.Kept.{change_at}
+use Rattle.dds_base.specs.Written.{Written, changes_of}
 use Rattle.dds_cache.specs.Standing.{qos_of}
 use Rattle.rtps_reader.specs.Tracked.{Tracked}
 use Rattle.rtps_reader.specs.Reader.{Tracks}
@@ -11,13 +13,17 @@ use Rattle.rtps_writer.specs.Standing.{Kept, reader_count, StandsFor as RtpsStan
 use Rattle.rtps_writer.specs.WriterState.{WriterState}
 use Rattle.dds_model.specs.declared.endpoint.Endpoint.{Endpoint}
 use Rattle.dds_model.specs.declared.event.Event.{Event}
+use Rattle.dds_model.specs.declared.event.Event.TheVariants as event
 use Rattle.dds_model.specs.declared.event.Output.{Output}
+use Rattle.dds_model.specs.declared.reply.Reply.TheVariants.{Reported}
+use Rattle.dds_model.specs.declared.reply.Report.{Report}
 use Rattle.dds_model.specs.Backed.{IsBacked}
+use Rattle.dds_model.specs.Dues.{AreTellable}
 use Rattle.dds_model.specs.Part.{Writer, Reader, ReaderProxy, WriterProxy, no_writer, no_reader, place_of}
 use Rattle.dds_model.specs.Calls.{with_written, ticked}
 use Rattle.dds_model.specs.Machine.{no_filters}
 use Rattle.dds_model.specs.Peer.{Peer, PeerStep, packets_of, state_of as network_of}
-use Rattle.dds_model.specs.Protocol.{Known}
+use Rattle.dds_model.specs.Protocol.{Known, Due, TakesPacket, AreSent}
 use Rattle.dds_core.specs.declared.matching.Destination.{Destination}
 use Rattle.dds_core.specs.declared.matching.ReaderName.{ReaderName}
 use Rattle.dds_core.specs.declared.matching.WriterName.{WriterName}
@@ -41,13 +47,19 @@ pub record WriterStands (kept : WriterKept) (w : Writer) (answered : Endpoint �
   pub writer : RtpsStandsFor kept.writer (state_of w answered)
   pub begun : All (λ (p : ReaderProxy). 1 ≤ p.acknowledged) w.readers
 
--- what is so of each writer: it sends to at most 16 peers, its readers are those of what it keeps, and that stands for
--- some state
+-- the value of each of these changes has at most 1,024 octets
+abbrev pub AreShort : List Change → Type 0
+AreShort changes = (number : ℕ) (change : Change) → change_at changes number ≡ Some change → length change.value ≤ 1024
+
+-- what is so of each writer: it sends to at most 16 peers with at most 256 readers, its readers are those of what it keeps, and that stands for
+-- some state, of short changes
 pub record IsWhole (destinations : List Destination) (readers : List ReaderName) (writer : Kept) : Type 0 where
   pub few : length destinations ≤ 16
+  pub many : length readers ≤ 256
   pub count : reader_count writer ≡ length readers
   pub state : WriterState
   pub stands : RtpsStandsFor writer state
+  pub short : AreShort (changes_of state.written)
 
 -- the reader's writer of this row is this one, and no earlier row is
 pub record IsFirstRow (names : List WriterName) (writer : Endpoint) (k : ℕ) : Type 0 where
@@ -82,6 +94,7 @@ pub record StandsFor (kept : CoreKept) (config : Config) (peer : Peer) : Type 0 
   pub early : kept.moment < 2 ^ 63
   pub writers : WritersStand kept.writers peer.part.rtps.writers peer.known.answered
   pub readers : ReadersStand kept.readers peer.part.rtps.readers peer.part.dds.readers peer.known
+  pub tellable : AreTellable peer.part
 
 -- for each state that the old values stand for, the event is a step to one that the new values stand for
 abbrev pub Steps : CoreKept → Event → Output → CoreKept → Type 0
@@ -91,11 +104,24 @@ Steps old event output new = (config : Config) (peer : Peer) → StandsFor old c
 abbrev pub IsSound : Config → Peer → Type 0
 IsSound config peer = IsBacked config peer.number (packets_of peer.delivered) peer.delivered (network_of peer)
 
+-- A packet that was delivered is taken up by the rules of the protocol: they say what moves, what is known then, and which
+-- messages are due; these are sent, in their order, or counted as unsent.
+pub record IsTakenByRules (config : Config) (old : Peer) (packet : List ℕ) (output : Output) (new : Peer) : Type 0 where
+  pub report : Report
+  pub reply : output.reply ≡ Reported report
+  pub dues : List Due
+  pub takes : TakesPacket config old.number packet (network_of old) report dues (network_of new)
+  pub sent : AreSent dues output.packets output.unsent
+
+abbrev pub KeepsRules : Config → Peer → Event → Output → Peer → Type 0
+KeepsRules config old (event.Deliver packet) output new = IsTakenByRules config old packet output new
+KeepsRules config old other output new = Unit {0}
+
 -- For each state that the old values stand for, and of which all that is known was claimed, the event is a step to one that
--- the new values stand for, and of which all that is known was claimed.
+-- the new values stand for, and of which all that is known was claimed; a delivery follows the rules of the protocol.
 abbrev pub SoundSteps : CoreKept → Event → Output → CoreKept → Type 0
 SoundSteps old event output new = (config : Config) (peer : Peer) → StandsFor old config peer → IsSound config peer
-    → (after : Peer) × PeerStep config no_filters peer event output after × StandsFor new config after × IsSound config after
+    → (after : Peer) × PeerStep config no_filters peer event output after × StandsFor new config after × IsSound config after × KeepsRules config peer event output after
 
 -- a writer whose peer's time went on to this moment, and nothing else
 pub record Ticks (old : WriterKept) (now : ℕ) (new : WriterKept) : Type 0 where

@@ -1,17 +1,20 @@
 //! What a peer does with the bytes of a packet.
 //!
-//! RTPS 2.5, 8.3.4 (the message receiver), 8.4.12 (the behaviour of a reliable StatefulReader).
+//! RTPS 2.5, 8.3.4 (the message receiver), 8.4.12 (the behaviour of a reliable StatefulReader). What the peer's writers do
+//! with an ACKNACK is in `requests`.
 
-ghost use Rattle.std.specs.Prelude.{◌≡◌, ◌++◌, ◌+◌, ◌*◌, ◌<◌, ◌≤◌, length, vec_len, vec_capacity, IfOk, OnOk, OnErr};
+ghost use Rattle.std.specs.Prelude.{◌≡◌, ◌++◌, ◌+◌, ◌*◌, ◌^◌, ◌<◌, ◌≤◌, [], length, vec_len, vec_capacity, IfOk, OnOk, OnErr};
 ghost use Rattle.dds_model.specs.declared.event.Event.TheVariants as event;
 ghost use Rattle.dds_core.specs.Standing.{SoundSteps};
-ghost use Rattle.dds_core.specs.Sending.{SendsNothing};
-ghost use Rattle.dds_core.specs.Receiving.{receiver_at, IsBounded, AreBounded, AreReady, AreAlike, moves_of, CanTakeAt, TakesAt, AllCanTake, TakesAll, TakesOneMore, TakesMessage, StandsAsWell, ReceivesPacket};
+ghost use Rattle.dds_core.specs.Sending.{AreMessages};
+ghost use Rattle.dds_core.specs.Receiving.{receiver_at, IsBounded, AreBounded, AreReady, AreAlike, moves_of, CanTakeAt, TakesAt, AllCanTake, TakesAll, TellsReaders, TakesOneMore, TakesMessage, StandsAsWell, ReceivesPacket};
 
-use crate::output::{answered, unmoved};
+use crate::acknack::send_acknack;
+use crate::output::unmoved;
 use crate::peer::Core;
 use crate::reader_end::{ReaderEnd, Ready};
 use crate::receiver::{MessageReceiver, receiver_after, receiver_for};
+use crate::sending::Announced;
 use dds_base::{Code, GuidPrefix, Octets, Sequence, Sn};
 use dds_model::{Endpoint, Move, Output, Reply, Report};
 use rtps_reader::Step;
@@ -64,34 +67,54 @@ fn push_moves(moves: &mut Vec<Move>, writer: Endpoint, reader: u8, from: Sn, ste
 }
 
 impl Core {
-    /// The reader of this index is told what is ready for it. Adds the moves, for which there is room.
-    fn take_at(&mut self, moves: &mut Vec<Move>, index: usize, ready: Ready)
+    /// The reader of this index is told what is ready for it, and sends the ACKNACK that is then due. Adds the moves, for
+    /// which there is room.
+    fn take_at(
+        &mut self,
+        moves: &mut Vec<Move>,
+        sent: &mut Announced,
+        index: usize,
+        ready: Ready,
+    )
         requires can { CanTakeAt self.old.readers index ready }
         requires room { vec_len moves.old + 2 ≤ vec_capacity moves.old }
-        ensures takes { TakesAt self.old index ready moves.old.items self.new moves.new.items }
+        requires low { sent.old.unsent < 2 ^ 62 }
+        ensures takes { TakesAt self.old index ready moves.old.items sent.old self.new moves.new.items sent.new }
         ensures len { vec_len moves.new ≤ vec_len moves.old + 2 }
         ensures capacity { vec_capacity moves.new ≡ vec_capacity moves.old }
+        ensures few { sent.new.unsent ≤ sent.old.unsent + 1 }
+        ensures messages { AreMessages sent.old.packets.items → AreMessages sent.new.packets.items }
     {
-        let moment = self.moment;
+        let (alloc, prefix, moment) = (self.alloc, self.prefix, self.moment);
         let end = &mut self.readers[index];
         let writer = end.writer(ready.row);
         let from = end.place(ready.row);
         let step = end.take_up(ready, moment);
-        push_moves(moves, writer, (index + 1) as u8, from, step);
+        send_acknack(alloc, prefix, end.entity(), &writer, step.acknack, sent);
+        push_moves(moves, writer.writer, (index + 1) as u8, from, step);
     }
 
     /// Each reader is told what is ready for it, one after the other. Adds the moves, for which there is room.
-    fn take_all(&mut self, moves: &mut Vec<Move>, ready: Vec<Option<Ready>>)
+    fn take_all(
+        &mut self,
+        moves: &mut Vec<Move>,
+        sent: &mut Announced,
+        ready: Vec<Option<Ready>>,
+    )
         requires can { AllCanTake self.old.readers ready.items }
         requires count { length ready.items ≡ length self.old.readers }
         requires room { vec_len moves.old + 2 * length ready.items ≤ vec_capacity moves.old }
-        ensures takes { TakesAll self.old ready.items moves.old.items self.new moves.new.items }
+        requires few { length ready.items ≤ 16 }
+        requires low { sent.old.unsent < 2 ^ 60 }
+        ensures takes { TakesAll self.old ready.items moves.old.items sent.old self.new moves.new.items sent.new }
         ensures prefix { self.new.prefix ≡ self.old.prefix }
+        ensures few { sent.new.unsent ≤ sent.old.unsent + length ready.items }
+        ensures messages { AreMessages sent.old.packets.items → AreMessages sent.new.packets.items }
     {
         let mut ready = ready;
         for index in 0..ready.len() {
             if let Some(one) = ready[index].take() {
-                self.take_at(moves, index, one);
+                self.take_at(moves, sent, index, one);
             }
         }
     }
@@ -103,6 +126,7 @@ impl Core {
         submessage: &Submessage,
     ) -> Result<Vec<Option<Ready>>, Code>
         ensures ready { IfOk result (λ all. AreReady self.old.prefix (receiver_at receiver.now) submessage.now self.new.readers all.items) }
+        ensures few { IfOk result (λ all. length all.items ≤ 16) }
         ensures stands { StandsAsWell self.old self.new }
         ensures count { length self.new.readers ≡ length self.old.readers }
         ensures prefix { self.new.prefix ≡ self.old.prefix }
@@ -116,34 +140,63 @@ impl Core {
         )
     }
 
-    /// Takes up a submessage: each reader that it names is told what it says. Adds what moved.
-    fn take_submessage(
+    /// Each reader that a submessage names is told what it says. Adds what moved.
+    fn tell_readers(
         &mut self,
         moves: &mut Vec<Move>,
+        sent: &mut Announced,
         receiver: &MessageReceiver,
         submessage: &Submessage,
     ) -> Result<(), Code>
         requires bounded { IsBounded submessage.now }
-        ensures ok { OnOk result (TakesOneMore self.old (receiver_at receiver.now) submessage.now moves.old.items self.new moves.new.items) }
-        ensures err { OnErr result (StandsAsWell self.old self.new × (moves.new.items ≡ moves.old.items)) }
+        requires low { sent.old.unsent < 2 ^ 60 }
+        ensures ok { OnOk result (TellsReaders self.old (receiver_at receiver.now) submessage.now moves.old.items sent.old self.new moves.new.items sent.new) }
+        ensures err { OnErr result (StandsAsWell self.old self.new × (moves.new.items ≡ moves.old.items) × (sent.new ≡ sent.old)) }
         ensures prefix { self.new.prefix ≡ self.old.prefix }
+        ensures few { sent.new.unsent ≤ sent.old.unsent + 16 }
+        ensures messages { AreMessages sent.old.packets.items → AreMessages sent.new.packets.items }
     {
         let ready = self.make_ready(receiver, submessage)?;
         moves.reserve(2 * ready.len())?;
-        self.take_all(moves, ready);
+        self.take_all(moves, sent, ready);
         Ok(())
     }
 
+    /// Takes up a submessage: an ACKNACK is for the peer's writers, any other one for its readers. Adds what moved.
+    fn take_submessage(
+        &mut self,
+        moves: &mut Vec<Move>,
+        sent: &mut Announced,
+        receiver: &MessageReceiver,
+        submessage: &Submessage,
+    ) -> Result<(), Code>
+        requires bounded { IsBounded submessage.now }
+        requires low { sent.old.unsent < 2 ^ 59 }
+        ensures ok { OnOk result (TakesOneMore self.old (receiver_at receiver.now) submessage.now moves.old.items sent.old self.new moves.new.items sent.new) }
+        ensures err { OnErr result (StandsAsWell self.old self.new × (moves.new.items ≡ moves.old.items) × (sent.new ≡ sent.old)) }
+        ensures prefix { self.new.prefix ≡ self.old.prefix }
+        ensures few { sent.new.unsent ≤ sent.old.unsent + 2 ^ 16 }
+        ensures messages { AreMessages sent.old.packets.items → AreMessages sent.new.packets.items }
+    {
+        match submessage {
+            Submessage::AckNack(body) => self.take_acknack(moves, sent, receiver, body),
+            _ => self.tell_readers(moves, sent, receiver, submessage),
+        }
+    }
+
     /// Takes up the submessages of a message, up to one for which there is no memory.
-    fn take_message(&mut self, message: &Message) -> Report
+    fn take_message(&mut self, message: &Message, sent: &mut Announced) -> Report
         requires few { length message.now.submessages ≤ 65535 }
         requires bounded { AreBounded message.now.submessages }
-        ensures { TakesMessage self.old message.now result self.new }
+        requires none { sent.old.packets.items ≡ [] }
+        requires zero { sent.old.unsent ≡ 0 }
+        ensures takes { TakesMessage self.old message.now result self.new sent.new }
+        ensures messages { AreMessages sent.new.packets.items }
     {
         let mut moves = Vec::new(self.alloc);
         let mut receiver = receiver_for(message.prefix);
         for (index, submessage) in message.submessages.as_slice().iter().enumerate() {
-            match self.take_submessage(&mut moves, &receiver, submessage) {
+            match self.take_submessage(&mut moves, sent, &receiver, submessage) {
                 Ok(()) => receiver = receiver_after(&self.prefix, receiver, submessage),
                 Err(_) => {
                     return Report {
@@ -160,11 +213,14 @@ impl Core {
     }
 
     /// What is done with the bytes of a packet.
-    fn receive(&mut self, packet: &Octets) -> Report
-        ensures { ReceivesPacket self.old packet.now result self.new }
+    fn receive(&mut self, packet: &Octets, sent: &mut Announced) -> Report
+        requires none { sent.old.packets.items ≡ [] }
+        requires zero { sent.old.unsent ≡ 0 }
+        ensures receives { ReceivesPacket self.old packet.now result self.new sent.new }
+        ensures messages { AreMessages sent.new.packets.items }
     {
         match read_message(self.alloc, packet.as_slice()) {
-            Ok(Some(read)) => self.take_message(&read.message),
+            Ok(Some(read)) => self.take_message(&read.message, sent),
             Ok(None) => unmoved(self.alloc, None),
             Err(_) => unmoved(self.alloc, Some(0)),
         }
@@ -173,9 +229,18 @@ impl Core {
     /// The bytes of a packet come.
     pub(crate) fn deliver(&mut self, packet: &Octets) -> Output
         ensures step { SoundSteps self.old (event.Deliver packet.now) result self.new }
-        ensures sends { SendsNothing result }
+        ensures messages { AreMessages result.packets }
     {
-        let report = self.receive(packet);
-        answered(self.alloc, Reply::Reported(report))
+        let mut sent = Announced {
+            packets: Vec::new(self.alloc),
+            unsent: 0,
+        };
+        let report = self.receive(packet, &mut sent);
+        let Announced { packets, unsent } = sent;
+        Output {
+            reply: Reply::Reported(report),
+            packets: Sequence::from_vec(packets),
+            unsent,
+        }
     }
 }

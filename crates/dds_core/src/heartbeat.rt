@@ -2,20 +2,18 @@
 //!
 //! RTPS 2.5, 8.4.9 (reliable StatefulWriter: heartbeatPeriod), 8.3.8 (Heartbeat).
 
-ghost use Rattle.std.specs.Prelude.{◌≡◌, ◌+◌, ◌^◌, ◌≤◌, ◌<◌, ℤ, Option, length, map, IfOk, [], ◌∷◌};
-ghost use Rattle.std.specs.Result.{ForOk};
-ghost use Rattle.rtps_wire.specs.declared.message.Message.{Message as MessageOf};
+ghost use Rattle.std.specs.Prelude.{◌≡◌, ◌+◌, ◌≤◌, ℤ, Option, length, map, IfOk};
 ghost use Rattle.rtps_wire.specs.Messages.{IsWritable};
 ghost use Rattle.rtps_writer.specs.Standing.{reader_count, StandsFor as RtpsStandsFor};
 ghost use Rattle.dds_model.specs.declared.endpoint.Endpoint.{Endpoint};
 ghost use Rattle.dds_model.specs.Part.{ReaderProxy, Writer};
 ghost use Rattle.dds_core.specs.declared.matching.ReaderName.{ReaderName as NameOf};
-ghost use Rattle.dds_core.specs.Beating.{IsValid, message_to, due_to, is_peer_behind, Adds, Beats};
+ghost use Rattle.dds_core.specs.Beating.{IsValid, message_to, is_peer_behind, Beats};
 ghost use Rattle.dds_core.specs.Sending.{AreMessages};
 ghost use Rattle.dds_core.specs.Standing.{state_of};
 
 use crate::matching::{Destination, ReaderName};
-use crate::sending::{Announced, push_packet};
+use crate::sending::{Announced, send};
 use dds_base::{EntityId, GuidPrefix};
 use rtps_wire::{Heartbeat, Message, Submessage, Submessages};
 use rtps_writer::{HeartbeatDue, StatefulWriter};
@@ -57,26 +55,6 @@ fn message(alloc: Global, beat: &Beat, to: GuidPrefix) -> Result<Message, AllocE
         prefix: beat.prefix,
         submessages: Submessages::from_vec(submessages),
     })
-}
-
-/// Sends a message that is due to a peer, or counts it where it finds no memory.
-fn send(alloc: Global, sent: &mut Announced, message: Result<Message, AllocError>, to: u8)
-    requires writable { ForOk message IsWritable }
-    requires some { ForOk message (λ m. 1 ≤ length m.submessages) }
-    requires room { sent.old.unsent < 2 ^ 32 }
-    ensures few { sent.new.unsent ≤ sent.old.unsent + 1 }
-    ensures adds { (m : MessageOf) → IfOk message (λ x. x ≡ m) → Adds (due_to to m ∷ []) sent.old.packets.items sent.old.unsent sent.new.packets.items sent.new.unsent }
-    ensures messages { AreMessages sent.old.packets.items → AreMessages sent.new.packets.items }
-{
-    let Ok(message) = message else {
-        sent.unsent += 1;
-        return;
-    };
-    let before = sent.packets.len();
-    push_packet(alloc, &mut sent.packets, &message, to);
-    if sent.packets.len() == before {
-        sent.unsent += 1;
-    }
 }
 
 /// Whether some reader of this peer, among these readers of a writer, has not acknowledged all changes.

@@ -4,6 +4,8 @@
 //! keeps (`rtps_writer`) and what a reader holds (`dds_cache`).
 #![tactic(auto)]
 
+mod acknack;
+mod answering;
 mod calls;
 mod delivery;
 mod heartbeat;
@@ -13,6 +15,7 @@ mod output;
 mod peer;
 mod reader_end;
 mod receiver;
+mod requests;
 mod sending;
 mod store;
 mod writer_end;

@@ -2,7 +2,7 @@
 //!
 //! RTPS 2.5, 8.4.7 (StatefulWriter, matched_readers), 8.4.10 (StatefulReader, matched_writers).
 
-ghost use Rattle.std.specs.Prelude.{◌≡◌, ◌++◌, ◌≤◌, length, IfOk, OnOk, None};
+ghost use Rattle.std.specs.Prelude.{◌≡◌, ◌+◌, ◌++◌, ◌≤◌, length, IfOk, OnOk, None};
 ghost use Rattle.dds_base.specs.Checked.{check_refusal};
 ghost use Rattle.dds_base.specs.Matched.{of_readers_in, of_writers_in, of_matched_writers};
 ghost use Rattle.dds_core.specs.Matching.{has_reader, destinations, reader_name, reader_names, writer_name, matched_writer};
@@ -69,7 +69,8 @@ fn push_readers(
     topic: u32,
 ) -> Result<(), AllocError>
     requires few { length peer.now.readers ≤ 16 }
-    ensures { OnOk result (all.new.items ≡ all.old.items ++ of_readers_in (reader_name number peer.now) topic 1 peer.now.readers) }
+    ensures names { OnOk result (all.new.items ≡ all.old.items ++ of_readers_in (reader_name number peer.now) topic 1 peer.now.readers) }
+    ensures few { OnOk result (length all.new.items ≤ length all.old.items + 16) }
 {
     for (index, reader) in peer.readers.as_slice().iter().enumerate() {
         if reader.topic == topic {
@@ -95,7 +96,8 @@ pub fn matched_readers(
     topic: u32,
 ) -> Result<Vec<ReaderName>, AllocError>
     requires checked { check_refusal peers.now ≡ None }
-    ensures { IfOk result (λ all. all.items ≡ reader_names topic peers.now) }
+    ensures names { IfOk result (λ all. all.items ≡ reader_names topic peers.now) }
+    ensures many { IfOk result (λ all. length all.items ≤ 256) }
 {
     let mut all = Vec::new(alloc);
     for (index, peer) in peers.iter().enumerate() {

@@ -55,9 +55,10 @@ impl Core {
     ///
     /// DDS 1.4, 2.2.2.4 and 2.2.2.5 (DataWriter, DataReader); RTPS 2.5, 8.4 (behaviour).
     pub fn step(&mut self, event: Event) -> Output
-        // For each state that the peer stands for, the event is a step to one that it stands for afterwards.
+        // For each state that the peer stands for, the event is a step to one that it stands for afterwards; a delivered
+        // packet is taken up by the rules of the protocol, and what is due by them is sent.
         ensures step { SoundSteps self.old event result self.new }
-        // What goes out at the event, and what is counted as unsent.
+        // What goes out at a call or a tick, and what is counted as unsent.
         ensures sends { Sends self.old event result }
         // What goes out is the written form of a message.
         ensures messages { AreMessages result.packets }

@@ -8,11 +8,11 @@ ghost use Rattle.dds_base.specs.declared.code.Code.TheVariants.{Memory};
 ghost use Rattle.dds_base.specs.declared.happening.Happening.{Happening};
 ghost use Rattle.dds_base.specs.declared.happening.Happening.TheVariants.{Took};
 ghost use Rattle.rtps_wire.specs.declared.submessage.Submessage.TheVariants as submessage;
+ghost use Rattle.rtps_reader.specs.Answer.{IsSayable};
 ghost use Rattle.rtps_reader.specs.Tracked.{Tracked};
 ghost use Rattle.dds_core.specs.Opening.{is_plain_reader, OpensReader};
 ghost use Rattle.dds_core.specs.Receiving.{receiver_at, IsFirstName, IsNamedFor, NamedBy, NamesNobody, IsToldBy, HasMemory, IsReadyFor, IsAlike, CanTake, TakesTold, SameReader, TakesOnly, IsPlaceAt};
 ghost use Rattle.dds_core.specs.Stored.{Holds};
-ghost use Rattle.dds_core.specs.declared.matching.WriterName.{WriterName};
 ghost use Rattle.dds_cache.specs.Standing.{Answers, AfterAccess};
 ghost use Rattle.dds_model.specs.Claims.{is_for, Names};
 
@@ -23,7 +23,6 @@ use dds_base::{
     Change, Code, EntityId, Guid, GuidPrefix, Masks, Moment, PeerConfig, ReaderConfig, ReaderQos,
     Sample, Sequence, Sn,
 };
-use dds_model::Endpoint;
 use rtps_reader::{HeartbeatSeen, StatefulReader, Step};
 use rtps_sets::SnSet;
 use rtps_wire::{Data, Gap, Heartbeat, Submessage};
@@ -122,12 +121,19 @@ impl ReaderEnd {
         })
     }
 
-    /// The writer of this row.
-    pub fn writer(&self, row: usize) -> Endpoint
-        requires { row < length self.now.writers }
-        ensures { (name : WriterName) → slice_get self.now.writers row ≡ Some name → result ≡ name.writer }
+    /// Its name within the peer.
+    pub fn entity(&self) -> EntityId
+        ensures { result ≡ self.now.entity }
     {
-        self.writers[row].writer
+        self.entity
+    }
+
+    /// The writer of this row.
+    pub fn writer(&self, row: usize) -> WriterName
+        requires { row < length self.now.writers }
+        ensures { slice_get self.now.writers row ≡ Some result }
+    {
+        self.writers[row]
     }
 
     /// The place at the writer of this row.
@@ -300,6 +306,7 @@ impl ReaderEnd {
     pub fn take_up(&mut self, ready: Ready, moment: Moment) -> Step
         requires can { CanTake self.old ready }
         ensures told { TakesTold self.old ready moment result self.new }
+        ensures sayable { IfSome result.acknack IsSayable }
         ensures same { SameReader self.old self.new }
     {
         let Ready { row, told } = ready;

@@ -2,12 +2,14 @@
 //!
 //! RTPS 2.5, 8.4.9 (the behaviour of a reliable StatefulWriter).
 
-ghost use Rattle.std.specs.Prelude.{◌≡◌, ◌+◌, ◌^◌, ◌≤◌, length, set, IfOk};
+ghost use Rattle.std.specs.Prelude.{◌≡◌, ◌+◌, ◌^◌, ◌<◌, ◌≤◌, [], ◌∷◌, length, set, IfOk};
 ghost use Rattle.std.specs.Result.{ForOk};
 ghost use Rattle.rtps_wire.specs.Data.{IsContent};
+ghost use Rattle.rtps_wire.specs.declared.message.Message.{Message as MessageOf};
 ghost use Rattle.rtps_wire.specs.Messages.{IsWritable};
 ghost use Rattle.rtps_wire.specs.declared.submessage.Submessage.TheVariants.{InfoDst};
-ghost use Rattle.dds_core.specs.Sending.{AnnouncesCopy, AnnounceCopy, AddsPacket, IsAddressable};
+ghost use Rattle.dds_core.specs.Beating.{AddsTo, due_to};
+ghost use Rattle.dds_core.specs.Sending.{AnnouncesCopy, AnnounceCopy, AddsPacket, AreMessages, IsAddressable};
 
 use crate::matching::Destination;
 use dds_base::{EntityId, GuidPrefix, Moment, Octets, Sn};
@@ -88,6 +90,26 @@ pub fn push_packet(alloc: Global, packets: &mut Vec<Packet>, message: &Message, 
     if let Ok(bytes) = write_message(alloc, message) {
         let bytes = Octets::from_vec(bytes);
         let _ = packets.push(Packet { to, bytes });
+    }
+}
+
+/// Sends a message that is due to a peer, or counts it where it finds no memory.
+pub fn send(alloc: Global, sent: &mut Announced, message: Result<Message, AllocError>, to: u8)
+    requires writable { ForOk message IsWritable }
+    requires some { ForOk message (λ m. 1 ≤ length m.submessages) }
+    requires room { sent.old.unsent < 2 ^ 62 }
+    ensures few { sent.new.unsent ≤ sent.old.unsent + 1 }
+    ensures adds { (m : MessageOf) → IfOk message (λ x. x ≡ m) → AddsTo (due_to to m ∷ []) sent.old sent.new }
+    ensures messages { AreMessages sent.old.packets.items → AreMessages sent.new.packets.items }
+{
+    let Ok(message) = message else {
+        sent.unsent += 1;
+        return;
+    };
+    let before = sent.packets.len();
+    push_packet(alloc, &mut sent.packets, &message, to);
+    if sent.packets.len() == before {
+        sent.unsent += 1;
     }
 }
 

@@ -2,7 +2,7 @@
 //!
 //! RTPS 2.5, 8.4.7 (StatefulWriter); DDS 1.4, 2.2.2.4 (DataWriter).
 
-ghost use Rattle.std.specs.Prelude.{◌≡◌, ◌+◌, ◌^◌, ◌≤◌, ℤ, Option, length, None, true, IfOk, IfErr, OnOk, OnErr};
+ghost use Rattle.std.specs.Prelude.{◌≡◌, ◌+◌, ◌^◌, ◌<◌, ◌≤◌, ℤ, Option, length, slice_get, Some, None, true, IfOk, IfErr, OnOk, OnErr};
 ghost use Rattle.dds_base.specs.Checked.{check_refusal};
 ghost use Rattle.dds_base.specs.declared.code.Code.TheVariants.{Memory};
 ghost use Rattle.dds_base.specs.Kept.{append_refusal};
@@ -11,18 +11,26 @@ ghost use Rattle.dds_base.specs.Written.{Registered, Changed, is_key_registered}
 ghost use Rattle.dds_model.specs.declared.endpoint.Endpoint.{Endpoint as EndpointOf};
 ghost use Rattle.dds_model.specs.Calls.{limit_of, unregister_kind};
 ghost use Rattle.dds_model.specs.Part.{Writer, history_of, writer_changes};
+ghost use Rattle.dds_core.specs.declared.matching.ReaderName.{ReaderName as NameOf};
+ghost use Rattle.dds_core.specs.Answering.{HasRoom, AreRooms, TakesAckNack};
 ghost use Rattle.dds_core.specs.Beating.{BeatsOf, BeatsOfAll};
+ghost use Rattle.dds_core.specs.Kept.{writer_identity};
 ghost use Rattle.dds_core.specs.Opening.{is_plain_writer, OpensWriter};
+ghost use Rattle.dds_core.specs.Receiving.{receiver_at};
 ghost use Rattle.dds_core.specs.Sending.{AreMessages};
 ghost use Rattle.dds_core.specs.Standing.{WriterStands, Enters, Ticks, AllTick};
 
+use crate::answering::{Answering, Room, rooms, send_answers};
 use crate::heartbeat::{Beat, send_beats};
 use crate::matching::{Destination, ReaderName, destinations, matched_readers};
+use crate::receiver::MessageReceiver;
 use crate::sending::Announced;
 use dds_base::{
     Change, ChangeKind, Code, EntityId, GuidPrefix, Key, Moment, PeerConfig, Sn, WriterConfig,
 };
-use rtps_writer::StatefulWriter;
+use dds_model::Endpoint;
+use rtps_wire::AckNack;
+use rtps_writer::{Answered, StatefulWriter};
 use std::alloc::{AllocError, Global};
 use std::marker::Model;
 
@@ -142,6 +150,7 @@ impl WriterEnd {
     /// In this order, and each leaves the writer as it was: `OutOfResources` after 2^48 changes, `Timeout` where more
     /// than `max_samples` numbers would be kept, `Memory` where a growth was refused.
     pub fn append(&mut self, change: Change) -> Result<Sn, Code>
+        requires short { length change.value ≤ 1024 }
         ensures ok { OnOk result (Enters self.old (Changed change) self.new) }
         ensures accepted { IfOk result (λ number. (w : Writer) (answered : EndpointOf → Option ℤ) → WriterStands self.old w answered →
             (append_refusal (history_of w) change ≡ None) × (number ≡ length (writer_changes w) + 1)) }
@@ -150,6 +159,72 @@ impl WriterEnd {
         ensures err { OnErr result (self.new ≡ self.old) }
     {
         self.writer.write(change)
+    }
+
+    /// The reader of this row.
+    pub fn reader(&self, row: usize) -> Endpoint
+        requires { row < length self.now.readers }
+        ensures { (name : NameOf) → slice_get self.now.readers row ≡ Some name → result ≡ name.reader }
+    {
+        self.readers[row].reader
+    }
+
+    /// Room for the answers to each of its readers that an ACKNACK is from.
+    ///
+    /// # Errors
+    ///
+    /// Where a growth was refused.
+    pub fn rooms(
+        &self,
+        alloc: Global,
+        own: &GuidPrefix,
+        receiver: &MessageReceiver,
+        body: &AckNack,
+    ) -> Result<Vec<Option<Room>>, AllocError>
+        ensures few { IfOk result (λ all. length all.items ≤ 256) }
+        ensures rooms { IfOk result (λ all. AreRooms own.now self.now.entity (receiver_at receiver.now) body.now self.now.readers all.items) }
+    {
+        let readers = self.readers.as_slice();
+        rooms(alloc, own, receiver, body, self.entity, readers)
+    }
+
+    /// Takes an ACKNACK of its reader of this row, with room for the answers, and sends them. Gives the number below which
+    /// the reader has acknowledged all, where that is greater than before.
+    ///
+    /// RTPS 2.5, 8.4.9 (ReaderProxy).
+    pub fn take_acknack(
+        &mut self,
+        alloc: Global,
+        prefix: GuidPrefix,
+        row: usize,
+        body: &AckNack,
+        room: Room,
+        sent: &mut Announced,
+    ) -> Option<Sn>
+        requires row { row < length self.old.readers }
+        requires base { 1 ≤ body.now.reader_sn_state.base }
+        requires room { HasRoom body.now.reader_sn_state room }
+        requires low { sent.old.unsent < 2 ^ 60 }
+        ensures takes { TakesAckNack self.old prefix row body.now sent.old self.new result sent.new }
+        ensures same { writer_identity self.new ≡ writer_identity self.old }
+        ensures few { sent.new.unsent ≤ sent.old.unsent + 256 }
+        ensures messages { AreMessages sent.old.packets.items → AreMessages sent.new.packets.items }
+    {
+        let set = &body.reader_sn_state;
+        let Room { answers } = room;
+        let Answered {
+            acknowledged,
+            answers,
+        } = self
+            .writer
+            .take_acknack(row, set.base(), set, body.count, answers);
+        let answering = Answering {
+            own: prefix,
+            entity: self.entity,
+            reader: self.readers[row],
+        };
+        send_answers(alloc, &answering, &self.writer, answers.as_slice(), sent);
+        acknowledged
     }
 
     /// The time of its peer, of this prefix, has gone on to this moment: sends the HEARTBEATs that are then due.

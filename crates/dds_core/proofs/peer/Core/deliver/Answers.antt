@@ -1,11 +1,13 @@
-use Rattle.std.proofs.Common.{sym, subst}
+use Rattle.std.proofs.Common.{List, sym, subst, ◌∙◌}
 use Rattle.dds_model.specs.declared.event.Event.TheVariants as event
-use Rattle.dds_model.specs.declared.event.Output.{Output}
+use Rattle.dds_model.specs.declared.event.Packet.{Packet}
+use Rattle.dds_model.specs.declared.reply.Reply.TheVariants.{Reported}
 use Rattle.dds_core.specs.Standing.{SoundSteps}
-use Rattle.dds_core.proofs.Taking.{delivers}
+use Rattle.dds_core.proofs.Delivering.{delivers}
 use Rattle.dds_core.proofs.peer.Core.deliver.Goals as goal
 
 pub returns-clause-step : goal.returns-clause-step
 returns-clause-step c =
-    subst (λ (o : Output). SoundSteps c.args.self.now (event.Deliver c.args.packet.now) o c.receive-report.new.self) (sym c.answered.ensures)
-    (delivers c.args.self.now c.receive-report.new.self c.args.packet.now c.receive-report.result c.receive-report.ensures)
+    let sent = c.receive-report.new.sent in
+    subst (λ (ps : List Packet). SoundSteps c.args.self.now (event.Deliver c.args.packet.now) (record { reply = Reported c.receive-report.result; packets = ps; unsent = sent.unsent }) c.receive-report.new.self) (sym c.from_vec.ensures)
+    (delivers c.args.self.now c.receive-report.new.self c.args.packet.now c.receive-report.result sent c.receive-report.ensures.receives)

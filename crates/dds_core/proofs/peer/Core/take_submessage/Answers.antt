@@ -1,22 +1,14 @@
-use Rattle.std.proofs.Common.{◌++◌, List, ◌∙◌, ap}
-use Rattle.dds_model.specs.declared.reply.Move.{Move}
+use Rattle.std.proofs.Common.{rules, arith}
 use Rattle.dds_core.specs.Receiving.{receiver_at}
-use Rattle.dds_core.proofs.Ready.{all_can}
-use Rattle.dds_core.proofs.Turns.{takes_submessage}
+use Rattle.dds_core.proofs.Taking.{readers_take_if}
 use Rattle.dds_core.proofs.peer.Core.take_submessage.Goals as goal
 
-pub take_all-requires-clause-can : goal.take_all-requires-clause-can
-take_all-requires-clause-can c =
-    all_can c.args.self.now.prefix (receiver_at c.args.receiver.now) c.args.submessage.now c.make_ready.new.self.readers c.in_ok-ready.ready.items c.requires.bounded c.in_ok-ready.ensures.ready
-
-pub take_all-requires-clause-count : goal.take_all-requires-clause-count
-take_all-requires-clause-count c = c.in_ok-ready.ensures.ready.count
-
-pub returns-clause-ok : goal.returns-clause-ok
-returns-clause-ok c =
-    let all = c.take_all.ensures.takes in (
-      all.made,
-      all.after_is ∙ ap (λ (ms : List Move). ms ++ all.made) c.in_ok-reserve.ensures.items,
-      takes_submessage c.args.self.now c.make_ready.new.self c.take_all.new.self (receiver_at c.args.receiver.now) c.args.submessage.now c.in_ok-ready.ready.items c.reserve.new.self.items c.take_all.new.moves.items c.in_ok-ready.ensures.stands
-          c.in_ok-ready.ensures.prefix c.in_ok-ready.ensures.ready all c.in_ok-ready.ensures.count,
-    )
+pub returns-in_default : goal.returns-in_default
+returns-in_default c = record {
+  ok = readers_take_if c.tell_readers.result c.args.self.now c.tell_readers.new.self (receiver_at c.args.receiver.now) c.args.submessage.now c.args.moves.now.items c.tell_readers.new.moves.items c.args.sent.now c.tell_readers.new.sent (λ a is. c.in_default.not-AckNack a is)
+      c.tell_readers.ensures.ok;
+  err = c.tell_readers.ensures.err;
+  prefix = c.tell_readers.ensures.prefix;
+  few = let few = c.tell_readers.ensures.few in omega (arith, few);
+  messages = c.tell_readers.ensures.messages;
+}

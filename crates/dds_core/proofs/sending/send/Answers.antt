@@ -4,7 +4,7 @@ use Rattle.std.specs.declared.alloc.AllocError.{AllocError}
 use Rattle.rtps_wire.specs.declared.message.Message.{Message}
 use Rattle.dds_core.specs.Beating.{due_to}
 use Rattle.dds_core.proofs.Beating.{adds_lost, adds_if_lost, adds_if_sent, still_messages}
-use Rattle.dds_core.proofs.heartbeat.send.Goals as goal
+use Rattle.dds_core.proofs.sending.send.Goals as goal
 
 pub returns-then-len-before-clause-adds : goal.returns-then-len-before-clause-adds
 returns-then-len-before-clause-adds c = λ m is.

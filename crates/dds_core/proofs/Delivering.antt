@@ -1,0 +1,39 @@
+-- A delivery is a step of the peer by the rules of the protocol.
+use Rattle.std.proofs.Common.{◌≡◌, ℕ, List, ◌∷◌, refl, sym, subst}
+use Rattle.dds_base.specs.declared.config.Config.{Config}
+use Rattle.dds_model.specs.declared.event.Event.TheVariants as event
+use Rattle.dds_model.specs.declared.event.Output.{Output}
+use Rattle.dds_model.specs.declared.event.Packet.{Packet}
+use Rattle.dds_model.specs.declared.reply.Report.{Report}
+use Rattle.dds_model.specs.declared.reply.Reply.TheVariants.{Reported}
+use Rattle.dds_model.specs.Peer.{Peer, state_of}
+use Rattle.dds_model.proofs.DuesPackets.{packet_truthful}
+use Rattle.dds_model.proofs.RuledPackets.{takes_packet}
+use Rattle.dds_core.specs.declared.sending.Announced.{Announced}
+use Rattle.dds_core.specs.Kept.{CoreKept}
+use Rattle.dds_core.specs.Receiving.{with_state, ReceivedPacket, ReceivesPacket}
+use Rattle.dds_core.specs.Standing.{StandsFor, IsSound, SoundSteps}
+use Rattle.dds_core.proofs.BeatsDue.{written_sent, written_true}
+use Rattle.dds_core.proofs.Taking.{stands_again}
+
+-- what a delivery gives back
+abbrev pub delivered : Report → Announced → Output
+delivered report gone = record { reply = Reported report; packets = gone.packets.items; unsent = gone.unsent }
+
+pub delivers : (old new : CoreKept) (bytes : List ℕ) (report : Report) (gone : Announced) → ReceivesPacket old bytes report new gone → SoundSteps old (event.Deliver bytes) (delivered report gone) new
+delivers old new bytes report gone receives config peer s sound =
+    let r : ReceivedPacket config peer bytes report new gone = receives config peer s in
+    let rests = takes_packet config peer.number peer.delivered bytes (state_of peer) report r.dues r.state s.is_peer.checked sound r.takes in
+    let truthful = packet_truthful config peer.number peer.delivered bytes (state_of peer) report r.dues r.state s.is_peer.checked sound s.tellable r.takes in
+    let after : Peer = record { number = peer.number; part = r.state.part; known = r.state.known; delivered = record { packet = bytes; report = report } ∷ peer.delivered } in (
+      after,
+      record {
+        same_number = refl;
+        knows = tt;
+        step = (rests.receives, refl);
+        sent = written_true config peer.number r.state.part r.dues gone.packets.items gone.unsent truthful r.sent;
+      },
+      stands_again new config (with_state peer r.state) after refl refl refl r.stands,
+      rests.backed,
+      record { report = report; reply = refl; dues = r.dues; takes = r.takes; sent = written_sent r.dues gone.packets.items gone.unsent r.sent },
+    )

@@ -1,0 +1,24 @@
+use Rattle.std.proofs.Common.{List, [], ◌∷◌, ap, sym, subst, ◌∙◌, rules}
+use Rattle.std.specs.Prelude.{ℤ, FitsSigned}
+use Rattle.std.specs.Int.{w32}
+use Rattle.std.proofs.lemmas.Int.{to_z-of_z}
+use Rattle.rtps_wire.specs.declared.submessage.Submessage.{Submessage}
+use Rattle.rtps_wire.specs.declared.submessage.Submessage.TheVariants.{InfoDst, AckNack}
+use Rattle.rtps_wire.specs.Messages.{IsWritable}
+use Rattle.dds_core.proofs.ReadersAnswer.{acknack_writable}
+use Rattle.dds_core.proofs.acknack.message.Goals as goal
+
+pub returns-clause-writable : goal.returns-clause-writable
+returns-clause-writable c =
+    let fits : FitsSigned w32 c.args.due.now.count = search rules in
+    let acknack : ℤ → List Submessage = λ z.
+    InfoDst c.args.writer.now.guid.prefix ∷ AckNack (record {
+      reader_id = c.args.reader;
+      writer_id = c.args.writer.now.guid.entity;
+      reader_sn_state = c.args.due.now.missing;
+      count = z;
+      final_flag = c.args.due.now.is_final;
+    }) ∷ [] in
+    let all = c.from_vec.ensures ∙ (c.in_ok-submessages.ensures.items ∙ ap acknack (to_z-of_z w32 c.args.due.now.count fits)) in
+    subst (λ (ss : List Submessage). IsWritable (record { prefix = c.args.own; submessages = ss })) (sym all)
+    (acknack_writable c.args.own c.args.writer.now.guid.prefix c.args.reader c.args.writer.now.guid.entity c.args.due.now c.as_slice-own.ensures.len c.as_slice-to.ensures.len c.as_slice-reader.ensures.len c.as_slice-writer.ensures.len fits c.requires)

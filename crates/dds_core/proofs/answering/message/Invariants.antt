@@ -1,0 +1,18 @@
+use Rattle.std.proofs.Common.{◌≡◌, ◌+◌, ◌*◌, ◌≤◌, ◌∷◌, length, take}
+use Rattle.std.specs.List.{AllByRecursion, flat_map}
+use Rattle.dds_base.specs.Written.{changes_of}
+use Rattle.rtps_wire.specs.declared.submessage.Submessage.TheVariants.{InfoDst}
+use Rattle.rtps_wire.specs.Submessages.{IsSpellable}
+use Rattle.rtps_writer.specs.Standing.{StandsFor as RtpsStandsFor}
+use Rattle.rtps_writer.specs.WriterState.{WriterState}
+use Rattle.dds_model.specs.Protocol.{submessages_of}
+use Rattle.dds_core.proofs.answering.message.Given as goal
+
+-- the answers so far stand in the message
+abbrev pub invariant-loop-answer : goal.invariant-loop-answer
+invariant-loop-answer l = record {
+  says : (s : WriterState) → RtpsStandsFor l.fn.writer s
+      → l.submessages.items ≡ InfoDst l.fn.answering.reader.guid.prefix ∷ flat_map (submessages_of (changes_of s.written) l.fn.answering.reader.guid.entity l.fn.answering.entity) (take l.answer-index l.fn.answers);
+  each : AllByRecursion IsSpellable l.submessages.items;
+  few : length l.submessages.items ≤ 1 + 2 * l.answer-index;
+}

@@ -1,0 +1,161 @@
+-- What a peer's writers do at an ACKNACK, by what the peer keeps. Inner functions alone cite this: nothing here has to be
+-- believed.
+--
+-- RTPS 2.5, 8.4.9 (reliable StatefulWriter, ReaderProxy: requested_changes), 8.3.8 (AckNack, Data, Gap).
+use Rattle.std.specs.Prelude.{◌≡◌, ℕ, suc, ◌+◌, ◌^◌, ◌<◌, ◌≤◌, true, List, [], ◌∷◌, ◌++◌, length, map, take, set, slice_get, vec_capacity, Option, Some, None}
+use Rattle.std.specs.List.{All, AllByRecursion}
+use Rattle.dds_base.specs.declared.change.Change.{Change}
+use Rattle.dds_base.specs.declared.config.Config.{Config}
+use Rattle.dds_base.specs.declared.guid.EntityId.{EntityId}
+use Rattle.dds_base.specs.declared.guid.GuidPrefix.{GuidPrefix}
+use Rattle.dds_base.specs.Kept.{kept_change}
+use Rattle.dds_base.specs.Written.{changes_of}
+use Rattle.rtps_sets.specs.NumberSet.{NumberSet, span}
+use Rattle.rtps_wire.specs.declared.acknack.AckNack.{AckNack as AckNackBody}
+use Rattle.rtps_wire.specs.declared.submessage.Submessage.{Submessage}
+use Rattle.rtps_wire.specs.Submessages.{IsSpellable}
+use Rattle.rtps_writer.specs.declared.answer.Answer.{Answer}
+use Rattle.rtps_writer.specs.declared.answer.Answer.TheVariants.{Data, Gap}
+use Rattle.rtps_writer.specs.Acknack.{acknack_answers, after_acknack, newly_acknowledged}
+use Rattle.rtps_writer.specs.Standing.{Kept, StandsFor as RtpsStandsFor}
+use Rattle.rtps_writer.specs.WriterState.{WriterState, history_of}
+use Rattle.dds_model.specs.declared.endpoint.Endpoint.{Endpoint}
+use Rattle.dds_model.specs.declared.reply.Move.{Move}
+use Rattle.dds_model.specs.declared.reply.Move.TheVariants.{Acknowledged}
+use Rattle.dds_model.specs.Claims.{Receiver, is_for, Names}
+use Rattle.dds_model.specs.Peer.{Peer, state_of}
+use Rattle.dds_model.specs.Protocol.{Due, State, InTurn, WriterTakes, AreGrouped, answer_message}
+use Rattle.dds_core.specs.declared.answering.Answering.{Answering}
+use Rattle.dds_core.specs.declared.answering.Room.{Room}
+use Rattle.dds_core.specs.declared.matching.ReaderName.{ReaderName}
+use Rattle.dds_core.specs.declared.sending.Announced.{Announced}
+use Rattle.dds_core.specs.Beating.{AddsTo, due_to}
+use Rattle.dds_core.specs.Kept.{WriterKept, CoreKept, writer_identity}
+use Rattle.dds_core.specs.Receiving.{with_state}
+use Rattle.dds_core.specs.Standing.{StandsFor}
+
+-- ---- whom an ACKNACK is from
+
+-- it is for the writer of this entity of the peer, and from the reader of this name
+pub record IsFrom (own : GuidPrefix) (entity : EntityId) (at : Receiver) (a : AckNackBody) (name : ReaderName) : Type 0 where
+  pub named : Names a.reader_id name.guid.entity
+  pub is_for : is_for at own ≡ true
+  pub writer : a.writer_id ≡ entity
+  pub source : name.guid.prefix ≡ at.source_guid_prefix
+
+-- ---- the room for its answers
+
+-- an answer to each place of the set finds room
+pub record HasRoom (numbers : NumberSet) (room : Room) : Type 0 where
+  pub none : room.answers.items ≡ []
+  pub enough : span numbers.members ≤ vec_capacity room.answers
+
+-- a reader that the ACKNACK is from has room, and no other one
+abbrev pub IsRoom : GuidPrefix → EntityId → Receiver → AckNackBody → ReaderName → Option Room → Type 0
+IsRoom own entity at a name None = IsFrom own entity at a name → ⊥
+IsRoom own entity at a name (Some room) = IsFrom own entity at a name × HasRoom a.reader_sn_state room
+
+-- so it is of each of these readers
+pub record AreRooms (own : GuidPrefix) (entity : EntityId) (at : Receiver) (a : AckNackBody) (names : List ReaderName) (rooms : List (Option Room)) : Type 0 where
+  pub count : length rooms ≡ length names
+  pub each : (i : ℕ) (name : ReaderName) (room : Option Room) → slice_get names i ≡ Some name → slice_get rooms i ≡ Some room → IsRoom own entity at a name room
+
+-- each room that is there is such a one
+abbrev pub HaveRoom : NumberSet → List (Option Room) → Type 0
+HaveRoom numbers rooms = (i : ℕ) (room : Room) → slice_get rooms i ≡ Some (Some room) → HasRoom numbers room
+
+-- ---- the messages with the answers
+
+-- the answer can be written: its change is kept, and small; or its numbers are some that the wire has
+abbrev pub IsAnswerableIn : WriterState → Answer → Type 0
+IsAnswerableIn s (Data number) = (change : Change) × (kept_change (history_of s) number ≡ Some change) × (length change.value ≤ 1024)
+IsAnswerableIn s (Gap first last) = (1 ≤ first) × (first ≤ last) × (last < 2 ^ 62)
+
+-- the writer that keeps this can give the answer
+pub record CanAnswer (kept : Kept) (answer : Answer) : Type 0 where
+  pub state : WriterState
+  pub stands : RtpsStandsFor kept state
+  pub few : length (changes_of state.written) < 2 ^ 62
+  pub is : IsAnswerableIn state answer
+
+-- two submessages at most were added, which can be written
+pub record SpellsMore (old new : List Submessage) : Type 0 where
+  pub each : AllByRecursion IsSpellable old → AllByRecursion IsSpellable new
+  pub few : length new ≤ length old + 2
+
+-- it can give each of these answers
+pub record AreAnswerable (kept : Kept) (answers : List Answer) : Type 0 where
+  pub state : WriterState
+  pub stands : RtpsStandsFor kept state
+  pub few : length (changes_of state.written) < 2 ^ 62
+  pub each : All (IsAnswerableIn state) answers
+
+-- a message with answers that is due
+abbrev pub answer_due : Answering → List Change → List Answer → Due
+answer_due a changes answers = due_to a.reader.reader.peer (answer_message a.own a.reader.guid.prefix a.reader.guid.entity a.entity changes answers)
+
+-- the answers are sent, eight in a packet but in the last one
+pub record SendsAnswers (answering : Answering) (changes : List Change) (answers : List Answer) (sent gone : Announced) : Type 0 where
+  pub groups : List (List Answer)
+  pub grouped : AreGrouped answers groups
+  pub adds : AddsTo (map (answer_due answering changes) groups) sent gone
+
+-- ---- what a writer does
+
+-- a writer in this state took the ACKNACK of its reader of this row
+pub record TookAckNack (old : WriterKept) (own : GuidPrefix) (row : ℕ) (a : AckNackBody) (sent : Announced) (new : WriterKept) (acknowledged : Option ℕ) (gone : Announced) (s : WriterState) : Type 0 where
+  pub stands : RtpsStandsFor new.writer (after_acknack s row a.reader_sn_state.base a.count)
+  pub acknowledged_is : acknowledged ≡ newly_acknowledged s (after_acknack s row a.reader_sn_state.base a.count) row
+  pub sends : (name : ReaderName) → slice_get old.readers row ≡ Some name
+      → SendsAnswers (record { own = own; entity = old.entity; reader = name }) (changes_of s.written) (acknack_answers s row a.reader_sn_state.base a.reader_sn_state a.count) sent gone
+
+abbrev pub TakesAckNack : WriterKept → GuidPrefix → ℕ → AckNackBody → Announced → WriterKept → Option ℕ → Announced → Type 0
+TakesAckNack old own row a sent new acknowledged gone = (s : WriterState) → RtpsStandsFor old.writer s → TookAckNack old own row a sent new acknowledged gone s
+
+-- ---- what a peer does
+
+-- the writer of this index has this entity
+pub record IsWriterOf (kept : List WriterKept) (entity : EntityId) (index : ℕ) : Type 0 where
+  pub writer : WriterKept
+  pub at : slice_get kept index ≡ Some writer
+  pub is : writer.entity ≡ entity
+
+-- the move of an acknowledgement, where there is one
+abbrev pub acknowledged_moves : ℕ → Endpoint → Option ℕ → List Move
+acknowledged_moves writer reader None = []
+acknowledged_moves writer reader (Some to) = Acknowledged writer reader to ∷ []
+
+-- the writer of this index, which keeps this, took the ACKNACK of its reader of this row
+pub record RowTook (old : CoreKept) (index row : ℕ) (a : AckNackBody) (k : WriterKept) (name : ReaderName) (moves : List Move) (sent : Announced) (new : CoreKept) (after : List Move) (gone : Announced) : Type 0 where
+  pub acknowledged : Option ℕ
+  pub writer : WriterKept
+  pub same : writer_identity writer ≡ writer_identity k
+  pub answers : TakesAckNack k old.prefix row a sent writer acknowledged gone
+  pub new_is : new ≡ record old { writers = set old.writers index writer }
+  pub after_is : after ≡ moves ++ acknowledged_moves (index + 1) name.reader acknowledged
+
+abbrev pub TakesRow : CoreKept → ℕ → ℕ → AckNackBody → List Move → Announced → CoreKept → List Move → Announced → Type 0
+TakesRow old index row a moves sent new after gone = (k : WriterKept) (name : ReaderName) → slice_get old.writers index ≡ Some k → slice_get k.readers row ≡ Some name → RowTook old index row a k name moves sent new after gone
+
+-- for each state that the old values stand for, the writer of this index took the ACKNACK as to each of these readers
+pub record RowsTook (config : Config) (own : GuidPrefix) (at : Receiver) (a : AckNackBody) (index : ℕ) (names : List ReaderName) (peer : Peer) (made : List Move) (sent : Announced) (new : CoreKept) (gone : Announced) : Type 0 where
+  pub state : State
+  pub dues : List Due
+  pub turn : InTurn (λ (n : ReaderName). WriterTakes config own peer.number at a (suc index) n.reader) names (state_of peer) made dues state
+  pub stands : StandsFor new config (with_state peer state)
+  pub adds : AddsTo dues sent gone
+
+-- so many of the readers of the writer of this index, which keeps this, were answered
+pub record TakesRows (old : CoreKept) (index : ℕ) (a : AckNackBody) (k : WriterKept) (rooms : List (Option Room)) (count : ℕ) (moves : List Move) (sent : Announced) (now : CoreKept) (after : List Move) (gone : Announced) : Type 0 where
+  pub made : List Move
+  pub after_is : after ≡ moves ++ made
+  pub takes : (at : Receiver) → AreRooms old.prefix k.entity at a k.readers rooms → (config : Config) (peer : Peer) → StandsFor old config peer
+      → RowsTook config old.prefix at a index (take count k.readers) peer made sent now gone
+  pub there : WriterKept
+  pub at : slice_get now.writers index ≡ Some there
+  pub same : writer_identity there ≡ writer_identity k
+  pub prefix : now.prefix ≡ old.prefix
+  pub others : length now.writers ≡ length old.writers
+
+abbrev pub TakesAllRows : CoreKept → ℕ → AckNackBody → List (Option Room) → List Move → Announced → CoreKept → List Move → Announced → Type 0
+TakesAllRows old index a rooms moves sent new after gone = (k : WriterKept) → slice_get old.writers index ≡ Some k → TakesRows old index a k rooms (length k.readers) moves sent new after gone

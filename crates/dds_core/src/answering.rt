@@ -1,0 +1,229 @@
+//! What a writer of the peer does at an ACKNACK of one of its matched readers, and the messages with its answers.
+//!
+//! RTPS 2.5, 8.4.9 (reliable StatefulWriter, ReaderProxy), 8.3.8 (AckNack, Data, Gap).
+
+ghost use Rattle.std.specs.Prelude.{◌≡◌, ◌++◌, ◌+◌, ◌^◌, ◌<◌, ◌≤◌, ◌↔◌, IsTrue, Some, length, IfOk, OnOk, []};
+ghost use Rattle.rtps_wire.specs.Messages.{IsWritable};
+ghost use Rattle.rtps_writer.specs.declared.answer.Answer.TheVariants as answer;
+ghost use Rattle.rtps_writer.specs.Standing.{StandsFor as RtpsStandsFor};
+ghost use Rattle.rtps_writer.specs.WriterState.{WriterState};
+ghost use Rattle.dds_base.specs.Written.{changes_of};
+ghost use Rattle.dds_model.specs.Protocol.{data_of, answer_message, submessages_of};
+ghost use Rattle.dds_core.specs.Answering.{SpellsMore, IsFrom, HasRoom, AreRooms, AreAnswerable, CanAnswer, SendsAnswers};
+ghost use Rattle.dds_core.specs.Receiving.{receiver_at};
+ghost use Rattle.dds_core.specs.Sending.{AreMessages};
+
+use crate::matching::ReaderName;
+use crate::receiver::{MessageReceiver, is_for};
+use crate::sending::{Announced, send};
+use dds_base::{Change, EntityId, GuidPrefix, Sn};
+use rtps_sets::SnSet;
+use rtps_wire::{AckNack, Data, DataContent, Gap, Message, Submessage, Submessages};
+use rtps_writer::{Answer, StatefulWriter};
+use std::alloc::{AllocError, Global};
+
+/// How many answers stand in a packet at most.
+const MAX_ANSWERS: usize = 8;
+
+/// Room for the answers to an ACKNACK.
+#[derive(Drop)]
+pub struct Room {
+    pub answers: Vec<Answer>,
+}
+
+/// Whether an ACKNACK is for the writer of this entity, and from the reader of this name.
+fn is_from(
+    own: &GuidPrefix,
+    receiver: &MessageReceiver,
+    body: &AckNack,
+    entity: EntityId,
+    name: &ReaderName,
+) -> bool
+    ensures { IsTrue result ↔ IsFrom own.now entity (receiver_at receiver.now) body.now name.now }
+{
+    let is_named = body.reader_id == name.guid.entity || body.reader_id == EntityId::UNKNOWN;
+    is_named
+        && is_for(receiver, own)
+        && body.writer_id == entity
+        && name.guid.prefix == receiver.source
+}
+
+/// Room for an answer to each place of a set.
+fn make_room(alloc: Global, set: &SnSet) -> Result<Room, AllocError>
+    ensures { IfOk result (HasRoom set.now) }
+{
+    let mut answers = Vec::new(alloc);
+    answers.reserve(set.bits())?;
+    Ok(Room { answers })
+}
+
+/// Room for the answers to each of a writer's readers that an ACKNACK is from.
+///
+/// # Errors
+///
+/// Where a growth was refused.
+pub fn rooms(
+    alloc: Global,
+    own: &GuidPrefix,
+    receiver: &MessageReceiver,
+    body: &AckNack,
+    entity: EntityId,
+    readers: &[ReaderName],
+) -> Result<Vec<Option<Room>>, AllocError>
+    ensures { IfOk result (λ all. AreRooms own.now entity (receiver_at receiver.now) body.now readers.now all.items) }
+{
+    let mut rooms = Vec::new(alloc);
+    for name in readers {
+        let mut one = None;
+        if is_from(own, receiver, body, entity, name) {
+            one = Some(make_room(alloc, &body.reader_sn_state)?);
+        }
+        rooms.push(one)?;
+    }
+    Ok(rooms)
+}
+
+/// Who answers whom: a writer of the peer of this prefix, one of its matched readers.
+#[derive(Clone, Copy)]
+pub struct Answering {
+    pub own: GuidPrefix,
+    /// The writer.
+    pub entity: EntityId,
+    pub reader: ReaderName,
+}
+
+/// Adds a change with its moment.
+fn push_data(
+    alloc: Global,
+    submessages: &mut Vec<Submessage>,
+    answering: &Answering,
+    number: Sn,
+    change: &Change,
+) -> Result<(), AllocError>
+    requires short { length change.now.value ≤ 1024 }
+    requires first { 1 ≤ number }
+    requires small { number ≤ 2 ^ 62 }
+    ensures spells { OnOk result (SpellsMore submessages.old.items submessages.new.items) }
+    ensures adds { OnOk result (submessages.new.items ≡ submessages.old.items ++ data_of answering.now.reader.guid.entity answering.now.entity number (Some change.now)) }
+{
+    // These show the prover how many octets the names have.
+    let (_reader, _writer) = (
+        answering.reader.guid.entity.as_slice(),
+        answering.entity.as_slice(),
+    );
+    let _key = change.key.as_slice();
+    let content = DataContent::of_change(alloc, change)?;
+    submessages.push(Submessage::InfoTs(Some(change.source_timestamp.units())))?;
+    submessages.push(Submessage::Data(Data {
+        reader_id: answering.reader.guid.entity,
+        writer_id: answering.entity,
+        writer_sn: number,
+        content,
+    }))?;
+    Ok(())
+}
+
+/// Adds a GAP over these numbers.
+fn push_gap(
+    submessages: &mut Vec<Submessage>,
+    answering: &Answering,
+    first: Sn,
+    last: Sn,
+) -> Result<(), AllocError>
+    requires from { 1 ≤ first }
+    requires order { first ≤ last }
+    requires small { last < 2 ^ 62 }
+    ensures spells { OnOk result (SpellsMore submessages.old.items submessages.new.items) }
+    ensures adds { OnOk result (submessages.new.items ≡ submessages.old.items ++ submessages_of [] answering.now.reader.guid.entity answering.now.entity (answer.Gap first last)) }
+{
+    // These show the prover how many octets the names have.
+    let (_reader, _writer) = (
+        answering.reader.guid.entity.as_slice(),
+        answering.entity.as_slice(),
+    );
+    submessages.push(Submessage::Gap(Gap {
+        reader_id: answering.reader.guid.entity,
+        writer_id: answering.entity,
+        gap_start: first,
+        gap_list: SnSet::new(Sn::new(last.number() + 1)),
+    }))?;
+    Ok(())
+}
+
+/// Adds what stands in a message for an answer.
+fn push_answer(
+    alloc: Global,
+    submessages: &mut Vec<Submessage>,
+    answering: &Answering,
+    writer: &StatefulWriter,
+    answer: Answer,
+) -> Result<(), AllocError>
+    requires { CanAnswer writer.now answer }
+    ensures spells { OnOk result (SpellsMore submessages.old.items submessages.new.items) }
+    ensures adds { (s : WriterState) → RtpsStandsFor writer.now s
+        → OnOk result (submessages.new.items ≡ submessages.old.items ++ submessages_of (changes_of s.written) answering.now.reader.guid.entity answering.now.entity answer) }
+{
+    match answer {
+        Answer::Data(number) => match writer.get(number) {
+            Some(change) => push_data(alloc, submessages, answering, number, change),
+            None => Ok(()),
+        },
+        Answer::Gap { first, last } => push_gap(submessages, answering, first, last),
+    }
+}
+
+/// A message with these answers.
+fn message(
+    alloc: Global,
+    answering: &Answering,
+    writer: &StatefulWriter,
+    answers: &[Answer],
+) -> Result<Message, AllocError>
+    requires can { AreAnswerable writer.now answers.now }
+    requires few { length answers.now ≤ 8 }
+    ensures says { (s : WriterState) → RtpsStandsFor writer.now s
+        → IfOk result (λ m. m ≡ answer_message answering.now.own answering.now.reader.guid.prefix answering.now.reader.guid.entity answering.now.entity (changes_of s.written) answers.now) }
+    ensures writable { IfOk result IsWritable }
+    ensures some { IfOk result (λ m. 1 ≤ length m.submessages) }
+{
+    let to = answering.reader.guid.prefix;
+    // These show the prover how many octets the names have.
+    let (_own, _to) = (answering.own.as_slice(), to.as_slice());
+    let (_reader, _writer) = (
+        answering.reader.guid.entity.as_slice(),
+        answering.entity.as_slice(),
+    );
+    let mut submessages = vec![in alloc; Submessage::InfoDst(to)]?;
+    for answer in answers {
+        push_answer(alloc, &mut submessages, answering, writer, *answer)?;
+    }
+    Ok(Message {
+        prefix: answering.own,
+        submessages: Submessages::from_vec(submessages),
+    })
+}
+
+/// Sends answers, eight in a packet but in the last one.
+pub fn send_answers(
+    alloc: Global,
+    answering: &Answering,
+    writer: &StatefulWriter,
+    answers: &[Answer],
+    sent: &mut Announced,
+)
+    requires can { AreAnswerable writer.now answers.now }
+    requires few { length answers.now ≤ 256 }
+    requires room { sent.old.unsent < 2 ^ 60 }
+    ensures few { sent.new.unsent ≤ sent.old.unsent + 256 }
+    ensures sends { (s : WriterState) → RtpsStandsFor writer.now s → SendsAnswers answering.now (changes_of s.written) answers.now sent.old sent.new }
+    ensures messages { AreMessages sent.old.packets.items → AreMessages sent.new.packets.items }
+{
+    let mut rest = answers;
+    while !rest.is_empty() {
+        let count = usize::min(rest.len(), MAX_ANSWERS);
+        let (group, after) = rest.split_at(count);
+        let message = message(alloc, answering, writer, group);
+        send(alloc, sent, message, answering.reader.reader.peer);
+        rest = after;
+    }
+}

@@ -1,0 +1,128 @@
+//! What the peer's writers do with an ACKNACK.
+//!
+//! RTPS 2.5, 8.4.9 (the behaviour of a reliable StatefulWriter).
+
+ghost use Rattle.std.specs.Prelude.{◌≡◌, ◌+◌, ◌^◌, ◌<◌, ◌≤◌, ℕ, Some, length, slice_get, vec_len, vec_capacity, IfSome, IfNone, IsTrue, ◌↔◌, OnOk, OnErr};
+ghost use Rattle.rtps_wire.specs.declared.submessage.Submessage.TheVariants as submessage;
+ghost use Rattle.dds_core.specs.Answering.{HasRoom, HaveRoom, IsWriterOf, TakesRow, TakesAllRows};
+ghost use Rattle.dds_core.specs.Kept.{WriterKept};
+ghost use Rattle.dds_core.specs.Receiving.{receiver_at, TakesOneMore, StandsAsWell};
+ghost use Rattle.dds_core.specs.Sending.{AreMessages};
+
+use crate::answering::Room;
+use crate::peer::Core;
+use crate::receiver::MessageReceiver;
+use crate::sending::Announced;
+use crate::writer_end::WriterEnd;
+use dds_base::{Code, EntityId};
+use dds_model::Move;
+use rtps_wire::AckNack;
+
+/// Whether the writer has this entity.
+fn has_entity(writer: &WriterEnd, entity: &EntityId) -> bool
+    ensures { IsTrue result ↔ (writer.now.entity ≡ entity.now) }
+{
+    writer.entity() == *entity
+}
+
+impl Core {
+    /// The first writer of this entity.
+    fn writer_of(&self, entity: &EntityId) -> Option<usize>
+        ensures found { IfSome result (λ index. IsWriterOf self.now.writers entity.now index) }
+        ensures none { IfNone result ((index : ℕ) → IsWriterOf self.now.writers entity.now index → ⊥) }
+    {
+        for (index, writer) in self.writers.iter().enumerate() {
+            if has_entity(writer, entity) {
+                return Some(index);
+            }
+        }
+        None
+    }
+
+    /// The writer of this index takes an ACKNACK of its reader of this row, with room for the answers, and sends them. Adds
+    /// what moved, for which there is room.
+    fn answer_row(
+        &mut self,
+        moves: &mut Vec<Move>,
+        sent: &mut Announced,
+        index: usize,
+        row: usize,
+        body: &AckNack,
+        room: Room,
+    )
+        requires within { (k : WriterKept) × (slice_get self.old.writers index ≡ Some k) × (row < length k.readers) }
+        requires base { 1 ≤ body.now.reader_sn_state.base }
+        requires room { HasRoom body.now.reader_sn_state room }
+        requires moves { vec_len moves.old + 1 ≤ vec_capacity moves.old }
+        requires low { sent.old.unsent < 2 ^ 60 }
+        ensures takes { TakesRow self.old index row body.now moves.old.items sent.old self.new moves.new.items sent.new }
+        ensures len { vec_len moves.new ≤ vec_len moves.old + 1 }
+        ensures capacity { vec_capacity moves.new ≡ vec_capacity moves.old }
+        ensures few { sent.new.unsent ≤ sent.old.unsent + 256 }
+        ensures messages { AreMessages sent.old.packets.items → AreMessages sent.new.packets.items }
+    {
+        let (alloc, prefix) = (self.alloc, self.prefix);
+        let writer = &mut self.writers[index];
+        let reader = writer.reader(row);
+        if let Some(to) = writer.take_acknack(alloc, prefix, row, body, room, sent) {
+            moves.push_reserved(Move::Acknowledged {
+                writer: (index + 1) as u8,
+                reader,
+                to,
+            });
+        }
+    }
+
+    /// The writer of this index takes an ACKNACK of each of its readers that has room for the answers. Adds what moved, for
+    /// which there is room.
+    fn answer_rows(
+        &mut self,
+        moves: &mut Vec<Move>,
+        sent: &mut Announced,
+        index: usize,
+        body: &AckNack,
+        rooms: Vec<Option<Room>>,
+    )
+        requires within { (k : WriterKept) × (slice_get self.old.writers index ≡ Some k) × (length rooms.items ≡ length k.readers) }
+        requires base { 1 ≤ body.now.reader_sn_state.base }
+        requires few { length rooms.items ≤ 256 }
+        requires rooms { HaveRoom body.now.reader_sn_state rooms.items }
+        requires moves { vec_len moves.old + length rooms.items ≤ vec_capacity moves.old }
+        requires low { sent.old.unsent < 2 ^ 59 }
+        ensures takes { TakesAllRows self.old index body.now rooms.items moves.old.items sent.old self.new moves.new.items sent.new }
+        ensures few { sent.new.unsent ≤ sent.old.unsent + 2 ^ 16 }
+        ensures messages { AreMessages sent.old.packets.items → AreMessages sent.new.packets.items }
+    {
+        let mut rooms = rooms;
+        for row in 0..rooms.len() {
+            if let Some(room) = rooms[row].take() {
+                self.answer_row(moves, sent, index, row, body, room);
+            }
+        }
+    }
+
+    /// Takes up an ACKNACK: the writer that it names answers each of its readers that it is from. Adds what moved.
+    pub(crate) fn take_acknack(
+        &mut self,
+        moves: &mut Vec<Move>,
+        sent: &mut Announced,
+        receiver: &MessageReceiver,
+        body: &AckNack,
+    ) -> Result<(), Code>
+        requires base { 1 ≤ body.now.reader_sn_state.base }
+        requires low { sent.old.unsent < 2 ^ 59 }
+        ensures ok { OnOk result (TakesOneMore self.old (receiver_at receiver.now) (submessage.AckNack body.now) moves.old.items sent.old self.new moves.new.items sent.new) }
+        ensures err { OnErr result (StandsAsWell self.old self.new × (moves.new.items ≡ moves.old.items) × (sent.new ≡ sent.old)) }
+        ensures prefix { self.new.prefix ≡ self.old.prefix }
+        ensures few { sent.new.unsent ≤ sent.old.unsent + 2 ^ 16 }
+        ensures messages { AreMessages sent.old.packets.items → AreMessages sent.new.packets.items }
+    {
+        let Some(index) = self.writer_of(&body.writer_id) else {
+            return Ok(());
+        };
+        let rooms = self.writers[index].rooms(self.alloc, &self.prefix, receiver, body)?;
+        moves.reserve(rooms.len())?;
+        self.answer_rows(moves, sent, index, body, rooms);
+        Ok(())
+    }
+}
