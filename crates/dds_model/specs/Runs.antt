@@ -1,5 +1,5 @@
 -- Runs: replies to lists of events, with the packets that are sent meanwhile.
-use Rattle.std.specs.Prelude.{◌≡◌, ◌≢◌, ℕ, ◌+◌, ◌-◌, ◌^◌, List, [], ◌∷◌, ◌++◌, length, min, IsSome, ◌==◌, if◌then◌else◌, Contains, AllPairs}
+use Rattle.std.specs.Prelude.{◌≡◌, ◌≢◌, ◌⊎◌, ℕ, ◌+◌, ◌-◌, ◌^◌, List, [], ◌∷◌, ◌++◌, length, min, IsSome, ◌==◌, if◌then◌else◌, Contains, AllPairs}
 use Rattle.std.specs.List.{list_any}
 use Rattle.dds_base.specs.declared.change.Change.{Change}
 use Rattle.dds_base.specs.declared.config.Config.{Config}
@@ -9,7 +9,7 @@ use Rattle.dds_model.specs.declared.event.WorldEvent.{WorldEvent}
 use Rattle.dds_model.specs.declared.event.WorldEvent.TheVariants as world
 use Rattle.dds_model.specs.declared.event.Packet.{Packet}
 use Rattle.dds_model.specs.declared.reply.Reply.{Reply}
-use Rattle.dds_model.specs.declared.reply.Reply.TheVariants.{Done}
+use Rattle.dds_model.specs.declared.reply.Reply.TheVariants.{Done, Reported}
 use Rattle.dds_model.specs.Part.{ReaderProxy, peers_of, acknowledged_of, writer_changes}
 use Rattle.dds_model.specs.Calls.{Effect, writes, effect_of}
 use Rattle.dds_model.specs.Claims.{ChangeIs, Claims}
@@ -50,12 +50,14 @@ pub record SendsDues (dues : List Due) (old new : Traffic) : Type 0 where
   pub are_sent : AreSent dues packets lost
   pub unsent : new.unsent ≡ min (old.unsent + lost) (2 ^ 64 - 1)
 
--- What is sent at an event: an accepted change is announced, and a tick that is done sends the HEARTBEATs that are due at the
--- peer; another call, what is refused and a delivery send nothing, and lose nothing.
+-- What is sent at an event: an accepted change is announced, a tick that is done sends the HEARTBEATs that are due at the
+-- peer, and a delivery the ACKNACKs and the answers that are then due there, of which the machine without packets does not
+-- know, or nothing where its own bytes found no memory; another call and what is refused send nothing, and lose nothing.
 abbrev pub Sends : Config → Traffic → Machine → WorldEvent → Reply → Traffic → Type 0
 Sends config old m (world.Call peer call) reply new = SendsOf config old m peer (effect_of (part_at m peer) call reply) new
 Sends config old m (world.Tick peer now) Done new = SendsDues (heartbeats_due config peer (part_at m peer)) old new
 Sends config old m (world.Tick peer now) reply new = new ≡ old
+Sends config old m (world.Deliver peer packet) (Reported report) new = ((dues : List Due) × SendsDues dues old new) ⊎ (new ≡ old)
 Sends config old m (world.Deliver peer packet) reply new = new ≡ old
 
 -- Replies to a list of events, one step after another, with the packets before and after.

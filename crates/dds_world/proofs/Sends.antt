@@ -12,6 +12,7 @@ use Rattle.dds_model.specs.declared.event.Output.{Output}
 use Rattle.dds_model.specs.declared.event.Packet.{Packet}
 use Rattle.dds_model.specs.declared.event.WorldEvent.TheVariants as world
 use Rattle.dds_model.specs.declared.reply.Reply.{Reply}
+use Rattle.dds_model.specs.declared.reply.Report.{Report}
 use Rattle.dds_model.specs.declared.reply.Reply.TheVariants.{Done, Samples, Refused, Reported}
 use Rattle.dds_base.specs.declared.code.Code.TheVariants.{BadParameter}
 use Rattle.dds_model.specs.Part.{Part, ReaderProxy, own_writer, writer_changes}
@@ -183,10 +184,21 @@ ticks_sent kept new i now reply a config network s =
 pub ticked_sends : (kept new : WorldKept) (i peer now : ℕ) (reply : Reply) → peer ≡ i + 1 → Acts kept i (event.Tick now) reply new → Announces kept (world.Tick peer now) reply new
 ticked_sends kept new i peer now reply is a = subst (λ (n : ℕ). Announces kept (world.Tick n now) reply new) (number_of i peer is) (ticks_sent kept new i now reply a)
 
--- a delivery sends nothing
+-- a delivery sends what is then due
+
+reported : (config : Config) (old new : Traffic) (network : WorldState) (peer number : ℕ) (reply : Reply) (report : Report) → reply ≡ Reported report → (dues : List Due) → SendsDues dues old new
+    → Sends config old (machine_of network) (world.Deliver peer number) reply new
+reported config old new network peer number (Reported r) report is dues h = inl (dues, h)
+reported config old new network peer number Done report is dues h = absurd cc
+reported config old new network peer number (Refused code) report is dues h = absurd cc
+reported config old new network peer number (Samples samples) report is dues h = absurd cc
 
 pub delivered_sends : (kept new : WorldKept) (i peer number : ℕ) (bytes : List ℕ) (reply : Reply) → Acts kept i (event.Deliver bytes) reply new → Announces kept (world.Deliver peer number) reply new
-delivered_sends kept new i peer number bytes reply a config network s = same_traffic kept new a.acts.output a.quiet a.sends
+delivered_sends kept new i peer number bytes reply a config network s =
+    let acts = a.acts in
+    let at_peer : Peer = get_or network.peers i no_peer in
+    let rules = (acts.steps config at_peer (s.each i acts.core acts.at) (s.known i acts.core acts.at)).4 in
+    reported config (traffic kept) (traffic new) network peer number reply rules.report (acts.replies ∙ rules.reply) rules.dues (dues_sent kept new rules.dues acts.output acts.posts a.counts rules.sent)
 
 -- what is refused sends nothing
 
@@ -205,4 +217,7 @@ pub refused_tick_sends : (kept : WorldKept) (peer now : ℕ) → Announces kept 
 refused_tick_sends kept peer now config network s = refl
 
 pub quiet_delivery_sends : (kept : WorldKept) (peer number : ℕ) (reply : Reply) → Announces kept (world.Deliver peer number) reply kept
-quiet_delivery_sends kept peer number reply config network s = refl
+quiet_delivery_sends kept peer number (Reported report) config network s = inr refl
+quiet_delivery_sends kept peer number Done config network s = refl
+quiet_delivery_sends kept peer number (Refused code) config network s = refl
+quiet_delivery_sends kept peer number (Samples samples) config network s = refl
