@@ -10,3 +10,4 @@ pub mod MessageLaws
 pub mod SpellingLaws
 pub mod LengthLaws
 pub mod ContentLaws
+pub mod Seeking

@@ -1,5 +1,5 @@
 -- A message has one reading, and what is written is read.
-use Rattle.std.proofs.Common.{◌≡◌, ℕ, suc, ◌≤◌, eqb, ◌&&◌, List, [], ◌∷◌, ◌++◌, length, Some, None, refl, sym, ap, subst, ◌∙◌, arith}
+use Rattle.std.proofs.Common.{◌≡◌, ℕ, suc, ◌+◌, ◌-◌, ◌≤◌, eqb, ◌&&◌, List, [], ◌∷◌, ◌++◌, length, Some, None, refl, sym, ap, subst, ◌∙◌, arith}
 use Rattle.std.proofs.lemmas.Bool.{eqb-true}
 use Rattle.std.proofs.lemmas.List.{length-append}
 use Rattle.dds_base.specs.declared.guid.GuidPrefix.{GuidPrefix}
@@ -78,3 +78,11 @@ message_one bytes m n o p a b =
 pub header_length : (minor : ℕ) (vendor : List ℕ) (prefix : GuidPrefix) → length vendor ≡ 2 → length prefix.0 ≡ 12
     → length (header_text minor vendor prefix) ≡ 20
 header_length minor vendor prefix two len = omega (arith, length-append (82 ∷ 84 ∷ 80 ∷ 83 ∷ 2 ∷ minor ∷ vendor) prefix.0)
+
+-- a header, and submessages up to where reading ends, are a message
+pub message_read : (bytes body left : List ℕ) (prefix : GuidPrefix) (ss : List Submessage) → length bytes ≤ 65535 → HasHeader bytes (prefix, body) → ReadsAll body ss left
+    → ReadsMessage bytes (record { prefix = prefix; submessages = ss }) (length bytes - length left)
+message_read bytes body left prefix ss short h r =
+    let le = left_le body ss left r in
+    let len : length bytes ≡ length (header_text h.minor h.vendor prefix) + length body = ap length h.text ∙ length-append (header_text h.minor h.vendor prefix) body in
+    record { minor = h.minor; vendor = h.vendor; body = body; left = left; two = h.two; prefix = h.prefix; header = h.text; submessages = r; stop = omega arith; short = short }

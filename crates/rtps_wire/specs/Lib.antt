@@ -20,3 +20,4 @@ pub mod Submessages
 pub mod SubmessageAt
 pub mod Messages
 pub mod HeaderAt
+pub mod Sought

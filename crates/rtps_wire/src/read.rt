@@ -21,7 +21,7 @@ use std::alloc::Global;
 
 /// The submessage of a known kind, where it is valid, but for a DATA: none of these holds memory.
 #[tactic(auto, unfolding(crate::specs::SubmessageAt::known_at))]
-fn known_but_data(id: u8, flags: u8, body: &[u8]) -> Option<Submessage>
+pub fn known_but_data(id: u8, flags: u8, body: &[u8]) -> Option<Submessage>
     requires { id ≢ ID_DATA }
     ensures { result ≡ known_at id flags body.now }
 {

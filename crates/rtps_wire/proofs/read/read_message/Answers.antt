@@ -1,18 +1,8 @@
-use Rattle.std.proofs.Common.{rules, ◌≡◌, ℕ, List, ◌+◌, ◌-◌, ◌≤◌, length, Some, None, sym, ap, ◌∙◌, arith}
-use Rattle.std.proofs.lemmas.List.{length-append}
-use Rattle.dds_base.specs.declared.guid.GuidPrefix.{GuidPrefix}
-use Rattle.rtps_wire.specs.declared.submessage.Submessage.{Submessage}
-use Rattle.rtps_wire.specs.Messages.{ReadsAll, ReadsMessage, HasSubmessage, header_text}
+use Rattle.std.proofs.Common.{rules, ◌≡◌, ◌-◌, ◌≤◌, length, Some, None, sym, ap, ◌∙◌, arith}
+use Rattle.rtps_wire.specs.Messages.{ReadsMessage, HasSubmessage}
 use Rattle.rtps_wire.specs.HeaderAt.{header_at}
-use Rattle.rtps_wire.proofs.MessageLaws.{HasHeader, header_found, header_only, left_le, message_one}
+use Rattle.rtps_wire.proofs.MessageLaws.{header_found, header_only, message_one, message_read}
 use Rattle.rtps_wire.proofs.read.read_message.Goals as goal
-
-whole : (bytes body left : List ℕ) (prefix : GuidPrefix) (ss : List Submessage) → length bytes ≤ 65535 → HasHeader bytes (prefix, body) → ReadsAll body ss left
-    → ReadsMessage bytes (record { prefix = prefix; submessages = ss }) (length bytes - length left)
-whole bytes body left prefix ss short h r =
-    let le = left_le body ss left r in
-    let len : length bytes ≡ length (header_text h.minor h.vendor prefix) + length body = ap length h.text ∙ length-append (header_text h.minor h.vendor prefix) body in
-    record { minor = h.minor; vendor = h.vendor; body = body; left = left; two = h.two; prefix = h.prefix; header = h.text; submessages = r; stop = omega arith; short = short }
 
 pub returns-in_default-clause-only : goal.returns-in_default-clause-only
 returns-in_default-clause-only c = λ m stop r.
@@ -23,12 +13,12 @@ returns-in_default-clause-only c = λ m stop r.
 pub returns-clause-found : goal.returns-clause-found
 returns-clause-found c =
     let h = header_found c.args.bytes.now (c.in-Some.prefix, c.in-Some.rest.now) (λ i. omega (arith, c.type_inv.bytes i)) (sym c.in-Some.ensures.value) in
-    rw c.from_vec-submessages.ensures (whole c.args.bytes.now c.in-Some.rest.now c.in_ok-submessages.left.now c.in-Some.prefix c.in_ok-submessages.submessages.items (omega arith) h c.in_ok-submessages.ensures.0)
+    rw c.from_vec-submessages.ensures (message_read c.args.bytes.now c.in-Some.rest.now c.in_ok-submessages.left.now c.in-Some.prefix c.in_ok-submessages.submessages.items (omega arith) h c.in_ok-submessages.ensures.0)
 
 pub returns-clause-only : goal.returns-clause-only
 returns-clause-only c = λ m stop r.
     let h = header_found c.args.bytes.now (c.in-Some.prefix, c.in-Some.rest.now) (λ i. omega (arith, c.type_inv.bytes i)) (sym c.in-Some.ensures.value) in
-    let found : ReadsMessage c.args.bytes.now (record { prefix = c.in-Some.prefix; submessages = c.from_vec-submessages.result }) (length c.args.bytes.now - length c.in_ok-submessages.left.now) = rw c.from_vec-submessages.ensures (whole c.args.bytes.now c.in-Some.rest.now c.in_ok-submessages.left.now c.in-Some.prefix c.in_ok-submessages.submessages.items (omega arith) h c.in_ok-submessages.ensures.0) in
+    let found : ReadsMessage c.args.bytes.now (record { prefix = c.in-Some.prefix; submessages = c.from_vec-submessages.result }) (length c.args.bytes.now - length c.in_ok-submessages.left.now) = rw c.from_vec-submessages.ensures (message_read c.args.bytes.now c.in-Some.rest.now c.in_ok-submessages.left.now c.in-Some.prefix c.in_ok-submessages.submessages.items (omega arith) h c.in_ok-submessages.ensures.0) in
     let same = message_one c.args.bytes.now (record { prefix = c.in-Some.prefix; submessages = c.from_vec-submessages.result }) m (length c.args.bytes.now - length c.in_ok-submessages.left.now) stop found r in
     cc
 
