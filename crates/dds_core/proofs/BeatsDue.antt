@@ -28,7 +28,7 @@ use Rattle.dds_core.specs.declared.matching.Destination.{Destination}
 use Rattle.dds_core.specs.declared.matching.ReaderName.{ReaderName}
 use Rattle.dds_core.specs.Beating.{AreWritten, BeatsOfAll, beats_of, beats_of_all, due_to, peers_behind}
 use Rattle.dds_core.specs.Kept.{WriterKept, CoreKept, WriterIdentity, writer_identity, configured_writer}
-use Rattle.dds_core.specs.Matching.{destinations}
+use Rattle.dds_core.specs.Matching.{destinations, reader_names}
 use Rattle.dds_core.specs.Standing.{WriterStands, StandsFor}
 use Rattle.dds_core.proofs.Destinations.{ends_of_names, is_peer, reader_ends}
 use Rattle.dds_core.proofs.Lists.{get-map, get-within, map-get}
@@ -154,6 +154,15 @@ named config peer kept s j k at =
       sent_to = ap (λ (x : WriterIdentity). x.destinations) c.is;
       readers = readers_configured config k (get_or peer.part.rtps.writers j no_writer) (peer.known.answered (suc j)) c.end (s.writers.each j k at) c.is;
     }
+
+-- the name of a writer, and of those that it is matched with
+pub writer_named : (config : Config) (peer : Peer) (kept : CoreKept) → StandsFor kept config peer → (j : ℕ) (k : WriterKept) → slice_get kept.writers j ≡ Some k → writer_entity config peer.number (1 + j) ≡ k.entity
+writer_named config peer kept s j k at = (named config peer kept s j k at).entity
+
+pub readers_named : (config : Config) (peer : Peer) (kept : CoreKept) → StandsFor kept config peer → (j : ℕ) (k : WriterKept) → slice_get kept.writers j ≡ Some k → (topic : ℕ) × (k.readers ≡ reader_names topic config.peers)
+readers_named config peer kept s j k at =
+    let c = configured config peer kept s j k at in
+    (c.end.topic, ap (λ (x : WriterIdentity). x.readers) c.is)
 
 beats_due : (config : Config) (peer : Peer) (kept : CoreKept) → StandsFor kept config peer → beats_of_all kept.prefix kept.writers peer.part.rtps.writers ≡ heartbeats_due config peer.number peer.part
 beats_due config peer kept s = beats_due_from config peer.number kept.prefix 1 kept.writers peer.part.rtps.writers s.writers.count (named config peer kept s)

@@ -32,3 +32,4 @@ pub mod Acknowledging
 pub mod Once
 pub mod RowsAnswered
 pub mod Requesting
+pub mod Pairs

@@ -8,3 +8,4 @@ pub mod Receiving
 pub mod Stored
 pub mod Beating
 pub mod Answering
+pub mod Pairs

@@ -12,6 +12,7 @@ mod heartbeat;
 mod matching;
 mod opening;
 mod output;
+mod pairing;
 mod peer;
 mod reader_end;
 mod receiver;
@@ -20,4 +21,5 @@ mod sending;
 mod store;
 mod writer_end;
 
+pub use pairing::Pair;
 pub use peer::Core;

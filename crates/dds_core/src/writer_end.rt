@@ -110,6 +110,13 @@ impl WriterEnd {
         self.destinations.as_slice()
     }
 
+    /// Its matched readers, by their names.
+    pub fn readers(&self) -> &[ReaderName]
+        ensures { result.now ≡ self.now.readers }
+    {
+        self.readers.as_slice()
+    }
+
     /// Whether it has registered the instance.
     pub fn is_registered(&self, key: Key) -> bool
         ensures { (w : Writer) (answered : EndpointOf → Option ℤ) → WriterStands self.now w answered → result ≡ is_key_registered key w.written }
