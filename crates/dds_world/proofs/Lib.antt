@@ -2,3 +2,4 @@ pub mod WorldSteps
 pub mod Sends
 pub mod RunSteps
 pub mod Opened
+pub mod Rounds

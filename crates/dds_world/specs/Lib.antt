@@ -1,2 +1,4 @@
 pub mod WorldStanding
 pub mod Acting
+pub mod Round
+pub mod Repairing

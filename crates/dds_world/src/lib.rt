@@ -3,9 +3,11 @@
 //! Not here: what one peer does with an event (`dds_core`).
 #![tactic(auto)]
 
+mod round;
 mod world;
 
 pub use dds_model::{
     Call, Endpoint, Event, Move, Output, Packet, PassedRun, Reply, Report, WorldEvent,
 };
+pub use round::RoundReply;
 pub use world::World;

@@ -22,10 +22,10 @@ use std::marker::Model;
 /// Peers, which are numbered from 1, and all packets that they ever sent.
 #[derive(Drop)]
 pub struct World {
-    alloc: Global,
-    peers: Vec<Core>,
-    sent: Vec<Packet>,
-    unsent: u64,
+    pub(crate) alloc: Global,
+    pub(crate) peers: Vec<Core>,
+    pub(crate) sent: Vec<Packet>,
+    pub(crate) unsent: u64,
 }
 
 impl Model for World {
@@ -50,7 +50,7 @@ fn post(sent: &mut Vec<Packet>, packets: Sequence<Packet>) -> u64
 }
 
 /// The index of a peer of this number, counted from 1, among so many.
-fn index_of(number: u8, count: usize) -> Option<usize>
+pub fn index_of(number: u8, count: usize) -> Option<usize>
     ensures { MatchOption result ((nat_lt 0 number && nat_le number count) ≡ false) (λ index. (number ≡ index + 1) × (index < count)) }
 {
     if number == 0 || count < usize::from(number) {
@@ -169,7 +169,7 @@ impl World {
     }
 
     /// How many peers there are.
-    fn count(&self) -> usize
+    pub(crate) fn count(&self) -> usize
         ensures { result ≡ length self.now.peers }
     {
         self.peers.len()

@@ -1,0 +1,377 @@
+-- The stages of a round, and the round that they make.
+use Rattle.std.proofs.Common.{◌≡◌, ◌⊎◌, ℕ, zero, suc, ◌+◌, ◌-◌, ◌<◌, ◌≤◌, false, List, [], ◌∷◌, ◌++◌, Option, Some, None, map, length, get_or, slice_get, refl, ap, sym, ◌∙◌, subst, inl, inr, ⊎_elim, append_assoc, arith}
+use Rattle.std.specs.Prelude.{if◌then◌else◌, ◌&&◌, nat_lt, nat_le, is_some, IsSome}
+use Rattle.std.proofs.lemmas.Bool.Decides.{nat_tests}
+use Rattle.std.proofs.lemmas.List.{append-nil}
+use Rattle.std.proofs.lemmas.Option.{same_Some, slice_get-get_or}
+use Rattle.dds_base.specs.declared.code.Code.{Code}
+use Rattle.dds_base.specs.declared.code.Code.TheVariants.{BadParameter, Memory}
+use Rattle.dds_base.specs.declared.config.Config.{Config}
+use Rattle.dds_base.specs.Kept.{numbers_from}
+use Rattle.dds_base.specs.Refusal.{Refuses}
+use Rattle.rtps_wire.specs.declared.seek.Sought.{Sought}
+use Rattle.rtps_wire.specs.declared.seek.Sought.TheVariants as sought
+use Rattle.dds_model.specs.declared.endpoint.Endpoint.{Endpoint}
+use Rattle.dds_model.specs.declared.event.Packet.{Packet}
+use Rattle.dds_model.specs.declared.event.WorldEvent.{WorldEvent}
+use Rattle.dds_model.specs.declared.event.WorldEvent.TheVariants as world
+use Rattle.dds_model.specs.declared.reply.Reply.{Reply}
+use Rattle.dds_model.specs.Machine.{AllTests, no_tests, part_at, writer_at}
+use Rattle.dds_model.specs.Part.{Part, no_part, own_writer, acknowledged_of}
+use Rattle.dds_model.specs.Peer.{Peer, no_peer}
+use Rattle.dds_model.specs.Protocol.{writer_entity}
+use Rattle.dds_model.specs.World.{WorldState, WorldStep, machine_of}
+use Rattle.dds_model.proofs.Tables.{numbered-map, slice_get-append}
+use Rattle.dds_core.specs.declared.pairing.Pair.{Pair}
+use Rattle.dds_core.specs.Kept.{CoreKept}
+use Rattle.dds_core.specs.Pairs.{IsPair}
+use Rattle.dds_core.specs.Standing.{StandsFor as CoreStandsFor}
+use Rattle.dds_core.proofs.Lists.{get-within}
+use Rattle.dds_world.specs.declared.round.Matched.{Matched}
+use Rattle.dds_world.specs.declared.round.RoundReply.{RoundReply}
+use Rattle.dds_world.specs.Repairing.{Knows, IsKnown, NotMatched, Stage, Answering, Acknowledging, Beating}
+use Rattle.dds_world.specs.Round.{round_refusal, RefusesRound, AreMatched, IsStep, AreSteps, IsTo, HasNone, IsFirst, heartbeat_of, acknack_of, answers_at, AfterHeartbeat, AfterTick, Rounds}
+use Rattle.dds_world.specs.WorldStanding.{WorldKept, StandsFor, Steps, Runs}
+use Rattle.dds_world.proofs.RunSteps.{runs_none, runs_more}
+
+-- ---- what was sent stays
+
+abbrev Grows : List Packet → List Packet → Type 0
+Grows old new = (posted : List Packet) × (new ≡ old ++ posted)
+
+grows_same : (old new : List Packet) → new ≡ old → Grows old new
+grows_same old new same = ([], same ∙ sym (append-nil old))
+
+grows_on : (a b c : List Packet) → Grows a b → Grows b c → Grows a c
+grows_on a b c f g = (f.0 ++ g.0, g.1 ∙ (ap (λ (ps : List Packet). ps ++ g.0) f.1 ∙ append_assoc a f.0 g.0))
+
+world_grows : (config : Config) (tests : AllTests) (old : WorldState) (ev : WorldEvent) (reply : Reply) (new : WorldState) → WorldStep config tests old ev reply new → Grows old.sent new.sent
+world_grows config tests old (world.Call peer call) reply new step =
+    ⊎_elim (λ p. (p.posted, ap (λ (w : WorldState). w.sent) p.changed)) (λ r. grows_same old.sent new.sent (ap (λ (w : WorldState). w.sent) r.1.after)) step
+world_grows config tests old (world.Tick peer now) reply new step =
+    ⊎_elim (λ p. (p.posted, ap (λ (w : WorldState). w.sent) p.changed)) (λ r. grows_same old.sent new.sent (ap (λ (w : WorldState). w.sent) r.1.after)) step
+world_grows config tests old (world.Deliver peer k) reply new step =
+    ⊎_elim (λ p. (p.3.posted, ap (λ (w : WorldState). w.sent) p.3.changed)) (λ r. grows_same old.sent new.sent (ap (λ (w : WorldState). w.sent) r.1.after)) step
+
+record GoesOn (config : Config) (old new : WorldKept) : Type 0 where
+  after : WorldState
+  stands : StandsFor new config after
+  grows : Grows old.sent new.sent
+
+step_on : (config : Config) (network : WorldState) (old : WorldKept) (ev : WorldEvent) (reply : Reply) (new : WorldKept) → Steps old ev reply new → StandsFor old config network → GoesOn config old new
+step_on config network old ev reply new steps s =
+    let t = steps config network s in
+    let g = world_grows config no_tests network ev reply t.0 t.1 in
+    record { after = t.0; stands = t.3; grows = (g.0, sym t.3.sent ∙ (g.1 ∙ ap (λ (ps : List Packet). ps ++ g.0) s.sent)) }
+
+steps_on : (config : Config) (network : WorldState) (old : WorldKept) (events : List WorldEvent) (replies : List RoundReply) (new : WorldKept) → AreSteps old events replies new → StandsFor old config network → GoesOn config old new
+steps_on config network old [] [] new same s = record {
+  after = network;
+  stands = subst (λ (k : WorldKept). StandsFor k config network) (sym same) s;
+  grows = grows_same old.sent new.sent (ap (λ (k : WorldKept). k.sent) same);
+}
+steps_on config network old (e ∷ es) (r ∷ rs) new h s =
+    let first = step_on config network old e r.reply h.0 h.1.step s in
+    let rest = steps_on config first.after h.0 es rs new h.2 first.stands in
+    record { after = rest.after; stands = rest.stands; grows = grows_on old.sent h.0.sent new.sent first.grows rest.grows }
+steps_on config network old [] (r ∷ rs) new h s = absurd h
+steps_on config network old (e ∷ es) [] new h s = absurd h
+
+get_back : (xs ys : List Packet) (i : ℕ) (p : Packet) → i < length xs → slice_get (xs ++ ys) i ≡ Some p → slice_get xs i ≡ Some p
+get_back [] ys i p low at = absurd (omega (arith, low))
+get_back (x ∷ xs) ys zero p low at = at
+get_back (x ∷ xs) ys (suc i) p low at = get_back xs ys i p (omega (arith, low)) at
+
+none_on : (Is : Packet → Type 0) (old new : List Packet) (from to : ℕ) → Grows old new → to ≤ length old → HasNone Is old from to → HasNone Is new from to
+none_on Is old new from to g high none = λ k packet above within at is.
+    let back = get_back old g.0 (k - 1) packet (omega (arith, above, within, high)) (subst (λ (ps : List Packet). slice_get ps (k - 1) ≡ Some packet) g.1 at.1) in
+    none k packet above within (at.0, back) is
+
+first_on : (Is : Packet → Type 0) (old new : List Packet) (from to k : ℕ) → Grows old new → to ≤ length old → IsFirst Is old from to k → IsFirst Is new from to k
+first_on Is old new from to k g high f =
+    let within = f.within in
+    record {
+      above = f.above;
+      within = f.within;
+      packet = f.packet;
+      at = (f.at.0, subst (λ (ps : List Packet). slice_get ps (k - 1) ≡ Some f.packet) (sym g.1) (slice_get-append old g.0 (k - 1) f.packet f.at.1));
+      is = f.is;
+      first = none_on Is old new from (k - 1) g (omega (arith, within, high)) f.first;
+    }
+
+-- ---- steps one after the other
+
+-- steps are a run
+abbrev replies_of : List RoundReply → List Reply
+replies_of replies = map (λ (r : RoundReply). r.reply) replies
+
+runs_on : (start : WorldKept) (before : List WorldEvent) (given : List Reply) (old : WorldKept) (events : List WorldEvent) (replies : List RoundReply) (new : WorldKept) → Runs start before given old → AreSteps old events replies new
+    → Runs start (before ++ events) (given ++ replies_of replies) new
+runs_on start before given old [] [] new runs same =
+    subst (λ (es : List WorldEvent). Runs start es (given ++ []) new) (sym (append-nil before))
+    (subst (λ (rs : List Reply). Runs start before rs new) (sym (append-nil given)) (subst (λ (k : WorldKept). Runs start before given k) (sym same) runs))
+runs_on start before given old (e ∷ es) (r ∷ rs) new runs h =
+    let more = runs_more start old h.0 before given e r.reply runs h.1.step h.1.sends in
+    let rest = runs_on start (before ++ e ∷ []) (given ++ r.reply ∷ []) h.0 es rs new more h.2 in
+    subst (λ (xs : List WorldEvent). Runs start xs (given ++ r.reply ∷ replies_of rs) new) (append_assoc before (e ∷ []) es)
+    (subst (λ (ys : List Reply). Runs start ((before ++ e ∷ []) ++ es) ys new) (append_assoc given (r.reply ∷ []) (replies_of rs)) rest)
+runs_on start before given old [] (r ∷ rs) new runs h = absurd h
+runs_on start before given old (e ∷ es) [] new runs h = absurd h
+
+-- one more step
+pub steps_more : (old : WorldKept) (events : List WorldEvent) (replies : List RoundReply) (mid : WorldKept) (ev : WorldEvent) (reply : RoundReply) (new : WorldKept) → AreSteps old events replies mid → IsStep mid ev reply new
+    → AreSteps old (events ++ ev ∷ []) (replies ++ reply ∷ []) new
+steps_more old [] [] mid ev reply new same step = (new, subst (λ (k : WorldKept). IsStep k ev reply new) same step, refl)
+steps_more old (e ∷ es) (r ∷ rs) mid ev reply new h step = (h.0, h.1, steps_more h.0 es rs mid ev reply new h.2 step)
+steps_more old [] (r ∷ rs) mid ev reply new h step = absurd h
+steps_more old (e ∷ es) [] mid ev reply new h step = absurd h
+
+steps_as : (old : WorldKept) (events later : List WorldEvent) (replies rest : List RoundReply) (new : WorldKept) → events ≡ later → replies ≡ rest → AreSteps old later rest new → AreSteps old events replies new
+steps_as old events later replies rest new e r h =
+    subst (λ (es : List WorldEvent). AreSteps old es replies new) (sym e) (subst (λ (rs : List RoundReply). AreSteps old later rs new) (sym r) h)
+
+stage_steps : (Is : Packet → Type 0) (from peer : ℕ) (Next : WorldKept → List WorldEvent → List RoundReply → WorldKept → Type 0) (old : WorldKept) (events : List WorldEvent) (replies : List RoundReply) (new : WorldKept)
+    → ((mid : WorldKept) (es : List WorldEvent) (rs : List RoundReply) → Next mid es rs new → AreSteps mid es rs new) → Stage Is from peer Next old events replies new → AreSteps old events replies new
+stage_steps Is from peer Next old events replies new next h =
+    ⊎_elim (λ f. steps_as old events [] replies [] new f.0 f.1 f.2)
+    (λ f. steps_as old events (world.Deliver peer f.0 ∷ f.3) replies (f.1 ∷ f.4) new f.7 f.8 (f.2, f.6, next f.2 f.3 f.4 f.9)) h
+
+acks_steps : (m : Matched) (from : ℕ) (old : WorldKept) (events : List WorldEvent) (replies : List RoundReply) (new : WorldKept) → Acknowledging m from old events replies new → AreSteps old events replies new
+acks_steps m from old events replies new h =
+    stage_steps (IsTo m.writer.peer (sought.AckNack m.pair.reader m.pair.writer)) from m.writer.peer (Answering m (length old.sent)) old events replies new
+    (λ mid es rs a. a.1) h
+
+beats_steps : (m : Matched) (from : ℕ) (old : WorldKept) (events : List WorldEvent) (replies : List RoundReply) (new : WorldKept) → Beating m from old events replies new → AreSteps old events replies new
+beats_steps m from old events replies new h =
+    stage_steps (IsTo m.reader.peer (sought.Heartbeat m.pair.writer)) from m.reader.peer (Acknowledging m (length old.sent)) old events replies new
+    (λ mid es rs a. acks_steps m (length old.sent) mid es rs new a) h
+
+-- one more answer
+answers_from : ℕ → ℕ → ℕ → List WorldEvent
+answers_from peer first count = map (λ k. world.Deliver peer k) (numbers_from first count)
+
+answer_more : (peer first count : ℕ) → map (λ k. world.Deliver peer k) (numbers_from first (suc count)) ≡ map (λ k. world.Deliver peer k) (numbers_from first count) ++ world.Deliver peer (first + count) ∷ []
+answer_more peer first zero = let same : first ≡ first + 0 = omega arith in ap (λ (k : ℕ). world.Deliver peer k ∷ []) same
+answer_more peer first (suc count) =
+    let next : first + 1 + count ≡ first + suc count = omega arith in
+    ap (λ (es : List WorldEvent). world.Deliver peer first ∷ es) (answer_more peer (first + 1) count)
+    ∙ ap (λ (k : ℕ). world.Deliver peer first ∷ (map (λ k. world.Deliver peer k) (numbers_from (first + 1) count) ++ world.Deliver peer k ∷ [])) next
+
+pub answered_more : (old : WorldKept) (peer from index count packet : ℕ) (replies : List RoundReply) (mid : WorldKept) (reply : RoundReply) (new : WorldKept) → count ≡ index + 1 → packet ≡ from + index + 1
+    → AreSteps old (map (λ k. world.Deliver peer k) (numbers_from (from + 1) index)) replies mid → IsStep mid (world.Deliver peer packet) reply new
+    → AreSteps old (map (λ k. world.Deliver peer k) (numbers_from (from + 1) count)) (replies ++ reply ∷ []) new
+answered_more old peer from index count packet replies mid reply new is number steps step =
+    let same : packet ≡ from + 1 + index = omega (arith, number) in
+    let next : suc index ≡ count = omega (arith, is) in
+    let all = steps_more old (map (λ k. world.Deliver peer k) (numbers_from (from + 1) index)) replies mid (world.Deliver peer (from + 1 + index)) reply new steps
+    (subst (λ (k : ℕ). IsStep mid (world.Deliver peer k) reply new) same step) in
+    subst (λ (c : ℕ). AreSteps old (map (λ k. world.Deliver peer k) (numbers_from (from + 1) c)) (replies ++ reply ∷ []) new) next
+    (subst (λ (es : List WorldEvent). AreSteps old es (replies ++ reply ∷ []) new) (sym (answer_more peer (from + 1) index)) all)
+
+-- ---- the stages are those of a round
+
+acknack_is : (config : Config) (network : WorldState) (m : Matched) → Knows config network m → sought.AckNack m.pair.reader m.pair.writer ≡ acknack_of config m.writer m.reader
+acknack_is config network m k = let r = k.reader in let w = k.writer in cc
+
+heartbeat_is : (config : Config) (network : WorldState) (m : Matched) → Knows config network m → sought.Heartbeat m.pair.writer ≡ heartbeat_of config m.writer
+heartbeat_is config network m k = let w = k.writer in cc
+
+after_as : (config : Config) (writer reader : Endpoint) (sent : List Packet) (from to : ℕ) (events later : List WorldEvent) (replies rest : List RoundReply) → events ≡ later → replies ≡ rest
+    → AfterHeartbeat config writer reader sent from to later rest → AfterHeartbeat config writer reader sent from to events replies
+after_as config writer reader sent from to events later replies rest e r h =
+    subst (λ (es : List WorldEvent). AfterHeartbeat config writer reader sent from to es replies) (sym e) (subst (λ (rs : List RoundReply). AfterHeartbeat config writer reader sent from to later rs) (sym r) h)
+
+after_heartbeat : (config : Config) (network known : WorldState) (m : Matched) (from : ℕ) (old : WorldKept) (events : List WorldEvent) (replies : List RoundReply) (new : WorldKept) → Knows config known m → StandsFor old config network
+    → Acknowledging m from old events replies new → AfterHeartbeat config m.writer m.reader new.sent from (length old.sent) events replies
+after_heartbeat config network known m from old events replies new k s h =
+    let high : length old.sent ≤ length old.sent = omega arith in
+    let grows = (steps_on config network old events replies new (acks_steps m from old events replies new h) s).grows in
+    let is = acknack_is config known m k in
+    ⊎_elim
+    (λ f.
+    let none = none_on (IsTo m.writer.peer (sought.AckNack m.pair.reader m.pair.writer)) old.sent new.sent from (length old.sent) grows high f.3 in
+    after_as config m.writer m.reader new.sent from (length old.sent) events [] replies [] f.0 f.1 (subst (λ (x : Sought). HasNone (IsTo m.writer.peer x) new.sent from (length old.sent)) is none))
+    (λ f.
+    let first = first_on (IsTo m.writer.peer (sought.AckNack m.pair.reader m.pair.writer)) old.sent new.sent from (length old.sent) f.0 grows high f.5 in
+    let answers = subst (λ (n : ℕ). f.3 ≡ answers_at m.reader.peer (length old.sent) n) (sym f.6.sent) f.9.0 in
+    after_as config m.writer m.reader new.sent from (length old.sent) events (world.Deliver m.writer.peer f.0 ∷ f.3) replies (f.1 ∷ f.4) f.7 f.8
+    (refl, subst (λ (x : Sought). IsFirst (IsTo m.writer.peer x) new.sent from (length old.sent) f.0) is first, answers))
+    h
+
+tick_as : (config : Config) (writer reader : Endpoint) (sent : List Packet) (from to : ℕ) (events later : List WorldEvent) (replies rest : List RoundReply) → events ≡ later → replies ≡ rest
+    → AfterTick config writer reader sent from to later rest → AfterTick config writer reader sent from to events replies
+tick_as config writer reader sent from to events later replies rest e r h =
+    subst (λ (es : List WorldEvent). AfterTick config writer reader sent from to es replies) (sym e) (subst (λ (rs : List RoundReply). AfterTick config writer reader sent from to later rs) (sym r) h)
+
+after_tick : (config : Config) (network known : WorldState) (m : Matched) (from : ℕ) (old : WorldKept) (events : List WorldEvent) (replies : List RoundReply) (new : WorldKept) → Knows config known m → StandsFor old config network
+    → Beating m from old events replies new → AfterTick config m.writer m.reader new.sent from (length old.sent) events replies
+after_tick config network known m from old events replies new k s h =
+    let high : length old.sent ≤ length old.sent = omega arith in
+    let grows = (steps_on config network old events replies new (beats_steps m from old events replies new h) s).grows in
+    let is = heartbeat_is config known m k in
+    ⊎_elim
+    (λ f.
+    let none = none_on (IsTo m.reader.peer (sought.Heartbeat m.pair.writer)) old.sent new.sent from (length old.sent) grows high f.3 in
+    tick_as config m.writer m.reader new.sent from (length old.sent) events [] replies [] f.0 f.1 (subst (λ (x : Sought). HasNone (IsTo m.reader.peer x) new.sent from (length old.sent)) is none))
+    (λ f.
+    let first = first_on (IsTo m.reader.peer (sought.Heartbeat m.pair.writer)) old.sent new.sent from (length old.sent) f.0 grows high f.5 in
+    let on = step_on config network old (world.Deliver m.reader.peer f.0) f.1.reply f.2 f.6.step s in
+    let later = after_heartbeat config on.after known m (length old.sent) f.2 f.3 f.4 new k on.stands f.9 in
+    tick_as config m.writer m.reader new.sent from (length old.sent) events (world.Deliver m.reader.peer f.0 ∷ f.3) replies (f.1 ∷ f.4) f.7 f.8 (
+      refl,
+      subst (λ (x : Sought). IsFirst (IsTo m.reader.peer x) new.sent from (length old.sent) f.0) is first,
+      subst (λ (n : ℕ). AfterHeartbeat config m.writer m.reader new.sent (length old.sent) n f.3 f.4) (sym f.6.sent) later,
+    ))
+    h
+
+rounds_of : (old : WorldKept) (m : Matched) (ticked : RoundReply) (mid : WorldKept) (events : List WorldEvent) (replies : List RoundReply) (new : WorldKept) → IsKnown old m → IsStep old (world.Tick m.writer.peer m.moment) ticked mid
+    → Beating m (length old.sent) mid events replies new → Rounds old m.writer m.reader (ticked ∷ replies) new
+rounds_of old m ticked mid events replies new known tick beats =
+    let steps : AreSteps old (world.Tick m.writer.peer m.moment ∷ events) (ticked ∷ replies) new = (mid, tick, beats_steps m (length old.sent) mid events replies new beats) in
+    record {
+      events = world.Tick m.writer.peer m.moment ∷ events;
+      run = runs_on old [] [] old (world.Tick m.writer.peer m.moment ∷ events) (ticked ∷ replies) new (runs_none old) steps;
+      steps = steps;
+      round = λ config network s.
+          let k = known config network s in
+          let on = step_on config network old (world.Tick m.writer.peer m.moment) ticked.reply mid tick.step s in
+          let after = after_tick config on.after network m (length old.sent) mid events replies new k on.stands beats in
+          let counted = subst (λ (n : ℕ). AfterTick config m.writer m.reader new.sent (length old.sent) n events replies) (sym tick.sent) after in
+          (refl, k.moment, subst (λ (ps : List Packet). AfterTick config m.writer m.reader new.sent (length ps) ticked.sent events replies) (sym s.sent) counted);
+    }
+
+pub rounds_are : (old : WorldKept) (writer reader : Endpoint) (m : Matched) (ticked : RoundReply) (mid : WorldKept) (replies all : List RoundReply) (new : WorldKept) (events : List WorldEvent) → m.writer ≡ writer → m.reader ≡ reader → all ≡ ticked ∷ replies
+    → IsKnown old m → IsStep old (world.Tick m.writer.peer m.moment) ticked mid → Beating m (length old.sent) mid events replies new → Rounds old writer reader all new
+rounds_are old writer reader m ticked mid replies all new events w r is known tick beats =
+    subst (λ (e : Endpoint). Rounds old e reader all new) w
+    (subst (λ (e : Endpoint). Rounds old m.writer e all new) r
+    (subst (λ (rs : List RoundReply). Rounds old m.writer m.reader rs new) (sym is) (rounds_of old m ticked mid events replies new known tick beats)))
+
+-- ---- who is matched
+
+past_end : {X : Type 0} (xs : List X) (n : ℕ) (none : X) → length xs ≤ n → get_or xs n none ≡ none
+past_end [] n none past = refl
+past_end (x ∷ xs) zero none past = absurd (omega (arith, past))
+past_end (x ∷ xs) (suc n) none past = past_end xs n none (omega (arith, past))
+
+past_last : (n count : ℕ) → (nat_lt 0 (suc n) && nat_le (suc n) count) ≡ false → count ≤ n
+past_last n count none = grind (arith, nat_tests, none)
+
+map_count : {X Y : Type 0} (f : X → Y) (xs : List X) → length (map f xs) ≡ length xs
+map_count f [] = refl
+map_count f (x ∷ xs) = ap suc (map_count f xs)
+
+nobody_writes : (number : ℕ) (reader : Endpoint) → acknowledged_of (own_writer no_part number).readers reader ≡ None
+nobody_writes zero reader = refl
+nobody_writes (suc n) reader = refl
+
+no_part_at : (kept : WorldKept) (peer : ℕ) (config : Config) (network : WorldState) → StandsFor kept config network → (nat_lt 0 peer && nat_le peer (length kept.peers)) ≡ false → part_at (machine_of network) peer ≡ no_part
+no_part_at kept zero config network s none = refl
+no_part_at kept (suc n) config network s none =
+    let past = past_last n (length kept.peers) none in
+    let count = s.count in
+    let mapped = map_count (λ (p : Peer). p.part) network.peers in
+    past_end (map (λ (p : Peer). p.part) network.peers) n no_part (omega (arith, past, count, mapped))
+
+pub no_peer_matched : (kept : WorldKept) (writer reader : Endpoint) → (nat_lt 0 writer.peer && nat_le writer.peer (length kept.peers)) ≡ false → NotMatched kept writer reader
+no_peer_matched kept writer reader none = λ config network s.
+    subst (λ (part : Part). acknowledged_of (own_writer part writer.number).readers reader ≡ None) (sym (no_part_at kept writer.peer config network s none)) (nobody_writes writer.number reader)
+
+-- the peer of this index, in a state of the network
+record IsPeerAt (config : Config) (network : WorldState) (kept : CoreKept) (number : ℕ) : Type 0 where
+  peer : Peer
+  stands : CoreStandsFor kept config peer
+  numbered : peer.number ≡ number
+  part : part_at (machine_of network) number ≡ peer.part
+
+peer_is : (kept : WorldKept) (i number : ℕ) (core : CoreKept) (config : Config) (network : WorldState) → StandsFor kept config network → number ≡ i + 1 → slice_get kept.peers i ≡ Some core → IsPeerAt config network core number
+peer_is kept i number core config network s is at =
+    let count = s.count in
+    let low = get-within kept.peers i core at in
+    let next : suc i ≡ number = omega (arith, is) in
+    let here : IsPeerAt config network core (suc i) = record {
+      peer = get_or network.peers i no_peer;
+      stands = s.each i core at;
+      numbered = s.sound.number (suc i) (omega arith, omega (arith, count, low));
+      part = numbered-map (λ (p : Peer). p.part) network.peers (suc i) no_peer;
+    } in
+    subst (λ (n : ℕ). IsPeerAt config network core n) next here
+
+pub no_pair_matched : (kept : WorldKept) (i : ℕ) (core : CoreKept) (writer reader : Endpoint) → writer.peer ≡ i + 1 → slice_get kept.peers i ≡ Some core
+    → ((config : Config) (peer : Peer) → CoreStandsFor core config peer → IsPair config peer writer.number reader None) → NotMatched kept writer reader
+no_pair_matched kept i core writer reader is at none = λ config network s.
+    let p = peer_is kept i writer.peer core config network s is at in
+    subst (λ (part : Part). acknowledged_of (own_writer part writer.number).readers reader ≡ None) (sym p.part) (none config p.peer p.stands)
+
+pub pair_matched : (kept : WorldKept) (i : ℕ) (core : CoreKept) (writer reader : Endpoint) (pair : Pair) (now : ℕ) → writer.peer ≡ i + 1 → slice_get kept.peers i ≡ Some core
+    → ((config : Config) (peer : Peer) → CoreStandsFor core config peer → IsPair config peer writer.number reader (Some pair)) → ((config : Config) (peer : Peer) → CoreStandsFor core config peer → now ≡ peer.part.dds.moment)
+    → IsKnown kept (record { writer = writer; reader = reader; pair = pair; moment = now })
+pair_matched kept i core writer reader pair now is at found moment = λ config network s.
+    let p = peer_is kept i writer.peer core config network s is at in
+    let f = found config p.peer p.stands in
+    record {
+      matched = subst (λ (part : Part). IsSome (acknowledged_of (own_writer part writer.number).readers reader)) (sym p.part) f.0;
+      writer = subst (λ (n : ℕ). pair.writer ≡ writer_entity config n writer.number) p.numbered f.1;
+      reader = f.2;
+      moment = moment config p.peer p.stands ∙ ap (λ (part : Part). part.dds.moment) (sym p.part);
+    }
+
+-- why a round is refused
+
+none_refused : (o : Option ℕ) → o ≡ None → (if is_some o then None else Some BadParameter) ≡ Some BadParameter
+none_refused (Some n) is = absurd cc
+none_refused None is = refl
+
+some_taken : (o : Option ℕ) → IsSome o → (if is_some o then None else Some BadParameter) ≡ None
+some_taken (Some n) is = refl
+some_taken None is = absurd cc
+
+pub refuses_unmatched : (kept : WorldKept) (writer reader : Endpoint) → NotMatched kept writer reader → RefusesRound kept writer reader BadParameter
+refuses_unmatched kept writer reader none = λ config network s.
+    let is = none_refused (acknowledged_of (writer_at (machine_of network) writer).readers reader) (none config network s) in
+    subst (λ (o : Option Code). Refuses o BadParameter) (sym is) refl
+
+pub takes_matched : (kept : WorldKept) (writer reader : Endpoint) (m : Matched) → m.writer ≡ writer → m.reader ≡ reader → IsKnown kept m → AreMatched kept writer reader
+takes_matched kept writer reader m w r known = λ config network s.
+    let here : round_refusal (machine_of network) m.writer m.reader ≡ None = some_taken (acknowledged_of (writer_at (machine_of network) m.writer).readers m.reader) (known config network s).matched in
+    subst (λ (e : Endpoint). round_refusal (machine_of network) e reader ≡ None) w (subst (λ (e : Endpoint). round_refusal (machine_of network) m.writer e ≡ None) r here)
+
+pub refuses_for_memory : (kept : WorldKept) (writer reader : Endpoint) → AreMatched kept writer reader → RefusesRound kept writer reader Memory
+refuses_for_memory kept writer reader matched = λ config network s. subst (λ (o : Option Code). Refuses o Memory) (sym (matched config network s)) refl
+
+-- ---- the first such packet
+
+-- the number is no more than this one, or the next
+at_most_next : (k n : ℕ) → k ≤ n + 1 → (k ≤ n) ⊎ (k ≡ n + 1)
+at_most_next zero n h = inl (omega arith)
+at_most_next (suc k) zero h = inr (omega (arith, h))
+at_most_next (suc k) (suc n) h = ⊎_elim (λ a. inl (omega (arith, a))) (λ b. inr (omega (arith, b))) (at_most_next k n (omega (arith, h)))
+
+pub none_yet : (Is : Packet → Type 0) (sent : List Packet) (from to : ℕ) → to ≤ from → HasNone Is sent from to
+none_yet Is sent from to low = λ k packet above within at is. absurd (omega (arith, low, above, within))
+
+pub none_within : (Is : Packet → Type 0) (sent : List Packet) (from to index : ℕ) → to ≤ index → HasNone Is sent from index → HasNone Is sent from to
+none_within Is sent from to index low none = λ k packet above within at is. none k packet above (omega (arith, low, within)) at is
+
+pub none_more : (Is : Packet → Type 0) (sent : List Packet) (from index next : ℕ) (packet : Packet) → next ≡ index + 1 → index < length sent → packet ≡ get_or sent index packet → (Is packet → ⊥) → HasNone Is sent from index → HasNone Is sent from next
+none_more Is sent from index next packet is low here other none = λ k p above within at is_p.
+    ⊎_elim (λ before. none k p above before at is_p)
+    (λ last.
+    let number : k - 1 ≡ index = omega (arith, last) in
+    let there : slice_get sent index ≡ Some p = subst (λ (n : ℕ). slice_get sent n ≡ Some p) number at.1 in
+    let same : packet ≡ p = here ∙ same_Some (get_or sent index packet) p (sym (slice_get-get_or sent index packet low) ∙ there) in
+    other (subst (λ (x : Packet). Is x) (sym same) is_p))
+    (at_most_next k index (omega (arith, within, is)))
+
+pub found_here : (Is : Packet → Type 0) (sent : List Packet) (from index number : ℕ) (packet : Packet) → number ≡ index + 1 → from ≤ index → index < length sent → packet ≡ get_or sent index packet → Is packet → HasNone Is sent from index
+    → IsFirst Is sent from (length sent) number
+found_here Is sent from index number packet is above low here such none =
+    let before : index ≡ number - 1 = omega (arith, is) in
+    record {
+      above = omega (arith, is, above);
+      within = omega (arith, is, low);
+      packet = packet;
+      at = (omega (arith, is), subst (λ (n : ℕ). slice_get sent n ≡ Some packet) before (slice_get-get_or sent index packet low ∙ ap (λ (x : Packet). Some x) (sym here)));
+      is = such;
+      first = subst (λ (n : ℕ). HasNone Is sent from n) before none;
+    }

@@ -1,0 +1,55 @@
+-- The stages of a round, by what a network keeps. Inner functions alone cite this: nothing here has to be believed.
+use Rattle.std.specs.Prelude.{◌≡◌, ◌⊎◌, ℕ, List, [], ◌∷◌, ◌++◌, length, IsSome, None}
+use Rattle.dds_base.specs.declared.config.Config.{Config}
+use Rattle.rtps_wire.specs.declared.seek.Sought.TheVariants as sought
+use Rattle.dds_model.specs.declared.endpoint.Endpoint.{Endpoint}
+use Rattle.dds_model.specs.declared.event.Packet.{Packet}
+use Rattle.dds_model.specs.declared.event.WorldEvent.{WorldEvent}
+use Rattle.dds_model.specs.declared.event.WorldEvent.TheVariants.{Deliver}
+use Rattle.dds_model.specs.Machine.{part_at, writer_at}
+use Rattle.dds_model.specs.Part.{acknowledged_of}
+use Rattle.dds_model.specs.Protocol.{writer_entity}
+use Rattle.dds_model.specs.World.{WorldState, machine_of}
+use Rattle.dds_core.specs.Pairs.{reader_entity}
+use Rattle.dds_world.specs.declared.round.Matched.{Matched}
+use Rattle.dds_world.specs.declared.round.RoundReply.{RoundReply}
+use Rattle.dds_world.specs.Round.{IsStep, AreSteps, IsTo, HasNone, IsFirst, answers_at}
+use Rattle.dds_world.specs.WorldStanding.{WorldKept, StandsFor}
+
+-- the two are matched, by these entity ids, and the moment is that of the writer's peer
+pub record Knows (config : Config) (network : WorldState) (m : Matched) : Type 0 where
+  pub matched : IsSome (acknowledged_of (writer_at (machine_of network) m.writer).readers m.reader)
+  pub writer : m.pair.writer ≡ writer_entity config m.writer.peer m.writer.number
+  pub reader : m.pair.reader ≡ reader_entity config m.reader.peer m.reader.number
+  pub moment : m.moment ≡ (part_at (machine_of network) m.writer.peer).dds.moment
+
+-- so it is for each state that the network stands for
+abbrev pub IsKnown : WorldKept → Matched → Type 0
+IsKnown kept m = (config : Config) (network : WorldState) → StandsFor kept config network → Knows config network m
+
+-- for each state that the network stands for, the writer is not matched with the reader
+abbrev pub NotMatched : WorldKept → Endpoint → Endpoint → Type 0
+NotMatched kept writer reader = (config : Config) (network : WorldState) → StandsFor kept config network → acknowledged_of (writer_at (machine_of network) writer).readers reader ≡ None
+
+-- the first such packet with a number above this one is delivered at this peer, and it goes on so; or there is none
+abbrev pub Stage : (Packet → Type 0) → ℕ → ℕ → (WorldKept → List WorldEvent → List RoundReply → WorldKept → Type 0) → WorldKept → List WorldEvent → List RoundReply → WorldKept → Type 0
+Stage Is from peer Next old events replies new =
+    ((events ≡ []) × (replies ≡ []) × (new ≡ old) × HasNone Is old.sent from (length old.sent))
+    ⊎ ((k : ℕ) × (reply : RoundReply) × (mid : WorldKept) × (later : List WorldEvent) × (rest : List RoundReply)
+    × IsFirst Is old.sent from (length old.sent) k × IsStep old (Deliver peer k) reply mid × (events ≡ Deliver peer k ∷ later) × (replies ≡ reply ∷ rest) × Next mid later rest new)
+
+-- the answers of the ACKNACK that was delivered when so many packets had been sent
+abbrev pub Answering : Matched → ℕ → WorldKept → List WorldEvent → List RoundReply → WorldKept → Type 0
+Answering m from old events replies new = (events ≡ answers_at m.reader.peer from (length old.sent)) × AreSteps old events replies new
+
+-- the ACKNACK, if one was sent since so many packets had been, and its answers
+abbrev pub Acknowledging : Matched → ℕ → WorldKept → List WorldEvent → List RoundReply → WorldKept → Type 0
+Acknowledging m from old events replies new = Stage (IsTo m.writer.peer (sought.AckNack m.pair.reader m.pair.writer)) from m.writer.peer (Answering m (length old.sent)) old events replies new
+
+-- the HEARTBEAT, if one was sent since so many packets had been, and what follows
+abbrev pub Beating : Matched → ℕ → WorldKept → List WorldEvent → List RoundReply → WorldKept → Type 0
+Beating m from old events replies new = Stage (IsTo m.reader.peer (sought.Heartbeat m.pair.writer)) from m.reader.peer (Acknowledging m (length old.sent)) old events replies new
+
+-- so it is with the replies that are added to these
+abbrev pub Adds : (WorldKept → List WorldEvent → List RoundReply → WorldKept → Type 0) → WorldKept → List RoundReply → WorldKept → List RoundReply → Type 0
+Adds Does old before new after = (events : List WorldEvent) × (added : List RoundReply) × (after ≡ before ++ added) × Does old events added new

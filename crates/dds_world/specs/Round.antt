@@ -1,0 +1,109 @@
+-- One round of repair, for a writer of a network and a reader that it is matched with: a tick, the writer's HEARTBEAT, the
+-- reader's ACKNACK, and its answers, each delivered once (RTPS 2.5, 8.4.9, 8.4.12).
+use Rattle.std.specs.Prelude.{◌≡◌, ℕ, ◌+◌, ◌-◌, ◌<◌, ◌≤◌, min, if◌then◌else◌, List, [], ◌∷◌, length, map, is_some, Option, Some, None}
+use Rattle.dds_base.specs.declared.code.Code.{Code}
+use Rattle.dds_base.specs.declared.code.Code.TheVariants.{BadParameter}
+use Rattle.dds_base.specs.declared.config.Config.{Config}
+use Rattle.dds_base.specs.Kept.{numbers_from}
+use Rattle.dds_base.specs.Refusal.{Refuses}
+use Rattle.rtps_wire.specs.declared.seek.Sought.{Sought}
+use Rattle.rtps_wire.specs.declared.seek.Sought.TheVariants as sought
+use Rattle.rtps_wire.specs.Sought.{Has}
+use Rattle.dds_model.specs.declared.endpoint.Endpoint.{Endpoint}
+use Rattle.dds_model.specs.declared.event.Packet.{Packet}
+use Rattle.dds_model.specs.declared.event.WorldEvent.{WorldEvent}
+use Rattle.dds_model.specs.declared.event.WorldEvent.TheVariants.{Tick, Deliver}
+use Rattle.dds_model.specs.Claims.{IsNumbered}
+use Rattle.dds_model.specs.Machine.{Machine, part_at, writer_at}
+use Rattle.dds_model.specs.Part.{acknowledged_of}
+use Rattle.dds_model.specs.Protocol.{writer_entity}
+use Rattle.dds_model.specs.World.{WorldState, machine_of}
+use Rattle.dds_core.specs.Pairs.{reader_entity}
+use Rattle.dds_world.specs.declared.round.RoundReply.{RoundReply}
+use Rattle.dds_world.specs.WorldStanding.{WorldKept, StandsFor, Steps, Announces, MovesOn, Runs}
+
+-- why there is no round: the writer is not matched with the reader
+abbrev pub round_refusal : Machine → Endpoint → Endpoint → Option Code
+round_refusal m writer reader = if is_some (acknowledged_of (writer_at m writer).readers reader) then None else Some BadParameter
+
+-- for each state that the network stands for, a round is refused so
+abbrev pub RefusesRound : WorldKept → Endpoint → Endpoint → Code → Type 0
+RefusesRound kept writer reader code = (config : Config) (network : WorldState) → StandsFor kept config network → Refuses (round_refusal (machine_of network) writer reader) code
+
+-- for each state that the network stands for, the writer is matched with the reader
+abbrev pub AreMatched : WorldKept → Endpoint → Endpoint → Type 0
+AreMatched kept writer reader = (config : Config) (network : WorldState) → StandsFor kept config network → round_refusal (machine_of network) writer reader ≡ None
+
+-- one event, as a step of the network answers it, with the packets that were sent and those that were not as they stand after it
+pub record IsStep (old : WorldKept) (event : WorldEvent) (reply : RoundReply) (new : WorldKept) : Type 0 where
+  pub step : Steps old event reply.reply new
+  pub sends : Announces old event reply.reply new
+  pub progress : MovesOn old event reply.reply
+  pub sent : reply.sent ≡ length new.sent
+  pub unsent : reply.unsent ≡ new.unsent
+
+-- the same of events one after the other
+abbrev pub AreSteps : WorldKept → List WorldEvent → List RoundReply → WorldKept → Type 0
+AreSteps old [] [] new = new ≡ old
+AreSteps old (event ∷ events) (reply ∷ replies) new = (mid : WorldKept) × IsStep old event reply mid × AreSteps mid events replies new
+AreSteps old [] (reply ∷ replies) new = ⊥
+AreSteps old (event ∷ events) [] new = ⊥
+
+-- the packet is sent to this peer, and is a message with such a submessage
+abbrev pub IsTo : ℕ → Sought → Packet → Type 0
+IsTo peer wanted packet = (packet.to ≡ peer) × Has packet.bytes wanted
+
+-- no packet is such a one whose number lies above this one and is at most the other
+abbrev pub HasNone : (Packet → Type 0) → List Packet → ℕ → ℕ → Type 0
+HasNone Is sent from to = (k : ℕ) (packet : Packet) → from < k → k ≤ to → IsNumbered sent k packet → Is packet → ⊥
+
+-- the packet of this number is the first such one among those
+pub record IsFirst (Is : Packet → Type 0) (sent : List Packet) (from to k : ℕ) : Type 0 where
+  pub above : from < k
+  pub within : k ≤ to
+  pub packet : Packet
+  pub at : IsNumbered sent k packet
+  pub is : Is packet
+  pub first : HasNone Is sent from (k - 1)
+
+-- the HEARTBEAT of the writer, and the ACKNACK of the reader to it
+abbrev pub heartbeat_of : Config → Endpoint → Sought
+heartbeat_of config writer = sought.Heartbeat (writer_entity config writer.peer writer.number)
+
+abbrev pub acknack_of : Config → Endpoint → Endpoint → Sought
+acknack_of config writer reader = sought.AckNack (reader_entity config reader.peer reader.number) (writer_entity config writer.peer writer.number)
+
+-- the answers: all packets whose numbers lie above this one and are at most the other, up to 32 of them, at this peer
+abbrev pub answers_at : ℕ → ℕ → ℕ → List WorldEvent
+answers_at peer from to = map (λ k. Deliver peer k) (numbers_from (from + 1) (min 32 (to - from)))
+
+-- After the HEARTBEAT: of the packets that its delivery sent to the writer's peer, the first ACKNACK is delivered there, and
+-- then its answers are at the reader's peer; if there is none, the round ends.
+abbrev pub AfterHeartbeat : Config → Endpoint → Endpoint → List Packet → ℕ → ℕ → List WorldEvent → List RoundReply → Type 0
+AfterHeartbeat config writer reader sent from to [] [] = HasNone (IsTo writer.peer (acknack_of config writer reader)) sent from to
+AfterHeartbeat config writer reader sent from to (Deliver peer k ∷ events) (answered ∷ replies) =
+    (peer ≡ writer.peer) × IsFirst (IsTo writer.peer (acknack_of config writer reader)) sent from to k × (events ≡ answers_at reader.peer to answered.sent)
+AfterHeartbeat config writer reader sent from to events replies = ⊥
+
+-- After the tick: of the packets that it sent to the reader's peer, the first HEARTBEAT of the writer is delivered there; if
+-- there is none, the round ends.
+abbrev pub AfterTick : Config → Endpoint → Endpoint → List Packet → ℕ → ℕ → List WorldEvent → List RoundReply → Type 0
+AfterTick config writer reader sent from to [] [] = HasNone (IsTo reader.peer (heartbeat_of config writer)) sent from to
+AfterTick config writer reader sent from to (Deliver peer k ∷ events) (heard ∷ replies) =
+    (peer ≡ reader.peer) × IsFirst (IsTo reader.peer (heartbeat_of config writer)) sent from to k × AfterHeartbeat config writer reader sent to heard.sent events replies
+AfterTick config writer reader sent from to events replies = ⊥
+
+-- the events of a round in a network, of which these packets are sent by its end: first the writer's peer ticks, at its own
+-- moment
+abbrev pub IsRound : Config → WorldState → Endpoint → Endpoint → List Packet → List WorldEvent → List RoundReply → Type 0
+IsRound config network writer reader sent (Tick peer now ∷ events) (ticked ∷ replies) =
+    (peer ≡ writer.peer) × (now ≡ (part_at (machine_of network) writer.peer).dds.moment) × AfterTick config writer reader sent (length network.sent) ticked.sent events replies
+IsRound config network writer reader sent events replies = ⊥
+
+-- The replies are a run of the network over some events, with the counts as they stood after each; for each state that the
+-- old network stands for, the events are those of a round.
+pub record Rounds (old : WorldKept) (writer reader : Endpoint) (replies : List RoundReply) (new : WorldKept) : Type 0 where
+  pub events : List WorldEvent
+  pub run : Runs old events (map (λ (r : RoundReply). r.reply) replies) new
+  pub steps : AreSteps old events replies new
+  pub round : (config : Config) (network : WorldState) → StandsFor old config network → IsRound config network writer reader new.sent events replies

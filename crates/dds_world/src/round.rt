@@ -1,0 +1,187 @@
+//! One round of repair between a writer and a reader that it is matched with.
+//!
+//! RTPS 2.5, 8.4.9 (reliable StatefulWriter), 8.4.12 (reliable StatefulReader).
+
+ghost use Rattle.std.specs.Prelude.{◌≡◌, ◌++◌, ◌+◌, ◌<◌, ◌≤◌, ◌↔◌, List, [], ◌∷◌, length, vec_len, vec_capacity, IsTrue, IfOk, IfErr, OnErr, MatchOption};
+ghost use Rattle.dds_core.specs.Standing.{StandsFor as CoreStandsFor};
+ghost use Rattle.dds_world.specs.declared.round.RoundReply.{RoundReply as ReplyOf};
+ghost use Rattle.dds_world.specs.Round.{answers_at, AreMatched, AreSteps, HasNone, IsFirst, IsStep, IsTo, RefusesRound, Rounds};
+ghost use Rattle.dds_world.specs.Repairing.{Acknowledging, Adds, Beating, IsKnown, NotMatched};
+
+use crate::world::{World, index_of};
+use dds_base::{Code, Moment, Sequence};
+use dds_core::Pair;
+use dds_model::{Endpoint, Packet, Reply, WorldEvent};
+use rtps_wire::{Sought, has_submessage};
+
+/// A reply of a round, with the counts of the network as they stood after it.
+#[derive(Debug, Drop)]
+pub struct RoundReply {
+    pub reply: Reply,
+    /// How many packets had been sent.
+    pub sent: u64,
+    /// How many packets had found no memory, as `World::unsent` counts them.
+    pub unsent: u64,
+}
+
+/// A writer and a reader that it is matched with, their entity ids, and the moment of the writer's peer.
+#[derive(Clone, Copy)]
+pub struct Matched {
+    pub writer: Endpoint,
+    pub reader: Endpoint,
+    pub pair: Pair,
+    pub moment: Moment,
+}
+
+/// How many packets are delivered as answers. An ACKNACK asks for 256 numbers at most, and a packet has eight answers.
+const MAX_ANSWERS: u64 = 32;
+/// The replies to a tick, a HEARTBEAT, an ACKNACK and its answers.
+const MAX_REPLIES: usize = 35;
+
+/// Whether the packet is sent to this peer, and has such a submessage.
+fn is_to(packet: &Packet, peer: u8, wanted: &Sought) -> bool
+    ensures { IsTrue result ↔ IsTo peer wanted.now packet.now }
+{
+    packet.to == peer && has_submessage(packet.bytes.as_slice(), wanted)
+}
+
+impl World {
+    /// One round of repair: the writer's peer ticks, at its own moment; then the writer's HEARTBEAT that this sent to the
+    /// reader's peer is delivered there, the reader's ACKNACK to the writer that this sent is delivered at the writer's
+    /// peer, and each packet that this sent, up to 32, at the reader's. Where one of them was not sent, the round ends.
+    ///
+    /// Each packet is delivered once, and no other one is. There are 1 to 35 replies; one of them may lack memory, as those
+    /// of `World::step`.
+    ///
+    /// # Errors
+    ///
+    /// `BadParameter` where the writer is not matched with the reader, or there are no such ends; `Memory` where no memory
+    /// was found for the replies. Nothing was done then.
+    ///
+    /// RTPS 2.5, 8.4.9 and 8.4.12.
+    pub fn round(
+        &mut self,
+        writer: Endpoint,
+        reader: Endpoint,
+    ) -> Result<Sequence<RoundReply>, Code>
+        // The replies are a run over the events of a round, with the counts as they stood after each.
+        ensures round { IfOk result (λ replies. Rounds self.old writer reader replies self.new) }
+        // There is a round only where the two are matched.
+        ensures matched { IfOk result (λ replies. AreMatched self.old writer reader) }
+        // It is refused where they are not, or else for want of memory.
+        ensures refused { IfErr result (RefusesRound self.old writer reader) }
+        // A refusal leaves the network as it was.
+        ensures err { OnErr result (self.new ≡ self.old) }
+    {
+        let Some(m) = self.matched(writer, reader) else {
+            return Err(Code::BadParameter);
+        };
+        let mut replies = Vec::with_capacity(self.alloc, MAX_REPLIES)?;
+        let sent = self.sent();
+        let tick = WorldEvent::Tick {
+            peer: m.writer.peer,
+            now: m.moment,
+        };
+        self.add_step(tick, &mut replies);
+        self.deliver_heartbeat(m, sent, &mut replies);
+        Ok(Sequence::from_vec(replies))
+    }
+
+    /// The writer and the reader with what a round needs, if they are matched.
+    fn matched(&self, writer: Endpoint, reader: Endpoint) -> Option<Matched>
+        ensures { MatchOption result (NotMatched self.now writer reader) (λ m. (m.writer ≡ writer) × (m.reader ≡ reader) × IsKnown self.now m) }
+    {
+        let Some(index) = index_of(writer.peer, self.count()) else {
+            return None;
+        };
+        let core = &self.peers[index];
+        match core.pair(writer.number, reader) {
+            Some(pair) => Some(Matched {
+                writer,
+                reader,
+                pair,
+                moment: core.moment(),
+            }),
+            None => None,
+        }
+    }
+
+    /// The number of the first packet to this peer with such a submessage, among those after so many.
+    fn find(&self, from: u64, peer: u8, wanted: &Sought) -> Option<u64>
+        ensures { MatchOption result
+            (HasNone (IsTo peer wanted.now) self.now.sent from (length self.now.sent))
+            (IsFirst (IsTo peer wanted.now) self.now.sent from (length self.now.sent)) }
+    {
+        for index in from as usize..self.sent.len() {
+            if is_to(&self.sent[index], peer, wanted) {
+                return Some(index as u64 + 1);
+            }
+        }
+        None
+    }
+
+    /// One event, whose reply is added.
+    fn add_step(&mut self, event: WorldEvent, replies: &mut Vec<RoundReply>)
+        requires room { vec_len replies.old < vec_capacity replies.old }
+        ensures step { (reply : ReplyOf) × (replies.new.items ≡ replies.old.items ++ reply ∷ []) × IsStep self.old event reply self.new }
+        ensures capacity { vec_capacity replies.old ≤ vec_capacity replies.new }
+    {
+        let reply = self.step(event);
+        let (sent, unsent) = (self.sent(), self.unsent());
+        let reply = RoundReply {
+            reply,
+            sent,
+            unsent,
+        };
+        if replies.push(reply).is_err() {
+            unreachable!();
+        }
+    }
+
+    /// Delivers the writer's HEARTBEAT to the reader, if it is among the packets after so many, and what follows.
+    fn deliver_heartbeat(&mut self, m: Matched, from: u64, replies: &mut Vec<RoundReply>)
+        requires room { vec_len replies.old + 34 ≤ vec_capacity replies.old }
+        ensures { Adds (Beating m from) self.old replies.old.items self.new replies.new.items }
+    {
+        let wanted = Sought::Heartbeat {
+            writer: m.pair.writer,
+        };
+        let peer = m.reader.peer;
+        let Some(packet) = self.find(from, peer, &wanted) else {
+            return;
+        };
+        let sent = self.sent();
+        self.add_step(WorldEvent::Deliver { peer, packet }, replies);
+        self.deliver_acknack(m, sent, replies);
+    }
+
+    /// Delivers the reader's ACKNACK to the writer, if it is among the packets after so many, and its answers.
+    fn deliver_acknack(&mut self, m: Matched, from: u64, replies: &mut Vec<RoundReply>)
+        requires room { vec_len replies.old + 33 ≤ vec_capacity replies.old }
+        ensures { Adds (Acknowledging m from) self.old replies.old.items self.new replies.new.items }
+    {
+        let wanted = Sought::AckNack {
+            reader: m.pair.reader,
+            writer: m.pair.writer,
+        };
+        let peer = m.writer.peer;
+        let Some(packet) = self.find(from, peer, &wanted) else {
+            return;
+        };
+        let sent = self.sent();
+        self.add_step(WorldEvent::Deliver { peer, packet }, replies);
+        self.deliver_answers(m.reader.peer, sent, replies);
+    }
+
+    /// Delivers the packets after so many at this peer, up to 32.
+    fn deliver_answers(&mut self, peer: u8, from: u64, replies: &mut Vec<RoundReply>)
+        requires room { vec_len replies.old + 32 ≤ vec_capacity replies.old }
+        ensures { (added : List ReplyOf) × (replies.new.items ≡ replies.old.items ++ added) × AreSteps self.old (answers_at peer from (length self.old.sent)) added self.new }
+    {
+        let count = self.sent().saturating_sub(from).min(MAX_ANSWERS);
+        for index in 0..count {
+            let packet = from + index + 1;
+            self.add_step(WorldEvent::Deliver { peer, packet }, replies);
+        }
+    }
+}
