@@ -1,14 +1,10 @@
 -- The stages of a round, and the round that they make.
-use Rattle.std.proofs.Common.{◌≡◌, ◌⊎◌, ℕ, zero, suc, ◌+◌, ◌-◌, ◌<◌, ◌≤◌, false, List, [], ◌∷◌, ◌++◌, Option, Some, None, map, length, get_or, slice_get, refl, ap, sym, ◌∙◌, subst, inl, inr, ⊎_elim, append_assoc, arith}
-use Rattle.std.specs.Prelude.{if◌then◌else◌, ◌&&◌, nat_lt, nat_le, is_some, IsSome}
-use Rattle.std.proofs.lemmas.Bool.Decides.{nat_tests}
+use Rattle.std.proofs.Common.{◌≡◌, ◌⊎◌, ℕ, zero, suc, ◌+◌, ◌-◌, ◌<◌, ◌≤◌, List, [], ◌∷◌, ◌++◌, Some, None, map, length, get_or, slice_get, refl, ap, sym, ◌∙◌, subst, inl, inr, ⊎_elim, append_assoc, arith}
+use Rattle.std.specs.Prelude.{IsSome}
 use Rattle.std.proofs.lemmas.List.{append-nil}
 use Rattle.std.proofs.lemmas.Option.{same_Some, slice_get-get_or}
-use Rattle.dds_base.specs.declared.code.Code.{Code}
-use Rattle.dds_base.specs.declared.code.Code.TheVariants.{BadParameter, Memory}
 use Rattle.dds_base.specs.declared.config.Config.{Config}
 use Rattle.dds_base.specs.Kept.{numbers_from}
-use Rattle.dds_base.specs.Refusal.{Refuses}
 use Rattle.rtps_wire.specs.declared.seek.Sought.{Sought}
 use Rattle.rtps_wire.specs.declared.seek.Sought.TheVariants as sought
 use Rattle.dds_model.specs.declared.endpoint.Endpoint.{Endpoint}
@@ -16,8 +12,8 @@ use Rattle.dds_model.specs.declared.event.Packet.{Packet}
 use Rattle.dds_model.specs.declared.event.WorldEvent.{WorldEvent}
 use Rattle.dds_model.specs.declared.event.WorldEvent.TheVariants as world
 use Rattle.dds_model.specs.declared.reply.Reply.{Reply}
-use Rattle.dds_model.specs.Machine.{AllTests, no_tests, part_at, writer_at}
-use Rattle.dds_model.specs.Part.{Part, no_part, own_writer, acknowledged_of}
+use Rattle.dds_model.specs.Machine.{AllTests, no_tests, part_at}
+use Rattle.dds_model.specs.Part.{Part, own_writer, acknowledged_of}
 use Rattle.dds_model.specs.Peer.{Peer, no_peer}
 use Rattle.dds_model.specs.Protocol.{writer_entity}
 use Rattle.dds_model.specs.World.{WorldState, WorldStep, machine_of}
@@ -30,7 +26,7 @@ use Rattle.dds_core.proofs.Lists.{get-within}
 use Rattle.dds_world.specs.declared.round.Matched.{Matched}
 use Rattle.dds_world.specs.declared.round.RoundReply.{RoundReply}
 use Rattle.dds_world.specs.Repairing.{Knows, IsKnown, NotMatched, Stage, Answering, Acknowledging, Beating}
-use Rattle.dds_world.specs.Round.{round_refusal, RefusesRound, AreMatched, IsStep, AreSteps, IsTo, HasNone, IsFirst, heartbeat_of, acknack_of, answers_at, AfterHeartbeat, AfterTick, Rounds}
+use Rattle.dds_world.specs.Round.{IsStep, AreSteps, IsTo, HasNone, IsFirst, heartbeat_of, acknack_of, answers_at, AfterHeartbeat, AfterTick, Rounds}
 use Rattle.dds_world.specs.WorldStanding.{WorldKept, StandsFor, Steps, Runs}
 use Rattle.dds_world.proofs.RunSteps.{runs_none, runs_more}
 
@@ -147,9 +143,6 @@ beats_steps m from old events replies new h =
     (λ mid es rs a. acks_steps m (length old.sent) mid es rs new a) h
 
 -- one more answer
-answers_from : ℕ → ℕ → ℕ → List WorldEvent
-answers_from peer first count = map (λ k. world.Deliver peer k) (numbers_from first count)
-
 answer_more : (peer first count : ℕ) → map (λ k. world.Deliver peer k) (numbers_from first (suc count)) ≡ map (λ k. world.Deliver peer k) (numbers_from first count) ++ world.Deliver peer (first + count) ∷ []
 answer_more peer first zero = let same : first ≡ first + 0 = omega arith in ap (λ (k : ℕ). world.Deliver peer k ∷ []) same
 answer_more peer first (suc count) =
@@ -249,34 +242,6 @@ rounds_are old writer reader m ticked mid replies all new events w r is known ti
 
 -- ---- who is matched
 
-past_end : {X : Type 0} (xs : List X) (n : ℕ) (none : X) → length xs ≤ n → get_or xs n none ≡ none
-past_end [] n none past = refl
-past_end (x ∷ xs) zero none past = absurd (omega (arith, past))
-past_end (x ∷ xs) (suc n) none past = past_end xs n none (omega (arith, past))
-
-past_last : (n count : ℕ) → (nat_lt 0 (suc n) && nat_le (suc n) count) ≡ false → count ≤ n
-past_last n count none = grind (arith, nat_tests, none)
-
-map_count : {X Y : Type 0} (f : X → Y) (xs : List X) → length (map f xs) ≡ length xs
-map_count f [] = refl
-map_count f (x ∷ xs) = ap suc (map_count f xs)
-
-nobody_writes : (number : ℕ) (reader : Endpoint) → acknowledged_of (own_writer no_part number).readers reader ≡ None
-nobody_writes zero reader = refl
-nobody_writes (suc n) reader = refl
-
-no_part_at : (kept : WorldKept) (peer : ℕ) (config : Config) (network : WorldState) → StandsFor kept config network → (nat_lt 0 peer && nat_le peer (length kept.peers)) ≡ false → part_at (machine_of network) peer ≡ no_part
-no_part_at kept zero config network s none = refl
-no_part_at kept (suc n) config network s none =
-    let past = past_last n (length kept.peers) none in
-    let count = s.count in
-    let mapped = map_count (λ (p : Peer). p.part) network.peers in
-    past_end (map (λ (p : Peer). p.part) network.peers) n no_part (omega (arith, past, count, mapped))
-
-pub no_peer_matched : (kept : WorldKept) (writer reader : Endpoint) → (nat_lt 0 writer.peer && nat_le writer.peer (length kept.peers)) ≡ false → NotMatched kept writer reader
-no_peer_matched kept writer reader none = λ config network s.
-    subst (λ (part : Part). acknowledged_of (own_writer part writer.number).readers reader ≡ None) (sym (no_part_at kept writer.peer config network s none)) (nobody_writes writer.number reader)
-
 -- the peer of this index, in a state of the network
 record IsPeerAt (config : Config) (network : WorldState) (kept : CoreKept) (number : ℕ) : Type 0 where
   peer : Peer
@@ -315,29 +280,6 @@ pair_matched kept i core writer reader pair now is at found moment = λ config n
       reader = f.2;
       moment = moment config p.peer p.stands ∙ ap (λ (part : Part). part.dds.moment) (sym p.part);
     }
-
--- why a round is refused
-
-none_refused : (o : Option ℕ) → o ≡ None → (if is_some o then None else Some BadParameter) ≡ Some BadParameter
-none_refused (Some n) is = absurd cc
-none_refused None is = refl
-
-some_taken : (o : Option ℕ) → IsSome o → (if is_some o then None else Some BadParameter) ≡ None
-some_taken (Some n) is = refl
-some_taken None is = absurd cc
-
-pub refuses_unmatched : (kept : WorldKept) (writer reader : Endpoint) → NotMatched kept writer reader → RefusesRound kept writer reader BadParameter
-refuses_unmatched kept writer reader none = λ config network s.
-    let is = none_refused (acknowledged_of (writer_at (machine_of network) writer).readers reader) (none config network s) in
-    subst (λ (o : Option Code). Refuses o BadParameter) (sym is) refl
-
-pub takes_matched : (kept : WorldKept) (writer reader : Endpoint) (m : Matched) → m.writer ≡ writer → m.reader ≡ reader → IsKnown kept m → AreMatched kept writer reader
-takes_matched kept writer reader m w r known = λ config network s.
-    let here : round_refusal (machine_of network) m.writer m.reader ≡ None = some_taken (acknowledged_of (writer_at (machine_of network) m.writer).readers m.reader) (known config network s).matched in
-    subst (λ (e : Endpoint). round_refusal (machine_of network) e reader ≡ None) w (subst (λ (e : Endpoint). round_refusal (machine_of network) m.writer e ≡ None) r here)
-
-pub refuses_for_memory : (kept : WorldKept) (writer reader : Endpoint) → AreMatched kept writer reader → RefusesRound kept writer reader Memory
-refuses_for_memory kept writer reader matched = λ config network s. subst (λ (o : Option Code). Refuses o Memory) (sym (matched config network s)) refl
 
 -- ---- the first such packet
 
