@@ -185,6 +185,11 @@ impl TranscriptLine {
         }
     }
 
+    /// Ends a line, after which another one follows.
+    pub fn end_line(&mut self) {
+        self.push('\n');
+    }
+
     /// A reply.
     pub fn push_reply(&mut self, reply: &Reply) {
         match reply {

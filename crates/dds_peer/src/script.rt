@@ -4,7 +4,7 @@ use crate::number::{decimal, decimal_i32, decimal_u8, decimal_u32, key, value};
 use crate::setup::{SetupLine, reader_options, writer_options};
 use bitflags::Flags;
 use dds_base::{InstanceStateMask, Key, Masks, Moment, SampleStateMask, ViewStateMask};
-use dds_model::{Call, WorldEvent};
+use dds_model::{Call, Endpoint, WorldEvent};
 use std::alloc::{AllocError, Global};
 
 /// What a line says.
@@ -15,6 +15,8 @@ pub enum Line {
     Setup(SetupLine),
     /// Something happens to the network.
     Event(WorldEvent),
+    /// A round of repair for a writer and a reader.
+    Round { writer: Endpoint, reader: Endpoint },
     /// The bytes of a packet are asked for.
     Packet(u64),
 }
@@ -117,6 +119,33 @@ fn delivery(words: &[&str]) -> Option<Line> {
     Some(Line::Event(WorldEvent::Deliver { peer, packet }))
 }
 
+/// A writer with its peer, as `1.w2`.
+fn writer_end(word: &str) -> Option<Endpoint> {
+    let (peer, number) = word.split_once('.')?;
+    Some(Endpoint {
+        peer: decimal_u8(peer)?,
+        number: writer_number(number)?,
+    })
+}
+
+/// A reader with its peer, as `1.r2`.
+fn reader_end(word: &str) -> Option<Endpoint> {
+    let (peer, number) = word.split_once('.')?;
+    Some(Endpoint {
+        peer: decimal_u8(peer)?,
+        number: reader_number(number)?,
+    })
+}
+
+fn round(words: &[&str]) -> Option<Line> {
+    let [writer, reader] = words else {
+        return None;
+    };
+    let writer = writer_end(writer)?;
+    let reader = reader_end(reader)?;
+    Some(Line::Round { writer, reader })
+}
+
 fn packet(words: &[&str]) -> Option<Line> {
     let [number] = words else {
         return None;
@@ -132,6 +161,7 @@ fn command(first: &str, words: &[&str]) -> Option<Line> {
         "reader" => Some(Line::Setup(SetupLine::Reader(reader_options(words)?))),
         "deliver" => delivery(words),
         "packet" => packet(words),
+        "round" => round(words),
         peer => operation(peer, words),
     }
 }

@@ -6,7 +6,7 @@ use crate::script::Line;
 use crate::setup::{Setup, SetupLine};
 use crate::stream::Script;
 use dds_base::Code;
-use dds_model::WorldEvent;
+use dds_model::{Endpoint, Reply, WorldEvent};
 use dds_world::World;
 use std::alloc::{AllocError, Global};
 use std::io::{Read, Write};
@@ -52,16 +52,38 @@ fn push_event(text: &mut TranscriptLine, world: &mut World, event: WorldEvent) {
     });
 }
 
+fn push_round(text: &mut TranscriptLine, world: &mut World, writer: Endpoint, reader: Endpoint) {
+    let (mut sent, mut unsent) = (world.sent(), world.unsent());
+    match world.round(writer, reader) {
+        Ok(replies) => {
+            for (index, next) in replies.as_slice().iter().enumerate() {
+                if index > 0 {
+                    text.end_line();
+                }
+                text.push_reply(&next.reply);
+                text.push_traffic(Traffic {
+                    before: sent,
+                    after: next.sent,
+                    unsent: next.unsent.saturating_sub(unsent),
+                });
+                (sent, unsent) = (next.sent, next.unsent);
+            }
+        }
+        Err(code) => text.push_reply(&Reply::Refused(code)),
+    }
+}
+
 fn push_packet(text: &mut TranscriptLine, world: &World, number: u64) {
     let packet = world.packet(number).map(|packet| packet.bytes.as_slice());
     text.push_packet(number, packet);
 }
 
-/// Runs a line that is no part of the set-up, and gives the line of the transcript.
+/// Runs a line that is no part of the set-up, and gives the line of the transcript, or for a round its lines.
 fn transcript_of(alloc: Global, world: &mut World, line: Line) -> Result<String, AllocError> {
     let mut text = TranscriptLine::new(alloc);
     match line {
         Line::Event(event) => push_event(&mut text, world, event),
+        Line::Round { writer, reader } => push_round(&mut text, world, writer, reader),
         Line::Packet(number) => push_packet(&mut text, world, number),
         Line::Skipped | Line::Setup(_) => {}
     }
