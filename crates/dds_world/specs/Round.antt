@@ -1,5 +1,7 @@
--- One round of repair, for a writer of a network and a reader that it is matched with: a tick, the writer's HEARTBEAT, the
--- reader's ACKNACK, and its answers, each delivered once (RTPS 2.5, 8.4.9, 8.4.12).
+-- One round of repair, for a writer of a network and a reader that it is matched with: a tick, the writer's
+-- HEARTBEAT, the reader's ACKNACK, and its answers, each delivered once.
+--
+-- RTPS 2.5, 8.4.9 (reliable StatefulWriter), 8.4.12 (reliable StatefulReader).
 use Rattle.std.specs.Prelude.{◌≡◌, ℕ, ◌+◌, ◌-◌, ◌<◌, ◌≤◌, min, if◌then◌else◌, List, [], ◌∷◌, length, map, is_some, Option, Some, None}
 use Rattle.dds_base.specs.declared.code.Code.{Code}
 use Rattle.dds_base.specs.declared.code.Code.TheVariants.{BadParameter}
@@ -34,7 +36,7 @@ RefusesRound kept writer reader code = (config : Config) (network : WorldState) 
 abbrev pub AreMatched : WorldKept → Endpoint → Endpoint → Type 0
 AreMatched kept writer reader = (config : Config) (network : WorldState) → StandsFor kept config network → round_refusal (machine_of network) writer reader ≡ None
 
--- one event, as a step of the network answers it, with the packets that were sent and those that were not as they stand after it
+-- one event, as a step of the network answers it, with the counts of packets sent and not sent after it
 pub record IsStep (old : WorldKept) (event : WorldEvent) (reply : RoundReply) (new : WorldKept) : Type 0 where
   pub step : Steps old event reply.reply new
   pub sends : Announces old event reply.reply new
@@ -77,24 +79,23 @@ acknack_of config writer reader = sought.AckNack (reader_entity config reader.pe
 abbrev pub answers_at : ℕ → ℕ → ℕ → List WorldEvent
 answers_at peer from to = map (λ k. Deliver peer k) (numbers_from (from + 1) (min 32 (to - from)))
 
--- After the HEARTBEAT: of the packets that its delivery sent to the writer's peer, the first ACKNACK is delivered there, and
--- then its answers are at the reader's peer; if there is none, the round ends.
+-- After the HEARTBEAT: of the packets that its delivery sent to the writer's peer, the first with the ACKNACK is
+-- delivered there, and then its answers at the reader's peer; if there is none, the round ends.
 abbrev pub AfterHeartbeat : Config → Endpoint → Endpoint → List Packet → ℕ → ℕ → List WorldEvent → List RoundReply → Type 0
 AfterHeartbeat config writer reader sent from to [] [] = HasNone (IsTo writer.peer (acknack_of config writer reader)) sent from to
 AfterHeartbeat config writer reader sent from to (Deliver peer k ∷ events) (answered ∷ replies) =
     (peer ≡ writer.peer) × IsFirst (IsTo writer.peer (acknack_of config writer reader)) sent from to k × (events ≡ answers_at reader.peer to answered.sent)
 AfterHeartbeat config writer reader sent from to events replies = ⊥
 
--- After the tick: of the packets that it sent to the reader's peer, the first HEARTBEAT of the writer is delivered there; if
--- there is none, the round ends.
+-- After the tick: of the packets that it sent to the reader's peer, the first with a HEARTBEAT of the writer is
+-- delivered there; if there is none, the round ends.
 abbrev pub AfterTick : Config → Endpoint → Endpoint → List Packet → ℕ → ℕ → List WorldEvent → List RoundReply → Type 0
 AfterTick config writer reader sent from to [] [] = HasNone (IsTo reader.peer (heartbeat_of config writer)) sent from to
 AfterTick config writer reader sent from to (Deliver peer k ∷ events) (heard ∷ replies) =
     (peer ≡ reader.peer) × IsFirst (IsTo reader.peer (heartbeat_of config writer)) sent from to k × AfterHeartbeat config writer reader sent to heard.sent events replies
 AfterTick config writer reader sent from to events replies = ⊥
 
--- the events of a round in a network, of which these packets are sent by its end: first the writer's peer ticks, at its own
--- moment
+-- the events of a round, by whose end these packets were sent: first the writer's peer ticks, at its own moment
 abbrev pub IsRound : Config → WorldState → Endpoint → Endpoint → List Packet → List WorldEvent → List RoundReply → Type 0
 IsRound config network writer reader sent (Tick peer now ∷ events) (ticked ∷ replies) =
     (peer ≡ writer.peer) × (now ≡ (part_at (machine_of network) writer.peer).dds.moment) × AfterTick config writer reader sent (length network.sent) ticked.sent events replies

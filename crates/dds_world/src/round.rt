@@ -3,7 +3,6 @@
 //! RTPS 2.5, 8.4.9 (reliable StatefulWriter), 8.4.12 (reliable StatefulReader).
 
 ghost use Rattle.std.specs.Prelude.{◌≡◌, ◌++◌, ◌+◌, ◌<◌, ◌≤◌, ◌↔◌, List, [], ◌∷◌, length, vec_len, vec_capacity, IsTrue, IfOk, IfErr, OnErr, MatchOption};
-ghost use Rattle.dds_core.specs.Standing.{StandsFor as CoreStandsFor};
 ghost use Rattle.dds_world.specs.declared.round.RoundReply.{RoundReply as ReplyOf};
 ghost use Rattle.dds_world.specs.Round.{answers_at, AreMatched, AreSteps, HasNone, IsFirst, IsStep, IsTo, RefusesRound, Rounds};
 ghost use Rattle.dds_world.specs.Repairing.{Acknowledging, Adds, Beating, IsKnown, NotMatched};
