@@ -6,6 +6,7 @@ pub mod Written
 pub mod Kept
 pub mod Refusal
 pub mod Happening
+pub mod Statuses
 pub mod Ownership
 pub mod Instance
 pub mod Presence

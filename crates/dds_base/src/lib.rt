@@ -26,6 +26,7 @@ mod qos;
 mod sample;
 mod sequence;
 mod sn;
+mod status;
 
 pub use change::{Change, ChangeKind};
 pub use code::Code;
@@ -49,3 +50,4 @@ pub use qos::{HistoryQos, MatchedWriter, OwnershipQos, ReaderQos};
 pub use sample::{InstanceState, Picked, Sample, SampleInfo, SampleState, ViewState};
 pub use sequence::Sequence;
 pub use sn::Sn;
+pub use status::SampleLostStatus;
