@@ -52,6 +52,7 @@ refused_nothing part (call.Write w key value) x = refl
 refused_nothing part (call.Dispose w key) x = refl
 refused_nothing part (call.Unregister w key) x = refl
 refused_nothing part (call.Take r max masks) x = refl
+refused_nothing part (call.GetSampleLost r) x = refl
 
 -- a call that is refused changes nothing
 pub refused_call : (kept : CoreKept) (config : Config) (peer : Peer) → StandsFor kept config peer → (c : Call) (code : Code) → Answers no_filters peer.part c (Refused code) peer.part.dds

@@ -1,5 +1,5 @@
 -- A step of one of the peer's own writers or readers is a step of the peer.
-use Rattle.std.proofs.Common.{◌≡◌, ℕ, zero, suc, List, [], ◌∷◌, length, arith, Option, Some, map, set, get_or, slice_get, length-set, subst, ap, sym, ◌∙◌}
+use Rattle.std.proofs.Common.{◌≡◌, ℕ, zero, suc, List, [], ◌∷◌, length, arith, Option, Some, map, set, get_or, slice_get, length-set, refl, subst, ap, sym, ◌∙◌}
 use Rattle.std.specs.Prelude.{ℤ}
 use Rattle.std.proofs.lemmas.Option.{same_Some}
 use Rattle.dds_base.specs.declared.config.Config.{Config}
@@ -7,7 +7,7 @@ use Rattle.dds_base.specs.Written.{Written}
 use Rattle.dds_model.specs.declared.endpoint.Endpoint.{Endpoint}
 use Rattle.dds_model.specs.Dues.{AreTellable}
 use Rattle.dds_model.specs.Numbered.{with_numbered}
-use Rattle.dds_model.specs.Part.{Part, Writer, Reader, WriterProxy, no_writer, no_reader}
+use Rattle.dds_model.specs.Part.{Part, Dds, Writer, Reader, WriterProxy, no_writer, no_reader, own_proxies}
 use Rattle.dds_model.specs.Calls.{writes, effect, with_written}
 use Rattle.dds_model.specs.Peer.{Peer}
 use Rattle.dds_model.specs.Protocol.{Known}
@@ -85,6 +85,7 @@ reader_stands_on k proxies r old new same s = record {
   knows = λ w j first. subst (λ (t : Tracked). Tracks k.reader j t) (sym (same w)) (s.knows w j first);
   qos_is = s.qos_is;
   holds = s.holds;
+  seen_is = s.seen_is;
 }
 
 -- own reader n stepped, and knows what it knows now
@@ -108,3 +109,24 @@ own_reader_stepped kept i k k' proxies r known config peer s at same counts othe
       };
       tellable = s.tellable;
     }
+
+-- setting what is there changes nothing
+set_same : {X : Type 0} (xs : List X) (i : ℕ) (d : X) → set xs i (get_or xs i d) ≡ xs
+set_same [] i d = refl
+set_same (x ∷ xs) zero d = refl
+set_same (x ∷ xs) (suc i) d = ap (λ ys. x ∷ ys) (set_same xs i d)
+
+abbrev with_rows : Part → List (List WriterProxy) → Dds → Part
+with_rows part rows dds = record { rtps = record part.rtps { readers = rows }; dds = dds }
+
+-- a peer's readers, with another one of this number
+abbrev pub readers_with : Part → ℕ → Reader → Dds
+readers_with part reader r = record part.dds { readers = with_numbered part.dds.readers reader r }
+
+-- own reader n stepped, and knows of its writers what it knew
+pub own_reader_changed : (kept : CoreKept) (i : ℕ) (k k' : ReaderKept) (r : Reader) (config : Config) (peer : Peer) → StandsFor kept config peer → slice_get kept.readers i ≡ Some k → reader_identity k' ≡ reader_identity k
+    → ReaderStands k' (own_proxies peer.part (suc i)) r (λ w. peer.known.tracked w (suc i)) → StandsFor (with_reader kept i k') config (record peer { part = record peer.part { dds = readers_with peer.part (suc i) r } })
+own_reader_changed kept i k k' r config peer s at same one =
+    let rows : set peer.part.rtps.readers i (own_proxies peer.part (suc i)) ≡ peer.part.rtps.readers = set_same peer.part.rtps.readers i [] in
+    subst (λ (ps : List (List WriterProxy)). StandsFor (with_reader kept i k') config (record peer { part = with_rows peer.part ps (readers_with peer.part (suc i) r) })) rows
+    (own_reader_stepped kept i k k' (own_proxies peer.part (suc i)) r peer.known config peer s at same refl (λ w n apart. refl) one)

@@ -15,6 +15,7 @@ pub mod Sent
 pub mod Tables
 pub mod Ticking
 pub mod Took
+pub mod Looked
 pub mod WriterEnds
 pub mod Named
 pub mod Rows

@@ -94,10 +94,10 @@ writers_stand peers ws kept opened = record {
 }
 
 readers_stand : (peers : List PeerConfig) (rs : List ReaderConfig) (kept : List ReaderKept) → OpenReaders peers rs kept
-    → ReadersStand kept (map (λ (r : ReaderConfig). matched_writers r.topic 1 peers) rs) (map (λ (r : ReaderConfig). record { qos = reader_qos peers r; happened = [] }) rs) knows_nothing
+    → ReadersStand kept (map (λ (r : ReaderConfig). matched_writers r.topic 1 peers) rs) (map (λ (r : ReaderConfig). record { qos = reader_qos peers r; happened = []; lost_seen = 0 }) rs) knows_nothing
 readers_stand peers rs kept opens =
     let proxies : ReaderConfig → List WriterProxy = λ r. matched_writers r.topic 1 peers in
-    let opened : ReaderConfig → Reader = λ r. record { qos = reader_qos peers r; happened = [] } in
+    let opened : ReaderConfig → Reader = λ r. record { qos = reader_qos peers r; happened = []; lost_seen = 0 } in
     record {
       rows = length-map rs proxies ∙ sym opens.count;
       count = length-map rs opened ∙ sym opens.count;

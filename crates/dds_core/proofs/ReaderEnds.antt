@@ -83,7 +83,7 @@ are_ones topic peer (p ∷ ps) = ones_both (writers_in topic peer 1 p.writers) (
 
 pub opens_reader : (peers : List PeerConfig) (r : ReaderConfig) (names : List WriterName) (writers : List MatchedWriter) (reader : Proxies) (store : StoreKept) → is_plain_reader r ≡ true
     → names ≡ of_matched_writers writer_name r.topic 1 peers → writers ≡ of_matched_writers matched_writer r.topic 1 peers → ((index : ℕ) → index < length names → Tracks reader index fresh)
-    → qos_of store.cache ≡ plain_qos r writers → Holds store [] → OpensReader peers r (record { entity = r.entity; writers = names; reader = reader; store = store })
+    → qos_of store.cache ≡ plain_qos r writers → Holds store [] → OpensReader peers r (record { entity = r.entity; writers = names; reader = reader; store = store; lost_seen = 0 })
 opens_reader peers r names writers reader store plain matched told nothing qos stands =
     let limits = plain_limits r plain in
     record {
@@ -95,6 +95,7 @@ opens_reader peers r names writers reader store plain matched told nothing qos s
         knows = λ w k f. nothing k (get-within names k f.name f.at);
         qos_is = sym (qos ∙ qos_as r.ownership r.history None (limit_of r.max_samples) None (limit_of r.max_instances) writers (writer_qos r.topic peers) (sym limits.0) (sym limits.1) told);
         holds = stands;
+        seen_is = refl;
       };
     }
 

@@ -28,14 +28,14 @@ use Rattle.dds_model.specs.Peer.{Peer}
 use Rattle.dds_core.specs.declared.matching.WriterName.{WriterName}
 use Rattle.rtps_reader.specs.Reader.{Proxies, Tracks}
 use Rattle.rtps_reader.specs.Tracked.{Tracked}
-use Rattle.dds_core.specs.Stored.{Holds}
+use Rattle.dds_core.specs.Stored.{StoreKept, Holds}
 use Rattle.dds_model.specs.declared.endpoint.Endpoint.{Endpoint}
 use Rattle.dds_core.proofs.Rows.{writers_of}
 use Rattle.dds_core.specs.Kept.{ReaderKept, CoreKept}
 use Rattle.dds_core.specs.Receiving.{TakesOnly, access_reply}
 use Rattle.dds_core.specs.Standing.{IsFirstRow, ReaderStands, StandsFor}
 use Rattle.dds_core.proofs.CallSteps.{Follows, refused_call, there_is}
-use Rattle.dds_core.proofs.Ends.{with_reader, with_read, own_reader_stepped}
+use Rattle.dds_core.proofs.Ends.{with_reader, own_reader_changed}
 use Rattle.dds_core.proofs.Taking.{silent}
 use Rattle.dds_core.proofs.Identities.{same_identity}
 
@@ -69,17 +69,9 @@ took_one k k' proxies r tracked samples same s stands = record {
   places = s.places;
   knows = λ w n f. subst (λ (x : Proxies). Tracks x n (tracked w)) (sym same.reader) (s.knows w n (subst (λ (ns : List WriterName). IsFirstRow ns w n) same.writers f));
   qos_is = s.qos_is ∙ sym same.qos;
-  holds = record { cache = stands; arrivals_are = same.arrivals ∙ s.holds.arrivals_are };
+  holds = record { cache = stands; arrivals_are = same.arrivals ∙ s.holds.arrivals_are; lost_is = same.lost ∙ s.holds.lost_is };
+  seen_is = s.seen_is ∙ sym same.lost_seen;
 }
-
--- setting what is there changes nothing
-set_same : {X : Type 0} (xs : List X) (i : ℕ) (d : X) → set xs i (get_or xs i d) ≡ xs
-set_same [] i d = refl
-set_same (x ∷ xs) zero d = refl
-set_same (x ∷ xs) (suc i) d = ap (λ ys. x ∷ ys) (set_same xs i d)
-
-abbrev with_rows : Part → List (List WriterProxy) → Dds → Part
-with_rows part rows dds = record { rtps = record part.rtps { readers = rows }; dds = dds }
 
 -- the part after a take
 abbrev after_take : Part → ℕ → List SamplePosition → Part
@@ -93,13 +85,10 @@ entered kept i k k' config peer s at same max masks reply samples stands step =
     let part : Part = peer.part in
     let proxies : List WriterProxy = own_proxies part (suc i) in
     let r : Reader = own_reader part (suc i) in
-    let one : ReaderStands k' proxies (record r { happened = Took samples ∷ r.happened }) (λ w. peer.known.tracked w (suc i)) = took_one k k' proxies r (λ w. peer.known.tracked w (suc i)) samples same (s.readers.each i k at) stands in
-    let all : StandsFor (with_reader kept i k') config (record peer { part = with_read part (suc i) proxies (record r { happened = Took samples ∷ r.happened }) }) =
-    own_reader_stepped kept i k k' proxies (record r { happened = Took samples ∷ r.happened }) peer.known config peer s at (same_identity k' k same.entity same.writers) refl (λ w n apart. refl) one in
-    let rows : set part.rtps.readers i proxies ≡ part.rtps.readers = set_same part.rtps.readers i [] in (
+    let one : ReaderStands k' proxies (record r { happened = Took samples ∷ r.happened }) (λ w. peer.known.tracked w (suc i)) = took_one k k' proxies r (λ w. peer.known.tracked w (suc i)) samples same (s.readers.each i k at) stands in (
       record peer { part = after_take part (suc i) samples },
       record { same_number = refl; knows = refl; step = (step, refl); sent = λ p x m h. absurd (omega (arith, m.1)) },
-      subst (λ (ps : List (List WriterProxy)). StandsFor (with_reader kept i k') config (record peer { part = with_rows part ps (with_happening part (suc i) (Took samples)) })) rows all,
+      own_reader_changed kept i k k' (record r { happened = Took samples ∷ r.happened }) config peer s at (same_identity k' k same.entity same.writers) one,
     )
 
 -- an access that found no memory
@@ -111,11 +100,16 @@ no_memory kept i k k' config peer s at same max masks good =
     (refused_call kept config peer s (call.Take (suc i) max masks) Memory (subst (λ (o : Option Code). Refuses o Memory) (sym good) refl, refl))
 
 kept_same : (k k' : ReaderKept) → TakesOnly k k' → k'.store.cache ≡ k.store.cache → k' ≡ k
-kept_same k k' same cache = reader_as k'.entity k.entity k'.writers k.writers k'.reader k.reader k'.store.arrivals k.store.arrivals k'.store.cache k.store.cache same.entity same.writers same.reader same.arrivals cache
+kept_same k k' same cache =
+    reader_as k'.entity k.entity k'.writers k.writers k'.reader k.reader k'.store k.store k'.lost_seen k.lost_seen same.entity same.writers same.reader
+    (store_as k'.store.arrivals k.store.arrivals k'.store.lost k.store.lost k'.store.cache k.store.cache same.arrivals same.lost cache) same.lost_seen
   where
-    reader_as : (a b : EntityId) (x y : List WriterName) (p q : Proxies) (m n : ℕ) (c d : Stored) → a ≡ b → x ≡ y → p ≡ q → m ≡ n → c ≡ d
-        → ◌≡◌ {A = ReaderKept} (record { entity = a; writers = x; reader = p; store = record { arrivals = m; cache = c } }) (record { entity = b; writers = y; reader = q; store = record { arrivals = n; cache = d } })
-    reader_as a b x y p q m n c d e f g h i = cc
+    store_as : (m n i j : ℕ) (c d : Stored) → m ≡ n → i ≡ j → c ≡ d → ◌≡◌ {A = StoreKept} (record { arrivals = m; lost = i; cache = c }) (record { arrivals = n; lost = j; cache = d })
+    store_as m n i j c d e f g = cc
+
+    reader_as : (a b : EntityId) (x y : List WriterName) (p q : Proxies) (s t : StoreKept) (i j : ℕ) → a ≡ b → x ≡ y → p ≡ q → s ≡ t → i ≡ j
+        → ◌≡◌ {A = ReaderKept} (record { entity = a; writers = x; reader = p; store = s; lost_seen = i }) (record { entity = b; writers = y; reader = q; store = t; lost_seen = j })
+    reader_as a b x y p q s t i j e f g h l = cc
 
 -- what a cache answers is what the machine answers
 took : (kept : CoreKept) (i : ℕ) (k k' : ReaderKept) (config : Config) (peer : Peer) → StandsFor kept config peer → slice_get kept.readers i ≡ Some k → TakesOnly k k' → (max : ℤ) (masks : Masks) (r : Result (List Sample) Code)

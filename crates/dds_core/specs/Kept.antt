@@ -26,12 +26,13 @@ pub record WriterKept : Type 0 where
   pub readers : List ReaderName
   pub writer : Kept
 
--- a reader: its matched writers, what it knows of them, and what it stores
+-- a reader: its matched writers, what it knows of them, what it stores, and the total of SAMPLE_LOST at the last look
 pub record ReaderKept : Type 0 where
   pub entity : EntityId
   pub writers : List WriterName
   pub reader : Proxies
   pub store : StoreKept
+  pub lost_seen : ℕ
 
 -- each matched writer is known, and is among those of the policies
 pub record FitsWriters (names : List WriterName) (reader : Proxies) (store : StoreKept) : Type 0 where

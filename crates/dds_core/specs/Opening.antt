@@ -67,7 +67,7 @@ pub record OpensWriter (peers : List PeerConfig) (config : WriterConfig) (kept :
 -- a reader that stands for the one of its configuration, at the opening
 pub record OpensReader (peers : List PeerConfig) (config : ReaderConfig) (kept : ReaderKept) : Type 0 where
   pub identity : reader_identity kept ≡ configured_reader peers config
-  pub stands : ReaderStands kept (matched_writers config.topic 1 peers) (record { qos = reader_qos peers config; happened = [] }) (λ w. fresh)
+  pub stands : ReaderStands kept (matched_writers config.topic 1 peers) (record { qos = reader_qos peers config; happened = []; lost_seen = 0 }) (λ w. fresh)
 
 pub record OpenWriters (peers : List PeerConfig) (configs : List WriterConfig) (kept : List WriterKept) : Type 0 where
   pub count : length kept ≡ length configs

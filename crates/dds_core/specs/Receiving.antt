@@ -11,8 +11,10 @@ use Rattle.dds_base.specs.declared.guid.Guid.{Guid}
 use Rattle.dds_base.specs.declared.guid.GuidPrefix.{GuidPrefix}
 use Rattle.dds_base.specs.declared.happening.Happening.{Happening}
 use Rattle.dds_base.specs.declared.sample.Sample.{Sample}
+use Rattle.dds_base.specs.declared.status.SampleLostStatus.{SampleLostStatus}
 use Rattle.dds_base.specs.Kept.{numbers_from}
 use Rattle.dds_base.specs.Places.{Match}
+use Rattle.dds_base.specs.Statuses.{sample_lost_status}
 use Rattle.dds_cache.specs.Standing.{qos_of, room_of}
 use Rattle.rtps_reader.specs.declared.step.HeartbeatSeen.{HeartbeatSeen}
 use Rattle.rtps_reader.specs.declared.step.Step.{Step}
@@ -130,6 +132,7 @@ pub record IsAlike (old new : ReaderKept) : Type 0 where
   pub writers : new.writers ≡ old.writers
   pub reader : AllStay old.reader new.reader
   pub qos : qos_of new.store.cache ≡ qos_of old.store.cache
+  pub lost_seen : new.lost_seen ≡ old.lost_seen
   pub holds : (h : List Happening) → Holds old.store h → Holds new.store h
 
 pub record AreAlike (old new : List ReaderKept) : Type 0 where
@@ -157,6 +160,7 @@ pub record SameReader (old new : ReaderKept) : Type 0 where
   pub entity : new.entity ≡ old.entity
   pub writers : new.writers ≡ old.writers
   pub qos : qos_of new.store.cache ≡ qos_of old.store.cache
+  pub lost_seen : new.lost_seen ≡ old.lost_seen
 
 -- the reader was told, at this moment
 pub record TakesTold (old : ReaderKept) (ready : Ready) (moment : ℕ) (step : Step) (new : ReaderKept) : Type 0 where
@@ -298,4 +302,10 @@ pub record TakesOnly (old new : ReaderKept) : Type 0 where
   pub writers : new.writers ≡ old.writers
   pub reader : new.reader ≡ old.reader
   pub arrivals : new.store.arrivals ≡ old.store.arrivals
+  pub lost : new.store.lost ≡ old.store.lost
   pub qos : qos_of new.store.cache ≡ qos_of old.store.cache
+  pub lost_seen : new.lost_seen ≡ old.lost_seen
+
+-- the answer to a look at SAMPLE_LOST
+abbrev pub TellsLost : ReaderKept → SampleLostStatus → Type 0
+TellsLost kept status = (h : List Happening) → Holds kept.store h → status ≡ sample_lost_status h kept.lost_seen

@@ -58,6 +58,7 @@ impl Core {
             Call::Dispose { writer, key } => self.dispose(writer, key),
             Call::Unregister { writer, key } => self.unregister(writer, key),
             Call::Take { reader, max, masks } => self.take(reader, max, masks),
+            Call::GetSampleLost { reader } => self.get_sample_lost(reader),
         }
     }
 
@@ -190,5 +191,16 @@ impl Core {
         };
         let samples = self.readers[index].take(limit, masks);
         answered(self.alloc, reply_to_access(samples))
+    }
+
+    fn get_sample_lost(&mut self, reader: u8) -> Output
+        ensures step { Steps self.old (event.Call (call.GetSampleLost reader)) result self.new }
+        ensures sends { SendsNothing result }
+    {
+        let Some(index) = index_of(reader, self.readers.len()) else {
+            return self.refused(Code::BadParameter);
+        };
+        let status = self.readers[index].get_sample_lost();
+        answered(self.alloc, Reply::SampleLost(status))
     }
 }

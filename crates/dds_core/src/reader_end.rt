@@ -11,7 +11,7 @@ ghost use Rattle.rtps_wire.specs.declared.submessage.Submessage.TheVariants as s
 ghost use Rattle.rtps_reader.specs.Answer.{IsSayable};
 ghost use Rattle.rtps_reader.specs.Tracked.{Tracked};
 ghost use Rattle.dds_core.specs.Opening.{is_plain_reader, OpensReader};
-ghost use Rattle.dds_core.specs.Receiving.{receiver_at, IsFirstName, IsNamedFor, NamedBy, NamesNobody, IsToldBy, HasMemory, IsReadyFor, IsAlike, CanTake, TakesTold, SameReader, TakesOnly, IsPlaceAt};
+ghost use Rattle.dds_core.specs.Receiving.{receiver_at, IsFirstName, IsNamedFor, NamedBy, NamesNobody, IsToldBy, HasMemory, IsReadyFor, IsAlike, CanTake, TakesTold, SameReader, TakesOnly, TellsLost, IsPlaceAt};
 ghost use Rattle.dds_core.specs.Stored.{Holds};
 ghost use Rattle.dds_cache.specs.Standing.{Answers, AfterAccess};
 ghost use Rattle.dds_model.specs.Claims.{is_for, Names};
@@ -21,7 +21,7 @@ use crate::receiver::{MessageReceiver, is_for};
 use crate::store::Store;
 use dds_base::{
     Change, Code, EntityId, Guid, GuidPrefix, Masks, Moment, PeerConfig, ReaderConfig, ReaderQos,
-    Sample, Sequence, Sn,
+    Sample, SampleLostStatus, Sequence, Sn,
 };
 use rtps_reader::{HeartbeatSeen, StatefulReader, Step};
 use rtps_sets::SnSet;
@@ -52,6 +52,8 @@ pub struct ReaderEnd {
     writers: Vec<WriterName>,
     reader: StatefulReader,
     store: Store,
+    /// The total of SAMPLE_LOST when it was looked at last, at first 0.
+    lost_seen: u64,
 }
 
 impl Model for ReaderEnd {
@@ -64,6 +66,7 @@ impl Model for ReaderEnd {
       writers = r.writers.items;
       reader = r.reader;
       store = r.store;
+      lost_seen = r.lost_seen;
     } };
 
     ghost invariant = { λ r. FitsWriters r.writers.items r.reader r.store };
@@ -118,6 +121,7 @@ impl ReaderEnd {
             writers: names,
             reader,
             store: Store::open(alloc, qos),
+            lost_seen: 0,
         })
     }
 
@@ -343,5 +347,21 @@ impl ReaderEnd {
         ensures same { TakesOnly self.old self.new }
     {
         self.store.take(max, masks)
+    }
+
+    /// Looks at how many changes were passed over, in all and since the last look.
+    ///
+    /// DDS 1.4, 2.2.2.5 (get_sample_lost_status).
+    pub fn get_sample_lost(&mut self) -> SampleLostStatus
+        ensures status { TellsLost self.old result }
+        ensures seen { self.new ≡ record self.old { lost_seen = result.total_count } }
+    {
+        let total_count = self.store.lost();
+        let total_count_change = total_count.saturating_sub(self.lost_seen);
+        self.lost_seen = total_count;
+        SampleLostStatus {
+            total_count,
+            total_count_change,
+        }
     }
 }

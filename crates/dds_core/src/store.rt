@@ -5,8 +5,9 @@
 ghost use Rattle.std.specs.Prelude.{◌≡◌, None, ℕ, List, []};
 ghost use Rattle.dds_base.specs.declared.happening.Happening.{Happening};
 ghost use Rattle.dds_base.specs.declared.happening.Happening.TheVariants.{Took};
+ghost use Rattle.dds_base.specs.Statuses.{lost_count};
 ghost use Rattle.dds_cache.specs.Standing.{qos_of, Answers, AfterAccess};
-ghost use Rattle.dds_core.specs.Stored.{StoreKept, Holds, Counts};
+ghost use Rattle.dds_core.specs.Stored.{StoreKept, Holds, Counts, Loses};
 
 use dds_base::{Arrival, Code, Handle, Masks, Moment, ReaderQos, Sample, Sequence, Sn};
 use dds_cache::ReaderCache;
@@ -17,11 +18,13 @@ use std::marker::Model;
 /// Fewer changes than this come at a reader.
 const MAX_ARRIVALS: u32 = (1 << 31) - 1;
 
-/// What a reader without limits stores, and how many changes came.
+/// What a reader without limits stores, how many changes came, and how many were passed over.
 #[derive(Drop)]
 pub struct Store {
     /// At most `MAX_ARRIVALS`, where it stays.
     arrivals: u32,
+    /// At most 2^64 - 1, where it stays.
+    lost: u64,
     cache: ReaderCache,
 }
 
@@ -30,9 +33,9 @@ impl Model for Store {
 
     ghost Value = { StoreKept };
 
-    ghost view = { λ s. record { arrivals = s.arrivals; cache = s.cache } };
+    ghost view = { λ s. record { arrivals = s.arrivals; lost = s.lost; cache = s.cache } };
 
-    ghost invariant = { λ s. IsPlain (record { arrivals = s.arrivals; cache = s.cache }) };
+    ghost invariant = { λ s. IsPlain (record { arrivals = s.arrivals; lost = s.lost; cache = s.cache }) };
 }
 
 impl Store {
@@ -45,6 +48,7 @@ impl Store {
     {
         Store {
             arrivals: 0,
+            lost: 0,
             cache: ReaderCache::open(alloc, qos),
         }
     }
@@ -52,11 +56,34 @@ impl Store {
     /// One more change came.
     fn count(&mut self)
         ensures arrivals { Counts self.old.arrivals self.new.arrivals }
+        ensures lost { self.new.lost ≡ self.old.lost }
         ensures cache { self.new.cache ≡ self.old.cache }
     {
         if self.arrivals < MAX_ARRIVALS {
             self.arrivals += 1;
         }
+    }
+
+    /// The changes from `first` to `last` were passed over.
+    fn lose(&mut self, first: Sn, last: Sn)
+        ensures arrivals { self.new.arrivals ≡ self.old.arrivals }
+        ensures lost { Loses self.old.lost first last self.new.lost }
+        ensures cache { self.new.cache ≡ self.old.cache }
+    {
+        if first.number() <= last.number() {
+            let count = (last.number() - first.number()).saturating_add(1);
+            self.lost = self.lost.saturating_add(count);
+        }
+    }
+
+    /// How many changes were passed over: the total of SAMPLE_LOST.
+    ///
+    /// DDS 1.4, 2.2.4.1.
+    pub fn lost(&self) -> u64
+        ensures lost { result ≡ self.now.lost }
+        ensures total { (h : List Happening) → Holds self.now h → result ≡ lost_count h }
+    {
+        self.lost
     }
 
     /// Takes samples, as the cache does.
@@ -65,6 +92,7 @@ impl Store {
         ensures after { (h : List Happening) → Holds self.old h → AfterAccess Took self.old.cache h max masks result self.new.cache }
         ensures qos { qos_of self.new.cache ≡ qos_of self.old.cache }
         ensures arrivals { self.new.arrivals ≡ self.old.arrivals }
+        ensures lost { self.new.lost ≡ self.old.lost }
     {
         self.cache.take(max, masks)
     }
@@ -95,7 +123,9 @@ impl Sink for Store {
     }
 
     fn pass(&mut self, writer: Handle, first: Sn, last: Sn) -> Result<(), Code> {
-        self.cache.pass(writer, first, last)
+        self.cache.pass(writer, first, last)?;
+        self.lose(first, last);
+        Ok(())
     }
 
     fn hear(&mut self, writer: Handle, moment: Moment) -> Result<(), Code> {

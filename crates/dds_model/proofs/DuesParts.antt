@@ -7,7 +7,7 @@ use Rattle.dds_base.specs.declared.config.Config.{Config}
 use Rattle.dds_base.specs.Kept.{change_at}
 use Rattle.dds_model.specs.declared.call.Call.{Call}
 use Rattle.dds_model.specs.declared.reply.Reply.{Reply}
-use Rattle.dds_model.specs.declared.reply.Reply.TheVariants.{Done, Samples, Refused, Reported}
+use Rattle.dds_model.specs.declared.reply.Reply.TheVariants.{Done, Refused}
 use Rattle.dds_model.specs.Numbered.{numbered}
 use Rattle.dds_model.specs.Part.{Part, ReaderProxy, Rtps, Writer, no_writer, own_writer, writer_changes}
 use Rattle.dds_model.specs.Calls.{Effect, nothing, writes, effect, effect_of, with_written, ticked, Tests, CallStep}
@@ -40,8 +40,7 @@ tick_count : (old : Part) (now : ℕ) (reply : Reply) (new : Part) → TickStep 
     → length new.rtps.writers ≡ length old.rtps.writers
 tick_count old now Done new h = ap (λ (p : Part). length p.rtps.writers) h.1 ∙ length-map old.rtps.writers (ticked now)
 tick_count old now (Refused code) new h = ap (λ (p : Part). length p.rtps.writers) h.1
-tick_count old now (Samples samples) new h = absurd h
-tick_count old now (Reported report) new h = absurd h
+tick_count old now reply new h = absurd h
 
 -- so does a tick
 pub tick_part : (config : Config) (peer : ℕ) (old : Part) (now : ℕ) (reply : Reply) (new : Part)
@@ -65,8 +64,7 @@ pub tick_changes : (old : Part) (now : ℕ) (reply : Reply) (new : Part) → Tic
 tick_changes old now Done new h w =
     ap (λ (p : Part). writer_changes (own_writer p w)) h.1 ∙ ticked_changes now old.rtps.writers w
 tick_changes old now (Refused code) new h w = ap (λ (p : Part). writer_changes (own_writer p w)) h.1
-tick_changes old now (Samples samples) new h w = absurd h
-tick_changes old now (Reported report) new h w = absurd h
+tick_changes old now reply new h w = absurd h
 
 -- which can be told as before
 pub tick_tellable : (old : Part) (now : ℕ) (reply : Reply) (new : Part) → TickStep old now reply new → AreTellable old

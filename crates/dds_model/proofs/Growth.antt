@@ -17,7 +17,7 @@ use Rattle.dds_model.specs.declared.endpoint.Endpoint.{Endpoint}
 use Rattle.dds_model.specs.declared.reply.Move.{Move}
 use Rattle.dds_model.specs.declared.reply.Move.TheVariants.{Place, Acknowledged, Heard}
 use Rattle.dds_model.specs.declared.reply.Reply.{Reply}
-use Rattle.dds_model.specs.declared.reply.Reply.TheVariants.{Done, Samples, Refused, Reported}
+use Rattle.dds_model.specs.declared.reply.Reply.TheVariants.{Done, Refused, Reported}
 use Rattle.dds_model.specs.Numbered.{numbered, with_numbered}
 use Rattle.dds_model.specs.Part.{WriterProxy, ReaderProxy, Writer, Rtps, Part, no_writer, no_part, own_writer, own_proxies, place_of, with_place, with_heard, with_acknowledged, writer_changes, history_of, has_readers, is_behind, is_assertion, NoLess}
 use Rattle.dds_model.specs.Moves.{Grounds, IsMove, AreMoves, DeliveryStep}
@@ -150,21 +150,18 @@ all_ticked-grows now old = record {
 pub TickStep-grows : (old : Part) (now : ℕ) (reply : Reply) (new : Part) → TickStep old now reply new → Grows old.rtps new.rtps
 TickStep-grows old now Done new h = subst (λ (p : Part). Grows old.rtps p.rtps) (sym h.1) (all_ticked-grows now old.rtps)
 TickStep-grows old now (Refused code) new h = subst (λ (p : Part). Grows old.rtps p.rtps) (sym h.1) (grows_same old.rtps)
-TickStep-grows old now (Samples samples) new h = absurd h
-TickStep-grows old now (Reported report) new h = absurd h
+TickStep-grows old now reply new h = absurd h
 
 -- a tick leaves the rows of readers, and what happened there
 pub TickStep-rows : (old : Part) (now : ℕ) (reply : Reply) (new : Part) → TickStep old now reply new → new.rtps.readers ≡ old.rtps.readers
 TickStep-rows old now Done new h = ap (λ (p : Part). p.rtps.readers) h.1
 TickStep-rows old now (Refused code) new h = ap (λ (p : Part). p.rtps.readers) h.1
-TickStep-rows old now (Samples samples) new h = absurd h
-TickStep-rows old now (Reported report) new h = absurd h
+TickStep-rows old now reply new h = absurd h
 
 pub TickStep-readers : (old : Part) (now : ℕ) (reply : Reply) (new : Part) → TickStep old now reply new → new.dds.readers ≡ old.dds.readers
 TickStep-readers old now Done new h = ap (λ (p : Part). p.dds.readers) h.1
 TickStep-readers old now (Refused code) new h = ap (λ (p : Part). p.dds.readers) h.1
-TickStep-readers old now (Samples samples) new h = absurd h
-TickStep-readers old now (Reported report) new h = absurd h
+TickStep-readers old now reply new h = absurd h
 
 ticked-readers : (now : ℕ) (ws : List Writer) (k : ℕ) → (numbered (map (ticked now) ws) k no_writer).readers ≡ (numbered ws k no_writer).readers
 ticked-readers now ws k = ⊎_elim (λ e. ap (λ (x : Writer). x.readers) e) (λ n. ap (λ (x : Writer). x.readers) (n.0 ∙ sym n.1)) (numbered-map-cases (ticked now) ws k no_writer)
@@ -173,8 +170,7 @@ ticked-readers now ws k = ⊎_elim (λ e. ap (λ (x : Writer). x.readers) e) (λ
 pub TickStep-acknowledged : (old : Part) (now : ℕ) (reply : Reply) (new : Part) → TickStep old now reply new → (k : ℕ) → (own_writer new k).readers ≡ (own_writer old k).readers
 TickStep-acknowledged old now Done new h k = ap (λ (p : Part). (own_writer p k).readers) h.1 ∙ ticked-readers now old.rtps.writers k
 TickStep-acknowledged old now (Refused code) new h k = ap (λ (p : Part). (own_writer p k).readers) h.1
-TickStep-acknowledged old now (Samples samples) new h k = absurd h
-TickStep-acknowledged old now (Reported report) new h k = absurd h
+TickStep-acknowledged old now reply new h k = absurd h
 
 -- changes grow at their end
 

@@ -16,8 +16,9 @@ use Rattle.dds_base.specs.declared.happening.Happening.TheVariants.{Took, Heard 
 use Rattle.dds_base.specs.declared.happening.SamplePosition.{SamplePosition}
 use Rattle.dds_base.specs.declared.mask.Masks.{Masks}
 use Rattle.dds_base.specs.declared.qos.HistoryQos.TheVariants.{KeepAll}
+use Rattle.dds_base.specs.Statuses.{lost_count}
 use Rattle.dds_model.specs.declared.call.Call.{Call}
-use Rattle.dds_model.specs.declared.call.Call.TheVariants.{Register, Write, Dispose, Unregister, Take}
+use Rattle.dds_model.specs.declared.call.Call.TheVariants.{Register, Write, Dispose, Unregister, Take, GetSampleLost}
 use Rattle.dds_model.specs.declared.endpoint.Endpoint.{Endpoint}
 use Rattle.dds_model.specs.declared.event.WorldEvent.{WorldEvent}
 use Rattle.dds_model.specs.declared.event.WorldEvent.TheVariants as world
@@ -25,11 +26,11 @@ use Rattle.dds_model.specs.declared.reply.Move.{Move}
 use Rattle.dds_model.specs.declared.reply.Move.TheVariants.{Place, Acknowledged, Heard}
 use Rattle.dds_base.specs.declared.happening.PassedRun.{PassedRun}
 use Rattle.dds_model.specs.declared.reply.Reply.{Reply}
-use Rattle.dds_model.specs.declared.reply.Reply.TheVariants.{Done, Samples, Reported, Refused}
+use Rattle.dds_model.specs.declared.reply.Reply.TheVariants.{Done, Samples, SampleLost, Reported, Refused}
 use Rattle.dds_model.specs.Numbered.{numbered, with_numbered, HasNumber}
 use Rattle.dds_model.specs.Part.{same_endpoint, WriterProxy, Reader, Dds, Part, no_reader, no_part, own_writer, own_proxies, own_reader, at_reader, at_writer, row_of, place_of, with_place, with_heard, with_acknowledged, publication_of, writer_changes}
 use Rattle.dds_model.specs.Moves.{Grounds, as_to, match_of, IsMatched, position_of, AreMoves, Places, Hears, DeliveryStep}
-use Rattle.dds_model.specs.Calls.{Effect, nothing, writes, effect, effect_of, with_happening, register_refusal, write_refusal, dispose_refusal, unregister_refusal, IsDoneUnless, Tests, Answers, CallStep, TickStep}
+use Rattle.dds_model.specs.Calls.{Effect, nothing, writes, effect, effect_of, after_look, with_happening, register_refusal, write_refusal, dispose_refusal, unregister_refusal, IsDoneUnless, Tests, Answers, CallStep, TickStep}
 use Rattle.dds_model.specs.Machine.{Machine, AllTests, part_at, writer_at, place_at, grounds_of, Step}
 use Rattle.dds_model.specs.Runs.{Traffic, Run}
 use Rattle.dds_model.specs.InOrder.{came_from, CameInOrder, no_traffic}
@@ -176,15 +177,22 @@ SameCame old new r = HasNumber new.readers r × ((p : ℕ) → came_from p (numb
 same_came : (old new : Dds) (r : ℕ) → HasNumber old.readers r → new ≡ old → SameCame old new r
 same_came old new r h e = (subst (λ (d : Dds). HasNumber d.readers r) (sym e) h, λ p. ap (λ (d : Dds). came_from p (numbered d.readers r no_reader).happened) e)
 
+-- the reader of number k has changed, but the same changes came at it
+changed_reader : (old : Part) (new : Dds) (k : ℕ) (reader : Reader) (r : ℕ) → HasNumber old.dds.readers r → ((p : ℕ) → came_from p reader.happened ≡ came_from p (own_reader old k).happened)
+    → new ≡ record old.dds { readers = with_numbered old.dds.readers k reader } → SameCame old.dds new r
+changed_reader old new k reader r h same e = (
+  subst (λ (d : Dds). HasNumber d.readers r) (sym e) (has_with old.dds.readers k reader r h),
+  λ p.
+      ap (λ (d : Dds). came_from p (numbered d.readers r no_reader).happened) e
+      ∙ ⊎_elim (λ s. ap (λ (x : Reader). came_from p x.happened) s) (λ o. ap (λ (x : Reader). came_from p x.happened) o.1 ∙ (same p ∙ ap (λ (j : ℕ). came_from p (own_reader old j).happened) (sym o.0)))
+      (numbered-cases old.dds.readers k reader r no_reader),
+)
+
 took : (old : Part) (new : Dds) (k : ℕ) (samples : List SamplePosition) (r : ℕ) → HasNumber old.dds.readers r → new ≡ with_happening old k (Took samples) → SameCame old.dds new r
-took old new k samples r h e =
-    let reader : Reader = record { qos = (own_reader old k).qos; happened = Took samples ∷ (own_reader old k).happened } in
-    let after = with_happening old k (Took samples) in (
-      subst (λ (d : Dds). HasNumber d.readers r) (sym e) (has_with old.dds.readers k reader r h),
-      λ p.
-          ap (λ (d : Dds). came_from p (numbered d.readers r no_reader).happened) e
-          ∙ ⊎_elim (λ s. ap (λ (x : Reader). came_from p x.happened) s) (λ o. ap (λ (x : Reader). came_from p x.happened) o.1 ∙ ap (λ (j : ℕ). came_from p (own_reader old j).happened) (sym o.0)) (numbered-cases old.dds.readers k reader r no_reader),
-    )
+took old new k samples r h e = changed_reader old new k (record (own_reader old k) { happened = Took samples ∷ (own_reader old k).happened }) r h (λ p. refl) e
+
+looked : (old : Part) (new : Dds) (k r : ℕ) → HasNumber old.dds.readers r → new ≡ after_look old k → SameCame old.dds new r
+looked old new k r h e = changed_reader old new k (record (own_reader old k) { lost_seen = lost_count (own_reader old k).happened }) r h (λ p. refl) e
 
 take_refused : (tests : Tests) (old : Part) (k : ℕ) (max : ℤ) (masks : Masks) (code : Code) (new : Dds) (r : ℕ) → HasNumber old.dds.readers r → Answers tests old (Take k max masks) (Refused code) new → SameCame old.dds new r
 take_refused tests old k max masks code.NoData new r h a = took old new k [] r h a.2
@@ -193,8 +201,7 @@ take_refused tests old k max masks code new r h a = same_came old.dds new r h a.
 done_or_not : (refusal : Option Code) (reply : Reply) (old new : Dds) (r : ℕ) → HasNumber old.readers r → IsDoneUnless refusal reply old old new → SameCame old new r
 done_or_not refusal Done old new r h a = same_came old new r h a.1
 done_or_not refusal (Refused code) old new r h a = same_came old new r h a.1
-done_or_not refusal (Samples samples) old new r h a = absurd a
-done_or_not refusal (Reported report) old new r h a = absurd a
+done_or_not refusal reply old new r h a = absurd a
 
 answers_came : (tests : Tests) (old : Part) (c : Call) (reply : Reply) (new : Dds) (r : ℕ) → HasNumber old.dds.readers r → Answers tests old c reply new → SameCame old.dds new r
 answers_came tests old (Register v key) reply new r h a = done_or_not (register_refusal old v) reply old.dds new r h a
@@ -203,8 +210,10 @@ answers_came tests old (Dispose v key) reply new r h a = done_or_not (dispose_re
 answers_came tests old (Unregister v key) reply new r h a = done_or_not (unregister_refusal old v key) reply old.dds new r h a
 answers_came tests old (Take v max masks) (Samples samples) new r h a = took old new v _ r h a.3
 answers_came tests old (Take v max masks) (Refused code) new r h a = take_refused tests old v max masks code new r h a
-answers_came tests old (Take v max masks) Done new r h a = absurd a
-answers_came tests old (Take v max masks) (Reported report) new r h a = absurd a
+answers_came tests old (Take v max masks) reply new r h a = absurd a
+answers_came tests old (GetSampleLost v) (SampleLost status) new r h a = looked old new v r h a.2
+answers_came tests old (GetSampleLost v) (Refused code) new r h a = same_came old.dds new r h a.1
+answers_came tests old (GetSampleLost v) reply new r h a = absurd a
 
 effect_rows : (old : Part) (new : Part) (e : Effect) → new.rtps ≡ effect old.rtps e → new.rtps.readers ≡ old.rtps.readers
 effect_rows old new nothing h = ap (λ x. x.readers) h
@@ -327,7 +336,7 @@ own_first peers [] k w = inl refl
 own_first peers (r ∷ rs) zero w = matched_first r.topic 1 peers w
 own_first peers (r ∷ rs) (suc k) w = own_first peers rs k w
 
-own_quiet : (peers : List PeerConfig) (rs : List ReaderConfig) (k : ℕ) → (get_or (map (λ (r : ReaderConfig). record { qos = reader_qos peers r; happened = [] }) rs) k no_reader).happened ≡ []
+own_quiet : (peers : List PeerConfig) (rs : List ReaderConfig) (k : ℕ) → (get_or (map (λ (r : ReaderConfig). record { qos = reader_qos peers r; happened = []; lost_seen = 0 }) rs) k no_reader).happened ≡ []
 own_quiet peers [] k = refl
 own_quiet peers (r ∷ rs) zero = refl
 own_quiet peers (r ∷ rs) (suc k) = own_quiet peers rs k
@@ -342,7 +351,7 @@ begins_part : (peers : List PeerConfig) (p : PeerConfig) (k : ℕ) (w : Endpoint
 begins_part peers p k w = record {
   first = own_first peers p.readers k w;
   quiet = own_quiet peers p.readers k;
-  alike = length-map p.readers (λ (r : ReaderConfig). record { qos = reader_qos peers r; happened = [] }) ∙ sym (length-map p.readers (λ (r : ReaderConfig). matched_writers r.topic 1 peers));
+  alike = length-map p.readers (λ (r : ReaderConfig). record { qos = reader_qos peers r; happened = []; lost_seen = 0 }) ∙ sym (length-map p.readers (λ (r : ReaderConfig). matched_writers r.topic 1 peers));
 }
 
 begins : (peers : List PeerConfig) (n : ℕ) (ps : List PeerConfig) (i k : ℕ) (w : Endpoint) → Begins (get_or (map (λ (p : Peer). p.part) (opening_peers peers n ps)) i no_part) k w

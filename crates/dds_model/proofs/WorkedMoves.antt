@@ -45,7 +45,7 @@ part_1 w = record { rtps = record { writers = w ∷ []; readers = [] }; dds = re
 abbrev pub part_2 : ℕ → Option ℤ → List Happening → Part
 part_2 place heard happened = record {
   rtps = record { writers = []; readers = (record { writer = w1; place = place; heard = heard } ∷ []) ∷ [] };
-  dds = record { moment = 0; readers = record { qos = reader_qos (pair KeepAll).peers (reader r1_id 0); happened = happened } ∷ [] };
+  dds = record { moment = 0; readers = record { qos = reader_qos (pair KeepAll).peers (reader r1_id 0); happened = happened; lost_seen = 0 } ∷ [] };
 }
 
 abbrev pub machine : Writer → Part → Machine

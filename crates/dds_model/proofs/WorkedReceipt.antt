@@ -240,7 +240,7 @@ taken_up-not_excused_by_3 new h = taken_up-must_move (Some 3) new (λ e. omega (
 -- a reader that takes up to one sample has no room for the second change while the first is present, so the place need not move
 abbrev limited : List Happening → Part
 limited happened = record (part_2 2 None []) {
-  dds = record { moment = 0; readers = record { qos = record (own_reader begun 1).qos { max_samples = Some 1 }; happened = happened } ∷ [] };
+  dds = record { moment = 0; readers = record { qos = record (own_reader begun 1).qos { max_samples = Some 1 }; happened = happened; lost_seen = 0 } ∷ [] };
 }
 
 abbrev full : Part

@@ -1,7 +1,8 @@
 -- What a peer answers to a call, and what the call does: the first cause that holds refuses it, else it is done, unless
 -- a growth was refused.
 --
--- DDS 1.4, 2.2.2.4 (register_instance, write, dispose, unregister_instance), 2.2.2.5 (take), 2.2.1.1 (return codes).
+-- DDS 1.4, 2.2.2.4 (register_instance, write, dispose, unregister_instance), 2.2.2.5 (take, get_sample_lost_status),
+-- 2.2.1.1 (return codes).
 use Rattle.std.specs.Prelude.{◌≡◌, ◌≢◌, ℕ, ◌^◌, ◌&&◌, ◌||◌, not, Bool, List, [], ◌∷◌, map, length, Option, Some, None, nat_le, nat_lt, if◌then◌else◌, ℤ, pos, negsuc}
 use Rattle.dds_base.specs.declared.key.Key.{Key}
 use Rattle.dds_base.specs.declared.change.Change.{Change}
@@ -17,11 +18,12 @@ use Rattle.dds_base.specs.Access.{picked_samples, no_filter, collection_of}
 use Rattle.dds_base.specs.Checked.{is_maximum}
 use Rattle.dds_base.specs.Kept.{append_refusal}
 use Rattle.dds_base.specs.Refusal.{Refuses}
+use Rattle.dds_base.specs.Statuses.{lost_count, sample_lost_status}
 use Rattle.dds_base.specs.Written.{Written, Registered, Changed, Ticked, is_key_registered}
 use Rattle.dds_model.specs.declared.call.Call.{Call}
-use Rattle.dds_model.specs.declared.call.Call.TheVariants.{Register, Write, Dispose, Unregister, Take}
+use Rattle.dds_model.specs.declared.call.Call.TheVariants.{Register, Write, Dispose, Unregister, Take, GetSampleLost}
 use Rattle.dds_model.specs.declared.reply.Reply.{Reply}
-use Rattle.dds_model.specs.declared.reply.Reply.TheVariants.{Done, Samples, Refused}
+use Rattle.dds_model.specs.declared.reply.Reply.TheVariants.{Done, Samples, SampleLost, Refused}
 use Rattle.dds_model.specs.Numbered.{numbered, with_numbered}
 use Rattle.dds_model.specs.Part.{Part, Rtps, Dds, Writer, no_writer, own_writer, own_reader, history_of, is_behind}
 
@@ -79,6 +81,15 @@ picked_at part reader max masks = picked_samples (own_reader part reader).qos (o
 abbrev pub access_refusal : Part → ℕ → ℤ → Option Code
 access_refusal part reader max = if not (has_number part.dds.readers reader) || not (is_maximum max) then Some BadParameter else None
 
+-- why a look at a status of the peer's reader is refused: no such reader
+abbrev pub look_refusal : Part → ℕ → Option Code
+look_refusal part reader = if not (has_number part.dds.readers reader) then Some BadParameter else None
+
+-- a peer's reader, after its SAMPLE_LOST was looked at
+abbrev pub after_look : Part → ℕ → Dds
+after_look part reader =
+    record part.dds { readers = with_numbered part.dds.readers reader (record (own_reader part reader) { lost_seen = lost_count (own_reader part reader).happened }) }
+
 -- a peer's reader, after one more thing happened there
 abbrev pub with_happening : Part → ℕ → Happening → Dds
 with_happening part reader happening =
@@ -113,7 +124,7 @@ IsDoneUnless refusal (Refused code) old done new = Refuses refusal code × (new 
 IsDoneUnless refusal reply old done new = ⊥
 
 -- What a call answers, and what it does to what the peer's own calls see. A take that finds nothing happened too; one that
--- finds no memory to look for samples did not.
+-- finds no memory to look for samples did not. A look at a status needs no memory.
 abbrev pub Answers : Tests → Part → Call → Reply → Dds → Type 0
 Answers tests old (Register writer key) reply dds = IsDoneUnless (register_refusal old writer) reply old.dds old.dds dds
 Answers tests old (Write writer key value) reply dds = IsDoneUnless (write_refusal old writer key value) reply old.dds old.dds dds
@@ -127,6 +138,10 @@ Answers tests old (Take reader max masks) (Refused NoData) dds =
     (access_refusal old reader max ≡ None) × (picked_at old reader max masks ≡ []) × (dds ≡ with_happening old reader (Took []))
 Answers tests old (Take reader max masks) (Refused code) dds = Refuses (access_refusal old reader max) code × (dds ≡ old.dds)
 Answers tests old (Take reader max masks) reply dds = ⊥
+Answers tests old (GetSampleLost reader) (SampleLost status) dds =
+    (look_refusal old reader ≡ None) × (status ≡ sample_lost_status (own_reader old reader).happened (own_reader old reader).lost_seen) × (dds ≡ after_look old reader)
+Answers tests old (GetSampleLost reader) (Refused code) dds = (look_refusal old reader ≡ Some code) × (dds ≡ old.dds)
+Answers tests old (GetSampleLost reader) reply dds = ⊥
 
 -- one call at a peer
 pub record CallStep (tests : Tests) (old : Part) (call : Call) (reply : Reply) (new : Part) : Type 0 where

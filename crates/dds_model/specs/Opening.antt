@@ -45,7 +45,7 @@ opening_writer peers w = record { policy = w.history; max_samples = limit_of w.m
 abbrev pub opening_part : List PeerConfig → PeerConfig → Part
 opening_part peers p = record {
   rtps = record { writers = map (opening_writer peers) p.writers; readers = map (λ (r : ReaderConfig). matched_writers r.topic 1 peers) p.readers };
-  dds = record { moment = 0; readers = map (λ (r : ReaderConfig). record { qos = reader_qos peers r; happened = [] }) p.readers };
+  dds = record { moment = 0; readers = map (λ (r : ReaderConfig). record { qos = reader_qos peers r; happened = []; lost_seen = 0 }) p.readers };
 }
 
 abbrev pub opening_peers : List PeerConfig → ℕ → List PeerConfig → List Peer

@@ -46,10 +46,12 @@ pub record Rtps : Type 0 where
   pub writers : List Writer
   pub readers : List (List WriterProxy)
 
--- a reader as its own calls see it: its QoS, and what happened there, the newest first
+-- a reader as its own calls see it: its QoS, what happened there, the newest first, and the total of its SAMPLE_LOST when
+-- that was looked at last, at first 0 (DDS 1.4, 2.2.4.1)
 pub record Reader : Type 0 where
   pub qos : ReaderQos
   pub happened : List Happening
+  pub lost_seen : ℕ
 
 -- a peer's moment and its readers
 pub record Dds : Type 0 where
@@ -64,7 +66,7 @@ abbrev pub no_writer : Writer
 no_writer = record { policy = KeepAll; max_samples = None; autodispose = false; written = []; readers = [] }
 
 abbrev pub no_reader : Reader
-no_reader = record { qos = record { ownership = Shared; history = KeepAll; max_samples = None; max_instances = None; writers = [] }; happened = [] }
+no_reader = record { qos = record { ownership = Shared; history = KeepAll; max_samples = None; max_instances = None; writers = [] }; happened = []; lost_seen = 0 }
 
 abbrev pub no_part : Part
 no_part = record { rtps = record { writers = []; readers = [] }; dds = record { moment = 0; readers = [] } }

@@ -23,4 +23,7 @@ pub enum Call {
     /// Takes samples that meet the masks, `max` at most, -1 for all of them (DDS 1.4, 2.2.2.5, take). `BadParameter` for
     /// a `max` that is neither -1 nor positive, `NoData` where there is no such sample.
     Take { reader: u8, max: i32, masks: Masks },
+    /// Looks at how many changes a reader passed over, in all and since the last look (DDS 1.4, 2.2.2.5,
+    /// get_sample_lost_status). It is never refused for want of memory.
+    GetSampleLost { reader: u8 },
 }

@@ -1,7 +1,7 @@
 //! What a peer answers.
 
 use crate::endpoint::Endpoint;
-use dds_base::{Code, PassedRun, Sample, Sequence, Sn};
+use dds_base::{Code, PassedRun, Sample, SampleLostStatus, Sequence, Sn};
 
 /// What a delivery moved.
 #[derive(Debug, Drop)]
@@ -40,6 +40,7 @@ pub struct Report {
 pub enum Reply {
     Done,
     Samples(Sequence<Sample>),
+    SampleLost(SampleLostStatus),
     Reported(Report),
     Refused(Code),
 }

@@ -1,7 +1,7 @@
 //! What a simulation prints.
 
 use dds_base::{Code, InstanceState, Key, Sample, SampleInfo, SampleState, ViewState};
-use dds_model::{Endpoint, Move, PassedRun, Reply, Report};
+use dds_model::{Endpoint, Move, PassedRun, Reply, Report, SampleLostStatus};
 use std::alloc::{AllocError, Global};
 use std::fmt::Display;
 
@@ -132,6 +132,14 @@ impl TranscriptLine {
         }
     }
 
+    fn push_sample_lost(&mut self, status: SampleLostStatus) {
+        let SampleLostStatus {
+            total_count,
+            total_count_change,
+        } = status;
+        self.push(format_args!("lost {total_count} {total_count_change}"));
+    }
+
     fn push_code(&mut self, code: Code) {
         let number = code.number();
         self.push(format_args!("code {number}"));
@@ -195,6 +203,7 @@ impl TranscriptLine {
         match reply {
             Reply::Done => self.push("ok"),
             Reply::Samples(samples) => self.push_samples(samples.as_slice()),
+            Reply::SampleLost(status) => self.push_sample_lost(*status),
             Reply::Reported(report) => self.push_report(report),
             Reply::Refused(code) => self.push_code(*code),
         }

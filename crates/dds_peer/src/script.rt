@@ -65,6 +65,15 @@ fn take(words: &[&str]) -> Option<Call> {
     Some(Call::Take { reader, max, masks })
 }
 
+/// A look at a status of a reader.
+fn look(words: &[&str]) -> Option<Call> {
+    let [reader] = words else {
+        return None;
+    };
+    let reader = reader_number(reader)?;
+    Some(Call::GetSampleLost { reader })
+}
+
 /// A writer and an instance.
 fn writer_and_key(writer: &str, key_word: &str) -> Option<(u8, Key)> {
     Some((writer_number(writer)?, key(key_word)?))
@@ -106,6 +115,7 @@ fn operation(peer: &str, words: &[&str]) -> Option<Line> {
     match *operation {
         "tick" => tick(peer, operands),
         "take" => call(peer, take(operands)),
+        "lost" => call(peer, look(operands)),
         operation => call(peer, instance_call(operation, operands)),
     }
 }

@@ -1,11 +1,9 @@
 -- What a network sends at an event.
 use Rattle.std.proofs.Common.{◌≡◌, ℕ, suc, ◌+◌, ◌-◌, ◌^◌, min, List, [], ◌∷◌, inl, inr, ⊎_elim, length, get_or, subst, ap, sym, ◌∙◌, refl, arith, length-append}
 use Rattle.dds_base.specs.declared.change.Change.{Change}
-use Rattle.dds_base.specs.declared.code.Code.{Code}
 use Rattle.dds_base.specs.declared.config.Config.{Config}
 use Rattle.dds_base.specs.Written.{Registered, Changed, Asserted, LookedAt, Ticked}
 use Rattle.dds_model.specs.declared.call.Call.{Call}
-use Rattle.dds_model.specs.declared.call.Call.TheVariants as call
 use Rattle.dds_model.specs.declared.endpoint.Endpoint.{Endpoint}
 use Rattle.dds_model.specs.declared.event.Event.TheVariants as event
 use Rattle.dds_model.specs.declared.event.Output.{Output}
@@ -13,7 +11,7 @@ use Rattle.dds_model.specs.declared.event.Packet.{Packet}
 use Rattle.dds_model.specs.declared.event.WorldEvent.TheVariants as world
 use Rattle.dds_model.specs.declared.reply.Reply.{Reply}
 use Rattle.dds_model.specs.declared.reply.Report.{Report}
-use Rattle.dds_model.specs.declared.reply.Reply.TheVariants.{Done, Samples, Refused, Reported}
+use Rattle.dds_model.specs.declared.reply.Reply.TheVariants.{Done, Refused, Reported}
 use Rattle.dds_base.specs.declared.code.Code.TheVariants.{BadParameter}
 use Rattle.dds_model.specs.Part.{Part, ReaderProxy, own_writer, writer_changes}
 use Rattle.dds_model.specs.Calls.{Effect, nothing, writes, effect_of}
@@ -25,6 +23,7 @@ use Rattle.dds_model.specs.Part.{peers_of}
 use Rattle.dds_model.specs.World.{WorldState, machine_of}
 use Rattle.dds_model.proofs.Tables.{numbered-map}
 use Rattle.dds_core.specs.Sending.{SendsNothing, SendsChange, SendsFor, due_at_tick}
+use Rattle.dds_core.proofs.CallSteps.{refused_nothing}
 use Rattle.dds_core.proofs.Lists.{get-within}
 use Rattle.dds_world.specs.WorldStanding.{WorldKept, ArePosted, Posts, Announces, traffic}
 use Rattle.dds_world.specs.Acting.{Acts, Counts, IsQuiet}
@@ -155,16 +154,12 @@ TicksAt config old peer part reply new = new ≡ old
 tick_sends : (kept new : WorldKept) (config : Config) (peer : Peer) (reply : Reply) (output : Output) → Posts kept.sent output.packets new.sent → Counts kept output new → IsQuiet kept output new
     → AreSent (due_at_tick config peer reply) output.packets output.unsent → TicksAt config (traffic kept) peer.number peer.part reply (traffic new)
 tick_sends kept new config peer Done output posts counts quiet are = dues_sent kept new (heartbeats_due config peer.number peer.part) output posts counts are
-tick_sends kept new config peer (Refused code) output posts counts quiet are = same_traffic kept new output quiet (record { packets = are.0; unsent = are.1 })
-tick_sends kept new config peer (Samples samples) output posts counts quiet are = same_traffic kept new output quiet (record { packets = are.0; unsent = are.1 })
-tick_sends kept new config peer (Reported report) output posts counts quiet are = same_traffic kept new output quiet (record { packets = are.0; unsent = are.1 })
+tick_sends kept new config peer reply output posts counts quiet are = same_traffic kept new output quiet (record { packets = are.0; unsent = are.1 })
 
 machine_ticks : (config : Config) (old new : Traffic) (network : WorldState) (peer now : ℕ) (reply : Reply) → TicksAt config old peer (part_at (machine_of network) peer) reply new
     → Sends config old (machine_of network) (world.Tick peer now) reply new
 machine_ticks config old new network peer now Done h = h
-machine_ticks config old new network peer now (Refused code) h = h
-machine_ticks config old new network peer now (Samples samples) h = h
-machine_ticks config old new network peer now (Reported report) h = h
+machine_ticks config old new network peer now reply h = h
 
 ticks_sent : (kept new : WorldKept) (i now : ℕ) (reply : Reply) → Acts kept i (event.Tick now) reply new → Announces kept (world.Tick (suc i) now) reply new
 ticks_sent kept new i now reply a config network s =
@@ -202,16 +197,9 @@ delivered_sends kept new i peer number bytes reply a config network s =
 
 -- what is refused sends nothing
 
-refused_effect : (part : Part) (c : Call) (code : Code) → effect_of part c (Refused code) ≡ nothing
-refused_effect part (call.Register w key) code = refl
-refused_effect part (call.Write w key value) code = refl
-refused_effect part (call.Dispose w key) code = refl
-refused_effect part (call.Unregister w key) code = refl
-refused_effect part (call.Take r max masks) code = refl
-
 pub refused_call_sends : (kept : WorldKept) (peer : ℕ) (c : Call) → Announces kept (world.Call peer c) (Refused BadParameter) kept
 refused_call_sends kept peer c config network s =
-    subst (λ (e : Effect). SendsOf config (traffic kept) (machine_of network) peer e (traffic kept)) (sym (refused_effect (part_at (machine_of network) peer) c BadParameter)) refl
+    subst (λ (e : Effect). SendsOf config (traffic kept) (machine_of network) peer e (traffic kept)) (sym (refused_nothing (part_at (machine_of network) peer) c BadParameter)) refl
 
 pub refused_tick_sends : (kept : WorldKept) (peer now : ℕ) → Announces kept (world.Tick peer now) (Refused BadParameter) kept
 refused_tick_sends kept peer now config network s = refl

@@ -7,7 +7,8 @@ mod round;
 mod world;
 
 pub use dds_model::{
-    Call, Endpoint, Event, Move, Output, Packet, PassedRun, Reply, Report, WorldEvent,
+    Call, Endpoint, Event, Move, Output, Packet, PassedRun, Reply, Report, SampleLostStatus,
+    WorldEvent,
 };
 pub use round::RoundReply;
 pub use world::World;

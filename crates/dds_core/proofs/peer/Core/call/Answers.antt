@@ -26,3 +26,7 @@ returns-in-Take-clause-step c =
     let fits : SFits w32 c.in-Take.max = search rules in
     subst (λ (x : Call). Steps c.args.self.now (event.Call x) c.take.result c.take.new.self) (sym c.in-Take.is)
     (subst (λ (m : ℤ). Steps c.args.self.now (event.Call (call.Take c.in-Take.reader m c.in-Take.masks)) c.take.result c.take.new.self) (to_z-of_z w32 c.in-Take.max fits) c.take.ensures.step)
+
+pub returns-in-GetSampleLost-clause-step : goal.returns-in-GetSampleLost-clause-step
+returns-in-GetSampleLost-clause-step c =
+    subst (λ (x : Call). Steps c.args.self.now (event.Call x) c.get_sample_lost.result c.get_sample_lost.new.self) (sym c.in-GetSampleLost.is) c.get_sample_lost.ensures.step
