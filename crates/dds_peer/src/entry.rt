@@ -23,12 +23,7 @@ fn simulate<R: Read + Drop, W: Write + Drop>(
     output: W,
     errors: &mut impl Write,
 ) -> u8 {
-    let status = sim(alloc, input, output);
-    if let Some(fault) = status.fault {
-        let _ = errors.writeln(fault);
-        let _ = errors.flush();
-    }
-    status.exit
+    sim(alloc, input, output).tell(errors)
 }
 
 /// Does what the words ask for, prints a fault on `errors`, and answers the exit status: 0 where all went well, 1 after

@@ -1,12 +1,10 @@
 //! The program: a network of peers in memory, run from a script.
 //!
-//! Nothing is claimed by contracts here: what is printed is tested. What the network answers is proved in `dds_world`.
+//! Nothing is claimed by contracts here: what is printed is tested. What the network answers is proved in `dds_world`, and
+//! the words of a script and the form of replies stand in `dds_script`.
 #![tactic(auto)]
 
 mod entry;
-mod fault;
-mod number;
-mod printing;
 mod script;
 mod setup;
 mod simulation;

@@ -1,12 +1,11 @@
 //! A script, run over a simulated network.
 
-use crate::fault::{Fault, Status};
-use crate::printing::{Traffic, TranscriptLine};
 use crate::script::Line;
-use crate::setup::{Setup, SetupLine};
+use crate::setup::{NumberedSetup, SetupPart};
 use crate::stream::Script;
 use dds_base::Code;
 use dds_model::{Endpoint, Reply, WorldEvent};
+use dds_script::{Fault, Status, Traffic, TranscriptLine, print};
 use dds_world::World;
 use std::alloc::{AllocError, Global};
 use std::io::{Read, Write};
@@ -15,14 +14,8 @@ use std::io::{Read, Write};
 #[derive(Drop)]
 struct Network {
     alloc: Global,
-    setup: Setup,
+    setup: NumberedSetup,
     world: Option<World>,
-}
-
-impl From<AllocError> for Fault {
-    fn from(_e: AllocError) -> Fault {
-        Fault::Memory
-    }
 }
 
 /// Why a set-up is refused, at this line.
@@ -37,7 +30,7 @@ fn refusal(code: Code, line: u64) -> Fault {
 }
 
 /// Opens the network of a set-up, at this line.
-fn opened(alloc: Global, setup: &mut Setup, line: u64) -> Result<World, Fault> {
+fn opened(alloc: Global, setup: &mut NumberedSetup, line: u64) -> Result<World, Fault> {
     let config = setup.config()?;
     World::open(alloc, &config).map_err(|code| refusal(code, line))
 }
@@ -90,24 +83,17 @@ fn transcript_of(alloc: Global, world: &mut World, line: Line) -> Result<String,
     text.finish()
 }
 
-fn print(output: &mut impl Write, text: &str) -> Result<(), Fault> {
-    output
-        .write_all(text.as_bytes())
-        .map_err(|_| Fault::OutputFailed)?;
-    output.flush().map_err(|_| Fault::OutputFailed)
-}
-
 impl Network {
     fn new(alloc: Global) -> Self {
         Network {
             alloc,
-            setup: Setup::new(alloc),
+            setup: NumberedSetup::new(alloc),
             world: None,
         }
     }
 
     /// Takes up a line of the set-up, which may not follow another line, nor name a writer or a reader before any peer.
-    fn set_up(&mut self, part: SetupLine, line: u64) -> Result<(), Fault> {
+    fn set_up(&mut self, part: SetupPart, line: u64) -> Result<(), Fault> {
         if self.world.is_none() && self.setup.take(part)? {
             Ok(())
         } else {
@@ -172,12 +158,8 @@ fn run_script<R: Read + Drop>(
 /// Nothing ends it early but a line that is no command, a set-up that is refused, a stream that fails, more than
 /// 1,048,576 octets of input, or want of memory for reading, for opening the network or for printing.
 pub fn sim<R: Read + Drop, W: Write + Drop>(alloc: Global, input: R, mut output: W) -> Status {
-    let ended = match Script::open(alloc, input) {
-        Ok(mut script) => run_script(alloc, &mut script, &mut output),
-        Err(fault) => Err(fault),
-    };
-    match ended {
-        Ok(()) => Status::success(),
+    match Script::open(alloc, input) {
+        Ok(mut script) => Status::of(run_script(alloc, &mut script, &mut output)),
         Err(fault) => Status::failed(fault),
     }
 }

@@ -184,9 +184,7 @@ ticked_sends kept new i peer now reply is a = subst (λ (n : ℕ). Announces kep
 reported : (config : Config) (old new : Traffic) (network : WorldState) (peer number : ℕ) (reply : Reply) (report : Report) → reply ≡ Reported report → (dues : List Due) → SendsDues dues old new
     → Sends config old (machine_of network) (world.Deliver peer number) reply new
 reported config old new network peer number (Reported r) report is dues h = inl (dues, h)
-reported config old new network peer number Done report is dues h = absurd cc
-reported config old new network peer number (Refused code) report is dues h = absurd cc
-reported config old new network peer number (Samples samples) report is dues h = absurd cc
+reported config old new network peer number reply report is dues h = absurd cc
 
 pub delivered_sends : (kept new : WorldKept) (i peer number : ℕ) (bytes : List ℕ) (reply : Reply) → Acts kept i (event.Deliver bytes) reply new → Announces kept (world.Deliver peer number) reply new
 delivered_sends kept new i peer number bytes reply a config network s =
@@ -206,6 +204,4 @@ refused_tick_sends kept peer now config network s = refl
 
 pub quiet_delivery_sends : (kept : WorldKept) (peer number : ℕ) (reply : Reply) → Announces kept (world.Deliver peer number) reply kept
 quiet_delivery_sends kept peer number (Reported report) config network s = inr refl
-quiet_delivery_sends kept peer number Done config network s = refl
-quiet_delivery_sends kept peer number (Refused code) config network s = refl
-quiet_delivery_sends kept peer number (Samples samples) config network s = refl
+quiet_delivery_sends kept peer number reply config network s = refl

@@ -1,6 +1,6 @@
-//! Numbers, keys and values, as a script spells them.
+//! Numbers, names, keys and values, as a script spells them.
 
-use dds_base::{Key, Octets};
+use dds_base::{EntityId, GuidPrefix, Key, Octets};
 use std::alloc::{AllocError, Global};
 
 fn decimal_digit(digit: u8) -> Option<u64> {
@@ -56,8 +56,8 @@ fn octet(high: u8, low: u8) -> Option<u8> {
     Some((high << 4) | low)
 }
 
-/// A key of 1 to 32 hexadecimal digits, filled with zeros on the left.
-pub fn key(word: &str) -> Option<Key> {
+/// A number of 1 to 32 hexadecimal digits.
+fn hexadecimal(word: &str) -> Option<u128> {
     if word.is_empty() || word.len() > 32 {
         return None;
     }
@@ -65,10 +65,37 @@ pub fn key(word: &str) -> Option<Key> {
     for digit in word.as_bytes() {
         number = (number << 4) | u128::from(hexadecimal_digit(*digit)?);
     }
-    Some(Key(number.to_be_bytes()))
+    Some(number)
 }
 
-/// A value in an even number of hexadecimal digits, or `-` for the empty one.
+/// A key of 1 to 32 hexadecimal digits, filled with zeros on the left.
+pub fn key(word: &str) -> Option<Key> {
+    Some(Key(hexadecimal(word)?.to_be_bytes()))
+}
+
+/// A GUID prefix of 24 hexadecimal digits.
+pub fn guid_prefix(word: &str) -> Option<GuidPrefix> {
+    if word.len() != 24 {
+        return None;
+    }
+    let [_, _, _, _, a, b, c, d, e, f, g, h, i, j, k, l] = hexadecimal(word)?.to_be_bytes();
+    Some(GuidPrefix([a, b, c, d, e, f, g, h, i, j, k, l]))
+}
+
+/// An entity id of 8 hexadecimal digits.
+pub fn entity_id(word: &str) -> Option<EntityId> {
+    if word.len() != 8 {
+        return None;
+    }
+    let number = u32::try_from(hexadecimal(word)?).ok()?;
+    Some(EntityId(number.to_be_bytes()))
+}
+
+/// A value in an even number of hexadecimal digits, or `-` for the empty one; none where it is neither.
+///
+/// # Errors
+///
+/// Want of memory.
 pub fn value(alloc: Global, word: &str) -> Result<Option<Octets>, AllocError> {
     let mut octets = Vec::new(alloc);
     if word == "-" {

@@ -1,9 +1,11 @@
-//! What a simulation prints.
+//! What is printed.
 
+use crate::fault::Fault;
 use dds_base::{Code, InstanceState, Key, Sample, SampleInfo, SampleState, ViewState};
 use dds_model::{Endpoint, Move, PassedRun, Reply, Report, SampleLostStatus};
 use std::alloc::{AllocError, Global};
 use std::fmt::Display;
+use std::io::Write;
 
 /// What was sent, and what was not, in one event.
 #[derive(Clone, Copy)]
@@ -198,6 +200,11 @@ impl TranscriptLine {
         self.push('\n');
     }
 
+    /// A word, as it stands.
+    pub fn push_word(&mut self, word: &str) {
+        self.push(word);
+    }
+
     /// A reply.
     pub fn push_reply(&mut self, reply: &Reply) {
         match reply {
@@ -214,13 +221,17 @@ impl TranscriptLine {
         if traffic.before < traffic.after {
             self.push_range("sent", traffic.before.saturating_add(1), traffic.after);
         }
-        if traffic.unsent > 0 {
-            let unsent = traffic.unsent;
+        self.push_unsent(traffic.unsent);
+    }
+
+    /// How many packets could not be sent, if any.
+    pub fn push_unsent(&mut self, unsent: u64) {
+        if unsent > 0 {
             self.push(format_args!(" unsent {unsent}"));
         }
     }
 
-    /// The bytes of a packet, or that there is none.
+    /// A number and the bytes of a packet, or that there is none.
     pub fn push_packet(&mut self, number: u64, bytes: Option<&[u8]>) {
         match bytes {
             Some(bytes) => {
@@ -230,4 +241,16 @@ impl TranscriptLine {
             None => self.push_code(Code::BadParameter),
         }
     }
+}
+
+/// Prints what has been written, and flushes it.
+///
+/// # Errors
+///
+/// `OutputFailed` where the stream took less than that.
+pub fn print(output: &mut impl Write, text: &str) -> Result<(), Fault> {
+    output
+        .write_all(text.as_bytes())
+        .map_err(|_| Fault::OutputFailed)?;
+    output.flush().map_err(|_| Fault::OutputFailed)
 }

@@ -1,0 +1,118 @@
+//! The calls of a script.
+
+use crate::number::{decimal_i32, decimal_u8, decimal_u32, key, value};
+use bitflags::Flags;
+use dds_base::{InstanceStateMask, Key, Masks, SampleStateMask, ViewStateMask};
+use dds_model::Call;
+use std::alloc::{AllocError, Global};
+
+/// The number of a writer, as `w2`.
+pub fn writer_number(word: &str) -> Option<u8> {
+    decimal_u8(word.strip_prefix('w')?)
+}
+
+/// The number of a reader, as `r2`.
+pub fn reader_number(word: &str) -> Option<u8> {
+    decimal_u8(word.strip_prefix('r')?)
+}
+
+fn mask(word: &str) -> Option<u32> {
+    match word {
+        "any" => Some(0xffff),
+        _ => decimal_u32(word),
+    }
+}
+
+fn masks(samples: &str, views: &str, instances: &str) -> Option<Masks> {
+    Some(Masks {
+        samples: SampleStateMask::from_bits_retain(mask(samples)?),
+        views: ViewStateMask::from_bits_retain(mask(views)?),
+        instances: InstanceStateMask::from_bits_retain(mask(instances)?),
+    })
+}
+
+/// How many samples at most, and which: all of them where nothing is said.
+fn limits(words: &[&str]) -> Option<(i32, Masks)> {
+    match words {
+        [] => Some((-1, Masks::ANY)),
+        [max] => Some((decimal_i32(max)?, Masks::ANY)),
+        [max, samples, views, instances] => {
+            Some((decimal_i32(max)?, masks(samples, views, instances)?))
+        }
+        _ => None,
+    }
+}
+
+fn take(words: &[&str]) -> Option<Call> {
+    let [reader, limit_words @ ..] = words else {
+        return None;
+    };
+    let reader = reader_number(reader)?;
+    let (max, masks) = limits(limit_words)?;
+    Some(Call::Take { reader, max, masks })
+}
+
+/// A look at a status of a reader.
+fn look(words: &[&str]) -> Option<Call> {
+    let [reader] = words else {
+        return None;
+    };
+    let reader = reader_number(reader)?;
+    Some(Call::GetSampleLost { reader })
+}
+
+/// A writer and an instance.
+fn writer_and_key(writer: &str, key_word: &str) -> Option<(u8, Key)> {
+    Some((writer_number(writer)?, key(key_word)?))
+}
+
+/// A call that names a writer and an instance, and no more.
+fn instance_call(operation: &str, words: &[&str]) -> Option<Call> {
+    let [writer, key_word] = words else {
+        return None;
+    };
+    let (writer, key) = writer_and_key(writer, key_word)?;
+    match operation {
+        "register" => Some(Call::Register { writer, key }),
+        "dispose" => Some(Call::Dispose { writer, key }),
+        "unregister" => Some(Call::Unregister { writer, key }),
+        _ => None,
+    }
+}
+
+fn write(alloc: Global, words: &[&str]) -> Result<Option<Call>, AllocError> {
+    let [writer, key_word, value_word] = words else {
+        return Ok(None);
+    };
+    let Some((writer, key)) = writer_and_key(writer, key_word) else {
+        return Ok(None);
+    };
+    match value(alloc, value_word)? {
+        Some(value) => Ok(Some(Call::Write { writer, key, value })),
+        None => Ok(None),
+    }
+}
+
+/// The call that these words ask of a peer; none where they are no call.
+///
+/// # Errors
+///
+/// Want of memory.
+pub fn call_of(alloc: Global, words: &[&str]) -> Result<Option<Call>, AllocError> {
+    match words {
+        ["write", operands @ ..] => write(alloc, operands),
+        ["take", operands @ ..] => Ok(take(operands)),
+        ["lost", operands @ ..] => Ok(look(operands)),
+        [operation, operands @ ..] => Ok(instance_call(operation, operands)),
+        [] => Ok(None),
+    }
+}
+
+/// The words of a line, which stand apart by one space.
+///
+/// # Errors
+///
+/// Want of memory.
+pub fn words_of(alloc: Global, line: &str) -> Result<Vec<&str>, AllocError> {
+    line.split(' ').collect(alloc)
+}

@@ -1,0 +1,83 @@
+//! What ends a program early.
+
+use std::alloc::AllocError;
+use std::io::{self, ErrorKind, Write};
+use thiserror::Error;
+
+/// A fault of the lines that are read, of the streams, or of memory. Lines are counted from 1.
+#[derive(Debug, Drop, Error)]
+pub enum Fault {
+    #[error("line {line}: not a command")]
+    NotACommand { line: u64 },
+    /// The set-up was refused; the line is the first after it, or one past the last.
+    #[error("line {line}: code {number}")]
+    Refused { line: u64, number: u8 },
+    #[error("input too long")]
+    InputTooLong,
+    #[error("input failed")]
+    InputFailed,
+    #[error("output failed")]
+    OutputFailed,
+    #[error("memory")]
+    Memory,
+}
+
+impl From<AllocError> for Fault {
+    fn from(_e: AllocError) -> Fault {
+        Fault::Memory
+    }
+}
+
+impl Fault {
+    /// That of an input that failed so.
+    pub fn of_input(error: io::Error) -> Self {
+        if error.kind() == ErrorKind::OutOfMemory {
+            Fault::Memory
+        } else {
+            Fault::InputFailed
+        }
+    }
+}
+
+/// How a program ended: its exit status, and the fault if there was one.
+#[derive(Drop)]
+pub struct Status {
+    pub exit: u8,
+    pub fault: Option<Fault>,
+}
+
+impl Status {
+    /// All lines were read.
+    pub fn success() -> Self {
+        Status {
+            exit: 0,
+            fault: None,
+        }
+    }
+
+    /// A fault ended it.
+    pub fn failed(fault: Fault) -> Self {
+        Status {
+            exit: 1,
+            fault: Some(fault),
+        }
+    }
+
+    /// What a run came to.
+    pub fn of(ended: Result<(), Fault>) -> Self {
+        match ended {
+            Ok(()) => Status::success(),
+            Err(fault) => Status::failed(fault),
+        }
+    }
+
+    /// Prints the fault, if there was one, and answers the exit status.
+    pub fn tell(self, errors: &mut impl Write) -> u8 {
+        let Status { exit, fault } = self;
+        if let Some(fault) = fault {
+            let _ = errors.writeln(fault);
+            let _ = errors.flush();
+        }
+        exit
+    }
+}

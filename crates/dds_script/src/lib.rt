@@ -1,0 +1,21 @@
+//! What the programs share: the words and numbers of a script, the options of writers and readers, the calls that words
+//! ask for, lines of input, and how replies are printed.
+//!
+//! Nothing is claimed by contracts here: what the programs read and print is tested.
+#![tactic(auto)]
+
+mod call;
+mod fault;
+mod lines;
+mod number;
+mod options;
+mod printing;
+mod setup;
+
+pub use call::{call_of, reader_number, words_of, writer_number};
+pub use fault::{Fault, Status};
+pub use lines::Lines;
+pub use number::{decimal, decimal_u8, entity_id, guid_prefix, value};
+pub use options::{Options, reader_options, writer_options};
+pub use printing::{Traffic, TranscriptLine, print};
+pub use setup::{Setup, SetupLine};

@@ -1,0 +1,123 @@
+//! The options of a writer or a reader.
+
+use crate::number::{decimal, decimal_i32, decimal_u32};
+use dds_base::{EntityId, HistoryQos, OwnershipQos, ReaderConfig, WriterConfig};
+
+/// What the options of a writer or a reader say.
+#[derive(Clone, Copy)]
+pub struct Options {
+    pub ownership: OwnershipQos,
+    pub history: HistoryQos,
+    pub max_samples: i32,
+    pub max_instances: i32,
+    pub strength: i32,
+    pub lease: Option<u64>,
+    pub autodispose: bool,
+    pub topic: u32,
+}
+
+impl Options {
+    /// Those of a line without options.
+    fn new() -> Self {
+        Options {
+            ownership: OwnershipQos::Shared,
+            history: HistoryQos::KeepLast(1),
+            max_samples: -1,
+            max_instances: -1,
+            strength: 0,
+            lease: None,
+            autodispose: true,
+            topic: 0,
+        }
+    }
+
+    /// Takes up an option that writers and readers have, if it is one. Of one given twice the last counts.
+    fn take_common(&mut self, word: &str) -> Option<()> {
+        match word {
+            "shared" => self.ownership = OwnershipQos::Shared,
+            "exclusive" => self.ownership = OwnershipQos::Exclusive,
+            "all" => self.history = HistoryQos::KeepAll,
+            _ => self.take_number(word)?,
+        }
+        Some(())
+    }
+
+    /// Takes up an option with a number, if it is one that writers and readers have.
+    fn take_number(&mut self, word: &str) -> Option<()> {
+        let (name, number) = word.split_once('=')?;
+        match name {
+            "last" => self.history = HistoryQos::KeepLast(decimal_u32(number)?),
+            "max" => self.max_samples = decimal_i32(number)?,
+            "lease" => self.lease = Some(decimal(number)?),
+            "topic" => self.topic = decimal_u32(number)?,
+            _ => return None,
+        }
+        Some(())
+    }
+
+    /// Takes up an option of a writer, if it is one.
+    fn take_writer(&mut self, word: &str) -> Option<()> {
+        if word == "noauto" {
+            self.autodispose = false;
+        } else if let Some(strength) = word.strip_prefix("strength=") {
+            self.strength = decimal_i32(strength)?;
+        } else {
+            self.take_common(word)?;
+        }
+        Some(())
+    }
+
+    /// Takes up an option of a reader, if it is one.
+    fn take_reader(&mut self, word: &str) -> Option<()> {
+        match word.strip_prefix("instances=") {
+            Some(max) => self.max_instances = decimal_i32(max)?,
+            None => self.take_common(word)?,
+        }
+        Some(())
+    }
+}
+
+/// What the options of a writer say.
+pub fn writer_options(words: &[&str]) -> Option<Options> {
+    let mut options = Options::new();
+    for word in words {
+        options.take_writer(word)?;
+    }
+    Some(options)
+}
+
+/// What the options of a reader say.
+pub fn reader_options(words: &[&str]) -> Option<Options> {
+    let mut options = Options::new();
+    for word in words {
+        options.take_reader(word)?;
+    }
+    Some(options)
+}
+
+/// A writer of this name and these options.
+pub fn writer_config(entity: EntityId, options: Options) -> WriterConfig {
+    WriterConfig {
+        entity,
+        topic: options.topic,
+        ownership: options.ownership,
+        history: options.history,
+        max_samples: options.max_samples,
+        strength: options.strength,
+        lease: options.lease,
+        autodispose: options.autodispose,
+    }
+}
+
+/// A reader of this name and these options.
+pub fn reader_config(entity: EntityId, options: Options) -> ReaderConfig {
+    ReaderConfig {
+        entity,
+        topic: options.topic,
+        ownership: options.ownership,
+        history: options.history,
+        max_samples: options.max_samples,
+        max_instances: options.max_instances,
+        lease: options.lease,
+    }
+}
