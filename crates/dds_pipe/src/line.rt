@@ -1,0 +1,106 @@
+//! The lines that a peer is given.
+
+use dds_base::Moment;
+use dds_model::Event;
+use dds_script::{
+    SetupLine, call_of, decimal, decimal_u8, entity_id, guid_prefix, reader_options, value,
+    words_of, writer_options,
+};
+use std::alloc::{AllocError, Global};
+
+/// What a line says.
+#[derive(Drop)]
+pub enum Line {
+    /// A peer of the configuration, or a writer or a reader of the last one.
+    Setup(SetupLine),
+    /// The peer opens as the one of this number.
+    Open(u8),
+    /// Something happens to the peer.
+    Event(Event),
+}
+
+fn peer(words: &[&str]) -> Option<Line> {
+    let [prefix] = words else {
+        return None;
+    };
+    Some(Line::Setup(SetupLine::Peer(guid_prefix(prefix)?)))
+}
+
+fn writer(words: &[&str]) -> Option<Line> {
+    let [entity, options @ ..] = words else {
+        return None;
+    };
+    let entity = entity_id(entity)?;
+    let options = writer_options(options)?;
+    Some(Line::Setup(SetupLine::Writer(entity, options)))
+}
+
+fn reader(words: &[&str]) -> Option<Line> {
+    let [entity, options @ ..] = words else {
+        return None;
+    };
+    let entity = entity_id(entity)?;
+    let options = reader_options(options)?;
+    Some(Line::Setup(SetupLine::Reader(entity, options)))
+}
+
+fn open(words: &[&str]) -> Option<Line> {
+    let [number] = words else {
+        return None;
+    };
+    Some(Line::Open(decimal_u8(number)?))
+}
+
+fn tick(words: &[&str]) -> Option<Line> {
+    let [now] = words else {
+        return None;
+    };
+    let now = Moment::new(decimal(now)?);
+    Some(Line::Event(Event::Tick(now)))
+}
+
+/// What the words of a line say that takes no memory.
+fn short_line(name: &str, words: &[&str]) -> Option<Line> {
+    match name {
+        "peer" => peer(words),
+        "writer" => writer(words),
+        "reader" => reader(words),
+        "open" => open(words),
+        "tick" => tick(words),
+        _ => None,
+    }
+}
+
+fn call(alloc: Global, words: &[&str]) -> Result<Option<Line>, AllocError> {
+    match call_of(alloc, words)? {
+        Some(call) => Ok(Some(Line::Event(Event::Call(call)))),
+        None => Ok(None),
+    }
+}
+
+fn delivery(alloc: Global, words: &[&str]) -> Result<Option<Line>, AllocError> {
+    let [bytes] = words else {
+        return Ok(None);
+    };
+    match value(alloc, bytes)? {
+        Some(bytes) => Ok(Some(Line::Event(Event::Deliver(bytes)))),
+        None => Ok(None),
+    }
+}
+
+fn line_of_words(alloc: Global, words: &[&str]) -> Result<Option<Line>, AllocError> {
+    match words {
+        ["call", operands @ ..] => call(alloc, operands),
+        ["deliver", operands @ ..] => delivery(alloc, operands),
+        [name, operands @ ..] => Ok(short_line(name, operands)),
+        [] => Ok(None),
+    }
+}
+
+/// What a line says, without its line feed; none where it says nothing.
+pub fn line_of(alloc: Global, line: &[u8]) -> Result<Option<Line>, AllocError> {
+    match str::from_utf8(line) {
+        Ok(line) => line_of_words(alloc, &words_of(alloc, line)?),
+        Err(_) => Ok(None),
+    }
+}

@@ -1,0 +1,149 @@
+//! A peer, asked line by line.
+
+use crate::line::{Line, line_of};
+use dds_core::Core;
+use dds_model::{Event, Output, Packet, Reply};
+use dds_script::{Fault, Lines, Setup, SetupLine, Status, TranscriptLine, print};
+use std::alloc::{AllocError, Global};
+use std::io::{Read, Write};
+
+/// How many octets a line has at most, with its line feed: those of a datagram of 65,535 octets, with its word.
+const MAX_LINE: u64 = 131_080;
+
+/// The peer: its configuration while it is being named, and then the peer itself, if it was opened.
+#[derive(Drop)]
+struct Session {
+    alloc: Global,
+    setup: Setup,
+    is_open: bool,
+    core: Option<Core>,
+}
+
+fn packet_line(alloc: Global, packet: &Packet) -> Result<String, AllocError> {
+    let mut text = TranscriptLine::new(alloc);
+    text.push_packet(u64::from(packet.to), Some(packet.bytes.as_slice()));
+    text.finish()
+}
+
+fn reply_line(alloc: Global, reply: &Reply, unsent: u64) -> Result<String, AllocError> {
+    let mut text = TranscriptLine::new(alloc);
+    text.push_word("reply ");
+    text.push_reply(reply);
+    text.push_unsent(unsent);
+    text.finish()
+}
+
+/// Prints a line for each packet that is sent, and then the one of the reply.
+fn print_output(alloc: Global, given: &Output, output: &mut impl Write) -> Result<(), Fault> {
+    for packet in given.packets.as_slice() {
+        print(output, packet_line(alloc, packet)?.as_str())?;
+    }
+    print(
+        output,
+        reply_line(alloc, &given.reply, given.unsent)?.as_str(),
+    )
+}
+
+impl Session {
+    fn new(alloc: Global) -> Self {
+        Session {
+            alloc,
+            setup: Setup::new(alloc),
+            is_open: false,
+            core: None,
+        }
+    }
+
+    /// Takes up a line of the configuration, which may not follow the opening, nor name a writer or a reader before any
+    /// peer.
+    fn set_up(&mut self, part: SetupLine, line: u64) -> Result<(), Fault> {
+        if !self.is_open && self.setup.take(part)? {
+            Ok(())
+        } else {
+            Err(Fault::NotACommand { line })
+        }
+    }
+
+    /// Opens the peer of a number, once.
+    fn open(&mut self, peer: u8, line: u64) -> Result<Reply, Fault> {
+        if self.is_open {
+            return Err(Fault::NotACommand { line });
+        }
+        self.is_open = true;
+        let config = self.setup.config()?;
+        match Core::open(self.alloc, &config, peer) {
+            Ok(core) => {
+                self.core = Some(core);
+                Ok(Reply::Done)
+            }
+            Err(code) => Ok(Reply::Refused(code)),
+        }
+    }
+
+    /// An event at the peer, which needs to be open.
+    fn step(&mut self, event: Event, line: u64) -> Result<Output, Fault> {
+        match &mut self.core {
+            Some(core) => Ok(core.step(event)),
+            None => Err(Fault::NotACommand { line }),
+        }
+    }
+
+    /// Does what the line of this number says, and prints what it answers.
+    fn answer(&mut self, line: Line, number: u64, output: &mut impl Write) -> Result<(), Fault> {
+        match line {
+            Line::Setup(part) => self.set_up(part, number),
+            Line::Open(peer) => {
+                let reply = self.open(peer, number)?;
+                print(output, reply_line(self.alloc, &reply, 0)?.as_str())
+            }
+            Line::Event(event) => {
+                let given = self.step(event, number)?;
+                print_output(self.alloc, &given, output)
+            }
+        }
+    }
+}
+
+/// Reads a line of at most 131,080 octets, and tells what it says; none at the end of the input.
+fn next_line<R: Read + Drop>(alloc: Global, lines: &mut Lines<R>) -> Result<Option<Line>, Fault> {
+    lines.allow(MAX_LINE);
+    if !lines.advance()? {
+        return Ok(None);
+    }
+    match line_of(alloc, lines.line())? {
+        Some(line) => Ok(Some(line)),
+        None => Err(Fault::NotACommand {
+            line: lines.number(),
+        }),
+    }
+}
+
+fn answer_lines<R: Read + Drop>(
+    alloc: Global,
+    lines: &mut Lines<R>,
+    output: &mut impl Write,
+) -> Result<(), Fault> {
+    let mut session = Session::new(alloc);
+    for _ in 0..u64::MAX {
+        match next_line(alloc, lines)? {
+            Some(line) => session.answer(line, lines.number(), output)?,
+            None => break,
+        }
+    }
+    Ok(())
+}
+
+/// Answers lines: each is read, done and answered before the next one is looked at.
+///
+/// Nothing ends it early but a line that says nothing or may not stand where it does, one of more than 131,080 octets, a
+/// stream that fails, or want of memory for reading, for the configuration or for printing.
+pub fn answer_all<R: Read + Drop, W: Write + Drop>(
+    alloc: Global,
+    input: R,
+    mut output: W,
+) -> Status {
+    match Lines::open(alloc, input, MAX_LINE) {
+        Ok(mut lines) => Status::of(answer_lines(alloc, &mut lines, &mut output)),
+        Err(fault) => Status::failed(fault),
+    }
+}
