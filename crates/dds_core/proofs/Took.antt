@@ -1,5 +1,5 @@
 -- A take at one of the peer's readers.
-use Rattle.std.proofs.Common.{◌≡◌, ◌≢◌, ℕ, zero, suc, ◌+◌, ◌<◌, Bool, true, false, not, ◌||◌, List, [], ◌∷◌, Option, Some, None, map, set, length, slice_get, get_or, refl, ap, sym, ◌∙◌, subst, arith}
+use Rattle.std.proofs.Common.{◌≡◌, ◌≢◌, ℕ, suc, ◌+◌, ◌<◌, Bool, true, false, not, ◌||◌, List, [], ◌∷◌, Option, Some, None, set, length, slice_get, refl, ap, sym, ◌∙◌, subst, arith}
 use Rattle.std.specs.Prelude.{if◌then◌else◌, ℤ, Result, Ok, Err}
 use Rattle.std.proofs.lemmas.List.{set-get_or}
 use Rattle.std.proofs.lemmas.Option.{get_or_from_slice_get}
@@ -23,7 +23,7 @@ use Rattle.dds_model.specs.declared.reply.Reply.{Reply}
 use Rattle.dds_model.specs.declared.reply.Reply.TheVariants.{Samples, Refused}
 use Rattle.dds_model.specs.Calls.{Answers as CallAnswers, CallStep, access_refusal, limit_of, picked_at, has_number, with_happening}
 use Rattle.dds_model.specs.Machine.{no_filters}
-use Rattle.dds_model.specs.Part.{Part, Dds, Reader, WriterProxy, own_reader, own_proxies}
+use Rattle.dds_model.specs.Part.{Part, Reader, WriterProxy, own_reader, own_proxies}
 use Rattle.dds_model.specs.Peer.{Peer}
 use Rattle.dds_core.specs.declared.matching.WriterName.{WriterName}
 use Rattle.rtps_reader.specs.Reader.{Proxies, Tracks}
