@@ -1,5 +1,5 @@
 -- What a peer sends at a tick is what is due, and it is true.
-use Rattle.std.proofs.Common.{◌≡◌, ℕ, zero, suc, ◌+◌, ◌-◌, ◌^◌, ◌<◌, Bool, true, false, cond, List, [], ◌∷◌, ◌++◌, Option, Some, None, map, length, get_or, slice_get, refl, ap, sym, ◌∙◌, subst, arith, inl, inr, ⊎_elim, Contains}
+use Rattle.std.proofs.Common.{◌≡◌, ℕ, zero, suc, ◌+◌, ◌-◌, ◌^◌, Bool, true, false, cond, List, [], ◌∷◌, ◌++◌, Option, Some, None, map, length, get_or, slice_get, refl, ap, sym, ◌∙◌, subst, arith, inl, inr, ⊎_elim, Contains}
 use Rattle.std.specs.Prelude.{filter, nat_le, nat_lt, if◌then◌else◌}
 use Rattle.std.specs.Option.{option_map_or}
 use Rattle.std.proofs.lemmas.List.{length-map}
@@ -31,7 +31,7 @@ use Rattle.dds_core.specs.Kept.{WriterKept, CoreKept, WriterIdentity, writer_ide
 use Rattle.dds_core.specs.Matching.{destinations, reader_names}
 use Rattle.dds_core.specs.Standing.{WriterStands, StandsFor}
 use Rattle.dds_core.proofs.Destinations.{ends_of_names, is_peer, reader_ends}
-use Rattle.dds_core.proofs.Lists.{get-map, get-within, map-get}
+use Rattle.dds_core.proofs.Lists.{element, get-map, get-within, map-get}
 use Rattle.dds_core.proofs.PeersBehind.{peers_passed}
 use Rattle.dds_core.proofs.Sent.{contains_cases}
 use Rattle.dds_core.proofs.Taking.{numbered_prefix, prefix_is}
@@ -177,11 +177,6 @@ due_sent config peer kept packets unsent s beats = written_sent (heartbeats_due 
 
 -- ---- it is true
 
-get_some : {X : Type 0} (xs : List X) (i : ℕ) → i < length xs → (x : X) × (slice_get xs i ≡ Some x)
-get_some [] i lt = absurd (omega (arith, lt))
-get_some (x ∷ xs) zero lt = (x, refl)
-get_some (x ∷ xs) (suc i) lt = get_some xs i (omega (arith, lt))
-
 own_readers : (config : Config) (peer : Peer) (kept : CoreKept) (s : StandsFor kept config peer) (number : ℕ) (w : WriterConfig) → IsNumbered s.is_peer.own.writers number w
     → map (λ (p : ReaderProxy). p.reader) (own_writer peer.part number).readers ≡ reader_ends w.topic config.peers
 own_readers config peer kept s zero w at = let low = at.0 in absurd (omega (arith, low))
@@ -192,7 +187,7 @@ own_readers config peer kept s (suc n) w at =
     let sizes = ap (λ (xs : List WriterIdentity). length xs) s.is_peer.writers in
     let first = length-map kept.writers writer_identity in
     let second = length-map s.is_peer.own.writers (configured_writer config.peers) in
-    let found = get_some kept.writers n (omega (arith, lt, sizes, first, second)) in
+    let found = element kept.writers n (omega (arith, lt, sizes, first, second)) in
     let c = configured config peer kept s n found.0 found.1 in
     let same : c.end ≡ w = same_Some c.end w (sym c.at ∙ there) in
     readers_configured config found.0 (get_or peer.part.rtps.writers n no_writer) (peer.known.answered (suc n)) c.end (s.writers.each n found.0 found.1) c.is ∙ ap (λ (x : WriterConfig). reader_ends x.topic config.peers) same

@@ -86,12 +86,6 @@ bad_or false b rest h = refl
 
 -- calls at a writer that the peer does not have
 
-pub no_register : (part : Part) (w : ℕ) (key : Key) → has_number part.rtps.writers w ≡ false → Answers no_filters part (call.Register w key) (Refused BadParameter) part.dds
-no_register part w key none = (bad_first (has_number part.rtps.writers w) None none, refl)
-
-pub no_write : (part : Part) (w : ℕ) (key : Key) (value : List ℕ) → has_number part.rtps.writers w ≡ false → Answers no_filters part (call.Write w key value) (Refused BadParameter) part.dds
-no_write part w key value none = (bad_or (has_number part.rtps.writers w) (nat_lt 1024 (length value)) _ none, refl)
-
 pub no_dispose : (part : Part) (w : ℕ) (key : Key) → has_number part.rtps.writers w ≡ false → Answers no_filters part (call.Dispose w key) (Refused BadParameter) part.dds
 no_dispose part w key none = (bad_first (has_number part.rtps.writers w) _ none, refl)
 

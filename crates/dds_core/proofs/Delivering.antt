@@ -1,9 +1,7 @@
 -- A delivery is a step of the peer by the rules of the protocol.
-use Rattle.std.proofs.Common.{◌≡◌, ℕ, List, ◌∷◌, refl, sym, subst}
-use Rattle.dds_base.specs.declared.config.Config.{Config}
+use Rattle.std.proofs.Common.{ℕ, List, ◌∷◌, refl}
 use Rattle.dds_model.specs.declared.event.Event.TheVariants as event
 use Rattle.dds_model.specs.declared.event.Output.{Output}
-use Rattle.dds_model.specs.declared.event.Packet.{Packet}
 use Rattle.dds_model.specs.declared.reply.Report.{Report}
 use Rattle.dds_model.specs.declared.reply.Reply.TheVariants.{Reported}
 use Rattle.dds_model.specs.Peer.{Peer, state_of}
@@ -12,7 +10,7 @@ use Rattle.dds_model.proofs.RuledPackets.{takes_packet}
 use Rattle.dds_core.specs.declared.sending.Announced.{Announced}
 use Rattle.dds_core.specs.Kept.{CoreKept}
 use Rattle.dds_core.specs.Receiving.{with_state, ReceivedPacket, ReceivesPacket}
-use Rattle.dds_core.specs.Standing.{StandsFor, IsSound, SoundSteps}
+use Rattle.dds_core.specs.Standing.{SoundSteps}
 use Rattle.dds_core.proofs.BeatsDue.{written_sent, written_true}
 use Rattle.dds_core.proofs.Taking.{stands_again}
 

@@ -12,19 +12,6 @@ each_set R (a ∷ xs) (b ∷ ys) zero x y d count each new (suc j) k at = each (
 each_set R (a ∷ xs) (b ∷ ys) (suc i) x y d count each new zero k at = each zero k at
 each_set R (a ∷ xs) (b ∷ ys) (suc i) x y d count each new (suc j) k at = each_set R xs ys i x y d (omega (arith, count)) (λ n z h. each (suc n) z h) new j k at
 
--- the same with two partners
-pub each_set2 : {X Y Z : Type 0} (R : X → Y → Z → Type 0) (xs : List X) (ys : List Y) (zs : List Z) (i : ℕ) (x : X) (y d : Y) (z e : Z) → length ys ≡ length xs → length zs ≡ length xs
-    → ((j : ℕ) (k : X) → slice_get xs j ≡ Some k → R k (get_or ys j d) (get_or zs j e)) → R x y z
-    → (j : ℕ) (k : X) → slice_get (set xs i x) j ≡ Some k → R k (get_or (set ys i y) j d) (get_or (set zs i z) j e)
-each_set2 R [] ys zs i x y d z e c1 c2 each new j k at = absurd cc
-each_set2 R (a ∷ xs) [] zs i x y d z e c1 c2 each new j k at = absurd (omega (arith, c1))
-each_set2 R (a ∷ xs) (b ∷ ys) [] i x y d z e c1 c2 each new j k at = absurd (omega (arith, c2))
-each_set2 R (a ∷ xs) (b ∷ ys) (c ∷ zs) zero x y d z e c1 c2 each new zero k at = subst (λ v. R v y z) (same_Some x k at) new
-each_set2 R (a ∷ xs) (b ∷ ys) (c ∷ zs) zero x y d z e c1 c2 each new (suc j) k at = each (suc j) k at
-each_set2 R (a ∷ xs) (b ∷ ys) (c ∷ zs) (suc i) x y d z e c1 c2 each new zero k at = each zero k at
-each_set2 R (a ∷ xs) (b ∷ ys) (c ∷ zs) (suc i) x y d z e c1 c2 each new (suc j) k at =
-    each_set2 R xs ys zs i x y d z e (omega (arith, c1)) (omega (arith, c2)) (λ n v h. each (suc n) v h) new j k at
-
 -- the same of a relation that asks for the index
 pub each_set_at : {X Y Z : Type 0} (R : ℕ → X → Y → Z → Type 0) (xs : List X) (ys : List Y) (zs : List Z) (i : ℕ) (x : X) (y d : Y) (z e : Z) → length ys ≡ length xs → length zs ≡ length xs
     → ((j : ℕ) (k : X) → (j ≡ i → ⊥) → slice_get xs j ≡ Some k → R j k (get_or ys j d) (get_or zs j e)) → R i x y z
@@ -59,6 +46,12 @@ pub map-get : {X Y : Type 0} (f : X → Y) (xs : List X) (i : ℕ) (x : X) → s
 map-get f [] i x at = absurd cc
 map-get f (a ∷ xs) zero x at = ap (λ z. Some (f z)) (same_Some a x at)
 map-get f (a ∷ xs) (suc i) x at = map-get f xs i x at
+
+-- the element of an index that lies within
+pub element : {X : Type 0} (xs : List X) (i : ℕ) → i < length xs → (x : X) × (slice_get xs i ≡ Some x)
+element [] i lt = absurd (omega (arith, lt))
+element (x ∷ xs) zero lt = (x, refl)
+element (x ∷ xs) (suc i) lt = element xs i (omega (arith, lt))
 
 pub get-within : {X : Type 0} (xs : List X) (i : ℕ) (x : X) → slice_get xs i ≡ Some x → i < length xs
 get-within [] i x at = absurd cc

@@ -2,7 +2,7 @@
 use Rattle.std.specs.Prelude.{IfNone}
 use Rattle.rtps_wire.specs.declared.submessage.Submessage.{Submessage}
 use Rattle.rtps_wire.specs.declared.submessage.Submessage.TheVariants.{Data, Heartbeat, Gap}
-use Rattle.std.proofs.Common.{◌≡◌, ◌⊎◌, Option, ℕ, zero, suc, ◌+◌, ◌-◌, ◌<◌, ◌≤◌, Bool, true, false, cond, List, [], ◌∷◌, ◌++◌, Some, None, length, slice_get, refl, ap, sym, ◌∙◌, subst, arith, inl, inr, ⊎_elim, eq-eqb}
+use Rattle.std.proofs.Common.{◌≡◌, Option, ℕ, zero, suc, ◌+◌, ◌-◌, ◌<◌, Bool, true, false, cond, List, [], ◌∷◌, ◌++◌, Some, None, slice_get, refl, ap, sym, ◌∙◌, subst, arith, inl, inr, ⊎_elim, eq-eqb}
 use Rattle.std.proofs.lemmas.Option.{same_Some}
 use Rattle.dds_base.specs.declared.config.Config.{Config}
 use Rattle.dds_base.specs.declared.config.PeerConfig.{PeerConfig}
@@ -13,11 +13,11 @@ use Rattle.dds_base.specs.declared.guid.Guid.{Guid}
 use Rattle.dds_base.specs.declared.guid.GuidPrefix.{GuidPrefix}
 use Rattle.dds_base.specs.Matched.{same_topic, of_ends_in, of_matched_ends}
 use Rattle.dds_model.specs.declared.endpoint.Endpoint.{Endpoint}
-use Rattle.dds_model.specs.Claims.{Receiver, IsNumbered, IsWriter, IsReader, IsToReader}
+use Rattle.dds_model.specs.Claims.{Receiver, IsWriter, IsReader, IsToReader}
 use Rattle.dds_model.specs.Peer.{Peer}
 use Rattle.dds_core.specs.declared.matching.WriterName.{WriterName}
 use Rattle.dds_core.specs.Kept.{ReaderKept, CoreKept}
-use Rattle.dds_core.specs.Matching.{writer_name, writer_names}
+use Rattle.dds_core.specs.Matching.{writer_name}
 use Rattle.dds_core.specs.Receiving.{IsFirstName, IsNamedFor, NamedBy, writer_guid}
 use Rattle.dds_core.specs.Standing.{IsFirstRow, StandsFor}
 use Rattle.dds_core.proofs.Names.{IsNamed, one_guid, guid_as, IsOwnReader, own_reader_is}

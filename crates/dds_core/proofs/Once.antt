@@ -1,5 +1,5 @@
 -- A writer's matched readers are each named once.
-use Rattle.std.proofs.Common.{◌≡◌, ◌⊎◌, ℕ, zero, suc, ◌+◌, ◌-◌, ◌<◌, ◌≤◌, Bool, true, false, cond, List, [], ◌∷◌, ◌++◌, Some, length, slice_get, refl, ap, sym, ◌∙◌, subst, arith, inl, inr, ⊎_elim}
+use Rattle.std.proofs.Common.{◌≡◌, ℕ, zero, suc, ◌+◌, ◌≤◌, Bool, true, false, cond, List, [], ◌∷◌, ◌++◌, Some, slice_get, refl, ap, sym, ◌∙◌, arith, ⊎_elim}
 use Rattle.std.proofs.lemmas.Option.{same_Some}
 use Rattle.dds_base.specs.declared.config.PeerConfig.{PeerConfig}
 use Rattle.dds_base.specs.declared.config.ReaderConfig.{ReaderConfig}

@@ -1,5 +1,5 @@
 -- A reader at its opening.
-use Rattle.std.proofs.Common.{◌≡◌, ℕ, ◌+◌, ◌<◌, ◌≤◌, true, not, cond, Bool, false, List, [], ◌∷◌, ◌++◌, Option, None, Some, map, length, slice_get, refl, subst, ap, sym, ◌∙◌, arith}
+use Rattle.std.proofs.Common.{◌≡◌, ℕ, ◌+◌, ◌<◌, true, not, cond, Bool, false, List, [], ◌∷◌, ◌++◌, Option, None, Some, map, length, refl, ap, sym, ◌∙◌, arith}
 use Rattle.std.specs.Prelude.{is_some}
 use Rattle.std.specs.Option.{option_map}
 use Rattle.dds_base.specs.declared.config.PeerConfig.{PeerConfig}
@@ -19,7 +19,7 @@ use Rattle.dds_model.specs.Opening.{writer_qos, writers_in, matched_writers}
 use Rattle.dds_model.specs.Part.{WriterProxy, same_endpoint, row_of, place_of}
 use Rattle.dds_model.proofs.OwnGuids.{as_many}
 use Rattle.dds_core.specs.declared.matching.WriterName.{WriterName}
-use Rattle.dds_core.specs.Kept.{ReaderKept, FitsWriters}
+use Rattle.dds_core.specs.Kept.{FitsWriters}
 use Rattle.dds_core.specs.Matching.{writer_name, matched_writer}
 use Rattle.dds_core.specs.Opening.{is_shared, keeps_all, is_unlimited, is_plain_reader, OpensReader}
 use Rattle.dds_core.specs.Stored.{StoreKept, Holds}

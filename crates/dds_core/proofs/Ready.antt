@@ -1,5 +1,5 @@
 -- What is made ready for each reader.
-use Rattle.std.proofs.Common.{◌≡◌, ◌⊎◌, ℕ, zero, suc, ◌+◌, ◌<◌, ◌≤◌, List, [], ◌∷◌, ◌++◌, Option, Some, None, set, drop, map, length, slice_get, get_or, refl, ap, sym, ◌∙◌, subst, arith, inl, inr, ⊎_elim, length-set}
+use Rattle.std.proofs.Common.{◌≡◌, ◌⊎◌, ℕ, zero, suc, ◌+◌, ◌<◌, ◌≤◌, List, [], ◌∷◌, ◌++◌, Option, Some, set, drop, map, length, slice_get, get_or, refl, ap, sym, ◌∙◌, subst, arith, inl, inr, ⊎_elim, length-set}
 use Rattle.std.proofs.lemmas.Option.{same_Some, slice_get-get_or}
 use Rattle.dds_base.specs.declared.guid.GuidPrefix.{GuidPrefix}
 use Rattle.dds_base.specs.declared.guid.EntityId.{EntityId}
@@ -13,13 +13,13 @@ use Rattle.dds_model.specs.declared.endpoint.Endpoint.{Endpoint}
 use Rattle.rtps_reader.specs.declared.step.Step.{Step}
 use Rattle.dds_model.specs.declared.reply.Move.{Move}
 use Rattle.dds_model.specs.Claims.{Receiver}
-use Rattle.dds_model.specs.Part.{WriterProxy, Reader, no_reader}
+use Rattle.dds_model.specs.Part.{WriterProxy, Reader}
 use Rattle.dds_core.specs.declared.matching.WriterName.{WriterName}
 use Rattle.dds_core.specs.declared.reader_end.Ready.{Ready}
 use Rattle.dds_core.specs.declared.reader_end.Told.{Told}
 use Rattle.dds_core.specs.declared.reader_end.Told.TheVariants as told
 use Rattle.dds_core.specs.Kept.{ReaderKept, CoreKept, ReaderIdentity, Identity, reader_identity, writer_identity, IsPeerOf}
-use Rattle.dds_core.specs.Receiving.{IsReadyFor, IsReadyWith, AreReady, IsAlike, AreAlike, CanTake, AllCanTake, CanTakeAt, TookAt, TakesTold, SameReader, TakesSome, TakesAll, ReadersTake, moves_of, IsBounded, IsToldBounded, IsToldBy, StandsAsWell}
+use Rattle.dds_core.specs.Receiving.{IsReadyFor, IsReadyWith, AreReady, IsAlike, AreAlike, CanTake, AllCanTake, TookAt, TakesTold, SameReader, TakesSome, TakesAll, ReadersTake, moves_of, IsBounded, IsToldBounded, IsToldBy, StandsAsWell}
 use Rattle.dds_core.specs.Standing.{IsFirstRow, ReaderStands}
 use Rattle.dds_core.proofs.Identities.{same_identity}
 use Rattle.dds_core.proofs.Lists.{get-within, left_at, left_more, drop_set}

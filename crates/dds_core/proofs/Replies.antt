@@ -1,5 +1,5 @@
 -- The answers of a writer, and the messages with them.
-use Rattle.std.proofs.Common.{◌≡◌, ◌⊎◌, ℕ, zero, suc, ◌+◌, ◌-◌, ◌*◌, ◌^◌, ◌<◌, ◌≤◌, Bool, true, false, List, [], ◌∷◌, ◌++◌, Option, Some, None, map, take, drop, length, get_or, slice_get, refl, ap, sym, ◌∙◌, subst, arith, inl, inr, ⊎_elim, length-append, append_assoc, append-nil, nat_lt, ◌==◌, ◌&&◌, not, cond, filter, min}
+use Rattle.std.proofs.Common.{◌≡◌, ℕ, zero, suc, ◌+◌, ◌-◌, ◌^◌, ◌<◌, ◌≤◌, Bool, true, false, List, [], ◌∷◌, ◌++◌, Option, Some, None, map, take, length, get_or, slice_get, refl, ap, sym, ◌∙◌, subst, arith, ⊎_elim, length-append, append_assoc, append-nil, nat_lt, ◌==◌, ◌&&◌, not, cond, filter, min}
 use Rattle.std.specs.Prelude.{ℤ, if◌then◌else◌, is_some, nat_le, slice_index_or}
 use Rattle.std.specs.List.{All, AllByRecursion, flat_map}
 use Rattle.std.proofs.lemmas.Bool.Decides.{nat_tests}
@@ -13,10 +13,8 @@ use Rattle.dds_base.specs.Kept.{WriterHistory, change_at, is_awaited, is_dropped
 use Rattle.dds_base.specs.Written.{changes_of}
 use Rattle.rtps_sets.specs.NumberSet.{NumberSet, has_number}
 use Rattle.rtps_wire.specs.declared.acknack.AckNack.{AckNack as AckNackBody}
-use Rattle.rtps_wire.specs.declared.message.Message.{Message}
 use Rattle.rtps_wire.specs.declared.submessage.Submessage.{Submessage}
-use Rattle.rtps_wire.specs.declared.submessage.Submessage.TheVariants.{InfoDst, InfoTs, Data, Gap}
-use Rattle.rtps_wire.specs.Content.{content_of}
+use Rattle.rtps_wire.specs.declared.submessage.Submessage.TheVariants.{InfoDst}
 use Rattle.rtps_wire.specs.Messages.{IsWritable}
 use Rattle.rtps_wire.specs.Submessages.{IsSpellable}
 use Rattle.rtps_wire.proofs.ContentLaws.{content_valid}
@@ -29,12 +27,12 @@ use Rattle.rtps_writer.specs.Standing.{Kept, StandsFor as RtpsStandsFor}
 use Rattle.rtps_writer.specs.WriterState.{WriterState, acknowledged_by, history_of, last_of}
 use Rattle.rtps_writer.proofs.AnswerFacts.{answers_after-right}
 use Rattle.dds_model.specs.Claims.{Receiver}
-use Rattle.dds_model.specs.Protocol.{Due, AreGrouped, answer_message, data_of, submessages_of}
+use Rattle.dds_model.specs.Protocol.{Due, AreGrouped, data_of, submessages_of}
 use Rattle.dds_core.specs.declared.answering.Answering.{Answering}
 use Rattle.dds_core.specs.declared.answering.Room.{Room}
 use Rattle.dds_core.specs.declared.matching.ReaderName.{ReaderName}
 use Rattle.dds_core.specs.declared.sending.Announced.{Announced}
-use Rattle.dds_core.specs.Answering.{AreAnswerable, AreRooms, IsAnswerableIn, IsRoom, SendsAnswers, SpellsMore, TakesAckNack, answer_due}
+use Rattle.dds_core.specs.Answering.{AreAnswerable, IsAnswerableIn, IsRoom, SendsAnswers, SpellsMore, TakesAckNack, answer_due}
 use Rattle.dds_core.specs.Beating.{AddsTo}
 use Rattle.dds_core.specs.Kept.{WriterKept}
 use Rattle.dds_core.specs.Standing.{AreShort}

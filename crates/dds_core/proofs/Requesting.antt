@@ -1,5 +1,5 @@
 -- The writer that an ACKNACK names answers its matched readers, one after the other, and the peer's other writers do nothing.
-use Rattle.std.proofs.Common.{◌≡◌, ◌⊎◌, ℕ, zero, suc, ◌+◌, ◌-◌, ◌<◌, ◌≤◌, List, [], ◌∷◌, ◌++◌, Option, Some, None, map, take, drop, set, length, get_or, slice_get, refl, ap, sym, ◌∙◌, subst, arith, inl, inr, ⊎_elim, append_assoc, append-nil, length-set}
+use Rattle.std.proofs.Common.{◌≡◌, ℕ, zero, suc, ◌+◌, ◌<◌, List, [], ◌∷◌, ◌++◌, Option, Some, None, map, take, drop, set, length, get_or, slice_get, refl, ap, sym, ◌∙◌, subst, arith, inr, append_assoc, append-nil, length-set}
 use Rattle.std.proofs.lemmas.List.{take_more, take_all}
 use Rattle.std.proofs.lemmas.Option.{same_Some, slice_get-get_or}
 use Rattle.dds_base.specs.declared.config.Config.{Config}
@@ -13,21 +13,21 @@ use Rattle.dds_model.specs.declared.reply.Move.{Move}
 use Rattle.dds_model.specs.Claims.{Receiver, IsToWriter}
 use Rattle.dds_model.specs.Part.{ReaderProxy, no_writer, own_writer}
 use Rattle.dds_model.specs.Peer.{Peer, state_of}
-use Rattle.dds_model.specs.Protocol.{Due, State, InTurn, WriterTakes, Takes}
+use Rattle.dds_model.specs.Protocol.{Due, State, InTurn, WriterTakes}
 use Rattle.dds_model.proofs.OwnGuids.{one_writer}
 use Rattle.dds_core.specs.declared.answering.Room.{Room}
 use Rattle.dds_core.specs.declared.matching.ReaderName.{ReaderName}
 use Rattle.dds_core.specs.declared.sending.Announced.{Announced}
-use Rattle.dds_core.specs.Answering.{IsFrom, IsRoom, AreRooms, TakesAckNack, HaveRoom, HasRoom, IsWriterOf, RowTook, RowsTook, TakesRow, TakesRows, TakesAllRows, acknowledged_moves}
+use Rattle.dds_core.specs.Answering.{IsFrom, AreRooms, TakesAckNack, HaveRoom, IsWriterOf, RowTook, RowsTook, TakesRow, TakesRows, acknowledged_moves}
 use Rattle.dds_core.specs.Beating.{AddsTo}
 use Rattle.dds_core.specs.Kept.{WriterKept, CoreKept, WriterIdentity, writer_identity}
 use Rattle.dds_core.specs.Receiving.{with_state, TakesOneMore}
 use Rattle.dds_core.specs.Standing.{StandsFor}
 use Rattle.dds_core.proofs.Beating.{adds_none, adds_on}
-use Rattle.dds_core.proofs.Lists.{get-within}
+use Rattle.dds_core.proofs.Lists.{element, get-within}
 use Rattle.dds_core.proofs.Makes.{set_get}
 use Rattle.dds_core.proofs.Ready.{partner}
-use Rattle.dds_core.proofs.RowsAnswered.{IsOwn, Row, RowAnswered, one_entity, own_end, own_is, row_answered, row_idle}
+use Rattle.dds_core.proofs.RowsAnswered.{IsOwn, Row, one_entity, own_end, own_is, row_answered, row_idle}
 use Rattle.dds_core.proofs.Turns.{turn_more}
 
 -- ---- turns in which nothing, or one alone, does something
@@ -35,6 +35,12 @@ use Rattle.dds_core.proofs.Turns.{turn_more}
 pub turn_idle : {X : Type 0} (step : X → State → List Move → List Due → State → Type 0) (xs : List X) (s : State) → ((k : ℕ) (x : X) → slice_get xs k ≡ Some x → step x s [] [] s) → InTurn step xs s [] [] s
 turn_idle step [] s each = (refl, refl, refl)
 turn_idle step (x ∷ xs) s each = ([], [], [], [], s, refl, refl, each zero x refl, turn_idle step xs s (λ k y at. each (suc k) y at))
+
+-- a number among those from the first one on
+number_at : (first count k x : ℕ) → slice_get (numbers_from first count) k ≡ Some x → (k < count) × (x ≡ k + first)
+number_at first zero k x at = absurd cc
+number_at first (suc count) zero x at = let is = same_Some first x at in (omega arith, omega (arith, is))
+number_at first (suc count) (suc k) x at = let f = number_at (first + 1) count k x at in let lt = f.0 in let is = f.1 in (omega (arith, lt), omega (arith, is))
 
 -- the numbers from the first one on, of which one alone does something
 turn_only : (step : ℕ → State → List Move → List Due → State → Type 0) (first count i : ℕ) (old new : State) (made : List Move) (dues : List Due) → i < count → ((j : ℕ) → j < count → (j ≡ i → ⊥) → (s : State) → step (first + j) s [] [] s)
@@ -56,14 +62,6 @@ turn_only step first (suc count) zero old new made dues lt others one =
           let lt = f.0 in
           subst (λ (n : ℕ). step n new [] [] new) next (others (suc k) (omega (arith, lt)) (λ e. absurd cc) new)),
     )
-  where
-    number_at : (first count k x : ℕ) → slice_get (numbers_from first count) k ≡ Some x → (k < count) × (x ≡ first + k)
-    number_at first zero k x at = absurd cc
-    number_at first (suc count) zero x at = (omega arith, sym (same_Some first x at) ∙ zero_on first)
-      where
-        zero_on : (n : ℕ) → n ≡ n + 0
-        zero_on n = omega arith
-    number_at first (suc count) (suc k) x at = let f = number_at (first + 1) count k x at in let lt = f.0 in let is = f.1 in (omega (arith, lt), omega (arith, is))
 turn_only step first (suc count) (suc i) old new made dues lt others one =
     let here : first + 0 ≡ first = omega arith in
     let next : (j : ℕ) → first + suc j ≡ first + 1 + j = one_on first in (
@@ -104,9 +102,6 @@ turn_named step (n ∷ ns) (p ∷ ps) old new made dues same h =
     )
 
 -- ---- one reader after the other
-
-next_index : (n : ℕ) → suc n ≡ n + 1
-next_index n = omega arith
 
 pub rows_none : (old : CoreKept) (index : ℕ) (a : AckNackBody) (k : WriterKept) (rooms : List (Option Room)) (moves : List Move) (sent : Announced) → slice_get old.writers index ≡ Some k → TakesRows old index a k rooms 0 moves sent old moves sent
 rows_none old index a k rooms moves sent at_k = record {
@@ -160,11 +155,6 @@ rows_skip old now index a k rooms i moves after sent gone h lt none = record {
   prefix = h.prefix;
   others = h.others;
 }
-  where
-    element : (xs : List ReaderName) (i : ℕ) → i < length xs → (x : ReaderName) × (slice_get xs i ≡ Some x)
-    element [] i lt = absurd (omega (arith, lt))
-    element (x ∷ xs) zero lt = (x, refl)
-    element (x ∷ xs) (suc i) lt = element xs i (omega (arith, lt))
 
 -- this reader was answered
 pub rows_more : (old now new : CoreKept) (index : ℕ) (a : AckNackBody) (k : WriterKept) (rooms : List (Option Room)) (i : ℕ) (room : Room) (moves mid after : List Move) (sent went gone : Announced) → TakesRows old index a k rooms i moves sent now mid went → i < length k.readers
@@ -196,11 +186,6 @@ rows_more old now new index a k rooms i room moves mid after sent went gone h lt
       prefix = ap (λ (x : CoreKept). x.prefix) t.new_is ∙ h.prefix;
       others = ap (λ (x : CoreKept). length x.writers) t.new_is ∙ (length-set now.writers index t.writer ∙ h.others);
     }
-  where
-    element : (xs : List ReaderName) (i : ℕ) → i < length xs → (x : ReaderName) × (slice_get xs i ≡ Some x)
-    element [] i lt = absurd (omega (arith, lt))
-    element (x ∷ xs) zero lt = (x, refl)
-    element (x ∷ xs) (suc i) lt = element xs i (omega (arith, lt))
 
 -- ---- all writers
 
@@ -269,18 +254,8 @@ no_writer_takes old a at moves sent none = record {
   };
 }
   where
-    element : (xs : List WriterKept) (i : ℕ) → i < length xs → (x : WriterKept) × (slice_get xs i ≡ Some x)
-    element [] i lt = absurd (omega (arith, lt))
-    element (x ∷ xs) zero lt = (x, refl)
-    element (x ∷ xs) (suc i) lt = element xs i (omega (arith, lt))
-
     next : {k x : ℕ} → x ≡ k + 1 → x ≡ suc k
     next is = omega (arith, is)
-
-    number_at : (first count k x : ℕ) → slice_get (numbers_from first count) k ≡ Some x → (k < count) × (x ≡ k + first)
-    number_at first zero k x at = absurd cc
-    number_at first (suc count) zero x at = let is = same_Some first x at in (omega arith, omega (arith, is))
-    number_at first (suc count) (suc k) x at = let f = number_at (first + 1) count k x at in let lt = f.0 in let is = f.1 in (omega (arith, lt), omega (arith, is))
 
 -- ---- what a row does
 

@@ -1,19 +1,16 @@
 -- A writer of the peer takes an ACKNACK of one of its matched readers, by the rules of the protocol.
-use Rattle.std.proofs.Common.{◌≡◌, ◌⊎◌, ℕ, zero, suc, ◌+◌, ◌-◌, ◌<◌, ◌≤◌, ◌==◌, Bool, true, false, cond, ◌&&◌, List, [], ◌∷◌, ◌++◌, Option, Some, None, map, set, max, length, get_or, slice_get, refl, ap, sym, ◌∙◌, subst, arith, inl, inr, ⊎_elim, length-append, length-set, nat_lt, eq-eqb, eqb-true}
-use Rattle.std.specs.Prelude.{ℤ, if◌then◌else◌, nat_le, All}
+use Rattle.std.proofs.Common.{◌≡◌, ℕ, suc, ◌+◌, ◌-◌, ◌≤◌, ◌==◌, Bool, true, false, cond, ◌&&◌, List, [], ◌∷◌, Option, Some, None, map, max, length, get_or, slice_get, refl, ap, sym, ◌∙◌, subst, arith, inl, inr, length-append, length-set, nat_lt, eq-eqb, eqb-true}
+use Rattle.std.specs.Prelude.{ℤ, if◌then◌else◌}
 use Rattle.std.proofs.lemmas.Bool.Decides.{nat_tests}
 use Rattle.std.proofs.lemmas.Option.{same_Some}
-use Rattle.dds_base.specs.declared.change.Change.{Change}
 use Rattle.dds_base.specs.declared.config.Config.{Config}
 use Rattle.dds_base.specs.declared.config.PeerConfig.{PeerConfig}
 use Rattle.dds_base.specs.declared.config.ReaderConfig.{ReaderConfig}
 use Rattle.dds_base.specs.declared.config.WriterConfig.{WriterConfig}
 use Rattle.dds_base.specs.declared.guid.EntityId.{EntityId}
-use Rattle.dds_base.specs.declared.guid.Guid.{Guid}
 use Rattle.dds_base.specs.declared.guid.GuidPrefix.{GuidPrefix}
 use Rattle.dds_base.specs.Kept.{is_kept}
 use Rattle.dds_base.specs.Written.{changes_of}
-use Rattle.rtps_reader.specs.Tracked.{is_later}
 use Rattle.rtps_wire.specs.declared.acknack.AckNack.{AckNack as AckNackBody}
 use Rattle.rtps_writer.specs.declared.answer.Answer.{Answer}
 use Rattle.rtps_writer.specs.Acknack.{acknack_answers, after_acknack, answers_after, applied, is_applied, newly_acknowledged}
@@ -23,25 +20,24 @@ use Rattle.rtps_writer.specs.WriterState.{WriterState, acknowledged_by}
 use Rattle.dds_model.specs.declared.endpoint.Endpoint.{Endpoint}
 use Rattle.dds_model.specs.declared.reply.Move.{Move}
 use Rattle.dds_model.specs.declared.reply.Move.TheVariants.{Acknowledged}
-use Rattle.dds_model.specs.Claims.{Receiver, IsNumbered, IsWriter, IsReader, IsToWriter, Names}
+use Rattle.dds_model.specs.Claims.{Receiver, IsNumbered, IsWriter, IsToWriter, Names}
 use Rattle.dds_model.specs.Dues.{AreTellable}
-use Rattle.dds_model.specs.Part.{Part, ReaderProxy, Writer, no_writer, same_endpoint, with_acknowledged, history_of, at_writer, writer_changes}
+use Rattle.dds_model.specs.Part.{Part, ReaderProxy, Writer, no_writer, same_endpoint, history_of, at_writer, writer_changes}
 use Rattle.dds_model.specs.Peer.{Peer, state_of as network_of}
 use Rattle.dds_model.specs.Protocol.{Due, State, Known, WriterTakes, AreGrouped, TakesAckNack as TakesByRules, acknowledging, answer_message, is_taken, with_answered}
 use Rattle.dds_model.proofs.Framing.{with_same}
 use Rattle.dds_model.proofs.InOrder.{same_self}
-use Rattle.dds_core.specs.declared.answering.Answering.{Answering}
 use Rattle.dds_core.specs.declared.matching.ReaderName.{ReaderName}
 use Rattle.dds_core.specs.declared.sending.Announced.{Announced}
 use Rattle.dds_core.specs.Answering.{IsFrom, RowTook, SendsAnswers, TookAckNack, acknowledged_moves, answer_due}
 use Rattle.dds_core.specs.Beating.{AddsTo, due_to}
-use Rattle.dds_core.specs.Kept.{WriterKept, CoreKept, Identity, WriterIdentity, IsPeerOf, writer_identity, configured_writer}
+use Rattle.dds_core.specs.Kept.{WriterKept, CoreKept, Identity, WriterIdentity, IsPeerOf, writer_identity}
 use Rattle.dds_core.specs.Matching.{reader_name, reader_names}
 use Rattle.dds_core.specs.Receiving.{with_state}
 use Rattle.dds_core.specs.Standing.{StandsFor, WriterStands, state_of}
 use Rattle.dds_core.proofs.Acknowledging.{IsOnly, IsCounted, only_row, acknowledged_is, acknowledged_then, applied_is, low_of, moves_then, not_same, readers_same, state_applied, still_begun}
 use Rattle.dds_core.proofs.Ends.{with_writer, same_with_writer}
-use Rattle.dds_core.proofs.Lists.{each_set_at, get-map, map-get, get-within}
+use Rattle.dds_core.proofs.Lists.{each_set_at, get-map, map-get}
 use Rattle.dds_core.proofs.Makes.{IsOwnWriter, own_writer_is}
 use Rattle.dds_core.proofs.Numbered.{is_told}
 use Rattle.dds_core.proofs.Once.{Once, named_once}

@@ -1,8 +1,7 @@
 -- What a reader does with what is ready for it is what the rules of the protocol say.
-use Rattle.std.proofs.Common.{◌≡◌, ◌⊎◌, ℕ, ℤ, zero, suc, ◌+◌, ◌<◌, ◌≤◌, Bool, true, false, ◌&&◌, ◌==◌, cond, List, [], ◌∷◌, ◌++◌, Option, Some, None, map, set, length, get_or, slice_get, refl, ap, sym, ◌∙◌, subst, arith, inl, inr, ⊎_elim, nat_lt}
+use Rattle.std.proofs.Common.{◌≡◌, ◌⊎◌, ℕ, ℤ, zero, suc, ◌+◌, Bool, true, false, List, [], ◌∷◌, ◌++◌, Option, Some, None, set, slice_get, refl, ap, sym, ◌∙◌, subst, arith, inl, inr, ⊎_elim, nat_lt}
 use Rattle.std.specs.Prelude.{if◌then◌else◌}
 use Rattle.std.proofs.lemmas.Option.{same_Some}
-use Rattle.dds_base.specs.declared.change.Change.{Change}
 use Rattle.dds_base.specs.declared.config.Config.{Config}
 use Rattle.dds_base.specs.declared.guid.EntityId.{EntityId}
 use Rattle.dds_base.specs.declared.guid.GuidPrefix.{GuidPrefix}
@@ -14,37 +13,28 @@ use Rattle.dds_cache.specs.Standing.{qos_of}
 use Rattle.rtps_reader.specs.declared.step.Step.{Step}
 use Rattle.rtps_reader.specs.declared.step.AckNackDue.{AckNackDue}
 use Rattle.rtps_reader.specs.declared.step.HeartbeatSeen.{HeartbeatSeen}
-use Rattle.rtps_reader.specs.Tracked.{Tracked, is_later, with_data, with_gap, with_heartbeat}
+use Rattle.rtps_reader.specs.Tracked.{Tracked, is_later, with_heartbeat}
 use Rattle.rtps_reader.specs.Advance.{Advances}
-use Rattle.rtps_reader.specs.Answer.{Answers, answered, heard_after, IsIdle}
+use Rattle.rtps_reader.specs.Answer.{Answers, answered, heard_after}
 use Rattle.rtps_reader.specs.Reader.{Tracks, OthersStay, match_at, MovesOn, TakesHeartbeat as HeartbeatTold}
-use Rattle.rtps_wire.specs.declared.data.Data.{Data as DataBody}
-use Rattle.rtps_wire.specs.declared.gap.Gap.{Gap as GapBody}
 use Rattle.rtps_wire.specs.declared.heartbeat.Heartbeat.{Heartbeat as HeartbeatBody}
-use Rattle.rtps_wire.specs.declared.submessage.Submessage.{Submessage}
-use Rattle.rtps_wire.specs.declared.submessage.Submessage.TheVariants.{Pad, InfoDst, InfoTs, Data, Heartbeat, AckNack, Gap, Other}
-use Rattle.rtps_wire.specs.Content.{change_in}
 use Rattle.dds_model.specs.declared.endpoint.Endpoint.{Endpoint}
 use Rattle.dds_model.specs.declared.reply.Move.{Move}
 use Rattle.dds_model.specs.declared.reply.Move.TheVariants.{Place, Heard}
 use Rattle.dds_model.specs.Numbered.{with_numbered, HasNumber}
-use Rattle.dds_model.specs.Part.{Part, Reader, WriterProxy, no_reader, own_proxies, own_reader, place_of, with_place, with_heard, publication_of, at_reader}
+use Rattle.dds_model.specs.Part.{Part, Reader, WriterProxy, no_reader, own_proxies, own_reader, place_of, with_place, with_heard, at_reader}
 use Rattle.dds_model.specs.Moves.{IsMatched, match_of}
-use Rattle.dds_model.specs.Claims.{Receiver, IsToReader}
+use Rattle.dds_model.specs.Claims.{Receiver}
 use Rattle.dds_model.specs.Peer.{Peer, state_of}
-use Rattle.dds_model.specs.Protocol.{Due, Known, State, Goes, HearsOf, Asserting, TakesHeartbeat, TakesOrNot, Idles, WhereMatched, ReaderTakes, with_tracked, acknacks_due}
+use Rattle.dds_model.specs.Protocol.{Known, State, Goes, Asserting, TakesHeartbeat, with_tracked, acknacks_due}
 use Rattle.dds_model.proofs.Framing.{tracked_here, tracked_elsewhere, pair_or_not}
 use Rattle.dds_model.proofs.Tables.{numbered-same, place-cases, place-hits, place-heard}
 use Rattle.dds_core.specs.declared.matching.WriterName.{WriterName}
-use Rattle.dds_core.specs.declared.reader_end.Ready.{Ready}
-use Rattle.dds_core.specs.declared.reader_end.Told.{Told}
-use Rattle.dds_core.specs.declared.reader_end.Told.TheVariants as told
 use Rattle.dds_core.specs.Kept.{ReaderKept, CoreKept, reader_identity}
-use Rattle.dds_core.specs.Receiving.{IsReadyWith, NamedBy, IsToldBy, TakesTold, SameReader, TellsSo, TookAt, moves_of, with_state}
+use Rattle.dds_core.specs.Receiving.{SameReader, moves_of, with_state}
 use Rattle.dds_core.specs.Standing.{IsFirstRow, ReaderStands, StandsFor}
 use Rattle.dds_core.specs.Stored.{Holds}
 use Rattle.dds_core.proofs.Ends.{with_reader, with_read, own_reader_stepped}
-use Rattle.dds_core.proofs.Named.{first_row, is_to}
 use Rattle.dds_core.proofs.Identities.{identity_as}
 use Rattle.dds_core.proofs.Lists.{get-within}
 use Rattle.dds_core.proofs.Rows.{writers_of, proxied, IsFirstOf, is_first_of, one_first, handle_is, place_there, writers_kept}

@@ -1,5 +1,5 @@
 -- The changes of a peer's writers can be told by what a DATA says: at its opening, and after each thing that happens there.
-use Rattle.std.proofs.Common.{◌≡◌, ◌⊎◌, ℕ, zero, suc, ◌+◌, ◌-◌, ◌<◌, ◌≤◌, Bool, true, false, List, [], ◌∷◌, ◌++◌, Some, None, map, length, get_or, slice_get, refl, ap, sym, ◌∙◌, subst, inl, inr, ⊎_elim, arith, nat_lt}
+use Rattle.std.proofs.Common.{◌≡◌, ◌⊎◌, ℕ, zero, suc, ◌-◌, Bool, true, false, List, [], ◌∷◌, ◌++◌, Some, None, map, get_or, slice_get, refl, ap, sym, ◌∙◌, subst, inl, inr, ⊎_elim, arith, nat_lt}
 use Rattle.std.specs.Prelude.{if◌then◌else◌}
 use Rattle.std.proofs.lemmas.Bool.Decides.{nat_tests}
 use Rattle.std.proofs.lemmas.Option.{same_Some}
@@ -7,10 +7,9 @@ use Rattle.dds_base.specs.declared.change.Change.{Change}
 use Rattle.dds_base.specs.declared.config.PeerConfig.{PeerConfig}
 use Rattle.dds_base.specs.declared.config.WriterConfig.{WriterConfig}
 use Rattle.dds_base.specs.Kept.{change_at}
-use Rattle.dds_base.specs.Written.{Written, Registered, Changed, Ticked, changes_of}
+use Rattle.dds_base.specs.Written.{Written, Registered, Changed}
 use Rattle.dds_model.specs.Calls.{ticked, with_written, after_tick}
 use Rattle.dds_model.specs.Dues.{IsTellable, AreTellable}
-use Rattle.dds_model.specs.Numbered.{numbered, with_numbered}
 use Rattle.dds_model.specs.Opening.{opening_writer, opening_part}
 use Rattle.dds_model.specs.Part.{Part, Writer, no_writer, own_writer, at_writer, writer_changes}
 use Rattle.dds_model.specs.Peer.{Peer}

@@ -1,5 +1,5 @@
 -- What a reader is told, as its proxies and its store answer it.
-use Rattle.std.proofs.Common.{◌≡◌, ◌⊎◌, ℕ, Bool, true, false, List, Result, Ok, refl, sym, subst, inl, inr}
+use Rattle.std.proofs.Common.{◌≡◌, ℕ, Bool, true, false, List, Result, Ok, refl, sym, subst, inl, inr}
 use Rattle.std.specs.Prelude.{IsOk, IfOk}
 use Rattle.dds_base.specs.declared.change.Change.{Change}
 use Rattle.dds_base.specs.declared.code.Code.{Code}
@@ -8,9 +8,9 @@ use Rattle.dds_cache.specs.Standing.{qos_of}
 use Rattle.rtps_sets.specs.NumberSet.{NumberSet}
 use Rattle.rtps_reader.specs.declared.step.HeartbeatSeen.{HeartbeatSeen}
 use Rattle.rtps_reader.specs.declared.step.Step.{Step}
-use Rattle.rtps_reader.specs.Tracked.{Tracked, is_later, with_data, with_gap}
+use Rattle.rtps_reader.specs.Tracked.{Tracked, is_later}
 use Rattle.rtps_reader.specs.Answer.{IsIdle}
-use Rattle.rtps_reader.specs.Reader.{Tracks, OthersStay, match_at, MovesOn, TakesHeartbeat}
+use Rattle.rtps_reader.specs.Reader.{Tracks, OthersStay, match_at, TakesHeartbeat}
 use Rattle.dds_core.specs.declared.reader_end.Ready.{Ready}
 use Rattle.dds_core.specs.declared.reader_end.Told.{Told}
 use Rattle.dds_core.specs.declared.reader_end.Told.TheVariants as told

@@ -41,13 +41,6 @@ use Rattle.dds_core.proofs.Identities.{same_identity}
 
 -- an access of a reader that the peer does not have, or of a max that is none, and one that is good
 
-pub no_reader_there : (part : Part) (r : ℕ) (max : ℤ) (masks : Masks) → has_number part.dds.readers r ≡ false → CallAnswers no_filters part (call.Take r max masks) (Refused BadParameter) part.dds
-no_reader_there part r max masks none = (ap_refusal (has_number part.dds.readers r) (is_maximum max) none, refl)
-  where
-    ap_refusal : (a b : Bool) → a ≡ false → Refuses (if not a || not b then Some BadParameter else None) BadParameter
-    ap_refusal true b h = absurd cc
-    ap_refusal false b h = refl
-
 pub bad_max : (part : Part) (r : ℕ) (max : ℤ) (masks : Masks) → is_maximum max ≡ false → CallAnswers no_filters part (call.Take r max masks) (Refused BadParameter) part.dds
 bad_max part r max masks bad = (ap_refusal (has_number part.dds.readers r) (is_maximum max) bad, refl)
   where

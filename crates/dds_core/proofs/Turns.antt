@@ -1,47 +1,41 @@
 -- The peer's readers take a submessage up, one after the other, by the rules of the protocol.
-use Rattle.std.proofs.Common.{◌≡◌, ◌⊎◌, ℕ, zero, suc, ◌+◌, ◌-◌, ◌<◌, ◌≤◌, true, false, List, [], ◌∷◌, ◌++◌, Option, Some, None, drop, set, length, slice_get, refl, ap, sym, ◌∙◌, subst, arith, inl, inr, ⊎_elim, append_assoc, nat_lt}
+use Rattle.std.proofs.Common.{◌≡◌, ℕ, zero, suc, ◌+◌, ◌<◌, true, false, List, [], ◌∷◌, ◌++◌, Option, Some, None, drop, length, slice_get, refl, ap, sym, ◌∙◌, subst, arith, inl, inr, append_assoc, nat_lt}
 use Rattle.std.specs.Prelude.{if◌then◌else◌}
 use Rattle.std.proofs.lemmas.Option.{same_Some}
 use Rattle.std.proofs.lemmas.List.{append-nil}
-use Rattle.dds_base.specs.declared.change.Change.{Change}
 use Rattle.dds_base.specs.declared.config.Config.{Config}
 use Rattle.dds_base.specs.declared.guid.EntityId.{EntityId}
 use Rattle.dds_base.specs.declared.guid.Guid.{Guid}
 use Rattle.dds_base.specs.declared.guid.GuidPrefix.{GuidPrefix}
-use Rattle.dds_base.specs.declared.happening.Happening.{Happening}
 use Rattle.dds_base.specs.Kept.{numbers_from}
 use Rattle.dds_cache.specs.Standing.{qos_of}
 use Rattle.rtps_reader.specs.declared.step.AckNackDue.{AckNackDue}
 use Rattle.rtps_reader.specs.declared.step.Step.{Step}
 use Rattle.rtps_reader.specs.declared.step.HeartbeatSeen.{HeartbeatSeen}
 use Rattle.rtps_reader.specs.Tracked.{Tracked, is_later, with_data, with_gap}
-use Rattle.rtps_reader.specs.Answer.{IsIdle}
-use Rattle.rtps_reader.specs.Reader.{Tracks, OthersStay, match_at, MovesOn, TakesHeartbeat as HeartbeatTold}
-use Rattle.rtps_wire.specs.declared.data.Data.{Data as DataBody}
-use Rattle.rtps_wire.specs.declared.gap.Gap.{Gap as GapBody}
-use Rattle.rtps_wire.specs.declared.heartbeat.Heartbeat.{Heartbeat as HeartbeatBody}
+use Rattle.rtps_reader.specs.Reader.{Tracks, OthersStay, match_at, MovesOn}
 use Rattle.rtps_wire.specs.declared.submessage.Submessage.{Submessage}
-use Rattle.rtps_wire.specs.declared.submessage.Submessage.TheVariants.{Pad, InfoDst, InfoTs, Data, Heartbeat, AckNack, Gap, Other}
+use Rattle.rtps_wire.specs.declared.submessage.Submessage.TheVariants.{Data, Heartbeat, Gap}
 use Rattle.rtps_wire.specs.Content.{change_in}
 use Rattle.dds_model.specs.declared.endpoint.Endpoint.{Endpoint}
 use Rattle.dds_model.specs.declared.reply.Move.{Move}
 use Rattle.dds_model.specs.declared.reply.Move.TheVariants.{Place, Heard}
 use Rattle.dds_model.specs.Claims.{Receiver, IsToReader, Names}
 use Rattle.dds_model.specs.Peer.{Peer, state_of}
-use Rattle.dds_model.specs.Protocol.{Due, State, InTurn, Idles, WhereMatched, TakesHeartbeat, ReaderTakes, acknacks_due}
+use Rattle.dds_model.specs.Protocol.{Due, State, InTurn, TakesHeartbeat, ReaderTakes, acknacks_due}
 use Rattle.dds_core.specs.declared.matching.WriterName.{WriterName}
 use Rattle.dds_core.specs.declared.sending.Announced.{Announced}
 use Rattle.dds_core.specs.declared.reader_end.Ready.{Ready}
 use Rattle.dds_core.specs.declared.reader_end.Told.{Told}
 use Rattle.dds_core.specs.declared.reader_end.Told.TheVariants as told
-use Rattle.dds_core.specs.Kept.{ReaderKept, CoreKept, reader_identity}
-use Rattle.dds_core.specs.Receiving.{IsReadyWith, IsReadyFor, AreReady, IsNamedFor, NamedBy, IsToldBy, TakesTold, SameReader, TellsSo, TookAt, TakesAt, moves_of, with_state, ReadersTook, ReadersTake, TakesSome, TakesAll, TellsReaders, StandsAsWell, writer_guid}
+use Rattle.dds_core.specs.Kept.{ReaderKept, CoreKept}
+use Rattle.dds_core.specs.Receiving.{IsReadyWith, IsReadyFor, AreReady, NamedBy, IsToldBy, SameReader, TellsSo, TookAt, moves_of, with_state, ReadersTook, TakesSome, TakesAll, TellsReaders, StandsAsWell, writer_guid}
 use Rattle.dds_core.specs.Beating.{AddsTo}
-use Rattle.dds_core.specs.Standing.{IsFirstRow, ReaderStands, StandsFor}
+use Rattle.dds_core.specs.Standing.{IsFirstRow, StandsFor}
 use Rattle.dds_core.proofs.Beating.{adds_none, adds_on}
 use Rattle.dds_core.specs.Stored.{Holds}
 use Rattle.dds_core.proofs.Ends.{with_reader, with_read}
-use Rattle.dds_core.proofs.Lists.{left_at, left_more, drop_set, get-within}
+use Rattle.dds_core.proofs.Lists.{element, left_at, left_more, drop_set}
 use Rattle.dds_core.proofs.Named.{first_row, is_to, row_of_writer}
 use Rattle.std.proofs.lemmas.Bool.Decides.{nat_tests}
 use Rattle.dds_model.specs.Numbered.{with_numbered}
@@ -220,12 +214,6 @@ more_took config own at s i peer made one due sent mid gone now new before after
     one_on : (n : ℕ) → suc n ≡ 1 + n
     one_on n = omega arith
 
--- the reader of an index that is none past the last
-there : (xs : List ReaderKept) (i : ℕ) → i < length xs → (k : ReaderKept) × (slice_get xs i ≡ Some k)
-there [] i lt = absurd (omega (arith, lt))
-there (x ∷ xs) zero lt = (x, refl)
-there (x ∷ xs) (suc i) lt = there xs i (omega (arith, lt))
-
 next_index : (n : ℕ) → suc n ≡ n + 1
 next_index n = omega arith
 
@@ -238,7 +226,7 @@ takes_skip old now ready i moves after sent gone h within none =
       after_is = h.after_is;
       takes = λ at s are config peer stands.
           let t : ReadersTook config old.prefix at s i peer h.made sent now gone = h.takes at s are config peer stands in
-          let k = there old.readers i within in
+          let k = element old.readers i within in
           let at_now : slice_get now.readers i ≡ Some k.0 = left_at now.readers old.readers i k.0 h.left k.1 in
           let idle : ReaderTakes config now.prefix peer.number at s (suc i) t.state [] [] t.state =
           idles config (with_state peer t.state) now at s i k.0 t.stands at_now (subst (λ p. IsReadyFor p at s k.0 None) (sym h.prefix) (are.each i k.0 None k.1 none)) in
@@ -253,7 +241,7 @@ takes_skip old now ready i moves after sent gone h within none =
 pub takes_more : (old now new : CoreKept) (ready : List (Option Ready)) (i : ℕ) (one : Ready) (moves mid after : List Move) (sent went gone : Announced) → TakesSome old ready i moves sent now mid went → i < length old.readers
     → slice_get ready i ≡ Some (Some one) → ((k : ReaderKept) → slice_get now.readers i ≡ Some k → TookAt now i one k mid went new after gone) → TakesSome old ready (i + 1) moves sent new after gone
 takes_more old now new ready i one moves mid after sent went gone h within is took_at =
-    let k = there old.readers i within in
+    let k = element old.readers i within in
     let at_now : slice_get now.readers i ≡ Some k.0 = left_at now.readers old.readers i k.0 h.left k.1 in
     let t : TookAt now i one k.0 mid went new after gone = took_at k.0 at_now in
     let made = moves_of t.name.writer (i + 1) t.from t.step in

@@ -11,7 +11,6 @@ use Rattle.dds_cache.specs.Standing.{qos_of}
 use Rattle.rtps_reader.specs.Reader.{Proxies, count_of}
 use Rattle.rtps_writer.specs.Standing.{Kept}
 use Rattle.dds_core.specs.Stored.{StoreKept}
-use Rattle.dds_model.specs.declared.endpoint.Endpoint.{Endpoint}
 use Rattle.dds_model.specs.Claims.{IsNumbered}
 use Rattle.dds_core.specs.declared.matching.Destination.{Destination}
 use Rattle.dds_core.specs.declared.matching.ReaderName.{ReaderName}

@@ -2,10 +2,9 @@
 -- with memory for all that it does, before the first of them is told; so it is taken up by all of them or by none.
 --
 -- RTPS 2.5, 8.3.4 (the message receiver), 8.4.12 (the behaviour of a reliable StatefulReader).
-use Rattle.std.specs.Prelude.{◌≡◌, ◌⊎◌, ◌+◌, ◌-◌, ◌^◌, ◌<◌, ◌≤◌, true, false, ℕ, List, [], ◌∷◌, ◌++◌, drop, set, length, slice_get, nat_lt, if◌then◌else◌, Option, Some, None, Result, Ok, Err}
+use Rattle.std.specs.Prelude.{◌≡◌, ◌⊎◌, ◌+◌, ◌^◌, ◌<◌, ◌≤◌, true, false, ℕ, List, [], ◌∷◌, ◌++◌, drop, set, length, slice_get, nat_lt, if◌then◌else◌, Option, Some, None, Result, Ok, Err}
 use Rattle.dds_base.specs.declared.code.Code.{Code}
 use Rattle.dds_base.specs.declared.config.Config.{Config}
-use Rattle.dds_base.specs.declared.change.Change.{Change}
 use Rattle.dds_base.specs.declared.guid.EntityId.{EntityId}
 use Rattle.dds_base.specs.declared.guid.Guid.{Guid}
 use Rattle.dds_base.specs.declared.guid.GuidPrefix.{GuidPrefix}
@@ -16,7 +15,6 @@ use Rattle.dds_base.specs.Kept.{numbers_from}
 use Rattle.dds_base.specs.Places.{Match}
 use Rattle.dds_base.specs.Statuses.{sample_lost_status}
 use Rattle.dds_cache.specs.Standing.{qos_of, room_of}
-use Rattle.rtps_reader.specs.declared.step.HeartbeatSeen.{HeartbeatSeen}
 use Rattle.rtps_reader.specs.declared.step.Step.{Step}
 use Rattle.rtps_reader.specs.Tracked.{Tracked, is_later, with_data, with_gap}
 use Rattle.rtps_reader.specs.Answer.{IsIdle}

@@ -1,6 +1,6 @@
 -- What a peer stands for: each of its writers for a writer of the machine, each of its readers for a reader, and what
 -- never changes for what the configuration says of it.
-use Rattle.std.specs.Prelude.{◌≡◌, ℕ, suc, ◌^◌, ◌<◌, ◌≤◌, List, [], map, length, get_or, slice_get, Option, Some, None, ℤ, All}
+use Rattle.std.specs.Prelude.{◌≡◌, ℕ, suc, ◌^◌, ◌<◌, ◌≤◌, List, [], map, length, get_or, slice_get, Option, Some, ℤ, All}
 use Rattle.std.specs.List.{AllZip}
 use Rattle.dds_base.specs.declared.config.Config.{Config}
 use Rattle.dds_base.specs.declared.change.Change.{Change}

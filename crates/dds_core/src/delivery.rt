@@ -69,13 +69,7 @@ fn push_moves(moves: &mut Vec<Move>, writer: Endpoint, reader: u8, from: Sn, ste
 impl Core {
     /// The reader of this index is told what is ready for it, and sends the ACKNACK that is then due. Adds the moves, for
     /// which there is room.
-    fn take_at(
-        &mut self,
-        moves: &mut Vec<Move>,
-        sent: &mut Announced,
-        index: usize,
-        ready: Ready,
-    )
+    fn take_at(&mut self, moves: &mut Vec<Move>, sent: &mut Announced, index: usize, ready: Ready)
         requires can { CanTakeAt self.old.readers index ready }
         requires room { vec_len moves.old + 2 ≤ vec_capacity moves.old }
         requires low { sent.old.unsent < 2 ^ 62 }
@@ -95,12 +89,7 @@ impl Core {
     }
 
     /// Each reader is told what is ready for it, one after the other. Adds the moves, for which there is room.
-    fn take_all(
-        &mut self,
-        moves: &mut Vec<Move>,
-        sent: &mut Announced,
-        ready: Vec<Option<Ready>>,
-    )
+    fn take_all(&mut self, moves: &mut Vec<Move>, sent: &mut Announced, ready: Vec<Option<Ready>>)
         requires can { AllCanTake self.old.readers ready.items }
         requires count { length ready.items ≡ length self.old.readers }
         requires room { vec_len moves.old + 2 * length ready.items ≤ vec_capacity moves.old }

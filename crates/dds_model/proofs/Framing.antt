@@ -1,5 +1,5 @@
 -- What a step at one of the peer's readers leaves as it was: all other readers, and what that reader knows of other writers.
-use Rattle.std.proofs.Common.{◌≡◌, ◌⊎◌, ℕ, ℤ, zero, suc, ◌+◌, ◌≤◌, ◌==◌, ◌&&◌, Bool, true, false, cond, List, [], ◌∷◌, Option, Some, None, refl, subst, ap, sym, ◌∙◌, inl, inr, ⊎_elim, arith, length, get_or, set, eqb-true, eq-eqb}
+use Rattle.std.proofs.Common.{◌≡◌, ◌⊎◌, ℕ, ℤ, zero, suc, ◌+◌, ◌≤◌, ◌==◌, ◌&&◌, Bool, true, false, cond, List, [], ◌∷◌, Option, Some, None, refl, ap, sym, ◌∙◌, inl, inr, ⊎_elim, arith, length, get_or, set, eqb-true, eq-eqb}
 use Rattle.std.specs.Option.{option_map}
 use Rattle.dds_base.specs.declared.happening.Happening.{Happening}
 use Rattle.rtps_reader.specs.Tracked.{Tracked}
@@ -9,7 +9,7 @@ use Rattle.std.proofs.lemmas.Option.{same_Some}
 use Rattle.dds_model.specs.Part.{Part, WriterProxy, ReaderProxy, Reader, Writer, no_reader, no_writer, same_endpoint, own_writer, own_proxies, own_reader, acknowledged_of, with_acknowledged, at_writer, row_of, with_row, place_of, with_place, heard_of, with_heard, publication_from, publication_of, at_reader}
 use Rattle.dds_model.specs.Protocol.{Known, State, with_tracked}
 use Rattle.dds_model.proofs.InOrder.{publication_kept, same_self}
-use Rattle.dds_model.proofs.Tables.{numbered-cases, numbered-same, length-with_numbered, same_is, row-cases, row-hits, place-cases, place-hits, place-heard}
+use Rattle.dds_model.proofs.Tables.{numbered-cases, numbered-same, length-with_numbered, same_is, row-cases, row-hits}
 
 -- which writer and reader
 

@@ -1,5 +1,5 @@
 -- What each submessage makes known to a reader is claimed by its packet, and moving the place makes nothing known.
-use Rattle.std.proofs.Common.{◌≡◌, ◌⊎◌, ℕ, ℤ, zero, suc, ◌+◌, ◌<◌, ◌≤◌, Bool, true, false, ◌&&◌, ◌||◌, ◌==◌, nat_lt, nat_le, max, List, Option, Some, None, refl, subst, ap, sym, ◌∙◌, inl, inr, ⊎_elim, arith, eqb-true}
+use Rattle.std.proofs.Common.{◌≡◌, ◌⊎◌, ℕ, ℤ, ◌<◌, ◌≤◌, Bool, true, false, ◌&&◌, ◌==◌, nat_lt, max, List, Option, Some, None, refl, subst, ap, sym, ◌∙◌, inl, inr, ⊎_elim, arith, eqb-true}
 use Rattle.std.specs.Prelude.{if◌then◌else◌}
 use Rattle.std.proofs.lemmas.Bool.Decides.{nat_tests}
 use Rattle.dds_base.specs.declared.change.Change.{Change}
@@ -8,9 +8,9 @@ use Rattle.dds_base.specs.declared.happening.Happening.{Happening}
 use Rattle.dds_base.specs.declared.happening.PassedRun.{PassedRun}
 use Rattle.dds_base.specs.Places.{Match}
 use Rattle.dds_base.proofs.PlaceLaws.{goes_forward}
-use Rattle.rtps_sets.specs.NumberSet.{NumberSet, has_number}
+use Rattle.rtps_sets.specs.NumberSet.{NumberSet}
 use Rattle.rtps_reader.specs.declared.step.AckNackDue.{AckNackDue}
-use Rattle.rtps_reader.specs.Tracked.{Slot, Missing, Held, Irrelevant, Tracked, is_passable, is_passable_slot, is_open, is_named, with_data, with_gap, with_heartbeat}
+use Rattle.rtps_reader.specs.Tracked.{Slot, Missing, Held, Irrelevant, Tracked, is_passable_slot, is_open, is_named, with_data, with_gap, with_heartbeat}
 use Rattle.rtps_reader.specs.Advance.{known, Advances}
 use Rattle.rtps_reader.specs.Answer.{answered}
 use Rattle.dds_model.specs.declared.endpoint.Endpoint.{Endpoint}

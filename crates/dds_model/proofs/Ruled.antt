@@ -1,28 +1,25 @@
 -- A submessage that a peer takes up by the rules of the protocol makes moves that rest on what packets claim.
-use Rattle.std.proofs.Common.{◌≡◌, ◌⊎◌, ℕ, ℤ, zero, suc, ◌+◌, ◌<◌, ◌≤◌, Bool, true, false, cond, List, [], ◌∷◌, ◌++◌, Option, Some, None, Contains, refl, subst, ap, sym, ◌∙◌, inl, inr, ⊎_elim, arith, length, int_lt, ◌<ℤ◌}
+use Rattle.std.proofs.Common.{◌≡◌, ◌⊎◌, ℕ, ℤ, ◌<◌, ◌≤◌, Bool, true, false, List, [], ◌∷◌, Option, Some, None, refl, subst, ap, sym, ◌∙◌, inl, inr, ⊎_elim, arith, int_lt, ◌<ℤ◌}
 use Rattle.std.specs.Prelude.{if◌then◌else◌, nat_lt}
 use Rattle.std.proofs.lemmas.Bool.Decides.{nat_tests}
 use Rattle.std.proofs.lemmas.Int.{ints}
 use Rattle.std.proofs.lemmas.Option.{same_Some}
-use Rattle.dds_base.specs.declared.change.Change.{Change}
 use Rattle.dds_base.specs.declared.config.Config.{Config}
 use Rattle.dds_base.specs.declared.happening.Happening.{Happening}
-use Rattle.dds_base.specs.declared.happening.PassedRun.{PassedRun}
 use Rattle.dds_base.specs.Places.{Position, GoesTo}
-use Rattle.dds_base.proofs.PlaceLaws.{SayAsMuch, goes_on, goes_forward, goes_nowhere}
-use Rattle.rtps_reader.specs.Tracked.{Slot, Missing, Held, Irrelevant, Tracked, is_passable, is_later, with_heartbeat}
-use Rattle.rtps_reader.specs.Advance.{known, Advances}
+use Rattle.dds_base.proofs.PlaceLaws.{SayAsMuch, goes_on, goes_nowhere}
+use Rattle.rtps_reader.specs.Tracked.{Tracked, is_later}
+use Rattle.rtps_reader.specs.Advance.{known}
 use Rattle.dds_model.specs.declared.endpoint.Endpoint.{Endpoint}
 use Rattle.dds_model.specs.declared.reply.Move.{Move}
-use Rattle.dds_model.specs.declared.reply.Move.TheVariants.{Place, Acknowledged, Heard}
+use Rattle.dds_model.specs.declared.reply.Move.TheVariants.{Place}
 use Rattle.dds_model.specs.Numbered.{HasNumber}
-use Rattle.dds_model.specs.Part.{Part, WriterProxy, own_proxies, own_reader, place_of, with_place, heard_of, at_reader}
-use Rattle.dds_model.specs.Moves.{Grounds, as_to, match_of, position_of, IsMatched, IsMove, AreMoves}
-use Rattle.dds_model.specs.Claims.{ChangeIs, MayPass, Claimed}
-use Rattle.dds_model.specs.Peer.{Delivery, claimed, packets_of, delivered_to}
-use Rattle.dds_model.specs.Protocol.{Known, State, Goes, with_tracked}
-use Rattle.dds_model.specs.Backed.{reader_at, IsClaimed, TookNone, IsBacked}
-use Rattle.dds_model.proofs.Framing.{Frames, frames_at, pair_or_not, number_or_not, has_reader, at_reader_same, tracked_here, tracked_elsewhere, frames_none, frames_on, heard_still, heard_here, heard_there}
+use Rattle.dds_model.specs.Part.{WriterProxy, own_proxies, own_reader, place_of, with_place, heard_of, at_reader}
+use Rattle.dds_model.specs.Moves.{Grounds, as_to, match_of, position_of, IsMove, AreMoves}
+use Rattle.dds_model.specs.Peer.{Delivery, claimed, packets_of}
+use Rattle.dds_model.specs.Protocol.{State, Goes, with_tracked}
+use Rattle.dds_model.specs.Backed.{IsClaimed, TookNone, IsBacked}
+use Rattle.dds_model.proofs.Framing.{Frames, frames_at, pair_or_not, number_or_not, has_reader, at_reader_same, tracked_here, tracked_elsewhere, heard_still}
 use Rattle.dds_model.proofs.Knowing.{advanced_claimed}
 use Rattle.dds_model.proofs.Tables.{numbered-same, place-hits}
 

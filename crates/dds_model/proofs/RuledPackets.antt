@@ -21,15 +21,15 @@ use Rattle.dds_model.specs.declared.reply.Report.{Report}
 use Rattle.dds_model.specs.Numbered.{numbered, HasNumber}
 use Rattle.dds_model.specs.Part.{Part, own_proxies, place_of, heard_of}
 use Rattle.dds_model.specs.Moves.{IsMatched, AreMoves}
-use Rattle.dds_model.specs.Claims.{Receiver, receiver_of, after_submessage, StandsAt, IsReader, IsToReader, Claim, ChangeIs, Says, Claims, Claimed}
-use Rattle.dds_model.specs.Receipt.{prefix_of, GoesOver, HasNoRoom, MovesOver, TakesUp, IsNotTaken, Receives}
-use Rattle.dds_model.specs.Peer.{Delivery, IsApplied, IsBefore, claimed, packets_of, delivered_to}
-use Rattle.dds_model.specs.Protocol.{Due, Known, State, InTurn, ReaderTakes, Takes, Follows, TakesMessage, TakesPacket}
-use Rattle.dds_model.specs.Backed.{reader_at, IsClaimed, TookNone, IsBacked}
+use Rattle.dds_model.specs.Claims.{Receiver, receiver_of, after_submessage, StandsAt, IsReader, IsToReader, ChangeIs, Says}
+use Rattle.dds_model.specs.Receipt.{prefix_of, MovesOver, TakesUp, IsNotTaken, Receives}
+use Rattle.dds_model.specs.Peer.{Delivery, IsApplied, IsBefore, claimed, packets_of}
+use Rattle.dds_model.specs.Protocol.{Due, Known, State, InTurn, ReaderTakes, Takes, Follows, TakesPacket}
+use Rattle.dds_model.specs.Backed.{reader_at, IsClaimed, IsBacked}
 use Rattle.dds_model.proofs.Knowing.{claimed_on}
-use Rattle.dds_model.proofs.Composed.{front_or_rest, later_in, moves_on}
+use Rattle.dds_model.proofs.Composed.{front_or_rest, later_in}
 use Rattle.dds_model.proofs.Framing.{has_reader}
-use Rattle.dds_model.proofs.RuledReaders.{Coming, grounds, packets, deliveries, Backs, IsPast}
+use Rattle.dds_model.proofs.RuledReaders.{Coming, grounds, Backs, IsPast}
 use Rattle.dds_model.proofs.RuledTurns.{IsTelling, Turn, readers_taken}
 use Rattle.dds_model.proofs.RuledWriters.{IsTaken, writers_taken}
 use Rattle.rtps_wire.proofs.MessageLaws.{message_one}

@@ -1,5 +1,5 @@
 -- What one of the peer's readers does with a submessage rests on what packets claim.
-use Rattle.std.proofs.Common.{◌≡◌, ◌⊎◌, ℕ, ℤ, zero, suc, ◌+◌, ◌<◌, ◌≤◌, ◌==◌, ◌&&◌, ◌||◌, Bool, true, false, cond, nat_lt, nat_le, List, [], ◌∷◌, ◌++◌, Option, Some, None, Contains, refl, subst, ap, sym, ◌∙◌, inl, inr, ⊎_elim, arith, length, ◌<ℤ◌, eq-eqb}
+use Rattle.std.proofs.Common.{◌≡◌, ◌⊎◌, ℕ, ℤ, ◌<◌, ◌≤◌, ◌&&◌, ◌||◌, Bool, true, false, nat_lt, nat_le, List, [], ◌∷◌, ◌++◌, Option, Some, None, refl, subst, ap, sym, ◌∙◌, inl, inr, ⊎_elim, arith, eq-eqb}
 use Rattle.std.specs.Prelude.{if◌then◌else◌}
 use Rattle.std.proofs.lemmas.Bool.Decides.{nat_tests}
 use Rattle.std.proofs.lemmas.Option.{same_Some}
@@ -14,29 +14,29 @@ use Rattle.dds_base.specs.Presence.{has_room}
 use Rattle.dds_base.proofs.PlaceLaws.{goes_nowhere}
 use Rattle.rtps_sets.specs.NumberSet.{NumberSet, has_number}
 use Rattle.rtps_sets.specs.Window.{is_in_window}
-use Rattle.rtps_reader.specs.Tracked.{Slot, Missing, Held, Irrelevant, Tracked, is_missing, is_passable, is_passable_slot, is_open, is_named, is_later, with_data, with_gap, with_heartbeat}
+use Rattle.rtps_reader.specs.Tracked.{Slot, Missing, Held, Irrelevant, Tracked, is_missing, is_passable, is_passable_slot, is_named, is_later, with_data, with_gap, with_heartbeat}
 use Rattle.rtps_reader.specs.Advance.{known}
 use Rattle.rtps_reader.specs.Answer.{answered}
 use Rattle.rtps_wire.specs.declared.data.Data.{Data as DataBody}
 use Rattle.rtps_wire.specs.declared.gap.Gap.{Gap as GapBody}
 use Rattle.rtps_wire.specs.declared.heartbeat.Heartbeat.{Heartbeat as HeartbeatBody}
 use Rattle.rtps_wire.specs.declared.submessage.Submessage.{Submessage}
-use Rattle.rtps_wire.specs.declared.submessage.Submessage.TheVariants.{Pad, InfoDst, InfoTs, Data, Heartbeat, AckNack, Gap, Other}
+use Rattle.rtps_wire.specs.declared.submessage.Submessage.TheVariants.{Data, Heartbeat, Gap}
 use Rattle.rtps_wire.specs.Content.{change_in}
 use Rattle.dds_model.specs.declared.endpoint.Endpoint.{Endpoint}
 use Rattle.dds_model.specs.declared.reply.Move.{Move}
-use Rattle.dds_model.specs.declared.reply.Move.TheVariants.{Place, Acknowledged, Heard}
+use Rattle.dds_model.specs.declared.reply.Move.TheVariants.{Place}
 use Rattle.dds_model.specs.Numbered.{HasNumber}
 use Rattle.dds_model.specs.Part.{Part, own_proxies, own_reader, place_of, with_heard, heard_of, at_reader}
-use Rattle.dds_model.specs.Moves.{Grounds, match_of, position_of, IsMatched, IsMove, AreMoves, IsLater}
-use Rattle.dds_model.specs.Claims.{Receiver, IsToReader, IsWriter, Claim, ChangeIs, MayPass, Asserts, IsInGap, Says, Claimed}
+use Rattle.dds_model.specs.Moves.{Grounds, match_of, position_of, IsMatched, AreMoves, IsLater}
+use Rattle.dds_model.specs.Claims.{Receiver, IsToReader, Claim, ChangeIs, MayPass, Asserts, Says, Claimed}
 use Rattle.dds_model.specs.Receipt.{GoesOver, HasNoRoom}
-use Rattle.dds_model.specs.Peer.{Delivery, IsApplied, claimed, packets_of, delivered_to}
-use Rattle.dds_model.specs.Protocol.{Due, Known, State, Goes, HearsOf, Asserting, TakesHeartbeat, TakesOrNot, Idles, WhereMatched, ReaderTakes, with_tracked}
+use Rattle.dds_model.specs.Peer.{Delivery, claimed, packets_of, delivered_to}
+use Rattle.dds_model.specs.Protocol.{Due, State, Goes, Asserting, TakesHeartbeat, Idles, ReaderTakes}
 use Rattle.dds_model.specs.Backed.{reader_at, IsClaimed, TookNone, IsBacked}
 use Rattle.dds_model.proofs.Composed.{moves_on}
 use Rattle.dds_model.proofs.OwnGuids.{one_writer}
-use Rattle.dds_model.proofs.Framing.{Frames, frames_at, frames_none, frames_on, has_reader, has_handle, frames_known, tracked_here, tracked_elsewhere, heard_here, heard_there}
+use Rattle.dds_model.proofs.Framing.{Frames, frames_at, frames_none, frames_on, has_reader, has_handle, frames_known, tracked_here, heard_here, heard_there}
 use Rattle.dds_model.proofs.Knowing.{data_claimed, gap_claimed, heartbeat_claimed, answered_claimed, answered_same}
 use Rattle.dds_model.proofs.Ruled.{BackedAt, backed_on, goes_moves, goes_frames, goes_backed, later_on, not_later_than_itself, earlier}
 use Rattle.dds_model.proofs.Tables.{numbered-same, place-heard}

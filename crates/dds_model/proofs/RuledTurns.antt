@@ -1,5 +1,5 @@
 -- The peer's readers take a submessage up one after the other.
-use Rattle.std.proofs.Common.{◌≡◌, ◌⊎◌, ℕ, zero, suc, ◌+◌, ◌<◌, ◌≤◌, Bool, true, false, List, [], ◌∷◌, ◌++◌, Some, refl, subst, ap, sym, ◌∙◌, inl, inr, ⊎_elim, arith, length}
+use Rattle.std.proofs.Common.{◌≡◌, ◌⊎◌, ℕ, zero, suc, ◌+◌, ◌<◌, ◌≤◌, Bool, false, List, [], ◌∷◌, ◌++◌, subst, ap, sym, ◌∙◌, inl, inr, ⊎_elim, arith, length}
 use Rattle.dds_base.specs.declared.change.Change.{Change}
 use Rattle.dds_base.specs.Kept.{numbers_from}
 use Rattle.dds_base.specs.Places.{coming}
@@ -10,9 +10,9 @@ use Rattle.rtps_wire.specs.declared.submessage.Submessage.TheVariants.{Pad, Info
 use Rattle.dds_model.specs.declared.endpoint.Endpoint.{Endpoint}
 use Rattle.dds_model.specs.declared.reply.Move.{Move}
 use Rattle.dds_model.specs.declared.reply.Move.TheVariants.{Place, Acknowledged, Heard}
-use Rattle.dds_model.specs.Part.{Part, Reader, WriterProxy, Writer, own_proxies, own_reader, place_of, publication_of}
-use Rattle.dds_model.specs.Moves.{Grounds, match_of, position_of, IsMatched, AreMoves}
-use Rattle.dds_model.specs.Receipt.{GoesOver, HasNoRoom}
+use Rattle.dds_model.specs.Part.{Reader, WriterProxy, own_proxies, own_reader, place_of, publication_of}
+use Rattle.dds_model.specs.Moves.{AreMoves}
+use Rattle.dds_model.specs.Receipt.{GoesOver}
 use Rattle.dds_model.specs.Protocol.{Due, State, InTurn, ReaderTakes}
 use Rattle.dds_model.proofs.Composed.{moves_on}
 use Rattle.dds_model.proofs.Framing.{Frames, number_or_not}

@@ -1,15 +1,14 @@
 -- What the peer's writers do with an ACKNACK rests on what its packet claims.
-use Rattle.std.proofs.Common.{◌≡◌, ◌⊎◌, ℕ, zero, suc, ◌+◌, ◌<◌, ◌≤◌, max, Bool, true, false, List, [], ◌∷◌, ◌++◌, Some, refl, subst, ap, sym, ◌∙◌, inl, inr, ⊎_elim, arith, length, nat_lt}
+use Rattle.std.proofs.Common.{◌≡◌, ℕ, ◌<◌, ◌≤◌, max, Bool, true, false, List, [], ◌∷◌, ◌++◌, refl, subst, ap, sym, ◌∙◌, inl, inr, arith, length, nat_lt}
 use Rattle.std.specs.Prelude.{if◌then◌else◌}
 use Rattle.std.proofs.lemmas.Bool.Decides.{nat_tests}
-use Rattle.dds_base.specs.Kept.{numbers_from}
 use Rattle.rtps_wire.specs.declared.acknack.AckNack.{AckNack as AckNackBody}
 use Rattle.rtps_wire.specs.declared.submessage.Submessage.{Submessage}
 use Rattle.rtps_wire.specs.declared.submessage.Submessage.TheVariants.{AckNack}
 use Rattle.dds_model.specs.declared.endpoint.Endpoint.{Endpoint}
 use Rattle.dds_model.specs.declared.reply.Move.{Move}
 use Rattle.dds_model.specs.declared.reply.Move.TheVariants.{Acknowledged}
-use Rattle.dds_model.specs.Part.{Part, ReaderProxy, Writer, own_writer, own_proxies, own_reader, with_acknowledged, at_writer}
+use Rattle.dds_model.specs.Part.{ReaderProxy, Writer, own_writer, at_writer}
 use Rattle.dds_model.specs.Moves.{IsMove, AreMoves}
 use Rattle.dds_model.specs.Claims.{IsToWriter, PlaceReached, Says}
 use Rattle.dds_model.specs.Protocol.{Due, State, InTurn, TakesAckNack, WriterTakes, acknowledging}

@@ -1,5 +1,6 @@
 -- What holds of every network and every run.
 use Rattle.std.specs.Prelude.{◌≡◌, ◌≢◌, ℕ, ◌≤◌, Some, None, IsSome, List, [], ◌∷◌, length, Contains}
+use Rattle.std.specs.List.{All}
 use Rattle.dds_base.specs.declared.config.Config.{Config}
 use Rattle.dds_base.specs.declared.config.PeerConfig.{PeerConfig}
 use Rattle.dds_base.specs.declared.config.ReaderConfig.{ReaderConfig}
@@ -20,7 +21,7 @@ use Rattle.dds_model.specs.Receipt.{Receives}
 use Rattle.dds_model.specs.Peer.{Delivery, no_peer, state_of, packets_of, claimed}
 use Rattle.dds_model.specs.Protocol.{State, Due, TakesPacket, heartbeats_due}
 use Rattle.dds_model.specs.Backed.{IsBacked}
-use Rattle.dds_model.specs.Dues.{AreTellable, IsPartOf, AreTruthful}
+use Rattle.dds_model.specs.Dues.{AreTellable, IsPartOf, AreTruthful, IsSized, HasSmallChanges, CanBeWritten}
 use Rattle.dds_model.specs.Calls.{TickStep}
 use Rattle.dds_model.specs.Machine.{Machine, AllTests, writer_at, Step}
 use Rattle.dds_model.specs.World.{WorldState, WorldStep, machine_of, Sound}
@@ -105,6 +106,13 @@ abbrev pub AnswersAreTrue : Type 0
 AnswersAreTrue = (config : Config) (peer : ℕ) (before : List Delivery) (bytes : List ℕ) (old : State) (report : Report) (dues : List Due) (new : State) → check_refusal config.peers ≡ None
     → IsBacked config peer (packets_of before) before old → AreTellable old.part → TakesPacket config peer bytes old report dues new
     → AreTruthful config peer new.part dues
+
+-- Each of these messages can be written, in a configuration whose names have their octets, where the changes are small and the
+-- sets of ACKNACKs have their places: so a peer that has memory sends it.
+abbrev pub AnswersCanBeWritten : Type 0
+AnswersCanBeWritten = (config : Config) (peer : ℕ) (before : List Delivery) (bytes : List ℕ) (old : State) (report : Report) (dues : List Due) (new : State) → check_refusal config.peers ≡ None
+    → IsBacked config peer (packets_of before) before old → AreTellable old.part → TakesPacket config peer bytes old report dues new → IsSized config → HasSmallChanges old.part
+    → All CanBeWritten dues
 
 -- so do the HEARTBEATs that are due at a tick
 abbrev pub HeartbeatsAreTrue : Type 0

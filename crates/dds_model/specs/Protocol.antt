@@ -1,7 +1,7 @@
 -- The reliable protocol of one peer: what it does with each submessage of a packet, and which messages are then due.
 --
 -- RTPS 2.5, 8.4.9 (reliable StatefulWriter), 8.4.12 (reliable StatefulReader).
-use Rattle.std.specs.Prelude.{◌≡◌, ◌≢◌, ◌⊎◌, ℕ, ◌+◌, ◌-◌, ◌^◌, ◌<◌, ◌≤◌, ◌==◌, ◌&&◌, Bool, true, false, cond, if◌then◌else◌, nat_lt, nat_le, max, List, [], ◌∷◌, ◌++◌, length, map, filter, Option, Some, None, ℤ, pos, slice_get}
+use Rattle.std.specs.Prelude.{◌≡◌, ◌≢◌, ◌⊎◌, ℕ, ◌+◌, ◌-◌, ◌^◌, ◌≤◌, ◌==◌, ◌&&◌, Bool, true, false, cond, if◌then◌else◌, nat_lt, nat_le, max, List, [], ◌∷◌, ◌++◌, length, map, filter, Option, Some, None, ℤ, pos, slice_get}
 use Rattle.std.specs.List.{flat_map}
 use Rattle.std.specs.Option.{option_map_or}
 use Rattle.dds_base.specs.declared.change.Change.{Change}
@@ -35,8 +35,7 @@ use Rattle.dds_model.specs.declared.reply.Report.{Report}
 use Rattle.dds_model.specs.declared.reply.Move.{Move}
 use Rattle.dds_model.specs.declared.reply.Move.TheVariants.{Place, Acknowledged, Heard}
 use Rattle.dds_base.specs.Written.{counts_of}
-use Rattle.dds_model.specs.Numbered.{numbered}
-use Rattle.dds_model.specs.Part.{Part, ReaderProxy, Writer, peers_of, same_endpoint, own_writer, own_proxies, own_reader, acknowledged_of, with_acknowledged, with_place, with_heard, publication_of, at_reader, at_writer, writer_changes, history_of, is_behind, has_readers}
+use Rattle.dds_model.specs.Part.{Part, ReaderProxy, Writer, peers_of, same_endpoint, own_writer, own_proxies, own_reader, acknowledged_of, with_acknowledged, with_place, with_heard, publication_of, at_reader, at_writer, writer_changes, history_of, has_readers}
 use Rattle.dds_model.specs.Moves.{IsMatched, match_of}
 use Rattle.dds_model.specs.Claims.{Receiver, receiver_of, after_submessage, IsToReader, IsToWriter, every_reader}
 use Rattle.dds_model.specs.Receipt.{prefix_of, IsNotTaken}

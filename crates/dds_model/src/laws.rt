@@ -1,7 +1,7 @@
 //! What holds of every network and every run.
 
 ghost use Rattle.dds_model.specs.InOrder.{ChangesComeInOrder};
-ghost use Rattle.dds_model.specs.Laws.{AnswersAreTrue, Composes, ComposesRuns, HeartbeatsAreTrue, KeepAllIsKept, OpensBacked, OpensSound, OwnersExist, ReadersTellWritersApart, RulesRestOnClaims};
+ghost use Rattle.dds_model.specs.Laws.{AnswersAreTrue, AnswersCanBeWritten, Composes, ComposesRuns, HeartbeatsAreTrue, KeepAllIsKept, OpensBacked, OpensSound, OwnersExist, ReadersTellWritersApart, RulesRestOnClaims};
 
 use dds_base::owner_is_found;
 
@@ -60,4 +60,6 @@ pub fn what_is_due_is_true()
     ensures packet { AnswersAreTrue }
     // So do the HEARTBEATs that are due at a tick.
     ensures tick { HeartbeatsAreTrue }
+    // What is due to a packet has a written form, whatever the packet asked for.
+    ensures written { AnswersCanBeWritten }
 {}

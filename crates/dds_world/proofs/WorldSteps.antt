@@ -29,7 +29,7 @@ use Rattle.dds_model.proofs.RuledPackets.{unread_backed}
 use Rattle.dds_model.proofs.Tables.{append_nothing}
 use Rattle.dds_core.specs.Kept.{CoreKept}
 use Rattle.dds_core.specs.Standing.{StandsFor as CoreStandsFor, IsSound, SoundSteps as CoreSteps}
-use Rattle.dds_core.proofs.Lists.{each_set, get-within}
+use Rattle.dds_core.proofs.Lists.{each_set, element, get-within}
 use Rattle.dds_world.specs.WorldStanding.{WorldKept, StandsFor, Steps, MovesOn, ArePosted, Posts}
 use Rattle.dds_world.specs.Acting.{ActsAt, IsCopy}
 
@@ -214,12 +214,6 @@ set_same : {X : Type 0} (xs : List X) (i : ℕ) (x : X) → slice_get xs i ≡ S
 set_same [] i x at = refl
 set_same (y ∷ ys) zero x at = ap (λ z. z ∷ ys) (same_Some y x at)
 set_same (y ∷ ys) (suc i) x at = ap (λ zs. y ∷ zs) (set_same ys i x at)
-
--- an element within a list
-element : {X : Type 0} (xs : List X) (i : ℕ) → i < length xs → (x : X) × (slice_get xs i ≡ Some x)
-element [] i lt = absurd (omega (arith, lt))
-element (x ∷ xs) zero lt = (x, refl)
-element (x ∷ xs) (suc i) lt = element xs i (omega (arith, lt))
 
 contains_at : (ps : List Packet) (i : ℕ) (p : Packet) → slice_get ps i ≡ Some p → Contains ps p
 contains_at [] i p at = absurd cc

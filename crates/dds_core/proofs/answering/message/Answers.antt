@@ -1,5 +1,4 @@
-use Rattle.std.proofs.Common.{◌≤◌, List, length, sym, subst, arith}
-use Rattle.std.specs.List.{AllByRecursion}
+use Rattle.std.proofs.Common.{List, sym, subst, arith}
 use Rattle.rtps_wire.specs.declared.submessage.Submessage.{Submessage}
 use Rattle.rtps_wire.specs.Messages.{IsWritable}
 use Rattle.dds_core.proofs.Replies.{answers_writable}

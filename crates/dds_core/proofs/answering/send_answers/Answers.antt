@@ -1,7 +1,5 @@
-use Rattle.std.proofs.Common.{◌≡◌, ◌<◌, ◌≤◌, ◌++◌, List, length, sym, ap, subst, ◌∙◌, arith, rules}
+use Rattle.std.proofs.Common.{rules}
 use Rattle.dds_base.specs.Written.{changes_of}
-use Rattle.dds_core.specs.Answering.{answer_due}
-use Rattle.dds_core.specs.Beating.{AddsTo}
 use Rattle.dds_core.proofs.Replies.{sent_more, sent_all, answerable_after, full_group, nothing_left}
 use Rattle.dds_core.proofs.answering.send_answers.Goals as goal
 

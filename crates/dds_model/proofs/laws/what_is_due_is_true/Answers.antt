@@ -1,4 +1,4 @@
-use Rattle.dds_model.proofs.DuesPackets.{packet_truthful, tick_truthful}
+use Rattle.dds_model.proofs.DuesPackets.{packet_truthful, packet_writable, tick_truthful}
 use Rattle.dds_model.proofs.laws.what_is_due_is_true.Goals as goal
 
 pub returns-clause-packet : goal.returns-clause-packet
@@ -6,3 +6,6 @@ returns-clause-packet c = packet_truthful
 
 pub returns-clause-tick : goal.returns-clause-tick
 returns-clause-tick c = tick_truthful
+
+pub returns-clause-written : goal.returns-clause-written
+returns-clause-written c = packet_writable

@@ -1,9 +1,8 @@
-use Rattle.std.proofs.Common.{◌≡◌, ◌+◌, ◌++◌, ℕ, List, [], ◌∷◌, Option, Some, Vec, slice_get, get_or, refl, sym, ap, subst, ◌∙◌, append-nil, rules}
+use Rattle.std.proofs.Common.{◌≡◌, ◌+◌, ◌++◌, ℕ, Option, Some, Vec, slice_get, sym, ap, subst, ◌∙◌, append-nil}
 use Rattle.std.proofs.lemmas.Option.{get_or_from_slice_get}
-use Rattle.dds_model.specs.declared.endpoint.Endpoint.{Endpoint}
 use Rattle.dds_model.specs.declared.reply.Move.{Move}
 use Rattle.dds_core.specs.Answering.{acknowledged_moves}
-use Rattle.dds_core.specs.Kept.{WriterKept, CoreKept}
+use Rattle.dds_core.specs.Kept.{CoreKept}
 use Rattle.dds_core.proofs.Ends.{with_writer}
 use Rattle.dds_core.proofs.Requesting.{row_took}
 use Rattle.dds_core.proofs.peer.Core.answer_row.Goals.{in-Some, in_default}

@@ -1,8 +1,6 @@
-use Rattle.std.proofs.Common.{◌≡◌, Some, List, slice_get, get_or, refl, sym, ◌∙◌, ap, subst}
-use Rattle.std.proofs.lemmas.Option.{get_or_from_slice_get, slice_get-get_or}
-use Rattle.dds_core.specs.declared.matching.WriterName.{WriterName}
-use Rattle.dds_core.specs.Kept.{ReaderKept, CoreKept}
-use Rattle.dds_core.specs.Receiving.{CanTake, TookAt, TakesTold, SameReader, moves_of}
+use Rattle.std.proofs.Common.{◌≡◌, Some, slice_get, sym, ◌∙◌, ap, subst}
+use Rattle.std.proofs.lemmas.Option.{get_or_from_slice_get}
+use Rattle.dds_core.specs.Kept.{CoreKept}
 use Rattle.dds_core.proofs.Ends.{with_reader}
 use Rattle.dds_core.proofs.Ready.{took_by}
 use Rattle.dds_core.proofs.peer.Core.take_at.Goals as goal

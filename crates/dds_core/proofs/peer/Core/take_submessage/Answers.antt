@@ -1,4 +1,4 @@
-use Rattle.std.proofs.Common.{rules, arith}
+use Rattle.std.proofs.Common.{arith}
 use Rattle.dds_core.specs.Receiving.{receiver_at}
 use Rattle.dds_core.proofs.Taking.{readers_take_if}
 use Rattle.dds_core.proofs.peer.Core.take_submessage.Goals as goal

@@ -1,7 +1,5 @@
-use Rattle.std.proofs.Common.{◌≡◌, ◌∙◌, ℕ, ◌<◌, List, length, ap, sym, subst}
+use Rattle.std.proofs.Common.{◌∙◌, ℕ, ◌<◌, List, ap, sym, subst}
 use Rattle.dds_base.specs.declared.qos.MatchedWriter.{MatchedWriter}
-use Rattle.rtps_reader.specs.Reader.{Tracks}
-use Rattle.rtps_reader.specs.Tracked.{fresh}
 use Rattle.dds_core.proofs.ReaderEnds.{opens_reader, rows_fit, plain_qos}
 use Rattle.dds_core.proofs.reader_end.ReaderEnd.open.Goals as goal
 

@@ -1,4 +1,4 @@
-use Rattle.std.proofs.Common.{ℕ, subst}
+use Rattle.std.proofs.Common.{subst}
 use Rattle.dds_base.specs.declared.guid.EntityId.{EntityId}
 use Rattle.dds_core.specs.Receiving.{receiver_at, IsNamedFor}
 use Rattle.dds_core.proofs.Named.{names_one}
