@@ -1,5 +1,6 @@
 pub mod WorldSteps
 pub mod Sends
+pub mod Ruled
 pub mod RunSteps
 pub mod Opened
 pub mod Rounds

@@ -131,7 +131,7 @@ posted_count (p ∷ ps) posted lost (inl f) = let first = ap (λ (xs : List Pack
 posted_count (p ∷ ps) posted lost (inr g) = let fewer = g.1 in let later = posted_count ps posted g.0 g.2 in omega (arith, fewer, later)
 
 -- so it is of the dues of a peer
-dues_sent : (kept new : WorldKept) (dues : List Due) (output : Output) → Posts kept.sent output.packets new.sent → Counts kept output new → AreSent dues output.packets output.unsent → SendsDues dues (traffic kept) (traffic new)
+pub dues_sent : (kept new : WorldKept) (dues : List Due) (output : Output) → Posts kept.sent output.packets new.sent → Counts kept output new → AreSent dues output.packets output.unsent → SendsDues dues (traffic kept) (traffic new)
 dues_sent kept new dues output posts counts are =
     let count = ap (λ (ps : List Packet). length ps) posts.sent in
     let total = length-append kept.sent posts.posted in

@@ -1,5 +1,5 @@
 -- The steps of a network.
-use Rattle.std.proofs.Common.{◌≡◌, ◌≢◌, ◌⊎◌, ℕ, zero, suc, ◌+◌, ◌-◌, ◌<◌, ◌≤◌, Bool, true, false, List, [], ◌∷◌, ◌++◌, Some, length, set, get_or, slice_get, subst, ap, sym, ◌∙◌, refl, inl, inr, ⊎_elim, arith, append_assoc, length-append, length-set}
+use Rattle.std.proofs.Common.{◌≡◌, ◌≢◌, ◌⊎◌, ℕ, zero, suc, ◌+◌, ◌-◌, ◌<◌, ◌≤◌, Bool, true, false, List, [], ◌∷◌, ◌++◌, Some, length, set, get_or, slice_get, subst, ap, sym, ◌∙◌, refl, inl, inr, ⊎_elim, arith, append_assoc, length-append, length-set, get_or-set_same}
 use Rattle.std.specs.Prelude.{if◌then◌else◌, ◌&&◌, nat_lt, nat_le, Contains, AllPairs}
 use Rattle.std.specs.List.{All}
 use Rattle.std.proofs.lemmas.Bool.Decides.{nat_tests}
@@ -28,10 +28,10 @@ use Rattle.dds_model.proofs.Composed.{composes}
 use Rattle.dds_model.proofs.RuledPackets.{unread_backed}
 use Rattle.dds_model.proofs.Tables.{append_nothing}
 use Rattle.dds_core.specs.Kept.{CoreKept}
-use Rattle.dds_core.specs.Standing.{StandsFor as CoreStandsFor, IsSound, SoundSteps as CoreSteps}
+use Rattle.dds_core.specs.Standing.{StandsFor as CoreStandsFor, IsSound, SoundSteps as CoreSteps, KeepsRules as CoreKeepsRules}
 use Rattle.dds_core.proofs.Lists.{each_set, element, get-within}
 use Rattle.dds_world.specs.WorldStanding.{WorldKept, StandsFor, Steps, MovesOn, ArePosted, Posts}
-use Rattle.dds_world.specs.Acting.{ActsAt, IsCopy}
+use Rattle.dds_world.specs.Acting.{ActsAt, RuledSteps}
 
 -- lists of which any two elements differ
 
@@ -133,9 +133,11 @@ delivers_at sent peer number packet low found config old new reply same step = i
 abbrev with_peer : WorldState → ℕ → Peer → List Packet → WorldState
 with_peer network i after sent = record { peers = set network.peers i after; sent = sent }
 
--- an event of the peer of this index is a step of the network
-pub acts_step : (kept new : WorldKept) (i : ℕ) (ev : Event) (whole : WorldEvent) (reply : Reply) → IsEventOf kept.sent ev (suc i) whole → ActsAt kept i ev reply new → Steps kept whole reply new
-acts_step kept new i ev whole reply into a config network s =
+-- an event of the peer of this index is a step of the network, in which the peer keeps the rules of the protocol
+pub acts_ruled : (kept new : WorldKept) (i : ℕ) (ev : Event) (whole : WorldEvent) (reply : Reply) → IsEventOf kept.sent ev (suc i) whole → (a : ActsAt kept i ev reply new) → (config : Config) (network : WorldState) → StandsFor kept config network
+    → (after : WorldState) × WorldStep config no_tests network whole reply after × Step no_tests (length kept.sent) (machine_of network) whole reply (machine_of after) × StandsFor new config after
+    × CoreKeepsRules config (get_or network.peers i no_peer) ev a.output (get_or after.peers i no_peer)
+acts_ruled kept new i ev whole reply into a config network s =
     let r = a.steps config (get_or network.peers i no_peer) (s.each i a.core a.at) (s.known i a.core a.at) in
     let next : WorldState = with_peer network i r.0 new.sent in
     let low : i < length kept.peers = get-within kept.peers i a.core a.at in
@@ -165,7 +167,14 @@ acts_step kept new i ev whole reply into a config network s =
           ⊎_elim (λ o. s.messages packet o) (λ o. a.messages packet (a.posts.of_packets packet o))
           (Contains-append_cases kept.sent a.posts.posted packet (subst (λ (ps : List Packet). Contains ps packet) a.posts.sent m));
     } in
-    (next, whole_step, subst (λ (ps : List Packet). Step no_tests (length ps) (machine_of network) whole reply (machine_of next)) s.sent c.0, stands)
+    let low' : i < length network.peers = omega (arith, count, low) in
+    let there : get_or next.peers i no_peer ≡ r.0 = get_or-set_same network.peers i r.0 no_peer low' in
+    let rules : CoreKeepsRules config (get_or network.peers i no_peer) ev a.output (get_or next.peers i no_peer) =
+    subst (λ (p : Peer). CoreKeepsRules config (get_or network.peers i no_peer) ev a.output p) (sym there) r.4 in
+    (next, whole_step, subst (λ (ps : List Packet). Step no_tests (length ps) (machine_of network) whole reply (machine_of next)) s.sent c.0, stands, rules)
+
+pub acts_step : (kept new : WorldKept) (i : ℕ) (ev : Event) (whole : WorldEvent) (reply : Reply) → IsEventOf kept.sent ev (suc i) whole → ActsAt kept i ev reply new → Steps kept whole reply new
+acts_step kept new i ev whole reply into a config network s = let t = acts_ruled kept new i ev whole reply into a config network s in (t.0, t.1, t.2, t.3)
 
 -- the index of a number
 number_of : (i n : ℕ) → n ≡ i + 1 → suc i ≡ n
@@ -180,23 +189,15 @@ ticked kept new i peer now reply is a =
     subst (λ (n : ℕ). Steps kept (world.Tick n now) reply new) (number_of i peer is) (acts_step kept new i (event.Tick now) (world.Tick (suc i) now) reply (ticks_at kept.sent (suc i) now) a)
 
 -- the packet of an index, by its number
-found_at : (sent : List Packet) (j : ℕ) (packet : Packet) → slice_get sent j ≡ Some packet → slice_get sent ((j + 1) - 1) ≡ Some packet
+pub found_at : (sent : List Packet) (j : ℕ) (packet : Packet) → slice_get sent j ≡ Some packet → slice_get sent ((j + 1) - 1) ≡ Some packet
 found_at sent j packet at = let same : (j + 1) - 1 ≡ j = omega arith in subst (λ (n : ℕ). slice_get sent n ≡ Some packet) (sym same) at
-
-pub delivered : (kept new : WorldKept) (i j : ℕ) (bytes : List ℕ) (reply : Reply) → IsCopy kept.sent j bytes → ActsAt kept i (event.Deliver bytes) reply new → Steps kept (world.Deliver (i + 1) (j + 1)) reply new
-delivered kept new i j bytes reply copy a =
-    let packet = copy.packet in
-    let own : ActsAt kept i (event.Deliver packet.bytes) reply new = subst (λ (b : List ℕ). ActsAt kept i (event.Deliver b) reply new) copy.same a in
-    let next : suc i ≡ i + 1 = omega arith in
-    subst (λ (n : ℕ). Steps kept (world.Deliver n (j + 1)) reply new) next
-    (acts_step kept new i (event.Deliver packet.bytes) (world.Deliver (suc i) (j + 1)) reply (delivers_at kept.sent (suc i) (j + 1) packet (omega arith) (found_at kept.sent j packet copy.at)) own)
 
 -- a packet that finds no memory
 
-abbrev nothing_moved : Output
+abbrev pub nothing_moved : Output
 nothing_moved = record { reply = Reported (record { moves = []; refused = Some 0 }); packets = []; unsent = 0 }
 
-comes_to_nothing : (core : CoreKept) (bytes : List ℕ) → HasSubmessage bytes → CoreSteps core (event.Deliver bytes) nothing_moved core
+pub comes_to_nothing : (core : CoreKept) (bytes : List ℕ) → HasSubmessage bytes → CoreSteps core (event.Deliver bytes) nothing_moved core
 comes_to_nothing core bytes some config peer s sound =
     let delivery : Delivery = record { packet = bytes; report = record { moves = []; refused = Some 0 } } in
     let after : Peer = record { number = peer.number; part = peer.part; known = peer.known; delivered = delivery ∷ peer.delivered } in
@@ -210,33 +211,15 @@ comes_to_nothing core bytes some config peer s sound =
     let known : IsSound config after = unread_backed config peer.number peer.delivered bytes (state_of peer) (state_of peer) delivery.report (record { moves = refl; after = refl; cause = inr (refl, some) }) refl sound in
     (after, step, stands, known, record { report = delivery.report; reply = refl; dues = []; takes = inr (record { moves = refl; after = refl; cause = inr (refl, some) }, refl, refl); sent = (refl, refl) })
 
-set_same : {X : Type 0} (xs : List X) (i : ℕ) (x : X) → slice_get xs i ≡ Some x → xs ≡ set xs i x
+pub set_same : {X : Type 0} (xs : List X) (i : ℕ) (x : X) → slice_get xs i ≡ Some x → xs ≡ set xs i x
 set_same [] i x at = refl
 set_same (y ∷ ys) zero x at = ap (λ z. z ∷ ys) (same_Some y x at)
 set_same (y ∷ ys) (suc i) x at = ap (λ zs. y ∷ zs) (set_same ys i x at)
 
-contains_at : (ps : List Packet) (i : ℕ) (p : Packet) → slice_get ps i ≡ Some p → Contains ps p
+pub contains_at : (ps : List Packet) (i : ℕ) (p : Packet) → slice_get ps i ≡ Some p → Contains ps p
 contains_at [] i p at = absurd cc
 contains_at (q ∷ ps) zero p at = (0, omega arith, same_Some q p at)
 contains_at (q ∷ ps) (suc i) p at = let r = contains_at ps i p at in (suc r.0, omega (arith, r.1), r.2)
-
-pub not_delivered : (kept : WorldKept) (i j : ℕ) → i < length kept.peers → j < length kept.sent → Steps kept (world.Deliver (i + 1) (j + 1)) (Reported (record { moves = []; refused = Some 0 })) kept
-not_delivered kept i j low high config network s =
-    let core = element kept.peers i low in
-    let packet = element kept.sent j high in
-    let some : HasSubmessage packet.0.bytes = s.messages packet.0 (contains_at kept.sent j packet.0 packet.1) in
-    let acts : ActsAt kept i (event.Deliver packet.0.bytes) (Reported (record { moves = []; refused = Some 0 })) kept = record {
-      core = core.0;
-      at = core.1;
-      output = nothing_moved;
-      after = core.0;
-      steps = comes_to_nothing core.0 packet.0.bytes some;
-      messages = λ p c. absurd (omega (arith, c.1));
-      replies = refl;
-      peers = set_same kept.peers i core.0 core.1;
-      posts = posts_none kept.sent;
-    } in
-    delivered kept kept i j packet.0.bytes (Reported (record { moves = []; refused = Some 0 })) (record { packet = packet.0; at = packet.1; same = refl }) acts config network s
 
 -- numbers that nobody has
 
@@ -258,6 +241,11 @@ stays kept config network ev reply s step =
     let c = composes config no_tests network network ev reply s.sound step in
     (network, step, subst (λ (ps : List Packet). Step no_tests (length ps) (machine_of network) ev reply (machine_of network)) s.sent c.0, s)
 
+refused_delivery : (kept : WorldKept) (config : Config) (network : WorldState) (peer number : ℕ) → StandsFor kept config network → WorldStep config no_tests network (world.Deliver peer number) (Refused BadParameter) network
+    → (after : WorldState) × WorldStep config no_tests network (world.Deliver peer number) (Refused BadParameter) after × Step no_tests (length kept.sent) (machine_of network) (world.Deliver peer number) (Refused BadParameter) (machine_of after)
+    × StandsFor kept config after × Unit {0}
+refused_delivery kept config network peer number s step = let t = stays kept config network (world.Deliver peer number) (Refused BadParameter) s step in (t.0, t.1, t.2, t.3, tt)
+
 pub unknown_call : (kept : WorldKept) (peer : ℕ) (call : Call) → (nat_lt 0 peer && nat_le peer (length kept.peers)) ≡ false → Steps kept (world.Call peer call) (Refused BadParameter) kept
 unknown_call kept peer call none config network s =
     stays kept config network (world.Call peer call) (Refused BadParameter) s (inr (λ has. nobody kept config network peer s none has, record { is_refused = refl; after = refl }))
@@ -266,12 +254,12 @@ pub unknown_tick : (kept : WorldKept) (peer now : ℕ) → (nat_lt 0 peer && nat
 unknown_tick kept peer now none config network s =
     stays kept config network (world.Tick peer now) (Refused BadParameter) s (inr (λ has. nobody kept config network peer s none has, record { is_refused = refl; after = refl }))
 
-pub unknown_delivery : (kept : WorldKept) (peer number : ℕ) → (nat_lt 0 peer && nat_le peer (length kept.peers)) ≡ false → Steps kept (world.Deliver peer number) (Refused BadParameter) kept
+pub unknown_delivery : (kept : WorldKept) (peer number : ℕ) → (nat_lt 0 peer && nat_le peer (length kept.peers)) ≡ false → RuledSteps kept (world.Deliver peer number) (Refused BadParameter) kept
 unknown_delivery kept peer number none config network s =
-    stays kept config network (world.Deliver peer number) (Refused BadParameter) s (inr (inr (inr (λ has. nobody kept config network peer s none has)), record { is_refused = refl; after = refl }))
+    refused_delivery kept config network peer number s (inr (inr (inr (λ has. nobody kept config network peer s none has)), record { is_refused = refl; after = refl }))
 
-pub unknown_packet : (kept : WorldKept) (peer number : ℕ) → (nat_lt 0 number && nat_le number (length kept.sent)) ≡ false → Steps kept (world.Deliver peer number) (Refused BadParameter) kept
+pub unknown_packet : (kept : WorldKept) (peer number : ℕ) → (nat_lt 0 number && nat_le number (length kept.sent)) ≡ false → RuledSteps kept (world.Deliver peer number) (Refused BadParameter) kept
 unknown_packet kept peer number none config network s =
     let count = ap (λ (ps : List Packet). length ps) s.sent in
     let why : (number ≡ 0) ⊎ (length network.sent < number) ⊎ (HasNumber network.peers peer → ⊥) = ⊎_elim (λ z. inl z) (λ past. inr (inl (omega (arith, past, count)))) (no_such number (length kept.sent) none) in
-    stays kept config network (world.Deliver peer number) (Refused BadParameter) s (inr (why, record { is_refused = refl; after = refl }))
+    refused_delivery kept config network peer number s (inr (why, record { is_refused = refl; after = refl }))

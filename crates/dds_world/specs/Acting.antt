@@ -5,12 +5,15 @@ use Rattle.dds_base.specs.declared.config.Config.{Config}
 use Rattle.dds_model.specs.declared.event.Event.{Event}
 use Rattle.dds_model.specs.declared.event.Output.{Output}
 use Rattle.dds_model.specs.declared.event.Packet.{Packet}
+use Rattle.dds_model.specs.declared.event.WorldEvent.{WorldEvent}
 use Rattle.dds_model.specs.declared.reply.Reply.{Reply}
+use Rattle.dds_model.specs.Machine.{no_tests, Step}
+use Rattle.dds_model.specs.World.{WorldState, WorldStep, machine_of}
 use Rattle.dds_core.specs.Kept.{CoreKept}
 use Rattle.dds_core.specs.Opening.{opening_refusal, opening_peer}
 use Rattle.dds_core.specs.Sending.{Sends as CoreSends, SendsNothing, AreMessages}
 use Rattle.dds_core.specs.Standing.{StandsFor as CoreStandsFor, SoundSteps as CoreSteps}
-use Rattle.dds_world.specs.WorldStanding.{WorldKept, Posts}
+use Rattle.dds_world.specs.WorldStanding.{WorldKept, StandsFor, Posts, TakesUpDelivered}
 
 -- how many packets were counted as unsent: those of the peer, and those that found no memory in the network
 abbrev pub Counts : WorldKept → Output → WorldKept → Type 0
@@ -50,3 +53,9 @@ pub record OpensFirst (config : Config) (count : ℕ) (kept : List CoreKept) : T
   pub counted : length kept ≡ count
   pub each : (i : ℕ) (k : CoreKept) → slice_get kept i ≡ Some k → CoreStandsFor k config (opening_peer config (i + 1))
   pub taken : 1 ≤ count → opening_refusal config.peers ≡ None
+
+-- a step of the network, of its machine and of its peers by the rules of the protocol, to one state
+abbrev pub RuledSteps : WorldKept → WorldEvent → Reply → WorldKept → Type 0
+RuledSteps old event reply new = (config : Config) (network : WorldState) → StandsFor old config network
+    → (after : WorldState) × WorldStep config no_tests network event reply after × Step no_tests (length old.sent) (machine_of network) event reply (machine_of after) × StandsFor new config after
+    × TakesUpDelivered config old network event reply new after

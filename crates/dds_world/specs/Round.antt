@@ -22,7 +22,7 @@ use Rattle.dds_model.specs.Protocol.{writer_entity}
 use Rattle.dds_model.specs.World.{WorldState, machine_of}
 use Rattle.dds_core.specs.Pairs.{reader_entity}
 use Rattle.dds_world.specs.declared.round.RoundReply.{RoundReply}
-use Rattle.dds_world.specs.WorldStanding.{WorldKept, StandsFor, Steps, Announces, MovesOn, Runs}
+use Rattle.dds_world.specs.WorldStanding.{WorldKept, StandsFor, Steps, Announces, MovesOn, KeepsRules, Runs}
 
 -- why there is no round: the writer is not matched with the reader
 abbrev pub round_refusal : Machine → Endpoint → Endpoint → Option Code
@@ -41,6 +41,7 @@ pub record IsStep (old : WorldKept) (event : WorldEvent) (reply : RoundReply) (n
   pub step : Steps old event reply.reply new
   pub sends : Announces old event reply.reply new
   pub progress : MovesOn old event reply.reply
+  pub rules : KeepsRules old event reply.reply new
   pub sent : reply.sent ≡ length new.sent
   pub unsent : reply.unsent ≡ new.unsent
 

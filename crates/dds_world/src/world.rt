@@ -1,6 +1,6 @@
 //! The network.
 
-ghost use Rattle.std.specs.Prelude.{◌≡◌, ◌&&◌, ◌+◌, ◌-◌, ◌<◌, ◌≤◌, false, nat_lt, nat_le, IfOk, IfErr, OnErr, MatchOption, length, slice_get, None, Some, []};
+ghost use Rattle.std.specs.Prelude.{◌≡◌, ◌&&◌, ◌+◌, ◌-◌, ◌^◌, ◌<◌, ◌≤◌, false, nat_lt, nat_le, IfOk, IfErr, OnErr, MatchOption, length, slice_get, None, Some, []};
 ghost use Rattle.std.specs.Option.{option_copied};
 ghost use Rattle.dds_base.specs.Checked.{check_refusal};
 ghost use Rattle.dds_base.specs.Refusal.{Refuses};
@@ -10,8 +10,8 @@ ghost use Rattle.dds_model.specs.InOrder.{no_traffic};
 ghost use Rattle.dds_model.specs.Opening.{opening_world};
 ghost use Rattle.dds_core.specs.Opening.{opening_peer, opening_refusal};
 ghost use Rattle.dds_core.specs.Standing.{StandsFor as CoreStandsFor};
-ghost use Rattle.dds_world.specs.WorldStanding.{traffic, Announces, MovesOn, Posts, Runs, StandsFor, Steps};
-ghost use Rattle.dds_world.specs.Acting.{Acts, Counts, IsCopy, IsQuiet, OpensFirst};
+ghost use Rattle.dds_world.specs.WorldStanding.{traffic, Announces, KeepsRules, MovesOn, Posts, Runs, StandsFor, Steps};
+ghost use Rattle.dds_world.specs.Acting.{Acts, Counts, IsCopy, IsQuiet, OpensFirst, RuledSteps};
 
 use dds_base::{Code, Config, Moment, Octets, Sequence};
 use dds_core::Core;
@@ -29,11 +29,14 @@ pub struct World {
 }
 
 impl Model for World {
+    ghost use Rattle.std.specs.Prelude.{◌<◌, ◌^◌};
     ghost use Rattle.dds_world.specs.WorldStanding.{WorldKept};
 
     ghost Value = { WorldKept };
 
     ghost view = { λ w. record { peers = w.peers.items; sent = w.sent.items; unsent = w.unsent } };
+
+    ghost invariant = { λ w. w.unsent < 2 ^ 64 };
 }
 
 /// Sends packets, and gives how many found no memory.
@@ -137,6 +140,8 @@ impl World {
         ensures sends { Announces self.old event result self.new }
         // A delivered packet is taken up, submessage by submessage: what it brings that is due is not left out.
         ensures progress { MovesOn self.old event result }
+        // A delivered packet is taken up by the rules of the protocol, and its answers are sent or counted.
+        ensures rules { KeepsRules self.old event result self.new }
     {
         match event {
             WorldEvent::Call { peer, call } => self.call(peer, call),
@@ -196,7 +201,7 @@ impl World {
     }
 
     fn deliver(&mut self, peer: u8, packet: u64) -> Reply
-        ensures step { Steps self.old (event.Deliver peer packet) result self.new }
+        ensures step { RuledSteps self.old (event.Deliver peer packet) result self.new }
         ensures sends { Announces self.old (event.Deliver peer packet) result self.new }
     {
         match packet_index(packet, self.sent()) {
@@ -208,7 +213,7 @@ impl World {
     /// Delivers the packet of this index.
     fn deliver_sent(&mut self, peer: u8, sent: usize) -> Reply
         requires sent { sent < length self.old.sent }
-        ensures step { Steps self.old (event.Deliver peer (sent + 1)) result self.new }
+        ensures step { RuledSteps self.old (event.Deliver peer (sent + 1)) result self.new }
         ensures sends { Announces self.old (event.Deliver peer (sent + 1)) result self.new }
     {
         match index_of(peer, self.count()) {
@@ -222,7 +227,7 @@ impl World {
     fn deliver_at(&mut self, index: usize, sent: usize) -> Reply
         requires within { index < length self.old.peers }
         requires sent { sent < length self.old.sent }
-        ensures step { Steps self.old (event.Deliver (index + 1) (sent + 1)) result self.new }
+        ensures step { RuledSteps self.old (event.Deliver (index + 1) (sent + 1)) result self.new }
         ensures sends { Announces self.old (event.Deliver (index + 1) (sent + 1)) result self.new }
     {
         match self.copied(sent) {
@@ -242,7 +247,8 @@ impl World {
 
     /// The report of a packet that found no memory.
     fn unmoved(&self) -> Report
-        ensures { result ≡ record { moves = []; refused = Some 0 } }
+        ensures report { result ≡ record { moves = []; refused = Some 0 } }
+        ensures few { self.now.unsent < 2 ^ 64 }
     {
         Report {
             moves: Sequence::from_vec(Vec::new(self.alloc)),

@@ -3,14 +3,15 @@ use Rattle.std.specs.Prelude.{◌&&◌, nat_lt, nat_le}
 use Rattle.dds_base.specs.declared.code.Code.TheVariants.{BadParameter}
 use Rattle.dds_model.specs.declared.event.WorldEvent.TheVariants as world
 use Rattle.dds_model.specs.declared.reply.Reply.TheVariants.{Refused}
-use Rattle.dds_world.specs.WorldStanding.{Announces, Steps}
+use Rattle.dds_world.specs.WorldStanding.{Announces}
+use Rattle.dds_world.specs.Acting.{RuledSteps}
 use Rattle.dds_world.proofs.Sends.{quiet_delivery_sends}
 use Rattle.dds_world.proofs.WorldSteps.{unknown_packet}
 use Rattle.dds_world.proofs.world.World.deliver.Goals as goal
 
 pub returns-in-Some-clause-step : goal.returns-in-Some-clause-step
 returns-in-Some-clause-step c =
-    subst (λ (n : ℕ). Steps c.args.self.now (world.Deliver c.args.peer n) c.deliver_sent.result c.deliver_sent.new.self) (sym c.in-Some.ensures.0) c.deliver_sent.ensures.step
+    subst (λ (n : ℕ). RuledSteps c.args.self.now (world.Deliver c.args.peer n) c.deliver_sent.result c.deliver_sent.new.self) (sym c.in-Some.ensures.0) c.deliver_sent.ensures.step
 
 pub returns-in-Some-clause-sends : goal.returns-in-Some-clause-sends
 returns-in-Some-clause-sends c =
