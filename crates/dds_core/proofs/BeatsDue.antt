@@ -59,11 +59,11 @@ written_true config peer part (due ∷ dues) packets unsent all (inr g) packet c
 -- ---- what is due of one writer
 
 -- destinations with the prefixes of the configuration
-AreNamed : Config → List Destination → Type 0
+pub AreNamed : Config → List Destination → Type 0
 AreNamed config [] = Unit {0}
 AreNamed config (d ∷ ds) = (prefix_of config d.peer ≡ d.prefix) × AreNamed config ds
 
-named_each : (config : Config) (ds : List Destination) → ((k : ℕ) (d : Destination) → slice_get ds k ≡ Some d → prefix_of config d.peer ≡ d.prefix) → AreNamed config ds
+pub named_each : (config : Config) (ds : List Destination) → ((k : ℕ) (d : Destination) → slice_get ds k ≡ Some d → prefix_of config d.peer ≡ d.prefix) → AreNamed config ds
 unfolding AreNamed
 named_each config [] each = tt
 named_each config (d ∷ ds) each = (each zero d refl, named_each config ds (λ k e at. each (suc k) e at))
@@ -77,7 +77,7 @@ named_filtered config b (d ∷ ds) h = one (b d) (named_filtered config b ds h.1
     one true k = (h.0, k)
     one false k = k
 
-by_number : (config : Config) (message : GuidPrefix → _) (ds : List Destination) → AreNamed config ds
+pub by_number : (config : Config) (message : GuidPrefix → _) (ds : List Destination) → AreNamed config ds
     → map (λ (to : ℕ). due_to to (message (prefix_of config to))) (map (λ (d : Destination). d.peer) ds) ≡ map (λ (d : Destination). due_to d.peer (message d.prefix)) ds
 unfolding AreNamed
 by_number config message [] h = refl
@@ -85,23 +85,37 @@ by_number config message (d ∷ ds) h =
     ap (λ (p : GuidPrefix). due_to d.peer (message p) ∷ map (λ (to : ℕ). due_to to (message (prefix_of config to))) (map (λ (e : Destination). e.peer) ds)) h.0
     ∙ ap (λ (dues : List Due). due_to d.peer (message d.prefix) ∷ dues) (by_number config message ds h.1)
 
+-- those of a writer are so
+pub all_named : (config : Config) (topic : ℕ) (ds : List Destination) → ds ≡ destinations topic 1 config.peers → AreNamed config ds
+all_named config topic ds is =
+    named_each config ds
+    (λ j d at.
+    let p = is_peer config.peers topic j d (subst (λ (xs : List Destination). slice_get xs j ≡ Some d) is at) in
+    numbered_prefix config.peers d.peer p.peer p.at ∙ p.prefix)
+
 -- the writer of this number, by its configuration
-record IsNamed (config : Config) (peer : ℕ) (prefix : GuidPrefix) (number : ℕ) (k : WriterKept) (w : Writer) : Type 0 where
-  own : prefix_of config peer ≡ prefix
-  entity : writer_entity config peer number ≡ k.entity
-  topic : ℕ
-  sent_to : k.destinations ≡ destinations topic 1 config.peers
-  readers : map (λ (p : ReaderProxy). p.reader) w.readers ≡ reader_ends topic config.peers
+pub record IsNamed (config : Config) (peer : ℕ) (prefix : GuidPrefix) (number : ℕ) (k : WriterKept) (w : Writer) : Type 0 where
+  pub own : prefix_of config peer ≡ prefix
+  pub entity : writer_entity config peer number ≡ k.entity
+  pub topic : ℕ
+  pub sent_to : k.destinations ≡ destinations topic 1 config.peers
+  pub readers : map (λ (p : ReaderProxy). p.reader) w.readers ≡ reader_ends topic config.peers
+
+-- the same of another value of that identity
+pub named_again : (config : Config) (peer : ℕ) (prefix : GuidPrefix) (number : ℕ) (k k' : WriterKept) (w : Writer) → writer_identity k' ≡ writer_identity k → IsNamed config peer prefix number k w → IsNamed config peer prefix number k' w
+named_again config peer prefix number k k' w same is = record {
+  own = is.own;
+  entity = is.entity ∙ ap (λ (x : WriterIdentity). x.entity) (sym same);
+  topic = is.topic;
+  sent_to = ap (λ (x : WriterIdentity). x.destinations) same ∙ is.sent_to;
+  readers = is.readers;
+}
 
 beats_due_of : (config : Config) (peer : ℕ) (prefix : GuidPrefix) (number : ℕ) (k : WriterKept) (w : Writer) → IsNamed config peer prefix number k w → beats_of prefix k w ≡ heartbeats_of config peer number w
 beats_due_of config peer prefix number k w is =
     let message = λ (to : GuidPrefix). heartbeat_message (prefix_of config peer) to (writer_entity config peer number) w in
     let passed = peers_passed is.topic config.peers w.readers k.destinations (λ (p : ReaderProxy). nat_le p.acknowledged (length (writer_changes w))) is.readers is.sent_to in
-    let named : AreNamed config k.destinations =
-    named_each config k.destinations
-    (λ j d at.
-    let p = is_peer config.peers is.topic j d (subst (λ (ds : List Destination). slice_get ds j ≡ Some d) is.sent_to at) in
-    numbered_prefix config.peers d.peer p.peer p.at ∙ p.prefix) in
+    let named = all_named config is.topic k.destinations is.sent_to in
     let all : map (λ (to : ℕ). due_to to (message (prefix_of config to))) (peers_of (readers_behind w)) ≡ map (λ (d : Destination). due_to d.peer (heartbeat_message prefix d.prefix k.entity w)) (peers_behind w k.destinations) =
     ap (λ (ns : List ℕ). map (λ (to : ℕ). due_to to (message (prefix_of config to))) ns) passed
     ∙ (by_number config message (peers_behind w k.destinations) (named_filtered config _ k.destinations named)
@@ -140,7 +154,7 @@ readers_configured : (config : Config) (k : WriterKept) (w : Writer) (answered :
 readers_configured config k w answered end s is =
     s.readers ∙ (ap (λ (x : WriterIdentity). map (λ (n : ReaderName). n.reader) x.readers) is ∙ ends_of_names end.topic config.peers)
 
-named : (config : Config) (peer : Peer) (kept : CoreKept) (s : StandsFor kept config peer) (j : ℕ) (k : WriterKept) → slice_get kept.writers j ≡ Some k
+pub named : (config : Config) (peer : Peer) (kept : CoreKept) (s : StandsFor kept config peer) (j : ℕ) (k : WriterKept) → slice_get kept.writers j ≡ Some k
     → IsNamed config peer.number kept.prefix (1 + j) k (get_or peer.part.rtps.writers j no_writer)
 named config peer kept s j k at =
     let c = configured config peer kept s j k at in

@@ -2,6 +2,7 @@ pub mod Announcing
 pub mod Beating
 pub mod BeatsDue
 pub mod CallSteps
+pub mod ChangesDue
 pub mod Destinations
 pub mod Ends
 pub mod Identities

@@ -25,6 +25,7 @@ use Rattle.dds_model.specs.Part.{Writer, ReaderProxy, no_writer, own_writer, his
 use Rattle.dds_model.specs.Calls.{with_written, change_made, change_refusal}
 use Rattle.dds_model.specs.Claims.{IsWriter}
 use Rattle.dds_model.specs.Peer.{Peer}
+use Rattle.dds_model.specs.Protocol.{AreSent, changes_due}
 use Rattle.dds_model.proofs.OwnGuids.{one_writer}
 use Rattle.dds_core.specs.declared.matching.Destination.{Destination}
 use Rattle.dds_core.specs.declared.sending.Sender.{Sender}
@@ -33,6 +34,8 @@ use Rattle.dds_core.specs.Making.{IsMade, IsNotMade, IsValueOf, entered}
 use Rattle.dds_core.specs.Sending.{AreAnnouncements, AnnounceCopy, AnnouncesAll, SendsChange}
 use Rattle.dds_core.specs.Standing.{WriterStands, StandsFor, Enters}
 use Rattle.dds_core.specs.declared.matching.ReaderName.{ReaderName}
+use Rattle.dds_core.proofs.BeatsDue.{IsNamed, named, named_again}
+use Rattle.dds_core.proofs.ChangesDue.{change_sent}
 use Rattle.dds_core.proofs.Destinations.{ends_of_names, reader_ends}
 use Rattle.dds_core.proofs.Ends.{with_writer, own_writer_stepped}
 use Rattle.dds_core.proofs.Tellable.{tellable_entered}
@@ -119,8 +122,12 @@ made_there old i k k' kind key value number content output config peer s at ente
     let matched : IsMatched config own.end.topic w.readers k'.destinations =
     record { names = names; sent_to = ap (λ (x : WriterIdentity). x.destinations) own.is } in
     let means : change_in (content_of change) old.moment ≡ change = change_in-content_of change valued in
+    let index : 1 + i ≡ suc i = omega arith in
+    let named' : IsNamed config peer.number old.prefix (suc i) k' w = named_again config peer.number old.prefix (suc i) k k' w enters.same (subst (λ (n : ℕ). IsNamed config peer.number old.prefix n k w) index (named config peer old s i k at)) in
+    let due : AreSent (changes_due config endpoint w.readers number change) output.packets output.unsent = change_sent config peer.number old.prefix (suc i) number k' w change output.packets output.unsent named' are counted in
     let sends : SendsChange config endpoint w.readers number (change_in (content_of change) old.moment) output =
-    sends_change config sender endpoint own.end.topic w.readers k'.destinations number (content_of change) output (record { from = own.from; same_topic = own.same_topic }) matched s.early are counted in
+    sends_change config sender endpoint own.end.topic w.readers k'.destinations number (content_of change) output (record { from = own.from; same_topic = own.same_topic }) matched s.early are counted
+    (subst (λ (x : Change). AreSent (changes_due config endpoint w.readers number x) output.packets output.unsent) (sym means) due) in
     let only : IsOnly config sender endpoint = λ e name. one_writer config old.prefix k'.entity e endpoint s.is_peer.checked name own.from in
     let count = s.writers.count in
     let within : i < length peer.part.rtps.writers = let lt = get-within old.writers i k at in omega (arith, lt, count) in

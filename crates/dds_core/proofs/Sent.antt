@@ -29,6 +29,7 @@ use Rattle.dds_model.specs.declared.event.Output.{Output}
 use Rattle.dds_model.specs.Part.{Part, ReaderProxy, own_writer, writer_changes}
 use Rattle.dds_model.specs.Claims.{Claim, ChangeIs, MayPass, PlaceReached, Asserts, Receiver, receiver_of, every_peer, every_reader, is_for, stamp_of, after_submessage, StandsAt, IsWriter, IsReader, IsToReader, Says, Claims}
 use Rattle.dds_model.specs.Peer.{IsTrueAt}
+use Rattle.dds_model.specs.Protocol.{AreSent, changes_due}
 use Rattle.dds_core.specs.declared.matching.Destination.{Destination}
 use Rattle.dds_core.specs.declared.sending.Sender.{Sender}
 use Rattle.dds_core.specs.Matching.{has_reader, destinations}
@@ -244,12 +245,13 @@ pub record IsMatched (config : Config) (topic : ℕ) (rows : List ReaderProxy) (
 
 pub sends_change : (config : Config) (sender : Sender) (own : Endpoint) (topic : ℕ) (rows : List ReaderProxy) (ds : List Destination) (number : ℕ) (content : DataContent) (output : Output) → IsSender config sender own topic → IsMatched config topic rows ds
     → sender.moment < 2 ^ 63 → AreAnnouncements sender number content ds output.packets → length output.packets + output.unsent ≡ length ds
-    → SendsChange config own rows number (change_in content sender.moment) output
-sends_change config sender own topic rows ds number content output from matched early are counted =
+    → AreSent (changes_due config own rows number (change_in content sender.moment)) output.packets output.unsent → SendsChange config own rows number (change_in content sender.moment) output
+sends_change config sender own topic rows ds number content output from matched early are counted are_sent =
     let peers = sends_to topic config.peers rows ds matched.names matched.sent_to in
     let ordered : AreFrom 1 ds = subst (λ (xs : List Destination). AreFrom 1 xs) (sym matched.sent_to) (all_from topic 1 config.peers) in
     record {
       counted = counted ∙ (sym (length-map ds (λ (d : Destination). d.peer)) ∙ ap (λ (ns : List ℕ). length ns) (sym peers));
+      are_sent = are_sent;
       to_peers = λ packet among.
           let t = target sender number content ds output.packets are packet among in
           subst (λ (ns : List ℕ). Contains ns packet.to) (sym peers) (subst (λ (n : ℕ). Contains (map (λ (x : Destination). x.peer) ds) n) (sym t.is.to_is) (contains_map ds t.index t.to t.at));

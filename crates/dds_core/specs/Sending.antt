@@ -23,7 +23,7 @@ use Rattle.dds_model.specs.Peer.{Peer}
 use Rattle.dds_model.specs.Part.{peers_of}
 use Rattle.dds_model.specs.declared.reply.Reply.{Reply}
 use Rattle.dds_model.specs.declared.reply.Reply.TheVariants.{Done}
-use Rattle.dds_model.specs.Protocol.{Due, AreSent, heartbeats_due}
+use Rattle.dds_model.specs.Protocol.{Due, AreSent, changes_due, heartbeats_due}
 use Rattle.dds_core.specs.declared.matching.Destination.{Destination}
 use Rattle.dds_core.specs.declared.sending.Sender.{Sender}
 use Rattle.dds_core.specs.Kept.{CoreKept, WriterKept}
@@ -34,10 +34,11 @@ pub record SendsNothing (output : Output) : Type 0 where
   pub packets : output.packets ≡ []
   pub unsent : output.unsent ≡ 0
 
--- A change of a writer is announced: each peer with a matched reader gets one packet, in which the change is for each such
--- reader, or the packet is counted as unsent.
+-- A change of a writer is announced: each peer with a matched reader gets one packet, in its one written form, in which the
+-- change is for each such reader, or the packet is counted as unsent.
 pub record SendsChange (config : Config) (writer : Endpoint) (readers : List ReaderProxy) (number : ℕ) (change : Change) (output : Output) : Type 0 where
   pub counted : length output.packets + output.unsent ≡ length (peers_of readers)
+  pub are_sent : AreSent (changes_due config writer readers number change) output.packets output.unsent
   pub to_peers : (packet : Packet) → Contains output.packets packet → Contains (peers_of readers) packet.to
   pub says : (packet : Packet) (reader : Endpoint) → Contains output.packets packet → reader.peer ≡ packet.to → IsSome (acknowledged_of readers reader) → Claims config packet.bytes (ChangeIs writer reader number change)
   pub different : AllPairs (λ (a b : Packet). a.to ≢ b.to) output.packets

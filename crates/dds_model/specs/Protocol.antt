@@ -248,6 +248,14 @@ TakesPacket config peer bytes old report dues new =
 abbrev pub writer_entity : Config → ℕ → ℕ → EntityId
 writer_entity config peer number = option_map_or (λ (p : PeerConfig). option_map_or (λ (w : WriterConfig). w.entity) (slice_get p.writers (number - 1)) every_reader) (slice_get config.peers (peer - 1)) every_reader
 
+-- a change is announced at once to each peer with a matched reader, for all of its readers
+abbrev pub change_message : (own to : GuidPrefix) (writer : EntityId) → ℕ → Change → Message
+change_message own to writer number change = record { prefix = own; submessages = InfoDst to ∷ data_of every_reader writer number (Some change) }
+
+abbrev pub changes_due : Config → Endpoint → List ReaderProxy → ℕ → Change → List Due
+changes_due config writer readers number change =
+    map (λ to. record { to = to; message = change_message (prefix_of config writer.peer) (prefix_of config to) (writer_entity config writer.peer writer.number) number change }) (peers_of readers)
+
 -- the matched readers that have not acknowledged all changes of a writer
 abbrev pub readers_behind : Writer → List ReaderProxy
 readers_behind w = filter (λ (p : ReaderProxy). nat_le p.acknowledged (length (writer_changes w))) w.readers

@@ -13,7 +13,7 @@ use Rattle.dds_model.specs.Part.{ReaderProxy, peers_of, acknowledged_of, writer_
 use Rattle.dds_model.specs.Calls.{Effect, writes, effect_of}
 use Rattle.dds_model.specs.Claims.{ChangeIs, Claims}
 use Rattle.dds_model.specs.Machine.{Machine, AllTests, part_at, writer_at, Step}
-use Rattle.dds_model.specs.Protocol.{Due, AreSent, heartbeats_due}
+use Rattle.dds_model.specs.Protocol.{Due, AreSent, changes_due, heartbeats_due}
 use Rattle.dds_model.specs.Progress.{Progresses}
 
 -- the packets that were sent, and how many found no memory, which stays at its greatest value
@@ -21,8 +21,8 @@ pub record Traffic : Type 0 where
   pub sent : List Packet
   pub unsent : ℕ
 
--- A change of a writer is announced: each peer with a matched reader is sent one packet, in which the change is for each
--- such reader, or the packet is counted as unsent.
+-- A change of a writer is announced: each peer with a matched reader is sent one packet, in its one written form, in which
+-- the change is for each such reader, or the packet is counted as unsent.
 pub record Announced (config : Config) (old : Traffic) (writer : Endpoint) (readers : List ReaderProxy) (number : ℕ) (change : Change) (new : Traffic) : Type 0 where
   pub packets : List Packet
   pub sent : new.sent ≡ old.sent ++ packets
@@ -31,6 +31,7 @@ pub record Announced (config : Config) (old : Traffic) (writer : Endpoint) (read
   pub different : AllPairs (λ (a b : Packet). a.to ≢ b.to) packets
   pub lost : ℕ
   pub counted : length packets + lost ≡ length (peers_of readers)
+  pub are_sent : AreSent (changes_due config writer readers number change) packets lost
   pub unsent : new.unsent ≡ min (old.unsent + lost) (2 ^ 64 - 1)
 
 -- what a call with this effect sends: a change is announced, with the next number; else nothing is sent

@@ -17,7 +17,7 @@ use Rattle.dds_model.specs.Part.{Part, ReaderProxy, own_writer, writer_changes}
 use Rattle.dds_model.specs.Calls.{Effect, nothing, writes, effect_of}
 use Rattle.dds_model.specs.Machine.{part_at}
 use Rattle.dds_model.specs.Peer.{Peer, no_peer}
-use Rattle.dds_model.specs.Protocol.{Due, AreSent, heartbeats_due}
+use Rattle.dds_model.specs.Protocol.{Due, AreSent, changes_due, heartbeats_due}
 use Rattle.dds_model.specs.Runs.{Traffic, Announced, Sends, SendsDues, SendsOf}
 use Rattle.dds_model.specs.Part.{peers_of}
 use Rattle.dds_model.specs.World.{WorldState, machine_of}
@@ -35,21 +35,48 @@ lost_in_all posted packets lost unsent total a b = omega (arith, a, b)
 unsent_in_all : (old unsent lost new : ℕ) → new ≡ min (old + unsent + lost) (2 ^ 64 - 1) → new ≡ min (old + (unsent + lost)) (2 ^ 64 - 1)
 unsent_in_all old unsent lost new is = let same : old + unsent + lost ≡ old + (unsent + lost) = omega arith in is ∙ ap (λ (n : ℕ). min n (2 ^ 64 - 1)) same
 
+-- of what a peer sends, some is sent in the network
+posted_on : (dues : List Due) (packets posted : List Packet) (unsent lost : ℕ) → AreSent dues packets unsent → ArePosted packets posted lost → AreSent dues posted (unsent + lost)
+posted_on [] packets posted unsent lost h p =
+    let none : ArePosted [] posted lost = subst (λ (ps : List Packet). ArePosted ps posted lost) h.0 p in
+    let first = h.1 in
+    let second = none.1 in
+    (none.0, omega (arith, first, second))
+posted_on (due ∷ dues) packets posted unsent lost (inl f) p =
+    ⊎_elim (λ k. inl (k.0, k.1, posted_on dues f.0 k.0 unsent lost f.2 k.2)) (λ k. let fewer = k.1 in inr (unsent + k.0, omega (arith, fewer), posted_on dues f.0 posted unsent k.0 f.2 k.2))
+    (subst (λ (ps : List Packet). ArePosted ps posted lost) f.1 p)
+posted_on (due ∷ dues) packets posted unsent lost (inr g) p = let fewer = g.1 in inr (g.0 + lost, omega (arith, fewer), posted_on dues packets posted g.0 lost g.2 p)
+
+posted_count : (packets posted : List Packet) (lost : ℕ) → ArePosted packets posted lost → length posted + lost ≡ length packets
+posted_count [] posted lost h = let first = ap (λ (ps : List Packet). length ps) h.0 in let second = h.1 in omega (arith, first, second)
+posted_count (p ∷ ps) posted lost (inl f) = let first = ap (λ (xs : List Packet). length xs) f.1 in let later = posted_count ps f.0 lost f.2 in omega (arith, first, later)
+posted_count (p ∷ ps) posted lost (inr g) = let fewer = g.1 in let later = posted_count ps posted g.0 g.2 in omega (arith, fewer, later)
+
+-- of what is lost on the way all is counted
+lost_is : (kept new : WorldKept) (output : Output) (posts : Posts kept.sent output.packets new.sent) (counts : Counts kept output new) → new.unsent ≡ min (kept.unsent + (output.unsent + posts.lost)) (2 ^ 64 - 1)
+lost_is kept new output posts counts =
+    let count = ap (λ (ps : List Packet). length ps) posts.sent in
+    let total = length-append kept.sent posts.posted in
+    let parts = posted_count output.packets posts.posted posts.lost posts.are_posted in
+    let all = counts.1 in
+    let same : counts.0 ≡ posts.lost = omega (arith, count, total, parts, all) in
+    unsent_in_all kept.unsent output.unsent posts.lost new.unsent (counts.2 ∙ ap (λ (n : ℕ). min (kept.unsent + output.unsent + n) (2 ^ 64 - 1)) same)
+
 -- a change that a peer announces is announced in the network
 announced : (kept new : WorldKept) (config : Config) (writer : Endpoint) (readers : List ReaderProxy) (number : ℕ) (change : Change) (output : Output) → Posts kept.sent output.packets new.sent → Counts kept output new
     → SendsChange config writer readers number change output → Announced config (traffic kept) writer readers number change (traffic new)
 announced kept new config writer readers number change output posts counts one =
-    let count = ap (λ (ps : List Packet). length ps) posts.sent in
-    let total = length-append kept.sent posts.posted in
+    let parts = posted_count output.packets posts.posted posts.lost posts.are_posted in
     record {
       packets = posts.posted;
       sent = posts.sent;
       to_peers = λ packet m. one.to_peers packet (posts.of_packets packet m);
       says = λ packet reader m same matched. one.says packet reader (posts.of_packets packet m) same matched;
       different = posts.different one.different;
-      lost = output.unsent + counts.0;
-      counted = lost_in_all (length posts.posted) (length output.packets) counts.0 output.unsent (length (peers_of readers)) (let c = counts.1 in omega (arith, c, count, total)) one.counted;
-      unsent = unsent_in_all kept.unsent output.unsent counts.0 new.unsent counts.2;
+      lost = output.unsent + posts.lost;
+      counted = lost_in_all (length posts.posted) (length output.packets) posts.lost output.unsent (length (peers_of readers)) parts one.counted;
+      are_sent = posted_on (changes_due config writer readers number change) output.packets posts.posted output.unsent posts.lost one.are_sent posts.are_posted;
+      unsent = lost_is kept new output posts counts;
     }
 
 traffic_as : (a b : List Packet) (m n : ℕ) → a ≡ b → m ≡ n → ◌≡◌ {A = Traffic} (record { sent = a; unsent = m }) (record { sent = b; unsent = n })
@@ -113,38 +140,15 @@ called_sends kept new i peer c reply is a = subst (λ (n : ℕ). Announces kept 
 
 -- a tick sends what is due
 
--- of what a peer sends, some is sent in the network
-posted_on : (dues : List Due) (packets posted : List Packet) (unsent lost : ℕ) → AreSent dues packets unsent → ArePosted packets posted lost → AreSent dues posted (unsent + lost)
-posted_on [] packets posted unsent lost h p =
-    let none : ArePosted [] posted lost = subst (λ (ps : List Packet). ArePosted ps posted lost) h.0 p in
-    let first = h.1 in
-    let second = none.1 in
-    (none.0, omega (arith, first, second))
-posted_on (due ∷ dues) packets posted unsent lost (inl f) p =
-    ⊎_elim (λ k. inl (k.0, k.1, posted_on dues f.0 k.0 unsent lost f.2 k.2)) (λ k. let fewer = k.1 in inr (unsent + k.0, omega (arith, fewer), posted_on dues f.0 posted unsent k.0 f.2 k.2))
-    (subst (λ (ps : List Packet). ArePosted ps posted lost) f.1 p)
-posted_on (due ∷ dues) packets posted unsent lost (inr g) p = let fewer = g.1 in inr (g.0 + lost, omega (arith, fewer), posted_on dues packets posted g.0 lost g.2 p)
-
-posted_count : (packets posted : List Packet) (lost : ℕ) → ArePosted packets posted lost → length posted + lost ≡ length packets
-posted_count [] posted lost h = let first = ap (λ (ps : List Packet). length ps) h.0 in let second = h.1 in omega (arith, first, second)
-posted_count (p ∷ ps) posted lost (inl f) = let first = ap (λ (xs : List Packet). length xs) f.1 in let later = posted_count ps f.0 lost f.2 in omega (arith, first, later)
-posted_count (p ∷ ps) posted lost (inr g) = let fewer = g.1 in let later = posted_count ps posted g.0 g.2 in omega (arith, fewer, later)
-
 -- so it is of the dues of a peer
 pub dues_sent : (kept new : WorldKept) (dues : List Due) (output : Output) → Posts kept.sent output.packets new.sent → Counts kept output new → AreSent dues output.packets output.unsent → SendsDues dues (traffic kept) (traffic new)
-dues_sent kept new dues output posts counts are =
-    let count = ap (λ (ps : List Packet). length ps) posts.sent in
-    let total = length-append kept.sent posts.posted in
-    let parts = posted_count output.packets posts.posted posts.lost posts.are_posted in
-    let all = counts.1 in
-    let same : counts.0 ≡ posts.lost = omega (arith, count, total, parts, all) in
-    record {
-      packets = posts.posted;
-      sent = posts.sent;
-      lost = output.unsent + posts.lost;
-      are_sent = posted_on dues output.packets posts.posted output.unsent posts.lost are posts.are_posted;
-      unsent = unsent_in_all kept.unsent output.unsent posts.lost new.unsent (counts.2 ∙ ap (λ (n : ℕ). min (kept.unsent + output.unsent + n) (2 ^ 64 - 1)) same);
-    }
+dues_sent kept new dues output posts counts are = record {
+  packets = posts.posted;
+  sent = posts.sent;
+  lost = output.unsent + posts.lost;
+  are_sent = posted_on dues output.packets posts.posted output.unsent posts.lost are posts.are_posted;
+  unsent = lost_is kept new output posts counts;
+}
 
 -- what a tick of a peer of this number and this part sends, by its reply
 abbrev TicksAt : Config → Traffic → ℕ → Part → Reply → Traffic → Type 0
