@@ -9,8 +9,6 @@
 mod sink;
 mod stateful_reader;
 mod step;
-#[cfg(test)]
-mod tests;
 mod writer_proxy;
 
 pub use sink::Sink;
