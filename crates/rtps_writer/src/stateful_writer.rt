@@ -383,14 +383,7 @@ impl StatefulWriter {
         ensures memory { IfErr result (λ code. code ≡ Memory) }
     {
         let mut room = Vec::new(self.alloc);
-        if self.applies(reader, base, count) {
-            room.reserve(set.bits())?;
-            Ok(self.apply(reader, base, set, count, room))
-        } else {
-            Ok(Answered {
-                acknowledged: None,
-                answers: room,
-            })
-        }
+        room.reserve(set.bits())?;
+        Ok(self.take_acknack(reader, base, set, count, room))
     }
 }

@@ -1,34 +1,22 @@
-use Rattle.std.proofs.Common.{ℤ, true, false, ap, sym, ◌∙◌, subst, w32}
+use Rattle.std.proofs.Common.{ℤ, ap, ◌∙◌, subst, w32}
 use Rattle.std.proofs.lemmas.Int.{to_z-of_z}
-use Rattle.rtps_writer.specs.Acknack.{acknack_answers, after_acknack, is_applied, newly_acknowledged}
+use Rattle.rtps_writer.specs.Acknack.{acknack_answers, after_acknack, newly_acknowledged}
 use Rattle.rtps_writer.specs.Standing.{StandsFor}
-use Rattle.rtps_writer.proofs.AcknackLaws.{answers-applied, answers-ignored, newly-applied, stands-applied}
 use Rattle.rtps_writer.proofs.stateful_writer.StatefulWriter.on_acknack.Goals as goal
 
-pub returns-in_ok-reserve-clause-stands : goal.returns-in_ok-reserve-clause-stands
-returns-in_ok-reserve-clause-stands c = λ s given.
-    subst (λ (z : ℤ). StandsFor c.apply.new.self (after_acknack s c.args.reader c.args.base z))
-    (to_z-of_z w32 c.args.count c.ranges.count)
-    (stands-applied _ s c.args.reader c.args.base _ (sym (c.applies.ensures s given) ∙ c.if-applies.true)
-    (c.apply.ensures.stands s given))
+pub returns-clause-stands : goal.returns-clause-stands
+returns-clause-stands c = λ s given.
+    subst (λ (z : ℤ). StandsFor c.take_acknack.new.self (after_acknack s c.args.reader c.args.base z))
+    (to_z-of_z w32 c.args.count c.ranges.count) (c.take_acknack.ensures.stands s given)
 
-pub returns-in_ok-reserve-clause-acknowledged : goal.returns-in_ok-reserve-clause-acknowledged
-returns-in_ok-reserve-clause-acknowledged c = λ s given.
-    newly-applied s c.args.reader c.args.base _ _ (sym (c.applies.ensures s given) ∙ c.if-applies.true)
-    (c.apply.ensures.acknowledged s given)
+pub returns-clause-acknowledged : goal.returns-clause-acknowledged
+returns-clause-acknowledged c = λ s given.
+    c.take_acknack.ensures.acknowledged s given
     ∙ ap (λ (z : ℤ). newly_acknowledged s (after_acknack s c.args.reader c.args.base z) c.args.reader)
     (to_z-of_z w32 c.args.count c.ranges.count)
 
-pub returns-in_ok-reserve-clause-answers : goal.returns-in_ok-reserve-clause-answers
-returns-in_ok-reserve-clause-answers c = λ s given.
-    answers-applied s c.args.reader c.args.base c.args.set.now _ _
-    (sym (c.applies.ensures s given) ∙ c.if-applies.true) (c.apply.ensures.answers s given)
+pub returns-clause-answers : goal.returns-clause-answers
+returns-clause-answers c = λ s given.
+    c.take_acknack.ensures.answers s given
     ∙ ap (λ (z : ℤ). acknack_answers s c.args.reader c.args.base c.args.set.now z)
     (to_z-of_z w32 c.args.count c.ranges.count)
-
-pub returns-else-applies-clause-answers : goal.returns-else-applies-clause-answers
-returns-else-applies-clause-answers c = λ s given.
-    c.new-room.ensures.items
-    ∙ sym (answers-ignored s c.args.reader c.args.base c.args.set.now c.args.count
-    (ap (λ (z : ℤ). is_applied s c.args.reader c.args.base z) (sym (to_z-of_z w32 c.args.count c.ranges.count))
-    ∙ (sym (c.applies.ensures s given) ∙ c.if-applies.false)))
