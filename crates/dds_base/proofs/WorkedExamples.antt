@@ -1,6 +1,7 @@
 -- What the definitions of a reader give on small lists of what happened, computed.
 use Rattle.std.proofs.Common.{◌≡◌, ℕ, List, [], ◌∷◌, Bool, true, false, refl, Some, None, map, Option}
-use Rattle.std.specs.Prelude.{pos}
+use Rattle.std.specs.Prelude.{pos, negsuc}
+use Rattle.dds_base.specs.declared.code.Code.TheVariants.{BadParameter}
 use Rattle.dds_base.specs.declared.key.Key.{Key}
 use Rattle.dds_base.specs.declared.change.ChangeKind.{ChangeKind}
 use Rattle.dds_base.specs.declared.change.ChangeKind.TheVariants.{Write, Dispose, Unregister, DisposeUnregister}
@@ -20,8 +21,11 @@ use Rattle.dds_base.specs.declared.qos.ReaderQos.{ReaderQos}
 use Rattle.dds_base.specs.declared.qos.MatchedWriter.{MatchedWriter}
 use Rattle.dds_base.specs.declared.qos.OwnershipQos.TheVariants.{Shared, Exclusive}
 use Rattle.dds_base.specs.declared.qos.HistoryQos.TheVariants.{KeepAll, KeepLast}
+use Rattle.dds_base.specs.declared.selection.Selection.{Selection}
+use Rattle.dds_base.specs.declared.selection.Selection.TheVariants as selection
 use Rattle.dds_base.specs.Presence.{has_room}
 use Rattle.dds_base.specs.Access.{picked_samples, no_filter, collection_of}
+use Rattle.dds_base.specs.Selection.{picked_by, selection_refusal}
 
 abbrev key : Key
 key = record { 0 = 1 ∷ 0 ∷ [] }
@@ -137,3 +141,60 @@ has_room-full = refl
 
 has_room-taken : has_room limited (Took (picked limited one_write None any) ∷ one_write) (came 1 2 Write (2 ∷ [])) ≡ true
 has_room-taken = refl
+
+-- two instances, with a write each
+abbrev two_instances : List Happening
+two_instances = Came (record { writer = 1; number = 2; change = record { kind = Write; key = record { 0 = 2 ∷ 0 ∷ [] }; value = 2 ∷ []; source_timestamp = 0 }; moment = 0 }) ∷ one_write
+
+-- all samples that meet the masks, of an instance and of the next one
+abbrev of_instance : ℕ → Selection
+of_instance handle = selection.Instance handle (negsuc 0) any
+
+abbrev after_instance : ℕ → Selection
+after_instance previous = selection.NextInstance previous (negsuc 0) any
+
+abbrev chosen : List Happening → Selection → List SamplePosition
+chosen h s = picked_by shared h s no_filter
+
+-- the positions of what an access picks
+abbrev positions : List Happening → Selection → List ℕ
+positions h s = map (λ (p : SamplePosition). p.position) (chosen h s)
+
+pick-instance : positions two_instances (of_instance 2) ≡ 2 ∷ []
+pick-instance = refl
+
+pick-next : positions two_instances (after_instance 1) ≡ 2 ∷ []
+pick-next = refl
+
+pick-next_of_none : positions two_instances (after_instance 0) ≡ 1 ∷ []
+pick-next_of_none = refl
+
+pick-next_of_last : positions two_instances (after_instance 2) ≡ []
+pick-next_of_last = refl
+
+-- an instance without a match is passed over, and the form of one instance finds nothing
+pick-next_without_match : positions (Took (chosen two_instances (of_instance 1)) ∷ two_instances) (after_instance 0) ≡ 2 ∷ []
+pick-next_without_match = refl
+
+pick-instance_without_match : positions (Took (chosen two_instances (of_instance 1)) ∷ two_instances) (of_instance 1) ≡ []
+pick-instance_without_match = refl
+
+-- the next sample is the first one that was not read
+pick-next_sample : positions (Read (chosen two_instances selection.NextSample) ∷ two_instances) selection.NextSample ≡ 2 ∷ []
+pick-next_sample = refl
+
+-- an instance has to be known, the one before the next need not be; a max is -1 or positive
+refuse-unknown : selection_refusal shared two_instances (of_instance 3) ≡ Some BadParameter
+refuse-unknown = refl
+
+refuse-nil : selection_refusal shared two_instances (of_instance 0) ≡ Some BadParameter
+refuse-nil = refl
+
+refuse-none : selection_refusal shared two_instances (selection.Any (pos 0) any) ≡ Some BadParameter
+refuse-none = refl
+
+take-known : selection_refusal shared two_instances (of_instance 2) ≡ None
+take-known = refl
+
+take-any_previous : selection_refusal shared two_instances (after_instance 12) ≡ None
+take-any_previous = refl

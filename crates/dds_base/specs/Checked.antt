@@ -52,6 +52,11 @@ is_maximum (pos (suc n)) = true
 is_maximum (negsuc zero) = true
 is_maximum (negsuc (suc n)) = false
 
+-- the limit of a maximum: LENGTH_UNLIMITED is none (DDS 1.4, 2.2.3, RESOURCE_LIMITS; 2.2.2.5, max_samples)
+abbrev pub limit_of : ℤ → Option ℕ
+limit_of (pos n) = Some n
+limit_of (negsuc n) = None
+
 -- a lease of 0, or of 2^63 units and more (DDS 1.4, 2.2.3, LIVELINESS)
 abbrev pub is_bad_lease : Option ℕ → Bool
 is_bad_lease None = false

@@ -16,3 +16,4 @@ pub mod Checked
 pub mod Faults
 pub mod FaultAt
 pub mod Places
+pub mod Selection

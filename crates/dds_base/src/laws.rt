@@ -1,7 +1,7 @@
 //! What holds of the definitions and the constants: functions that do nothing, and whose clauses are the laws.
 
 ghost use Rattle.std.specs.Prelude.{◌≡◌, ◌≢◌, ◌↔◌, ◌≤◌, ◌+◌, ℕ, List, [], ◌∷◌, IsTrue, IsSome, Some, None, length, replicate, true};
-ghost use Rattle.dds_base.specs.Access.{sample_state_bit, view_state_bit, instance_state_bit, meets, instance_of};
+ghost use Rattle.dds_base.specs.Access.{sample_state_bit, view_state_bit, instance_state_bit, meets, instance_of, not_read};
 ghost use Rattle.dds_base.specs.Checked.{unknown_prefix};
 ghost use Rattle.dds_base.specs.DatumText.{ReadsDatum, ReadsKey, IsDatum, spelling_of_datum, spelling_of_key};
 ghost use Rattle.dds_base.specs.Instance.{instance_state_of};
@@ -61,7 +61,8 @@ pub fn nil_is_no_handle() -> Handle
     Handle::NIL
 }
 
-/// The bits of the constants are those of the states, and ANY asks for every state (DDS 1.4, 2.3.3).
+/// The bits of the constants are those of the states, and ANY asks for every state, and NOT_READ for what the
+/// next-sample forms look for (DDS 1.4, 2.3.3, 2.2.2.5).
 pub fn masks_ask_for_their_states()
     ensures read { SampleStateMask.READ.0 ≡ sample_state_bit HasBeenRead }
     ensures not_read { SampleStateMask.NOT_READ.0 ≡ sample_state_bit NotRead }
@@ -84,4 +85,5 @@ pub fn masks_ask_for_their_states()
     } }
     ensures every_sample { (q : ReaderQos) (h : List Happening) (s : SamplePosition)
         → IsSome (instance_state_of q s.key h) → meets q h Masks.ANY s ≡ true }
+    ensures not_read_of_any { Masks.NOT_READ ≡ not_read }
 {}

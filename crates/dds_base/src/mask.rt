@@ -135,4 +135,11 @@ impl Masks {
         views: ViewStateMask::ANY,
         instances: InstanceStateMask::ANY,
     };
+
+    /// Samples that were not read before, of any instance.
+    pub const NOT_READ: Masks = Masks {
+        samples: SampleStateMask::NOT_READ,
+        views: ViewStateMask::ANY,
+        instances: InstanceStateMask::ANY,
+    };
 }
