@@ -7,7 +7,7 @@ use bitflags::{Flag, Flags, bitflag_items};
 /// The sample states that an access asks for.
 ///
 /// DDS 1.4, 2.2.2.5 (SampleStateMask), 2.3.3 (READ_SAMPLE_STATE and kin). Bits without a meaning are kept and ask for nothing.
-#[derive(Clone, Copy, Debug)]
+#[derive(Clone, Copy, Debug, PartialEq, Eq)]
 pub struct SampleStateMask(u32);
 
 bitflag_items! {
@@ -43,7 +43,7 @@ impl Flags for SampleStateMask {
 /// The view states that an access asks for.
 ///
 /// DDS 1.4, 2.2.2.5 (ViewStateMask), 2.3.3 (NEW_VIEW_STATE and kin). Bits without a meaning are kept and ask for nothing.
-#[derive(Clone, Copy, Debug)]
+#[derive(Clone, Copy, Debug, PartialEq, Eq)]
 pub struct ViewStateMask(u32);
 
 bitflag_items! {
@@ -79,7 +79,7 @@ impl Flags for ViewStateMask {
 /// The instance states that an access asks for.
 ///
 /// DDS 1.4, 2.2.2.5 (InstanceStateMask), 2.3.3 (ALIVE_INSTANCE_STATE and kin). Bits without a meaning are kept and ask for nothing.
-#[derive(Clone, Copy, Debug)]
+#[derive(Clone, Copy, Debug, PartialEq, Eq)]
 pub struct InstanceStateMask(u32);
 
 bitflag_items! {
@@ -118,7 +118,7 @@ impl Flags for InstanceStateMask {
 /// three.
 ///
 /// DDS 1.4, 2.2.2.5 (read, take: sample_states, view_states, instance_states).
-#[derive(Clone, Copy, Debug)]
+#[derive(Clone, Copy, Debug, PartialEq, Eq)]
 pub struct Masks {
     /// Whether a sample was read before.
     pub samples: SampleStateMask,

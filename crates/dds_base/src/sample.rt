@@ -1,9 +1,12 @@
 //! What a read or a take says of a sample.
 
+ghost use Rattle.std.specs.Prelude.{◌≡◌};
+
 use crate::handle::Handle;
 use crate::key::Key;
 use crate::moment::Moment;
 use crate::octets::Octets;
+use std::alloc::AllocError;
 
 /// Whether a sample was read before.
 ///
@@ -99,7 +102,7 @@ pub struct Picked {
 /// A sample that a read or a take returned. One without data has an empty value.
 ///
 /// DDS 1.4, 2.2.2.5 (read, take).
-#[derive(Debug, Drop)]
+#[derive(Debug, Drop, PartialEq, Eq)]
 pub struct Sample {
     /// Its instance.
     pub key: Key,
@@ -107,4 +110,16 @@ pub struct Sample {
     pub value: Octets,
     /// What is said of it.
     pub info: SampleInfo,
+}
+
+impl Clone for Sample {
+    ghost is_clone = { λ sample copy. copy ≡ sample };
+
+    fn clone(&self) -> Result<Sample, AllocError> {
+        Ok(Sample {
+            key: self.key,
+            value: self.value.clone()?,
+            info: self.info,
+        })
+    }
 }

@@ -9,7 +9,7 @@ use crate::mask::Masks;
 /// first ones that meet the masks, by instance handle and then in the order in which their changes and deaths came.
 ///
 /// DDS 1.4, 2.2.2.5.
-#[derive(Clone, Copy, Debug)]
+#[derive(Clone, Copy, Debug, PartialEq, Eq)]
 pub enum Selection {
     /// Of any instance (read, take).
     Any {

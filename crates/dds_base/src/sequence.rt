@@ -1,7 +1,10 @@
 //! A list that contracts see as a list.
 
-ghost use Rattle.std.specs.Prelude.{◌≡◌};
+ghost use Rattle.std.specs.Prelude.{◌≡◌, IfOk};
+ghost use Rattle.std.specs.List.{AllZip};
+ghost use Rattle.std.specs.Cmp.Lexicographic.{pointwise, lists_per, lists_equiv};
 
+use std::alloc::AllocError;
 use std::marker::Model;
 
 /// A list inside a change, an entry, a reply or a configuration: IDL's `sequence<T>`.
@@ -42,4 +45,56 @@ impl<T> Sequence<T> {
         let Sequence { items } = self;
         items
     }
+}
+
+impl<T: Copy> Sequence<T> {
+    /// The same elements, once more.
+    ///
+    /// # Errors
+    ///
+    /// Where a growth was refused.
+    pub fn copied(&self) -> Result<Sequence<T>, AllocError>
+        ensures { IfOk result (λ copy. copy ≡ self.now) }
+    {
+        let items = Vec::from_slice(*self.items.allocator(), self.items.as_slice())?;
+        Ok(Sequence { items })
+    }
+}
+
+impl<T: Clone> Sequence<T> {
+    /// The same elements, once more, where a copy of an element is equal to it.
+    ///
+    /// # Errors
+    ///
+    /// Where a growth was refused.
+    pub fn cloned(&self) -> Result<Sequence<T>, AllocError>
+        requires exact { (element copy : T) → T.is_clone element copy → copy ≡ element }
+        ensures { IfOk result (λ copy. copy ≡ self.now) }
+    {
+        let items = self.items.clone()?;
+        Ok(Sequence { items })
+    }
+}
+
+impl<T: Clone> Clone for Sequence<T> {
+    ghost is_clone = { AllZip T.is_clone };
+
+    fn clone(&self) -> Result<Sequence<T>, AllocError> {
+        let items = self.items.clone()?;
+        Ok(Sequence { items })
+    }
+}
+
+impl<T: PartialEq> PartialEq for Sequence<T> {
+    ghost eq = { pointwise T.eq };
+
+    ghost laws = { lists_per T.laws };
+
+    fn eq(&self, other: &Sequence<T>) -> bool {
+        self.as_slice() == other.as_slice()
+    }
+}
+
+impl<T: Eq> Eq for Sequence<T> {
+    ghost laws = { lists_equiv T.Eq.laws };
 }

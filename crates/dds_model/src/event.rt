@@ -1,18 +1,21 @@
 //! What happens to a peer, and to a network of peers.
 
+ghost use Rattle.std.specs.Prelude.{◌≡◌};
+
 use crate::call::Call;
 use crate::reply::Reply;
 use dds_base::{Moment, Octets, Sequence};
+use std::alloc::AllocError;
 
 /// The bytes of a packet, and the number of the peer that it goes to.
-#[derive(Debug, Drop)]
+#[derive(Debug, Drop, PartialEq, Eq)]
 pub struct Packet {
     pub to: u8,
     pub bytes: Octets,
 }
 
 /// What happens to one peer.
-#[derive(Debug, Drop)]
+#[derive(Debug, Drop, PartialEq, Eq)]
 pub enum Event {
     Call(Call),
     /// The time goes on to this moment: `BadParameter` where it would go back, or to 2^63 units of 2^-32 second and
@@ -23,7 +26,7 @@ pub enum Event {
 }
 
 /// What a peer gives back: its answer, the packets that it sends, and how many it could not make for want of memory.
-#[derive(Debug, Drop)]
+#[derive(Debug, Drop, PartialEq, Eq)]
 pub struct Output {
     pub reply: Reply,
     pub packets: Sequence<Packet>,
@@ -39,4 +42,39 @@ pub enum WorldEvent {
     Tick { peer: u8, now: Moment },
     /// The packet of this number, counted from 1 among all that were ever sent, comes at a peer.
     Deliver { peer: u8, packet: u64 },
+}
+
+impl Clone for Packet {
+    ghost is_clone = { λ packet copy. copy ≡ packet };
+
+    fn clone(&self) -> Result<Packet, AllocError> {
+        let bytes = self.bytes.clone()?;
+        Ok(Packet { to: self.to, bytes })
+    }
+}
+
+impl Clone for Event {
+    ghost is_clone = { λ event copy. copy ≡ event };
+
+    fn clone(&self) -> Result<Event, AllocError> {
+        Ok(match self {
+            Event::Call(call) => Event::Call(call.clone()?),
+            Event::Tick(now) => Event::Tick(*now),
+            Event::Deliver(bytes) => Event::Deliver(bytes.clone()?),
+        })
+    }
+}
+
+impl Clone for Output {
+    ghost is_clone = { λ output copy. copy ≡ output };
+
+    fn clone(&self) -> Result<Output, AllocError> {
+        let reply = self.reply.clone()?;
+        let packets = self.packets.cloned()?;
+        Ok(Output {
+            reply,
+            packets,
+            unsent: self.unsent,
+        })
+    }
 }

@@ -1,8 +1,10 @@
 //! What holds of every network and every run.
 
+ghost use Rattle.std.specs.Prelude.{◌≡◌, ◌↔◌, IsTrue};
 ghost use Rattle.dds_model.specs.InOrder.{ChangesComeInOrder};
 ghost use Rattle.dds_model.specs.Laws.{AnswersAreTrue, AnswersCanBeWritten, Composes, ComposesRuns, HeartbeatsAreTrue, KeepAllIsKept, OpensBacked, OpensSound, OwnersExist, ReadersTellWritersApart, RulesRestOnClaims};
 
+use crate::event::Event;
 use dds_base::owner_is_found;
 
 /// All that packets claim is true at the opening of every configuration.
@@ -63,3 +65,10 @@ pub fn what_is_due_is_true()
     // What is due to a packet has a written form, whatever the packet asked for.
     ensures written { AnswersCanBeWritten }
 {}
+
+/// `==` says of two events whether they are equal.
+pub fn events_are_compared(event: &Event, other: &Event) -> bool
+    ensures { IsTrue result ↔ (event.now ≡ other.now) }
+{
+    event == other
+}

@@ -1,10 +1,13 @@
 //! What a peer answers.
 
+ghost use Rattle.std.specs.Prelude.{◌≡◌};
+
 use crate::endpoint::Endpoint;
 use dds_base::{Code, PassedRun, Sample, SampleLostStatus, Sequence, Sn};
+use std::alloc::AllocError;
 
 /// What a delivery moved.
-#[derive(Debug, Drop)]
+#[derive(Debug, Drop, PartialEq, Eq)]
 pub enum Move {
     /// The place of the peer's reader in a writer's list is now `to`: the changes before it came, but for those of the
     /// passed runs, which stand in ascending order and apart from one another.
@@ -29,18 +32,73 @@ pub enum Move {
 
 /// What a delivery did: its moves in the order in which they were made, and the index, from 0, of the submessage that
 /// found no memory, from which on none was applied.
-#[derive(Debug, Drop)]
+#[derive(Debug, Drop, PartialEq, Eq)]
 pub struct Report {
     pub moves: Sequence<Move>,
     pub refused: Option<u32>,
 }
 
 /// The answer to an event.
-#[derive(Debug, Drop)]
+#[derive(Debug, Drop, PartialEq, Eq)]
 pub enum Reply {
     Done,
     Samples(Sequence<Sample>),
     SampleLost(SampleLostStatus),
     Reported(Report),
     Refused(Code),
+}
+
+impl Clone for Move {
+    ghost is_clone = { λ made copy. copy ≡ made };
+
+    fn clone(&self) -> Result<Move, AllocError> {
+        Ok(match self {
+            Move::Place {
+                writer,
+                reader,
+                to,
+                passed,
+            } => Move::Place {
+                writer: *writer,
+                reader: *reader,
+                to: *to,
+                passed: passed.copied()?,
+            },
+            Move::Heard { writer, reader } => Move::Heard {
+                writer: *writer,
+                reader: *reader,
+            },
+            Move::Acknowledged { writer, reader, to } => Move::Acknowledged {
+                writer: *writer,
+                reader: *reader,
+                to: *to,
+            },
+        })
+    }
+}
+
+impl Clone for Report {
+    ghost is_clone = { λ report copy. copy ≡ report };
+
+    fn clone(&self) -> Result<Report, AllocError> {
+        let moves = self.moves.cloned()?;
+        Ok(Report {
+            moves,
+            refused: self.refused,
+        })
+    }
+}
+
+impl Clone for Reply {
+    ghost is_clone = { λ reply copy. copy ≡ reply };
+
+    fn clone(&self) -> Result<Reply, AllocError> {
+        Ok(match self {
+            Reply::Done => Reply::Done,
+            Reply::Samples(samples) => Reply::Samples(samples.cloned()?),
+            Reply::SampleLost(status) => Reply::SampleLost(*status),
+            Reply::Reported(report) => Reply::Reported(report.clone()?),
+            Reply::Refused(code) => Reply::Refused(*code),
+        })
+    }
 }
