@@ -278,7 +278,7 @@ part_step config tests m i (event.Deliver packet) before (Reported report) after
     (r.1, (after.part, r.0), subst (λ (ds : List Delivery). DeliveredHold config m ds) (sym h.1) (with_delivery config m (record { packet = packet; report = report }) before.delivered sent all))
 part_step config tests m i (event.Deliver packet) before reply after is at_i sent all h = absurd h
 
-parts_at : (ws : WorldState) (i : ℕ) → part_at (machine_of ws) i ≡ (peer_at ws i).part
+pub parts_at : (ws : WorldState) (i : ℕ) → part_at (machine_of ws) i ≡ (peer_at ws i).part
 parts_at ws i = numbered-map (λ (p : Peer). p.part) ws.peers i no_peer
 
 abbrev pub world_after : WorldState → ℕ → Peer → List Packet → WorldState

@@ -6,6 +6,7 @@ pub mod InOrder
 pub mod InOrderRuns
 pub mod Opened
 pub mod OpenedPeers
+pub mod Bounded
 mod WorkedReceivers
 mod WorkedExamples
 mod WorkedPackets

@@ -18,7 +18,7 @@ use Rattle.dds_model.specs.Backed.{IsBacked}
 use Rattle.dds_model.proofs.Opened.{opening_delivered}
 
 -- no change of these writers has come, and nothing was heard
-abbrev AreFresh : List WriterProxy → Type 0
+abbrev pub AreFresh : List WriterProxy → Type 0
 AreFresh [] = Unit {0}
 AreFresh (p ∷ ps) = (p.place ≡ 1) × (p.heard ≡ None) × AreFresh ps
 
@@ -26,7 +26,7 @@ AreFresh (p ∷ ps) = (p.place ≡ 1) × (p.heard ≡ None) × AreFresh ps
 abbrev row : List WriterProxy → Endpoint → Option WriterProxy
 row rows w = row_of (λ (p : WriterProxy). p.writer) rows w
 
-fresh_place : (rows : List WriterProxy) (w : Endpoint) (n : ℕ) → AreFresh rows → place_of rows w ≡ Some n → 1 ≡ n
+pub fresh_place : (rows : List WriterProxy) (w : Endpoint) (n : ℕ) → AreFresh rows → place_of rows w ≡ Some n → 1 ≡ n
 fresh_place [] w n f h = absurd cc
 fresh_place (p ∷ ps) w n f h = by (same_endpoint p.writer w) (λ e. fresh_place ps w n f.2 e) h
   where
@@ -78,18 +78,18 @@ fresh_reader peers (x ∷ rs) zero = fresh_rows x.topic 1 peers
 fresh_reader peers (x ∷ rs) (suc r) = fresh_reader peers rs r
 
 -- a peer that knows nothing, and whose readers heard nothing
-record IsFresh (p : Peer) : Type 0 where
-  known : p.known ≡ knows_nothing
-  proxies : (r : ℕ) → AreFresh (own_proxies p.part r)
+pub record IsFresh (p : Peer) : Type 0 where
+  pub known : p.known ≡ knows_nothing
+  pub proxies : (r : ℕ) → AreFresh (own_proxies p.part r)
 
-none_is_fresh : IsFresh no_peer
+pub none_is_fresh : IsFresh no_peer
 none_is_fresh = record { known = refl; proxies = proxies }
   where
     proxies : (r : ℕ) → AreFresh (own_proxies no_peer.part r)
     proxies zero = tt
     proxies (suc r) = tt
 
-peer_is_fresh : (peers : List PeerConfig) (n : ℕ) (ps : List PeerConfig) (i : ℕ)
+pub peer_is_fresh : (peers : List PeerConfig) (n : ℕ) (ps : List PeerConfig) (i : ℕ)
     → IsFresh (get_or (opening_peers peers n ps) i no_peer)
 peer_is_fresh peers n [] i = none_is_fresh
 peer_is_fresh peers n (p ∷ ps) zero = record { known = refl; proxies = proxies }

@@ -12,6 +12,7 @@ pub mod Progress
 pub mod Opening
 pub mod Laws
 pub mod InOrder
+pub mod Bounds
 pub mod Protocol
 pub mod Backed
 pub mod Dues

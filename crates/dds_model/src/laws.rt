@@ -1,6 +1,7 @@
 //! What holds of every network and every run.
 
 ghost use Rattle.std.specs.Prelude.{◌≡◌, ◌↔◌, IsTrue};
+ghost use Rattle.dds_model.specs.Bounds.{OpensBounded, RunsBounded, StepsBounded};
 ghost use Rattle.dds_model.specs.InOrder.{ChangesComeInOrder};
 ghost use Rattle.dds_model.specs.Laws.{AnswersAreTrue, AnswersCanBeWritten, Composes, ComposesRuns, HeartbeatsAreTrue, KeepAllIsKept, OpensBacked, OpensSound, OwnersExist, ReadersTellWritersApart, RulesRestOnClaims};
 
@@ -31,6 +32,18 @@ pub fn keep_all_is_kept()
 /// as many as lie before the reader's place there.
 pub fn changes_come_in_order()
     ensures { ChangesComeInOrder }
+{}
+
+/// After every run, a reader's place in the list of a matched writer is at most one past the number of the last change.
+///
+/// RTPS 2.5, 8.4.10.
+pub fn places_are_bounded()
+    // It is so at the opening of every configuration.
+    ensures opening { OpensBounded }
+    // No step of the machine changes that.
+    ensures step { StepsBounded }
+    // So it is after every run.
+    ensures run { RunsBounded }
 {}
 
 /// Each reader of a configuration that is not refused tells its matched writers apart, by GUIDs and by publication handles:
