@@ -159,7 +159,7 @@ steps_bounded tests sent m (world.Deliver peer packet) reply new b (inr h) = sub
 fresh_bounded : (peers : List Peer) (i r : ℕ) (w : Endpoint) (p : ℕ) → IsFresh (numbered peers i no_peer) → place_of (own_proxies (numbered peers i no_peer).part r) w ≡ Some p → 1 ≡ p
 fresh_bounded peers i r w p f h = fresh_place (own_proxies (numbered peers i no_peer).part r) w p (f.proxies r) h
 
-opened_is_fresh : (config : Config) (i : ℕ) → IsFresh (numbered (opening_world config).peers i no_peer)
+pub opened_is_fresh : (config : Config) (i : ℕ) → IsFresh (numbered (opening_world config).peers i no_peer)
 opened_is_fresh config zero = none_is_fresh
 opened_is_fresh config (suc i) = peer_is_fresh config.peers 1 config.peers i
 

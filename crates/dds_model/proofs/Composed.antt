@@ -346,7 +346,7 @@ happens config tests ws i ev output after posted sound within step is_sent of_pa
 abbrev pub Composed : Config → AllTests → WorldState → WorldEvent → Reply → WorldState → Type 0
 Composed config tests old event reply new = Step tests (length old.sent) (machine_of old) event reply (machine_of new) × Progresses config old.sent (machine_of old) event reply × Sound config new
 
-contains_at : (xs : List Packet) (i : ℕ) (x : Packet) → slice_get xs i ≡ Some x → Contains xs x
+pub contains_at : (xs : List Packet) (i : ℕ) (x : Packet) → slice_get xs i ≡ Some x → Contains xs x
 contains_at [] i x h = cc
 contains_at (y ∷ ys) zero x h = (0, omega arith, same_Some y x h)
 contains_at (y ∷ ys) (suc i) x h = let r = contains_at ys i x h in (suc r.0, omega (arith, r.1), r.2)

@@ -59,25 +59,31 @@ acknack x = record {
   final_flag = x.due.is_final;
 }
 
--- it names the writer and the reader that the submessage named which it answers, and no others
+-- an ACKNACK names the writer and the reader that the submessage named which it answers, and no others
+pub answer_names : (config : Config) → check_refusal config.peers ≡ None → (own : GuidPrefix) (from : Receiver)
+    (reader_id writer_id : EntityId) (writer reader : Endpoint)
+    (is : IsToReader config own from reader_id writer_id writer reader) (far : GuidPrefix) (w r : Endpoint)
+    → IsToWriter config far (addressed own from.source_guid_prefix) is.entity writer_id w r
+    → (w ≡ writer) × (r ≡ reader)
+answer_names config checked own from reader_id writer_id writer reader is far w r h =
+    let dest : GuidPrefix = from.source_guid_prefix in
+    let unknown : same_prefix dest every_peer ≡ false = not_every_peer config dest writer_id writer checked is.from in
+    let same : dest ≡ far =
+    (prefix-Decides dest far).0 (first_of (same_prefix dest far) (same_prefix dest every_peer) h.is_for unknown) in
+    let to : IsWriter config dest writer_id w = subst (λ (p : GuidPrefix). IsWriter config p writer_id w) (sym same) h.to in
+    (one_writer config dest writer_id w writer checked to is.from, by h.entity h.named h.from)
+  where
+    by : (entity : EntityId) → Names is.entity entity → IsReader config own entity r → r ≡ reader
+    by entity (inl e) named =
+        one_reader config own is.entity r reader checked
+        (subst (λ (i : EntityId). IsReader config own i r) (sym e) named) is.to
+    by entity (inr every) named = absurd (not_every_reader config own is.entity reader checked is.to every)
+
 acknack_names : (x : Asking) (far : GuidPrefix) (w r : Endpoint)
     → IsToWriter x.config far (addressed x.own x.from.source_guid_prefix) x.is.entity x.writer_id w r
     → (w ≡ x.writer) × (r ≡ x.reader)
 acknack_names x far w r h =
-    let dest : GuidPrefix = x.from.source_guid_prefix in
-    let unknown : same_prefix dest every_peer ≡ false =
-    not_every_peer x.config dest x.writer_id x.writer x.checked x.is.from in
-    let same : dest ≡ far =
-    (prefix-Decides dest far).0 (first_of (same_prefix dest far) (same_prefix dest every_peer) h.is_for unknown) in
-    let to : IsWriter x.config dest x.writer_id w =
-    subst (λ (p : GuidPrefix). IsWriter x.config p x.writer_id w) (sym same) h.to in
-    (one_writer x.config dest x.writer_id w x.writer x.checked to x.is.from, by h.entity h.named h.from)
-  where
-    by : (entity : EntityId) → Names x.is.entity entity → IsReader x.config x.own entity r → r ≡ x.reader
-    by entity (inl e) from =
-        one_reader x.config x.own x.is.entity r x.reader x.checked
-        (subst (λ (i : EntityId). IsReader x.config x.own i r) (sym e) from) x.is.to
-    by entity (inr every) from = absurd (not_every_reader x.config x.own x.is.entity x.reader x.checked x.is.to every)
+    answer_names x.config x.checked x.own x.from x.reader_id x.writer_id x.writer x.reader x.is far w r h
 
 -- it claims the base of its set, which is the reader's place
 acknack_says : (x : Asking) (far : GuidPrefix) (claim : Claim)

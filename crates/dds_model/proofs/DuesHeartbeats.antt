@@ -1,9 +1,9 @@
 -- A HEARTBEAT that is due at a tick claims only what its writer has dropped, or the reader has acknowledged.
 use Rattle.std.proofs.Common.{◌≡◌, ℕ, zero, suc, ◌+◌, ◌-◌, ◌^◌, ◌<◌, Bool, true, false, List, [], ◌∷◌, length, get_or}
-use Rattle.std.proofs.Common.{map, refl, subst, ap, sym, ◌∙◌, arith, nat_lt}
+use Rattle.std.proofs.Common.{map, filter, cond, ◌||◌, nat_le, refl, subst, ap, sym, ◌∙◌, arith, nat_lt}
 use Rattle.std.specs.Prelude.{if◌then◌else◌, pos, Some, None, slice_get}
 use Rattle.std.proofs.lemmas.Bool.Decides.{nat_tests}
-use Rattle.std.specs.List.{All}
+use Rattle.std.specs.List.{All, list_any}
 use Rattle.std.proofs.lemmas.List.Elements.{All-append, All-map, All-nil}
 use Rattle.dds_base.specs.declared.config.Config.{Config}
 use Rattle.dds_base.specs.declared.guid.EntityId.{EntityId}
@@ -16,7 +16,7 @@ use Rattle.rtps_wire.specs.declared.heartbeat.Heartbeat.{Heartbeat as HeartbeatB
 use Rattle.rtps_wire.specs.declared.submessage.Submessage.TheVariants.{Heartbeat}
 use Rattle.dds_model.specs.declared.endpoint.Endpoint.{Endpoint}
 use Rattle.dds_model.specs.Numbered.{HasNumber}
-use Rattle.dds_model.specs.Part.{Part, Writer, no_writer, own_writer, writer_changes, history_of, has_readers, peers_of}
+use Rattle.dds_model.specs.Part.{Part, ReaderProxy, Writer, is_behind, no_writer, own_writer, writer_changes, history_of, has_readers, peers_of}
 use Rattle.dds_model.specs.Claims.{every_reader, Claim, ChangeIs, MayPass, PlaceReached, Asserts, Says}
 use Rattle.dds_model.specs.Receipt.{prefix_of}
 use Rattle.dds_model.specs.Peer.{IsTrueAt}
@@ -89,14 +89,24 @@ beat_truthful b to claim writable says =
 -- ---- all that is due at a tick
 
 -- how many HEARTBEAT counts are used up
-abbrev used : Writer → ℕ
+abbrev pub used : Writer → ℕ
 used w = length (counts_of (has_readers w) w.written)
 
--- it is so of each HEARTBEAT of the peer's writers, while there are counts left
-abbrev OfEach : Config → ℕ → Part → (Due → Type 0) → Type 0
+-- it is so of each HEARTBEAT of the peer's writers that a reader is behind, while there are counts left
+abbrev pub OfEach : Config → ℕ → Part → (Due → Type 0) → Type 0
 OfEach config peer part P =
     (number to : ℕ) → HasNumber part.rtps.writers number → used (own_writer part number) < 2 ^ 31 - 1
-    → P (heartbeat_due config peer part number to)
+    → is_behind (own_writer part number) ≡ true → P (heartbeat_due config peer part number to)
+
+-- what none passes has nothing left
+none_left : {X : Type 0} (test : X → Bool) (xs : List X) → list_any test xs ≡ false → filter test xs ≡ []
+none_left test [] none = refl
+none_left {X = X} test (x ∷ xs) none = by (test x) (list_any test xs) none (λ e. none_left test xs e)
+  where
+    by : (a b : Bool) → (a || b) ≡ false → (b ≡ false → filter test xs ≡ [])
+        → cond a (x ∷ filter test xs) (filter test xs) ≡ []
+    by true b h later = cc
+    by false b h later = later h
 
 -- what is so of all is so of those in a list
 all_of : {X : Type 0} (P : X → Type 0) → ((x : X) → P x) → (xs : List X) → All P xs
@@ -116,9 +126,18 @@ of_writer config peer part P each number there = by (nat_lt (used w) (2 ^ 31 - 1
     by : (left : Bool) → nat_lt (used w) (2 ^ 31 - 1) ≡ left
         → All P (if left then map (heartbeat_due config peer part number) ends else [])
     by true e =
-        let left : used w < 2 ^ 31 - 1 = grind (arith, nat_tests) in
-        All-map P (heartbeat_due config peer part number) ends
-        (all_of (λ to. P (heartbeat_due config peer part number to)) (λ to. each number to there left) ends)
+        let left : used w < 2 ^ 31 - 1 = grind (arith, nat_tests) in behind left (is_behind w) refl
+      where
+        behind : used w < 2 ^ 31 - 1 → (b : Bool) → is_behind w ≡ b
+            → All P (map (heartbeat_due config peer part number) ends)
+        behind left true is =
+            All-map P (heartbeat_due config peer part number) ends
+            (all_of (λ to. P (heartbeat_due config peer part number to)) (λ to. each number to there left is) ends)
+        behind left false none =
+            let empty : readers_behind w ≡ [] =
+            none_left (λ (p : ReaderProxy). nat_le p.acknowledged (length (writer_changes w))) w.readers none in
+            subst (λ (ps : List ReaderProxy). All P (map (heartbeat_due config peer part number) (peers_of ps)))
+            (sym empty) (All-nil P)
     by false e = All-nil P
 
 -- these are the peer's writers from this number on
@@ -144,7 +163,7 @@ of_writers config peer part P each number (w ∷ ws) rest =
     subst (λ (n : ℕ). HasNumber part.rtps.writers n × (own_writer part n ≡ get_or ws k no_writer)) over
     (rest (suc k) (omega (arith, lt)))))
 
-of_all : (config : Config) (peer : ℕ) (part : Part) (P : Due → Type 0) → OfEach config peer part P
+pub of_all : (config : Config) (peer : ℕ) (part : Part) (P : Due → Type 0) → OfEach config peer part P
     → All P (heartbeats_due config peer part)
 of_all config peer part P each =
     of_writers config peer part P each 1 part.rtps.writers
@@ -158,7 +177,7 @@ pub heartbeats_truthful : (config : Config) (peer : ℕ) (part : Part) → check
     → IsPartOf config peer part → AreTruthful config peer part (heartbeats_due config peer part)
 heartbeats_truthful config peer part checked of =
     of_all config peer part (IsTruthful config peer part)
-    (λ number to there left.
+    (λ number to there left behind.
     let own : OwnName config peer part number = own_name config peer part of number there in
     beat_truthful
     (record { config = config; checked = checked; peer = peer; part = part; number = number; own = own }) to)
@@ -184,7 +203,7 @@ pub heartbeats_writable : (config : Config) (peer : ℕ) (part : Part) → IsPar
     → HasSmallChanges part → All CanBeWritten (heartbeats_due config peer part)
 heartbeats_writable config peer part of sized small =
     of_all config peer part CanBeWritten
-    (λ number to there left places.
+    (λ number to there left behind places.
     let me : Endpoint = record { peer = peer; number = number } in
     let entity : EntityId = writer_entity config peer number in
     let name = (own_name config peer part of number there).name in

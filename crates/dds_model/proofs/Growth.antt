@@ -228,7 +228,7 @@ if_more : (b c : Bool) (xs ys zs : List Bool) → ys ≡ xs ++ zs → (later : L
 if_more true c xs ys zs h = (zs ++ c ∷ [], ap (λ (us : List Bool). us ++ c ∷ []) h ∙ append_assoc xs zs (c ∷ []))
 if_more false c xs ys zs h = (zs, h)
 
-counts-more : (matched : Bool) (more written : List Written) → (later : List Bool) × (counts_of matched (more ++ written) ≡ counts_of matched written ++ later)
+pub counts-more : (matched : Bool) (more written : List Written) → (later : List Bool) × (counts_of matched (more ++ written) ≡ counts_of matched written ++ later)
 counts-more matched [] written = ([], sym (append_nothing (counts_of matched written)))
 counts-more matched (Registered key ∷ more) written = counts-more matched more written
 counts-more matched (LookedAt ∷ more) written = counts-more matched more written

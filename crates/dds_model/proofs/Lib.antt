@@ -33,3 +33,9 @@ pub mod DuesPackets
 pub mod DuesWritable
 pub mod DuesWritten
 pub mod DuesParts
+pub mod Learning
+pub mod CountsWritten
+pub mod Turns
+pub mod CountsTaken
+pub mod CountsOpened
+pub mod FreshCounts

@@ -16,3 +16,5 @@ pub mod Bounds
 pub mod Protocol
 pub mod Backed
 pub mod Dues
+pub mod Rules
+pub mod Fresh

@@ -2,6 +2,7 @@
 
 ghost use Rattle.std.specs.Prelude.{◌≡◌, ◌↔◌, IsTrue};
 ghost use Rattle.dds_model.specs.Bounds.{OpensBounded, RunsBounded, StepsBounded};
+ghost use Rattle.dds_model.specs.Fresh.{OpensUsed, StepsUsed};
 ghost use Rattle.dds_model.specs.InOrder.{ChangesComeInOrder};
 ghost use Rattle.dds_model.specs.Laws.{AnswersAreTrue, AnswersCanBeWritten, Composes, ComposesRuns, HeartbeatsAreTrue, KeepAllIsKept, OpensBacked, OpensSound, OwnersExist, ReadersTellWritersApart, RulesRestOnClaims};
 
@@ -46,6 +47,13 @@ pub fn places_are_bounded()
     ensures run { RunsBounded }
 {}
 
+/// `==` says of two events whether they are equal.
+pub fn events_are_compared(event: &Event, other: &Event) -> bool
+    ensures { IsTrue result ↔ (event.now ≡ other.now) }
+{
+    event == other
+}
+
 /// Each reader of a configuration that is not refused tells its matched writers apart, by GUIDs and by publication handles:
 /// so an instance has an owner wherever a writer is registered for it.
 pub fn owners_exist()
@@ -79,9 +87,13 @@ pub fn what_is_due_is_true()
     ensures written { AnswersCanBeWritten }
 {}
 
-/// `==` says of two events whether they are equal.
-pub fn events_are_compared(event: &Event, other: &Event) -> bool
-    ensures { IsTrue result ↔ (event.now ≡ other.now) }
-{
-    event == other
-}
+/// No count of a HEARTBEAT or of an ACKNACK is sent or taken that its sender has not used: so the next one is newer than
+/// all before it.
+///
+/// RTPS 2.5, 8.3.8, 8.4.9, 8.4.12.
+pub fn counts_are_fresh()
+    // At the opening none was sent.
+    ensures opening { OpensUsed }
+    // An event of a network by the rules leaves it so.
+    ensures step { StepsUsed }
+{}

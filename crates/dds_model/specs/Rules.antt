@@ -1,0 +1,56 @@
+-- A network whose peers keep the rules of the reliable protocol: which messages are due at an event, and which packets are
+-- sent of them.
+--
+-- RTPS 2.5, 8.4.9 (reliable StatefulWriter), 8.4.12 (reliable StatefulReader).
+use Rattle.std.specs.Prelude.{◌≡◌, ℕ, ◌+◌, ◌-◌, List, [], ◌++◌, length, slice_get, Some, Contains}
+use Rattle.dds_base.specs.declared.config.Config.{Config}
+use Rattle.dds_base.specs.Written.{Changed}
+use Rattle.rtps_wire.specs.Messages.{IsWritable, spelling_of}
+use Rattle.dds_model.specs.declared.event.Packet.{Packet}
+use Rattle.dds_model.specs.declared.event.WorldEvent.{WorldEvent}
+use Rattle.dds_model.specs.declared.event.WorldEvent.TheVariants.{Call, Tick, Deliver}
+use Rattle.dds_model.specs.declared.reply.Reply.{Reply}
+use Rattle.dds_model.specs.declared.reply.Reply.TheVariants.{Done, Reported}
+use Rattle.dds_model.specs.Part.{Part, own_writer, writer_changes}
+use Rattle.dds_model.specs.Calls.{Effect, writes, effect_of}
+use Rattle.dds_model.specs.Machine.{AllTests}
+use Rattle.dds_model.specs.Peer.{state_of}
+use Rattle.dds_model.specs.Protocol.{Due, TakesPacket, AreSent, changes_due, heartbeats_due}
+use Rattle.dds_model.specs.World.{WorldState, WorldStep, peer_at}
+
+-- what is due for what a call enters at a writer of the peer: a change is announced, with the next number
+abbrev pub announcements_due : Config → ℕ → Part → Effect → List Due
+announcements_due config peer part (writes writer (Changed change)) =
+    changes_due config (record { peer = peer; number = writer }) (own_writer part writer).readers
+    (length (writer_changes (own_writer part writer)) + 1) change
+announcements_due config peer part other = []
+
+-- These messages are due at an event: for a call what announces its change, at a tick that is done the HEARTBEATs of the
+-- peer, for a delivered packet what the rules say once it was taken up; where the event is refused, none.
+abbrev pub AreDue : Config → WorldState → WorldEvent → Reply → WorldState → List Due → Type 0
+AreDue config old (Call peer call) reply new dues =
+    dues ≡ announcements_due config peer (peer_at old peer).part (effect_of (peer_at old peer).part call reply)
+AreDue config old (Tick peer now) Done new dues = dues ≡ heartbeats_due config peer (peer_at old peer).part
+AreDue config old (Deliver peer number) (Reported report) new dues =
+    (packet : Packet) × (slice_get old.sent (number - 1) ≡ Some packet)
+    × TakesPacket config peer packet.bytes (state_of (peer_at old peer)) report dues (state_of (peer_at new peer))
+AreDue config old event reply new dues = dues ≡ []
+
+-- the packet is the written form of one of these messages, which has one
+pub record IsWrittenOf (dues : List Due) (packet : Packet) : Type 0 where
+  pub due : Due
+  pub among : Contains dues due
+  pub writable : IsWritable due.message
+  pub is : packet ≡ record { to = due.to; bytes = spelling_of due.message }
+
+-- One event of a network by the rules: it is a step of the peers, and of the messages that are due these packets are sent,
+-- in their order, each in its written form; so many are not.
+pub record RuledStep (config : Config) (tests : AllTests) (old : WorldState) (event : WorldEvent) (reply : Reply)
+    (lost : ℕ) (new : WorldState) : Type 0 where
+  pub step : WorldStep config tests old event reply new
+  pub dues : List Due
+  pub due : AreDue config old event reply new dues
+  pub packets : List Packet
+  pub sent : new.sent ≡ old.sent ++ packets
+  pub are_sent : AreSent dues packets lost
+  pub written : (packet : Packet) → Contains packets packet → IsWrittenOf dues packet
