@@ -39,3 +39,4 @@ pub mod Turns
 pub mod CountsTaken
 pub mod CountsOpened
 pub mod FreshCounts
+pub mod CaughtUp

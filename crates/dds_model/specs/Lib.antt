@@ -18,3 +18,4 @@ pub mod Backed
 pub mod Dues
 pub mod Rules
 pub mod Fresh
+pub mod CatchUp

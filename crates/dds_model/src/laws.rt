@@ -2,6 +2,7 @@
 
 ghost use Rattle.std.specs.Prelude.{◌≡◌, ◌↔◌, IsTrue};
 ghost use Rattle.dds_model.specs.Bounds.{OpensBounded, RunsBounded, StepsBounded};
+ghost use Rattle.dds_model.specs.CatchUp.{WindowCatchesUp};
 ghost use Rattle.dds_model.specs.Fresh.{OpensUsed, StepsUsed};
 ghost use Rattle.dds_model.specs.InOrder.{ChangesComeInOrder};
 ghost use Rattle.dds_model.specs.Laws.{AnswersAreTrue, AnswersCanBeWritten, Composes, ComposesRuns, HeartbeatsAreTrue, KeepAllIsKept, OpensBacked, OpensSound, OwnersExist, ReadersTellWritersApart, RulesRestOnClaims};
@@ -96,4 +97,12 @@ pub fn counts_are_fresh()
     ensures opening { OpensUsed }
     // An event of a network by the rules leaves it so.
     ensures step { StepsUsed }
+{}
+
+/// A reader that takes a HEARTBEAT, and then an answer to each number that its ACKNACK asked for, has gone on by 256
+/// numbers, or to the end of the writer's list, or to a change that has no room.
+///
+/// RTPS 2.5, 8.4.9, 8.4.12.
+pub fn window_catches_up()
+    ensures { WindowCatchesUp }
 {}

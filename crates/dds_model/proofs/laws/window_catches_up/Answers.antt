@@ -1,0 +1,5 @@
+use Rattle.dds_model.proofs.CaughtUp.{window_catches_up}
+use Rattle.dds_model.proofs.laws.window_catches_up.Goals as goal
+
+pub returns : goal.returns
+returns c = window_catches_up
