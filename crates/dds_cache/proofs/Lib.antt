@@ -4,3 +4,5 @@ pub mod TrackLaws
 pub mod KnownLaws
 pub mod MatchingLaws
 pub mod CollectionLaws
+pub mod RestrictLaws
+pub mod PickLaws

@@ -11,7 +11,7 @@ use Rattle.dds_base.specs.declared.sample.Picked.{Picked}
 use Rattle.dds_base.specs.declared.qos.ReaderQos.{ReaderQos}
 use Rattle.dds_base.specs.Instance.{known_instances}
 use Rattle.dds_base.specs.Presence.{is_present, up_to, present_of}
-use Rattle.dds_base.specs.Access.{picked_of, own_generations, at_most, picked_samples, no_filter}
+use Rattle.dds_base.specs.Access.{picked_of, own_generations, at_most, matching_samples, no_filter}
 use Rattle.dds_cache.specs.declared.found.Found.{Found}
 use Rattle.dds_cache.specs.Matching.{IsDescribed, sample_at, is_asked_for, matching_up_to, matching_of}
 
@@ -93,6 +93,6 @@ matching-flat : (q : ReaderQos) (h : List Happening) (masks : Masks) (keys : Lis
 matching-flat q h masks [] = refl
 matching-flat q h masks (k ∷ ks) = ap (λ (ss : List SamplePosition). matching_of q h masks k ++ ss) (matching-flat q h masks ks) ∙ sym (filter-append (is_asked_for q h masks) (present_of q h k) (flat_map (present_of q h) ks))
 
--- the first matching samples of all known instances are those that an access picks
-pub picked-all : (q : ReaderQos) (h : List Happening) (max : Option ℕ) (masks : Masks) → at_most max (flat_map (matching_of q h masks) (known_instances q h)) ≡ picked_samples q h max masks no_filter
-picked-all q h max masks = ap (λ (ss : List SamplePosition). at_most max ss) (matching-flat q h masks (known_instances q h))
+-- those of all known instances are the matching samples
+pub matching-all : (q : ReaderQos) (h : List Happening) (masks : Masks) (keys : List Key) → keys ≡ known_instances q h → flat_map (matching_of q h masks) keys ≡ matching_samples q h masks no_filter
+matching-all q h masks keys is = ap (λ (ks : List Key). flat_map (matching_of q h masks) ks) is ∙ matching-flat q h masks (known_instances q h)

@@ -2,3 +2,4 @@ pub mod Registration
 pub mod Track
 pub mod Matching
 pub mod Standing
+pub mod Known

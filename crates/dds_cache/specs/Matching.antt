@@ -1,6 +1,8 @@
 -- The samples of one instance that an access returns, and what is known of the instance at the call. Inner functions
 -- alone cite this: nothing here has to be believed.
-use Rattle.std.specs.Prelude.{◌≡◌, ℕ, ◌-◌, ◌<◌, ◌^◌, List, [], ◌∷◌, length, Bool, ◌&&◌, ◌||◌, filter, map, All, Option, if◌then◌else◌}
+use Rattle.std.specs.Prelude.{◌≡◌, ℕ, ◌-◌, ◌<◌, ◌^◌, List, [], ◌∷◌, length, Bool, ◌&&◌, ◌||◌, filter, map, All, Option, None, Result, Ok, Err, true, false, ℤ, nat_lt, if◌then◌else◌}
+use Rattle.dds_base.specs.declared.code.Code.{Code}
+use Rattle.dds_base.specs.declared.code.Code.TheVariants.{BadParameter}
 use Rattle.dds_base.specs.declared.key.Key.{Key}
 use Rattle.dds_base.specs.declared.happening.SamplePosition.{SamplePosition}
 use Rattle.dds_base.specs.declared.happening.Happening.{Happening}
@@ -9,10 +11,15 @@ use Rattle.dds_base.specs.declared.mask.Masks.{Masks}
 use Rattle.dds_base.specs.declared.sample.SampleState.{SampleState}
 use Rattle.dds_base.specs.declared.sample.ViewState.{ViewState}
 use Rattle.dds_base.specs.declared.sample.InstanceState.{InstanceState}
+use Rattle.dds_base.specs.declared.sample.Picked.{Picked}
 use Rattle.dds_base.specs.declared.qos.ReaderQos.{ReaderQos}
+use Rattle.dds_base.specs.declared.selection.Selection.{Selection}
+use Rattle.dds_base.specs.Checked.{is_maximum, limit_of}
+use Rattle.dds_base.specs.Refusal.{Refuses}
+use Rattle.dds_base.specs.Selection.{picked_by, selection_refusal}
 use Rattle.dds_base.specs.Instance.{view_state_of}
 use Rattle.dds_base.specs.Presence.{is_present, up_to, keeps, is_at}
-use Rattle.dds_base.specs.Access.{asks_for_sample_state, asks_for_view_state, asks_for_instance_state, meets, picked_of, own_generations, handle_of, no_filter, value_of}
+use Rattle.dds_base.specs.Access.{asks_for_sample_state, asks_for_view_state, asks_for_instance_state, meets, picked_of, own_generations, handle_of, no_filter, value_of, is_of}
 use Rattle.dds_cache.specs.declared.track.InstanceTrack.{InstanceTrack}
 use Rattle.dds_cache.specs.declared.instance.InstanceAtCall.{InstanceAtCall}
 use Rattle.dds_cache.specs.declared.found.Found.{Found}
@@ -53,7 +60,28 @@ pub record IsDescribed (q : ReaderQos) (h : List Happening) (found : Found) : Ty
   pub described : found.picked.items ≡ map (picked_of q h) found.samples.items
   pub small : All (λ p. own_generations p < 2 ^ 64) found.picked.items
 
+-- the samples of one instance, by what is known of each
+abbrev pub samples_of : ℕ → List SamplePosition → List Picked → List SamplePosition
+samples_of handle [] ps = []
+samples_of handle (s ∷ ss) [] = []
+samples_of handle (s ∷ ss) (p ∷ ps) = if is_of handle p then s ∷ samples_of handle ss ps else samples_of handle ss ps
+
+-- the first handle above n, 0 for none
+abbrev pub first_above : ℕ → List Picked → ℕ
+first_above n [] = 0
+first_above n (p ∷ ps) = if nat_lt n p.instance_handle then p.instance_handle else first_above n ps
+
 -- the value of the newest entry, if it counts
 abbrev pub value_if : Bool → List Happening → List ℕ
 value_if valid (Came a ∷ h) = if valid then a.change.value else []
 value_if valid _ = []
+
+-- what an access without a filter finds, or why it is refused
+abbrev pub Picks : ReaderQos → List Happening → Selection → Result Found Code → Type 0
+Picks q h selection (Ok found) = (selection_refusal q h selection ≡ None) × (found.samples.items ≡ picked_by q h selection no_filter) × IsDescribed q h found
+Picks q h selection (Err code) = Refuses (selection_refusal q h selection) code
+
+-- the limit of a valid maximum, or BAD_PARAMETER
+abbrev pub IsLimit : ℤ → Result (Option ℕ) Code → Type 0
+IsLimit max (Ok limit) = (is_maximum max ≡ true) × (limit ≡ limit_of max)
+IsLimit max (Err code) = (is_maximum max ≡ false) × (code ≡ BadParameter)

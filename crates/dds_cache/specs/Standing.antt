@@ -1,13 +1,15 @@
 -- What a reader's cache stands for, and what its reads and takes answer.
-use Rattle.std.specs.Prelude.{◌≡◌, ◌≢◌, ℕ, List, [], ◌∷◌, Option, Result, Ok, Err}
+use Rattle.std.specs.Prelude.{◌≡◌, ◌≢◌, ℕ, List, [], ◌∷◌, Option, None, Result, Ok, Err}
 use Rattle.dds_base.specs.declared.code.Code.{Code}
-use Rattle.dds_base.specs.declared.code.Code.TheVariants.{NoData, Memory}
+use Rattle.dds_base.specs.declared.code.Code.TheVariants.{NoData}
 use Rattle.dds_base.specs.declared.happening.SamplePosition.{SamplePosition}
 use Rattle.dds_base.specs.declared.happening.Happening.{Happening}
-use Rattle.dds_base.specs.declared.mask.Masks.{Masks}
 use Rattle.dds_base.specs.declared.sample.Sample.{Sample}
 use Rattle.dds_base.specs.declared.qos.ReaderQos.{ReaderQos}
-use Rattle.dds_base.specs.Access.{picked_samples, no_filter, collection_of}
+use Rattle.dds_base.specs.declared.selection.Selection.{Selection}
+use Rattle.dds_base.specs.Access.{no_filter, collection_of}
+use Rattle.dds_base.specs.Refusal.{Refuses}
+use Rattle.dds_base.specs.Selection.{picked_by, selection_refusal}
 
 -- what a cache keeps, and for how many more entries it has memory
 pub record Stored : Type 0 where
@@ -28,17 +30,25 @@ pub record StandsFor (stored : Stored) (h : List Happening) : Type 0 where
   pub all : stored.happenings ≡ h
 
 -- what an access without a filter picks
-abbrev pub picked : Stored → List Happening → Option ℕ → Masks → List SamplePosition
-picked stored h max masks = picked_samples (qos_of stored) h max masks no_filter
+abbrev pub picked : Stored → List Happening → Selection → List SamplePosition
+picked stored h selection = picked_by (qos_of stored) h selection no_filter
 
--- the answer of an access: the collection, or NO_DATA where nothing is picked, or MEMORY
-abbrev pub Answers : Stored → List Happening → Option ℕ → Masks → Result (List Sample) Code → Type 0
-Answers stored h max masks (Ok samples) = (picked stored h max masks ≢ []) × (samples ≡ collection_of (qos_of stored) h (picked stored h max masks))
-Answers stored h max masks (Err NoData) = picked stored h max masks ≡ []
-Answers stored h max masks (Err Memory) = Unit {0}
-Answers stored h max masks (Err code) = ⊥
+-- why an access is refused
+abbrev pub refusal : Stored → List Happening → Selection → Option Code
+refusal stored h selection = selection_refusal (qos_of stored) h selection
 
--- what a cache is after an access: as it was where there was no memory, else it stands for one entry more, the access
-abbrev pub AfterAccess : (List SamplePosition → Happening) → Stored → List Happening → Option ℕ → Masks → Result (List Sample) Code → Stored → Type 0
-AfterAccess entry old h max masks (Err Memory) new = new ≡ old
-AfterAccess entry old h max masks answer new = StandsFor new (entry (picked old h max masks) ∷ h)
+-- the answer of an access: the collection, or NO_DATA where nothing is picked; or the first cause that refuses it, or MEMORY
+-- where there is none
+abbrev pub Answers : Stored → List Happening → Selection → Result (List Sample) Code → Type 0
+Answers stored h selection (Ok samples) =
+    (refusal stored h selection ≡ None) × (picked stored h selection ≢ [])
+    × (samples ≡ collection_of (qos_of stored) h (picked stored h selection))
+Answers stored h selection (Err NoData) = (refusal stored h selection ≡ None) × (picked stored h selection ≡ [])
+Answers stored h selection (Err code) = Refuses (refusal stored h selection) code
+
+-- what a cache is after an access that was answered so: it stands for one entry more, the access, also where that found
+-- nothing; any other refusal leaves it as it was
+abbrev pub AfterAccess : (List SamplePosition → Happening) → Stored → List Happening → Selection → Result (List Sample) Code → Stored → Type 0
+AfterAccess entry old h selection (Ok samples) new = StandsFor new (entry (picked old h selection) ∷ h)
+AfterAccess entry old h selection (Err NoData) new = StandsFor new (entry [] ∷ h)
+AfterAccess entry old h selection (Err code) new = new ≡ old

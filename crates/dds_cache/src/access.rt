@@ -1,11 +1,11 @@
-//! What a read or a take returns.
+//! The samples that meet the masks, and the collection of those that an access returns.
 
 ghost use Rattle.std.specs.Prelude.{◌≡◌, ◌++◌, ◌∷◌, ◌<◌, ◌^◌, List, length, map, IfOk, IfErr, OnOk};
 ghost use Rattle.std.specs.List.{flat_map};
 ghost use Rattle.dds_base.specs.declared.happening.Happening.{Happening};
 ghost use Rattle.dds_base.specs.Happening.{as_of};
 ghost use Rattle.dds_base.specs.Instance.{known_instances};
-ghost use Rattle.dds_base.specs.Access.{picked_samples, no_filter, picked_of, infos_of, collection_of};
+ghost use Rattle.dds_base.specs.Access.{matching_samples, no_filter, picked_of, infos_of, collection_of};
 ghost use Rattle.dds_cache.specs.Matching.{IsInstance, IsDescribed, matching_of, value_if};
 
 use crate::found::Found;
@@ -67,21 +67,18 @@ fn find_matching(
     Ok(found)
 }
 
-/// The samples that an access picks, with what is known of each before its ranks.
-pub fn pick(
+/// The present samples that meet the masks, by handle and then by position, with what is known of each before its ranks.
+pub fn find(
     alloc: Global,
     qos: &ReaderQos,
     entries: &[Happening],
-    max: Option<u32>,
     masks: Masks,
 ) -> Result<Found, AllocError>
-    ensures samples { IfOk result (λ found. found.samples.items ≡ picked_samples qos.now entries.now max masks no_filter) }
+    ensures samples { IfOk result (λ found. found.samples.items ≡ matching_samples qos.now entries.now masks no_filter) }
     ensures described { IfOk result (IsDescribed qos.now entries.now) }
 {
-    let keys = known_keys(alloc, qos, entries)?;
-    let mut found = find_matching(alloc, qos, entries, masks, &keys)?;
-    found.cut(max);
-    Ok(found)
+    let keys = known_keys(alloc, entries)?;
+    find_matching(alloc, qos, entries, masks, &keys)
 }
 
 /// The value of the change at a position, if it counts, else the empty one.

@@ -1,9 +1,10 @@
 //! The samples that an access finds.
 
-ghost use Rattle.std.specs.Prelude.{◌≡◌, ◌++◌, ◌∷◌, [], OnOk, take};
-ghost use Rattle.dds_base.specs.Access.{at_most};
+ghost use Rattle.std.specs.Prelude.{◌≡◌, ◌++◌, ◌∷◌, [], OnOk, IfOk, length, take, filter};
+ghost use Rattle.dds_base.specs.Access.{at_most, is_of};
+ghost use Rattle.dds_cache.specs.Matching.{samples_of, first_above};
 
-use dds_base::{Picked, SamplePosition};
+use dds_base::{Handle, Picked, SamplePosition};
 use std::alloc::{AllocError, Global};
 
 /// Samples, and beside each what is known of it before its ranks.
@@ -50,5 +51,33 @@ impl Found {
     {
         cut_to(&mut self.samples, max);
         cut_to(&mut self.picked, max);
+    }
+
+    /// The samples of one instance.
+    pub fn of_instance(&self, alloc: Global, handle: Handle) -> Result<Found, AllocError>
+        requires { length self.now.samples.items ≡ length self.now.picked.items }
+        ensures samples { IfOk result (λ found. found.samples.items ≡ samples_of handle self.now.samples.items self.now.picked.items) }
+        ensures picked { IfOk result (λ found. found.picked.items ≡ filter (is_of handle) self.now.picked.items) }
+    {
+        let mut found = Found::new(alloc);
+        for at in 0..self.samples.len() {
+            let picked = self.picked[at];
+            if picked.instance_handle == handle {
+                found.push(self.samples[at], picked)?;
+            }
+        }
+        Ok(found)
+    }
+
+    /// The first handle above one, `NIL` for none.
+    pub fn handle_above(&self, previous: Handle) -> Handle
+        ensures { result ≡ first_above previous self.now.picked.items }
+    {
+        for picked in &self.picked {
+            if previous.number() < picked.instance_handle.number() {
+                return picked.instance_handle;
+            }
+        }
+        Handle::NIL
     }
 }

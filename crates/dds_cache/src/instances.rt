@@ -1,65 +1,92 @@
 //! The known instances of a reader.
 
-ghost use Rattle.std.specs.Prelude.{◌≡◌, IfOk, vec_len, length, ◌≤◌, option_to_list};
-ghost use Rattle.std.specs.List.{list_any};
-ghost use Rattle.dds_base.specs.Happening.{same_key};
-ghost use Rattle.dds_base.specs.Instance.{introduced_by, known_instances};
-ghost use Rattle.dds_base.specs.Access.{number_from};
+ghost use Rattle.std.specs.Prelude.{◌≡◌, IfOk, option_to_list};
+ghost use Rattle.dds_base.specs.declared.qos.ReaderQos.{ReaderQos};
+ghost use Rattle.dds_base.specs.Instance.{known_instances};
+ghost use Rattle.dds_base.specs.Access.{number_from, instance_of, handle_of};
+ghost use Rattle.dds_cache.specs.Known.{is_data_of, has_data, new_key};
 
 use crate::history::split_at_position;
-use crate::registration::accepted_by;
-use crate::track::InstanceTrack;
-use dds_base::{Happening, Key, ReaderQos};
+use crate::registration::is_data;
+use dds_base::{Handle, Happening, Key};
 use std::alloc::{AllocError, Global};
 
-fn is_known(keys: &[Key], key: Key) -> bool
-    ensures { result ≡ list_any (λ k. same_key k key) keys.now }
+fn is_data_of(key: Key, entry: &Happening) -> bool
+    ensures { result ≡ is_data_of key entry.now }
 {
-    keys.iter().any(|k| *k == key)
+    match entry {
+        Happening::Came(a) => is_data(a.change.kind) && a.change.key == key,
+        _ => false,
+    }
 }
 
-/// The key that an entry makes known, by those known before it.
-fn introduced(
-    alloc: Global,
-    qos: &ReaderQos,
-    keys: &[Key],
-    entry: &Happening,
-    older: &[Happening],
-) -> Result<Option<Key>, AllocError>
-    requires { keys.now ≡ known_instances qos.now older.now }
-    ensures { IfOk result (λ key. option_to_list key ≡ introduced_by qos.now older.now entry.now) }
+fn has_data(key: Key, entries: &[Happening]) -> bool
+    ensures { result ≡ has_data key entries.now }
+{
+    entries.iter().any(|entry| is_data_of(key, entry))
+}
+
+/// The key that an entry makes known: that of the first write or dispose of its instance, which is always accepted.
+fn introduced(entry: &Happening, older: &[Happening]) -> Option<Key>
+    ensures { option_to_list result ≡ new_key older.now entry.now }
 {
     let Happening::Came(a) = entry else {
-        return Ok(None);
+        return None;
     };
     let key = a.change.key;
-    if is_known(keys, key) {
-        return Ok(None);
-    }
-    let track = InstanceTrack::of(alloc, qos, key, older)?;
-    if accepted_by(qos, key, &track.registrations, entry).is_some() {
-        Ok(Some(key))
+    if is_data(a.change.kind) && !has_data(key, older) {
+        Some(key)
     } else {
-        Ok(None)
+        None
     }
 }
 
 /// The known instances in the order of their handles.
-pub fn known_keys(
-    alloc: Global,
-    qos: &ReaderQos,
-    entries: &[Happening],
-) -> Result<Vec<Key>, AllocError>
-    ensures { IfOk result (λ keys. keys.items ≡ known_instances qos.now entries.now) }
+pub fn known_keys(alloc: Global, entries: &[Happening]) -> Result<Vec<Key>, AllocError>
+    ensures { (q : ReaderQos) → IfOk result (λ keys. keys.items ≡ known_instances q entries.now) }
 {
     let mut keys = Vec::new(alloc);
     for position in 0..entries.len() {
         let (entry, older) = split_at_position(entries, position);
-        if let Some(key) = introduced(alloc, qos, &keys, entry, older)? {
+        if let Some(key) = introduced(entry, older) {
             keys.push(key)?;
         }
     }
     Ok(keys)
+}
+
+/// The key of a known instance, by its handle.
+pub fn key_of(entries: &[Happening], handle: Handle) -> Option<Key>
+    ensures { (q : ReaderQos) → result ≡ instance_of q entries.now handle }
+{
+    let mut known = 0;
+    for position in 0..entries.len() {
+        let (entry, older) = split_at_position(entries, position);
+        if let Some(key) = introduced(entry, older) {
+            known += 1;
+            if known == handle.number() {
+                return Some(key);
+            }
+        }
+    }
+    None
+}
+
+/// The handle of an instance, `NIL` of an unknown one.
+pub fn handle_of(entries: &[Happening], key: Key) -> Handle
+    ensures { (q : ReaderQos) → result ≡ handle_of q entries.now key }
+{
+    let mut known = 0;
+    for position in 0..entries.len() {
+        let (entry, older) = split_at_position(entries, position);
+        if let Some(introduced) = introduced(entry, older) {
+            known += 1;
+            if introduced == key {
+                return Handle::new(known);
+            }
+        }
+    }
+    Handle::NIL
 }
 
 /// The handle of a key among the known ones, 0 for none.

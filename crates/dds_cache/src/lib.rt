@@ -11,6 +11,7 @@ mod history;
 mod instance;
 mod instances;
 mod masks;
+mod pick;
 mod reader_cache;
 mod registration;
 mod returned;

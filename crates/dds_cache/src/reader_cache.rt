@@ -5,14 +5,18 @@ ghost use Rattle.dds_base.specs.declared.happening.Happening.{Happening};
 ghost use Rattle.dds_base.specs.declared.happening.Happening.TheVariants.{Came, Passed, Heard, Died, Read, Took};
 ghost use Rattle.dds_base.specs.declared.code.Code.TheVariants.{Memory, NoData};
 ghost use Rattle.dds_base.specs.Ownership.{IsMatched};
-ghost use Rattle.dds_base.specs.Access.{picked_samples, no_filter, collection_of};
+ghost use Rattle.dds_base.specs.Access.{no_filter, collection_of, instance_of, handle_of};
+ghost use Rattle.dds_base.specs.Refusal.{Refuses};
+ghost use Rattle.dds_base.specs.Selection.{picked_by, selection_refusal};
 ghost use Rattle.dds_cache.specs.Standing.{qos_of, room_of, StandsFor, Answers, AfterAccess};
 
-use crate::access::{collect, pick};
+use crate::access::collect;
 use crate::found::Found;
+use crate::instances::{handle_of, key_of};
+use crate::pick::pick;
 use dds_base::{
-    Arrival, Code, Handle, Happening, Masks, Moment, ReaderQos, Sample, SamplePosition, Sequence,
-    Sn,
+    Arrival, Code, Handle, Happening, Key, Moment, ReaderQos, Sample, SamplePosition, Selection,
+    Sequence, Sn,
 };
 use std::alloc::Global;
 use std::marker::Model;
@@ -201,12 +205,13 @@ impl ReaderCache {
         self.enter(Happening::Died { writer, moment })
     }
 
-    fn access(&self, max: Option<u32>, masks: Masks) -> Result<Access, Code>
-        ensures positions { IfOk result (λ access. access.positions.items ≡ picked_samples self.now.qos self.now.happenings max masks no_filter) }
+    fn access(&self, selection: Selection) -> Result<Access, Code>
+        ensures positions { IfOk result (λ access. access.positions.items ≡ picked_by self.now.qos self.now.happenings selection no_filter) }
         ensures samples { IfOk result (λ access. access.samples.items ≡ collection_of self.now.qos self.now.happenings access.positions.items) }
-        ensures memory { IfErr result (λ e. e ≡ Memory) }
+        ensures good { IfOk result (λ access. selection_refusal self.now.qos self.now.happenings selection ≡ None) }
+        ensures refused { IfErr result (Refuses (selection_refusal self.now.qos self.now.happenings selection)) }
     {
-        let found = pick(self.alloc, &self.qos, &self.entries, max, masks)?;
+        let found = pick(self.alloc, &self.qos, &self.entries, selection)?;
         let samples = collect(self.alloc, &self.qos, &self.entries, &found)?;
         let Found {
             samples: positions,
@@ -215,51 +220,72 @@ impl ReaderCache {
         Ok(Access { positions, samples })
     }
 
-    /// Reads the present samples that meet the masks, by instance handle and then in the order in which their changes
-    /// and deaths came, the first `max` of them (`None`: all; `Some(0)` finds nothing). They stay, and are READ from then
-    /// on.
+    /// Reads the present samples that the selection asks for. They stay, and are READ from then on.
     ///
     /// # Errors
     ///
-    /// `NoData` where there is none; that too is an access, which lowers DATA_AVAILABLE. `Memory` where a growth was
-    /// refused; the cache is then as it was.
+    /// The first of these: `BadParameter` for a `max` that is neither -1 nor positive, and for an instance that is not
+    /// known where it has to be; `NoData` where there is no such sample, and that too is an access, which lowers
+    /// DATA_AVAILABLE; `Memory` where a growth was refused. But for `NoData` the cache is then as it was.
     ///
-    /// DDS 1.4, 2.2.2.5 (read).
-    pub fn read(&mut self, max: Option<u32>, masks: Masks) -> Result<Sequence<Sample>, Code>
-        // The samples are those that the definitions pick of what happened, or there is none.
-        ensures answer { (h : List Happening) → StandsFor self.old h → Answers self.old h max masks result }
-        // The read is entered, and nothing else; one for which there is no memory is not.
-        ensures after { (h : List Happening) → StandsFor self.old h → AfterAccess Read self.old h max masks result self.new }
+    /// DDS 1.4, 2.2.2.5 (read, read_instance, read_next_instance, read_next_sample).
+    pub fn read(&mut self, selection: Selection) -> Result<Sequence<Sample>, Code>
+        // The samples are those that the definitions pick of what happened, or there is none; or it is refused by the
+        // first cause that there is, or for want of memory.
+        ensures answer { (h : List Happening) → StandsFor self.old h → Answers self.old h selection result }
+        // The read is entered, and nothing else; one that is refused is not.
+        ensures after { (h : List Happening) → StandsFor self.old h → AfterAccess Read self.old h selection result self.new }
         // The policies stay.
         ensures qos { qos_of self.new ≡ qos_of self.old }
     {
-        let Access { positions, samples } = self.access(max, masks)?;
+        let Access { positions, samples } = self.access(selection)?;
         let is_empty = positions.is_empty();
         self.enter(Happening::Read(Sequence::from_vec(positions)))?;
         answer_of(is_empty, samples)
     }
 
-    /// Takes the present samples that meet the masks, by instance handle and then in the order in which their changes
-    /// and deaths came, the first `max` of them (`None`: all; `Some(0)` finds nothing). They are gone from then on.
+    /// Takes the present samples that the selection asks for. They are gone from then on.
     ///
     /// # Errors
     ///
-    /// `NoData` where there is none; that too is an access, which lowers DATA_AVAILABLE. `Memory` where a growth was
-    /// refused; the cache is then as it was.
+    /// The first of these: `BadParameter` for a `max` that is neither -1 nor positive, and for an instance that is not
+    /// known where it has to be; `NoData` where there is no such sample, and that too is an access, which lowers
+    /// DATA_AVAILABLE; `Memory` where a growth was refused. But for `NoData` the cache is then as it was.
     ///
-    /// DDS 1.4, 2.2.2.5 (take).
-    pub fn take(&mut self, max: Option<u32>, masks: Masks) -> Result<Sequence<Sample>, Code>
-        // The samples are those that the definitions pick of what happened, or there is none.
-        ensures answer { (h : List Happening) → StandsFor self.old h → Answers self.old h max masks result }
-        // The take is entered, and nothing else; one for which there is no memory is not.
-        ensures after { (h : List Happening) → StandsFor self.old h → AfterAccess Took self.old h max masks result self.new }
+    /// DDS 1.4, 2.2.2.5 (take, take_instance, take_next_instance, take_next_sample).
+    pub fn take(&mut self, selection: Selection) -> Result<Sequence<Sample>, Code>
+        // The samples are those that the definitions pick of what happened, or there is none; or it is refused by the
+        // first cause that there is, or for want of memory.
+        ensures answer { (h : List Happening) → StandsFor self.old h → Answers self.old h selection result }
+        // The take is entered, and nothing else; one that is refused is not.
+        ensures after { (h : List Happening) → StandsFor self.old h → AfterAccess Took self.old h selection result self.new }
         // The policies stay.
         ensures qos { qos_of self.new ≡ qos_of self.old }
     {
-        let Access { positions, samples } = self.access(max, masks)?;
+        let Access { positions, samples } = self.access(selection)?;
         let is_empty = positions.is_empty();
         self.enter(Happening::Took(Sequence::from_vec(positions)))?;
         answer_of(is_empty, samples)
+    }
+
+    /// The key of a known instance, by its handle; `None` where no known instance has it. It needs no memory.
+    ///
+    /// DDS 1.4, 2.2.2.5 (get_key_value).
+    pub fn key_value(&self, instance: Handle) -> Option<Key>
+        // It is that of the definitions.
+        ensures { (h : List Happening) → StandsFor self.now h → result ≡ instance_of (qos_of self.now) h instance }
+    {
+        key_of(&self.entries, instance)
+    }
+
+    /// The handle of an instance, `NIL` of one that is not known. It needs no memory.
+    ///
+    /// DDS 1.4, 2.2.2.5 (lookup_instance).
+    pub fn lookup(&self, key: Key) -> Handle
+        // It is that of the definitions.
+        ensures { (h : List Happening) → StandsFor self.now h → result ≡ handle_of (qos_of self.now) h key }
+    {
+        handle_of(&self.entries, key)
     }
 }
 

@@ -18,7 +18,8 @@ pub struct Registration {
     pub is_registered: bool,
 }
 
-fn is_data(kind: ChangeKind) -> bool
+/// Whether a change of this kind may be accepted.
+pub fn is_data(kind: ChangeKind) -> bool
     ensures { result ≡ is_write_or_dispose kind }
 {
     match kind {

@@ -51,22 +51,30 @@ refused_nothing part (call.Register w key) x = refl
 refused_nothing part (call.Write w key value) x = refl
 refused_nothing part (call.Dispose w key) x = refl
 refused_nothing part (call.Unregister w key) x = refl
-refused_nothing part (call.Take r max masks) x = refl
+refused_nothing part (call.Read r selection) x = refl
+refused_nothing part (call.Take r selection) x = refl
+refused_nothing part (call.GetKeyValue r instance) x = refl
+refused_nothing part (call.LookupInstance r key) x = refl
 refused_nothing part (call.GetSampleLost r) x = refl
 
--- a call that is refused changes nothing
-pub refused_call : (kept : CoreKept) (config : Config) (peer : Peer) → StandsFor kept config peer → (c : Call) (code : Code) → Answers no_filters peer.part c (Refused code) peer.part.dds
-    → Follows kept config peer (event.Call c) (silent (Refused code))
-refused_call kept config peer s c code is = (
+-- a call that changes nothing
+pub unchanging_call : (kept : CoreKept) (config : Config) (peer : Peer) → StandsFor kept config peer → (c : Call) (reply : Reply) → effect_of peer.part c reply ≡ nothing → Answers no_filters peer.part c reply peer.part.dds
+    → Follows kept config peer (event.Call c) (silent reply)
+unchanging_call kept config peer s c reply none is = (
   peer,
   record {
     same_number = refl;
     knows = refl;
-    step = (record { answers = is; rtps = ap (λ (e : Effect). effect peer.part.rtps e) (sym (refused_nothing peer.part c code)) }, refl);
+    step = (record { answers = is; rtps = ap (λ (e : Effect). effect peer.part.rtps e) (sym none) }, refl);
     sent = λ p x m h. absurd (omega (arith, m.1));
   },
   s,
 )
+
+-- so does one that is refused
+pub refused_call : (kept : CoreKept) (config : Config) (peer : Peer) → StandsFor kept config peer → (c : Call) (code : Code) → Answers no_filters peer.part c (Refused code) peer.part.dds
+    → Follows kept config peer (event.Call c) (silent (Refused code))
+refused_call kept config peer s c code is = unchanging_call kept config peer s c (Refused code) (refused_nothing peer.part c code) is
 
 -- numbers of writers and readers
 

@@ -15,7 +15,8 @@ pub mod PeersBehind
 pub mod Sent
 pub mod Tables
 pub mod Ticking
-pub mod Took
+pub mod Accessing
+pub mod Asking
 pub mod Looked
 pub mod WriterEnds
 pub mod Named

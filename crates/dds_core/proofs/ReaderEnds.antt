@@ -14,7 +14,7 @@ use Rattle.dds_cache.specs.Standing.{qos_of}
 use Rattle.rtps_reader.specs.Reader.{Proxies, Tracks, count_of}
 use Rattle.rtps_reader.specs.Tracked.{fresh}
 use Rattle.dds_model.specs.declared.endpoint.Endpoint.{Endpoint}
-use Rattle.dds_model.specs.Calls.{limit_of}
+use Rattle.dds_base.specs.Checked.{limit_of}
 use Rattle.dds_model.specs.Opening.{writer_qos, writers_in, matched_writers}
 use Rattle.dds_model.specs.Part.{WriterProxy, same_endpoint, row_of, place_of}
 use Rattle.dds_model.proofs.OwnGuids.{as_many}

@@ -16,7 +16,7 @@ use Rattle.rtps_writer.specs.WriterState.{WriterState, entering, history_of, is_
 use Rattle.dds_model.specs.declared.endpoint.Endpoint.{Endpoint}
 use Rattle.dds_model.specs.Opening.{matched_readers}
 use Rattle.dds_model.specs.Part.{Writer, ReaderProxy, writer_changes, history_of as writer_history, is_behind as is_writer_behind}
-use Rattle.dds_model.specs.Calls.{limit_of}
+use Rattle.dds_base.specs.Checked.{limit_of}
 use Rattle.dds_core.specs.declared.matching.Destination.{Destination}
 use Rattle.dds_core.specs.declared.matching.ReaderName.{ReaderName}
 use Rattle.dds_core.specs.Kept.{WriterKept, WriterIdentity, writer_identity}

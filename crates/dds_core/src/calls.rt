@@ -1,23 +1,21 @@
-//! The calls of a peer's writers and readers.
+//! The calls of a peer, and those of its writers.
 //!
-//! DDS 1.4, 2.2.2.4 (DataWriter), 2.2.2.5 (DataReader).
+//! DDS 1.4, 2.2.2.4 (DataWriter).
 
 ghost use Rattle.std.specs.Prelude.{◌≡◌, ◌&&◌, ◌+◌, ◌^◌, ◌<◌, ◌≤◌, false, length, nat_lt, nat_le, true, [], MatchOption};
 ghost use Rattle.std.specs.Result.{ForOk};
-ghost use Rattle.dds_base.specs.Checked.{is_maximum};
 ghost use Rattle.rtps_wire.specs.Data.{IsContent};
 ghost use Rattle.dds_model.specs.declared.reply.Reply.TheVariants.{Done, Refused};
 ghost use Rattle.dds_model.specs.declared.call.Call.TheVariants as call;
 ghost use Rattle.dds_model.specs.declared.event.Event.TheVariants as event;
-ghost use Rattle.dds_model.specs.Calls.{limit_of};
 ghost use Rattle.dds_core.specs.Standing.{Steps};
 ghost use Rattle.dds_core.specs.Making.{Makes, IsValueOf};
 ghost use Rattle.dds_core.specs.Sending.{Sends, SendsNothing, AnnouncesAll, AreMessages};
 
-use crate::output::{answered, reply_to_access};
+use crate::output::answered;
 use crate::peer::Core;
 use crate::sending::{Announced, Sender, announce};
-use dds_base::{Change, ChangeKind, Code, Key, MAX_VALUE, Masks, Octets, Sequence, Sn};
+use dds_base::{Change, ChangeKind, Code, Key, MAX_VALUE, Octets, Sequence, Sn};
 use dds_model::{Call, Output, Reply};
 use rtps_wire::DataContent;
 use std::alloc::AllocError;
@@ -33,19 +31,6 @@ pub fn index_of(number: u8, count: usize) -> Option<usize>
     }
 }
 
-/// How many samples an access asks for; `None` where it asks for no valid number.
-fn limit_from(max: i32) -> Option<Option<u32>>
-    ensures { MatchOption result (is_maximum max ≡ false) (λ limit. (is_maximum max ≡ true) × (limit ≡ limit_of max)) }
-{
-    if max == -1 {
-        Some(None)
-    } else if 0 < max {
-        Some(Some(max as u32))
-    } else {
-        None
-    }
-}
-
 impl Core {
     pub(crate) fn call(&mut self, call: Call) -> Output
         ensures step { Steps self.old (event.Call call) result self.new }
@@ -57,12 +42,15 @@ impl Core {
             Call::Write { writer, key, value } => self.write(writer, key, value),
             Call::Dispose { writer, key } => self.dispose(writer, key),
             Call::Unregister { writer, key } => self.unregister(writer, key),
-            Call::Take { reader, max, masks } => self.take(reader, max, masks),
+            Call::Read { reader, selection } => self.read(reader, selection),
+            Call::Take { reader, selection } => self.take(reader, selection),
+            Call::GetKeyValue { reader, instance } => self.get_key_value(reader, instance),
+            Call::LookupInstance { reader, key } => self.lookup_instance(reader, key),
             Call::GetSampleLost { reader } => self.get_sample_lost(reader),
         }
     }
 
-    fn refused(&self, code: Code) -> Output
+    pub(crate) fn refused(&self, code: Code) -> Output
         ensures { result ≡ record { reply = Refused code; packets = []; unsent = 0 } }
     {
         answered(self.alloc, Reply::Refused(code))
@@ -177,30 +165,5 @@ impl Core {
             packets: Sequence::from_vec(packets),
             unsent,
         }
-    }
-
-    fn take(&mut self, reader: u8, max: i32, masks: Masks) -> Output
-        ensures step { Steps self.old (event.Call (call.Take reader max masks)) result self.new }
-        ensures sends { SendsNothing result }
-    {
-        let Some(index) = index_of(reader, self.readers.len()) else {
-            return self.refused(Code::BadParameter);
-        };
-        let Some(limit) = limit_from(max) else {
-            return self.refused(Code::BadParameter);
-        };
-        let samples = self.readers[index].take(limit, masks);
-        answered(self.alloc, reply_to_access(samples))
-    }
-
-    fn get_sample_lost(&mut self, reader: u8) -> Output
-        ensures step { Steps self.old (event.Call (call.GetSampleLost reader)) result self.new }
-        ensures sends { SendsNothing result }
-    {
-        let Some(index) = index_of(reader, self.readers.len()) else {
-            return self.refused(Code::BadParameter);
-        };
-        let status = self.readers[index].get_sample_lost();
-        answered(self.alloc, Reply::SampleLost(status))
     }
 }

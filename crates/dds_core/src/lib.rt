@@ -4,6 +4,7 @@
 //! keeps (`rtps_writer`) and what a reader holds (`dds_cache`).
 #![tactic(auto)]
 
+mod access;
 mod acknack;
 mod answering;
 mod calls;

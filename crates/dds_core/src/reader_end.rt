@@ -3,25 +3,26 @@
 //! RTPS 2.5, 8.4.10 (StatefulReader, WriterProxy); DDS 1.4, 2.2.2.5 (DataReader).
 
 ghost use Rattle.std.specs.Prelude.{◌≡◌, ◌↔◌, ◌<◌, ◌≤◌, ℕ, List, length, slice_get, None, Some, true, IsTrue, IfSome, IfNone, IfOk, IfErr, OnOk, IsOk, Ok, MatchOption};
+ghost use Rattle.dds_base.specs.Access.{instance_of, handle_of};
 ghost use Rattle.dds_base.specs.Checked.{check_refusal};
 ghost use Rattle.dds_base.specs.declared.code.Code.TheVariants.{Memory};
 ghost use Rattle.dds_base.specs.declared.happening.Happening.{Happening};
-ghost use Rattle.dds_base.specs.declared.happening.Happening.TheVariants.{Took};
+ghost use Rattle.dds_base.specs.declared.happening.Happening.TheVariants.{Read, Took};
 ghost use Rattle.rtps_wire.specs.declared.submessage.Submessage.TheVariants as submessage;
 ghost use Rattle.rtps_reader.specs.Answer.{IsSayable};
 ghost use Rattle.rtps_reader.specs.Tracked.{Tracked};
 ghost use Rattle.dds_core.specs.Opening.{is_plain_reader, OpensReader};
 ghost use Rattle.dds_core.specs.Receiving.{receiver_at, IsFirstName, IsNamedFor, NamedBy, NamesNobody, IsToldBy, HasMemory, IsReadyFor, IsAlike, CanTake, TakesTold, SameReader, TakesOnly, TellsLost, IsPlaceAt};
 ghost use Rattle.dds_core.specs.Stored.{Holds};
-ghost use Rattle.dds_cache.specs.Standing.{Answers, AfterAccess};
+ghost use Rattle.dds_cache.specs.Standing.{qos_of, Answers, AfterAccess};
 ghost use Rattle.dds_model.specs.Claims.{is_for, Names};
 
 use crate::matching::{MatchedWriters, WriterName, matched_writers};
 use crate::receiver::{MessageReceiver, is_for};
 use crate::store::Store;
 use dds_base::{
-    Change, Code, EntityId, Guid, GuidPrefix, Masks, Moment, PeerConfig, ReaderConfig, ReaderQos,
-    Sample, SampleLostStatus, Sequence, Sn,
+    Change, Code, EntityId, Guid, GuidPrefix, Handle, Key, Moment, PeerConfig, ReaderConfig,
+    ReaderQos, Sample, SampleLostStatus, Selection, Sequence, Sn,
 };
 use rtps_reader::{HeartbeatSeen, StatefulReader, Step};
 use rtps_sets::SnSet;
@@ -334,19 +335,54 @@ impl ReaderEnd {
         }
     }
 
+    /// Reads samples, as the reader's cache does.
+    ///
+    /// # Errors
+    ///
+    /// `BadParameter` where the selection is not valid; `NoData` where no sample is selected; `Memory` where a growth was
+    /// refused. But for `NoData` the reader is then as it was.
+    ///
+    /// DDS 1.4, 2.2.2.5 (read and its other forms).
+    pub fn read(&mut self, selection: Selection) -> Result<Sequence<Sample>, Code>
+        ensures answer { (h : List Happening) → Holds self.old.store h → Answers self.old.store.cache h selection result }
+        ensures after { (h : List Happening) → Holds self.old.store h → AfterAccess Read self.old.store.cache h selection result self.new.store.cache }
+        ensures same { TakesOnly self.old self.new }
+    {
+        self.store.read(selection)
+    }
+
     /// Takes samples, as the reader's cache does.
     ///
     /// # Errors
     ///
-    /// `NoData` where none meets the masks; `Memory` where a growth was refused: the reader is then as it was.
+    /// `BadParameter` where the selection is not valid; `NoData` where no sample is selected; `Memory` where a growth was
+    /// refused. But for `NoData` the reader is then as it was.
     ///
-    /// DDS 1.4, 2.2.2.5 (take).
-    pub fn take(&mut self, max: Option<u32>, masks: Masks) -> Result<Sequence<Sample>, Code>
-        ensures answer { (h : List Happening) → Holds self.old.store h → Answers self.old.store.cache h max masks result }
-        ensures after { (h : List Happening) → Holds self.old.store h → AfterAccess Took self.old.store.cache h max masks result self.new.store.cache }
+    /// DDS 1.4, 2.2.2.5 (take and its other forms).
+    pub fn take(&mut self, selection: Selection) -> Result<Sequence<Sample>, Code>
+        ensures answer { (h : List Happening) → Holds self.old.store h → Answers self.old.store.cache h selection result }
+        ensures after { (h : List Happening) → Holds self.old.store h → AfterAccess Took self.old.store.cache h selection result self.new.store.cache }
         ensures same { TakesOnly self.old self.new }
     {
-        self.store.take(max, masks)
+        self.store.take(selection)
+    }
+
+    /// The key of a known instance, by its handle.
+    ///
+    /// DDS 1.4, 2.2.2.5 (get_key_value).
+    pub fn key_value(&self, instance: Handle) -> Option<Key>
+        ensures { (h : List Happening) → Holds self.now.store h → result ≡ instance_of (qos_of self.now.store.cache) h instance }
+    {
+        self.store.key_value(instance)
+    }
+
+    /// The handle of an instance, `NIL` of one that is not known.
+    ///
+    /// DDS 1.4, 2.2.2.5 (lookup_instance).
+    pub fn lookup(&self, key: Key) -> Handle
+        ensures { (h : List Happening) → Holds self.now.store h → result ≡ handle_of (qos_of self.now.store.cache) h key }
+    {
+        self.store.lookup(key)
     }
 
     /// Looks at how many changes were passed over, in all and since the last look.

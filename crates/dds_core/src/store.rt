@@ -4,12 +4,13 @@
 
 ghost use Rattle.std.specs.Prelude.{◌≡◌, None, ℕ, List, []};
 ghost use Rattle.dds_base.specs.declared.happening.Happening.{Happening};
-ghost use Rattle.dds_base.specs.declared.happening.Happening.TheVariants.{Took};
+ghost use Rattle.dds_base.specs.declared.happening.Happening.TheVariants.{Read, Took};
+ghost use Rattle.dds_base.specs.Access.{instance_of, handle_of};
 ghost use Rattle.dds_base.specs.Statuses.{lost_count};
 ghost use Rattle.dds_cache.specs.Standing.{qos_of, Answers, AfterAccess};
 ghost use Rattle.dds_core.specs.Stored.{StoreKept, Holds, Counts, Loses};
 
-use dds_base::{Arrival, Code, Handle, Masks, Moment, ReaderQos, Sample, Sequence, Sn};
+use dds_base::{Arrival, Code, Handle, Key, Moment, ReaderQos, Sample, Selection, Sequence, Sn};
 use dds_cache::ReaderCache;
 use rtps_reader::Sink;
 use std::alloc::Global;
@@ -86,15 +87,40 @@ impl Store {
         self.lost
     }
 
-    /// Takes samples, as the cache does.
-    pub fn take(&mut self, max: Option<u32>, masks: Masks) -> Result<Sequence<Sample>, Code>
-        ensures answer { (h : List Happening) → Holds self.old h → Answers self.old.cache h max masks result }
-        ensures after { (h : List Happening) → Holds self.old h → AfterAccess Took self.old.cache h max masks result self.new.cache }
+    /// Reads samples, as the cache does.
+    pub fn read(&mut self, selection: Selection) -> Result<Sequence<Sample>, Code>
+        ensures answer { (h : List Happening) → Holds self.old h → Answers self.old.cache h selection result }
+        ensures after { (h : List Happening) → Holds self.old h → AfterAccess Read self.old.cache h selection result self.new.cache }
         ensures qos { qos_of self.new.cache ≡ qos_of self.old.cache }
         ensures arrivals { self.new.arrivals ≡ self.old.arrivals }
         ensures lost { self.new.lost ≡ self.old.lost }
     {
-        self.cache.take(max, masks)
+        self.cache.read(selection)
+    }
+
+    /// Takes samples, as the cache does.
+    pub fn take(&mut self, selection: Selection) -> Result<Sequence<Sample>, Code>
+        ensures answer { (h : List Happening) → Holds self.old h → Answers self.old.cache h selection result }
+        ensures after { (h : List Happening) → Holds self.old h → AfterAccess Took self.old.cache h selection result self.new.cache }
+        ensures qos { qos_of self.new.cache ≡ qos_of self.old.cache }
+        ensures arrivals { self.new.arrivals ≡ self.old.arrivals }
+        ensures lost { self.new.lost ≡ self.old.lost }
+    {
+        self.cache.take(selection)
+    }
+
+    /// The key of a known instance, by its handle.
+    pub fn key_value(&self, instance: Handle) -> Option<Key>
+        ensures { (h : List Happening) → Holds self.now h → result ≡ instance_of (qos_of self.now.cache) h instance }
+    {
+        self.cache.key_value(instance)
+    }
+
+    /// The handle of an instance, `NIL` of one that is not known.
+    pub fn lookup(&self, key: Key) -> Handle
+        ensures { (h : List Happening) → Holds self.now h → result ≡ handle_of (qos_of self.now.cache) h key }
+    {
+        self.cache.lookup(key)
     }
 }
 

@@ -12,13 +12,13 @@ use Rattle.dds_base.specs.declared.config.PeerConfig.{PeerConfig}
 use Rattle.dds_base.specs.declared.config.WriterConfig.{WriterConfig}
 use Rattle.dds_base.specs.declared.config.ReaderConfig.{ReaderConfig}
 use Rattle.dds_base.specs.declared.happening.Happening.{Happening}
-use Rattle.dds_base.specs.declared.happening.Happening.TheVariants.{Took, Heard as WasHeard}
+use Rattle.dds_base.specs.declared.happening.Happening.TheVariants.{Read as HasRead, Took, Heard as WasHeard}
 use Rattle.dds_base.specs.declared.happening.SamplePosition.{SamplePosition}
-use Rattle.dds_base.specs.declared.mask.Masks.{Masks}
+use Rattle.dds_base.specs.declared.selection.Selection.{Selection}
 use Rattle.dds_base.specs.declared.qos.HistoryQos.TheVariants.{KeepAll}
 use Rattle.dds_base.specs.Statuses.{lost_count}
 use Rattle.dds_model.specs.declared.call.Call.{Call}
-use Rattle.dds_model.specs.declared.call.Call.TheVariants.{Register, Write, Dispose, Unregister, Take, GetSampleLost}
+use Rattle.dds_model.specs.declared.call.Call.TheVariants.{Register, Write, Dispose, Unregister, Read, Take, GetKeyValue, LookupInstance, GetSampleLost}
 use Rattle.dds_model.specs.declared.endpoint.Endpoint.{Endpoint}
 use Rattle.dds_model.specs.declared.event.WorldEvent.{WorldEvent}
 use Rattle.dds_model.specs.declared.event.WorldEvent.TheVariants as world
@@ -26,11 +26,11 @@ use Rattle.dds_model.specs.declared.reply.Move.{Move}
 use Rattle.dds_model.specs.declared.reply.Move.TheVariants.{Place, Acknowledged, Heard}
 use Rattle.dds_base.specs.declared.happening.PassedRun.{PassedRun}
 use Rattle.dds_model.specs.declared.reply.Reply.{Reply}
-use Rattle.dds_model.specs.declared.reply.Reply.TheVariants.{Done, Samples, SampleLost, Reported, Refused}
+use Rattle.dds_model.specs.declared.reply.Reply.TheVariants.{Done, Samples, KeyValue, InstanceHandle, SampleLost, Reported, Refused}
 use Rattle.dds_model.specs.Numbered.{numbered, with_numbered, HasNumber}
 use Rattle.dds_model.specs.Part.{same_endpoint, WriterProxy, Reader, Dds, Part, no_reader, no_part, own_writer, own_proxies, own_reader, at_reader, at_writer, row_of, place_of, with_place, with_heard, with_acknowledged, publication_of, writer_changes}
 use Rattle.dds_model.specs.Moves.{Grounds, as_to, match_of, IsMatched, position_of, AreMoves, Places, Hears, DeliveryStep}
-use Rattle.dds_model.specs.Calls.{Effect, nothing, writes, effect, effect_of, after_look, with_happening, register_refusal, write_refusal, dispose_refusal, unregister_refusal, IsDoneUnless, Tests, Answers, CallStep, TickStep}
+use Rattle.dds_model.specs.Calls.{Effect, nothing, writes, effect, effect_of, after_look, with_happening, register_refusal, write_refusal, dispose_refusal, unregister_refusal, IsDoneUnless, Tests, AnswersAccess, Answers, CallStep, TickStep}
 use Rattle.dds_model.specs.Machine.{Machine, AllTests, part_at, writer_at, place_at, grounds_of, Step}
 use Rattle.dds_model.specs.Runs.{Traffic, Run}
 use Rattle.dds_model.specs.InOrder.{came_from, CameInOrder, no_traffic}
@@ -188,15 +188,21 @@ changed_reader old new k reader r h same e = (
       (numbered-cases old.dds.readers k reader r no_reader),
 )
 
-took : (old : Part) (new : Dds) (k : ℕ) (samples : List SamplePosition) (r : ℕ) → HasNumber old.dds.readers r → new ≡ with_happening old k (Took samples) → SameCame old.dds new r
-took old new k samples r h e = changed_reader old new k (record (own_reader old k) { happened = Took samples ∷ (own_reader old k).happened }) r h (λ p. refl) e
+-- an access enters nothing that came
+abbrev EntersNothingThatCame : (List SamplePosition → Happening) → Type 0
+EntersNothingThatCame entry = (samples : List SamplePosition) (p : ℕ) (h : List Happening) → came_from p (entry samples ∷ h) ≡ came_from p h
+
+entered : (entry : List SamplePosition → Happening) → EntersNothingThatCame entry → (old : Part) (new : Dds) (k : ℕ) (samples : List SamplePosition) (r : ℕ) → HasNumber old.dds.readers r → new ≡ with_happening old k (entry samples) → SameCame old.dds new r
+entered entry same old new k samples r h e = changed_reader old new k (record (own_reader old k) { happened = entry samples ∷ (own_reader old k).happened }) r h (λ p. same samples p (own_reader old k).happened) e
 
 looked : (old : Part) (new : Dds) (k r : ℕ) → HasNumber old.dds.readers r → new ≡ after_look old k → SameCame old.dds new r
 looked old new k r h e = changed_reader old new k (record (own_reader old k) { lost_seen = lost_count (own_reader old k).happened }) r h (λ p. refl) e
 
-take_refused : (tests : Tests) (old : Part) (k : ℕ) (max : ℤ) (masks : Masks) (code : Code) (new : Dds) (r : ℕ) → HasNumber old.dds.readers r → Answers tests old (Take k max masks) (Refused code) new → SameCame old.dds new r
-take_refused tests old k max masks code.NoData new r h a = took old new k [] r h a.2
-take_refused tests old k max masks code new r h a = same_came old.dds new r h a.1
+accessed : (entry : List SamplePosition → Happening) → EntersNothingThatCame entry → (old : Part) (k : ℕ) (selection : Selection) (reply : Reply) (new : Dds) (r : ℕ) → HasNumber old.dds.readers r → AnswersAccess entry old k selection reply new → SameCame old.dds new r
+accessed entry same old k selection (Samples samples) new r h a = entered entry same old new k _ r h a.3
+accessed entry same old k selection (Refused code.NoData) new r h a = entered entry same old new k [] r h a.2
+accessed entry same old k selection (Refused code) new r h a = same_came old.dds new r h a.1
+accessed entry same old k selection reply new r h a = absurd a
 
 done_or_not : (refusal : Option Code) (reply : Reply) (old new : Dds) (r : ℕ) → HasNumber old.readers r → IsDoneUnless refusal reply old old new → SameCame old new r
 done_or_not refusal Done old new r h a = same_came old new r h a.1
@@ -208,9 +214,14 @@ answers_came tests old (Register v key) reply new r h a = done_or_not (register_
 answers_came tests old (Write v key value) reply new r h a = done_or_not (write_refusal old v key value) reply old.dds new r h a
 answers_came tests old (Dispose v key) reply new r h a = done_or_not (dispose_refusal old v key) reply old.dds new r h a
 answers_came tests old (Unregister v key) reply new r h a = done_or_not (unregister_refusal old v key) reply old.dds new r h a
-answers_came tests old (Take v max masks) (Samples samples) new r h a = took old new v _ r h a.3
-answers_came tests old (Take v max masks) (Refused code) new r h a = take_refused tests old v max masks code new r h a
-answers_came tests old (Take v max masks) reply new r h a = absurd a
+answers_came tests old (Read v selection) reply new r h a = accessed HasRead (λ samples p past. refl) old v selection reply new r h a
+answers_came tests old (Take v selection) reply new r h a = accessed Took (λ samples p past. refl) old v selection reply new r h a
+answers_came tests old (GetKeyValue v instance) (KeyValue key) new r h a = same_came old.dds new r h a.2
+answers_came tests old (GetKeyValue v instance) (Refused code) new r h a = same_came old.dds new r h a.1
+answers_came tests old (GetKeyValue v instance) reply new r h a = absurd a
+answers_came tests old (LookupInstance v key) (InstanceHandle handle) new r h a = same_came old.dds new r h a.2
+answers_came tests old (LookupInstance v key) (Refused code) new r h a = same_came old.dds new r h a.1
+answers_came tests old (LookupInstance v key) reply new r h a = absurd a
 answers_came tests old (GetSampleLost v) (SampleLost status) new r h a = looked old new v r h a.2
 answers_came tests old (GetSampleLost v) (Refused code) new r h a = same_came old.dds new r h a.1
 answers_came tests old (GetSampleLost v) reply new r h a = absurd a

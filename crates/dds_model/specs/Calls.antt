@@ -1,9 +1,9 @@
 -- What a peer answers to a call, and what the call does: the first cause that holds refuses it, else it is done, unless
 -- a growth was refused.
 --
--- DDS 1.4, 2.2.2.4 (register_instance, write, dispose, unregister_instance), 2.2.2.5 (take, get_sample_lost_status),
--- 2.2.1.1 (return codes).
-use Rattle.std.specs.Prelude.{◌≡◌, ◌≢◌, ℕ, ◌^◌, ◌&&◌, ◌||◌, not, Bool, List, [], ◌∷◌, map, length, Option, Some, None, nat_le, nat_lt, if◌then◌else◌, ℤ, pos, negsuc}
+-- DDS 1.4, 2.2.2.4 (register_instance, write, dispose, unregister_instance), 2.2.2.5 (the forms of read
+-- and take, get_key_value, lookup_instance, get_sample_lost_status), 2.2.1.1 (return codes).
+use Rattle.std.specs.Prelude.{◌≡◌, ◌≢◌, ℕ, ◌^◌, ◌&&◌, ◌||◌, not, Bool, List, [], ◌∷◌, map, length, Option, Some, None, is_some, nat_le, nat_lt, if◌then◌else◌}
 use Rattle.dds_base.specs.declared.key.Key.{Key}
 use Rattle.dds_base.specs.declared.change.Change.{Change}
 use Rattle.dds_base.specs.declared.change.ChangeKind.{ChangeKind}
@@ -11,19 +11,19 @@ use Rattle.dds_base.specs.declared.change.ChangeKind.TheVariants as kind
 use Rattle.dds_base.specs.declared.code.Code.{Code}
 use Rattle.dds_base.specs.declared.code.Code.TheVariants.{BadParameter, PreconditionNotMet, NoData}
 use Rattle.dds_base.specs.declared.happening.Happening.{Happening}
-use Rattle.dds_base.specs.declared.happening.Happening.TheVariants.{Took}
+use Rattle.dds_base.specs.declared.happening.Happening.TheVariants.{Read as HasRead, Took}
 use Rattle.dds_base.specs.declared.happening.SamplePosition.{SamplePosition}
-use Rattle.dds_base.specs.declared.mask.Masks.{Masks}
-use Rattle.dds_base.specs.Access.{picked_samples, no_filter, collection_of}
-use Rattle.dds_base.specs.Checked.{is_maximum}
+use Rattle.dds_base.specs.declared.selection.Selection.{Selection}
+use Rattle.dds_base.specs.Access.{no_filter, collection_of, instance_of, handle_of}
 use Rattle.dds_base.specs.Kept.{append_refusal}
 use Rattle.dds_base.specs.Refusal.{Refuses}
+use Rattle.dds_base.specs.Selection.{picked_by, selection_refusal}
 use Rattle.dds_base.specs.Statuses.{lost_count, sample_lost_status}
 use Rattle.dds_base.specs.Written.{Written, Registered, Changed, Ticked, is_key_registered}
 use Rattle.dds_model.specs.declared.call.Call.{Call}
-use Rattle.dds_model.specs.declared.call.Call.TheVariants.{Register, Write, Dispose, Unregister, Take, GetSampleLost}
+use Rattle.dds_model.specs.declared.call.Call.TheVariants.{Register, Write, Dispose, Unregister, Read, Take, GetKeyValue, LookupInstance, GetSampleLost}
 use Rattle.dds_model.specs.declared.reply.Reply.{Reply}
-use Rattle.dds_model.specs.declared.reply.Reply.TheVariants.{Done, Samples, SampleLost, Refused}
+use Rattle.dds_model.specs.declared.reply.Reply.TheVariants.{Done, Samples, KeyValue, InstanceHandle, SampleLost, Refused}
 use Rattle.dds_model.specs.Numbered.{numbered, with_numbered}
 use Rattle.dds_model.specs.Part.{Part, Rtps, Dds, Writer, no_writer, own_writer, own_reader, history_of, is_behind}
 
@@ -63,25 +63,29 @@ unregister_refusal part writer key =
     else (if not (is_key_registered key (own_writer part writer).written) then Some PreconditionNotMet
     else change_refusal part writer (change_made part (unregister_kind (own_writer part writer).autodispose) key []))
 
--- how many samples at most: -1 is unlimited
-abbrev pub limit_of : ℤ → Option ℕ
-limit_of (pos n) = Some n
-limit_of (negsuc n) = None
-
 -- What the filters of a peer answer, by their numbers: whether a sample of this key and value passes. The machine holds
 -- the numbers alone.
 abbrev pub Tests : Type 0
 Tests = ℕ → Key → List ℕ → Bool
 
 -- the samples that an access of the peer's reader returns
-abbrev pub picked_at : Part → ℕ → ℤ → Masks → List SamplePosition
-picked_at part reader max masks = picked_samples (own_reader part reader).qos (own_reader part reader).happened (limit_of max) masks no_filter
+abbrev pub picked_at : Part → ℕ → Selection → List SamplePosition
+picked_at part reader selection = picked_by (own_reader part reader).qos (own_reader part reader).happened selection no_filter
 
--- why an access is refused: no such reader, or a max that is neither -1 nor positive
-abbrev pub access_refusal : Part → ℕ → ℤ → Option Code
-access_refusal part reader max = if not (has_number part.dds.readers reader) || not (is_maximum max) then Some BadParameter else None
+-- why an access is refused: no such reader, a max that is neither -1 nor positive, or an instance that has to be known and is not
+abbrev pub access_refusal : Part → ℕ → Selection → Option Code
+access_refusal part reader selection =
+    if not (has_number part.dds.readers reader) then Some BadParameter else selection_refusal (own_reader part reader).qos (own_reader part reader).happened selection
 
--- why a look at a status of the peer's reader is refused: no such reader
+-- the key of an instance of the peer's reader, by its handle
+abbrev pub key_of : Part → ℕ → ℕ → Option Key
+key_of part reader instance = instance_of (own_reader part reader).qos (own_reader part reader).happened instance
+
+-- why there is no key of an instance: no such reader, or no known instance has the handle
+abbrev pub key_refusal : Part → ℕ → ℕ → Option Code
+key_refusal part reader instance = if not (has_number part.dds.readers reader) || not (is_some (key_of part reader instance)) then Some BadParameter else None
+
+-- why a look at a status or a handle of the peer's reader is refused: no such reader
 abbrev pub look_refusal : Part → ℕ → Option Code
 look_refusal part reader = if not (has_number part.dds.readers reader) then Some BadParameter else None
 
@@ -123,21 +127,35 @@ IsDoneUnless refusal Done old done new = (refusal ≡ None) × (new ≡ done)
 IsDoneUnless refusal (Refused code) old done new = Refuses refusal code × (new ≡ old)
 IsDoneUnless refusal reply old done new = ⊥
 
--- What a call answers, and what it does to what the peer's own calls see. A take that finds nothing happened too; one that
--- finds no memory to look for samples did not. A look at a status needs no memory.
+-- An access that enters so: the samples that it picks, or NO_DATA where it picks none, and either is entered; or the first
+-- cause that refuses it, or want of memory where there is none, and it did not happen.
+abbrev pub AnswersAccess : (List SamplePosition → Happening) → Part → ℕ → Selection → Reply → Dds → Type 0
+AnswersAccess entry old reader selection (Samples samples) dds =
+    (access_refusal old reader selection ≡ None) × (picked_at old reader selection ≢ [])
+    × (samples ≡ collection_of (own_reader old reader).qos (own_reader old reader).happened (picked_at old reader selection))
+    × (dds ≡ with_happening old reader (entry (picked_at old reader selection)))
+AnswersAccess entry old reader selection (Refused NoData) dds =
+    (access_refusal old reader selection ≡ None) × (picked_at old reader selection ≡ []) × (dds ≡ with_happening old reader (entry []))
+AnswersAccess entry old reader selection (Refused code) dds = Refuses (access_refusal old reader selection) code × (dds ≡ old.dds)
+AnswersAccess entry old reader selection reply dds = ⊥
+
+-- What a call answers, and what it does to what the peer's own calls see. A look at a status, a key and a handle need no
+-- memory.
 abbrev pub Answers : Tests → Part → Call → Reply → Dds → Type 0
 Answers tests old (Register writer key) reply dds = IsDoneUnless (register_refusal old writer) reply old.dds old.dds dds
 Answers tests old (Write writer key value) reply dds = IsDoneUnless (write_refusal old writer key value) reply old.dds old.dds dds
 Answers tests old (Dispose writer key) reply dds = IsDoneUnless (dispose_refusal old writer key) reply old.dds old.dds dds
 Answers tests old (Unregister writer key) reply dds = IsDoneUnless (unregister_refusal old writer key) reply old.dds old.dds dds
-Answers tests old (Take reader max masks) (Samples samples) dds =
-    (access_refusal old reader max ≡ None) × (picked_at old reader max masks ≢ [])
-    × (samples ≡ collection_of (own_reader old reader).qos (own_reader old reader).happened (picked_at old reader max masks))
-    × (dds ≡ with_happening old reader (Took (picked_at old reader max masks)))
-Answers tests old (Take reader max masks) (Refused NoData) dds =
-    (access_refusal old reader max ≡ None) × (picked_at old reader max masks ≡ []) × (dds ≡ with_happening old reader (Took []))
-Answers tests old (Take reader max masks) (Refused code) dds = Refuses (access_refusal old reader max) code × (dds ≡ old.dds)
-Answers tests old (Take reader max masks) reply dds = ⊥
+Answers tests old (Read reader selection) reply dds = AnswersAccess HasRead old reader selection reply dds
+Answers tests old (Take reader selection) reply dds = AnswersAccess Took old reader selection reply dds
+Answers tests old (GetKeyValue reader instance) (KeyValue key) dds =
+    (key_refusal old reader instance ≡ None) × (key_of old reader instance ≡ Some key) × (dds ≡ old.dds)
+Answers tests old (GetKeyValue reader instance) (Refused code) dds = (key_refusal old reader instance ≡ Some code) × (dds ≡ old.dds)
+Answers tests old (GetKeyValue reader instance) reply dds = ⊥
+Answers tests old (LookupInstance reader key) (InstanceHandle handle) dds =
+    (look_refusal old reader ≡ None) × (handle ≡ handle_of (own_reader old reader).qos (own_reader old reader).happened key) × (dds ≡ old.dds)
+Answers tests old (LookupInstance reader key) (Refused code) dds = (look_refusal old reader ≡ Some code) × (dds ≡ old.dds)
+Answers tests old (LookupInstance reader key) reply dds = ⊥
 Answers tests old (GetSampleLost reader) (SampleLost status) dds =
     (look_refusal old reader ≡ None) × (status ≡ sample_lost_status (own_reader old reader).happened (own_reader old reader).lost_seen) × (dds ≡ after_look old reader)
 Answers tests old (GetSampleLost reader) (Refused code) dds = (look_refusal old reader ≡ Some code) × (dds ≡ old.dds)

@@ -9,7 +9,7 @@ use Rattle.dds_base.specs.declared.qos.MatchedWriter.{MatchedWriter}
 use Rattle.dds_base.specs.declared.qos.ReaderQos.{ReaderQos}
 use Rattle.dds_base.specs.Matched.{of_writers_in, of_matched_writers, of_readers_in, of_matched_readers}
 use Rattle.dds_model.specs.Part.{ReaderProxy, WriterProxy, Writer, Part}
-use Rattle.dds_model.specs.Calls.{limit_of}
+use Rattle.dds_base.specs.Checked.{limit_of}
 use Rattle.dds_model.specs.Peer.{Peer}
 use Rattle.dds_model.specs.Protocol.{knows_nothing}
 use Rattle.dds_model.specs.Machine.{Machine}

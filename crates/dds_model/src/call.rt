@@ -2,7 +2,7 @@
 
 ghost use Rattle.std.specs.Prelude.{◌≡◌};
 
-use dds_base::{Key, Masks, Octets};
+use dds_base::{Handle, Key, Octets, Selection};
 use std::alloc::AllocError;
 
 /// A call at a peer. Writers and readers are named by their numbers there, which count from 1.
@@ -23,9 +23,19 @@ pub enum Call {
     /// writer does so by itself (2.2.3, WRITER_DATA_LIFECYCLE). `PreconditionNotMet` for an instance that is not
     /// registered there.
     Unregister { writer: u8, key: Key },
-    /// Takes samples that meet the masks, `max` at most, -1 for all of them (DDS 1.4, 2.2.2.5, take). `BadParameter` for
-    /// a `max` that is neither -1 nor positive, `NoData` where there is no such sample.
-    Take { reader: u8, max: i32, masks: Masks },
+    /// Reads samples, which stay (DDS 1.4, 2.2.2.5, read and its instance, next-instance and next-sample forms).
+    /// `BadParameter` for a `max` that is neither -1 nor positive, and for an instance that is not known where it has to
+    /// be; `NoData` where there is no such sample.
+    Read { reader: u8, selection: Selection },
+    /// Takes samples, which are then gone (DDS 1.4, 2.2.2.5, take and its instance, next-instance and next-sample forms).
+    /// It is refused as a read is.
+    Take { reader: u8, selection: Selection },
+    /// Asks for the key of an instance (DDS 1.4, 2.2.2.5, get_key_value). `BadParameter` for an instance that is not known.
+    /// It is never refused for want of memory.
+    GetKeyValue { reader: u8, instance: Handle },
+    /// Asks for the handle of an instance, `NIL` where it is not known (DDS 1.4, 2.2.2.5, lookup_instance). It is never
+    /// refused for want of memory.
+    LookupInstance { reader: u8, key: Key },
     /// Looks at how many changes a reader passed over, in all and since the last look (DDS 1.4, 2.2.2.5,
     /// get_sample_lost_status). It is never refused for want of memory.
     GetSampleLost { reader: u8 },
@@ -53,10 +63,21 @@ impl Clone for Call {
                 writer: *writer,
                 key: *key,
             },
-            Call::Take { reader, max, masks } => Call::Take {
+            Call::Read { reader, selection } => Call::Read {
                 reader: *reader,
-                max: *max,
-                masks: *masks,
+                selection: *selection,
+            },
+            Call::Take { reader, selection } => Call::Take {
+                reader: *reader,
+                selection: *selection,
+            },
+            Call::GetKeyValue { reader, instance } => Call::GetKeyValue {
+                reader: *reader,
+                instance: *instance,
+            },
+            Call::LookupInstance { reader, key } => Call::LookupInstance {
+                reader: *reader,
+                key: *key,
             },
             Call::GetSampleLost { reader } => Call::GetSampleLost { reader: *reader },
         })

@@ -3,7 +3,7 @@
 ghost use Rattle.std.specs.Prelude.{◌≡◌};
 
 use crate::endpoint::Endpoint;
-use dds_base::{Code, PassedRun, Sample, SampleLostStatus, Sequence, Sn};
+use dds_base::{Code, Handle, Key, PassedRun, Sample, SampleLostStatus, Sequence, Sn};
 use std::alloc::AllocError;
 
 /// What a delivery moved.
@@ -43,6 +43,8 @@ pub struct Report {
 pub enum Reply {
     Done,
     Samples(Sequence<Sample>),
+    KeyValue(Key),
+    InstanceHandle(Handle),
     SampleLost(SampleLostStatus),
     Reported(Report),
     Refused(Code),
@@ -96,6 +98,8 @@ impl Clone for Reply {
         Ok(match self {
             Reply::Done => Reply::Done,
             Reply::Samples(samples) => Reply::Samples(samples.cloned()?),
+            Reply::KeyValue(key) => Reply::KeyValue(*key),
+            Reply::InstanceHandle(handle) => Reply::InstanceHandle(*handle),
             Reply::SampleLost(status) => Reply::SampleLost(*status),
             Reply::Reported(report) => Reply::Reported(report.clone()?),
             Reply::Refused(code) => Reply::Refused(*code),

@@ -2,7 +2,7 @@
 
 use crate::number::{decimal_i32, decimal_u8, decimal_u32, key, value};
 use bitflags::Flags;
-use dds_base::{InstanceStateMask, Key, Masks, SampleStateMask, ViewStateMask};
+use dds_base::{Handle, InstanceStateMask, Key, Masks, SampleStateMask, Selection, ViewStateMask};
 use dds_model::Call;
 use std::alloc::{AllocError, Global};
 
@@ -43,13 +43,89 @@ fn limits(words: &[&str]) -> Option<(i32, Masks)> {
     }
 }
 
-fn take(words: &[&str]) -> Option<Call> {
-    let [reader, limit_words @ ..] = words else {
+/// The handle of an instance.
+fn handle(word: &str) -> Option<Handle> {
+    Some(Handle::new(u64::from(decimal_u32(word)?)))
+}
+
+/// Samples of any instance.
+fn any(words: &[&str]) -> Option<Selection> {
+    let (max, masks) = limits(words)?;
+    Some(Selection::Any { max, masks })
+}
+
+/// Samples of one instance.
+fn of_instance(words: &[&str]) -> Option<Selection> {
+    let [handle_word, limit_words @ ..] = words else {
+        return None;
+    };
+    let handle = handle(handle_word)?;
+    let (max, masks) = limits(limit_words)?;
+    Some(Selection::Instance { handle, max, masks })
+}
+
+/// Samples of the next instance.
+fn of_next_instance(words: &[&str]) -> Option<Selection> {
+    let [handle_word, limit_words @ ..] = words else {
+        return None;
+    };
+    let previous = handle(handle_word)?;
+    let (max, masks) = limits(limit_words)?;
+    Some(Selection::NextInstance {
+        previous,
+        max,
+        masks,
+    })
+}
+
+/// The form of an access, by what follows `read` or `take` in its word.
+fn selection(form: &str, words: &[&str]) -> Option<Selection> {
+    match form {
+        "" => any(words),
+        "_instance" => of_instance(words),
+        "_next_instance" => of_next_instance(words),
+        "_next_sample" if words.is_empty() => Some(Selection::NextSample),
+        _ => None,
+    }
+}
+
+/// A reader, and what is selected there.
+fn reader_and_selection(form: &str, words: &[&str]) -> Option<(u8, Selection)> {
+    let [reader, operands @ ..] = words else {
+        return None;
+    };
+    Some((reader_number(reader)?, selection(form, operands)?))
+}
+
+/// A read or a take, in one of its forms.
+fn access(operation: &str, words: &[&str]) -> Option<Call> {
+    if let Some(form) = operation.strip_prefix("read") {
+        let (reader, selection) = reader_and_selection(form, words)?;
+        return Some(Call::Read { reader, selection });
+    }
+    let form = operation.strip_prefix("take")?;
+    let (reader, selection) = reader_and_selection(form, words)?;
+    Some(Call::Take { reader, selection })
+}
+
+/// The key of an instance.
+fn key_value(words: &[&str]) -> Option<Call> {
+    let [reader, handle_word] = words else {
         return None;
     };
     let reader = reader_number(reader)?;
-    let (max, masks) = limits(limit_words)?;
-    Some(Call::Take { reader, max, masks })
+    let instance = handle(handle_word)?;
+    Some(Call::GetKeyValue { reader, instance })
+}
+
+/// The handle of an instance.
+fn lookup(words: &[&str]) -> Option<Call> {
+    let [reader, key_word] = words else {
+        return None;
+    };
+    let reader = reader_number(reader)?;
+    let key = key(key_word)?;
+    Some(Call::LookupInstance { reader, key })
 }
 
 /// A look at a status of a reader.
@@ -93,6 +169,14 @@ fn write(alloc: Global, words: &[&str]) -> Result<Option<Call>, AllocError> {
     }
 }
 
+/// An access of a reader, or a call that names a writer and an instance.
+fn other_call(operation: &str, words: &[&str]) -> Option<Call> {
+    match operation {
+        "register" | "dispose" | "unregister" => instance_call(operation, words),
+        _ => access(operation, words),
+    }
+}
+
 /// The call that these words ask of a peer; none where they are no call.
 ///
 /// # Errors
@@ -101,9 +185,10 @@ fn write(alloc: Global, words: &[&str]) -> Result<Option<Call>, AllocError> {
 pub fn call_of(alloc: Global, words: &[&str]) -> Result<Option<Call>, AllocError> {
     match words {
         ["write", operands @ ..] => write(alloc, operands),
-        ["take", operands @ ..] => Ok(take(operands)),
         ["lost", operands @ ..] => Ok(look(operands)),
-        [operation, operands @ ..] => Ok(instance_call(operation, operands)),
+        ["key", operands @ ..] => Ok(key_value(operands)),
+        ["lookup", operands @ ..] => Ok(lookup(operands)),
+        [operation, operands @ ..] => Ok(other_call(operation, operands)),
         [] => Ok(None),
     }
 }

@@ -1,7 +1,7 @@
 //! What is printed.
 
 use crate::fault::Fault;
-use dds_base::{Code, InstanceState, Key, Sample, SampleInfo, SampleState, ViewState};
+use dds_base::{Code, Handle, InstanceState, Key, Sample, SampleInfo, SampleState, ViewState};
 use dds_model::{Endpoint, Move, PassedRun, Reply, Report, SampleLostStatus};
 use std::alloc::{AllocError, Global};
 use std::fmt::Display;
@@ -81,7 +81,17 @@ impl TranscriptLine {
     /// A key in hexadecimal digits without leading zeros, `0` for all zeros.
     fn push_key(&mut self, key: Key) {
         let number = u128::from_be_bytes(key.0);
-        self.push(format_args!(" [{number:x} "));
+        self.push(format_args!("{number:x}"));
+    }
+
+    fn push_key_value(&mut self, key: Key) {
+        self.push("key ");
+        self.push_key(key);
+    }
+
+    fn push_handle(&mut self, handle: Handle) {
+        let number = handle.number();
+        self.push(format_args!("handle {number}"));
     }
 
     fn push_value(&mut self, sample: &Sample) {
@@ -119,7 +129,9 @@ impl TranscriptLine {
     }
 
     fn push_sample(&mut self, sample: &Sample) {
+        self.push(" [");
         self.push_key(sample.key);
+        self.push(' ');
         self.push_value(sample);
         self.push_states(&sample.info);
         self.push_numbers(&sample.info);
@@ -210,6 +222,8 @@ impl TranscriptLine {
         match reply {
             Reply::Done => self.push("ok"),
             Reply::Samples(samples) => self.push_samples(samples.as_slice()),
+            Reply::KeyValue(key) => self.push_key_value(*key),
+            Reply::InstanceHandle(handle) => self.push_handle(*handle),
             Reply::SampleLost(status) => self.push_sample_lost(*status),
             Reply::Reported(report) => self.push_report(report),
             Reply::Refused(code) => self.push_code(*code),

@@ -10,7 +10,7 @@ use bitflags::Flags;
 use dds_base::{
     Arrival, Change, ChangeKind, Code, EntityId, Guid, GuidPrefix, Handle, HistoryQos, Key, Masks,
     MatchedWriter, Moment, Octets, OwnershipQos, ReaderQos, Sample, SampleInfo, SampleStateMask,
-    Sequence, Sn,
+    Selection, Sequence, Sn,
 };
 use dds_cache::ReaderCache;
 use readers::READERS;
@@ -190,11 +190,14 @@ impl Reader {
 impl Subject for Reader {
     fn answer(&mut self, alloc: Global, text: &mut String, name: &str, operands: &str) {
         let words = words_of(operands);
-        let (max, masks) = (words.first.parse().ok(), masks_of(words.second));
+        let selection = Selection::Any {
+            max: words.first.parse().unwrap_or(-1),
+            masks: masks_of(words.second),
+        };
         match name {
             "open" => self.begin(alloc, text, words),
-            "read" => push_access(text, self.cache.read(max, masks)),
-            "take" => push_access(text, self.cache.take(max, masks)),
+            "read" => push_access(text, self.cache.read(selection)),
+            "take" => push_access(text, self.cache.take(selection)),
             "died" => self.die(text, handle_of(words.first), number_of(words.second)),
             _ => self.come(text, handle_of(words.first), change_of(alloc, name, words)),
         }
@@ -240,7 +243,11 @@ fn count_taken(alloc: Global, count: u16) -> usize {
         return 0;
     };
     come_numbered(alloc, &mut reader, count);
-    match reader.cache.take(None, Masks::ANY) {
+    let selection = Selection::Any {
+        max: -1,
+        masks: Masks::ANY,
+    };
+    match reader.cache.take(selection) {
         Ok(samples) => samples.as_slice().len(),
         Err(_) => 0,
     }

@@ -1,8 +1,8 @@
 //! The example of the README, line for line, and what it gives.
 
 use dds_base::{
-    Code, Config, EntityId, GuidPrefix, Key, Masks, Octets, PeerConfig, ReaderConfig, Sequence,
-    WriterConfig,
+    Code, Config, EntityId, GuidPrefix, Key, Masks, Octets, PeerConfig, ReaderConfig, Selection,
+    Sequence, WriterConfig,
 };
 use dds_world::{Call, Reply, World, WorldEvent};
 use std::alloc::Global;
@@ -37,10 +37,13 @@ fn first_sample(alloc: Global) -> Result<Reply, Code> {
     };
     let _ = world.step(WorldEvent::Call { peer: 1, call }); // Done; packet 1 is sent
     let _ = world.step(WorldEvent::Deliver { peer: 2, packet: 1 }); // Reported: the place is now 2
-    let call = Call::Take {
-        reader: 1,
+    let selection = Selection::Any {
         max: -1,
         masks: Masks::ANY,
+    };
+    let call = Call::Take {
+        reader: 1,
+        selection,
     };
     Ok(world.step(WorldEvent::Call { peer: 2, call })) // Samples
 }

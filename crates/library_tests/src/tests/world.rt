@@ -5,7 +5,7 @@ mod scripts;
 use crate::tests::rows::{Subject, Words, expect_rows, number_of, octets_of, words_of};
 use dds_base::{
     Code, Config, EntityId, GuidPrefix, HistoryQos, Key, Masks, Moment, Octets, OwnershipQos,
-    PeerConfig, ReaderConfig, Sequence, WriterConfig,
+    PeerConfig, ReaderConfig, Selection, Sequence, WriterConfig,
 };
 use dds_world::{Call, World, WorldEvent};
 use scripts::SCRIPTS;
@@ -91,8 +91,10 @@ fn call_of(alloc: Global, name: &str, words: Words<'_>) -> Call {
         },
         _ => Call::Take {
             reader: number,
-            max: -1,
-            masks: Masks::ANY,
+            selection: Selection::Any {
+                max: -1,
+                masks: Masks::ANY,
+            },
         },
     }
 }

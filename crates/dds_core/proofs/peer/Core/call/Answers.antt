@@ -1,9 +1,4 @@
-use mir.Val.{SFits}
-use Rattle.std.proofs.Common.{sym, subst, rules}
-use Rattle.std.specs.Prelude.{ℤ}
-use Rattle.std.specs.Int.{w32}
-use Rattle.std.proofs.lemmas.Int.{to_z-of_z}
-use Rattle.dds_model.specs.declared.call.Call.TheVariants as call
+use Rattle.std.proofs.Common.{sym, subst}
 use Rattle.dds_model.specs.declared.call.Call.{Call}
 use Rattle.dds_model.specs.declared.event.Event.TheVariants as event
 use Rattle.dds_core.specs.Standing.{Steps}
@@ -21,11 +16,17 @@ returns-in-Dispose-clause-step c = subst (λ (x : Call). Steps c.args.self.now (
 pub returns-in-Unregister-clause-step : goal.returns-in-Unregister-clause-step
 returns-in-Unregister-clause-step c = subst (λ (x : Call). Steps c.args.self.now (event.Call x) c.unregister.result c.unregister.new.self) (sym c.in-Unregister.is) c.unregister.ensures.step
 
+pub returns-in-Read-clause-step : goal.returns-in-Read-clause-step
+returns-in-Read-clause-step c = subst (λ (x : Call). Steps c.args.self.now (event.Call x) c.read.result c.read.new.self) (sym c.in-Read.is) c.read.ensures.step
+
 pub returns-in-Take-clause-step : goal.returns-in-Take-clause-step
-returns-in-Take-clause-step c =
-    let fits : SFits w32 c.in-Take.max = search rules in
-    subst (λ (x : Call). Steps c.args.self.now (event.Call x) c.take.result c.take.new.self) (sym c.in-Take.is)
-    (subst (λ (m : ℤ). Steps c.args.self.now (event.Call (call.Take c.in-Take.reader m c.in-Take.masks)) c.take.result c.take.new.self) (to_z-of_z w32 c.in-Take.max fits) c.take.ensures.step)
+returns-in-Take-clause-step c = subst (λ (x : Call). Steps c.args.self.now (event.Call x) c.take.result c.take.new.self) (sym c.in-Take.is) c.take.ensures.step
+
+pub returns-in-GetKeyValue-clause-step : goal.returns-in-GetKeyValue-clause-step
+returns-in-GetKeyValue-clause-step c = subst (λ (x : Call). Steps c.args.self.now (event.Call x) c.get_key_value.result c.args.self.now) (sym c.in-GetKeyValue.is) c.get_key_value.ensures.step
+
+pub returns-in-LookupInstance-clause-step : goal.returns-in-LookupInstance-clause-step
+returns-in-LookupInstance-clause-step c = subst (λ (x : Call). Steps c.args.self.now (event.Call x) c.lookup_instance.result c.args.self.now) (sym c.in-LookupInstance.is) c.lookup_instance.ensures.step
 
 pub returns-in-GetSampleLost-clause-step : goal.returns-in-GetSampleLost-clause-step
 returns-in-GetSampleLost-clause-step c =

@@ -3,7 +3,7 @@ use Rattle.std.proofs.Common.{◌≡◌, length, rules, ◌∙◌, ap}
 use Rattle.std.specs.Prelude.{ℤ}
 use Rattle.std.specs.Int.{w32}
 use Rattle.std.proofs.lemmas.Int.{to_z-of_z}
-use Rattle.dds_model.specs.Calls.{limit_of}
+use Rattle.dds_base.specs.Checked.{limit_of}
 use Rattle.dds_core.proofs.WriterEnds.{opens_writer}
 use Rattle.dds_core.proofs.writer_end.WriterEnd.open.Goals as goal
 

@@ -1,0 +1,147 @@
+-- An access of one of the peer's readers: a read or a take, in any of its forms.
+use Rattle.std.proofs.Common.{◌≡◌, ◌≢◌, ℕ, suc, ◌+◌, ◌-◌, ◌^◌, ◌<◌, Bool, true, not, List, [], ◌∷◌, Option, Some, set, length, slice_get, refl, ap, sym, ◌∙◌, subst, arith}
+use Rattle.std.specs.Prelude.{if◌then◌else◌, min, Result, Ok, Err}
+use Rattle.std.proofs.lemmas.List.{set-get_or}
+use Rattle.std.proofs.lemmas.Option.{get_or_from_slice_get}
+use Rattle.dds_base.specs.declared.code.Code.{Code}
+use Rattle.dds_base.specs.declared.code.Code.TheVariants.{BadParameter, NoData}
+use Rattle.dds_base.specs.declared.config.Config.{Config}
+use Rattle.dds_base.specs.declared.guid.EntityId.{EntityId}
+use Rattle.dds_base.specs.declared.happening.Happening.{Happening}
+use Rattle.dds_base.specs.declared.happening.Happening.TheVariants.{Read as HasRead, Took}
+use Rattle.dds_base.specs.declared.happening.SamplePosition.{SamplePosition}
+use Rattle.dds_base.specs.declared.selection.Selection.{Selection}
+use Rattle.dds_base.specs.declared.qos.ReaderQos.{ReaderQos}
+use Rattle.dds_base.specs.declared.sample.Sample.{Sample}
+use Rattle.dds_base.specs.Access.{no_filter, collection_of}
+use Rattle.dds_base.specs.Happening.{arrivals}
+use Rattle.dds_base.specs.Refusal.{Refuses}
+use Rattle.dds_base.specs.Selection.{picked_by, selection_refusal}
+use Rattle.dds_base.specs.Statuses.{lost_count}
+use Rattle.dds_cache.specs.Standing.{Stored, qos_of, StandsFor as CacheStandsFor, Answers, AfterAccess, picked, refusal}
+use Rattle.dds_model.specs.declared.call.Call.{Call}
+use Rattle.dds_model.specs.declared.call.Call.TheVariants as call
+use Rattle.dds_model.specs.declared.event.Event.TheVariants as event
+use Rattle.dds_model.specs.declared.reply.Reply.{Reply}
+use Rattle.dds_model.specs.declared.reply.Reply.TheVariants.{Samples, Refused}
+use Rattle.dds_model.specs.Calls.{Answers as CallAnswers, AnswersAccess, CallStep, Effect, nothing, effect, effect_of, access_refusal, picked_at, has_number, with_happening}
+use Rattle.dds_model.specs.Machine.{no_filters}
+use Rattle.dds_model.specs.Part.{Part, Dds, Reader, WriterProxy, own_reader, own_proxies}
+use Rattle.dds_model.specs.Peer.{Peer}
+use Rattle.dds_core.specs.declared.matching.WriterName.{WriterName}
+use Rattle.rtps_reader.specs.Reader.{Proxies, Tracks}
+use Rattle.rtps_reader.specs.Tracked.{Tracked}
+use Rattle.dds_core.specs.Stored.{StoreKept, Holds}
+use Rattle.dds_model.specs.declared.endpoint.Endpoint.{Endpoint}
+use Rattle.dds_core.proofs.Rows.{writers_of}
+use Rattle.dds_core.specs.Kept.{ReaderKept, CoreKept}
+use Rattle.dds_core.specs.Receiving.{TakesOnly, access_reply}
+use Rattle.dds_core.specs.Standing.{IsFirstRow, ReaderStands, StandsFor}
+use Rattle.dds_core.proofs.CallSteps.{Follows, refused_call, there_is}
+use Rattle.dds_core.proofs.Ends.{with_reader, own_reader_changed}
+use Rattle.dds_core.proofs.Taking.{silent}
+use Rattle.dds_core.proofs.Identities.{same_identity}
+
+-- what happens at a reader where an access was entered: nothing came, and nothing was passed over
+abbrev pub IsQuiet : (List SamplePosition → Happening) → Type 0
+IsQuiet entry = (samples : List SamplePosition) (h : List Happening) → (arrivals (entry samples ∷ h) ≡ arrivals h) × (lost_count (entry samples ∷ h) ≡ lost_count h)
+
+-- the call is an access that enters so: it is answered as one, and does nothing at a writer
+pub record IsAccess (c : Call) (entry : List SamplePosition → Happening) (reader : ℕ) (selection : Selection) : Type 0 where
+  pub quiet : IsQuiet entry
+  pub answers : (part : Part) (reply : Reply) (dds : Dds) → AnswersAccess entry part reader selection reply dds → CallAnswers no_filters part c reply dds
+  pub effect : (part : Part) (reply : Reply) → effect_of part c reply ≡ nothing
+
+pub read_is_access : (reader : ℕ) (selection : Selection) → IsAccess (call.Read reader selection) HasRead reader selection
+read_is_access reader selection = record { quiet = λ samples h. (refl, refl); answers = λ part reply dds a. a; effect = λ part reply. refl }
+
+pub take_is_access : (reader : ℕ) (selection : Selection) → IsAccess (call.Take reader selection) Took reader selection
+take_is_access reader selection = record { quiet = λ samples h. (refl, refl); answers = λ part reply dds a. a; effect = λ part reply. refl }
+
+-- the reader with one more entry, an access
+one_entered : (entry : List SamplePosition → Happening) → IsQuiet entry → (k k' : ReaderKept) (proxies : List WriterProxy) (r : Reader) (tracked : Endpoint → Tracked) (samples : List SamplePosition) → TakesOnly k k' → ReaderStands k proxies r tracked
+    → CacheStandsFor k'.store.cache (entry samples ∷ r.happened) → ReaderStands k' proxies (record r { happened = entry samples ∷ r.happened }) tracked
+one_entered entry quiet k k' proxies r tracked samples same s stands = record {
+  writers_are = s.writers_are ∙ ap (λ (ns : List WriterName). writers_of ns) (sym same.writers);
+  places = s.places;
+  knows = λ w n f. subst (λ (x : Proxies). Tracks x n (tracked w)) (sym same.reader) (s.knows w n (subst (λ (ns : List WriterName). IsFirstRow ns w n) same.writers f));
+  qos_is = s.qos_is ∙ sym same.qos;
+  holds = record {
+    cache = stands;
+    arrivals_are = same.arrivals ∙ (s.holds.arrivals_are ∙ ap (λ (n : ℕ). min n (2 ^ 31 - 1)) (sym (quiet samples r.happened).0));
+    lost_is = same.lost ∙ (s.holds.lost_is ∙ sym (quiet samples r.happened).1);
+  };
+  seen_is = s.seen_is ∙ sym same.lost_seen;
+}
+
+-- the part after an access
+abbrev after_access : (List SamplePosition → Happening) → Part → ℕ → List SamplePosition → Part
+after_access entry part reader samples = record part { dds = with_happening part reader (entry samples) }
+
+-- an access that was entered
+entered : (entry : List SamplePosition → Happening) → IsQuiet entry → (c : Call) (kept : CoreKept) (i : ℕ) (k k' : ReaderKept) (config : Config) (peer : Peer) → StandsFor kept config peer → slice_get kept.readers i ≡ Some k → TakesOnly k k' → (reply : Reply)
+    (samples : List SamplePosition) → CacheStandsFor k'.store.cache (entry samples ∷ (own_reader peer.part (suc i)).happened) → CallStep no_filters peer.part c reply (after_access entry peer.part (suc i) samples)
+    → Follows (with_reader kept i k') config peer (event.Call c) (silent reply)
+entered entry quiet c kept i k k' config peer s at same reply samples stands step =
+    let part : Part = peer.part in
+    let proxies : List WriterProxy = own_proxies part (suc i) in
+    let r : Reader = own_reader part (suc i) in
+    let one : ReaderStands k' proxies (record r { happened = entry samples ∷ r.happened }) (λ w. peer.known.tracked w (suc i)) = one_entered entry quiet k k' proxies r (λ w. peer.known.tracked w (suc i)) samples same (s.readers.each i k at) stands in (
+      record peer { part = after_access entry part (suc i) samples },
+      record { same_number = refl; knows = refl; step = (step, refl); sent = λ p x m h. absurd (omega (arith, m.1)) },
+      own_reader_changed kept i k k' (record r { happened = entry samples ∷ r.happened }) config peer s at (same_identity k' k same.entity same.writers) one,
+    )
+
+-- an access that was refused, and is not entered
+not_entered : (c : Call) (kept : CoreKept) (i : ℕ) (k k' : ReaderKept) (config : Config) (peer : Peer) (code : Code) → StandsFor kept config peer → slice_get kept.readers i ≡ Some k → k' ≡ k → CallAnswers no_filters peer.part c (Refused code) peer.part.dds
+    → Follows (with_reader kept i k') config peer (event.Call c) (silent (Refused code))
+not_entered c kept i k k' config peer code s at same is =
+    let unchanged : set kept.readers i k' ≡ kept.readers = ap (λ (x : ReaderKept). set kept.readers i x) (same ∙ sym (get_or_from_slice_get kept.readers i k k at)) ∙ set-get_or kept.readers i k in
+    subst (λ (rs : List ReaderKept). Follows (record kept { readers = rs }) config peer (event.Call c) (silent (Refused code))) (sym unchanged) (refused_call kept config peer s c code is)
+
+kept_same : (k k' : ReaderKept) → TakesOnly k k' → k'.store.cache ≡ k.store.cache → k' ≡ k
+kept_same k k' same cache =
+    reader_as k'.entity k.entity k'.writers k.writers k'.reader k.reader k'.store k.store k'.lost_seen k.lost_seen same.entity same.writers same.reader
+    (store_as k'.store.arrivals k.store.arrivals k'.store.lost k.store.lost k'.store.cache k.store.cache same.arrivals same.lost cache) same.lost_seen
+  where
+    store_as : (m n i j : ℕ) (c d : Stored) → m ≡ n → i ≡ j → c ≡ d → ◌≡◌ {A = StoreKept} (record { arrivals = m; lost = i; cache = c }) (record { arrivals = n; lost = j; cache = d })
+    store_as m n i j c d e f g = cc
+
+    reader_as : (a b : EntityId) (x y : List WriterName) (p q : Proxies) (s t : StoreKept) (i j : ℕ) → a ≡ b → x ≡ y → p ≡ q → s ≡ t → i ≡ j
+        → ◌≡◌ {A = ReaderKept} (record { entity = a; writers = x; reader = p; store = s; lost_seen = i }) (record { entity = b; writers = y; reader = q; store = t; lost_seen = j })
+    reader_as a b x y p q s t i j e f g h l = cc
+
+-- what a cache answers is what the machine answers
+accessed : (entry : List SamplePosition → Happening) (c : Call) (i : ℕ) (selection : Selection) → IsAccess c entry (suc i) selection → (kept : CoreKept) (k k' : ReaderKept) (config : Config) (peer : Peer) → StandsFor kept config peer
+    → slice_get kept.readers i ≡ Some k → TakesOnly k k' → (r : Result (List Sample) Code) → access_refusal peer.part (suc i) selection ≡ refusal k.store.cache (own_reader peer.part (suc i)).happened selection
+    → (own_reader peer.part (suc i)).qos ≡ qos_of k.store.cache → Answers k.store.cache (own_reader peer.part (suc i)).happened selection r
+    → AfterAccess entry k.store.cache (own_reader peer.part (suc i)).happened selection r k'.store.cache → Follows (with_reader kept i k') config peer (event.Call c) (silent (access_reply r))
+accessed entry c i selection is kept k k' config peer s at same (Ok samples) causes qos answer after =
+    let h : List Happening = (own_reader peer.part (suc i)).happened in
+    let found : picked k.store.cache h selection ≡ picked_at peer.part (suc i) selection = ap (λ (q : ReaderQos). picked_by q h selection no_filter) (sym qos) in
+    let some : picked_at peer.part (suc i) selection ≢ [] = λ none. answer.1 (found ∙ none) in
+    let collected : samples ≡ collection_of (own_reader peer.part (suc i)).qos h (picked_at peer.part (suc i) selection) =
+    answer.2 ∙ (ap (λ (ps : List SamplePosition). collection_of (qos_of k.store.cache) h ps) found ∙ ap (λ (q : ReaderQos). collection_of q h (picked_at peer.part (suc i) selection)) (sym qos)) in
+    entered entry is.quiet c kept i k k' config peer s at same (Samples samples) (picked_at peer.part (suc i) selection) (subst (λ (ps : List SamplePosition). CacheStandsFor k'.store.cache (entry ps ∷ h)) found after)
+    (record { answers = is.answers peer.part (Samples samples) (with_happening peer.part (suc i) (entry (picked_at peer.part (suc i) selection))) (causes ∙ answer.0, some, collected, refl); rtps = ap (λ (e : Effect). effect peer.part.rtps e) (sym (is.effect peer.part (Samples samples))) })
+accessed entry c i selection is kept k k' config peer s at same (Err NoData) causes qos answer after =
+    let h : List Happening = (own_reader peer.part (suc i)).happened in
+    let found : picked k.store.cache h selection ≡ picked_at peer.part (suc i) selection = ap (λ (q : ReaderQos). picked_by q h selection no_filter) (sym qos) in
+    entered entry is.quiet c kept i k k' config peer s at same (Refused NoData) [] after
+    (record { answers = is.answers peer.part (Refused NoData) (with_happening peer.part (suc i) (entry [])) (causes ∙ answer.0, sym found ∙ answer.1, refl); rtps = ap (λ (e : Effect). effect peer.part.rtps e) (sym (is.effect peer.part (Refused NoData))) })
+accessed entry c i selection is kept k k' config peer s at same (Err code) causes qos answer after =
+    not_entered c kept i k k' config peer code s at (kept_same k k' same after) (is.answers peer.part (Refused code) peer.part.dds (subst (λ (o : Option Code). Refuses o code) (sym causes) answer, refl))
+
+-- the same of the reader of a number
+pub accessed_at : (entry : List SamplePosition → Happening) (c : Call) (reader : ℕ) (selection : Selection) → IsAccess c entry reader selection → (kept : CoreKept) (i : ℕ) (k k' : ReaderKept) (config : Config) (peer : Peer) → StandsFor kept config peer
+    → reader ≡ i + 1 → i < length kept.readers → slice_get kept.readers i ≡ Some k → TakesOnly k k' → (r : Result (List Sample) Code) → ((h : List Happening) → Holds k.store h → Answers k.store.cache h selection r)
+    → ((h : List Happening) → Holds k.store h → AfterAccess entry k.store.cache h selection r k'.store.cache) → Follows (with_reader kept i k') config peer (event.Call c) (silent (access_reply r))
+accessed_at entry c reader selection is kept i k k' config peer s number lt at same r answer after =
+    let index : i + 1 ≡ suc i = omega arith in
+    let rs = s.readers.each i k at in
+    let count = s.readers.count in
+    let h : List Happening = (own_reader peer.part (suc i)).happened in
+    let known : has_number peer.part.dds.readers (suc i) ≡ true = there_is peer.part.dds.readers i (omega (arith, lt, count)) in
+    let causes : access_refusal peer.part (suc i) selection ≡ refusal k.store.cache h selection =
+    ap (λ (b : Bool). if not b then Some BadParameter else selection_refusal (own_reader peer.part (suc i)).qos h selection) known ∙ ap (λ (q : ReaderQos). selection_refusal q h selection) rs.qos_is in
+    accessed entry c i selection (subst (λ (n : ℕ). IsAccess c entry n selection) (number ∙ index) is) kept k k' config peer s at same r causes rs.qos_is (answer h rs.holds) (after h rs.holds)

@@ -1,0 +1,74 @@
+//! The calls of a peer's readers.
+//!
+//! DDS 1.4, 2.2.2.5 (DataReader).
+
+ghost use Rattle.std.specs.Prelude.{◌≡◌};
+ghost use Rattle.dds_model.specs.declared.call.Call.TheVariants as call;
+ghost use Rattle.dds_model.specs.declared.event.Event.TheVariants as event;
+ghost use Rattle.dds_core.specs.Standing.{Steps};
+ghost use Rattle.dds_core.specs.Sending.{SendsNothing};
+
+use crate::calls::index_of;
+use crate::output::{answered, reply_to_access};
+use crate::peer::Core;
+use dds_base::{Code, Handle, Key, Selection};
+use dds_model::{Output, Reply};
+
+impl Core {
+    pub(crate) fn read(&mut self, reader: u8, selection: Selection) -> Output
+        ensures step { Steps self.old (event.Call (call.Read reader selection)) result self.new }
+        ensures sends { SendsNothing result }
+    {
+        let Some(index) = index_of(reader, self.readers.len()) else {
+            return self.refused(Code::BadParameter);
+        };
+        let samples = self.readers[index].read(selection);
+        answered(self.alloc, reply_to_access(samples))
+    }
+
+    pub(crate) fn take(&mut self, reader: u8, selection: Selection) -> Output
+        ensures step { Steps self.old (event.Call (call.Take reader selection)) result self.new }
+        ensures sends { SendsNothing result }
+    {
+        let Some(index) = index_of(reader, self.readers.len()) else {
+            return self.refused(Code::BadParameter);
+        };
+        let samples = self.readers[index].take(selection);
+        answered(self.alloc, reply_to_access(samples))
+    }
+
+    pub(crate) fn get_key_value(&self, reader: u8, instance: Handle) -> Output
+        ensures step { Steps self.now (event.Call (call.GetKeyValue reader instance)) result self.now }
+        ensures sends { SendsNothing result }
+    {
+        let Some(index) = index_of(reader, self.readers.len()) else {
+            return self.refused(Code::BadParameter);
+        };
+        match self.readers[index].key_value(instance) {
+            Some(key) => answered(self.alloc, Reply::KeyValue(key)),
+            None => self.refused(Code::BadParameter),
+        }
+    }
+
+    pub(crate) fn lookup_instance(&self, reader: u8, key: Key) -> Output
+        ensures step { Steps self.now (event.Call (call.LookupInstance reader key)) result self.now }
+        ensures sends { SendsNothing result }
+    {
+        let Some(index) = index_of(reader, self.readers.len()) else {
+            return self.refused(Code::BadParameter);
+        };
+        let handle = self.readers[index].lookup(key);
+        answered(self.alloc, Reply::InstanceHandle(handle))
+    }
+
+    pub(crate) fn get_sample_lost(&mut self, reader: u8) -> Output
+        ensures step { Steps self.old (event.Call (call.GetSampleLost reader)) result self.new }
+        ensures sends { SendsNothing result }
+    {
+        let Some(index) = index_of(reader, self.readers.len()) else {
+            return self.refused(Code::BadParameter);
+        };
+        let status = self.readers[index].get_sample_lost();
+        answered(self.alloc, Reply::SampleLost(status))
+    }
+}
