@@ -410,22 +410,13 @@ uses_step config tests old (world.Call peer call) reply dues packets new checked
     (λ due among. announcement_silent config peer (peer_at old peer).part (effect_of (peer_at old peer).part call reply) due (subst (λ (ds : List Due). Contains ds due) are among))
 uses_step config tests old (world.Tick peer now) Done dues packets new checked used written (inl s) are = uses_tick config (tests peer) old peer now dues packets new checked used s are written
 uses_step config tests old (world.Tick peer now) Done dues packets new checked used written (inr s) are = let r = s.1.is_refused in absurd cc
-uses_step config tests old (world.Tick peer now) (Samples x) dues packets new checked used written (inl s) are = uses_no_tick config (tests peer) old peer now (Samples x) dues packets new used s written are
-uses_step config tests old (world.Tick peer now) (Samples x) dues packets new checked used written (inr s) are = uses_nothing config old dues packets new peer (stays_same config old peer new s.1.after) used (known_same old new s.1.after) written are
-uses_step config tests old (world.Tick peer now) (SampleLost x) dues packets new checked used written (inl s) are = uses_no_tick config (tests peer) old peer now (SampleLost x) dues packets new used s written are
-uses_step config tests old (world.Tick peer now) (SampleLost x) dues packets new checked used written (inr s) are = uses_nothing config old dues packets new peer (stays_same config old peer new s.1.after) used (known_same old new s.1.after) written are
-uses_step config tests old (world.Tick peer now) (Reported x) dues packets new checked used written (inl s) are = uses_no_tick config (tests peer) old peer now (Reported x) dues packets new used s written are
-uses_step config tests old (world.Tick peer now) (Reported x) dues packets new checked used written (inr s) are = uses_nothing config old dues packets new peer (stays_same config old peer new s.1.after) used (known_same old new s.1.after) written are
-uses_step config tests old (world.Tick peer now) (Refused x) dues packets new checked used written (inl s) are = uses_no_tick config (tests peer) old peer now (Refused x) dues packets new used s written are
-uses_step config tests old (world.Tick peer now) (Refused x) dues packets new checked used written (inr s) are = uses_nothing config old dues packets new peer (stays_same config old peer new s.1.after) used (known_same old new s.1.after) written are
+uses_step config tests old (world.Tick peer now) reply dues packets new checked used written (inl s) are = uses_no_tick config (tests peer) old peer now reply dues packets new used s written are
+uses_step config tests old (world.Tick peer now) reply dues packets new checked used written (inr s) are = uses_nothing config old dues packets new peer (stays_same config old peer new s.1.after) used (known_same old new s.1.after) written are
 uses_step config tests old (world.Deliver peer number) (Reported report) dues packets new checked used written (inl s) are =
     uses_delivery config old peer are.0 report dues packets new checked used (steps_stays config (tests peer) old peer (event.Deliver s.0.bytes) (Reported report) new s.3)
     (contains_at old.sent (number - 1) are.0 are.1) are.2 written
 uses_step config tests old (world.Deliver peer number) (Reported report) dues packets new checked used written (inr s) are = let r = s.1.is_refused in absurd cc
-uses_step config tests old (world.Deliver peer number) Done dues packets new checked used written s are = uses_no_report config tests old peer number Done dues packets new used s (λ p b q h. h) written are
-uses_step config tests old (world.Deliver peer number) (Samples x) dues packets new checked used written s are = uses_no_report config tests old peer number (Samples x) dues packets new used s (λ p b q h. h) written are
-uses_step config tests old (world.Deliver peer number) (SampleLost x) dues packets new checked used written s are = uses_no_report config tests old peer number (SampleLost x) dues packets new used s (λ p b q h. h) written are
-uses_step config tests old (world.Deliver peer number) (Refused x) dues packets new checked used written s are = uses_no_report config tests old peer number (Refused x) dues packets new used s (λ p b q h. h) written are
+uses_step config tests old (world.Deliver peer number) reply dues packets new checked used written s are = uses_no_report config tests old peer number reply dues packets new used s (λ p b q h. h) written are
 
 pub steps_used : (config : Config) (tests : AllTests) (old : WorldState) (ev : WorldEvent) (reply : Reply) (lost : ℕ) (new : WorldState) → check_refusal config.peers ≡ None → HasUsedCounts config old
     → RuledStep config tests old ev reply lost new → HasUsedCounts config new
