@@ -272,8 +272,9 @@ impl ReaderCache {
     ///
     /// DDS 1.4, 2.2.2.5 (get_key_value).
     pub fn key_value(&self, instance: Handle) -> Option<Key>
-        // It is that of the definitions.
-        ensures { (h : List Happening) → StandsFor self.now h → result ≡ instance_of (qos_of self.now) h instance }
+        // It is that of the instance whose handle this is, if there is one.
+        ensures key { (h : List Happening) → StandsFor self.now h
+            → result ≡ instance_of (qos_of self.now) h instance }
     {
         key_of(&self.entries, instance)
     }
@@ -282,8 +283,9 @@ impl ReaderCache {
     ///
     /// DDS 1.4, 2.2.2.5 (lookup_instance).
     pub fn lookup(&self, key: Key) -> Handle
-        // It is that of the definitions.
-        ensures { (h : List Happening) → StandsFor self.now h → result ≡ handle_of (qos_of self.now) h key }
+        // It is 1 plus the number of the instances that became known before it, or 0.
+        ensures handle { (h : List Happening) → StandsFor self.now h
+            → result ≡ handle_of (qos_of self.now) h key }
     {
         handle_of(&self.entries, key)
     }
