@@ -21,7 +21,7 @@ use Rattle.dds_model.proofs.OwnGuids.{as_many}
 use Rattle.dds_core.specs.declared.matching.WriterName.{WriterName}
 use Rattle.dds_core.specs.Kept.{FitsWriters}
 use Rattle.dds_core.specs.Matching.{writer_name, matched_writer}
-use Rattle.dds_core.specs.Opening.{is_shared, keeps_all, is_unlimited, is_plain_reader, OpensReader}
+use Rattle.dds_core.specs.Opening.{is_shared, is_unlimited, is_plain_reader, OpensReader}
 use Rattle.dds_core.specs.Stored.{StoreKept, Holds}
 use Rattle.dds_core.proofs.Identities.{identity_as}
 use Rattle.dds_core.proofs.Lists.{get-within}
@@ -35,8 +35,7 @@ qos_as o h s t i j ws vs e f g = cc
 plain_limits : (r : ReaderConfig) → is_plain_reader r ≡ true → (limit_of r.max_samples ≡ None) × (limit_of r.max_instances ≡ None)
 plain_limits r plain =
     let shared = both_parts (is_shared r.ownership) _ plain in
-    let keeps = both_parts (keeps_all r.history) _ shared.1 in
-    let samples = both_parts (is_unlimited r.max_samples) _ keeps.1 in
+    let samples = both_parts (is_unlimited r.max_samples) _ shared.1 in
     let instances = both_parts (is_unlimited r.max_instances) (not (is_some r.lease)) samples.1 in
     (no_limit r.max_samples samples.0, no_limit r.max_instances instances.0)
 

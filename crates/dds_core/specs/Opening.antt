@@ -7,8 +7,6 @@ use Rattle.dds_base.specs.declared.config.Config.{Config}
 use Rattle.dds_base.specs.declared.config.PeerConfig.{PeerConfig}
 use Rattle.dds_base.specs.declared.config.WriterConfig.{WriterConfig}
 use Rattle.dds_base.specs.declared.config.ReaderConfig.{ReaderConfig}
-use Rattle.dds_base.specs.declared.qos.HistoryQos.{HistoryQos}
-use Rattle.dds_base.specs.declared.qos.HistoryQos.TheVariants.{KeepAll, KeepLast}
 use Rattle.dds_base.specs.declared.qos.OwnershipQos.{OwnershipQos}
 use Rattle.dds_base.specs.declared.qos.OwnershipQos.TheVariants.{Shared, Exclusive}
 use Rattle.dds_base.specs.Checked.{check_refusal}
@@ -24,10 +22,6 @@ abbrev pub is_shared : OwnershipQos → Bool
 is_shared Shared = true
 is_shared Exclusive = false
 
-abbrev pub keeps_all : HistoryQos → Bool
-keeps_all KeepAll = true
-keeps_all (KeepLast depth) = false
-
 -- LENGTH_UNLIMITED, which is -1 (DDS 1.4, 2.2.3, RESOURCE_LIMITS)
 abbrev pub is_unlimited : ℤ → Bool
 is_unlimited (negsuc zero) = true
@@ -37,9 +31,9 @@ is_unlimited _ = false
 abbrev pub is_plain_writer : WriterConfig → Bool
 is_plain_writer w = is_shared w.ownership && not (is_some w.lease)
 
--- a shared reader that keeps all, without a limit or a lease
+-- a shared reader without a limit or a lease
 abbrev pub is_plain_reader : ReaderConfig → Bool
-is_plain_reader r = is_shared r.ownership && (keeps_all r.history && (is_unlimited r.max_samples && (is_unlimited r.max_instances && not (is_some r.lease))))
+is_plain_reader r = is_shared r.ownership && (is_unlimited r.max_samples && (is_unlimited r.max_instances && not (is_some r.lease)))
 
 abbrev pub is_plain_peer : PeerConfig → Bool
 is_plain_peer p = list_all is_plain_writer p.writers && list_all is_plain_reader p.readers

@@ -12,7 +12,7 @@ use crate::peer::Core;
 use crate::reader_end::ReaderEnd;
 use crate::writer_end::WriterEnd;
 use dds_base::{
-    Code, Config, HistoryQos, Moment, OwnershipQos, PeerConfig, ReaderConfig, WriterConfig,
+    Code, Config, Moment, OwnershipQos, PeerConfig, ReaderConfig, WriterConfig,
 };
 use std::alloc::{AllocError, Global};
 
@@ -23,12 +23,11 @@ fn is_plain_writer(writer: &WriterConfig) -> bool
     matches!(writer.ownership, OwnershipQos::Shared) && writer.lease.is_none()
 }
 
-/// Whether a reader is shared and keeps all, without a limit or a lease.
+/// Whether a reader is shared, without a limit or a lease.
 fn is_plain_reader(reader: &ReaderConfig) -> bool
     ensures { result ≡ is_plain_reader reader.now }
 {
     matches!(reader.ownership, OwnershipQos::Shared)
-        && matches!(reader.history, HistoryQos::KeepAll)
         && reader.max_samples == -1
         && reader.max_instances == -1
         && reader.lease.is_none()
@@ -121,8 +120,7 @@ impl Core {
     /// # Errors
     ///
     /// The first of these: what `Config::check` answers; `BadParameter` where the configuration has no peer of this
-    /// number, or has a writer or a reader that is not shared or has a lease, or a reader that does not keep all or has a
-    /// limit; `Memory` where a growth was refused.
+    /// number, or has a writer or a reader that is not shared or has a lease, or a reader that has a limit; `Memory` where a growth was refused.
     pub fn open(alloc: Global, config: &Config, peer: u8) -> Result<Core, Code>
         // The peer stands for its opening in the configuration.
         ensures opening { IfOk result (λ core. StandsFor core config.now (opening_peer config.now peer)) }
