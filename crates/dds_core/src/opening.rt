@@ -11,9 +11,7 @@ use crate::calls::index_of;
 use crate::peer::Core;
 use crate::reader_end::ReaderEnd;
 use crate::writer_end::WriterEnd;
-use dds_base::{
-    Code, Config, Moment, OwnershipQos, PeerConfig, ReaderConfig, WriterConfig,
-};
+use dds_base::{Code, Config, Moment, OwnershipQos, PeerConfig, ReaderConfig, WriterConfig};
 use std::alloc::{AllocError, Global};
 
 /// Whether a writer is shared, without a lease.
