@@ -18,7 +18,7 @@ use Rattle.rtps_reader.specs.Answer.{answered, is_asked}
 use Rattle.rtps_writer.specs.declared.answer.Answer.{Answer}
 use Rattle.rtps_writer.specs.declared.answer.Answer.TheVariants.{Data, Gap}
 use Rattle.rtps_writer.specs.Answers.{is_answer_to}
-use Rattle.dds_model.specs.CatchUp.{Standing, GoesOn, TakesAnswer, TakesAnswers, IsRepaired, IsFull, HasCaughtUp}
+use Rattle.dds_model.specs.CatchUp.{Standing, GoesOn, TakesAnswer, TakesAnswers, IsRepaired, IsFull, HasGoneOn}
 
 -- the place is past the number, or something is known of it
 abbrev pub IsKnown : Tracked → ℕ → Type 0
@@ -186,7 +186,7 @@ full match s Irrelevant is something settled =
     let none = settled.not_passable in absurd cc
 
 pub window_catches_up : (match : Match) (last acknowledged : ℕ) (old new : Standing) → (r : IsRepaired match last acknowledged old new) → acknowledged ≤ r.due.base
-    → HasCaughtUp match last old.tracked.place new × (old.tracked.place ≤ r.due.base)
+    → HasGoneOn match last old.tracked.place new × (old.tracked.place ≤ r.due.base)
 window_catches_up match last acknowledged old new r low =
     (⊎_elim (λ short. inr (stuck short)) (λ far. inl far) (cases_lt new.tracked.place (min (old.tracked.place + 256) (last + 1))), omega (arith, base, forward))
   where

@@ -111,7 +111,7 @@ acknack_truthful x to claim writable says =
     acknack_says x t.0 claim t.1
 
 -- where a place has gone to, the reader is, and knows so
-goes_there : (old : State) (w : Endpoint) (r : ℕ) (t : Tracked) (moves : List Move) (new : State)
+pub goes_there : (old : State) (w : Endpoint) (r : ℕ) (t : Tracked) (moves : List Move) (new : State)
     → Goes old w r t moves new → place_of (own_proxies new.part r) w ≡ Some (new.known.tracked w r).place
 goes_there old w r t moves new g =
     let rows : List WriterProxy = with_place (own_proxies old.part r) w g.to in

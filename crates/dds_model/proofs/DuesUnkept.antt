@@ -13,11 +13,11 @@ use Rattle.dds_model.specs.Part.{history_of, IsBelow}
 use Rattle.dds_model.proofs.Framing.{number_or_not}
 
 -- the acknowledgements of these rows
-abbrev counts : List ReaderProxy → List ℕ
+abbrev pub counts : List ReaderProxy → List ℕ
 counts rows = map (λ (p : ReaderProxy). p.acknowledged) rows
 
 -- one of them stands at this index
-abbrev StandsIn : List ℕ → ℕ → Type 0
+abbrev pub StandsIn : List ℕ → ℕ → Type 0
 StandsIn ns n = (i : ℕ) × (i < length ns) × (get_or ns i 0 ≡ n)
 
 row_here : (p : ReaderProxy) (ps : List ReaderProxy) (r : Endpoint) (a : ℕ) (b : Bool)
@@ -27,7 +27,7 @@ row_here : (p : ReaderProxy) (ps : List ReaderProxy) (r : Endpoint) (a : ℕ) (b
 row_here p ps r a true later h = (0, omega arith, same_Some p.acknowledged a h)
 row_here p ps r a false later h = let at = later h in let lt = at.1 in (suc at.0, omega (arith, lt), at.2)
 
-row_index : (rows : List ReaderProxy) (r : Endpoint) (a : ℕ) → acknowledged_of rows r ≡ Some a
+pub row_index : (rows : List ReaderProxy) (r : Endpoint) (a : ℕ) → acknowledged_of rows r ≡ Some a
     → StandsIn (counts rows) a
 row_index [] r a h = absurd cc
 row_index (p ∷ ps) r a h = row_here p ps r a (same_endpoint p.reader r) (λ later. row_index ps r a later) h

@@ -36,7 +36,7 @@ use Rattle.dds_model.specs.Machine.{Machine, AllTests, part_at, writer_at}
 use Rattle.dds_model.specs.Peer.{Peer, EventStep, no_peer, claimed, state_of}
 use Rattle.dds_model.specs.Protocol.{Due, Known, TakesPacket, writer_entity, change_message, heartbeats_due}
 use Rattle.dds_model.specs.World.{WorldState, WorldStep, PeerSteps, peer_at, machine_of}
-use Rattle.dds_model.specs.Rules.{announcements_due, AreDue, IsWrittenOf, RuledStep}
+use Rattle.dds_model.specs.Rules.{announcements_due, AreDue, RuledStep}
 use Rattle.dds_model.specs.Fresh.{HasHeartbeat, HasAckNack, heartbeats_used, heartbeats_used_at, tracked_at, acknacks_used_at, HasUsedCounts}
 use Rattle.dds_model.proofs.Composed.{front_or_rest, parts_at, machine_after, contains_at}
 use Rattle.dds_model.proofs.CountsTaken.{Counting, Counts, packet_counts}
@@ -44,11 +44,31 @@ use Rattle.dds_model.proofs.CountsWritten.{plain_beats, plain_asks, plain_data, 
 use Rattle.dds_model.proofs.DuesGrowth.{Gains, gains_same, gains_on, AreMoves-gains, is_part_kept}
 use Rattle.dds_model.proofs.DuesHeartbeats.{of_all}
 use Rattle.dds_model.proofs.DuesMatched.{own_name}
+use Rattle.dds_model.proofs.DuesPackets.{IsOfDue, sent_is_due}
 use Rattle.dds_model.proofs.DuesParts.{call_part, tick_part}
 use Rattle.dds_model.proofs.Framing.{number_or_not}
 use Rattle.dds_model.proofs.Growth.{WriterGrows, writer_same, Grows, CallStep-grows, TickStep-grows, MachineGrows, with_part-grows, counts-more}
 use Rattle.dds_model.proofs.OwnGuids.{one_writer}
 use Rattle.dds_model.proofs.Tables.{numbered-cases, numbered-same, numbered-map-cases, length-with_numbered, no_less_same}
+
+-- the packet is the written form of one of these messages, which has one
+pub record IsWrittenOf (dues : List Due) (packet : Packet) : Type 0 where
+  pub due : Due
+  pub among : Contains dues due
+  pub writable : IsWritable due.message
+  pub is : packet ≡ record { to = due.to; bytes = spelling_of due.message }
+
+-- so is each packet that an event by the rules sends
+pub sent_written : (config : Config) (tests : AllTests) (old : WorldState) (ev : WorldEvent) (reply : Reply) (lost : ℕ) (new : WorldState) → (h : RuledStep config tests old ev reply lost new)
+    → (packet : Packet) → Contains h.packets packet → IsWrittenOf h.dues packet
+sent_written config tests old ev reply lost new h packet among =
+    let d : IsOfDue h.dues packet = sent_is_due h.dues h.packets lost h.are_sent packet among in
+    record {
+      due = d.due;
+      among = d.among;
+      writable = h.written d.due d.among (subst (λ (p : Packet). Contains h.packets p) d.is among);
+      is = d.is;
+    }
 
 -- ---- what an event makes of a peer's part
 
@@ -60,7 +80,7 @@ takes_up_gains config gs peer own index at (s ∷ ss) old moves refused new (inr
     gains_on old h.2 new (AreMoves-gains (gs index) old h.0 h.2 h.4)
     (takes_up_gains config gs peer own (index + 1) (after_submessage own at s) ss h.2 h.1 refused new h.6)
 
-receives_gains : (config : Config) (gs : ℕ → Grounds) (peer : ℕ) (bytes : List ℕ) (old : Part) (report : Report) (new : Part) → Receives config gs peer bytes old report new → Gains old new
+pub receives_gains : (config : Config) (gs : ℕ → Grounds) (peer : ℕ) (bytes : List ℕ) (old : Part) (report : Report) (new : Part) → Receives config gs peer bytes old report new → Gains old new
 receives_gains config gs peer bytes old report new (inl h) =
     takes_up_gains config gs peer (prefix_of config peer) 0 (receiver_of h.message.prefix) h.message.submessages old report.moves report.refused new h.taken
 receives_gains config gs peer bytes old report new (inr h) = subst (λ (p : Part). Gains old p) (sym h.after) (gains_same old)
@@ -87,12 +107,12 @@ event_lasts config tests peer before (event.Deliver packet) reply after h = absu
 -- ---- what it makes of the network
 
 -- lists grow, the peers stay those of the configuration, and all but one are as they were
-record Stays (config : Config) (old : WorldState) (peer : ℕ) (new : WorldState) : Type 0 where
-  grows : MachineGrows (machine_of old) (machine_of new)
-  parts : ((p : ℕ) → HasNumber old.peers p → IsPartOf config p (peer_at old p).part) → (p : ℕ) → HasNumber new.peers p → IsPartOf config p (peer_at new p).part
-  others : (p : ℕ) → (p ≡ peer → ⊥) → peer_at new p ≡ peer_at old p
+pub record Stays (config : Config) (old : WorldState) (peer : ℕ) (new : WorldState) : Type 0 where
+  pub grows : MachineGrows (machine_of old) (machine_of new)
+  pub parts : ((p : ℕ) → HasNumber old.peers p → IsPartOf config p (peer_at old p).part) → (p : ℕ) → HasNumber new.peers p → IsPartOf config p (peer_at new p).part
+  pub others : (p : ℕ) → (p ≡ peer → ⊥) → peer_at new p ≡ peer_at old p
 
-stays_same : (config : Config) (old : WorldState) (peer : ℕ) (new : WorldState) → new ≡ old → Stays config old peer new
+pub stays_same : (config : Config) (old : WorldState) (peer : ℕ) (new : WorldState) → new ≡ old → Stays config old peer new
 stays_same config old peer new same = record {
   grows = subst (λ (x : WorldState). MachineGrows (machine_of old) (machine_of x)) (sym same)
       (record { writers = λ w. writer_same (writer_at (machine_of old) w); places = λ r w. no_less_same _ });
@@ -100,7 +120,7 @@ stays_same config old peer new same = record {
   others = λ p apart. ap (λ (x : WorldState). peer_at x p) same;
 }
 
-steps_stays : (config : Config) (tests : Tests) (old : WorldState) (peer : ℕ) (ev : Event) (reply : Reply) (new : WorldState) → PeerSteps config tests old peer ev reply new → Stays config old peer new
+pub steps_stays : (config : Config) (tests : Tests) (old : WorldState) (peer : ℕ) (ev : Event) (reply : Reply) (new : WorldState) → PeerSteps config tests old peer ev reply new → Stays config old peer new
 steps_stays config tests old peer ev reply new h = record {
   grows = subst (λ (x : Machine). MachineGrows (machine_of old) x) (sym (ap machine_of h.changed ∙ machine_after old peer h.after h.posted))
       (with_part-grows (machine_of old) peer h.after.part
@@ -185,7 +205,7 @@ uses_knowing config old packets new peer s h same beats asks = record {
   asks = λ p w r count among has. absurd (asks p w r count among has);
 }
 
-known_of : (config : Config) (tests : Tests) (old : WorldState) (peer : ℕ) (ev : Event) (reply : Reply) (new : WorldState) (h : PeerSteps config tests old peer ev reply new)
+pub known_of : (config : Config) (tests : Tests) (old : WorldState) (peer : ℕ) (ev : Event) (reply : Reply) (new : WorldState) (h : PeerSteps config tests old peer ev reply new)
     → h.after.known ≡ (peer_at old peer).known → (p : ℕ) → (peer_at new p).known ≡ (peer_at old p).known
 known_of config tests old peer ev reply new h same p =
     ap (λ (x : WorldState). (peer_at x p).known) h.changed
@@ -421,4 +441,4 @@ uses_step config tests old (world.Deliver peer number) reply dues packets new ch
 pub steps_used : (config : Config) (tests : AllTests) (old : WorldState) (ev : WorldEvent) (reply : Reply) (lost : ℕ) (new : WorldState) → check_refusal config.peers ≡ None → HasUsedCounts config old
     → RuledStep config tests old ev reply lost new → HasUsedCounts config new
 steps_used config tests old ev reply lost new checked used h =
-    uses_used config old h.packets new h.sent used (uses_step config tests old ev reply h.dues h.packets new checked used h.written h.step h.due)
+    uses_used config old h.packets new h.sent used (uses_step config tests old ev reply h.dues h.packets new checked used (sent_written config tests old ev reply lost new h) h.step h.due)

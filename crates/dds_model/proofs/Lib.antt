@@ -40,3 +40,12 @@ pub mod CountsTaken
 pub mod CountsOpened
 pub mod FreshCounts
 pub mod CaughtUp
+pub mod PairTurns
+pub mod PairPackets
+pub mod PairAsked
+pub mod PairReader
+pub mod PairMessages
+pub mod PairTicked
+pub mod PairHeard
+pub mod PairAnswered
+pub mod PairCaughtUp

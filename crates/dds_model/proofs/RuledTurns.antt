@@ -37,10 +37,10 @@ pub record SameAt (old new : State) (r : ℕ) : Type 0 where
   pub reader : own_reader new.part r ≡ own_reader old.part r
   pub tracked : (w : Endpoint) → new.known.tracked w r ≡ old.known.tracked w r
 
-same_on : (a b c : State) (r : ℕ) → SameAt a b r → SameAt b c r → SameAt a c r
+pub same_on : (a b c : State) (r : ℕ) → SameAt a b r → SameAt b c r → SameAt a c r
 same_on a b c r f g = record { moment = g.moment ∙ f.moment; proxies = g.proxies ∙ f.proxies; reader = g.reader ∙ f.reader; tracked = λ w. g.tracked w ∙ f.tracked w }
 
-same_by : (old new : State) (v : Endpoint) (k r : ℕ) → Frames old v k new → (r ≡ k → ⊥) → SameAt old new r
+pub same_by : (old new : State) (v : Endpoint) (k r : ℕ) → Frames old v k new → (r ≡ k → ⊥) → SameAt old new r
 same_by old new v k r f n = record { moment = f.moment; proxies = f.proxies r n; reader = f.readers r n; tracked = λ w. f.tracked w r (λ p. n p.1) }
 
 past_on : (c : Coming) (s : Submessage) (r : ℕ) (old new : State) → SameAt old new r → IsPast c s r old → IsPast c s r new

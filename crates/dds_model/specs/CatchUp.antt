@@ -59,11 +59,11 @@ pub record IsFull (match : Match) (s : Standing) : Type 0 where
       (coming match (record { place = s.tracked.place; happened = s.happened }) change) ≡ false
 
 -- the place went on by 256 numbers, or to the end of the list, or to a change that has no room
-abbrev pub HasCaughtUp : Match → ℕ → ℕ → Standing → Type 0
-HasCaughtUp match last place new = (min (place + 256) (last + 1) ≤ new.tracked.place) ⊎ IsFull match new
+abbrev pub HasGoneOn : Match → ℕ → ℕ → Standing → Type 0
+HasGoneOn match last place new = (min (place + 256) (last + 1) ≤ new.tracked.place) ⊎ IsFull match new
 
 -- So it is with each reader that is repaired, where the writer takes for acknowledged no more than the reader tells.
 abbrev pub WindowCatchesUp : Type 0
 WindowCatchesUp = (match : Match) (last acknowledged : ℕ) (old new : Standing)
     → (r : IsRepaired match last acknowledged old new) → acknowledged ≤ r.due.base
-    → HasCaughtUp match last old.tracked.place new × (old.tracked.place ≤ r.due.base)
+    → HasGoneOn match last old.tracked.place new × (old.tracked.place ≤ r.due.base)

@@ -19,3 +19,4 @@ pub mod Dues
 pub mod Rules
 pub mod Fresh
 pub mod CatchUp
+pub mod Repair

@@ -36,15 +36,8 @@ AreDue config old (Deliver peer number) (Reported report) new dues =
     × TakesPacket config peer packet.bytes (state_of (peer_at old peer)) report dues (state_of (peer_at new peer))
 AreDue config old event reply new dues = dues ≡ []
 
--- the packet is the written form of one of these messages, which has one
-pub record IsWrittenOf (dues : List Due) (packet : Packet) : Type 0 where
-  pub due : Due
-  pub among : Contains dues due
-  pub writable : IsWritable due.message
-  pub is : packet ≡ record { to = due.to; bytes = spelling_of due.message }
-
 -- One event of a network by the rules: it is a step of the peers, and of the messages that are due these packets are sent,
--- in their order, each in its written form; so many are not.
+-- in their order; so many are not. Each message that is sent has a written form.
 pub record RuledStep (config : Config) (tests : AllTests) (old : WorldState) (event : WorldEvent) (reply : Reply)
     (lost : ℕ) (new : WorldState) : Type 0 where
   pub step : WorldStep config tests old event reply new
@@ -53,4 +46,5 @@ pub record RuledStep (config : Config) (tests : AllTests) (old : WorldState) (ev
   pub packets : List Packet
   pub sent : new.sent ≡ old.sent ++ packets
   pub are_sent : AreSent dues packets lost
-  pub written : (packet : Packet) → Contains packets packet → IsWrittenOf dues packet
+  pub written : (due : Due) → Contains dues due
+      → Contains packets (record { to = due.to; bytes = spelling_of due.message }) → IsWritable due.message

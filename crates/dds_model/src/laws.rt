@@ -6,6 +6,7 @@ ghost use Rattle.dds_model.specs.CatchUp.{WindowCatchesUp};
 ghost use Rattle.dds_model.specs.Fresh.{OpensUsed, StepsUsed};
 ghost use Rattle.dds_model.specs.InOrder.{ChangesComeInOrder};
 ghost use Rattle.dds_model.specs.Laws.{AnswersAreTrue, AnswersCanBeWritten, Composes, ComposesRuns, HeartbeatsAreTrue, KeepAllIsKept, OpensBacked, OpensSound, OwnersExist, ReadersTellWritersApart, RulesRestOnClaims};
+ghost use Rattle.dds_model.specs.Repair.{PairCatchesUp};
 
 use crate::event::Event;
 use dds_base::owner_is_found;
@@ -105,4 +106,13 @@ pub fn counts_are_fresh()
 /// RTPS 2.5, 8.4.9, 8.4.12.
 pub fn window_catches_up()
     ensures { WindowCatchesUp }
+{}
+
+/// After a round of repair of a writer and a matched reader, in a network by the rules, the reader has gone on by 256
+/// numbers, or to the end of the writer's list, or to a change that has no room; and the writer knows of all that the
+/// reader had before. So it is also where both are at one peer, and whatever other writers and readers do meanwhile.
+///
+/// RTPS 2.5, 8.4.9, 8.4.12.
+pub fn pair_catches_up()
+    ensures { PairCatchesUp }
 {}

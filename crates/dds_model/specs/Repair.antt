@@ -1,0 +1,110 @@
+-- One round of repair of a writer and a reader that it is matched with, in a network by the rules: a tick, the writer's
+-- HEARTBEAT, the reader's ACKNACK, and the answers to that, each delivered once. After it the reader has caught up.
+--
+-- RTPS 2.5, 8.4.9 (reliable StatefulWriter), 8.4.12 (reliable StatefulReader).
+use Rattle.std.specs.Prelude.{◌≡◌, ◌⊎◌, ℕ, ◌+◌, ◌-◌, ◌≤◌, min, false, List, [], ◌∷◌, length, slice_get, None, Some, ℤ, Contains}
+use Rattle.dds_base.specs.declared.change.Change.{Change}
+use Rattle.dds_base.specs.declared.config.Config.{Config}
+use Rattle.dds_base.specs.declared.guid.EntityId.{EntityId}
+use Rattle.dds_base.specs.Checked.{check_refusal}
+use Rattle.dds_base.specs.Places.{coming}
+use Rattle.dds_base.specs.Presence.{has_room}
+use Rattle.rtps_reader.specs.Tracked.{Held}
+use Rattle.dds_model.specs.declared.endpoint.Endpoint.{Endpoint}
+use Rattle.dds_model.specs.declared.event.Packet.{Packet}
+use Rattle.dds_model.specs.declared.event.WorldEvent.TheVariants.{Tick, Deliver}
+use Rattle.dds_model.specs.declared.reply.Report.{Report}
+use Rattle.dds_model.specs.declared.reply.Reply.TheVariants.{Done, Reported}
+use Rattle.dds_model.specs.Numbered.{HasNumber}
+use Rattle.dds_model.specs.Part.{own_proxies, own_reader, acknowledged_of, publication_of, writer_changes}
+use Rattle.dds_model.specs.Moves.{match_of, position_of}
+use Rattle.dds_model.specs.Claims.{IsWriter, IsReader}
+use Rattle.dds_model.specs.Receipt.{prefix_of}
+use Rattle.dds_model.specs.Machine.{AllTests, writer_at, place_at}
+use Rattle.dds_model.specs.World.{WorldState, peer_at, machine_of, Sound}
+use Rattle.dds_model.specs.Bounds.{IsBounded}
+use Rattle.dds_model.specs.Fresh.{HasHeartbeat, HasAckNack, HasUsedCounts, tracked_at}
+use Rattle.dds_model.specs.Rules.{RuledStep}
+
+-- a packet that was sent is delivered at a peer, by the rules, and memory is found for all of it
+pub record Delivers (config : Config) (tests : AllTests) (old : WorldState) (peer : ℕ) (packet : Packet) (lost : ℕ)
+    (new : WorldState) : Type 0 where
+  pub number : ℕ
+  pub at : slice_get old.sent (number - 1) ≡ Some packet
+  pub report : Report
+  pub whole : report.refused ≡ None
+  pub step : RuledStep config tests old (Deliver peer number) (Reported report) lost new
+
+-- packets are delivered at a peer in turn
+abbrev pub DeliversAll : Config → AllTests → WorldState → ℕ → List Packet → WorldState → Type 0
+DeliversAll config tests old peer [] new = new ≡ old
+DeliversAll config tests old peer (packet ∷ packets) new =
+    (mid : WorldState) × (lost : ℕ) × Delivers config tests old peer packet lost mid
+    × DeliversAll config tests mid peer packets new
+
+-- A round: the writer's peer ticks, a packet to the reader's peer with a HEARTBEAT of the writer that this sent is delivered
+-- there, one with an ACKNACK of the reader to the writer that this sent is delivered at the writer's peer, where no answer is
+-- lost, and the answers are delivered at the reader's.
+pub record IsRepairRound (config : Config) (tests : AllTests) (writer reader : Endpoint) (old new : WorldState) : Type 0 where
+  pub now : ℕ
+  pub ticked : WorldState
+  pub lost_beats : ℕ
+  pub ticks : RuledStep config tests old (Tick writer.peer now) Done lost_beats ticked
+  pub beat : Packet
+  pub beat_sent : Contains ticks.packets beat
+  pub beat_to : beat.to ≡ reader.peer
+  pub beat_count : ℤ
+  pub beat_of : HasHeartbeat config beat.bytes writer beat_count
+  pub heard : WorldState
+  pub lost_asks : ℕ
+  pub hears : Delivers config tests ticked reader.peer beat lost_asks heard
+  pub ask : Packet
+  pub ask_sent : Contains hears.step.packets ask
+  pub ask_count : ℤ
+  pub ask_of : HasAckNack config ask.bytes writer reader ask_count
+  pub asked : WorldState
+  pub answers : Delivers config tests heard writer.peer ask 0 asked
+  pub repairs : DeliversAll config tests asked reader.peer answers.step.packets new
+
+-- the configuration has the writer and the reader, of one topic
+pub record IsPair (config : Config) (writer reader : Endpoint) : Type 0 where
+  pub writer_entity : EntityId
+  pub is_writer : IsWriter config (prefix_of config writer.peer) writer_entity writer
+  pub reader_entity : EntityId
+  pub is_reader : IsReader config (prefix_of config reader.peer) reader_entity reader
+  pub matched : is_writer.end.topic ≡ is_reader.end.topic
+
+-- the reader's place in the writer's list, and what the writer has of the reader; and what the reader knows is of that place
+pub record StandsAt (world : WorldState) (writer reader : Endpoint) (place acknowledged : ℕ) : Type 0 where
+  pub here : HasNumber (peer_at world reader.peer).part.dds.readers reader.number
+  pub place_is : place_at (machine_of world) reader writer ≡ Some place
+  pub known : (tracked_at world writer reader).place ≡ place
+  pub acknowledged_is : acknowledged_of (writer_at (machine_of world) writer).readers reader ≡ Some acknowledged
+
+-- the change that the reader holds at its place has no room there
+pub record HoldsWithoutRoom (world : WorldState) (writer reader : Endpoint) (place : ℕ) : Type 0 where
+  pub publication : ℕ
+  pub handle : publication_of (own_proxies (peer_at world reader.peer).part reader.number) writer ≡ Some publication
+  pub change : Change
+  pub held : (tracked_at world writer reader).slot place ≡ Held change
+  pub no_room : has_room (own_reader (peer_at world reader.peer).part reader.number).qos
+      (own_reader (peer_at world reader.peer).part reader.number).happened
+      (coming (match_of (peer_at world reader.peer).part reader.number publication)
+      (position_of (peer_at world reader.peer).part reader.number place) change) ≡ false
+
+-- The reader has gone on by 256 numbers, or to the end of a list of so many, or to a change that has no room; and the writer
+-- knows of all that the reader had.
+pub record HasCaughtUp (world : WorldState) (writer reader : Endpoint) (before last : ℕ) : Type 0 where
+  pub place : ℕ
+  pub acknowledged : ℕ
+  pub stands : StandsAt world writer reader place acknowledged
+  pub reached : (min (before + 256) (last + 1) ≤ place) ⊎ HoldsWithoutRoom world writer reader place
+  pub told : before ≤ acknowledged
+
+-- so it is after each round, in a network in which claims are true, counts are used, and places are within the lists
+abbrev pub PairCatchesUp : Type 0
+PairCatchesUp = (config : Config) (tests : AllTests) (writer reader : Endpoint) (place acknowledged : ℕ)
+    (old new : WorldState) → check_refusal config.peers ≡ None → Sound config old → HasUsedCounts config old
+    → IsBounded (machine_of old) → IsPair config writer reader → StandsAt old writer reader place acknowledged
+    → IsRepairRound config tests writer reader old new
+    → HasCaughtUp new writer reader place (length (writer_changes (writer_at (machine_of old) writer)))
