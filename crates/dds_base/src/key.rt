@@ -5,7 +5,7 @@ ghost use Rattle.std.specs.Prelude.{◌≡◌, length};
 /// The key of an instance of the topic type: sixteen octets.
 ///
 /// RTPS 2.5, 9.6 (key hash): a key of at most sixteen octets names its instance as it stands.
-#[derive(Clone, Copy, Debug, PartialEq, Eq)]
+#[derive(Clone, Copy, Debug, PartialEq, Eq, Hash)]
 pub struct Key(pub [u8; 16]);
 
 impl Key {

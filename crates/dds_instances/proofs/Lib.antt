@@ -1,0 +1,5 @@
+pub mod RegistrationLaws
+pub mod TrackLaws
+pub mod KnownLaws
+pub mod PlaceLaws
+pub mod StandingLaws

@@ -1,0 +1,25 @@
+use Rattle.std.proofs.Common.{◌≡◌, ℕ, ◌<◌, List, length, get_or, subst, sym, ap, ◌∙◌, arith}
+use Rattle.std.proofs.lemmas.List.{length-map, get_or_default}
+use Rattle.dds_instances.specs.declared.track.InstanceTrack.{InstanceTrack}
+use Rattle.dds_instances.specs.Track.{Fits}
+use Rattle.dds_instances.specs.Table.{key_of}
+use Rattle.dds_instances.proofs.StandingLaws.{fits-advanced, fits-set, keys-set, follows-known}
+use Rattle.dds_instances.proofs.keeping.change_known.Goals as goal
+
+pub returns-clause-fits : goal.returns-clause-fits
+returns-clause-fits c =
+    let ts : List InstanceTrack = c.args.tracks.now.items in
+    let t : InstanceTrack = c.index_mut.result.now in
+    let inside : c.args.at < length ts = omega (arith, c.requires.place.within, length-map ts key_of) in
+    let before : Fits c.args.position t = subst (λ (y : InstanceTrack). Fits c.args.position y) (sym c.index_mut.ensures.value) (c.requires.fits c.args.at t inside) in
+    fits-set c.args.position ts c.args.at c.change.new.self c.requires.fits (fits-advanced _ _ c.args.position t c.change.new.self before c.change.ensures)
+
+pub returns-clause-keys : goal.returns-clause-keys
+returns-clause-keys c =
+    let ts : List InstanceTrack = c.args.tracks.now.items in
+    let t : InstanceTrack = c.index_mut.result.now in
+    let inside : c.args.at < length ts = omega (arith, c.requires.place.within, length-map ts key_of) in
+    keys-set ts c.args.at c.change.new.self inside (c.change.ensures.key ∙ ap (λ (y : InstanceTrack). y.key) (c.index_mut.ensures.value ∙ get_or_default ts c.args.at t c.change.new.self inside))
+
+pub returns-clause-follows : goal.returns-clause-follows
+returns-clause-follows c = λ h len lawful follows. follows-known c.args.qos.now h c.args.arrival.now c.args.tracks.now.items c.args.at c.args.position c.index_mut.result.now c.change.new.self len c.requires.place c.index_mut.ensures.value c.change.ensures lawful follows

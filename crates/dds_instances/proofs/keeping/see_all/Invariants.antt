@@ -1,0 +1,19 @@
+-- the instances were told of the samples so far
+use Rattle.std.proofs.Common.{◌≡◌, ℕ, List, [], ◌∷◌, map, take}
+use Rattle.std.specs.List.{All}
+use Rattle.std.specs.Prelude.{vec_len, vec_capacity}
+use Rattle.dds_base.specs.declared.happening.Happening.{Happening}
+use Rattle.dds_base.specs.declared.happening.Happening.TheVariants.{Read}
+use Rattle.dds_base.specs.declared.qos.ReaderQos.{ReaderQos}
+use Rattle.dds_instances.specs.Track.{Fits}
+use Rattle.dds_instances.specs.Table.{key_of, Each}
+use Rattle.dds_instances.proofs.keeping.see_all.Given as goal
+
+abbrev pub invariant-loop-sample : goal.invariant-loop-sample
+invariant-loop-sample l = record {
+  fits : (n : ℕ) → All (Fits n) l.fn.tracks.items → All (Fits n) l.tracks.items;
+  keys : map key_of l.tracks.items ≡ map key_of l.fn.tracks.items;
+  len : vec_len l.tracks ≡ vec_len l.fn.tracks;
+  capacity : vec_capacity l.tracks ≡ vec_capacity l.fn.tracks;
+  sees : (q : ReaderQos) (h : List Happening) → Each q (Read [] ∷ h) l.fn.tracks.items → Each q (Read (take l.sample-index l.samples) ∷ h) l.tracks.items;
+}

@@ -1,0 +1,5 @@
+pub mod Registration
+pub mod Track
+pub mod Table
+pub mod Known
+pub mod Sound

@@ -1,0 +1,20 @@
+-- What is true of the instances as they are kept. Inner functions alone cite this: nothing here has to be believed.
+use Rattle.std.specs.Prelude.{◌≡◌, ℕ, ◌+◌, ◌<◌, ◌≤◌, ◌^◌, map, All, vec_len, vec_capacity}
+use Rattle.indexmap.specs.IndexSet.{spare}
+use Rattle.dds_instances.specs.declared.instances.Instances.TheInside.{Inside}
+use Rattle.dds_instances.specs.Track.{Fits}
+use Rattle.dds_instances.specs.Table.{Table, key_of, AreBlank}
+
+-- what a contract sees of the instances
+abbrev pub table_of : Inside → Table
+table_of a = record { writers = a.writers; tracks = a.tracks.items; happened = a.happened; room = a.room }
+
+-- the index has the keys of the instances, the counts fit, and so many more entries find memory
+pub record IsSound (a : Inside) : Type 0 where
+  pub indexed : a.index.keys ≡ map key_of a.tracks.items
+  pub fits : All (Fits (a.happened + 1)) a.tracks.items
+  pub blank : AreBlank a.writers a.blanks.items
+  pub places : a.room ≤ spare a.index
+  pub tracks_fit : vec_len a.tracks + a.room ≤ vec_capacity a.tracks
+  pub blanks_fit : a.room ≤ vec_len a.blanks
+  pub counted : a.happened + a.room < 2 ^ 64

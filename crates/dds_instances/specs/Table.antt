@@ -1,0 +1,66 @@
+-- When what is kept of the instances stands for what happened. Nobody outside looks into it: nothing here has to be
+-- believed.
+use Rattle.std.specs.Prelude.{◌≡◌, ◌≢◌, ℕ, zero, suc, slice_get, ◌+◌, ◌<◌, ◌≤◌, ◌^◌, List, length, map, All, Bool, true, false, Option, Some, None, is_some, slice_index_or, vec_len, vec_capacity}
+use Rattle.std.specs.List.{list_any}
+use Rattle.dds_base.specs.declared.key.Key.{Key}
+use Rattle.dds_base.specs.declared.happening.SamplePosition.{SamplePosition}
+use Rattle.dds_base.specs.declared.happening.Happening.{Happening}
+use Rattle.dds_base.specs.declared.qos.ReaderQos.{ReaderQos}
+use Rattle.dds_base.specs.Happening.{same_key}
+use Rattle.dds_base.specs.Instance.{known_instances, last_accepted, accesses}
+use Rattle.dds_instances.specs.declared.registration.Registration.{Registration}
+use Rattle.dds_instances.specs.declared.track.InstanceTrack.{InstanceTrack}
+use Rattle.dds_instances.specs.Registration.{blank_registrations}
+use Rattle.dds_instances.specs.Track.{Tracks}
+
+-- what is kept of the instances of a reader: of how many writers, the instances by handle, how much happened, and for
+-- how many more entries there is memory
+pub record Table : Type 0 where
+  pub writers : ℕ
+  pub tracks : List InstanceTrack
+  pub happened : ℕ
+  pub room : ℕ
+
+-- how many more entries find memory
+abbrev pub room_of : Table → ℕ
+room_of table = table.room
+
+-- the instance of a track
+abbrev pub key_of : InstanceTrack → Key
+key_of t = t.key
+
+-- each track has followed its instance
+abbrev pub Each : ReaderQos → List Happening → List InstanceTrack → Type 0
+Each q h ts = All (λ (t : InstanceTrack). Tracks q t.key h t) ts
+
+-- the tracks are those of the known instances, by handle
+pub record Follows (q : ReaderQos) (h : List Happening) (ts : List InstanceTrack) : Type 0 where
+  pub keys_are : map key_of ts ≡ known_instances q h
+  pub each : Each q h ts
+
+-- reads and takes returned samples of the past alone, and of known instances
+pub record IsLawful (q : ReaderQos) (h : List Happening) : Type 0 where
+  pub past : (i : Key) (j : ℕ) → length h < j → list_any (accesses i j) h ≡ false
+  pub strangers : (i : Key) (j : ℕ) → last_accepted q i h ≡ None → list_any (accesses i j) h ≡ false
+
+-- the table stands for what happened at a reader of these policies
+pub record Stands (q : ReaderQos) (table : Table) (h : List Happening) : Type 0 where
+  pub writers_are : table.writers ≡ length q.writers
+  pub happened_is : table.happened ≡ length h
+  pub follows : Follows q h table.tracks
+  pub lawful : IsLawful q h
+
+-- registrations of n writers of which nothing has come, for instances that become known
+abbrev pub AreBlank : ℕ → List (List Registration) → Type 0
+AreBlank n blanks = All (λ (rs : List Registration). rs ≡ blank_registrations 1 n) blanks
+
+-- the key stands at this index, and at no other
+pub record IsPlaceOf (ks : List Key) (i : Key) (at : ℕ) : Type 0 where
+  pub within : at < length ks
+  pub is : (d : Key) → slice_index_or ks at d ≡ i
+  pub apart : (k : ℕ) (d : Key) → k < length ks → k ≢ at → same_key i (slice_index_or ks k d) ≡ false
+
+-- the track of the instance of a handle
+abbrev pub track_with : List InstanceTrack → ℕ → Option InstanceTrack
+track_with ts zero = None
+track_with ts (suc at) = slice_get ts at

@@ -1,0 +1,86 @@
+-- What is known of one instance when it was followed through what happened so far. Inner functions
+-- alone cite this: nothing here has to be believed.
+use Rattle.std.specs.Prelude.{◌≡◌, ℕ, ◌+◌, ◌<◌, List, map, Bool, true, false, ◌&&◌, ◌||◌, not, Option, Some, None, if◌then◌else◌, nat_le}
+use Rattle.std.specs.List.{list_any}
+use Rattle.dds_base.specs.declared.key.Key.{Key}
+use Rattle.dds_base.specs.declared.change.ChangeKind.{ChangeKind}
+use Rattle.dds_base.specs.declared.happening.Happening.{Happening}
+use Rattle.dds_base.specs.declared.sample.InstanceState.{InstanceState}
+use Rattle.dds_base.specs.declared.qos.ReaderQos.{ReaderQos}
+use Rattle.dds_base.specs.Ownership.{publication_handles}
+use Rattle.dds_base.specs.Instance.{or_else, is_write, is_disposed, is_without_writers, last_accepted, state_after, disposed_generations, no_writers_generations, latest_rebirth, accesses}
+use Rattle.dds_base.specs.Presence.{becomes_not_alive, last_marker, accepted_writes}
+use Rattle.dds_instances.specs.declared.registration.Registration.{Registration}
+use Rattle.dds_instances.specs.declared.track.InstanceTrack.{InstanceTrack}
+use Rattle.dds_instances.specs.Registration.{registration_of, is_there}
+
+-- the track has followed instance i through what happened
+pub record Tracks (q : ReaderQos) (i : Key) (h : List Happening) (t : InstanceTrack) : Type 0 where
+  pub key_is : t.key ≡ i
+  pub registrations_are : t.registrations ≡ map (registration_of i h) (publication_handles q)
+  pub last_is : t.last_accepted ≡ last_accepted q i h
+  pub disposed_is : t.disposed_generations ≡ disposed_generations q i h
+  pub no_writers_is : t.no_writers_generations ≡ no_writers_generations q i h
+  pub rebirth_is : t.latest_rebirth ≡ latest_rebirth q i h
+  pub marker_is : t.last_marker ≡ last_marker q i h
+  pub writes_are : t.accepted_writes ≡ accepted_writes q i h
+  pub seen_is : t.is_seen ≡ list_any (accesses i (latest_rebirth q i h)) h
+
+-- an instance of which nothing has come
+abbrev pub fresh : Key → List Registration → InstanceTrack
+fresh key registrations = record {
+  key = key;
+  registrations = registrations;
+  last_accepted = None;
+  disposed_generations = 0;
+  no_writers_generations = 0;
+  latest_rebirth = 0;
+  last_marker = None;
+  accepted_writes = 0;
+  is_seen = false;
+}
+
+-- the counts are below a position
+pub record Fits (n : ℕ) (t : InstanceTrack) : Type 0 where
+  pub writes : t.accepted_writes < n
+  pub generations : t.disposed_generations + t.no_writers_generations < n
+
+-- the state of the instance that a track has followed
+abbrev pub state_of_track : InstanceTrack → Option InstanceState
+state_of_track t = state_after t.last_accepted (not (list_any is_there t.registrations))
+
+-- 1 where the test holds
+abbrev pub one_if : Bool → ℕ
+one_if b = if b then 1 else 0
+
+-- an accepted change of this kind is a rebirth of an instance of this state
+abbrev pub is_revival : Option ChangeKind → Option InstanceState → Bool
+is_revival kind before = (is_write kind && is_disposed before) || (is_write kind && is_without_writers before)
+
+-- a track counts the entry of position n, its registrations noted: its state before, and the accepted kind
+pub record Counts (before : Option InstanceState) (kind : Option ChangeKind) (n : ℕ) (old new : InstanceTrack) : Type 0 where
+  pub key : new.key ≡ old.key
+  pub registrations : new.registrations ≡ old.registrations
+  pub accepts : new.last_accepted ≡ or_else kind old.last_accepted
+  pub disposed : new.disposed_generations ≡ old.disposed_generations + one_if (is_write kind && is_disposed before)
+  pub no_writers : new.no_writers_generations ≡ old.no_writers_generations + one_if (is_write kind && is_without_writers before)
+  pub rebirth : new.latest_rebirth ≡ (if is_revival kind before then n else old.latest_rebirth)
+  pub seen : new.is_seen ≡ (not (is_revival kind before) && old.is_seen)
+  pub marker : new.last_marker ≡ (if becomes_not_alive before (state_of_track new) then Some n else old.last_marker)
+  pub writes : new.accepted_writes ≡ old.accepted_writes + one_if (is_write kind)
+
+-- a track takes up the entry of position n: the accepted kind, and who is registered after it
+pub record Advances (kind : Option ChangeKind) (registrations : List Registration) (n : ℕ) (old new : InstanceTrack) : Type 0 where
+  pub key : new.key ≡ old.key
+  pub notes : new.registrations ≡ registrations
+  pub accepts : new.last_accepted ≡ or_else kind old.last_accepted
+  pub disposed : new.disposed_generations ≡ old.disposed_generations + one_if (is_write kind && is_disposed (state_of_track old))
+  pub no_writers : new.no_writers_generations ≡ old.no_writers_generations + one_if (is_write kind && is_without_writers (state_of_track old))
+  pub rebirth : new.latest_rebirth ≡ (if is_revival kind (state_of_track old) then n else old.latest_rebirth)
+  pub seen : new.is_seen ≡ (not (is_revival kind (state_of_track old)) && old.is_seen)
+  pub marker : new.last_marker ≡ (if becomes_not_alive (state_of_track old) (state_of_track new) then Some n else old.last_marker)
+  pub writes : new.accepted_writes ≡ old.accepted_writes + one_if (is_write kind)
+
+-- a sample of this position was returned
+abbrev pub seen_at : ℕ → InstanceTrack → InstanceTrack
+seen_at position t = record t { is_seen = t.is_seen || nat_le t.latest_rebirth position }

@@ -1,0 +1,388 @@
+//! The instances of a reader, kept up with what happens at it.
+
+ghost use Rattle.std.specs.Prelude.{◌≡◌, ◌+◌, ◌≤◌, ◌<◌, ◌^◌, ◌∷◌, [], List, ℕ, length, All, IsOk, OnOk, OnErr, IfErr, IfOk, IfSome, None, MatchOption};
+ghost use Rattle.std.specs.Option.{option_map};
+ghost use Rattle.dds_base.specs.declared.happening.Happening.{Happening};
+ghost use Rattle.dds_base.specs.declared.happening.Happening.TheVariants.{Came, Passed, Heard, Died, Read, Took, Looked};
+ghost use Rattle.dds_base.specs.declared.happening.SamplePosition.{SamplePosition};
+ghost use Rattle.dds_base.specs.declared.happening.StatusKind.{StatusKind};
+ghost use Rattle.dds_base.specs.declared.qos.ReaderQos.{ReaderQos};
+ghost use Rattle.dds_base.specs.declared.code.Code.TheVariants.{Memory};
+
+use crate::keeping::{add_blanks, bury_all, look_up, see_all, take_up, track_of};
+use crate::known::{KnownInstance, told, view_of};
+use crate::place::find;
+use crate::registration::{Registrations, is_data};
+use crate::track::InstanceTrack;
+use dds_base::{Arrival, Code, Handle, InstanceState, Key, ReaderQos, SamplePosition, ViewState};
+use indexmap::IndexSet;
+use std::alloc::Global;
+use std::marker::Model;
+
+/// The known instances of a reader, by handle, and what follows of each from what happened at the reader.
+///
+/// A change takes about the same time however many instances there are. A writer's death takes up all of them.
+#[derive(Drop)]
+pub struct Instances {
+    alloc: Global,
+    /// How many writers are matched.
+    writers: usize,
+    /// How many entries were taken up.
+    happened: u64,
+    /// For how many more there is memory.
+    room: usize,
+    index: IndexSet<Key>,
+    tracks: Vec<InstanceTrack>,
+    /// Registrations for the instances to come.
+    blanks: Vec<Registrations>,
+}
+
+impl Model for Instances {
+    ghost use Rattle.dds_instances.specs.Table.{Table};
+
+    ghost Value = { Table };
+
+    ghost use Rattle.dds_instances.specs.Sound.{table_of, IsSound};
+
+    ghost view = { table_of };
+
+    ghost invariant = { IsSound };
+}
+
+/// How much room is left once one more entry is counted; none is taken while the count has room of its own.
+fn room_after(happened: u64, room: usize) -> Result<usize, Code>
+    requires fits { happened + room < 2 ^ 64 }
+    ensures fits { IfOk result (λ left. happened + 1 + left < 2 ^ 64) }
+    ensures less { IfOk result (λ left. left ≤ room) }
+    ensures one { IfOk result (λ left. room ≤ left + 1) }
+    ensures succeeds { 1 ≤ room → IsOk result }
+    ensures memory { IfErr result (λ e. e ≡ Memory) }
+{
+    if (room as u64) < u64::MAX - happened {
+        Ok(room)
+    } else {
+        room.checked_sub(1).ok_or(Code::Memory)
+    }
+}
+
+impl Instances {
+    ghost use Rattle.dds_base.specs.Ownership.{IsMatched, is_registered};
+    ghost use Rattle.dds_base.specs.Presence.{is_accepted};
+    ghost use Rattle.dds_instances.specs.Known.{IsKnown, IsReturnable};
+    ghost use Rattle.dds_base.specs.Access.{handle_of, instance_of};
+    ghost use Rattle.dds_base.specs.Instance.{instance_state_of, view_state_of, disposed_generations, no_writers_generations, known_instances};
+    ghost use Rattle.dds_instances.specs.Table.{Stands, room_of};
+
+    /// Of a reader at which nothing has happened.
+    pub fn open(alloc: Global, qos: &ReaderQos) -> Self
+        // Nothing has happened.
+        ensures opening { Stands qos.now result [] }
+    {
+        Instances {
+            alloc,
+            writers: qos.writers.as_slice().len(),
+            happened: 0,
+            room: 0,
+            index: IndexSet::new(alloc),
+            tracks: Vec::new(alloc),
+            blanks: Vec::new(alloc),
+        }
+    }
+
+    /// Makes room for so many more entries: as many that come then find it.
+    ///
+    /// # Errors
+    ///
+    /// `Memory` where a growth was refused, or where more than 2^64 - 1 entries would be counted; nothing has changed then.
+    pub fn reserve(&mut self, additional: usize) -> Result<(), Code>
+        // It stands for what it stood for.
+        ensures same { (q : ReaderQos) (h : List Happening) → Stands q self.old h → Stands q self.new h }
+        // There is room for so many entries.
+        ensures room { OnOk result (additional ≤ room_of self.new) }
+        // There is no less room than before.
+        ensures more { room_of self.old ≤ room_of self.new }
+        // Where there is room enough it succeeds.
+        ensures succeeds { additional ≤ room_of self.old → IsOk result }
+        // A refusal leaves it as it was.
+        ensures err { OnErr result (self.new ≡ self.old) }
+        // It is refused for want of memory alone.
+        ensures memory { IfErr result (λ e. e ≡ Memory) }
+    {
+        if additional <= self.room {
+            return Ok(());
+        }
+        if u64::MAX - self.happened < additional as u64 {
+            return Err(Code::Memory);
+        }
+        self.index.reserve(additional)?;
+        self.tracks.reserve(additional)?;
+        add_blanks(&mut self.blanks, self.alloc, self.writers, additional)?;
+        self.room = additional;
+        Ok(())
+    }
+
+    /// Takes up a change, in the room that there is.
+    fn change(&mut self, qos: &ReaderQos, arrival: &Arrival)
+        requires room { 1 ≤ room_of self.old }
+        ensures stands { (h : List Happening) → Stands qos.now self.old h → Stands qos.now self.new (Came arrival.now ∷ h) }
+        ensures room { room_of self.new + 1 ≡ room_of self.old }
+    {
+        let position = self.happened + 1;
+        take_up(
+            &mut self.index,
+            &mut self.tracks,
+            &mut self.blanks,
+            qos,
+            arrival,
+            position,
+        );
+        self.room -= 1;
+        self.happened = position;
+    }
+
+    /// Takes up a change that came at a reader of these policies.
+    ///
+    /// # Errors
+    ///
+    /// `Memory` as `reserve` answers it, and never where room was reserved; nothing has changed then.
+    ///
+    /// DDS 1.4, 2.2.2.5 (instance_state, generation counts), 2.2.3 (OWNERSHIP).
+    pub fn come(&mut self, qos: &ReaderQos, arrival: &Arrival) -> Result<(), Code>
+        // The change came.
+        ensures ok { OnOk result ((h : List Happening) → Stands qos.now self.old h → Stands qos.now self.new (Came arrival.now ∷ h)) }
+        // Where there is room it comes.
+        ensures reserved { 1 ≤ room_of self.old → IsOk result }
+        // It takes the room of one entry at most.
+        ensures room { room_of self.old ≤ room_of self.new + 1 }
+        // A refusal leaves it as it was.
+        ensures err { OnErr result (self.new ≡ self.old) }
+        // It is refused for want of memory alone.
+        ensures memory { IfErr result (λ e. e ≡ Memory) }
+    {
+        self.reserve(1)?;
+        self.change(qos, arrival);
+        Ok(())
+    }
+
+    /// Takes up the death of a writer, at whichever moment.
+    ///
+    /// # Errors
+    ///
+    /// `Memory` after 2^64 - 1 entries, and never where room was reserved; nothing has changed then.
+    ///
+    /// DDS 1.4, 2.2.3 (LIVELINESS).
+    pub fn died(&mut self, writer: Handle) -> Result<(), Code>
+        // The writer died.
+        ensures ok { OnOk result ((q : ReaderQos) (h : List Happening) (moment : ℕ) → Stands q self.old h → Stands q self.new (Died writer moment ∷ h)) }
+        // Where there is room it is taken up.
+        ensures reserved { 1 ≤ room_of self.old → IsOk result }
+        // It takes the room of one entry at most.
+        ensures room { room_of self.old ≤ room_of self.new + 1 }
+        // A refusal leaves it as it was.
+        ensures err { OnErr result (self.new ≡ self.old) }
+        // It is refused for want of memory alone.
+        ensures memory { IfErr result (λ e. e ≡ Memory) }
+    {
+        let room = room_after(self.happened, self.room)?;
+        let position = self.happened + 1;
+        bury_all(&mut self.tracks, writer, position);
+        self.room = room;
+        self.happened = position;
+        Ok(())
+    }
+
+    /// Takes up an entry that says nothing of any instance: changes that were passed over, a writer that was heard, or a
+    /// status that was looked at.
+    ///
+    /// # Errors
+    ///
+    /// `Memory` after 2^64 - 1 entries, and never where room was reserved; nothing has changed then.
+    pub fn skip(&mut self) -> Result<(), Code>
+        // Changes were passed over.
+        ensures passed { OnOk result ((q : ReaderQos) (h : List Happening) (w first last : ℕ) → Stands q self.old h → Stands q self.new (Passed w first last ∷ h)) }
+        // A writer was heard.
+        ensures heard { OnOk result ((q : ReaderQos) (h : List Happening) (w moment : ℕ) → Stands q self.old h → Stands q self.new (Heard w moment ∷ h)) }
+        // A status was looked at.
+        ensures looked { OnOk result ((q : ReaderQos) (h : List Happening) (kind : StatusKind) → Stands q self.old h → Stands q self.new (Looked kind ∷ h)) }
+        // Where there is room it is taken up.
+        ensures reserved { 1 ≤ room_of self.old → IsOk result }
+        // It takes the room of one entry at most.
+        ensures room { room_of self.old ≤ room_of self.new + 1 }
+        // A refusal leaves it as it was.
+        ensures err { OnErr result (self.new ≡ self.old) }
+        // It is refused for want of memory alone.
+        ensures memory { IfErr result (λ e. e ≡ Memory) }
+    {
+        self.room = room_after(self.happened, self.room)?;
+        self.happened += 1;
+        Ok(())
+    }
+
+    /// Takes up that a read or a take returned these samples, each of a known instance and of what has happened.
+    ///
+    /// # Errors
+    ///
+    /// `Memory` after 2^64 - 1 entries, and never where room was reserved; nothing has changed then.
+    ///
+    /// DDS 1.4, 2.2.2.5 (view_state).
+    pub fn returned(&mut self, samples: &[SamplePosition]) -> Result<(), Code>
+        // A read returned them.
+        ensures read { OnOk result ((q : ReaderQos) (h : List Happening) → Stands q self.old h → All (IsReturnable q h) samples.now → Stands q self.new (Read samples.now ∷ h)) }
+        // A take returned them.
+        ensures took { OnOk result ((q : ReaderQos) (h : List Happening) → Stands q self.old h → All (IsReturnable q h) samples.now → Stands q self.new (Took samples.now ∷ h)) }
+        // Where there is room it is taken up.
+        ensures reserved { 1 ≤ room_of self.old → IsOk result }
+        // It takes the room of one entry at most.
+        ensures room { room_of self.old ≤ room_of self.new + 1 }
+        // A refusal leaves it as it was.
+        ensures err { OnErr result (self.new ≡ self.old) }
+        // It is refused for want of memory alone.
+        ensures memory { IfErr result (λ e. e ≡ Memory) }
+    {
+        self.room = room_after(self.happened, self.room)?;
+        self.happened += 1;
+        see_all(&self.index, &mut self.tracks, samples);
+        Ok(())
+    }
+
+    /// How many entries were taken up: the number of the newest.
+    pub fn happened(&self) -> u64
+        // It is the number of all that happened.
+        ensures happened { (q : ReaderQos) (h : List Happening) → Stands q self.now h → result ≡ length h }
+    {
+        self.happened
+    }
+
+    /// How many instances are known.
+    pub fn len(&self) -> usize
+        // It is the number of the known instances.
+        ensures len { (q : ReaderQos) (h : List Happening) → Stands q self.now h → result ≡ length (known_instances q h) }
+    {
+        self.tracks.len()
+    }
+
+    /// The state of an instance, none while it is unknown.
+    ///
+    /// DDS 1.4, 2.2.2.5 (instance_state).
+    pub fn state(&self, key: Key) -> Option<InstanceState>
+        // It is that of the definitions.
+        ensures state { (q : ReaderQos) (h : List Happening) → Stands q self.now h → result ≡ instance_state_of q key h }
+    {
+        match look_up(&self.index, &self.tracks, key) {
+            Some(track) => track.state(),
+            None => None,
+        }
+    }
+
+    /// How often an instance was reborn after a dispose, and how often after it had no writers.
+    ///
+    /// DDS 1.4, 2.2.2.5 (disposed_generation_count, no_writers_generation_count).
+    pub fn counts(&self, key: Key) -> (u64, u64)
+        // The first is the count of rebirths after a dispose.
+        ensures disposed { (q : ReaderQos) (h : List Happening) → Stands q self.now h → result.0 ≡ disposed_generations q key h }
+        // The second is the count of rebirths after it had no writers.
+        ensures no_writers { (q : ReaderQos) (h : List Happening) → Stands q self.now h → result.1 ≡ no_writers_generations q key h }
+    {
+        match look_up(&self.index, &self.tracks, key) {
+            Some(track) => (track.disposed_generations, track.no_writers_generations),
+            None => (0, 0),
+        }
+    }
+
+    /// Whether the reader has seen an instance since its latest rebirth.
+    ///
+    /// DDS 1.4, 2.2.2.5 (view_state).
+    pub fn view(&self, key: Key) -> ViewState
+        // It is that of the definitions.
+        ensures view { (q : ReaderQos) (h : List Happening) → Stands q self.now h → result ≡ view_state_of q key h }
+    {
+        match look_up(&self.index, &self.tracks, key) {
+            Some(track) => view_of(track),
+            None => ViewState::New,
+        }
+    }
+
+    /// The handle of an instance, `NIL` while it is unknown.
+    ///
+    /// DDS 1.4, 2.2.2.5 (instance_handle, lookup_instance).
+    pub fn handle(&self, key: Key) -> Handle
+        // It is that of the definitions.
+        ensures handle { (q : ReaderQos) (h : List Happening) → Stands q self.now h → result ≡ handle_of q h key }
+    {
+        match find(&self.index, key) {
+            Some(at) => Handle::new(at as u64 + 1),
+            None => Handle::NIL,
+        }
+    }
+
+    /// The key of the instance of a handle, none for a handle that names none.
+    ///
+    /// DDS 1.4, 2.2.2.5 (get_key_value).
+    pub fn key(&self, handle: Handle) -> Option<Key>
+        // It is that of the definitions.
+        ensures key { (q : ReaderQos) (h : List Happening) → Stands q self.now h → result ≡ instance_of q h handle }
+    {
+        match track_of(&self.tracks, handle) {
+            Some(track) => Some(track.key),
+            None => None,
+        }
+    }
+
+    /// What is known of the instance of a handle, none for a handle that names none.
+    pub fn at(&self, handle: Handle) -> Option<KnownInstance>
+        // It is of the instance of the handle.
+        ensures key { (q : ReaderQos) (h : List Happening) → Stands q self.now h → option_map (λ known. known.key) result ≡ instance_of q h handle }
+        // What is told is what the definitions say.
+        ensures known { (q : ReaderQos) (h : List Happening) → Stands q self.now h → IfSome result (IsKnown q h) }
+        // The two generation counts can be added.
+        ensures small { IfSome result (λ known. known.disposed_generations + known.no_writers_generations < 2 ^ 64) }
+    {
+        match track_of(&self.tracks, handle) {
+            Some(track) => Some(told(track)),
+            None => None,
+        }
+    }
+
+    /// What is known of the instance of a key, none while it is unknown.
+    pub fn known(&self, key: Key) -> Option<KnownInstance>
+        // It is of this instance, and none is told of an unknown one alone.
+        ensures key { (q : ReaderQos) (h : List Happening) → Stands q self.now h → MatchOption result (instance_state_of q key h ≡ None) (λ known. known.key ≡ key) }
+        // What is told is what the definitions say.
+        ensures known { (q : ReaderQos) (h : List Happening) → Stands q self.now h → IfSome result (IsKnown q h) }
+    {
+        match look_up(&self.index, &self.tracks, key) {
+            Some(track) => Some(told(track)),
+            None => None,
+        }
+    }
+
+    /// Whether a matched writer is registered for an instance.
+    ///
+    /// DDS 1.4, 2.2.2.4 (register_instance, unregister_instance).
+    pub fn is_registered(&self, key: Key, writer: Handle) -> bool
+        // It is so by the definitions.
+        ensures registered { (q : ReaderQos) (h : List Happening) → Stands q self.now h → IsMatched q writer → result ≡ is_registered key writer h }
+    {
+        match look_up(&self.index, &self.tracks, key) {
+            Some(track) => track.registrations.has(writer),
+            None => false,
+        }
+    }
+
+    /// Whether a change would be accepted, if it came at a reader of these policies.
+    ///
+    /// DDS 1.4, 2.2.3 (OWNERSHIP).
+    pub fn accepts(&self, qos: &ReaderQos, arrival: &Arrival) -> bool
+        // It is so by the definitions.
+        ensures accepts { (h : List Happening) → Stands qos.now self.now h → result ≡ is_accepted qos.now h (Came arrival.now) }
+    {
+        let change = &arrival.change;
+        match look_up(&self.index, &self.tracks, change.key) {
+            Some(track) => track
+                .registrations
+                .accepted(qos, arrival.writer, change.kind)
+                .is_some(),
+            None => is_data(change.kind),
+        }
+    }
+}

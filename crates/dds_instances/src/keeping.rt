@@ -1,0 +1,189 @@
+//! What an entry changes at the instances that are kept.
+
+ghost use Rattle.std.specs.Prelude.{◌≡◌, ◌+◌, ◌<◌, ◌≤◌, ◌++◌, ◌∷◌, [], List, ℕ, true, false, None, option_copied, is_some, IsTrue, MatchOption, OnOk, map, length, All, vec_len, vec_capacity, take};
+ghost use Rattle.std.specs.List.{list_any};
+ghost use Rattle.indexmap.specs.IndexSet.{spare};
+ghost use Rattle.dds_base.specs.declared.happening.Happening.{Happening};
+ghost use Rattle.dds_base.specs.declared.happening.Happening.TheVariants.{Came, Died, Read};
+ghost use Rattle.dds_base.specs.declared.qos.ReaderQos.{ReaderQos};
+ghost use Rattle.dds_base.specs.Happening.{same_key, is_write_or_dispose};
+ghost use Rattle.dds_base.specs.Ownership.{publication_handles};
+ghost use Rattle.dds_instances.specs.Registration.{unregistered};
+ghost use Rattle.dds_base.specs.Instance.{last_accepted};
+ghost use Rattle.dds_instances.specs.Track.{Fits, Tracks};
+ghost use Rattle.dds_instances.specs.Table.{key_of, Each, Follows, IsLawful, IsPlaceOf, AreBlank, track_with};
+
+use crate::place::{find, put_last};
+use crate::registration::{Registrations, is_data};
+use crate::track::InstanceTrack;
+use dds_base::{Arrival, Handle, Key, ReaderQos, SamplePosition};
+use indexmap::IndexSet;
+use std::alloc::{AllocError, Global};
+
+/// A known instance takes up a change of it, the entry of this position.
+pub fn change_known(
+    tracks: &mut Vec<InstanceTrack>,
+    at: usize,
+    qos: &ReaderQos,
+    arrival: &Arrival,
+    position: u64,
+)
+    requires place { IsPlaceOf (map key_of tracks.old.items) arrival.now.change.key at }
+    requires fits { All (Fits position) tracks.old.items }
+    ensures fits { All (Fits (position + 1)) tracks.new.items }
+    ensures keys { map key_of tracks.new.items ≡ map key_of tracks.old.items }
+    ensures len { vec_len tracks.new ≡ vec_len tracks.old }
+    ensures capacity { vec_capacity tracks.new ≡ vec_capacity tracks.old }
+    ensures follows { (h : List Happening) → length h + 1 ≡ position → IsLawful qos.now h → Follows qos.now h tracks.old.items → Follows qos.now (Came arrival.now ∷ h) tracks.new.items }
+{
+    let change = &arrival.change;
+    tracks[at].change(qos, arrival.writer, change.kind, position);
+}
+
+/// An instance becomes known by its first write or dispose, the entry of this position.
+pub fn introduce(
+    index: &mut IndexSet<Key>,
+    tracks: &mut Vec<InstanceTrack>,
+    blank: Registrations,
+    qos: &ReaderQos,
+    arrival: &Arrival,
+    position: u64,
+)
+    requires place { 0 < spare index.old }
+    requires room { vec_len tracks.old < vec_capacity tracks.old }
+    requires indexed { index.old.keys ≡ map key_of tracks.old.items }
+    requires absent { list_any (same_key arrival.now.change.key) index.old.keys ≡ false }
+    requires kind { is_write_or_dispose arrival.now.change.kind ≡ true }
+    requires later { 0 < position }
+    requires fits { All (Fits position) tracks.old.items }
+    ensures fits { All (Fits (position + 1)) tracks.new.items }
+    ensures indexed { index.new.keys ≡ map key_of tracks.new.items }
+    ensures spare { spare index.old ≤ spare index.new + 1 }
+    ensures len { vec_len tracks.new ≡ vec_len tracks.old + 1 }
+    ensures capacity { vec_capacity tracks.old ≤ vec_capacity tracks.new }
+    ensures follows { (h : List Happening) → length h + 1 ≡ position → blank ≡ map unregistered (publication_handles qos.now) → IsLawful qos.now h → Follows qos.now h tracks.old.items → Follows qos.now (Came arrival.now ∷ h) tracks.new.items }
+{
+    let change = &arrival.change;
+    let mut track = InstanceTrack::new(change.key, blank);
+    track.change(qos, arrival.writer, change.kind, position);
+    put_last(index, tracks, track);
+}
+
+/// All instances take up the death of a writer, the entry of this position.
+pub fn bury_all(tracks: &mut Vec<InstanceTrack>, writer: Handle, position: u64)
+    requires fits { All (Fits position) tracks.old.items }
+    ensures fits { All (Fits (position + 1)) tracks.new.items }
+    ensures keys { map key_of tracks.new.items ≡ map key_of tracks.old.items }
+    ensures len { vec_len tracks.new ≡ vec_len tracks.old }
+    ensures capacity { vec_capacity tracks.new ≡ vec_capacity tracks.old }
+    ensures follows { (q : ReaderQos) (h : List Happening) (now : ℕ) → length h + 1 ≡ position → IsLawful q h → Follows q h tracks.old.items → Follows q (Died writer now ∷ h) tracks.new.items }
+{
+    for at in 0..tracks.len() {
+        tracks[at].bury(writer, position);
+    }
+}
+
+/// An instance takes up that a sample of it was returned, if it is kept.
+fn see_sample(index: &IndexSet<Key>, tracks: &mut Vec<InstanceTrack>, sample: SamplePosition)
+    requires indexed { index.now.keys ≡ map key_of tracks.old.items }
+    ensures fits { (n : ℕ) → All (Fits n) tracks.old.items → All (Fits n) tracks.new.items }
+    ensures keys { map key_of tracks.new.items ≡ map key_of tracks.old.items }
+    ensures len { vec_len tracks.new ≡ vec_len tracks.old }
+    ensures capacity { vec_capacity tracks.new ≡ vec_capacity tracks.old }
+    ensures sees { (q : ReaderQos) (h : List Happening) (samples : List SamplePosition) → Each q (Read samples ∷ h) tracks.old.items → Each q (Read (samples ++ sample ∷ []) ∷ h) tracks.new.items }
+{
+    if let Some(at) = find(index, sample.key) {
+        tracks[at].see(sample.position);
+    }
+}
+
+/// All instances take up which samples a read returned.
+pub fn see_all(index: &IndexSet<Key>, tracks: &mut Vec<InstanceTrack>, samples: &[SamplePosition])
+    requires indexed { index.now.keys ≡ map key_of tracks.old.items }
+    ensures fits { (n : ℕ) → All (Fits n) tracks.old.items → All (Fits n) tracks.new.items }
+    ensures keys { map key_of tracks.new.items ≡ map key_of tracks.old.items }
+    ensures len { vec_len tracks.new ≡ vec_len tracks.old }
+    ensures capacity { vec_capacity tracks.new ≡ vec_capacity tracks.old }
+    ensures sees { (q : ReaderQos) (h : List Happening) → Each q (Read [] ∷ h) tracks.old.items → Each q (Read samples.now ∷ h) tracks.new.items }
+{
+    for sample in samples {
+        see_sample(index, tracks, *sample);
+    }
+}
+
+/// The instances take up a change that came, the entry of this position.
+pub fn take_up(
+    index: &mut IndexSet<Key>,
+    tracks: &mut Vec<InstanceTrack>,
+    blanks: &mut Vec<Registrations>,
+    qos: &ReaderQos,
+    arrival: &Arrival,
+    position: u64,
+)
+    requires place { 0 < spare index.old }
+    requires room { vec_len tracks.old < vec_capacity tracks.old }
+    requires spare_blank { 0 < vec_len blanks.old }
+    requires indexed { index.old.keys ≡ map key_of tracks.old.items }
+    requires later { 0 < position }
+    requires fits { All (Fits position) tracks.old.items }
+    ensures fits { All (Fits (position + 1)) tracks.new.items }
+    ensures indexed { index.new.keys ≡ map key_of tracks.new.items }
+    ensures spare { spare index.old ≤ spare index.new + 1 }
+    ensures len { vec_len tracks.new ≤ vec_len tracks.old + 1 }
+    ensures capacity { vec_capacity tracks.old ≤ vec_capacity tracks.new }
+    ensures blanks_len { vec_len blanks.old ≤ vec_len blanks.new + 1 }
+    ensures blanks { (n : ℕ) → AreBlank n blanks.old.items → AreBlank n blanks.new.items }
+    ensures follows { (h : List Happening) → length h + 1 ≡ position → AreBlank (length qos.now.writers) blanks.old.items → IsLawful qos.now h → Follows qos.now h tracks.old.items → Follows qos.now (Came arrival.now ∷ h) tracks.new.items }
+{
+    match find(index, arrival.change.key) {
+        Some(at) => change_known(tracks, at, qos, arrival, position),
+        None => {
+            if is_data(arrival.change.kind) {
+                let blank = blanks.pop().unwrap();
+                introduce(index, tracks, blank, qos, arrival, position);
+            }
+        }
+    }
+}
+
+/// So many blank registrations at least.
+pub fn add_blanks(
+    blanks: &mut Vec<Registrations>,
+    alloc: Global,
+    writers: usize,
+    wanted: usize,
+) -> Result<(), AllocError>
+    requires blank { AreBlank writers blanks.old.items }
+    ensures blank { AreBlank writers blanks.new.items }
+    ensures more { vec_len blanks.old ≤ vec_len blanks.new }
+    ensures ok { OnOk result (wanted ≤ vec_len blanks.new) }
+{
+    for _ in blanks.len()..wanted {
+        let blank = Registrations::blank(alloc, writers)?;
+        blanks.push(blank)?;
+    }
+    Ok(())
+}
+
+/// What is kept of a key, if its instance is known.
+pub fn look_up<'a>(
+    index: &IndexSet<Key>,
+    tracks: &'a [InstanceTrack],
+    key: Key,
+) -> Option<&'a InstanceTrack>
+    requires indexed { index.now.keys ≡ map key_of tracks.now }
+    ensures { (q : ReaderQos) (h : List Happening) → Follows q h tracks.now → MatchOption result (last_accepted q key h ≡ None) (λ t. Tracks q key h t.now × IsTrue (is_some (last_accepted q key h))) }
+{
+    match find(index, key) {
+        Some(at) => Some(&tracks[at]),
+        None => None,
+    }
+}
+
+/// What is kept of the instance of a handle.
+pub fn track_of(tracks: &[InstanceTrack], handle: Handle) -> Option<&InstanceTrack>
+    ensures { option_copied result ≡ track_with tracks.now handle }
+{
+    let at = handle.number().checked_sub(1)?;
+    tracks.get(at as usize)
+}

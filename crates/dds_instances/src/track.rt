@@ -1,0 +1,185 @@
+//! One instance, followed through what happens.
+//!
+//! DDS 1.4, 2.2.2.5 (SampleInfo: instance_state, view_state, the two generation counts).
+
+ghost use Rattle.std.specs.Prelude.{◌≡◌, ◌+◌, ◌<◌, ◌≤◌, ◌^◌, if◌then◌else◌, map, None};
+ghost use Rattle.dds_base.specs.Instance.{or_else, state_after, is_write, is_disposed, is_without_writers};
+ghost use Rattle.dds_base.specs.Presence.{becomes_not_alive};
+ghost use Rattle.dds_instances.specs.Registration.{accepted_among, noted, noted_death};
+ghost use Rattle.dds_instances.specs.Track.{state_of_track, one_if, fresh, seen_at, Counts, Advances, Fits};
+
+use crate::registration::Registrations;
+use dds_base::{ChangeKind, Handle, InstanceState, Key, ReaderQos};
+
+/// What is known of an instance after what has happened.
+#[derive(Drop)]
+pub struct InstanceTrack {
+    pub key: Key,
+    pub registrations: Registrations,
+    /// The kind of the last accepted write or dispose.
+    pub last_accepted: Option<ChangeKind>,
+    pub disposed_generations: u64,
+    pub no_writers_generations: u64,
+    /// The position of the latest rebirth, 0 where it had none.
+    pub latest_rebirth: u64,
+    /// The position of the last marker.
+    pub last_marker: Option<u64>,
+    pub accepted_writes: u64,
+    /// Whether a read or a take returned a sample of it since its latest rebirth.
+    pub is_seen: bool,
+}
+
+fn state_by(last: Option<ChangeKind>, nobody: bool) -> Option<InstanceState>
+    ensures { result ≡ state_after last nobody }
+{
+    match last {
+        None => None,
+        Some(ChangeKind::Write) => {
+            if nobody {
+                Some(InstanceState::NotAliveNoWriters)
+            } else {
+                Some(InstanceState::Alive)
+            }
+        }
+        Some(_) => Some(InstanceState::NotAliveDisposed),
+    }
+}
+
+fn is_written(kind: Option<ChangeKind>) -> bool
+    ensures { result ≡ is_write kind }
+{
+    match kind {
+        Some(ChangeKind::Write) => true,
+        _ => false,
+    }
+}
+
+fn is_disposed_state(state: Option<InstanceState>) -> bool
+    ensures { result ≡ is_disposed state }
+{
+    match state {
+        Some(InstanceState::NotAliveDisposed) => true,
+        _ => false,
+    }
+}
+
+fn is_abandoned_state(state: Option<InstanceState>) -> bool
+    ensures { result ≡ is_without_writers state }
+{
+    match state {
+        Some(InstanceState::NotAliveNoWriters) => true,
+        _ => false,
+    }
+}
+
+fn is_new_end(before: Option<InstanceState>, after: Option<InstanceState>) -> bool
+    ensures { result ≡ becomes_not_alive before after }
+{
+    match after {
+        Some(InstanceState::NotAliveDisposed) => match before {
+            Some(InstanceState::NotAliveDisposed) => false,
+            _ => true,
+        },
+        Some(InstanceState::NotAliveNoWriters) => match before {
+            Some(InstanceState::NotAliveNoWriters) => false,
+            _ => true,
+        },
+        _ => false,
+    }
+}
+
+fn count_if(is_so: bool) -> u64
+    ensures count { result ≡ one_if is_so }
+    ensures bound { result < 2 }
+{
+    if is_so { 1 } else { 0 }
+}
+
+fn chosen<T: Copy>(is_so: bool, first: T, second: T) -> T
+    ensures { result ≡ (if is_so then first else second) }
+{
+    if is_so { first } else { second }
+}
+
+fn first_there(first: Option<ChangeKind>, second: Option<ChangeKind>) -> Option<ChangeKind>
+    ensures { result ≡ or_else first second }
+{
+    match first {
+        None => second,
+        Some(kind) => Some(kind),
+    }
+}
+
+impl InstanceTrack {
+    /// Of an instance of which nothing has come.
+    pub fn new(key: Key, registrations: Registrations) -> Self
+        ensures { result ≡ fresh key registrations }
+    {
+        InstanceTrack {
+            key,
+            registrations,
+            last_accepted: None,
+            disposed_generations: 0,
+            no_writers_generations: 0,
+            latest_rebirth: 0,
+            last_marker: None,
+            accepted_writes: 0,
+            is_seen: false,
+        }
+    }
+
+    /// The state of the instance, none while it is unknown.
+    pub fn state(&self) -> Option<InstanceState>
+        ensures { result ≡ state_of_track self.now }
+    {
+        state_by(self.last_accepted, self.registrations.is_abandoned())
+    }
+
+    /// Counts an entry, once its registrations are noted.
+    fn count(&mut self, before: Option<InstanceState>, kind: Option<ChangeKind>, position: u64)
+        requires writes { self.old.accepted_writes < position }
+        requires generations { self.old.disposed_generations + self.old.no_writers_generations < position }
+        ensures { Counts before kind position self.old self.new }
+    {
+        self.last_accepted = first_there(kind, self.last_accepted);
+        let is_write = is_written(kind);
+        let revives_disposed = is_write && is_disposed_state(before);
+        let revives_abandoned = is_write && is_abandoned_state(before);
+        self.disposed_generations += count_if(revives_disposed);
+        self.no_writers_generations += count_if(revives_abandoned);
+        let is_rebirth = revives_disposed || revives_abandoned;
+        self.latest_rebirth = chosen(is_rebirth, position, self.latest_rebirth);
+        self.is_seen = !is_rebirth && self.is_seen;
+        let is_marked = is_new_end(before, self.state());
+        self.last_marker = chosen(is_marked, Some(position), self.last_marker);
+        self.accepted_writes += count_if(is_write);
+    }
+
+    /// Takes up a change of the instance, the entry of this position.
+    pub fn change(&mut self, qos: &ReaderQos, writer: Handle, kind: ChangeKind, position: u64)
+        requires fits { Fits position self.old }
+        ensures { Advances (accepted_among qos.now self.old.registrations writer kind) (map (noted writer kind) self.old.registrations) position self.old self.new }
+    {
+        let before = self.state();
+        let accepted = self.registrations.accepted(qos, writer, kind);
+        self.registrations.note(writer, kind);
+        self.count(before, accepted, position);
+    }
+
+    /// Takes up the death of a writer, the entry of this position.
+    pub fn bury(&mut self, writer: Handle, position: u64)
+        requires fits { Fits position self.old }
+        ensures { Advances None (map (noted_death writer) self.old.registrations) position self.old self.new }
+    {
+        let before = self.state();
+        self.registrations.bury(writer);
+        self.count(before, None, position);
+    }
+
+    /// Takes up that a sample of the instance at this position was returned.
+    pub fn see(&mut self, position: u64)
+        ensures { self.new ≡ seen_at position self.old }
+    {
+        self.is_seen = self.is_seen || self.latest_rebirth <= position;
+    }
+}
