@@ -30,7 +30,7 @@ pub struct PassedRun {
 }
 
 /// A sample of a reader: its instance, and which happening is its change or death.
-#[derive(Clone, Copy)]
+#[derive(Clone, Copy, PartialEq, Eq, Hash)]
 pub struct SamplePosition {
     /// Its instance.
     pub key: Key,

@@ -1,0 +1,5 @@
+pub mod PresenceLaws
+pub mod KeptLaws
+pub mod StandingLaws
+pub mod GroupLaws
+pub mod FindingLaws

@@ -1,0 +1,4 @@
+pub mod Kept
+pub mod Standing
+pub mod Sound
+pub mod Finding

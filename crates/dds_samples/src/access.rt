@@ -1,0 +1,170 @@
+//! What a read or a take returns.
+
+ghost use Rattle.std.specs.Prelude.{◌≡◌, ◌+◌, ◌&&◌, Some, if◌then◌else◌, ◌<◌, ◌^◌, List, ℕ, false, true, map, filter, All, MatchOption, length, IfSome, IfOk, OnOk};
+ghost use Rattle.std.specs.List.Sorted.{IsPermutation, IsNonDecreasingBy, IsStableByKey};
+ghost use Rattle.std.specs.Ordering.{nat_cmp};
+ghost use Rattle.dds_base.specs.declared.happening.Happening.{Happening};
+ghost use Rattle.dds_base.specs.declared.sample.SampleState.TheVariants.{Read as HasBeenRead, NotRead};
+ghost use Rattle.dds_base.specs.Access.{own_generations};
+ghost use Rattle.dds_instances.specs.Table.{Stands};
+ghost use Rattle.dds_samples.specs.Kept.{IsKept, is_live};
+ghost use Rattle.dds_samples.specs.Finding.{are_asked_for, is_wanted, described_by, IsFound, IsSmall, IsPlaced, AreCandidates, Holds, Finds, sample_in, picked_in, handle_in};
+
+use crate::kept::Kept;
+use crate::masks::{asks_for_instance, asks_for_sample, asks_for_view};
+use dds_base::{InstanceState, Masks, Picked, ReaderQos, SamplePosition, SampleState, ViewState};
+use dds_instances::{Instances, KnownInstance};
+use std::alloc::{AllocError, Global};
+
+/// A sample that an access finds: what is known of it before its ranks, and where it is kept.
+#[derive(Clone, Copy)]
+pub struct Candidate {
+    pub sample: SamplePosition,
+    pub picked: Picked,
+    pub at: usize,
+}
+
+/// Whether the masks ask for these states.
+fn is_asked(
+    masks: Masks,
+    sample: SampleState,
+    view: ViewState,
+    instance: Option<InstanceState>,
+) -> bool
+    ensures { result ≡ are_asked_for masks sample view instance }
+{
+    asks_for_sample(masks.samples, sample)
+        && (asks_for_view(masks.views, view) && asks_for_instance(masks.instances, instance))
+}
+
+fn sample_state(is_read: bool) -> SampleState
+    ensures { result ≡ (if is_read then HasBeenRead else NotRead) }
+{
+    if is_read {
+        SampleState::Read
+    } else {
+        SampleState::NotRead
+    }
+}
+
+/// What is known of a kept sample before its ranks, by what is known of its instance.
+fn picked(kept: &Kept, known: &KnownInstance) -> Picked
+    requires small { known.now.disposed_generations + known.now.no_writers_generations < 2 ^ 64 }
+    ensures { result ≡ described_by kept.now known.now }
+{
+    Picked {
+        sample_state: sample_state(kept.is_read),
+        view_state: known.view,
+        instance_state: known.state,
+        disposed_generation_count: kept.disposed_generation_count,
+        no_writers_generation_count: kept.no_writers_generation_count,
+        instance_generations: known.disposed_generations + known.no_writers_generations,
+        source_timestamp: kept.source_timestamp,
+        instance_handle: kept.handle,
+        publication_handle: kept.publication_handle,
+        valid_data: kept.valid_data,
+    }
+}
+
+/// Whether a kept sample is present and meets the masks, by what is known of its instance.
+fn is_found(kept: &Kept, qos: &ReaderQos, masks: Masks, known: &KnownInstance) -> bool
+    ensures { result ≡ (is_live qos.now known.now kept.now && are_asked_for masks (if kept.now.is_read then HasBeenRead else NotRead) known.now.view (Some known.now.state)) }
+{
+    kept.is_live(qos, known)
+        && is_asked(
+            masks,
+            sample_state(kept.is_read),
+            known.view,
+            Some(known.state),
+        )
+}
+
+/// The kept sample at an index as a candidate, if it is present and meets the masks.
+fn as_candidate(
+    instances: &Instances,
+    qos: &ReaderQos,
+    masks: Masks,
+    kept: &Kept,
+    at: usize,
+) -> Option<Candidate>
+    requires small { IsSmall kept.now }
+    ensures placed { IfSome result (λ c. (c.at ≡ at) × (own_generations c.picked < 2 ^ 64)) }
+    ensures wanted { (h : List Happening) → Stands qos.now instances.now h → IsKept qos.now h kept.now → MatchOption result (is_wanted qos.now h masks kept.now ≡ false) (IsFound qos.now h masks kept.now at) }
+{
+    match instances.at(kept.handle) {
+        None => None,
+        Some(known) => {
+            if is_found(kept, qos, masks, &known) {
+                Some(Candidate {
+                    sample: kept.sample,
+                    picked: picked(kept, &known),
+                    at,
+                })
+            } else {
+                None
+            }
+        }
+    }
+}
+
+/// The candidates, in the order in which they came.
+fn find_candidates(
+    alloc: Global,
+    instances: &Instances,
+    qos: &ReaderQos,
+    masks: Masks,
+    samples: &[Kept],
+) -> Result<Vec<Candidate>, AllocError>
+    requires small { All IsSmall samples.now }
+    ensures placed { IfOk result (λ cs. All (IsPlaced (length samples.now)) cs.items) }
+    ensures found { IfOk result (λ cs. (h : List Happening) → Stands qos.now instances.now h → All (IsKept qos.now h) samples.now → AreCandidates qos.now h masks samples.now samples.now cs.items) }
+{
+    let mut found = Vec::new(alloc);
+    for at in 0..samples.len() {
+        if let Some(candidate) = as_candidate(instances, qos, masks, &samples[at], at) {
+            found.push(candidate)?;
+        }
+    }
+    Ok(found)
+}
+
+/// By handle, those of one instance in the order in which they came.
+fn sort_by_handle(candidates: &mut Vec<Candidate>) -> Result<(), AllocError>
+    ensures permutation { IsPermutation candidates.old.items candidates.new.items }
+    ensures sorted { OnOk result (IsNonDecreasingBy handle_in candidates.new.items) }
+    ensures stable { IsStableByKey handle_in nat_cmp candidates.old.items candidates.new.items }
+{
+    candidates.sort_by_key(|c| c.picked.instance_handle.number())?;
+    Ok(())
+}
+
+/// The present samples that meet the masks, by handle, and those of one instance in the order in which they came.
+pub fn find_matching(
+    alloc: Global,
+    instances: &Instances,
+    qos: &ReaderQos,
+    masks: Masks,
+    samples: &[Kept],
+) -> Result<Vec<Candidate>, AllocError>
+    requires small { All IsSmall samples.now }
+    ensures placed { IfOk result (λ found. All (IsPlaced (length samples.now)) found.items) }
+    ensures found { IfOk result (λ found. (h : List Happening) → Holds qos.now instances.now samples.now h → Finds qos.now h masks samples.now found.items) }
+{
+    let mut found = find_candidates(alloc, instances, qos, masks, samples)?;
+    sort_by_handle(&mut found)?;
+    Ok(found)
+}
+
+/// The samples that were found.
+pub fn positions(alloc: Global, found: &[Candidate]) -> Result<Vec<SamplePosition>, AllocError>
+    ensures { IfOk result (λ positions. positions.items ≡ map sample_in found.now) }
+{
+    found.iter().map(|c| c.sample).collect(alloc)
+}
+
+/// What is known of them before their ranks.
+fn descriptions(alloc: Global, found: &[Candidate]) -> Result<Vec<Picked>, AllocError>
+    ensures { IfOk result (λ picked. picked.items ≡ map picked_in found.now) }
+{
+    found.iter().map(|c| c.picked).collect(alloc)
+}

@@ -1,0 +1,43 @@
+//! What a read or a take leaves of the kept samples.
+
+ghost use Rattle.std.specs.Prelude.{◌≡◌, ◌≤◌, List, map, filter, not, IfOk, vec_len, vec_capacity};
+ghost use Rattle.std.specs.List.{list_any};
+ghost use Rattle.dds_base.specs.declared.happening.SamplePosition.{SamplePosition};
+ghost use Rattle.dds_base.specs.Happening.{same_sample};
+ghost use Rattle.dds_samples.specs.Kept.{marked, is_among};
+
+use crate::kept::Kept;
+use dds_base::{Code, SamplePosition};
+use indexmap::IndexSet;
+use std::alloc::Global;
+
+/// The samples, as a set.
+pub fn set_of(alloc: Global, samples: &[SamplePosition]) -> Result<IndexSet<SamplePosition>, Code>
+    ensures { IfOk result (λ set. (s : SamplePosition) → list_any (same_sample s) set.keys ≡ list_any (same_sample s) samples.now) }
+{
+    let mut set = IndexSet::with_capacity(alloc, samples.len())?;
+    for sample in samples {
+        set.insert(*sample)?;
+    }
+    Ok(set)
+}
+
+/// Marks the samples that a read returned.
+pub fn mark_all(samples: &mut Vec<Kept>, returned: &IndexSet<SamplePosition>)
+    ensures items { samples.new.items ≡ map (marked returned.now.keys) samples.old.items }
+    ensures len { vec_len samples.new ≡ vec_len samples.old }
+    ensures capacity { vec_capacity samples.new ≡ vec_capacity samples.old }
+{
+    for at in 0..samples.len() {
+        samples[at].mark(returned);
+    }
+}
+
+/// Removes the samples that a take returned.
+pub fn remove_all(samples: &mut Vec<Kept>, returned: &IndexSet<SamplePosition>)
+    ensures items { samples.new.items ≡ filter (λ k. not (is_among returned.now.keys k)) samples.old.items }
+    ensures len { vec_len samples.new ≤ vec_len samples.old }
+    ensures capacity { vec_capacity samples.old ≤ vec_capacity samples.new }
+{
+    samples.retain(|k| !returned.contains(&k.sample));
+}
