@@ -1,7 +1,7 @@
 -- While a packet is taken up, no count is taken that its sender has not used, and each ACKNACK that is due has a count that
 -- its reader uses with it.
 use Rattle.std.proofs.Common.{◌≡◌, ◌⊎◌, ℕ, ℤ, pos, suc, ◌+◌, ◌≤◌, ◌≤ℤ◌, ◌==◌, ◌&&◌, Bool, true, false, cond}
-use Rattle.std.proofs.Common.{List, [], ◌∷◌, ◌++◌, Option, Some, None, Contains, map, length, refl, subst, ap, sym, ◌∙◌, inl, inr, ⊎_elim, arith, eqb-true}
+use Rattle.std.proofs.Common.{List, [], ◌∷◌, ◌++◌, Option, Some, None, Contains, length, refl, subst, ap, sym, ◌∙◌, inl, inr, ⊎_elim, arith, eqb-true}
 use Rattle.std.proofs.lemmas.Int.{ints}
 use Rattle.std.proofs.lemmas.List.Elements.{Contains-append_cases}
 use Rattle.std.proofs.lemmas.Option.{same_Some}
@@ -31,7 +31,7 @@ use Rattle.dds_model.specs.Protocol.{Due, Known, State, InTurn, Goes, Idles, Tak
 use Rattle.dds_model.specs.Backed.{reader_at}
 use Rattle.dds_model.specs.Fresh.{HasHeartbeat, HasAckNack}
 use Rattle.dds_model.proofs.Composed.{front_or_rest}
-use Rattle.dds_model.proofs.CountsWritten.{plain_beats, plain_asks, plain_answers, one_ask, one_ask_beats}
+use Rattle.dds_model.proofs.CountsWritten.{plain_beats, plain_asks, plain_answers, one_ask, one_ask_beats, each_of}
 use Rattle.dds_model.proofs.DuesAcknacks.{answer_names}
 use Rattle.dds_model.proofs.Framing.{pair_or_not}
 use Rattle.dds_model.proofs.Learning.{Learns, goes_learns, heartbeat_learns}
@@ -241,11 +241,6 @@ answer_counted c s own to reader writer changes n group = record {
   ask = λ v k count writable has. absurd (plain_asks c.config (answer_message own to reader writer changes group) v k count writable (tt, plain_answers changes reader writer group) has);
 }
 
-each_counted : {X : Type 0} (c : Counting) (s : State) (f : X → Due) → ((x : X) → IsCounted c s (f x)) → (xs : List X) (due : Due) → Contains (map f xs) due → IsCounted c s due
-each_counted c s f all [] due among = let lt = among.1 in absurd (omega (arith, lt))
-each_counted {X = X} c s f all (x ∷ xs) due among =
-    ⊎_elim (λ e. subst (λ (d : Due). IsCounted c s d) e (all x)) (λ rest. each_counted c s f all xs due rest) (front_or_rest (f x) (map f xs) due among.0 among.1 among.2)
-
 acknack_counts : (c : Counting) (at : Receiver) (a : AckNackBody) → IsUsed c at (AckNack a) → (writer : ℕ) (reader : Endpoint) (old : State)
     (is : IsToWriter c.config c.own at a.reader_id a.writer_id (reader_at c.peer writer) reader) (moves : List Move) (dues : List Due) (new : State)
     → TakesAckNack c.own at old writer reader is.entity a moves dues new → Counts c old dues new
@@ -260,7 +255,7 @@ acknack_counts c at a used writer reader old is moves dues new k = record {
       (subst (λ (m : ℕ). a.count ≤ℤ pos (c.asks (reader_at c.peer m) reader)) (sym n.0) (used (reader_at c.peer writer) reader is)))))
       (answered_now old.known writer reader a.count v x count (sym (ap (λ (s : State). s.known.answered v x) k.after) ∙ e));
   counted = λ due among.
-      each_counted c new (λ group. record { to = reader.peer; message = answer_message c.own at.source_guid_prefix is.entity a.writer_id (writer_changes k.there) group })
+      each_of (IsCounted c new) (λ group. record { to = reader.peer; message = answer_message c.own at.source_guid_prefix is.entity a.writer_id (writer_changes k.there) group })
       (λ group. answer_counted c new c.own at.source_guid_prefix is.entity a.writer_id (writer_changes k.there) reader.peer group) k.groups due
       (subst (λ (ds : List Due). Contains ds due) k.dues_are among);
 }

@@ -1,6 +1,6 @@
 -- Which counts of HEARTBEATs and of ACKNACKs stand in a written message.
 use Rattle.std.proofs.Common.{◌≡◌, ℕ, ℤ, zero, suc, List, [], ◌∷◌, ◌++◌, Option, Some, None, subst, ap, sym, ◌∙◌}
-use Rattle.std.proofs.Common.{length, flat_map}
+use Rattle.std.proofs.Common.{Contains, length, map, flat_map, refl, ⊎_elim, arith}
 use Rattle.std.specs.List.{AllByRecursion}
 use Rattle.dds_base.specs.declared.change.Change.{Change}
 use Rattle.dds_base.specs.declared.config.Config.{Config}
@@ -19,8 +19,9 @@ use Rattle.rtps_writer.specs.declared.answer.Answer.{Answer}
 use Rattle.rtps_writer.specs.declared.answer.Answer.TheVariants.{Data as AnswersData, Gap as AnswersGap}
 use Rattle.dds_model.specs.declared.endpoint.Endpoint.{Endpoint}
 use Rattle.dds_model.specs.Claims.{Receiver, receiver_of, after_submessage, StandsAt, IsWriter, IsToWriter}
-use Rattle.dds_model.specs.Protocol.{data_of, submessages_of}
+use Rattle.dds_model.specs.Protocol.{Due, data_of, submessages_of}
 use Rattle.dds_model.specs.Fresh.{HasHeartbeat, HasAckNack}
+use Rattle.dds_model.proofs.Composed.{front_or_rest, later_in}
 use Rattle.dds_model.proofs.Dues.{addressed, message_to}
 
 -- the one message that a written form is read as
@@ -164,3 +165,17 @@ one_ask_beats config own to body w count writable h =
     subst (λ (m : Message). StandsAt h.own (receiver_of m.prefix) m.submessages h.index h.at (Heartbeat h.heartbeat)) same h.stands in
     let here = alone own to (AckNack body) h.own h.index h.at (Heartbeat h.heartbeat) stands (no_beat h.heartbeat to) in
     let e = here.1 in absurd cc
+
+-- ---- lists of messages
+
+-- what is so of each message is so of those in a list
+pub each_of : {X : Type 0} (P : Due → Type 0) (f : X → Due) → ((x : X) → P (f x)) → (xs : List X) (due : Due) → Contains (map f xs) due → P due
+each_of P f all [] due among = let lt = among.1 in absurd (omega (arith, lt))
+each_of {X = X} P f all (x ∷ xs) due among =
+    ⊎_elim (λ e. subst (λ (d : Due). P d) e (all x)) (λ rest. each_of P f all xs due rest) (front_or_rest (f x) (map f xs) due among.0 among.1 among.2)
+
+pub contains_map : {X Y : Type 0} (f : X → Y) (xs : List X) (x : X) → Contains xs x → Contains (map f xs) (f x)
+contains_map f [] x h = let lt = h.1 in absurd (omega (arith, lt))
+contains_map {X = X} f (y ∷ ys) x h =
+    ⊎_elim (λ e. subst (λ (z : X). Contains (map f (y ∷ ys)) (f z)) e (0, omega arith, refl)) (λ later. later_in (f y) (map f ys) (f x) (contains_map f ys x later))
+    (front_or_rest y ys x h.0 h.1 h.2)

@@ -1,6 +1,6 @@
 -- An event of a network by the rules sends and takes no count that its sender has not used.
 use Rattle.std.proofs.Common.{◌≡◌, ◌⊎◌, ℕ, ℤ, pos, ◌+◌, ◌-◌, ◌≤◌, ◌≤ℤ◌, Bool, true, false, List, [], ◌∷◌, ◌++◌, Option, Some, None, Contains}
-use Rattle.std.proofs.Common.{map, length, length-append, refl, subst, ap, sym, ◌∙◌, inl, inr, ⊎_elim, arith}
+use Rattle.std.proofs.Common.{length, length-append, refl, subst, ap, sym, ◌∙◌, inl, inr, ⊎_elim, arith}
 use Rattle.std.specs.Prelude.{if◌then◌else◌, nat_lt}
 use Rattle.std.specs.List.{All}
 use Rattle.std.proofs.lemmas.Int.{ints}
@@ -38,9 +38,9 @@ use Rattle.dds_model.specs.Protocol.{Due, Known, TakesPacket, writer_entity, cha
 use Rattle.dds_model.specs.World.{WorldState, WorldStep, PeerSteps, peer_at, machine_of}
 use Rattle.dds_model.specs.Rules.{announcements_due, AreDue, RuledStep}
 use Rattle.dds_model.specs.Fresh.{HasHeartbeat, HasAckNack, heartbeats_used, heartbeats_used_at, tracked_at, acknacks_used_at, HasUsedCounts}
-use Rattle.dds_model.proofs.Composed.{front_or_rest, parts_at, machine_after, contains_at}
+use Rattle.dds_model.proofs.Composed.{parts_at, machine_after, contains_at}
 use Rattle.dds_model.proofs.CountsTaken.{Counting, Counts, packet_counts}
-use Rattle.dds_model.proofs.CountsWritten.{plain_beats, plain_asks, plain_data, one_beat, one_beat_asks}
+use Rattle.dds_model.proofs.CountsWritten.{plain_beats, plain_asks, plain_data, one_beat, one_beat_asks, each_of}
 use Rattle.dds_model.proofs.DuesGrowth.{Gains, gains_same, gains_on, AreMoves-gains, is_part_kept}
 use Rattle.dds_model.proofs.DuesHeartbeats.{of_all}
 use Rattle.dds_model.proofs.DuesMatched.{own_name}
@@ -222,11 +222,6 @@ change_silent config own to writer number change n = record {
   beat = λ w count writable has. plain_beats config (change_message own to writer number change) w count writable (tt, plain_data every_reader writer number (Some change)) has;
   ask = λ w r count writable has. plain_asks config (change_message own to writer number change) w r count writable (tt, plain_data every_reader writer number (Some change)) has;
 }
-
-each_of : {X : Type 0} (P : Due → Type 0) (f : X → Due) → ((x : X) → P (f x)) → (xs : List X) (due : Due) → Contains (map f xs) due → P due
-each_of P f all [] due among = let lt = among.1 in absurd (omega (arith, lt))
-each_of {X = X} P f all (x ∷ xs) due among =
-    ⊎_elim (λ e. subst (λ (d : Due). P d) e (all x)) (λ rest. each_of P f all xs due rest) (front_or_rest (f x) (map f xs) due among.0 among.1 among.2)
 
 announcement_silent : (config : Config) (peer : ℕ) (part : Part) (e : Effect) (due : Due) → Contains (announcements_due config peer part e) due → IsSilent config due
 announcement_silent config peer part (writes writer (Changed change)) due among =

@@ -49,3 +49,4 @@ pub mod PairTicked
 pub mod PairHeard
 pub mod PairAnswered
 pub mod PairCaughtUp
+pub mod PairBeats

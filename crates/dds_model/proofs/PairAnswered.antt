@@ -29,7 +29,7 @@ use Rattle.dds_model.specs.World.{WorldState, peer_at}
 use Rattle.dds_model.specs.Backed.{reader_at}
 use Rattle.dds_model.specs.CatchUp.{Standing, TakesAnswers}
 use Rattle.dds_model.specs.Repair.{Delivers, DeliversAll}
-use Rattle.dds_model.proofs.Composed.{front_or_rest, later_in}
+use Rattle.dds_model.proofs.Composed.{later_in}
 use Rattle.dds_model.proofs.DuesAcknacks.{answer_names}
 use Rattle.dds_model.proofs.DuesUnkept.{row_index}
 use Rattle.dds_model.proofs.Framing.{number_or_not}
@@ -134,12 +134,6 @@ all_sent (d ∷ ds) packets lost none (inr h) = let more = h.1 in absurd (omega 
 pub each_writable : (dues : List Due) → ((d : Due) → Contains dues d → IsWritable d.message) → AllByRecursion (λ (d : Due). IsWritable d.message) dues
 each_writable [] all = tt
 each_writable (d ∷ ds) all = (all d (0, omega arith, refl), each_writable ds (λ x among. all x (later_in d ds x among)))
-
-pub posted : (dues : List Due) (d : Due) → Contains dues d → Contains (map post dues) (post d)
-posted [] d among = let lt = among.1 in absurd (omega (arith, lt))
-posted (x ∷ xs) d among =
-    ⊎_elim (λ e. subst (λ (y : Due). Contains (map post (x ∷ xs)) (post y)) e (0, omega arith, refl)) (λ later. later_in (post x) (map post xs) (post d) (posted xs d later))
-    (front_or_rest x xs d among.0 among.1 among.2)
 
 -- ---- answers are delivered
 

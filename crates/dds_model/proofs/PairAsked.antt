@@ -2,7 +2,6 @@
 use Rattle.std.proofs.Common.{◌≡◌, ◌⊎◌, ℕ, ℤ, zero, suc, ◌+◌, ◌<◌, ◌≤◌, ◌&&◌, Bool, true, false, cond, nat_le, List, [], ◌∷◌, ◌++◌, Option, Some, length, get_or}
 use Rattle.std.proofs.Common.{refl, subst, ap, sym, ◌∙◌, inl, inr, ⊎_elim, arith, eq-eqb}
 use Rattle.std.specs.Option.{option_map}
-use Rattle.std.proofs.lemmas.Bool.{cases_lt}
 use Rattle.dds_base.specs.declared.guid.EntityId.{EntityId}
 use Rattle.dds_base.specs.Kept.{numbers_from}
 use Rattle.rtps_reader.specs.Tracked.{is_later}
@@ -17,9 +16,9 @@ use Rattle.dds_model.specs.Protocol.{Due, Known, State, InTurn, TakesAckNack, is
 use Rattle.dds_model.specs.Backed.{reader_at}
 use Rattle.dds_model.proofs.Framing.{number_or_not}
 use Rattle.dds_model.proofs.InOrder.{same_self}
-use Rattle.dds_model.proofs.PairTurns.{Host}
+use Rattle.dds_model.proofs.PairTurns.{Host, above}
 use Rattle.dds_model.proofs.Ruled.{not_later_than_itself}
-use Rattle.dds_model.proofs.Tables.{same_is}
+use Rattle.dds_model.proofs.Tables.{append_nothing, same_is}
 
 -- an ACKNACK of this reader to the peer's writer of this number, and to no other
 pub record Asking : Type 0 where
@@ -73,10 +72,6 @@ taken_once c k x entity old made dues new t =
     (ap (λ (s : State). s.known.answered k x) t.after ∙ answered_here old.known k x c.body.count)
     ∙ ap (λ (b : Bool). b && nat_le c.body.reader_sn_state.base (length (writer_changes (own_writer new.part k)) + 1)) (not_later_than_itself c.body.count)
 
-append_none : (xs : List Due) → xs ++ [] ≡ xs
-append_none [] = refl
-append_none (x ∷ xs) = ap (λ (ys : List Due). x ∷ ys) (append_none xs)
-
 -- the reader has a row among these
 abbrev pub HasRow : List ReaderProxy → Endpoint → Type 0
 HasRow rows r = (a : ℕ) × (acknowledged_of rows r ≡ Some a)
@@ -103,7 +98,7 @@ rows_take c (p ∷ ps) old moves dues new taken row h = by h.7 (λ same next. ro
         let is : x ≡ p.reader = (c.names c.writer x to).1 ∙ sym same in
         subst (λ (y : Endpoint). is_taken h.4 c.writer y c.body ≡ false) (sym is) (taken_once c c.writer p.reader t.entity old h.0 h.2 h.4 k) in
         let rest = rows_idle c c.writer ps h.4 h.1 h.3 new none h.8 in
-        let all : dues ≡ h.2 = h.6 ∙ (ap (λ (ds : List Due). h.2 ++ ds) rest.0 ∙ append_none h.2) in
+        let all : dues ≡ h.2 = h.6 ∙ (ap (λ (ds : List Due). h.2 ++ ds) rest.0 ∙ append_nothing h.2) in
         let one : TookOf c p.reader old h.2 h.4 = record { is = t; moves = h.0; takes = k } in
         subst (λ (x : Endpoint). TookOf c x old dues new) same
         (subst (λ (ds : List Due). TookOf c p.reader old ds new) (sym all) (subst (λ (s : State). TookOf c p.reader old h.2 s) (sym rest.1) one))
@@ -134,15 +129,12 @@ writers_idle c start first (suc count) old moves dues new past h =
     let rest = writers_idle c start (first + 1) count h.4 h.1 h.3 new (omega (arith, past)) h.8 in
     (h.6 ∙ (ap (λ (ds : List Due). ds ++ h.3) one.0 ∙ rest.0), rest.1 ∙ one.1)
 
-above : (r first : ℕ) → first ≤ r → (r ≡ first → ⊥) → first + 1 ≤ r
-above r first low apart = ⊎_elim (λ lt. omega (arith, lt)) (λ ge. absurd (apart (omega (arith, low, ge)))) (cases_lt first r)
-
 first_takes : (c : Asking) (start : State) (count : ℕ) (old : State) (moves : List Move) (dues : List Due) (new : State) → is_taken old c.writer c.reader c.body ≡ true → HasRow (own_writer start.part c.writer).readers c.reader
     → ByWriters c start c.writer (suc count) old moves dues new → Took c old dues new
 first_takes c start count old moves dues new taken row h =
     let one : Took c old h.2 h.4 = rows_take c (own_writer start.part c.writer).readers old h.0 h.2 h.4 taken row h.7 in
     let rest = writers_idle c start (c.writer + 1) count h.4 h.1 h.3 new (omega arith) h.8 in
-    let all : dues ≡ h.2 = h.6 ∙ (ap (λ (ds : List Due). h.2 ++ ds) rest.0 ∙ append_none h.2) in
+    let all : dues ≡ h.2 = h.6 ∙ (ap (λ (ds : List Due). h.2 ++ ds) rest.0 ∙ append_nothing h.2) in
     subst (λ (ds : List Due). Took c old ds new) (sym all) (subst (λ (s : State). Took c old h.2 s) (sym rest.1) one)
 
 writers_take : (c : Asking) (start : State) (first count : ℕ) (old : State) (moves : List Move) (dues : List Due) (new : State) → first ≤ c.writer → c.writer < first + count

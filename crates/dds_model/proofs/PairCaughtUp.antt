@@ -30,24 +30,25 @@ use Rattle.dds_model.specs.Dues.{IsPartOf}
 use Rattle.dds_model.specs.Machine.{AllTests, writer_at, place_at}
 use Rattle.dds_model.specs.Peer.{Peer, state_of}
 use Rattle.dds_model.specs.Protocol.{Due, Known, State, is_taken, TakesPacket}
-use Rattle.dds_model.specs.World.{WorldState, WorldStep, peer_at, machine_of, Sound}
+use Rattle.dds_model.specs.World.{WorldState, peer_at, machine_of, Sound}
 use Rattle.dds_model.specs.Bounds.{IsBounded}
 use Rattle.dds_model.specs.CatchUp.{Standing, GoesOn, TakesAnswers, IsRepaired, IsFull, HasGoneOn}
 use Rattle.dds_model.specs.Fresh.{HasUsedCounts, heartbeats_used, tracked_at}
 use Rattle.dds_model.specs.Repair.{DeliversAll, IsPair, StandsAt, IsRepairRound, HoldsWithoutRoom, HasCaughtUp}
 use Rattle.dds_model.proofs.CaughtUp.{on_forward, window_catches_up}
 use Rattle.dds_model.proofs.Composed.{parts_at}
+use Rattle.dds_model.proofs.CountsWritten.{contains_map}
 use Rattle.dds_model.proofs.DuesAnswers.{all_grouped}
 use Rattle.dds_model.proofs.DuesMatched.{own_name}
 use Rattle.dds_model.proofs.Framing.{has_reader, number_or_not}
 use Rattle.dds_model.proofs.InOrder.{publication_there}
 use Rattle.dds_model.proofs.Knowing.{answered_same}
-use Rattle.dds_model.proofs.PairAnswered.{asking, took_acknowledged, took_seat, took_standing, answers_of, have_changes, all_answered, post, all_sent, each_writable, posted, ungrouped, group_due, Repaired, answers_delivered}
+use Rattle.dds_model.proofs.PairAnswered.{asking, took_acknowledged, took_seat, took_standing, answers_of, have_changes, all_answered, post, all_sent, each_writable, ungrouped, group_due, Repaired, answers_delivered}
 use Rattle.dds_model.proofs.PairAsked.{Asking, Took, has_writer}
 use Rattle.dds_model.proofs.PairHeard.{Pairing, writer_prefix, reader_prefix, reader_host, there, HasAsked, heard_and_asked, delivered_takes, delivered_others, stays_sound, reader_entities}
 use Rattle.dds_model.proofs.PairMessages.{HasChange, acknack_packet}
 use Rattle.dds_model.proofs.PairReader.{standing, standing_of, Seat, HearsBy}
-use Rattle.dds_model.proofs.PairTicked.{new_count, beat_of, beat_message, BeatPacket, beat_packet, TickLeaves, tick_leaves}
+use Rattle.dds_model.proofs.PairTicked.{ticks_there, new_count, beat_of, beat_message, BeatPacket, beat_packet, TickLeaves, tick_leaves}
 use Rattle.dds_model.proofs.Tables.{acknowledged-hits}
 
 -- a round, and what it rests on
@@ -88,15 +89,8 @@ HasRow w r a = acknowledged_of w.readers r ≡ Some a
 row_old : (c : Round) → HasRow (the_writer c) c.reader c.acknowledged
 row_old c = subst (λ (w : Writer). HasRow w c.reader c.acknowledged) (writer_is c.old c.writer) c.stands.acknowledged_is
 
-ticker : (c : Round) → HasNumber c.old.peers c.writer.peer
-ticker c = by c.round.ticks.step
-  where
-    by : WorldStep c.config c.tests c.old (world.Tick c.writer.peer c.round.now) Done c.round.ticked → HasNumber c.old.peers c.writer.peer
-    by (inl h) = h.within
-    by (inr h) = let r = h.1.is_refused in absurd cc
-
 part_of : (c : Round) → IsPartOf c.config c.writer.peer (writer_part c)
-part_of c = c.used.of_config c.writer.peer (ticker c)
+part_of c = c.used.of_config c.writer.peer (ticks_there c.config c.tests c.old c.writer.peer c.round.now c.round.ticked c.round.ticks.step)
 
 abbrev pairing : Round → Pairing
 pairing c = record {
@@ -369,7 +363,7 @@ all_writable c =
     (λ d among.
     c.round.answers.step.written d among
     (subst (λ (ps : List Packet). Contains ps (post d)) (sym (all_sent c.round.answers.step.dues c.round.answers.step.packets 0 refl c.round.answers.step.are_sent))
-    (posted c.round.answers.step.dues d among))))
+    (contains_map post c.round.answers.step.dues d among))))
 
 abbrev the_answers : Round → List Answer
 the_answers c = answers_of (asks c) (heard_writer c) (asked_writer c) c.round.answers.step.dues (took c)

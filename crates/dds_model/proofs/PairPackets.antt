@@ -1,5 +1,5 @@
 -- A written message is taken up as it was meant: submessage by submessage, where memory is not lacking.
-use Rattle.std.proofs.Common.{◌≡◌, ℕ, ◌+◌, List, [], ◌∷◌, ◌++◌, Option, Some, None, length, refl, subst, ap, sym, ◌∙◌, inl, inr, ⊎_elim}
+use Rattle.std.proofs.Common.{◌≡◌, ℕ, ◌+◌, List, [], ◌∷◌, ◌++◌, Option, Some, None, length, subst, ap, sym, ◌∙◌, inl, inr, ⊎_elim}
 use Rattle.dds_base.specs.declared.config.Config.{Config}
 use Rattle.dds_base.specs.declared.guid.GuidPrefix.{GuidPrefix}
 use Rattle.dds_base.specs.Kept.{numbers_from}
@@ -14,6 +14,7 @@ use Rattle.dds_model.specs.Claims.{Receiver, receiver_of, after_submessage}
 use Rattle.dds_model.specs.Receipt.{prefix_of}
 use Rattle.dds_model.specs.Protocol.{Due, State, InTurn, Idles, ReaderTakes, Takes, Follows, TakesPacket}
 use Rattle.dds_model.proofs.CountsWritten.{read_again}
+use Rattle.dds_model.proofs.Tables.{append_nothing}
 
 -- the packet is that message, all of which is taken up
 pub read_whole : (config : Config) (peer : ℕ) (message : Message) (old : State) (report : Report) (dues : List Due) (new : State)
@@ -73,15 +74,11 @@ pub record TakesLast (config : Config) (own : GuidPrefix) (peer : ℕ) (at : Rec
   pub moves : List Move
   pub takes : Takes config own peer at s old moves dues new
 
-append_none : (xs : List Due) → xs ++ [] ≡ xs
-append_none [] = refl
-append_none (x ∷ xs) = ap (λ (ys : List Due). x ∷ ys) (append_none xs)
-
 pub last_head : (config : Config) (own : GuidPrefix) (peer index : ℕ) (at : Receiver) (s : Submessage) (old : State) (moves : List Move) (dues : List Due) (new : State)
     → Follows config own peer index at (s ∷ []) old moves None dues new → TakesLast config own peer at s old dues new
 last_head config own peer index at s old moves dues new (inl h) = let none = h.0 in absurd cc
 last_head config own peer index at s old moves dues new (inr h) = record {
   moves = h.0;
-  takes = subst (λ (ds : List Due). Takes config own peer at s old h.0 ds new) (sym (h.6 ∙ (ap (λ (ds : List Due). h.2 ++ ds) h.8.1.1 ∙ append_none h.2)))
+  takes = subst (λ (ds : List Due). Takes config own peer at s old h.0 ds new) (sym (h.6 ∙ (ap (λ (ds : List Due). h.2 ++ ds) h.8.1.1 ∙ append_nothing h.2)))
       (subst (λ (x : State). Takes config own peer at s old h.0 h.2 x) (sym h.8.1.2) h.7);
 }

@@ -26,6 +26,7 @@ use Rattle.dds_model.specs.Dues.{IsPartOf}
 use Rattle.dds_model.specs.Machine.{AllTests}
 use Rattle.dds_model.specs.Peer.{Peer, no_peer}
 use Rattle.dds_model.specs.Protocol.{Due, writer_entity, heartbeats_due}
+use Rattle.dds_model.specs.Numbered.{HasNumber}
 use Rattle.dds_model.specs.World.{WorldState, WorldStep, PeerSteps, peer_at}
 use Rattle.dds_model.specs.Fresh.{HasHeartbeat, heartbeats_used}
 use Rattle.dds_model.specs.Rules.{RuledStep}
@@ -145,3 +146,8 @@ tick_leaves config tests old peer now new (inl h) p =
     steps_leave config tests old peer now new h p
     (⊎_elim (λ e. inl (ap (λ (x : WorldState). peer_at x p) h.changed ∙ e)) (λ s. inr (s.0, ap (λ (x : WorldState). peer_at x p) h.changed ∙ s.1)) (numbered-cases old.peers peer h.after p no_peer))
 tick_leaves config tests old peer now new (inr h) p = let r = h.1.is_refused in absurd cc
+
+-- the peer that ticks is there
+pub ticks_there : (config : Config) (tests : AllTests) (old : WorldState) (peer now : ℕ) (new : WorldState) → WorldStep config tests old (world.Tick peer now) Done new → HasNumber old.peers peer
+ticks_there config tests old peer now new (inl h) = h.within
+ticks_there config tests old peer now new (inr h) = let r = h.1.is_refused in absurd cc

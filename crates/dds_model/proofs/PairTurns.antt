@@ -258,7 +258,8 @@ turn_later c at s r first count old moves dues new not_r h t = record {
     left : Leaves old first h.4
     left = reader_leaves c at s first old h.0 h.2 h.4 h.7
 
-above : (r first : ℕ) → first ≤ r → (r ≡ first → ⊥) → first + 1 ≤ r
+-- another number that is no less is greater
+pub above : (r first : ℕ) → first ≤ r → (r ≡ first → ⊥) → first + 1 ≤ r
 above r first low apart = ⊎_elim (λ lt. omega (arith, lt)) (λ ge. absurd (apart (omega (arith, low, ge)))) (cases_lt first r)
 
 pub turn_of : (c : Host) (at : Receiver) (s : Submessage) (r first count : ℕ) (old : State) (moves : List Move) (dues : List Due) (new : State) → first ≤ r → r < first + count

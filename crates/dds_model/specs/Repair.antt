@@ -2,7 +2,7 @@
 -- HEARTBEAT, the reader's ACKNACK, and the answers to that, each delivered once. After it the reader has caught up.
 --
 -- RTPS 2.5, 8.4.9 (reliable StatefulWriter), 8.4.12 (reliable StatefulReader).
-use Rattle.std.specs.Prelude.{◌≡◌, ◌⊎◌, ℕ, ◌+◌, ◌-◌, ◌≤◌, min, false, List, [], ◌∷◌, length, slice_get, None, Some, ℤ, Contains}
+use Rattle.std.specs.Prelude.{◌≡◌, ◌⊎◌, ℕ, ◌+◌, ◌-◌, ◌^◌, ◌<◌, ◌≤◌, min, false, List, [], ◌∷◌, length, slice_get, None, Some, ℤ, Contains}
 use Rattle.dds_base.specs.declared.change.Change.{Change}
 use Rattle.dds_base.specs.declared.config.Config.{Config}
 use Rattle.dds_base.specs.declared.guid.EntityId.{EntityId}
@@ -23,7 +23,7 @@ use Rattle.dds_model.specs.Receipt.{prefix_of}
 use Rattle.dds_model.specs.Machine.{AllTests, writer_at, place_at}
 use Rattle.dds_model.specs.World.{WorldState, peer_at, machine_of, Sound}
 use Rattle.dds_model.specs.Bounds.{IsBounded}
-use Rattle.dds_model.specs.Fresh.{HasHeartbeat, HasAckNack, HasUsedCounts, tracked_at}
+use Rattle.dds_model.specs.Fresh.{HasHeartbeat, HasAckNack, HasUsedCounts, heartbeats_used_at, tracked_at}
 use Rattle.dds_model.specs.Rules.{RuledStep}
 
 -- a packet that was sent is delivered at a peer, by the rules, and memory is found for all of it
@@ -108,3 +108,22 @@ PairCatchesUp = (config : Config) (tests : AllTests) (writer reader : Endpoint) 
     → IsBounded (machine_of old) → IsPair config writer reader → StandsAt old writer reader place acknowledged
     → IsRepairRound config tests writer reader old new
     → HasCaughtUp new writer reader place (length (writer_changes (writer_at (machine_of old) writer)))
+
+-- one of these packets goes to this peer, and has a HEARTBEAT of the writer
+pub record HasBeatTo (config : Config) (writer : Endpoint) (peer : ℕ) (packets : List Packet) : Type 0 where
+  pub packet : Packet
+  pub among : Contains packets packet
+  pub to : packet.to ≡ peer
+  pub count : ℤ
+  pub has : HasHeartbeat config packet.bytes writer count
+
+-- a tick at which nothing is lost sends such a one to the peer of each reader that has not acknowledged all changes, while
+-- there are counts left
+abbrev pub BeatsAreSent : Type 0
+BeatsAreSent = (config : Config) (tests : AllTests) (writer reader : Endpoint) (acknowledged now : ℕ)
+    (old new : WorldState) → check_refusal config.peers ≡ None → HasUsedCounts config old
+    → acknowledged_of (writer_at (machine_of old) writer).readers reader ≡ Some acknowledged
+    → acknowledged ≤ length (writer_changes (writer_at (machine_of old) writer))
+    → heartbeats_used_at old writer < 2 ^ 31 - 1
+    → (step : RuledStep config tests old (Tick writer.peer now) Done 0 new)
+    → HasBeatTo config writer reader.peer step.packets

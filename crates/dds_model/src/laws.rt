@@ -6,7 +6,7 @@ ghost use Rattle.dds_model.specs.CatchUp.{WindowCatchesUp};
 ghost use Rattle.dds_model.specs.Fresh.{OpensUsed, StepsUsed};
 ghost use Rattle.dds_model.specs.InOrder.{ChangesComeInOrder};
 ghost use Rattle.dds_model.specs.Laws.{AnswersAreTrue, AnswersCanBeWritten, Composes, ComposesRuns, HeartbeatsAreTrue, KeepAllIsKept, OpensBacked, OpensSound, OwnersExist, ReadersTellWritersApart, RulesRestOnClaims};
-ghost use Rattle.dds_model.specs.Repair.{PairCatchesUp};
+ghost use Rattle.dds_model.specs.Repair.{BeatsAreSent, PairCatchesUp};
 
 use crate::event::Event;
 use dds_base::owner_is_found;
@@ -114,5 +114,8 @@ pub fn window_catches_up()
 ///
 /// RTPS 2.5, 8.4.9, 8.4.12.
 pub fn pair_catches_up()
-    ensures { PairCatchesUp }
+    // After the round.
+    ensures round { PairCatchesUp }
+    // It begins with a HEARTBEAT where the reader is behind.
+    ensures beat { BeatsAreSent }
 {}
