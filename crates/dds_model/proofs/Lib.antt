@@ -48,5 +48,7 @@ pub mod PairMessages
 pub mod PairTicked
 pub mod PairHeard
 pub mod PairAnswered
+pub mod PairBegun
 pub mod PairCaughtUp
 pub mod PairBeats
+pub mod PairAsks

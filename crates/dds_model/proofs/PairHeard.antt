@@ -39,7 +39,7 @@ use Rattle.dds_model.proofs.Bounded.{steps_bounded}
 use Rattle.dds_model.proofs.Composed.{composes, front_or_rest}
 use Rattle.dds_model.proofs.Dues.{addressed, message_to}
 use Rattle.dds_model.proofs.DuesMatched.{same_end}
-use Rattle.dds_model.proofs.FreshCounts.{IsWrittenOf, sent_written, steps_stays}
+use Rattle.dds_model.proofs.FreshCounts.{IsWrittenOf, steps_stays}
 use Rattle.dds_model.proofs.OwnGuids.{prefix-Decides}
 use Rattle.dds_model.proofs.PairMessages.{HeardPacket, heartbeat_packet}
 use Rattle.dds_model.proofs.PairReader.{Seat}
@@ -144,19 +144,19 @@ ask_body reader writer x = record { reader_id = reader; writer_id = writer; read
 abbrev pub ask_message : Pairing → EntityId → AckNackDue → Message
 ask_message p entity x = message_to (reader_prefix p) (writer_prefix p) (AckNack (ask_body entity (writer_id p) x) ∷ [])
 
--- the reader took the HEARTBEAT, and this is its ACKNACK
-pub record HasAsked (p : Pairing) (h : HeartbeatBody) (m : Match) (old new : State) (ask : Packet) : Type 0 where
-  pub due : List Due
-  pub all : List Due
-  pub packet : HeardPacket (reader_host p) (there p) h m p.writer p.reader.number old all new
+-- what the reader and others did with the HEARTBEAT, of whose answers this is the reader's ACKNACK
+abbrev pub Heard : Pairing → HeartbeatBody → Match → State → List Due → State → Type 0
+Heard p h m old dues new = HeardPacket (reader_host p) (there p) h m p.writer p.reader.number old dues new
+
+pub record HasAsked (p : Pairing) (h : HeartbeatBody) (m : Match) (old new : State) (dues : List Due) (hp : Heard p h m old dues new) (ask : Packet) : Type 0 where
   pub x : AckNackDue
-  pub answer : packet.hears.answer ≡ Some x
-  pub writable : IsWritable (ask_message p packet.hears.is.entity x)
-  pub bytes : ask.bytes ≡ spelling_of (ask_message p packet.hears.is.entity x)
+  pub answer : hp.hears.answer ≡ Some x
+  pub writable : IsWritable (ask_message p hp.hears.is.entity x)
+  pub bytes : ask.bytes ≡ spelling_of (ask_message p hp.hears.is.entity x)
 
 -- of the messages that are due, one with an ACKNACK of the reader is its own
-ask_found : (p : Pairing) (h : HeartbeatBody) → h.writer_id ≡ writer_id p → (m : Match) (old new : State) (dues : List Due) (hp : HeardPacket (reader_host p) (there p) h m p.writer p.reader.number old dues new)
-    → (ask : Packet) (count : ℤ) → HasAckNack p.config ask.bytes p.writer p.reader count → (d : IsWrittenOf dues ask) → HasAsked p h m old new ask
+pub ask_found : (p : Pairing) (h : HeartbeatBody) → h.writer_id ≡ writer_id p → (m : Match) (old new : State) (dues : List Due) (hp : Heard p h m old dues new)
+    → (ask : Packet) (count : ℤ) → HasAckNack p.config ask.bytes p.writer p.reader count → (d : IsWrittenOf dues ask) → HasAsked p h m old new dues hp ask
 ask_found p h id m old new dues hp ask count of d = ⊎_elim (λ o. own o) (λ o. absurd (not_other o)) (hp.each d.due d.among)
   where
     has : HasAckNack p.config (spelling_of d.due.message) p.writer p.reader count
@@ -165,7 +165,7 @@ ask_found p h id m old new dues hp ask count of d = ⊎_elim (λ o. own o) (λ o
     not_other : OfOther (reader_host p) p.reader.number d.due → ⊥
     not_other o = o.other (sym (ap (λ (e : Endpoint). e.number) (o.asks.is p.writer p.reader count d.writable has)))
 
-    by : (a : Option AckNackDue) → hp.hears.answer ≡ a → Contains (acknacks_due (reader_prefix p) (writer_prefix p) p.writer.peer hp.hears.is.entity h.writer_id a) d.due → HasAsked p h m old new ask
+    by : (a : Option AckNackDue) → hp.hears.answer ≡ a → Contains (acknacks_due (reader_prefix p) (writer_prefix p) p.writer.peer hp.hears.is.entity h.writer_id a) d.due → HasAsked p h m old new dues hp ask
     by None e among = let lt = among.1 in absurd (omega (arith, lt))
     by (Some x) e among =
         let the : Due = record { to = p.writer.peer; message = message_to (reader_prefix p) (writer_prefix p) (AckNack (ask_body hp.hears.is.entity h.writer_id x) ∷ []) } in
@@ -173,28 +173,24 @@ ask_found p h id m old new dues hp ask count of d = ⊎_elim (λ o. own o) (λ o
         let message : d.due.message ≡ ask_message p hp.hears.is.entity x =
         ap (λ (y : Due). y.message) (sym one) ∙ ap (λ (i : EntityId). message_to (reader_prefix p) (writer_prefix p) (AckNack (ask_body hp.hears.is.entity i x) ∷ [])) id in
         record {
-          due = dues;
-          all = dues;
-          packet = hp;
           x = x;
           answer = e;
           writable = subst (λ (y : Message). IsWritable y) message d.writable;
           bytes = ap (λ (q : Packet). q.bytes) d.is ∙ ap (λ (y : Message). spelling_of y) message;
         }
 
-    own : Contains hp.due d.due → HasAsked p h m old new ask
+    own : Contains hp.due d.due → HasAsked p h m old new dues hp ask
     own among = by hp.hears.answer refl (subst (λ (ds : List Due). Contains ds d.due) hp.hears.dues_are among)
 
--- a HEARTBEAT that is new is heard, and the ACKNACK that is sent asks for what the reader lacks
-pub heard_and_asked : (p : Pairing) (tests : AllTests) (part : Part) (m : Match) (old : WorldState) (beat : Packet) (lost : ℕ) (new : WorldState)
+-- a HEARTBEAT that is new is heard
+pub hears_beat : (p : Pairing) (tests : AllTests) (part : Part) (m : Match) (old : WorldState) (beat : Packet) (lost : ℕ) (new : WorldState)
     → IsWritable (beat_message p.config p.writer.peer part p.writer.number p.reader.peer) → beat.bytes ≡ spelling_of (beat_message p.config p.writer.peer part p.writer.number p.reader.peer)
     → (h : Delivers p.config tests old p.reader.peer beat lost new) → Seat m p.writer p.reader.number (state_of (peer_at old p.reader.peer))
     → is_later ((peer_at old p.reader.peer).known.tracked p.writer p.reader.number).count (beat_of p.config p.writer.peer part p.writer.number).count ≡ true
-    → (ask : Packet) (count : ℤ) → Contains h.step.packets ask → HasAckNack p.config ask.bytes p.writer p.reader count
-    → HasAsked p (beat_of p.config p.writer.peer part p.writer.number) m (state_of (peer_at old p.reader.peer)) (state_of (peer_at new p.reader.peer)) ask
-heard_and_asked p tests part m old beat lost new writable bytes h seat later ask count among of =
-    ask_found p body refl m (state_of (peer_at old p.reader.peer)) (state_of (peer_at new p.reader.peer)) h.step.dues heard ask count of
-    (sent_written p.config tests old (world.Deliver p.reader.peer h.number) (Reported h.report) lost new h.step ask among)
+    → Heard p (beat_of p.config p.writer.peer part p.writer.number) m (state_of (peer_at old p.reader.peer)) h.step.dues (state_of (peer_at new p.reader.peer))
+hears_beat p tests part m old beat lost new writable bytes h seat later =
+    heartbeat_packet (reader_host p) refl (writer_prefix p) (reader_prefix p) body m p.writer p.reader.number refl (to_reader p body.reader_id (inr refl))
+    (state_of (peer_at old p.reader.peer)) h.report h.step.dues (state_of (peer_at new p.reader.peer)) seat later writable h.whole takes
   where
     body : HeartbeatBody
     body = beat_of p.config p.writer.peer part p.writer.number
@@ -203,8 +199,3 @@ heard_and_asked p tests part m old beat lost new writable bytes h seat later ask
     takes =
         subst (λ (b : List ℕ). TakesPacket p.config p.reader.peer b (state_of (peer_at old p.reader.peer)) h.report h.step.dues (state_of (peer_at new p.reader.peer))) bytes
         (delivered_takes p.config tests old p.reader.peer beat lost new h)
-
-    heard : HeardPacket (reader_host p) (there p) body m p.writer p.reader.number (state_of (peer_at old p.reader.peer)) h.step.dues (state_of (peer_at new p.reader.peer))
-    heard =
-        heartbeat_packet (reader_host p) refl (writer_prefix p) (reader_prefix p) body m p.writer p.reader.number refl (to_reader p body.reader_id (inr refl))
-        (state_of (peer_at old p.reader.peer)) h.report h.step.dues (state_of (peer_at new p.reader.peer)) seat later writable h.whole takes

@@ -43,6 +43,7 @@ pub record HeardPacket (c : Host) (at : Receiver) (h : HeartbeatBody) (m : Match
   pub hears : HearsBy c at h m w r old due new
   pub keeps : Keeps old new
   pub each : (d : Due) → Contains dues d → Contains due d ⊎ OfOther c r d
+  pub among : (d : Due) → Contains due d → Contains dues d
 
 pub heartbeat_packet : (c : Host) → c.own ≡ prefix_of c.config c.peer → (from to : GuidPrefix) (h : HeartbeatBody) (m : Match) (w : Endpoint) (r : ℕ)
     → h.liveliness_flag ≡ false → IsToReader c.config c.own (addressed from to) h.reader_id h.writer_id w (reader_at c.peer r)
@@ -55,6 +56,7 @@ heartbeat_packet c own from to h m w r quiet is old report dues new s later writ
       hears = hears_between c at h m w r old turn.before turn.after new turn.due turn.same_before turn.same_after turn.keeps_before keeps s hears;
       keeps = keeps;
       each = turn.each;
+      among = turn.among;
     }
   where
     at : Receiver

@@ -2,7 +2,7 @@
 use Rattle.std.proofs.Common.{◌≡◌, ◌⊎◌, ℕ, ℤ, zero, suc, ◌+◌, ◌<◌, ◌≤◌, Bool, true, false, List, [], ◌∷◌, Option, Some, None, Contains, length}
 use Rattle.std.proofs.Common.{refl, subst, ap, sym, ◌∙◌, inl, inr, ⊎_elim, arith}
 use Rattle.std.proofs.lemmas.Bool.{cases_lt}
-use Rattle.std.proofs.lemmas.List.Elements.{Contains-append_cases}
+use Rattle.std.proofs.lemmas.List.Elements.{Contains-append_cases, Contains-append_left, Contains-append_right}
 use Rattle.dds_base.specs.declared.config.Config.{Config}
 use Rattle.dds_base.specs.declared.guid.EntityId.{EntityId}
 use Rattle.dds_base.specs.declared.guid.GuidPrefix.{GuidPrefix}
@@ -195,6 +195,7 @@ pub record TurnOf (c : Host) (at : Receiver) (s : Submessage) (r : ℕ) (old : S
   pub takes : ReaderTakes c.config c.own c.peer at s r before made due after
   pub same_after : SameAt after new r
   pub each : (d : Due) → Contains dues d → Contains due d ⊎ OfOther c r d
+  pub among : (d : Due) → Contains due d → Contains dues d
 
 abbrev Turns : Host → Receiver → Submessage → ℕ → ℕ → State → List Move → List Due → State → Type 0
 Turns c at s first count old moves dues new = InTurn (ReaderTakes c.config c.own c.peer at s) (numbers_from first count) old moves dues new
@@ -237,6 +238,7 @@ turn_first c at s r count old moves dues new h =
       takes = h.7;
       same_after = rest.same;
       each = λ d among. ⊎_elim (λ f. inl f) (λ l. inr (rest.others d l)) (Contains-append_cases h.2 h.3 d (subst (λ (ds : List Due). Contains ds d) h.6 among));
+      among = λ d own. subst (λ (ds : List Due). Contains ds d) (sym h.6) (Contains-append_left h.2 h.3 d own);
     }
 
 turn_later : (c : Host) (at : Receiver) (s : Submessage) (r first count : ℕ) (old : State) (moves : List Move) (dues : List Due) (new : State) → (r ≡ first → ⊥)
@@ -253,6 +255,7 @@ turn_later c at s r first count old moves dues new not_r h t = record {
   each = λ d among.
       ⊎_elim (λ f. inr (record { reader = first; other = λ e. not_r (sym e); asks = reader_asks c at s first old h.0 h.2 h.4 h.7 d f })) (λ l. t.each d l)
       (Contains-append_cases h.2 h.3 d (subst (λ (ds : List Due). Contains ds d) h.6 among));
+  among = λ d own. subst (λ (ds : List Due). Contains ds d) (sym h.6) (Contains-append_right h.2 h.3 d (t.among d own));
 }
   where
     left : Leaves old first h.4

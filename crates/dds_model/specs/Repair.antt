@@ -23,7 +23,7 @@ use Rattle.dds_model.specs.Receipt.{prefix_of}
 use Rattle.dds_model.specs.Machine.{AllTests, writer_at, place_at}
 use Rattle.dds_model.specs.World.{WorldState, peer_at, machine_of, Sound}
 use Rattle.dds_model.specs.Bounds.{IsBounded}
-use Rattle.dds_model.specs.Fresh.{HasHeartbeat, HasAckNack, HasUsedCounts, heartbeats_used_at, tracked_at}
+use Rattle.dds_model.specs.Fresh.{HasHeartbeat, HasAckNack, HasUsedCounts, heartbeats_used_at, acknacks_used_at, tracked_at}
 use Rattle.dds_model.specs.Rules.{RuledStep}
 
 -- a packet that was sent is delivered at a peer, by the rules, and memory is found for all of it
@@ -42,10 +42,9 @@ DeliversAll config tests old peer (packet ∷ packets) new =
     (mid : WorldState) × (lost : ℕ) × Delivers config tests old peer packet lost mid
     × DeliversAll config tests mid peer packets new
 
--- A round: the writer's peer ticks, a packet to the reader's peer with a HEARTBEAT of the writer that this sent is delivered
--- there, one with an ACKNACK of the reader to the writer that this sent is delivered at the writer's peer, where no answer is
--- lost, and the answers are delivered at the reader's.
-pub record IsRepairRound (config : Config) (tests : AllTests) (writer reader : Endpoint) (old new : WorldState) : Type 0 where
+-- A round begins: the writer's peer ticks, and a packet to the reader's peer with a HEARTBEAT of the writer that this sent is
+-- delivered there.
+pub record BeginsRound (config : Config) (tests : AllTests) (writer reader : Endpoint) (old heard : WorldState) : Type 0 where
   pub now : ℕ
   pub ticked : WorldState
   pub lost_beats : ℕ
@@ -55,11 +54,16 @@ pub record IsRepairRound (config : Config) (tests : AllTests) (writer reader : E
   pub beat_to : beat.to ≡ reader.peer
   pub beat_count : ℤ
   pub beat_of : HasHeartbeat config beat.bytes writer beat_count
-  pub heard : WorldState
   pub lost_asks : ℕ
   pub hears : Delivers config tests ticked reader.peer beat lost_asks heard
+
+-- A round: it begins so, a packet with an ACKNACK of the reader to the writer that this sent is delivered at the writer's
+-- peer, where no answer is lost, and the answers are delivered at the reader's.
+pub record IsRepairRound (config : Config) (tests : AllTests) (writer reader : Endpoint) (old new : WorldState) : Type 0 where
+  pub heard : WorldState
+  pub begins : BeginsRound config tests writer reader old heard
   pub ask : Packet
-  pub ask_sent : Contains hears.step.packets ask
+  pub ask_sent : Contains begins.hears.step.packets ask
   pub ask_count : ℤ
   pub ask_of : HasAckNack config ask.bytes writer reader ask_count
   pub asked : WorldState
@@ -127,3 +131,22 @@ BeatsAreSent = (config : Config) (tests : AllTests) (writer reader : Endpoint) (
     → heartbeats_used_at old writer < 2 ^ 31 - 1
     → (step : RuledStep config tests old (Tick writer.peer now) Done 0 new)
     → HasBeatTo config writer reader.peer step.packets
+
+-- one of these packets goes to the writer's peer, and has an ACKNACK of the reader to the writer
+pub record HasAskOf (config : Config) (writer reader : Endpoint) (packets : List Packet) : Type 0 where
+  pub packet : Packet
+  pub among : Contains packets packet
+  pub to : packet.to ≡ writer.peer
+  pub count : ℤ
+  pub has : HasAckNack config packet.bytes writer reader count
+
+-- a HEARTBEAT that begins a round is answered by an ACKNACK, which is sent where nothing is lost, while there are counts
+-- left, and numbers
+abbrev pub AsksAreSent : Type 0
+AsksAreSent = (config : Config) (tests : AllTests) (writer reader : Endpoint) (place acknowledged : ℕ)
+    (old heard : WorldState) → check_refusal config.peers ≡ None → Sound config old → HasUsedCounts config old
+    → IsBounded (machine_of old) → IsPair config writer reader → StandsAt old writer reader place acknowledged
+    → length (writer_changes (writer_at (machine_of old) writer)) < 2 ^ 62
+    → acknacks_used_at old writer reader < 2 ^ 31 - 1
+    → (begins : BeginsRound config tests writer reader old heard) → begins.lost_asks ≡ 0
+    → HasAskOf config writer reader begins.hears.step.packets

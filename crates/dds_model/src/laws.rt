@@ -6,7 +6,7 @@ ghost use Rattle.dds_model.specs.CatchUp.{WindowCatchesUp};
 ghost use Rattle.dds_model.specs.Fresh.{OpensUsed, StepsUsed};
 ghost use Rattle.dds_model.specs.InOrder.{ChangesComeInOrder};
 ghost use Rattle.dds_model.specs.Laws.{AnswersAreTrue, AnswersCanBeWritten, Composes, ComposesRuns, HeartbeatsAreTrue, KeepAllIsKept, OpensBacked, OpensSound, OwnersExist, ReadersTellWritersApart, RulesRestOnClaims};
-ghost use Rattle.dds_model.specs.Repair.{BeatsAreSent, PairCatchesUp};
+ghost use Rattle.dds_model.specs.Repair.{AsksAreSent, BeatsAreSent, PairCatchesUp};
 
 use crate::event::Event;
 use dds_base::owner_is_found;
@@ -118,4 +118,6 @@ pub fn pair_catches_up()
     ensures round { PairCatchesUp }
     // It begins with a HEARTBEAT where the reader is behind.
     ensures beat { BeatsAreSent }
+    // The reader answers that with an ACKNACK.
+    ensures ask { AsksAreSent }
 {}

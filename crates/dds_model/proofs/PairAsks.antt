@@ -1,0 +1,99 @@
+-- A HEARTBEAT that begins a round is answered by an ACKNACK.
+use Rattle.std.proofs.Common.{◌≡◌, ℕ, ◌^◌, ◌-◌, ◌<◌, false, List, [], ◌∷◌, Option, Some, None, Contains, length, refl, subst, ap, sym, inl, inr, arith}
+use Rattle.dds_base.specs.declared.config.Config.{Config}
+use Rattle.dds_base.specs.Checked.{check_refusal}
+use Rattle.rtps_reader.specs.declared.step.AckNackDue.{AckNackDue}
+use Rattle.rtps_reader.specs.Answer.{Answers}
+use Rattle.rtps_wire.specs.declared.submessage.Submessage.TheVariants.{AckNack}
+use Rattle.rtps_wire.specs.Messages.{IsWritable, spelling_of}
+use Rattle.rtps_wire.proofs.SpellingLaws.{message_again}
+use Rattle.dds_model.specs.declared.endpoint.Endpoint.{Endpoint}
+use Rattle.dds_model.specs.declared.event.Packet.{Packet}
+use Rattle.dds_model.specs.Part.{Writer, writer_changes}
+use Rattle.dds_model.specs.Machine.{AllTests, writer_at}
+use Rattle.dds_model.specs.Protocol.{Due, acknacks_due}
+use Rattle.dds_model.specs.World.{WorldState, machine_of, Sound}
+use Rattle.dds_model.specs.Bounds.{IsBounded}
+use Rattle.dds_model.specs.Fresh.{HasUsedCounts, acknacks_used_at}
+use Rattle.dds_model.specs.Repair.{BeginsRound, IsPair, StandsAt, HasAskOf}
+use Rattle.dds_model.proofs.CountsWritten.{contains_map}
+use Rattle.dds_model.proofs.Dues.{message_to}
+use Rattle.dds_model.proofs.PairAnswered.{asking, post, all_sent}
+use Rattle.dds_model.proofs.PairBegun.{Begun, writer_is, pairing, body, hears, heard_of, the_last, acknacks, packet, place_heard}
+use Rattle.dds_model.proofs.PairHeard.{writer_prefix, reader_prefix, back, ask_body}
+
+-- that of the reader
+abbrev ask_due : (c : Begun) → AckNackDue → Due
+ask_due c x = record {
+  to = c.writer.peer;
+  message = message_to (reader_prefix (pairing c)) (writer_prefix (pairing c)) (AckNack (ask_body (hears c).is.entity (body c).writer_id x) ∷ []);
+}
+
+-- it is among the packets that are sent, where none is lost
+ask_is_sent : (c : Begun) → c.begins.lost_asks ≡ 0 → (x : AckNackDue) → (hears c).answer ≡ Some x → HasAskOf c.config c.writer c.reader c.begins.hears.step.packets
+ask_is_sent c none x is = record {
+  packet = post (ask_due c x);
+  among = posted;
+  to = refl;
+  count = x.count;
+  has = record {
+    message = (ask_due c x).message;
+    offset = length (spelling_of (ask_due c x).message);
+    is_read = message_again (ask_due c x).message writable;
+    own = writer_prefix (pairing c);
+    index = 1;
+    at = back (pairing c);
+    acknack = ask_body (hears c).is.entity (body c).writer_id x;
+    stands = (refl, refl);
+    is_to = (asking (pairing c) (body c).reader_id (hears c).is x).is_to;
+    same_count = refl;
+  };
+}
+  where
+    own : Contains (packet c).due (ask_due c x)
+    own =
+        subst (λ (ds : List Due). Contains ds (ask_due c x)) (sym (hears c).dues_are)
+        (subst (λ (o : Option AckNackDue). Contains (acknacks_due (reader_prefix (pairing c)) (writer_prefix (pairing c)) c.writer.peer (hears c).is.entity (body c).writer_id o) (ask_due c x)) (sym is) (0, omega arith, refl))
+
+    due : Contains c.begins.hears.step.dues (ask_due c x)
+    due = (packet c).among (ask_due c x) own
+
+    posted : Contains c.begins.hears.step.packets (post (ask_due c x))
+    posted =
+        subst (λ (ps : List Packet). Contains ps (post (ask_due c x))) (sym (all_sent c.begins.hears.step.dues c.begins.hears.step.packets c.begins.lost_asks none c.begins.hears.step.are_sent))
+        (contains_map post c.begins.hears.step.dues (ask_due c x) due)
+
+    writable : IsWritable (ask_due c x).message
+    writable = c.begins.hears.step.written (ask_due c x) due posted
+
+answered_by : (c : Begun) → the_last c < 2 ^ 62 → acknacks_used_at c.old c.writer c.reader < 2 ^ 31 - 1 → (a : Option AckNackDue) → (hears c).answer ≡ a → Answers (heard_of c) (the_last c) false a
+    → (x : AckNackDue) × ((hears c).answer ≡ Some x)
+answered_by c few left None is (inl (inl far)) = let le = place_heard c in absurd (omega (arith, few, le, far))
+answered_by c few left None is (inl (inr used)) = let same = acknacks c in absurd (omega (arith, left, used, same))
+answered_by c few left None is (inr h) = let no = h.0 in absurd cc
+answered_by c few left (Some x) is h = (x, is)
+
+pub asks_are_sent : (config : Config) (tests : AllTests) (writer reader : Endpoint) (place acknowledged : ℕ) (old heard : WorldState) → check_refusal config.peers ≡ None → Sound config old → HasUsedCounts config old
+    → IsBounded (machine_of old) → IsPair config writer reader → StandsAt old writer reader place acknowledged → length (writer_changes (writer_at (machine_of old) writer)) < 2 ^ 62 → acknacks_used_at old writer reader < 2 ^ 31 - 1
+    → (begins : BeginsRound config tests writer reader old heard) → begins.lost_asks ≡ 0 → HasAskOf config writer reader begins.hears.step.packets
+asks_are_sent config tests writer reader place acknowledged old heard checked sound used bounded pair stands few left begins none =
+    let c : Begun = record {
+      config = config;
+      tests = tests;
+      writer = writer;
+      reader = reader;
+      place = place;
+      acknowledged = acknowledged;
+      old = old;
+      heard = heard;
+      checked = checked;
+      sound = sound;
+      used = used;
+      bounded = bounded;
+      pair = pair;
+      stands = stands;
+      begins = begins;
+    } in
+    let last : length (writer_changes (writer_at (machine_of old) writer)) ≡ the_last c = ap (λ (w : Writer). length (writer_changes w)) (writer_is old writer) in
+    let found = answered_by c (omega (arith, few, last)) left (hears c).answer refl (hears c).answers in
+    ask_is_sent c none found.0 found.1
