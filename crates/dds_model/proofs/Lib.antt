@@ -49,6 +49,7 @@ pub mod PairTicked
 pub mod PairHeard
 pub mod PairAnswered
 pub mod PairBegun
+pub mod PairFew
 pub mod PairCaughtUp
 pub mod PairBeats
 pub mod PairAsks

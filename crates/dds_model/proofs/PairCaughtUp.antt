@@ -39,6 +39,9 @@ use Rattle.dds_model.proofs.DuesAnswers.{all_grouped}
 use Rattle.dds_model.proofs.Framing.{number_or_not}
 use Rattle.dds_model.proofs.FreshCounts.{sent_written}
 use Rattle.dds_model.proofs.PairAnswered.{asking, took_acknowledged, took_seat, took_standing, answers_of, have_changes, all_answered, post, all_sent, each_writable, ungrouped, group_due, Repaired, answers_delivered}
+use Rattle.dds_model.proofs.PairFew.{few_groups}
+use Rattle.dds_base.specs.Kept.{is_kept}
+use Rattle.std.proofs.lemmas.List.{length-map}
 use Rattle.dds_model.proofs.PairAsked.{Asking, Took}
 use Rattle.dds_model.proofs.PairHeard.{writer_prefix, reader_prefix, HasAsked, ask_found, delivered_takes, delivered_others, reader_entities}
 use Rattle.dds_model.proofs.PairMessages.{HasChange, acknack_packet}
@@ -274,34 +277,56 @@ round_catches_up c = record {
     last_is : length (writer_changes (writer_at (machine_of c.first.old) c.first.writer)) ≡ the_last c.first
     last_is = ap (λ (w : Writer). length (writer_changes w)) (writer_is c.first.old c.first.writer)
 
+-- the answers go in 32 packets at most
+few_packets : (c : Round) → length c.answers.step.packets ≤ 32
+few_packets c =
+    let few = few_groups (is_kept (history_of (there_after c))) (asked c).x.missing (known_to_writer c) (length (writer_changes (there_after c))) (took c).takes.groups (took c).takes.grouped in
+    let sent = ap (λ (ps : List Packet). length ps) (sent_all c) in
+    let posts = length-map (dues_of c) post in
+    let dues = length-map (took c).takes.groups (group_due (pairing c.first) (entity_of c) (writer_changes (there_after c))) in
+    omega (arith, few, sent, posts, dues)
+
+-- a round, with what it rests on
+the_round : (config : Config) (tests : AllTests) (writer reader : Endpoint) (place acknowledged : ℕ) (old new : WorldState) → check_refusal config.peers ≡ None → Sound config old → HasUsedCounts config old
+    → IsBounded (machine_of old) → IsPair config writer reader → StandsAt old writer reader place acknowledged → IsRepairRound config tests writer reader old new → Round
+the_round config tests writer reader place acknowledged old new checked sound used bounded pair stands round = record {
+  first = record {
+    config = config;
+    tests = tests;
+    writer = writer;
+    reader = reader;
+    place = place;
+    acknowledged = acknowledged;
+    old = old;
+    heard = round.heard;
+    checked = checked;
+    sound = sound;
+    used = used;
+    bounded = bounded;
+    pair = pair;
+    stands = stands;
+    begins = round.begins;
+  };
+  new = new;
+  ask = round.ask;
+  ask_sent = round.ask_sent;
+  ask_count = round.ask_count;
+  ask_of = round.ask_of;
+  after_ask = round.asked;
+  answers = round.answers;
+  repairs = round.repairs;
+}
+
 pub pair_catches_up : (config : Config) (tests : AllTests) (writer reader : Endpoint) (place acknowledged : ℕ) (old new : WorldState) → check_refusal config.peers ≡ None → Sound config old → HasUsedCounts config old
     → IsBounded (machine_of old) → IsPair config writer reader → StandsAt old writer reader place acknowledged → IsRepairRound config tests writer reader old new
     → HasCaughtUp new writer reader place (length (writer_changes (writer_at (machine_of old) writer)))
+unfolding the_round
 pair_catches_up config tests writer reader place acknowledged old new checked sound used bounded pair stands round =
-    round_catches_up (record {
-      first = record {
-        config = config;
-        tests = tests;
-        writer = writer;
-        reader = reader;
-        place = place;
-        acknowledged = acknowledged;
-        old = old;
-        heard = round.heard;
-        checked = checked;
-        sound = sound;
-        used = used;
-        bounded = bounded;
-        pair = pair;
-        stands = stands;
-        begins = round.begins;
-      };
-      new = new;
-      ask = round.ask;
-      ask_sent = round.ask_sent;
-      ask_count = round.ask_count;
-      ask_of = round.ask_of;
-      after_ask = round.asked;
-      answers = round.answers;
-      repairs = round.repairs;
-    })
+    round_catches_up (the_round config tests writer reader place acknowledged old new checked sound used bounded pair stands round)
+
+pub answers_are_few : (config : Config) (tests : AllTests) (writer reader : Endpoint) (place acknowledged : ℕ) (old new : WorldState) → check_refusal config.peers ≡ None → Sound config old → HasUsedCounts config old
+    → IsBounded (machine_of old) → IsPair config writer reader → StandsAt old writer reader place acknowledged
+    → (round : IsRepairRound config tests writer reader old new) → length round.answers.step.packets ≤ 32
+unfolding the_round
+answers_are_few config tests writer reader place acknowledged old new checked sound used bounded pair stands round =
+    few_packets (the_round config tests writer reader place acknowledged old new checked sound used bounded pair stands round)

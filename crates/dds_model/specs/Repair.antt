@@ -150,3 +150,10 @@ AsksAreSent = (config : Config) (tests : AllTests) (writer reader : Endpoint) (p
     → acknacks_used_at old writer reader < 2 ^ 31 - 1
     → (begins : BeginsRound config tests writer reader old heard) → begins.lost_asks ≡ 0
     → HasAskOf config writer reader begins.hears.step.packets
+
+-- the answers of a round go in 32 packets at most
+abbrev pub AnswersAreFew : Type 0
+AnswersAreFew = (config : Config) (tests : AllTests) (writer reader : Endpoint) (place acknowledged : ℕ)
+    (old new : WorldState) → check_refusal config.peers ≡ None → Sound config old → HasUsedCounts config old
+    → IsBounded (machine_of old) → IsPair config writer reader → StandsAt old writer reader place acknowledged
+    → (round : IsRepairRound config tests writer reader old new) → length round.answers.step.packets ≤ 32

@@ -6,7 +6,7 @@ ghost use Rattle.dds_model.specs.CatchUp.{WindowCatchesUp};
 ghost use Rattle.dds_model.specs.Fresh.{OpensUsed, StepsUsed};
 ghost use Rattle.dds_model.specs.InOrder.{ChangesComeInOrder};
 ghost use Rattle.dds_model.specs.Laws.{AnswersAreTrue, AnswersCanBeWritten, Composes, ComposesRuns, HeartbeatsAreTrue, KeepAllIsKept, OpensBacked, OpensSound, OwnersExist, ReadersTellWritersApart, RulesRestOnClaims};
-ghost use Rattle.dds_model.specs.Repair.{AsksAreSent, BeatsAreSent, PairCatchesUp};
+ghost use Rattle.dds_model.specs.Repair.{AnswersAreFew, AsksAreSent, BeatsAreSent, PairCatchesUp};
 
 use crate::event::Event;
 use dds_base::owner_is_found;
@@ -120,4 +120,6 @@ pub fn pair_catches_up()
     ensures beat { BeatsAreSent }
     // The reader answers that with an ACKNACK.
     ensures ask { AsksAreSent }
+    // The answers to that go in 32 packets at most.
+    ensures answers { AnswersAreFew }
 {}
