@@ -19,12 +19,12 @@ use Rattle.rtps_writer.specs.declared.heartbeat.HeartbeatDue.{HeartbeatDue}
 use Rattle.dds_model.specs.declared.endpoint.Endpoint.{Endpoint}
 use Rattle.dds_model.specs.declared.event.Packet.{Packet}
 use Rattle.dds_model.specs.Part.{ReaderProxy, Writer, no_writer, writer_changes, has_readers, history_of}
-use Rattle.dds_model.specs.Protocol.{Due, heartbeat_message}
+use Rattle.dds_model.specs.Protocol.{Due, AreSent, heartbeat_message}
 use Rattle.dds_core.specs.declared.heartbeat.Beat.{Beat}
 use Rattle.dds_core.specs.declared.matching.Destination.{Destination}
 use Rattle.dds_core.specs.declared.matching.ReaderName.{ReaderName}
 use Rattle.dds_core.specs.declared.sending.Announced.{Announced}
-use Rattle.dds_core.specs.Beating.{IsValid, BeatsOfAll, AreWritten, Adds, Beats, BeatsOf, beats_of, beats_of_all, beats_to, due_to, message_to, is_peer_behind, peers_behind}
+use Rattle.dds_core.specs.Beating.{IsValid, BeatsOfAll, Adds, Beats, BeatsOf, beats_of, beats_of_all, beats_to, due_to, message_to, is_peer_behind, peers_behind}
 use Rattle.dds_core.specs.Kept.{WriterKept}
 use Rattle.dds_core.specs.Sending.{AddsPacket, AreMessages}
 use Rattle.dds_core.specs.Standing.{WriterStands, WritersStand, state_of}
@@ -36,14 +36,14 @@ is_behind_from w peer rows = list_any (λ (p : ReaderProxy). (p.reader.peer == p
 
 -- what is due of the first of these writers
 abbrev pub BeatsTo : GuidPrefix → ℕ → List WriterKept → List Packet → ℕ → Type 0
-BeatsTo prefix n kept packets unsent = (ws : List Writer) (answered : ℕ → Endpoint → Option ℤ) → WritersStand kept ws answered → AreWritten (beats_of_all prefix (take n kept) (take n ws)) packets unsent
+BeatsTo prefix n kept packets unsent = (ws : List Writer) (answered : ℕ → Endpoint → Option ℤ) → WritersStand kept ws answered → AreSent (beats_of_all prefix (take n kept) (take n ws)) packets unsent
 
 -- ---- what is written, one message after the other
 
-pub written_on : (a b : List Due) (ps qs : List Packet) (m n : ℕ) → AreWritten a ps m → AreWritten b qs n → AreWritten (a ++ b) (ps ++ qs) (m + n)
+pub written_on : (a b : List Due) (ps qs : List Packet) (m n : ℕ) → AreSent a ps m → AreSent b qs n → AreSent (a ++ b) (ps ++ qs) (m + n)
 written_on [] b ps qs m n h k =
     let none : n ≡ m + n = let e = h.1 in omega (arith, e) in
-    subst (λ (j : ℕ). AreWritten b (ps ++ qs) j) none (subst (λ (rs : List Packet). AreWritten b (rs ++ qs) n) (sym h.0) k)
+    subst (λ (j : ℕ). AreSent b (ps ++ qs) j) none (subst (λ (rs : List Packet). AreSent b (rs ++ qs) n) (sym h.0) k)
 written_on (d ∷ ds) b ps qs m n (inl f) k =
     inl (f.0 ++ qs, ap (λ (rs : List Packet). rs ++ qs) f.1, f.2, written_on ds b f.0 qs m n f.3 k)
 written_on (d ∷ ds) b ps qs m n (inr g) k =
@@ -303,16 +303,16 @@ beats_to_more prefix now n old current d p q m o lt ticked before beats ws answe
     ap (λ (ks : List WriterKept). beats_of_all prefix ks (take (n + 1) ws)) (take_more old n d lt)
     ∙ (ap (λ (xs : List Writer). beats_of_all prefix (take n old ++ k ∷ []) xs) (take_more ws n no_writer (omega (arith, lt, count)))
     ∙ beats_of_last prefix (take n old) (take n ws) k w (omega (arith, first, second, count))) in
-    subst (λ (dues : List Due). AreWritten dues q o) (sym same)
-    (subst (λ (xs : List Packet). AreWritten (beats_of_all prefix (take n old) (take n ws) ++ beats_of prefix k w) xs o) (sym added.sent)
-    (subst (λ (j : ℕ). AreWritten (beats_of_all prefix (take n old) (take n ws) ++ beats_of prefix k w) (p ++ added.packets) j) (sym added.lost)
+    subst (λ (dues : List Due). AreSent dues q o) (sym same)
+    (subst (λ (xs : List Packet). AreSent (beats_of_all prefix (take n old) (take n ws) ++ beats_of prefix k w) xs o) (sym added.sent)
+    (subst (λ (j : ℕ). AreSent (beats_of_all prefix (take n old) (take n ws) ++ beats_of prefix k w) (p ++ added.packets) j) (sym added.lost)
     (written_on (beats_of_all prefix (take n old) (take n ws)) (beats_of prefix k w) p added.packets m added.unsent (before ws answered s) added.written)))
 
 pub beats_to_all : (prefix : GuidPrefix) (n : ℕ) (old : List WriterKept) (p : List Packet) (m : ℕ) → length old ≤ n → BeatsTo prefix n old p m → BeatsOfAll prefix old p m
 beats_to_all prefix n old p m le h ws answered s =
     let count = s.count in
-    subst (λ (ks : List WriterKept). AreWritten (beats_of_all prefix ks ws) p m) (take_all n old le)
-    (subst (λ (xs : List Writer). AreWritten (beats_of_all prefix (take n old) xs) p m) (take_all n ws (omega (arith, le, count))) (h ws answered s))
+    subst (λ (ks : List WriterKept). AreSent (beats_of_all prefix ks ws) p m) (take_all n old le)
+    (subst (λ (xs : List Writer). AreSent (beats_of_all prefix (take n old) xs) p m) (take_all n ws (omega (arith, le, count))) (h ws answered s))
 
 -- before the first
 pub beats_to_none : (prefix : GuidPrefix) (old : List WriterKept) (p : List Packet) → p ≡ [] → BeatsTo prefix 0 old p 0

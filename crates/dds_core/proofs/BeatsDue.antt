@@ -26,7 +26,7 @@ use Rattle.dds_model.proofs.Growth.{TickStep-acknowledged, TickStep-grows}
 use Rattle.dds_model.proofs.Tables.{no_less_same}
 use Rattle.dds_core.specs.declared.matching.Destination.{Destination}
 use Rattle.dds_core.specs.declared.matching.ReaderName.{ReaderName}
-use Rattle.dds_core.specs.Beating.{AreWritten, BeatsOfAll, beats_of, beats_of_all, due_to, peers_behind}
+use Rattle.dds_core.specs.Beating.{BeatsOfAll, beats_of, beats_of_all, due_to, peers_behind}
 use Rattle.dds_core.specs.Kept.{WriterKept, CoreKept, WriterIdentity, writer_identity, configured_writer}
 use Rattle.dds_core.specs.Matching.{destinations, reader_names}
 use Rattle.dds_core.specs.Standing.{WriterStands, StandsFor}
@@ -36,25 +36,19 @@ use Rattle.dds_core.proofs.PeersBehind.{peers_passed}
 use Rattle.dds_core.proofs.Sent.{contains_cases}
 use Rattle.dds_core.proofs.Taking.{numbered_prefix, prefix_is}
 
--- ---- what is written is sent
+-- ---- what is sent of true messages is true
 
-pub written_sent : (dues : List Due) (packets : List Packet) (unsent : ℕ) → AreWritten dues packets unsent → AreSent dues packets unsent
-written_sent [] packets unsent h = h
-written_sent (due ∷ dues) packets unsent (inl f) = inl (f.0, f.1, written_sent dues f.0 unsent f.3)
-written_sent (due ∷ dues) packets unsent (inr g) = inr (g.0, g.1, written_sent dues packets g.0 g.2)
-
--- what is written of true messages is true
-pub written_true : (config : Config) (peer : ℕ) (part : Part) (dues : List Due) (packets : List Packet) (unsent : ℕ) → AreTruthful config peer part dues → AreWritten dues packets unsent
+pub sent_true : (config : Config) (peer : ℕ) (part : Part) (dues : List Due) (packets : List Packet) (unsent : ℕ) → AreTruthful config peer part dues → AreSent dues packets unsent
     → (packet : Packet) (claim : Claim) → Contains packets packet → Claims config packet.bytes claim → IsTrueAt peer part claim
-written_true config peer part [] packets unsent all h packet claim among says =
+sent_true config peer part [] packets unsent all h packet claim among says =
     let none : Contains {X = Packet} [] packet = subst (λ (ps : List Packet). Contains ps packet) h.0 among in let lt = none.1 in absurd (omega (arith, lt))
-written_true config peer part (due ∷ dues) packets unsent all (inl f) packet claim among says =
+sent_true config peer part (due ∷ dues) packets unsent all (inl f) packet claim among says =
     ⊎_elim
     (λ same. (all 0 due (omega arith)) claim f.2 (subst (λ (p : Packet). Claims config p.bytes claim) (sym same) says))
-    (λ later. written_true config peer part dues f.0 unsent (λ k d lt. all (suc k) d (omega (arith, lt))) f.3 packet claim later says)
+    (λ later. sent_true config peer part dues f.0 unsent (λ k d lt. all (suc k) d (omega (arith, lt))) f.3 packet claim later says)
     (contains_cases (record { to = due.to; bytes = spelling_of due.message }) f.0 packet (subst (λ (ps : List Packet). Contains ps packet) f.1 among))
-written_true config peer part (due ∷ dues) packets unsent all (inr g) packet claim among says =
-    written_true config peer part dues packets g.0 (λ k d lt. all (suc k) d (omega (arith, lt))) g.2 packet claim among says
+sent_true config peer part (due ∷ dues) packets unsent all (inr g) packet claim among says =
+    sent_true config peer part dues packets g.0 (λ k d lt. all (suc k) d (omega (arith, lt))) g.2 packet claim among says
 
 -- ---- what is due of one writer
 
@@ -181,13 +175,10 @@ readers_named config peer kept s j k at =
 beats_due : (config : Config) (peer : Peer) (kept : CoreKept) → StandsFor kept config peer → beats_of_all kept.prefix kept.writers peer.part.rtps.writers ≡ heartbeats_due config peer.number peer.part
 beats_due config peer kept s = beats_due_from config peer.number kept.prefix 1 kept.writers peer.part.rtps.writers s.writers.count (named config peer kept s)
 
-due_written : (config : Config) (peer : Peer) (kept : CoreKept) (packets : List Packet) (unsent : ℕ) → StandsFor kept config peer → BeatsOfAll kept.prefix kept.writers packets unsent → AreWritten (heartbeats_due config peer.number peer.part) packets unsent
-due_written config peer kept packets unsent s beats =
-    subst (λ (dues : List Due). AreWritten dues packets unsent) (beats_due config peer kept s) (beats peer.part.rtps.writers peer.known.answered s.writers)
-
 -- what a peer sends at a tick is what is due
 pub due_sent : (config : Config) (peer : Peer) (kept : CoreKept) (packets : List Packet) (unsent : ℕ) → StandsFor kept config peer → BeatsOfAll kept.prefix kept.writers packets unsent → AreSent (heartbeats_due config peer.number peer.part) packets unsent
-due_sent config peer kept packets unsent s beats = written_sent (heartbeats_due config peer.number peer.part) packets unsent (due_written config peer kept packets unsent s beats)
+due_sent config peer kept packets unsent s beats =
+    subst (λ (dues : List Due). AreSent dues packets unsent) (beats_due config peer kept s) (beats peer.part.rtps.writers peer.known.answered s.writers)
 
 -- ---- it is true
 
@@ -222,7 +213,7 @@ due_true config peer kept now packets unsent s accepted beats packet claim among
     let new = after_tick old now in
     let step : TickStep old now Done new = (accepted, refl) in
     let truthful = heartbeats_truthful config peer.number old s.is_peer.checked (part_of config peer kept s) in
-    let before = written_true config peer.number old (heartbeats_due config peer.number old) packets unsent truthful (due_written config peer kept packets unsent s beats) packet claim among says in
+    let before = sent_true config peer.number old (heartbeats_due config peer.number old) packets unsent truthful (due_sent config peer kept packets unsent s beats) packet claim among says in
     true_on peer.number old new (TickStep-grows old now Done new step)
     (λ w r. subst (λ (rows : List ReaderProxy). NoLess (acknowledged_of (own_writer old w).readers r) (acknowledged_of rows r)) (sym (TickStep-acknowledged old now Done new step w)) (no_less_same (acknowledged_of (own_writer old w).readers r)))
     claim before

@@ -40,7 +40,7 @@ announced_sent sender number content [] [] unsent h count = (refl, omega (arith,
 announced_sent sender number content [] (p ∷ ps) unsent h count = absurd h
 announced_sent sender number content (d ∷ ds) [] unsent h count = inr (length ds, omega (arith, count), announced_sent sender number content ds [] (length ds) tt (omega arith))
 announced_sent sender number content (d ∷ ds) (p ∷ ps) unsent (inl f) count =
-    inl (ps, ap (λ (q : Packet). q ∷ ps) (packet_as p d.peer (spelling_of (announcement sender d number content)) f.0.to_is f.0.bytes), announced_sent sender number content ds ps unsent f.1 (omega (arith, count)))
+    inl (ps, ap (λ (q : Packet). q ∷ ps) (packet_as p d.peer (spelling_of (announcement sender d number content)) f.0.to_is f.0.bytes), f.0.writable, announced_sent sender number content ds ps unsent f.1 (omega (arith, count)))
 announced_sent sender number content (d ∷ ds) (p ∷ ps) unsent (inr g) count =
     let short = few sender number content ds (p ∷ ps) g in
     inr (unsent - 1, omega (arith, count, short), announced_sent sender number content ds (p ∷ ps) (unsent - 1) g (omega (arith, count, short)))

@@ -11,7 +11,7 @@ use Rattle.dds_core.specs.declared.sending.Announced.{Announced}
 use Rattle.dds_core.specs.Kept.{CoreKept}
 use Rattle.dds_core.specs.Receiving.{with_state, ReceivedPacket, ReceivesPacket}
 use Rattle.dds_core.specs.Standing.{SoundSteps}
-use Rattle.dds_core.proofs.BeatsDue.{written_sent, written_true}
+use Rattle.dds_core.proofs.BeatsDue.{sent_true}
 use Rattle.dds_core.proofs.Taking.{stands_again}
 
 -- what a delivery gives back
@@ -29,9 +29,9 @@ delivers old new bytes report gone receives config peer s sound =
         same_number = refl;
         knows = tt;
         step = (rests.receives, refl);
-        sent = written_true config peer.number r.state.part r.dues gone.packets.items gone.unsent truthful r.sent;
+        sent = sent_true config peer.number r.state.part r.dues gone.packets.items gone.unsent truthful r.sent;
       },
       stands_again new config (with_state peer r.state) after refl refl refl r.stands,
       rests.backed,
-      record { report = report; reply = refl; dues = r.dues; takes = r.takes; sent = written_sent r.dues gone.packets.items gone.unsent r.sent },
+      record { report = report; reply = refl; dues = r.dues; takes = r.takes; sent = r.sent },
     )

@@ -31,10 +31,10 @@ use Rattle.dds_model.specs.Calls.{Effect, nothing, writes, effect, effect_of, Ti
 use Rattle.dds_model.specs.Claims.{Receiver, receiver_of, after_submessage, IsNumbered}
 use Rattle.dds_model.specs.Part.{Part, Rtps, place_of, heard_of}
 use Rattle.dds_model.specs.Peer.{Peer, packets_of, state_of}
-use Rattle.dds_model.specs.Protocol.{Due, State, InTurn, ReaderTakes, Takes, Follows}
+use Rattle.dds_model.specs.Protocol.{Due, State, InTurn, ReaderTakes, Takes, Follows, AreSent}
 use Rattle.dds_model.specs.Receipt.{prefix_of, IsNotTaken}
 use Rattle.dds_core.specs.declared.sending.Announced.{Announced}
-use Rattle.dds_core.specs.Beating.{AreWritten, AddsTo}
+use Rattle.dds_core.specs.Beating.{AddsTo}
 use Rattle.dds_core.specs.Kept.{CoreKept}
 use Rattle.dds_core.specs.Receiving.{with_state, StandsAsWell, ReadersTook, TookSubmessage, TellsReaders, TakesOneMore, TookMessage, TakesMessage, TakenTo, TakesTo, ReceivesPacket, IsBounded, AreBounded}
 use Rattle.dds_core.specs.Sending.{AreMessages}
@@ -101,10 +101,10 @@ no_messages packets none packet among = let c : Contains {X = Packet} [] packet 
 -- ---- the submessages of a message
 
 -- what was sent, and more
-written_adds : (a b : List Due) (sent gone : Announced) → AreWritten a sent.packets.items sent.unsent → AddsTo b sent gone → AreWritten (a ++ b) gone.packets.items gone.unsent
+written_adds : (a b : List Due) (sent gone : Announced) → AreSent a sent.packets.items sent.unsent → AddsTo b sent gone → AreSent (a ++ b) gone.packets.items gone.unsent
 written_adds a b sent gone h more =
-    subst (λ (ps : List Packet). AreWritten (a ++ b) ps gone.unsent) (sym more.sent)
-    (subst (λ (n : ℕ). AreWritten (a ++ b) (sent.packets.items ++ more.packets) n) (sym more.lost) (written_on a b sent.packets.items more.packets sent.unsent more.unsent h more.written))
+    subst (λ (ps : List Packet). AreSent (a ++ b) ps gone.unsent) (sym more.sent)
+    (subst (λ (n : ℕ). AreSent (a ++ b) (sent.packets.items ++ more.packets) n) (sym more.lost) (written_on a b sent.packets.items more.packets sent.unsent more.unsent h more.written))
 
 -- nothing is taken up at first
 pub takes_none : (old : CoreKept) (message : Message) (at : Receiver) (moves : List Move) (gone : Announced) → at ≡ receiver_of message.prefix → moves ≡ [] → gone.packets.items ≡ [] → gone.unsent ≡ 0 → TakesTo old message 0 at moves old gone
@@ -176,7 +176,7 @@ takes_some old now new message index at submessage report sent gone taken well s
       dues = t.dues;
       follows = ends_here old now message index at report sent config peer t end;
       stands = well config (with_state peer t.state) t.stands;
-      sent = subst (λ (x : Announced). AreWritten t.dues x.packets.items x.unsent) (sym same) t.sent;
+      sent = subst (λ (x : Announced). AreSent t.dues x.packets.items x.unsent) (sym same) t.sent;
     }
 
 -- ---- the whole of a packet

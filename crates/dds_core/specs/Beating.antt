@@ -15,7 +15,7 @@ use Rattle.dds_model.specs.declared.endpoint.Endpoint.{Endpoint}
 use Rattle.dds_model.specs.declared.event.Packet.{Packet}
 use Rattle.dds_model.specs.Part.{ReaderProxy, Writer, writer_changes, has_readers}
 use Rattle.dds_model.specs.Claims.{every_reader}
-use Rattle.dds_model.specs.Protocol.{Due, heartbeat_message}
+use Rattle.dds_model.specs.Protocol.{Due, AreSent, heartbeat_message}
 use Rattle.dds_core.specs.declared.heartbeat.Beat.{Beat}
 use Rattle.dds_core.specs.declared.matching.Destination.{Destination}
 use Rattle.dds_core.specs.declared.matching.ReaderName.{ReaderName}
@@ -73,21 +73,13 @@ beats_of_all prefix [] ws = []
 beats_of_all prefix (k ∷ ks) [] = []
 beats_of_all prefix (k ∷ ks) (w ∷ ws) = beats_of prefix k w ++ beats_of_all prefix ks ws
 
--- of the messages that are due these packets are sent, in their order, each of which can be written; so many more found no
--- memory
-abbrev pub AreWritten : List Due → List Packet → ℕ → Type 0
-AreWritten [] packets unsent = (packets ≡ []) × (unsent ≡ 0)
-AreWritten (due ∷ dues) packets unsent =
-    ((rest : List Packet) × (packets ≡ record { to = due.to; bytes = spelling_of due.message } ∷ rest) × IsWritable due.message × AreWritten dues rest unsent)
-    ⊎ ((fewer : ℕ) × (unsent ≡ fewer + 1) × AreWritten dues packets fewer)
-
--- so it is of what was added
+-- so it is of what was added to what a peer has sent
 pub record Adds (dues : List Due) (old : List Packet) (before : ℕ) (new : List Packet) (after : ℕ) : Type 0 where
   pub packets : List Packet
   pub unsent : ℕ
   pub sent : new ≡ old ++ packets
   pub lost : after ≡ before + unsent
-  pub written : AreWritten dues packets unsent
+  pub written : AreSent dues packets unsent
 
 -- so it is of what a peer has sent so far
 abbrev pub AddsTo : List Due → Announced → Announced → Type 0
@@ -105,4 +97,4 @@ BeatsOf prefix kept old before new after = (w : Writer) (answered : Endpoint →
 
 -- the same of a peer's writers, from the first
 abbrev pub BeatsOfAll : GuidPrefix → List WriterKept → List Packet → ℕ → Type 0
-BeatsOfAll prefix kept packets unsent = (ws : List Writer) (answered : ℕ → Endpoint → Option ℤ) → WritersStand kept ws answered → AreWritten (beats_of_all prefix kept ws) packets unsent
+BeatsOfAll prefix kept packets unsent = (ws : List Writer) (answered : ℕ → Endpoint → Option ℤ) → WritersStand kept ws answered → AreSent (beats_of_all prefix kept ws) packets unsent

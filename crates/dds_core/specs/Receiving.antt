@@ -31,14 +31,14 @@ use Rattle.dds_model.specs.declared.reply.Report.{Report}
 use Rattle.dds_model.specs.declared.reply.Reply.TheVariants.{Samples, Refused}
 use Rattle.dds_model.specs.Claims.{Receiver, receiver_of, is_for, Names}
 use Rattle.dds_model.specs.Peer.{Peer, state_of}
-use Rattle.dds_model.specs.Protocol.{Due, State, InTurn, ReaderTakes, Takes, Follows, TakesPacket, acknacks_due}
+use Rattle.dds_model.specs.Protocol.{Due, State, InTurn, ReaderTakes, Takes, Follows, TakesPacket, AreSent, acknacks_due}
 use Rattle.dds_core.specs.declared.matching.WriterName.{WriterName}
 use Rattle.dds_core.specs.declared.reader_end.Ready.{Ready}
 use Rattle.dds_core.specs.declared.reader_end.Told.{Told}
 use Rattle.dds_core.specs.declared.reader_end.Told.TheVariants as told
 use Rattle.dds_core.specs.declared.receiver.MessageReceiver.{MessageReceiver}
 use Rattle.dds_core.specs.declared.sending.Announced.{Announced}
-use Rattle.dds_core.specs.Beating.{AreWritten, AddsTo}
+use Rattle.dds_core.specs.Beating.{AddsTo}
 use Rattle.dds_core.specs.Kept.{ReaderKept, CoreKept}
 use Rattle.dds_core.specs.Stored.{Holds}
 use Rattle.dds_core.specs.Standing.{StandsFor}
@@ -260,7 +260,7 @@ pub record TookMessage (config : Config) (peer : Peer) (own : GuidPrefix) (messa
   pub dues : List Due
   pub follows : Follows config own peer.number 0 (receiver_of message.prefix) message.submessages (state_of peer) report.moves report.refused dues state
   pub stands : StandsFor new config (with_state peer state)
-  pub sent : AreWritten dues gone.packets.items gone.unsent
+  pub sent : AreSent dues gone.packets.items gone.unsent
 
 abbrev pub TakesMessage : CoreKept → Message → Report → CoreKept → Announced → Type 0
 TakesMessage old message report new gone = (config : Config) (peer : Peer) → StandsFor old config peer → TookMessage config peer old.prefix message report new gone
@@ -270,7 +270,7 @@ pub record TakenTo (old : CoreKept) (message : Message) (index : ℕ) (at : Rece
   pub state : State
   pub dues : List Due
   pub stands : StandsFor now config (with_state peer state)
-  pub sent : AreWritten dues gone.packets.items gone.unsent
+  pub sent : AreSent dues gone.packets.items gone.unsent
   pub on : (later : List Move) (refused : Option ℕ) (last : List Due) (after : State)
       → Follows config old.prefix peer.number index at (drop index message.submessages) state later refused last after
       → Follows config old.prefix peer.number 0 (receiver_of message.prefix) message.submessages (state_of peer) (moves ++ later) refused (dues ++ last) after
@@ -284,7 +284,7 @@ pub record ReceivedPacket (config : Config) (peer : Peer) (bytes : List ℕ) (re
   pub dues : List Due
   pub takes : TakesPacket config peer.number bytes (state_of peer) report dues state
   pub stands : StandsFor new config (with_state peer state)
-  pub sent : AreWritten dues gone.packets.items gone.unsent
+  pub sent : AreSent dues gone.packets.items gone.unsent
 
 abbrev pub ReceivesPacket : CoreKept → List ℕ → Report → CoreKept → Announced → Type 0
 ReceivesPacket old bytes report new gone = (config : Config) (peer : Peer) → StandsFor old config peer → ReceivedPacket config peer bytes report new gone

@@ -181,14 +181,15 @@ tick_truthful config peer old now reply new checked of step =
 
 -- ---- what is sent
 
--- the packet is the written form of a message that was due
+-- the packet is the written form of a message that was due, which has one
 pub record IsOfDue (dues : List Due) (packet : Packet) : Type 0 where
   pub due : Due
   pub among : Contains dues due
+  pub writable : IsWritable due.message
   pub is : packet ≡ record { to = due.to; bytes = spelling_of due.message }
 
 later_due : (d : Due) (ds : List Due) (packet : Packet) → IsOfDue ds packet → IsOfDue (d ∷ ds) packet
-later_due d ds packet h = record { due = h.due; among = later_in d ds h.due h.among; is = h.is }
+later_due d ds packet h = record { due = h.due; among = later_in d ds h.due h.among; writable = h.writable; is = h.is }
 
 -- each packet that is sent is that of a message that was due
 pub sent_is_due : (dues : List Due) (packets : List Packet) (unsent : ℕ) → AreSent dues packets unsent
@@ -198,8 +199,8 @@ sent_is_due [] packets unsent h packet among =
 sent_is_due (d ∷ ds) packets unsent (inl h) packet among =
     let first : Packet = record { to = d.to; bytes = spelling_of d.message } in
     let there : Contains (first ∷ h.0) packet = subst (λ (ps : List Packet). Contains ps packet) h.1 among in
-    ⊎_elim (λ e. record { due = d; among = (0, omega arith, refl); is = sym e })
-    (λ rest. later_due d ds packet (sent_is_due ds h.0 unsent h.2 packet rest))
+    ⊎_elim (λ e. record { due = d; among = (0, omega arith, refl); writable = h.2; is = sym e })
+    (λ rest. later_due d ds packet (sent_is_due ds h.0 unsent h.3 packet rest))
     (front_or_rest first h.0 packet there.0 there.1 there.2)
 sent_is_due (d ∷ ds) packets unsent (inr h) packet among =
     later_due d ds packet (sent_is_due ds packets h.0 h.2 packet among)

@@ -66,7 +66,7 @@ sent_written config tests old ev reply lost new h packet among =
     record {
       due = d.due;
       among = d.among;
-      writable = h.written d.due d.among (subst (λ (p : Packet). Contains h.packets p) d.is among);
+      writable = d.writable;
       is = d.is;
     }
 

@@ -4,7 +4,7 @@ use Rattle.std.proofs.Common.{refl, subst, ap, sym, ◌∙◌, inl, inr, ⊎_eli
 use Rattle.std.specs.Prelude.{is_some}
 use Rattle.std.specs.List.{All, AllByRecursion, list_any}
 use Rattle.std.proofs.lemmas.Bool.Decides.{nat_tests}
-use Rattle.std.proofs.lemmas.List.Elements.{All-head, All-tail, All-weaker}
+use Rattle.std.proofs.lemmas.List.Elements.{All-contains, All-from_recursion, All-head, All-tail, All-weaker}
 use Rattle.dds_base.specs.declared.change.Change.{Change}
 use Rattle.dds_base.specs.declared.config.ReaderConfig.{ReaderConfig}
 use Rattle.dds_base.specs.declared.guid.EntityId.{EntityId}
@@ -29,7 +29,6 @@ use Rattle.dds_model.specs.World.{WorldState, peer_at}
 use Rattle.dds_model.specs.Backed.{reader_at}
 use Rattle.dds_model.specs.CatchUp.{Standing, TakesAnswers}
 use Rattle.dds_model.specs.Repair.{Delivers, DeliversAll}
-use Rattle.dds_model.proofs.Composed.{later_in}
 use Rattle.dds_model.proofs.DuesAcknacks.{answer_names}
 use Rattle.dds_model.proofs.DuesUnkept.{row_index}
 use Rattle.dds_model.proofs.Framing.{number_or_not}
@@ -128,12 +127,20 @@ post d = record { to = d.to; bytes = spelling_of d.message }
 
 pub all_sent : (dues : List Due) (packets : List Packet) (lost : ℕ) → lost ≡ 0 → AreSent dues packets lost → packets ≡ map post dues
 all_sent [] packets lost none h = h.0
-all_sent (d ∷ ds) packets lost none (inl h) = h.1 ∙ ap (λ (ps : List Packet). post d ∷ ps) (all_sent ds h.0 lost none h.2)
+all_sent (d ∷ ds) packets lost none (inl h) = h.1 ∙ ap (λ (ps : List Packet). post d ∷ ps) (all_sent ds h.0 lost none h.3)
 all_sent (d ∷ ds) packets lost none (inr h) = let more = h.1 in absurd (omega (arith, none, more))
 
-pub each_writable : (dues : List Due) → ((d : Due) → Contains dues d → IsWritable d.message) → AllByRecursion (λ (d : Due). IsWritable d.message) dues
-each_writable [] all = tt
-each_writable (d ∷ ds) all = (all d (0, omega arith, refl), each_writable ds (λ x among. all x (later_in d ds x among)))
+pub each_writable : (dues : List Due) (packets : List Packet) (lost : ℕ) → lost ≡ 0 → AreSent dues packets lost
+    → AllByRecursion (λ (d : Due). IsWritable d.message) dues
+each_writable [] packets lost none h = tt
+each_writable (d ∷ ds) packets lost none (inl h) = (h.2, each_writable ds h.0 lost none h.3)
+each_writable (d ∷ ds) packets lost none (inr h) = let more = h.1 in absurd (omega (arith, none, more))
+
+pub due_writable : (dues : List Due) (packets : List Packet) (lost : ℕ) (d : Due) → lost ≡ 0
+    → AreSent dues packets lost → Contains dues d → IsWritable d.message
+due_writable dues packets lost d none h among =
+    All-contains (λ (x : Due). IsWritable x.message) dues d
+    (All-from_recursion (λ (x : Due). IsWritable x.message) dues (each_writable dues packets lost none h)) among
 
 -- ---- answers are delivered
 

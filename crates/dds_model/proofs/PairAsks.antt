@@ -18,7 +18,7 @@ use Rattle.dds_model.specs.Fresh.{HasUsedCounts, acknacks_used_at}
 use Rattle.dds_model.specs.Repair.{BeginsRound, IsPair, StandsAt, HasAskOf}
 use Rattle.dds_model.proofs.CountsWritten.{contains_map}
 use Rattle.dds_model.proofs.Dues.{message_to}
-use Rattle.dds_model.proofs.PairAnswered.{asking, post, all_sent}
+use Rattle.dds_model.proofs.PairAnswered.{asking, post, all_sent, due_writable}
 use Rattle.dds_model.proofs.PairBegun.{Begun, writer_is, pairing, body, hears, heard_of, the_last, acknacks, packet, place_heard}
 use Rattle.dds_model.proofs.PairHeard.{writer_prefix, reader_prefix, back, ask_body}
 
@@ -64,7 +64,9 @@ ask_is_sent c none x is = record {
         (contains_map post c.begins.hears.step.dues (ask_due c x) due)
 
     writable : IsWritable (ask_due c x).message
-    writable = c.begins.hears.step.written (ask_due c x) due posted
+    writable =
+        due_writable c.begins.hears.step.dues c.begins.hears.step.packets c.begins.lost_asks (ask_due c x) none
+        c.begins.hears.step.are_sent due
 
 answered_by : (c : Begun) → the_last c < 2 ^ 62 → acknacks_used_at c.old c.writer c.reader < 2 ^ 31 - 1 → (a : Option AckNackDue) → (hears c).answer ≡ a → Answers (heard_of c) (the_last c) false a
     → (x : AckNackDue) × ((hears c).answer ≡ Some x)

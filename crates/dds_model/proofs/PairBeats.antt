@@ -30,7 +30,7 @@ use Rattle.dds_model.proofs.CountsWritten.{contains_map}
 use Rattle.dds_model.proofs.Dues.{addressed}
 use Rattle.dds_model.proofs.DuesHeartbeats.{heartbeat_due}
 use Rattle.dds_model.proofs.DuesMatched.{own_name}
-use Rattle.dds_model.proofs.PairAnswered.{post, all_sent}
+use Rattle.dds_model.proofs.PairAnswered.{post, all_sent, due_writable}
 use Rattle.dds_model.proofs.PairAsked.{has_writer}
 use Rattle.dds_model.proofs.PairTicked.{beat_of, beat_message, ticks_there}
 use Rattle.dds_model.proofs.Tables.{same_is}
@@ -168,4 +168,4 @@ beats_are_sent config tests writer reader acknowledged now old new checked used 
         (due_of config writer.peer part writer.number reader.peer left' (behind_peer (length (writer_changes (own_writer part writer.number))) (own_writer part writer.number).readers reader acknowledged row' behind')))
 
     writable : IsWritable due.message
-    writable = step.written due is_due (subst (λ (ps : List Packet). Contains ps (post due)) (sym (all_sent step.dues step.packets 0 refl step.are_sent)) (contains_map post step.dues due is_due))
+    writable = due_writable step.dues step.packets 0 due refl step.are_sent is_due

@@ -186,11 +186,7 @@ sent_all c =
 all_writable : (c : Round) → AllByRecursion (λ (d : Due). IsWritable d.message) (dues_of c)
 all_writable c =
     subst (λ (ds : List Due). AllByRecursion (λ (d : Due). IsWritable d.message) ds) (took c).takes.dues_are
-    (each_writable c.answers.step.dues
-    (λ d among.
-    c.answers.step.written d among
-    (subst (λ (ps : List Packet). Contains ps (post d)) (sym (all_sent c.answers.step.dues c.answers.step.packets 0 refl c.answers.step.are_sent))
-    (contains_map post c.answers.step.dues d among))))
+    (each_writable c.answers.step.dues c.answers.step.packets 0 refl c.answers.step.are_sent)
 
 abbrev the_answers : Round → List Answer
 the_answers c = answers_of (asks c) (heard_writer c.first) (asked_writer c) c.answers.step.dues (took c)

@@ -20,7 +20,7 @@ use Rattle.rtps_wire.specs.declared.message.Message.{Message}
 use Rattle.rtps_wire.specs.declared.submessage.Submessage.{Submessage}
 use Rattle.rtps_wire.specs.declared.submessage.Submessage.TheVariants.{InfoDst, InfoTs, Data, Heartbeat, AckNack, Gap}
 use Rattle.rtps_wire.specs.Content.{change_in, content_of}
-use Rattle.rtps_wire.specs.Messages.{ReadsMessage, spelling_of}
+use Rattle.rtps_wire.specs.Messages.{ReadsMessage, IsWritable, spelling_of}
 use Rattle.rtps_reader.specs.declared.step.AckNackDue.{AckNackDue}
 use Rattle.rtps_reader.specs.Tracked.{Tracked, fresh, with_data, with_gap, with_heartbeat, is_later}
 use Rattle.rtps_reader.specs.Advance.{Advances}
@@ -290,10 +290,11 @@ heartbeats_from config peer number (w ∷ ws) = heartbeats_of config peer number
 abbrev pub heartbeats_due : Config → ℕ → Part → List Due
 heartbeats_due config peer part = heartbeats_from config peer 1 part.rtps.writers
 
--- of the messages that are due these packets are sent, in their order, each in its one written form; so many more found no
--- memory
+-- of the messages that are due these packets are sent, in their order, each in the one written form that it has; so many
+-- more found no memory
 abbrev pub AreSent : List Due → List Packet → ℕ → Type 0
 AreSent [] packets unsent = (packets ≡ []) × (unsent ≡ 0)
 AreSent (due ∷ dues) packets unsent =
-    ((rest : List Packet) × (packets ≡ record { to = due.to; bytes = spelling_of due.message } ∷ rest) × AreSent dues rest unsent)
+    ((rest : List Packet) × (packets ≡ record { to = due.to; bytes = spelling_of due.message } ∷ rest)
+    × IsWritable due.message × AreSent dues rest unsent)
     ⊎ ((fewer : ℕ) × (unsent ≡ fewer + 1) × AreSent dues packets fewer)

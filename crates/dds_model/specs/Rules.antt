@@ -2,10 +2,9 @@
 -- sent of them.
 --
 -- RTPS 2.5, 8.4.9 (reliable StatefulWriter), 8.4.12 (reliable StatefulReader).
-use Rattle.std.specs.Prelude.{◌≡◌, ℕ, ◌+◌, ◌-◌, List, [], ◌++◌, length, slice_get, Some, Contains}
+use Rattle.std.specs.Prelude.{◌≡◌, ℕ, ◌+◌, ◌-◌, List, [], ◌++◌, length, slice_get, Some}
 use Rattle.dds_base.specs.declared.config.Config.{Config}
 use Rattle.dds_base.specs.Written.{Changed}
-use Rattle.rtps_wire.specs.Messages.{IsWritable, spelling_of}
 use Rattle.dds_model.specs.declared.event.Packet.{Packet}
 use Rattle.dds_model.specs.declared.event.WorldEvent.{WorldEvent}
 use Rattle.dds_model.specs.declared.event.WorldEvent.TheVariants.{Call, Tick, Deliver}
@@ -37,7 +36,7 @@ AreDue config old (Deliver peer number) (Reported report) new dues =
 AreDue config old event reply new dues = dues ≡ []
 
 -- One event of a network by the rules: it is a step of the peers, and of the messages that are due these packets are sent,
--- in their order; so many are not. Each message that is sent has a written form.
+-- in their order; so many are not.
 pub record RuledStep (config : Config) (tests : AllTests) (old : WorldState) (event : WorldEvent) (reply : Reply)
     (lost : ℕ) (new : WorldState) : Type 0 where
   pub step : WorldStep config tests old event reply new
@@ -46,5 +45,3 @@ pub record RuledStep (config : Config) (tests : AllTests) (old : WorldState) (ev
   pub packets : List Packet
   pub sent : new.sent ≡ old.sent ++ packets
   pub are_sent : AreSent dues packets lost
-  pub written : (due : Due) → Contains dues due
-      → Contains packets (record { to = due.to; bytes = spelling_of due.message }) → IsWritable due.message

@@ -43,7 +43,7 @@ posted_on [] packets posted unsent lost h p =
     let second = none.1 in
     (none.0, omega (arith, first, second))
 posted_on (due ∷ dues) packets posted unsent lost (inl f) p =
-    ⊎_elim (λ k. inl (k.0, k.1, posted_on dues f.0 k.0 unsent lost f.2 k.2)) (λ k. let fewer = k.1 in inr (unsent + k.0, omega (arith, fewer), posted_on dues f.0 posted unsent k.0 f.2 k.2))
+    ⊎_elim (λ k. inl (k.0, k.1, f.2, posted_on dues f.0 k.0 unsent lost f.3 k.2)) (λ k. let fewer = k.1 in inr (unsent + k.0, omega (arith, fewer), posted_on dues f.0 posted unsent k.0 f.3 k.2))
     (subst (λ (ps : List Packet). ArePosted ps posted lost) f.1 p)
 posted_on (due ∷ dues) packets posted unsent lost (inr g) p = let fewer = g.1 in inr (g.0 + lost, omega (arith, fewer), posted_on dues packets posted g.0 lost g.2 p)
 
