@@ -12,7 +12,9 @@ use Rattle.rtps_wire.specs.declared.heartbeat.Heartbeat.{Heartbeat as HeartbeatB
 use Rattle.rtps_wire.specs.declared.message.Message.{Message}
 use Rattle.rtps_wire.specs.declared.submessage.Submessage.{Submessage}
 use Rattle.rtps_wire.specs.declared.submessage.Submessage.TheVariants.{InfoDst, Heartbeat, AckNack}
+use Rattle.rtps_wire.specs.declared.seek.Sought.{Sought}
 use Rattle.rtps_wire.specs.Messages.{IsWritable, ReadsMessage, spelling_of}
+use Rattle.rtps_wire.specs.Sought.{IsSought, HasSought}
 use Rattle.rtps_wire.proofs.MessageLaws.{message_one}
 use Rattle.rtps_wire.proofs.SpellingLaws.{message_again}
 use Rattle.rtps_writer.specs.declared.answer.Answer.{Answer}
@@ -154,6 +156,17 @@ one_ask config own to body w r count writable h =
           (subst (λ (x : Receiver). IsToWriter config h.own x h.acknack.reader_id h.acknack.writer_id w r) here.0 h.is_to),
       sym h.same_count ∙ ap (λ (b : AckNackBody). b.count) is,
     )
+
+-- a submessage that is looked for in such a message is the one
+pub one_sought : (wanted : Sought) (to : GuidPrefix) (x : Submessage) → (IsSought wanted (InfoDst to) → ⊥)
+    → HasSought wanted (InfoDst to ∷ x ∷ []) → IsSought wanted x
+one_sought wanted to x other h =
+    ⊎_elim (λ first. absurd (other (subst (λ (s : Submessage). IsSought wanted s) (sym first) h.2)))
+    (λ (later : Contains (x ∷ []) h.0).
+    ⊎_elim (λ is. subst (λ (s : Submessage). IsSought wanted s) (sym is) h.2)
+    (λ (none : Contains [] h.0). let lt = none.1 in absurd (omega (arith, lt)))
+    (front_or_rest x [] h.0 later.0 later.1 later.2))
+    (front_or_rest (InfoDst to) (x ∷ []) h.0 h.1.0 h.1.1 h.1.2)
 
 pub one_ask_beats : (config : Config) (own to : GuidPrefix) (body : AckNackBody) (w : Endpoint) (count : ℤ)
     → IsWritable (message_to own to (AckNack body ∷ []))

@@ -51,13 +51,13 @@ row_found (p ∷ ps) r among =
 
 -- ---- the readers of a topic
 
-abbrev name_at : ℕ → ℕ → Endpoint
+abbrev pub name_at : ℕ → ℕ → Endpoint
 name_at peer number = record { peer = peer; number = number }
 
-abbrev names_in : ℕ → ℕ → ℕ → List ReaderConfig → List Endpoint
+abbrev pub names_in : ℕ → ℕ → ℕ → List ReaderConfig → List Endpoint
 names_in topic peer number rs = of_readers_in (λ k r. name_at peer k) topic number rs
 
-abbrev names : ℕ → ℕ → List PeerConfig → List Endpoint
+abbrev pub names : ℕ → ℕ → List PeerConfig → List Endpoint
 names topic peer ps = of_matched_readers (λ i p k r. name_at i k) topic peer ps
 
 named_first : (b : Bool) (e : Endpoint) (es : List Endpoint) → b ≡ true → Contains (cond b (e ∷ es) es) e
@@ -118,6 +118,7 @@ pub record OwnName (config : Config) (peer : ℕ) (part : Part) (number : ℕ) :
   pub name : IsWriter config (prefix_of config peer) (writer_entity config peer number) (name_at peer number)
   pub rows : (prefix : GuidPrefix) (entity : EntityId) (r : Endpoint) (is : IsReader config prefix entity r)
       → is.end.topic ≡ name.end.topic → (a : ℕ) × (acknowledged_of (own_writer part number).readers r ≡ Some a)
+  pub lists : map (λ (p : ReaderProxy). p.reader) (own_writer part number).readers ≡ names name.end.topic 1 config.peers
 
 get_some : {X : Type 0} (xs : List X) (i : ℕ) → i < length xs → (x : X) × (slice_get xs i ≡ Some x)
 get_some [] i lt = absurd (omega (arith, lt))
@@ -149,6 +150,7 @@ own_name config peer part of number there =
           row_found (own_writer part number).readers r
           (subst (λ (es : List Endpoint). Contains es r) (sym (of.readers number found.0 at))
           (reader_named config prefix entity r is found.0.topic topic));
+      lists = of.readers number found.0 at;
     }
 
 -- two names of one writer are told of one entry

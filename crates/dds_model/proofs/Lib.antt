@@ -53,3 +53,5 @@ pub mod PairFew
 pub mod PairCaughtUp
 pub mod PairBeats
 pub mod PairAsks
+pub mod PairNamed
+pub mod PairFound

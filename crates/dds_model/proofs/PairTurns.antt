@@ -16,16 +16,18 @@ use Rattle.rtps_wire.specs.declared.heartbeat.Heartbeat.{Heartbeat as HeartbeatB
 use Rattle.rtps_wire.specs.declared.submessage.Submessage.{Submessage}
 use Rattle.rtps_wire.specs.declared.submessage.Submessage.TheVariants.{Pad, InfoDst, InfoTs, Data, Heartbeat, AckNack, Gap, Other}
 use Rattle.rtps_wire.specs.Content.{change_in}
+use Rattle.rtps_wire.specs.declared.seek.Sought.TheVariants as sought
 use Rattle.rtps_wire.specs.Messages.{IsWritable, spelling_of}
+use Rattle.rtps_wire.specs.Sought.{HasSought}
 use Rattle.dds_model.specs.declared.endpoint.Endpoint.{Endpoint}
 use Rattle.dds_model.specs.declared.reply.Move.{Move}
 use Rattle.dds_model.specs.Part.{WriterProxy, own_proxies, own_reader, with_heard}
-use Rattle.dds_model.specs.Claims.{Receiver, IsToReader}
+use Rattle.dds_model.specs.Claims.{Receiver, IsReader, IsToReader}
 use Rattle.dds_model.specs.Protocol.{Due, State, InTurn, Goes, Asserting, TakesHeartbeat, Idles, ReaderTakes, acknacks_due, with_tracked}
 use Rattle.dds_model.specs.Backed.{reader_at}
 use Rattle.dds_model.specs.Fresh.{HasAckNack}
 use Rattle.dds_model.proofs.Composed.{front_or_rest}
-use Rattle.dds_model.proofs.CountsWritten.{one_ask}
+use Rattle.dds_model.proofs.CountsWritten.{one_ask, one_sought}
 use Rattle.dds_model.proofs.DuesAcknacks.{answer_names}
 use Rattle.dds_model.proofs.Framing.{Frames, frames_at, frames_known, has_handle, number_or_not}
 use Rattle.dds_model.proofs.Learning.{goes_learns}
@@ -133,8 +135,10 @@ reader_leaves c at (Other x) k old moves dues new h = leaves_idle old k moves du
 
 -- ---- whose ACKNACK is due
 
--- an ACKNACK there is that of this reader of the peer
+-- an ACKNACK there is that of this reader of the peer, and its readerId names that
 pub record Asks (c : Host) (k : ℕ) (due : Due) : Type 0 where
+  pub named : (reader writer : EntityId) → HasSought (sought.AckNack reader writer) due.message.submessages
+      → IsReader c.config c.own reader (reader_at c.peer k)
   pub is : (w x : Endpoint) (count : ℤ) → IsWritable due.message → HasAckNack c.config (spelling_of due.message) w x count → x ≡ reader_at c.peer k
 
 none_asks : (c : Host) (k : ℕ) (dues : List Due) → dues ≡ [] → (due : Due) → Contains dues due → Asks c k due
@@ -146,6 +150,8 @@ due_asks : (c : Host) (at : Receiver) (reader_id writer_id : EntityId) (w : Endp
 due_asks c at reader_id writer_id w k is None due among = let lt = among.1 in absurd (omega (arith, lt))
 due_asks c at reader_id writer_id w k is (Some x) due among =
     subst (λ (d : Due). Asks c k d) one (record {
+      named = λ reader writer has.
+          subst (λ (i : EntityId). IsReader c.config c.own i (reader_at c.peer k)) (one_sought (sought.AckNack reader writer) at.source_guid_prefix (AckNack body) (λ none. none) has).0 is.to;
       is = λ v y count writable has.
           let found = one_ask c.config c.own at.source_guid_prefix body v y count writable has in
           (answer_names c.config c.checked c.own at reader_id writer_id w (reader_at c.peer k) is found.0 v y found.1).1;
