@@ -1,3 +1,4 @@
+pub mod Posted
 pub mod WorldSteps
 pub mod Sends
 pub mod Ruled

@@ -14,6 +14,8 @@ use Rattle.dds_model.specs.declared.event.Packet.{Packet}
 use Rattle.dds_model.specs.Calls.{has_number}
 use Rattle.dds_model.specs.Opening.{opening_peers, opening_world}
 use Rattle.dds_model.specs.Peer.{no_peer}
+use Rattle.dds_model.proofs.Bounded.{opens_bounded}
+use Rattle.dds_model.proofs.CountsOpened.{opens_used}
 use Rattle.dds_model.proofs.Opened.{opens_sound}
 use Rattle.dds_model.proofs.OpenedPeers.{opens_known}
 use Rattle.dds_core.specs.Kept.{CoreKept}
@@ -114,12 +116,15 @@ peers_count : (peers : List PeerConfig) (n : ℕ) (ps : List PeerConfig) → len
 peers_count peers n [] = refl
 peers_count peers n (p ∷ ps) = let rest = peers_count peers (n + 1) ps in omega (arith, rest)
 
-pub opened : (config : Config) (kept : WorldKept) → OpensFirst config (length config.peers) kept.peers → kept.sent ≡ [] → StandsFor kept config (opening_world config)
-opened config kept all none = record {
+pub opened : (config : Config) (kept : WorldKept) → OpensFirst config (length config.peers) kept.peers → kept.sent ≡ [] → kept.unsent ≡ 0 → StandsFor kept config (opening_world config)
+opened config kept all none quiet = record {
   count = peers_count config.peers 1 config.peers ∙ sym all.counted;
   each = λ i k at. let next : i + 1 ≡ suc i = omega arith in subst (λ (n : ℕ). CoreStandsFor k config (opening_peer config n)) next (all.each i k at);
   known = λ i k at. opens_known config i (get_or (opening_peers config.peers 1 config.peers) i no_peer).number;
   sent = sym none;
   sound = opens_sound config;
   messages = λ packet c. let nowhere = subst (λ (ps : List Packet). Contains ps packet) none c in absurd (omega (arith, nowhere.1));
+  few = omega (arith, quiet);
+  used = opens_used config;
+  bounded = opens_bounded config;
 }

@@ -1,66 +1,136 @@
 -- A network whose peers keep the rules of the protocol.
-use Rattle.std.proofs.Common.{◌≡◌, ℕ, suc, ◌+◌, ◌-◌, ◌^◌, ◌<◌, min, List, [], Some, None, length, get_or, slice_get, subst, ap, sym, ◌∙◌, refl, arith}
+use Rattle.std.proofs.Common.{◌≡◌, ℕ, suc, ◌+◌, ◌-◌, ◌^◌, ◌<◌, List, [], Some, None, length, get_or, slice_get, subst, ap, sym, ◌∙◌, refl, arith}
 use Rattle.dds_base.specs.declared.config.Config.{Config}
+use Rattle.dds_base.specs.Written.{Registered, Changed, Asserted, LookedAt, Ticked}
 use Rattle.rtps_wire.specs.Messages.{HasSubmessage}
 use Rattle.dds_model.specs.declared.call.Call.{Call}
-use Rattle.dds_model.specs.declared.event.Event.{Event}
 use Rattle.dds_model.specs.declared.event.Event.TheVariants as event
+use Rattle.dds_model.specs.declared.event.Output.{Output}
 use Rattle.dds_model.specs.declared.event.Packet.{Packet}
 use Rattle.dds_model.specs.declared.event.WorldEvent.{WorldEvent}
 use Rattle.dds_model.specs.declared.event.WorldEvent.TheVariants as world
 use Rattle.dds_model.specs.declared.reply.Reply.{Reply}
-use Rattle.dds_model.specs.declared.reply.Reply.TheVariants.{Reported}
+use Rattle.dds_model.specs.declared.reply.Reply.TheVariants.{Done, Reported}
 use Rattle.dds_model.specs.declared.reply.Report.{Report}
-use Rattle.dds_model.specs.Numbered.{numbered}
+use Rattle.dds_model.specs.Part.{Part}
+use Rattle.dds_model.specs.Calls.{Effect, nothing, writes, effect_of}
 use Rattle.dds_model.specs.Peer.{Peer, no_peer, state_of}
-use Rattle.dds_model.specs.Protocol.{State, TakesPacket}
+use Rattle.dds_model.specs.Protocol.{Due, State, TakesPacket, AreSent, heartbeats_due}
+use Rattle.dds_model.specs.Rules.{AreDue, announcements_due}
 use Rattle.dds_model.specs.World.{WorldState, peer_at}
 use Rattle.dds_core.specs.Kept.{CoreKept}
-use Rattle.dds_core.specs.Standing.{IsTakenByRules}
+use Rattle.dds_core.specs.Sending.{SendsFor, due_at_tick}
+use Rattle.dds_core.specs.Standing.{StandsFor as CoreStandsFor, IsTakenByRules, KeepsRules as CoreKeepsRules}
 use Rattle.dds_core.proofs.Lists.{element, get-within}
-use Rattle.dds_world.specs.WorldStanding.{WorldKept, StandsFor, Steps, KeepsRules, TakesUp, TakesUpDelivered, traffic}
+use Rattle.dds_world.specs.WorldStanding.{WorldKept, StandsFor, Steps, KeepsRules}
 use Rattle.dds_world.specs.Acting.{Acts, IsCopy, RuledSteps}
-use Rattle.dds_world.proofs.Sends.{dues_sent}
-use Rattle.dds_world.proofs.WorldSteps.{acts_ruled, comes_to_nothing, contains_at, delivers_at, found_at, nothing_moved, posts_none, set_same}
+use Rattle.dds_world.proofs.WorldSteps.{SendsItsDues, acts_ruled, calls_at, comes_to_nothing, contains_at, delivers_at, found_at, nothing_moved, posts_none, set_same, ticks_at}
 
--- a step by the rules is one, and of deliveries alone more is said
+-- a step by the rules is a step
 
 pub steps_of : (old new : WorldKept) (ev : WorldEvent) (reply : Reply) → RuledSteps old ev reply new → Steps old ev reply new
-steps_of old new ev reply steps config network s = let t = steps config network s in (t.0, t.1, t.2, t.3)
+steps_of old new ev reply steps config network s = let t = steps config network s in (t.0, t.2.step, t.4, t.5)
 
 pub rules_of : (old new : WorldKept) (ev : WorldEvent) (reply : Reply) → RuledSteps old ev reply new → KeepsRules old ev reply new
-rules_of old new ev reply steps config network s = let t = steps config network s in (t.0, t.1, t.3, t.4)
+rules_of old new ev reply steps config network s = let t = steps config network s in (t.0, t.1, t.2, t.3, t.5)
 
-pub rules_of_call : (old new : WorldKept) (peer : ℕ) (call : Call) (reply : Reply) → Steps old (world.Call peer call) reply new → KeepsRules old (world.Call peer call) reply new
-rules_of_call old new peer call reply steps config network s = let t = steps config network s in (t.0, t.1, t.3, tt)
+-- the number of the peer of this index
+numbered_so : (kept : WorldKept) (config : Config) (network : WorldState) (i : ℕ) (core : CoreKept) → StandsFor kept config network → slice_get kept.peers i ≡ Some core → (get_or network.peers i no_peer).number ≡ suc i
+numbered_so kept config network i core s at =
+    let count = s.count in
+    let low = get-within kept.peers i core at in s.sound.number (suc i) (omega arith, omega (arith, count, low))
 
-pub rules_of_tick : (old new : WorldKept) (peer now : ℕ) (reply : Reply) → Steps old (world.Tick peer now) reply new → KeepsRules old (world.Tick peer now) reply new
-rules_of_tick old new peer now reply steps config network s = let t = steps config network s in (t.0, t.1, t.3, tt)
+next_number : (i n : ℕ) → n ≡ i + 1 → suc i ≡ n
+next_number i n is = omega (arith, is)
 
--- a report is that of the delivery
-reported : (config : Config) (old new : WorldKept) (network after : WorldState) (peer number : ℕ) (reply : Reply) (report : Report) → reply ≡ Reported report
-    → TakesUp config old peer number (state_of (peer_at network peer)) report new (state_of (peer_at after peer)) → TakesUpDelivered config old network (world.Deliver peer number) reply new after
-reported config old new network after peer number reply report is up = subst (λ (r : Reply). TakesUpDelivered config old network (world.Deliver peer number) r new after) (sym is) up
+-- ---- a call
+
+effect_due : (config : Config) (peer : Peer) (effect : Effect) (output : Output) → SendsFor config peer effect output → AreSent (announcements_due config peer.number peer.part effect) output.packets output.unsent
+effect_due config peer (writes w (Changed change)) output one = one.are_sent
+effect_due config peer (writes w (Registered key)) output none = (none.packets, none.unsent)
+effect_due config peer (writes w (Asserted moment)) output none = (none.packets, none.unsent)
+effect_due config peer (writes w LookedAt) output none = (none.packets, none.unsent)
+effect_due config peer (writes w (Ticked now behind)) output none = (none.packets, none.unsent)
+effect_due config peer nothing output none = (none.packets, none.unsent)
+
+call_dues : (kept new : WorldKept) (i : ℕ) (call : Call) (reply : Reply) (a : Acts kept i (event.Call call) reply new) → SendsItsDues kept i (event.Call call) (world.Call (suc i) call) reply new a
+call_dues kept new i call reply a config network next s rules =
+    let peer : Peer = get_or network.peers i no_peer in
+    let output : Output = a.acts.output in
+    let sent = effect_due config peer (effect_of peer.part call output.reply) output (a.sends config peer (s.each i a.acts.core a.acts.at)) in
+    let replied : AreSent (announcements_due config peer.number peer.part (effect_of peer.part call reply)) output.packets output.unsent =
+    subst (λ (r : Reply). AreSent (announcements_due config peer.number peer.part (effect_of peer.part call r)) output.packets output.unsent) (sym a.acts.replies) sent in (
+      announcements_due config (suc i) peer.part (effect_of peer.part call reply),
+      refl,
+      subst (λ (n : ℕ). AreSent (announcements_due config n peer.part (effect_of peer.part call reply)) output.packets output.unsent)
+          (numbered_so kept config network i a.acts.core s a.acts.at) replied,
+    )
+
+pub called : (kept new : WorldKept) (i peer : ℕ) (call : Call) (reply : Reply) → peer ≡ i + 1 → Acts kept i (event.Call call) reply new → RuledSteps kept (world.Call peer call) reply new
+called kept new i peer call reply is a =
+    subst (λ (n : ℕ). RuledSteps kept (world.Call n call) reply new) (next_number i peer is)
+    (acts_ruled kept new i (event.Call call) (world.Call (suc i) call) reply (calls_at kept.sent (suc i) call) a (call_dues kept new i call reply a))
+
+-- ---- a tick
+
+-- what is due at a tick with this reply
+abbrev due_so : Config → ℕ → Part → Reply → List Due
+due_so config peer part Done = heartbeats_due config peer part
+due_so config peer part reply = []
+
+tick_due : (config : Config) (peer : Peer) (reply : Reply) → due_at_tick config peer reply ≡ due_so config peer.number peer.part reply
+tick_due config peer Done = refl
+tick_due config peer reply = refl
+
+are_due_so : (config : Config) (network next : WorldState) (i now : ℕ) (reply : Reply) → AreDue config network (world.Tick (suc i) now) reply next (due_so config (suc i) (get_or network.peers i no_peer).part reply)
+are_due_so config network next i now Done = refl
+are_due_so config network next i now reply = refl
+
+tick_dues : (kept new : WorldKept) (i now : ℕ) (reply : Reply) (a : Acts kept i (event.Tick now) reply new) → SendsItsDues kept i (event.Tick now) (world.Tick (suc i) now) reply new a
+tick_dues kept new i now reply a config network next s rules =
+    let peer : Peer = get_or network.peers i no_peer in
+    let output : Output = a.acts.output in
+    let sent : AreSent (due_so config peer.number peer.part output.reply) output.packets output.unsent =
+    subst (λ (ds : List Due). AreSent ds output.packets output.unsent) (tick_due config peer output.reply) (a.sends config peer (s.each i a.acts.core a.acts.at)) in
+    let replied : AreSent (due_so config peer.number peer.part reply) output.packets output.unsent =
+    subst (λ (r : Reply). AreSent (due_so config peer.number peer.part r) output.packets output.unsent) (sym a.acts.replies) sent in (
+      due_so config (suc i) peer.part reply,
+      are_due_so config network next i now reply,
+      subst (λ (n : ℕ). AreSent (due_so config n peer.part reply) output.packets output.unsent)
+          (numbered_so kept config network i a.acts.core s a.acts.at) replied,
+    )
+
+pub ticked : (kept new : WorldKept) (i peer now : ℕ) (reply : Reply) → peer ≡ i + 1 → Acts kept i (event.Tick now) reply new → RuledSteps kept (world.Tick peer now) reply new
+ticked kept new i peer now reply is a =
+    subst (λ (n : ℕ). RuledSteps kept (world.Tick n now) reply new) (next_number i peer is)
+    (acts_ruled kept new i (event.Tick now) (world.Tick (suc i) now) reply (ticks_at kept.sent (suc i) now) a (tick_dues kept new i now reply a))
+
+-- ---- a delivery
+
+-- what is due to the packet that this report is of
+reported_due : (config : Config) (network next : WorldState) (peer number : ℕ) (packet : Packet) (reply : Reply) (report : Report) (dues : List Due) → reply ≡ Reported report → slice_get network.sent (number - 1) ≡ Some packet
+    → TakesPacket config peer packet.bytes (state_of (peer_at network peer)) report dues (state_of (peer_at next peer)) → AreDue config network (world.Deliver peer number) reply next dues
+reported_due config network next peer number packet reply report dues is at takes =
+    subst (λ (r : Reply). AreDue config network (world.Deliver peer number) r next dues) (sym is) (packet, at, takes)
+
+delivery_dues : (kept new : WorldKept) (i j : ℕ) (packet : Packet) (reply : Reply) → slice_get kept.sent j ≡ Some packet → (a : Acts kept i (event.Deliver packet.bytes) reply new)
+    → SendsItsDues kept i (event.Deliver packet.bytes) (world.Deliver (suc i) (j + 1)) reply new a
+delivery_dues kept new i j packet reply at a config network next s rules =
+    let before : State = state_of (get_or network.peers i no_peer) in
+    let later : State = state_of (get_or next.peers i no_peer) in
+    let there : slice_get network.sent ((j + 1) - 1) ≡ Some packet =
+    subst (λ (ps : List Packet). slice_get ps ((j + 1) - 1) ≡ Some packet) (sym s.sent) (found_at kept.sent j packet at) in (
+      rules.dues,
+      reported_due config network next (suc i) (j + 1) packet reply rules.report rules.dues (a.acts.replies ∙ rules.reply) there
+          (subst (λ (n : ℕ). TakesPacket config n packet.bytes before rules.report rules.dues later) (numbered_so kept config network i a.acts.core s a.acts.at) rules.takes),
+      rules.sent,
+    )
 
 -- a packet that was sent is taken up by the rules
 taken_up : (kept new : WorldKept) (i j : ℕ) (packet : Packet) (reply : Reply) → slice_get kept.sent j ≡ Some packet → Acts kept i (event.Deliver packet.bytes) reply new → RuledSteps kept (world.Deliver (suc i) (j + 1)) reply new
-taken_up kept new i j packet reply at a config network s =
-    let acts = a.acts in
-    let t = acts_ruled kept new i (event.Deliver packet.bytes) (world.Deliver (suc i) (j + 1)) reply (delivers_at kept.sent (suc i) (j + 1) packet (omega arith) (found_at kept.sent j packet at)) acts config network s in
-    let rules : IsTakenByRules config (get_or network.peers i no_peer) packet.bytes acts.output (get_or t.0.peers i no_peer) = t.4 in
-    let count = s.count in
-    let low = get-within kept.peers i acts.core acts.at in
-    let number : (get_or network.peers i no_peer).number ≡ suc i = s.sound.number (suc i) (omega arith, omega (arith, count, low)) in
-    let before : State = state_of (get_or network.peers i no_peer) in
-    let later : State = state_of (get_or t.0.peers i no_peer) in
-    let up : TakesUp config kept (suc i) (j + 1) before rules.report new later = record {
-      packet = packet;
-      at = found_at kept.sent j packet at;
-      dues = rules.dues;
-      takes = subst (λ (n : ℕ). TakesPacket config n packet.bytes before rules.report rules.dues later) number rules.takes;
-      sent = dues_sent kept new rules.dues acts.output acts.posts a.counts rules.sent;
-    } in
-    (t.0, t.1, t.2, t.3, reported config kept new network t.0 (suc i) (j + 1) reply rules.report (acts.replies ∙ rules.reply) up)
+taken_up kept new i j packet reply at a =
+    acts_ruled kept new i (event.Deliver packet.bytes) (world.Deliver (suc i) (j + 1)) reply (delivers_at kept.sent (suc i) (j + 1) packet (omega arith) (found_at kept.sent j packet at)) a
+    (delivery_dues kept new i j packet reply at a)
 
 pub delivered : (kept new : WorldKept) (i j : ℕ) (bytes : List ℕ) (reply : Reply) → IsCopy kept.sent j bytes → Acts kept i (event.Deliver bytes) reply new → RuledSteps kept (world.Deliver (i + 1) (j + 1)) reply new
 delivered kept new i j bytes reply copy a =
@@ -70,8 +140,9 @@ delivered kept new i j bytes reply copy a =
     subst (λ (n : ℕ). RuledSteps kept (world.Deliver n (j + 1)) reply new) next (taken_up kept new i j packet reply copy.at own)
 
 -- a packet that finds no memory
-pub not_delivered : (kept : WorldKept) (i j : ℕ) → i < length kept.peers → j < length kept.sent → kept.unsent < 2 ^ 64 → RuledSteps kept (world.Deliver (i + 1) (j + 1)) (Reported (record { moves = []; refused = Some 0 })) kept
-not_delivered kept i j low high few config network s =
+pub not_delivered : (kept : WorldKept) (i j : ℕ) → i < length kept.peers → j < length kept.sent → RuledSteps kept (world.Deliver (i + 1) (j + 1)) (Reported (record { moves = []; refused = Some 0 })) kept
+not_delivered kept i j low high config network s =
+    let few = s.few in
     let core = element kept.peers i low in
     let packet = element kept.sent j high in
     let some : HasSubmessage packet.0.bytes = s.messages packet.0 (contains_at kept.sent j packet.0 packet.1) in

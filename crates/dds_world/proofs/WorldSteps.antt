@@ -1,5 +1,5 @@
 -- The steps of a network.
-use Rattle.std.proofs.Common.{◌≡◌, ◌≢◌, ◌⊎◌, ℕ, zero, suc, ◌+◌, ◌-◌, ◌<◌, ◌≤◌, Bool, true, false, List, [], ◌∷◌, ◌++◌, Some, length, set, get_or, slice_get, subst, ap, sym, ◌∙◌, refl, inl, inr, ⊎_elim, arith, append_assoc, length-append, length-set, get_or-set_same}
+use Rattle.std.proofs.Common.{◌≡◌, ◌≢◌, ◌⊎◌, ℕ, zero, suc, ◌+◌, ◌-◌, ◌^◌, ◌<◌, ◌≤◌, min, Bool, true, false, List, [], ◌∷◌, ◌++◌, Some, length, set, get_or, slice_get, subst, ap, sym, ◌∙◌, refl, inl, inr, ⊎_elim, arith, append_assoc, length-append, length-set, get_or-set_same}
 use Rattle.std.specs.Prelude.{if◌then◌else◌, ◌&&◌, nat_lt, nat_le, Contains, AllPairs}
 use Rattle.std.specs.List.{All}
 use Rattle.std.proofs.lemmas.Bool.Decides.{nat_tests}
@@ -23,15 +23,22 @@ use Rattle.dds_model.specs.Machine.{no_filters, no_tests, Step}
 use Rattle.dds_model.specs.Numbered.{HasNumber}
 use Rattle.dds_model.specs.Peer.{Peer, Delivery, PeerStep, no_peer, state_of}
 use Rattle.dds_model.specs.Progress.{Progresses}
-use Rattle.dds_model.specs.World.{WorldState, WorldStep, PeerSteps, machine_of}
+use Rattle.dds_model.specs.Calls.{Effect}
+use Rattle.dds_model.specs.Protocol.{Due, AreSent}
+use Rattle.dds_model.specs.Rules.{RuledStep, AreDue, announcements_due}
+use Rattle.dds_model.specs.World.{WorldState, WorldStep, PeerSteps, machine_of, peer_at}
+use Rattle.dds_model.proofs.Bounded.{steps_bounded}
 use Rattle.dds_model.proofs.Composed.{composes}
+use Rattle.dds_model.proofs.FreshCounts.{steps_used}
 use Rattle.dds_model.proofs.RuledPackets.{unread_backed}
 use Rattle.dds_model.proofs.Tables.{append_nothing}
 use Rattle.dds_core.specs.Kept.{CoreKept}
 use Rattle.dds_core.specs.Standing.{StandsFor as CoreStandsFor, IsSound, SoundSteps as CoreSteps, KeepsRules as CoreKeepsRules}
+use Rattle.dds_core.proofs.CallSteps.{refused_nothing}
 use Rattle.dds_core.proofs.Lists.{each_set, element, get-within}
 use Rattle.dds_world.specs.WorldStanding.{WorldKept, StandsFor, Steps, MovesOn, ArePosted, Posts}
-use Rattle.dds_world.specs.Acting.{ActsAt, RuledSteps}
+use Rattle.dds_world.specs.Acting.{Acts, RuledSteps}
+use Rattle.dds_world.proofs.Posted.{lost_is, posted_on}
 
 -- lists of which any two elements differ
 
@@ -104,12 +111,6 @@ posts_more old packets now new packet false h is =
       different = λ d. h.different (front_apart (λ (a b : Packet). a.to ≢ b.to) packets packet d);
     }
 
--- the same, of what is kept under other names
-
-pub steps_as : (kept now new new' : WorldKept) (ev ev' : WorldEvent) (reply reply' : Reply) → kept ≡ now → ev ≡ ev' → reply ≡ reply' → new ≡ new' → Steps kept ev reply new → Steps now ev' reply' new'
-steps_as kept now new new' ev ev' reply reply' e f g h s =
-    subst (λ (k : WorldKept). Steps k ev' reply' new') e (subst (λ (v : WorldEvent). Steps kept v reply' new') f (subst (λ (r : Reply). Steps kept ev r new') g (subst (λ (k : WorldKept). Steps kept ev reply k) h s)))
-
 -- what is delivered is taken up, since claims are true
 pub progresses : (kept new : WorldKept) (ev : WorldEvent) (reply : Reply) → Steps kept ev reply new → MovesOn kept ev reply
 progresses kept new ev reply steps config network s =
@@ -133,12 +134,19 @@ delivers_at sent peer number packet low found config old new reply same step = i
 abbrev with_peer : WorldState → ℕ → Peer → List Packet → WorldState
 with_peer network i after sent = record { peers = set network.peers i after; sent = sent }
 
--- an event of the peer of this index is a step of the network, in which the peer keeps the rules of the protocol
-pub acts_ruled : (kept new : WorldKept) (i : ℕ) (ev : Event) (whole : WorldEvent) (reply : Reply) → IsEventOf kept.sent ev (suc i) whole → (a : ActsAt kept i ev reply new) → (config : Config) (network : WorldState) → StandsFor kept config network
-    → (after : WorldState) × WorldStep config no_tests network whole reply after × Step no_tests (length kept.sent) (machine_of network) whole reply (machine_of after) × StandsFor new config after
-    × CoreKeepsRules config (get_or network.peers i no_peer) ev a.output (get_or after.peers i no_peer)
-acts_ruled kept new i ev whole reply into a config network s =
-    let r = a.steps config (get_or network.peers i no_peer) (s.each i a.core a.at) (s.known i a.core a.at) in
+-- what the peer of this index sends at an event is what is due at it
+abbrev pub SendsItsDues : (kept : WorldKept) (i : ℕ) (ev : Event) (whole : WorldEvent) (reply : Reply) (new : WorldKept) → Acts kept i ev reply new → Type 0
+SendsItsDues kept i ev whole reply new a = (config : Config) (network next : WorldState) → StandsFor kept config network
+    → CoreKeepsRules config (get_or network.peers i no_peer) ev a.acts.output (get_or next.peers i no_peer)
+    → (dues : List Due) × AreDue config network whole reply next dues × AreSent dues a.acts.output.packets a.acts.output.unsent
+
+-- an event of the peer of this index is one of the network by the rules of the protocol
+pub acts_ruled : (kept new : WorldKept) (i : ℕ) (ev : Event) (whole : WorldEvent) (reply : Reply) → IsEventOf kept.sent ev (suc i) whole → (a : Acts kept i ev reply new) → SendsItsDues kept i ev whole reply new a
+    → RuledSteps kept whole reply new
+acts_ruled kept new i ev whole reply into acts sends config network s =
+    let a = acts.acts in
+    let core : CoreStandsFor a.core config (get_or network.peers i no_peer) = s.each i a.core a.at in
+    let r = a.steps config (get_or network.peers i no_peer) core (s.known i a.core a.at) in
     let next : WorldState = with_peer network i r.0 new.sent in
     let low : i < length kept.peers = get-within kept.peers i a.core a.at in
     let count = s.count in
@@ -153,7 +161,22 @@ acts_ruled kept new i ev whole reply into a config network s =
       changed = ap (λ (ps : List Packet). with_peer network i r.0 ps) (a.posts.sent ∙ ap (λ (ps : List Packet). ps ++ a.posts.posted) (sym s.sent));
     } in
     let whole_step : WorldStep config no_tests network whole reply next = into config network next reply s.sent step in
+    let low' : i < length network.peers = omega (arith, count, low) in
+    let there : get_or next.peers i no_peer ≡ r.0 = get_or-set_same network.peers i r.0 no_peer low' in
+    let rules : CoreKeepsRules config (get_or network.peers i no_peer) ev a.output (get_or next.peers i no_peer) =
+    subst (λ (p : Peer). CoreKeepsRules config (get_or network.peers i no_peer) ev a.output p) (sym there) r.4 in
+    let due = sends config network next s rules in
+    let lost : ℕ = a.output.unsent + a.posts.lost in
+    let ruled : RuledStep config no_tests network whole reply lost next = record {
+      step = whole_step;
+      dues = due.0;
+      due = due.1;
+      packets = a.posts.posted;
+      sent = a.posts.sent ∙ ap (λ (ps : List Packet). ps ++ a.posts.posted) (sym s.sent);
+      are_sent = posted_on due.0 a.output.packets a.posts.posted a.output.unsent a.posts.lost due.2 a.posts.are_posted;
+    } in
     let c = composes config no_tests network next whole reply s.sound whole_step in
+    let unsent = lost_is kept new a.output a.posts acts.counts in
     let c1 = length-set network.peers i r.0 in
     let c2 = length-set kept.peers i a.after in
     let c3 = ap (λ (ks : List CoreKept). length ks) a.peers in
@@ -166,27 +189,11 @@ acts_ruled kept new i ev whole reply into a config network s =
       messages = λ packet m.
           ⊎_elim (λ o. s.messages packet o) (λ o. a.messages packet (a.posts.of_packets packet o))
           (Contains-append_cases kept.sent a.posts.posted packet (subst (λ (ps : List Packet). Contains ps packet) a.posts.sent m));
+      few = omega (arith, unsent);
+      used = steps_used config no_tests network whole reply lost next core.is_peer.checked s.used ruled;
+      bounded = steps_bounded no_tests (length network.sent) (machine_of network) whole reply (machine_of next) s.bounded c.0;
     } in
-    let low' : i < length network.peers = omega (arith, count, low) in
-    let there : get_or next.peers i no_peer ≡ r.0 = get_or-set_same network.peers i r.0 no_peer low' in
-    let rules : CoreKeepsRules config (get_or network.peers i no_peer) ev a.output (get_or next.peers i no_peer) =
-    subst (λ (p : Peer). CoreKeepsRules config (get_or network.peers i no_peer) ev a.output p) (sym there) r.4 in
-    (next, whole_step, subst (λ (ps : List Packet). Step no_tests (length ps) (machine_of network) whole reply (machine_of next)) s.sent c.0, stands, rules)
-
-pub acts_step : (kept new : WorldKept) (i : ℕ) (ev : Event) (whole : WorldEvent) (reply : Reply) → IsEventOf kept.sent ev (suc i) whole → ActsAt kept i ev reply new → Steps kept whole reply new
-acts_step kept new i ev whole reply into a config network s = let t = acts_ruled kept new i ev whole reply into a config network s in (t.0, t.1, t.2, t.3)
-
--- the index of a number
-number_of : (i n : ℕ) → n ≡ i + 1 → suc i ≡ n
-number_of i n is = omega (arith, is)
-
-pub called : (kept new : WorldKept) (i peer : ℕ) (call : Call) (reply : Reply) → peer ≡ i + 1 → ActsAt kept i (event.Call call) reply new → Steps kept (world.Call peer call) reply new
-called kept new i peer call reply is a =
-    subst (λ (n : ℕ). Steps kept (world.Call n call) reply new) (number_of i peer is) (acts_step kept new i (event.Call call) (world.Call (suc i) call) reply (calls_at kept.sent (suc i) call) a)
-
-pub ticked : (kept new : WorldKept) (i peer now : ℕ) (reply : Reply) → peer ≡ i + 1 → ActsAt kept i (event.Tick now) reply new → Steps kept (world.Tick peer now) reply new
-ticked kept new i peer now reply is a =
-    subst (λ (n : ℕ). Steps kept (world.Tick n now) reply new) (number_of i peer is) (acts_step kept new i (event.Tick now) (world.Tick (suc i) now) reply (ticks_at kept.sent (suc i) now) a)
+    (next, lost, ruled, unsent, subst (λ (ps : List Packet). Step no_tests (length ps) (machine_of network) whole reply (machine_of next)) s.sent c.0, stands)
 
 -- the packet of an index, by its number
 pub found_at : (sent : List Packet) (j : ℕ) (packet : Packet) → slice_get sent j ≡ Some packet → slice_get sent ((j + 1) - 1) ≡ Some packet
@@ -234,32 +241,39 @@ nobody kept config network peer s none has =
     let high = has.1 in
     ⊎_elim (λ z. omega (arith, z, low)) (λ past. omega (arith, past, high, count)) (no_such peer (length kept.peers) none)
 
--- a step of the network that changes nothing
-stays : (kept : WorldKept) (config : Config) (network : WorldState) (ev : WorldEvent) (reply : Reply) → StandsFor kept config network → WorldStep config no_tests network ev reply network
-    → (after : WorldState) × WorldStep config no_tests network ev reply after × Step no_tests (length kept.sent) (machine_of network) ev reply (machine_of after) × StandsFor kept config after
-stays kept config network ev reply s step =
-    let c = composes config no_tests network network ev reply s.sound step in
-    (network, step, subst (λ (ps : List Packet). Step no_tests (length ps) (machine_of network) ev reply (machine_of network)) s.sent c.0, s)
+-- what is refused changes nothing, and nothing is due
+stays : (kept : WorldKept) (config : Config) (network : WorldState) (ev : WorldEvent) → StandsFor kept config network → WorldStep config no_tests network ev (Refused BadParameter) network
+    → AreDue config network ev (Refused BadParameter) network []
+    → (after : WorldState) × (lost : ℕ) × RuledStep config no_tests network ev (Refused BadParameter) lost after × (kept.unsent ≡ min (kept.unsent + lost) (2 ^ 64 - 1))
+    × Step no_tests (length kept.sent) (machine_of network) ev (Refused BadParameter) (machine_of after) × StandsFor kept config after
+stays kept config network ev s step none =
+    let few = s.few in
+    let c = composes config no_tests network network ev (Refused BadParameter) s.sound step in
+    let ruled : RuledStep config no_tests network ev (Refused BadParameter) 0 network = record {
+      step = step;
+      dues = [];
+      due = none;
+      packets = [];
+      sent = sym (append_nothing network.sent);
+      are_sent = (refl, refl);
+    } in
+    (network, 0, ruled, omega (arith, few), subst (λ (ps : List Packet). Step no_tests (length ps) (machine_of network) ev (Refused BadParameter) (machine_of network)) s.sent c.0, s)
 
-refused_delivery : (kept : WorldKept) (config : Config) (network : WorldState) (peer number : ℕ) → StandsFor kept config network → WorldStep config no_tests network (world.Deliver peer number) (Refused BadParameter) network
-    → (after : WorldState) × WorldStep config no_tests network (world.Deliver peer number) (Refused BadParameter) after × Step no_tests (length kept.sent) (machine_of network) (world.Deliver peer number) (Refused BadParameter) (machine_of after)
-    × StandsFor kept config after × Unit {0}
-refused_delivery kept config network peer number s step = let t = stays kept config network (world.Deliver peer number) (Refused BadParameter) s step in (t.0, t.1, t.2, t.3, tt)
-
-pub unknown_call : (kept : WorldKept) (peer : ℕ) (call : Call) → (nat_lt 0 peer && nat_le peer (length kept.peers)) ≡ false → Steps kept (world.Call peer call) (Refused BadParameter) kept
+pub unknown_call : (kept : WorldKept) (peer : ℕ) (call : Call) → (nat_lt 0 peer && nat_le peer (length kept.peers)) ≡ false → RuledSteps kept (world.Call peer call) (Refused BadParameter) kept
 unknown_call kept peer call none config network s =
-    stays kept config network (world.Call peer call) (Refused BadParameter) s (inr (λ has. nobody kept config network peer s none has, record { is_refused = refl; after = refl }))
+    stays kept config network (world.Call peer call) s (inr (λ has. nobody kept config network peer s none has, record { is_refused = refl; after = refl }))
+    (sym (ap (λ (e : Effect). announcements_due config peer (peer_at network peer).part e) (refused_nothing (peer_at network peer).part call BadParameter)))
 
-pub unknown_tick : (kept : WorldKept) (peer now : ℕ) → (nat_lt 0 peer && nat_le peer (length kept.peers)) ≡ false → Steps kept (world.Tick peer now) (Refused BadParameter) kept
+pub unknown_tick : (kept : WorldKept) (peer now : ℕ) → (nat_lt 0 peer && nat_le peer (length kept.peers)) ≡ false → RuledSteps kept (world.Tick peer now) (Refused BadParameter) kept
 unknown_tick kept peer now none config network s =
-    stays kept config network (world.Tick peer now) (Refused BadParameter) s (inr (λ has. nobody kept config network peer s none has, record { is_refused = refl; after = refl }))
+    stays kept config network (world.Tick peer now) s (inr (λ has. nobody kept config network peer s none has, record { is_refused = refl; after = refl })) refl
 
 pub unknown_delivery : (kept : WorldKept) (peer number : ℕ) → (nat_lt 0 peer && nat_le peer (length kept.peers)) ≡ false → RuledSteps kept (world.Deliver peer number) (Refused BadParameter) kept
 unknown_delivery kept peer number none config network s =
-    refused_delivery kept config network peer number s (inr (inr (inr (λ has. nobody kept config network peer s none has)), record { is_refused = refl; after = refl }))
+    stays kept config network (world.Deliver peer number) s (inr (inr (inr (λ has. nobody kept config network peer s none has)), record { is_refused = refl; after = refl })) refl
 
 pub unknown_packet : (kept : WorldKept) (peer number : ℕ) → (nat_lt 0 number && nat_le number (length kept.sent)) ≡ false → RuledSteps kept (world.Deliver peer number) (Refused BadParameter) kept
 unknown_packet kept peer number none config network s =
     let count = ap (λ (ps : List Packet). length ps) s.sent in
     let why : (number ≡ 0) ⊎ (length network.sent < number) ⊎ (HasNumber network.peers peer → ⊥) = ⊎_elim (λ z. inl z) (λ past. inr (inl (omega (arith, past, count)))) (no_such number (length kept.sent) none) in
-    refused_delivery kept config network peer number s (inr (why, record { is_refused = refl; after = refl }))
+    stays kept config network (world.Deliver peer number) s (inr (why, record { is_refused = refl; after = refl })) refl

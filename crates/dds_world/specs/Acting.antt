@@ -8,12 +8,13 @@ use Rattle.dds_model.specs.declared.event.Packet.{Packet}
 use Rattle.dds_model.specs.declared.event.WorldEvent.{WorldEvent}
 use Rattle.dds_model.specs.declared.reply.Reply.{Reply}
 use Rattle.dds_model.specs.Machine.{no_tests, Step}
-use Rattle.dds_model.specs.World.{WorldState, WorldStep, machine_of}
+use Rattle.dds_model.specs.Rules.{RuledStep}
+use Rattle.dds_model.specs.World.{WorldState, machine_of}
 use Rattle.dds_core.specs.Kept.{CoreKept}
 use Rattle.dds_core.specs.Opening.{opening_refusal, opening_peer}
 use Rattle.dds_core.specs.Sending.{Sends as CoreSends, SendsNothing, AreMessages}
 use Rattle.dds_core.specs.Standing.{StandsFor as CoreStandsFor, SoundSteps as CoreSteps}
-use Rattle.dds_world.specs.WorldStanding.{WorldKept, StandsFor, Posts, TakesUpDelivered}
+use Rattle.dds_world.specs.WorldStanding.{WorldKept, StandsFor, Posts}
 
 -- how many packets were counted as unsent: those of the peer, and those that found no memory in the network
 abbrev pub Counts : WorldKept → Output → WorldKept → Type 0
@@ -54,8 +55,9 @@ pub record OpensFirst (config : Config) (count : ℕ) (kept : List CoreKept) : T
   pub each : (i : ℕ) (k : CoreKept) → slice_get kept i ≡ Some k → CoreStandsFor k config (opening_peer config (i + 1))
   pub taken : 1 ≤ count → opening_refusal config.peers ≡ None
 
--- a step of the network, of its machine and of its peers by the rules of the protocol, to one state
+-- a step of the network's peers by the rules of the protocol, and of its machine, to one state
 abbrev pub RuledSteps : WorldKept → WorldEvent → Reply → WorldKept → Type 0
 RuledSteps old event reply new = (config : Config) (network : WorldState) → StandsFor old config network
-    → (after : WorldState) × WorldStep config no_tests network event reply after × Step no_tests (length old.sent) (machine_of network) event reply (machine_of after) × StandsFor new config after
-    × TakesUpDelivered config old network event reply new after
+    → (after : WorldState) × (lost : ℕ) × RuledStep config no_tests network event reply lost after
+    × (new.unsent ≡ min (old.unsent + lost) (2 ^ 64 - 1))
+    × Step no_tests (length old.sent) (machine_of network) event reply (machine_of after) × StandsFor new config after

@@ -1,18 +1,17 @@
 -- What a network stands for.
-use Rattle.std.specs.Prelude.{◌≡◌, ◌≢◌, ◌⊎◌, ℕ, ◌+◌, ◌-◌, ◌≤◌, List, [], ◌∷◌, ◌++◌, length, get_or, slice_get, Some, Contains, AllPairs}
+use Rattle.std.specs.Prelude.{◌≡◌, ◌≢◌, ◌⊎◌, ℕ, ◌+◌, ◌-◌, ◌^◌, ◌≤◌, min, List, [], ◌∷◌, ◌++◌, length, get_or, slice_get, Some, Contains, AllPairs}
 use Rattle.dds_base.specs.declared.config.Config.{Config}
 use Rattle.dds_model.specs.declared.event.Packet.{Packet}
 use Rattle.dds_model.specs.declared.event.WorldEvent.{WorldEvent}
-use Rattle.dds_model.specs.declared.event.WorldEvent.TheVariants.{Deliver}
 use Rattle.dds_model.specs.declared.reply.Reply.{Reply}
-use Rattle.dds_model.specs.declared.reply.Reply.TheVariants.{Reported}
-use Rattle.dds_model.specs.declared.reply.Report.{Report}
 use Rattle.dds_model.specs.Machine.{no_tests, Step}
 use Rattle.dds_model.specs.Progress.{Progresses}
-use Rattle.dds_model.specs.Protocol.{Due, State, TakesPacket}
-use Rattle.dds_model.specs.Runs.{Traffic, Sends, SendsDues, Run}
+use Rattle.dds_model.specs.Bounds.{IsBounded}
+use Rattle.dds_model.specs.Fresh.{HasUsedCounts}
+use Rattle.dds_model.specs.Rules.{RuledStep}
+use Rattle.dds_model.specs.Runs.{Traffic, Sends, Run}
 use Rattle.dds_model.specs.Laws.{WorldRun}
-use Rattle.dds_model.specs.Peer.{no_peer, state_of}
+use Rattle.dds_model.specs.Peer.{no_peer}
 use Rattle.dds_model.specs.World.{WorldState, WorldStep, peer_at, machine_of, Sound}
 use Rattle.dds_core.specs.Kept.{CoreKept}
 use Rattle.dds_core.specs.Sending.{AreMessages}
@@ -24,8 +23,9 @@ pub record WorldKept : Type 0 where
   pub sent : List Packet
   pub unsent : ℕ
 
--- a state of the network for which what it keeps stands: so its peers stand, and know what was claimed to them alone; all that
--- packets claim is true, and each packet is a message
+-- A state of the network for which what it keeps stands: so its peers stand, and know what was claimed to them alone; all that
+-- packets claim is true, and each packet is a message; what is counted as unsent keeps to its bound; the counts that were sent or
+-- taken were used by their senders; and no reader's place is past the end of a list.
 pub record StandsFor (kept : WorldKept) (config : Config) (network : WorldState) : Type 0 where
   pub count : length network.peers ≡ length kept.peers
   pub each : (i : ℕ) (k : CoreKept) → slice_get kept.peers i ≡ Some k → CoreStandsFor k config (get_or network.peers i no_peer)
@@ -33,6 +33,9 @@ pub record StandsFor (kept : WorldKept) (config : Config) (network : WorldState)
   pub sent : network.sent ≡ kept.sent
   pub sound : Sound config network
   pub messages : AreMessages kept.sent
+  pub few : kept.unsent ≤ 2 ^ 64 - 1
+  pub used : HasUsedCounts config network
+  pub bounded : IsBounded (machine_of network)
 
 -- of these packets, in their order, these were sent, and so many were not
 abbrev pub ArePosted : List Packet → List Packet → ℕ → Type 0
@@ -66,24 +69,12 @@ traffic kept = record { sent = kept.sent; unsent = kept.unsent }
 abbrev pub Announces : WorldKept → WorldEvent → Reply → WorldKept → Type 0
 Announces old event reply new = (config : Config) (network : WorldState) → StandsFor old config network → Sends config (traffic old) (machine_of network) event reply (traffic new)
 
--- The packet of this number is taken up by the rules of the protocol at the peer of this one: they say what moves, what the
--- peer knows then, and which messages are due; these are sent, in their order, or counted as unsent.
-pub record TakesUp (config : Config) (old : WorldKept) (peer number : ℕ) (before : State) (report : Report) (new : WorldKept) (after : State) : Type 0 where
-  pub packet : Packet
-  pub at : slice_get old.sent (number - 1) ≡ Some packet
-  pub dues : List Due
-  pub takes : TakesPacket config peer packet.bytes before report dues after
-  pub sent : SendsDues dues (traffic old) (traffic new)
-
-abbrev pub TakesUpDelivered : Config → WorldKept → WorldState → WorldEvent → Reply → WorldKept → WorldState → Type 0
-TakesUpDelivered config old network (Deliver peer number) (Reported report) new after = TakesUp config old peer number (state_of (peer_at network peer)) report new (state_of (peer_at after peer))
-TakesUpDelivered config old network event reply new after = Unit {0}
-
--- For each state that the old network stands for, the event is a step of its peers to one that the new network stands for,
--- in which a delivered packet is taken up by the rules of the protocol.
+-- For each state that the old network stands for, the event is a step of its peers by the rules of the protocol, to one that
+-- the new network stands for: they say which messages are due, and of these each is sent, in their order, or counted.
 abbrev pub KeepsRules : WorldKept → WorldEvent → Reply → WorldKept → Type 0
 KeepsRules old event reply new = (config : Config) (network : WorldState) → StandsFor old config network
-    → (after : WorldState) × WorldStep config no_tests network event reply after × StandsFor new config after × TakesUpDelivered config old network event reply new after
+    → (after : WorldState) × (lost : ℕ) × RuledStep config no_tests network event reply lost after
+    × (new.unsent ≡ min (old.unsent + lost) (2 ^ 64 - 1)) × StandsFor new config after
 
 -- For each state that the old network stands for, a delivered packet is taken up, submessage by submessage.
 abbrev pub MovesOn : WorldKept → WorldEvent → Reply → Type 0

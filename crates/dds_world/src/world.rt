@@ -140,7 +140,7 @@ impl World {
         ensures sends { Announces self.old event result self.new }
         // A delivered packet is taken up, submessage by submessage: what it brings that is due is not left out.
         ensures progress { MovesOn self.old event result }
-        // A delivered packet is taken up by the rules of the protocol, and its answers are sent or counted.
+        // The event is one by the rules of the protocol: each message that they make due is sent, or counted.
         ensures rules { KeepsRules self.old event result self.new }
     {
         match event {
@@ -181,7 +181,7 @@ impl World {
     }
 
     fn call(&mut self, peer: u8, call: Call) -> Reply
-        ensures step { Steps self.old (event.Call peer call) result self.new }
+        ensures step { RuledSteps self.old (event.Call peer call) result self.new }
         ensures sends { Announces self.old (event.Call peer call) result self.new }
     {
         match index_of(peer, self.count()) {
@@ -191,7 +191,7 @@ impl World {
     }
 
     fn tick(&mut self, peer: u8, now: Moment) -> Reply
-        ensures step { Steps self.old (event.Tick peer now) result self.new }
+        ensures step { RuledSteps self.old (event.Tick peer now) result self.new }
         ensures sends { Announces self.old (event.Tick peer now) result self.new }
     {
         match index_of(peer, self.count()) {
@@ -247,8 +247,7 @@ impl World {
 
     /// The report of a packet that found no memory.
     fn unmoved(&self) -> Report
-        ensures report { result ≡ record { moves = []; refused = Some 0 } }
-        ensures few { self.now.unsent < 2 ^ 64 }
+        ensures { result ≡ record { moves = []; refused = Some 0 } }
     {
         Report {
             moves: Sequence::from_vec(Vec::new(self.alloc)),

@@ -15,8 +15,8 @@ returns-in-Ok-clause-sends c = delivered_sends c.args.self.now c.happen_at.new.s
 
 pub returns-in-Err-clause-step : goal.returns-in-Err-clause-step
 returns-in-Err-clause-step c =
-    subst (λ (r : Report). RuledSteps c.args.self.now (world.Deliver (c.args.index + 1) (c.args.sent + 1)) (Reported r) c.args.self.now) (sym c.unmoved.ensures.report)
-    (not_delivered c.args.self.now c.args.index c.args.sent c.requires.within c.requires.sent c.unmoved.ensures.few)
+    subst (λ (r : Report). RuledSteps c.args.self.now (world.Deliver (c.args.index + 1) (c.args.sent + 1)) (Reported r) c.args.self.now) (sym c.unmoved.ensures)
+    (not_delivered c.args.self.now c.args.index c.args.sent c.requires.within c.requires.sent)
 
 pub returns-in-Err-clause-sends : goal.returns-in-Err-clause-sends
 returns-in-Err-clause-sends c = quiet_delivery_sends c.args.self.now (c.args.index + 1) (c.args.sent + 1) (Reported c.unmoved.result)

@@ -1,11 +1,12 @@
 use Rattle.std.proofs.Common.{◌≡◌, ℕ, false, length, subst}
 use Rattle.std.specs.Prelude.{◌&&◌, nat_lt, nat_le}
 use Rattle.dds_world.proofs.Sends.{ticked_sends, refused_tick_sends}
-use Rattle.dds_world.proofs.WorldSteps.{ticked, unknown_tick}
+use Rattle.dds_world.proofs.Ruled.{ticked}
+use Rattle.dds_world.proofs.WorldSteps.{unknown_tick}
 use Rattle.dds_world.proofs.world.World.tick.Goals as goal
 
 pub returns-in-Some-clause-step : goal.returns-in-Some-clause-step
-returns-in-Some-clause-step c = ticked c.args.self.now c.happen_at.new.self c.in-Some.index c.args.peer c.args.now c.happen_at.result c.in-Some.ensures.0 c.happen_at.ensures.acts
+returns-in-Some-clause-step c = ticked c.args.self.now c.happen_at.new.self c.in-Some.index c.args.peer c.args.now c.happen_at.result c.in-Some.ensures.0 c.happen_at.ensures
 
 pub returns-in-Some-clause-sends : goal.returns-in-Some-clause-sends
 returns-in-Some-clause-sends c = ticked_sends c.args.self.now c.happen_at.new.self c.in-Some.index c.args.peer c.args.now c.happen_at.result c.in-Some.ensures.0 c.happen_at.ensures
