@@ -57,18 +57,22 @@ pub record BeginsRound (config : Config) (tests : AllTests) (writer reader : End
   pub lost_asks : ℕ
   pub hears : Delivers config tests ticked reader.peer beat lost_asks heard
 
--- A round: it begins so, a packet with an ACKNACK of the reader to the writer that this sent is delivered at the writer's
--- peer, where no answer is lost, and the answers are delivered at the reader's.
-pub record IsRepairRound (config : Config) (tests : AllTests) (writer reader : Endpoint) (old new : WorldState) : Type 0 where
+-- It goes on: a packet with an ACKNACK of the reader to the writer that this sent is delivered at the writer's peer, where no
+-- answer is lost.
+pub record AsksInRound (config : Config) (tests : AllTests) (writer reader : Endpoint) (old asked : WorldState) : Type 0 where
   pub heard : WorldState
   pub begins : BeginsRound config tests writer reader old heard
   pub ask : Packet
   pub ask_sent : Contains begins.hears.step.packets ask
   pub ask_count : ℤ
   pub ask_of : HasAckNack config ask.bytes writer reader ask_count
-  pub asked : WorldState
   pub answers : Delivers config tests heard writer.peer ask 0 asked
-  pub repairs : DeliversAll config tests asked reader.peer answers.step.packets new
+
+-- A round: it goes on so, and the answers are delivered at the reader's peer.
+pub record IsRepairRound (config : Config) (tests : AllTests) (writer reader : Endpoint) (old new : WorldState) : Type 0 where
+  pub asked : WorldState
+  pub asks : AsksInRound config tests writer reader old asked
+  pub repairs : DeliversAll config tests asked reader.peer asks.answers.step.packets new
 
 -- the configuration has the writer and the reader, of one topic
 pub record IsPair (config : Config) (writer reader : Endpoint) : Type 0 where
@@ -154,6 +158,6 @@ AsksAreSent = (config : Config) (tests : AllTests) (writer reader : Endpoint) (p
 -- the answers of a round go in 32 packets at most
 abbrev pub AnswersAreFew : Type 0
 AnswersAreFew = (config : Config) (tests : AllTests) (writer reader : Endpoint) (place acknowledged : ℕ)
-    (old new : WorldState) → check_refusal config.peers ≡ None → Sound config old → HasUsedCounts config old
+    (old asked : WorldState) → check_refusal config.peers ≡ None → Sound config old → HasUsedCounts config old
     → IsBounded (machine_of old) → IsPair config writer reader → StandsAt old writer reader place acknowledged
-    → (round : IsRepairRound config tests writer reader old new) → length round.answers.step.packets ≤ 32
+    → (asks : AsksInRound config tests writer reader old asked) → length asks.answers.step.packets ≤ 32
