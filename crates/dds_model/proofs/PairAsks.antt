@@ -5,13 +5,15 @@ use Rattle.dds_base.specs.Checked.{check_refusal}
 use Rattle.rtps_reader.specs.declared.step.AckNackDue.{AckNackDue}
 use Rattle.rtps_reader.specs.Answer.{Answers}
 use Rattle.rtps_wire.specs.declared.submessage.Submessage.TheVariants.{AckNack}
+use Rattle.rtps_wire.specs.declared.seek.Sought.TheVariants as sought
 use Rattle.rtps_wire.specs.Messages.{IsWritable, spelling_of}
+use Rattle.rtps_wire.specs.Sought.{Has}
 use Rattle.rtps_wire.proofs.SpellingLaws.{message_again}
 use Rattle.dds_model.specs.declared.endpoint.Endpoint.{Endpoint}
 use Rattle.dds_model.specs.declared.event.Packet.{Packet}
 use Rattle.dds_model.specs.Part.{Writer, writer_changes}
 use Rattle.dds_model.specs.Machine.{AllTests, writer_at}
-use Rattle.dds_model.specs.Protocol.{Due, acknacks_due}
+use Rattle.dds_model.specs.Protocol.{Due, acknacks_due, writer_entity}
 use Rattle.dds_model.specs.World.{WorldState, machine_of, Sound}
 use Rattle.dds_model.specs.Bounds.{IsBounded}
 use Rattle.dds_model.specs.Fresh.{HasUsedCounts, acknacks_used_at}
@@ -20,7 +22,7 @@ use Rattle.dds_model.proofs.CountsWritten.{contains_map}
 use Rattle.dds_model.proofs.Dues.{message_to}
 use Rattle.dds_model.proofs.PairAnswered.{asking, post, all_sent, due_writable}
 use Rattle.dds_model.proofs.PairBegun.{Begun, writer_is, pairing, body, hears, heard_of, the_last, acknacks, packet, place_heard}
-use Rattle.dds_model.proofs.PairHeard.{writer_prefix, reader_prefix, back, ask_body}
+use Rattle.dds_model.proofs.PairHeard.{writer_prefix, reader_prefix, reader_entities, back, ask_body}
 
 -- that of the reader
 abbrev ask_due : (c : Begun) → AckNackDue → Due
@@ -74,6 +76,24 @@ answered_by c few left None is (inl (inl far)) = let le = place_heard c in absur
 answered_by c few left None is (inl (inr used)) = let same = acknacks c in absurd (omega (arith, left, used, same))
 answered_by c few left None is (inr h) = let no = h.0 in absurd cc
 answered_by c few left (Some x) is h = (x, is)
+
+-- So it is also found where it is looked for by the entity ids of the two.
+pub asks_found : (c : Begun) → the_last c < 2 ^ 62 → acknacks_used_at c.old c.writer c.reader < 2 ^ 31 - 1 → c.begins.lost_asks ≡ 0
+    → (p : Packet) × Contains c.begins.hears.step.packets p × (p.to ≡ c.writer.peer)
+    × Has p.bytes (sought.AckNack c.pair.reader_entity (writer_entity c.config c.writer.peer c.writer.number))
+unfolding ask_is_sent
+asks_found c few left none =
+    let found = answered_by c few left (hears c).answer refl (hears c).answers in
+    let sent = ask_is_sent c none found.0 found.1 in
+    let entity : (hears c).is.entity ≡ c.pair.reader_entity =
+    reader_entities c.config (reader_prefix (pairing c)) (reader_prefix (pairing c)) (hears c).is.entity c.pair.reader_entity c.reader (hears c).is.to c.pair.is_reader in
+    let has : Has sent.packet.bytes (sought.AckNack c.pair.reader_entity (writer_entity c.config c.writer.peer c.writer.number)) = record {
+      message = sent.has.message;
+      offset = sent.has.offset;
+      is_read = sent.has.is_read;
+      has = (AckNack (ask_body (hears c).is.entity (body c).writer_id found.0), (1, omega arith, refl), (entity, refl));
+    } in
+    (sent.packet, sent.among, sent.to, has)
 
 pub asks_are_sent : (config : Config) (tests : AllTests) (writer reader : Endpoint) (place acknowledged : ℕ) (old heard : WorldState) → check_refusal config.peers ≡ None → Sound config old → HasUsedCounts config old
     → IsBounded (machine_of old) → IsPair config writer reader → StandsAt old writer reader place acknowledged → length (writer_changes (writer_at (machine_of old) writer)) < 2 ^ 62 → acknacks_used_at old writer reader < 2 ^ 31 - 1

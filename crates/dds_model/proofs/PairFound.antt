@@ -1,10 +1,10 @@
 -- The HEARTBEAT and the ACKNACK of a round, as they are looked for among the packets that were sent.
-use Rattle.std.proofs.Common.{◌≡◌, ℕ, ℤ, List, [], ◌∷◌, Option, Some, None, Contains, length, slice_get}
+use Rattle.std.proofs.Common.{◌≡◌, ℕ, zero, suc, ℤ, List, [], ◌∷◌, Option, Some, None, Contains, length, slice_get}
 use Rattle.std.proofs.Common.{refl, subst, ap, sym, ◌∙◌, inl, inr, ⊎_elim, arith}
 use Rattle.std.specs.List.{All}
 use Rattle.std.proofs.lemmas.List.Elements.{All-contains}
 use Rattle.dds_base.specs.declared.config.Config.{Config}
-use Rattle.dds_base.specs.declared.config.PeerConfig.{PeerConfig}
+use Rattle.dds_base.specs.declared.config.WriterConfig.{WriterConfig}
 use Rattle.dds_base.specs.declared.guid.EntityId.{EntityId}
 use Rattle.dds_base.specs.declared.guid.GuidPrefix.{GuidPrefix}
 use Rattle.dds_base.specs.Checked.{check_refusal}
@@ -22,7 +22,7 @@ use Rattle.dds_model.specs.declared.event.Packet.{Packet}
 use Rattle.dds_model.specs.declared.event.WorldEvent.TheVariants as world
 use Rattle.dds_model.specs.declared.reply.Reply.TheVariants.{Done, Reported}
 use Rattle.dds_model.specs.Part.{Part}
-use Rattle.dds_model.specs.Claims.{IsWriter, IsReader}
+use Rattle.dds_model.specs.Claims.{Receiver, receiver_of, after_submessage, StandsAt, IsWriter, IsReader}
 use Rattle.dds_model.specs.Receipt.{prefix_of}
 use Rattle.dds_model.specs.Dues.{IsPartOf}
 use Rattle.dds_model.specs.Machine.{AllTests}
@@ -33,11 +33,11 @@ use Rattle.dds_model.specs.World.{WorldState, peer_at}
 use Rattle.dds_model.specs.Backed.{reader_at}
 use Rattle.dds_model.specs.Fresh.{HasHeartbeat, HasAckNack}
 use Rattle.dds_model.specs.Rules.{RuledStep}
-use Rattle.dds_model.proofs.Composed.{front_or_rest}
+use Rattle.dds_model.proofs.Composed.{front_or_rest, later_in}
 use Rattle.dds_model.proofs.CountsWritten.{read_again, one_sought}
 use Rattle.dds_model.proofs.Dues.{addressed, message_to}
 use Rattle.dds_model.proofs.DuesHeartbeats.{of_all}
-use Rattle.dds_model.proofs.DuesMatched.{own_name}
+use Rattle.dds_model.proofs.DuesMatched.{own_name, same_end}
 use Rattle.dds_model.proofs.FreshCounts.{IsWrittenOf, sent_written}
 use Rattle.dds_model.proofs.OwnGuids.{one_reader}
 use Rattle.dds_model.proofs.PairAnswered.{asking}
@@ -101,6 +101,25 @@ beat_found config tests old now lost new writer packet of here h among has =
         All-contains (IsFoundBeat config writer) (heartbeats_due config writer.peer (peer_at old writer.peer).part) d.due
         (beats_found config (peer_at old writer.peer).part writer of here)
         (subst (λ (ds : List Due). Contains ds d.due) h.due d.among)
+
+-- a packet with a HEARTBEAT of the writer is found where it is looked for by the entity id
+pub beat_sought : (config : Config) (writer : Endpoint) (bytes : List ℕ) (count : ℤ) (prefix : GuidPrefix) (entity : EntityId) → IsWriter config prefix entity writer → HasHeartbeat config bytes writer count
+    → Has bytes (sought.Heartbeat entity)
+beat_sought config writer bytes count prefix entity name h = record {
+  message = h.message;
+  offset = h.offset;
+  is_read = h.is_read;
+  has = (
+    Heartbeat h.heartbeat,
+    stands_among h.own (receiver_of h.message.prefix) h.message.submessages h.index h.at (Heartbeat h.heartbeat) h.stands,
+    sym h.from.same_entity ∙ (ap (λ (w : WriterConfig). w.entity) (same_end config h.at.source_guid_prefix prefix h.heartbeat.writer_id entity writer writer h.from name refl) ∙ name.same_entity),
+  );
+}
+  where
+    stands_among : (own : GuidPrefix) (from : Receiver) (ss : List Submessage) (index : ℕ) (at : Receiver) (x : Submessage) → StandsAt own from ss index at x → Contains ss x
+    stands_among own from [] index at x k = absurd k
+    stands_among own from (y ∷ ys) zero at x k = (0, omega arith, sym k.1)
+    stands_among own from (y ∷ ys) (suc index) at x k = later_in y ys x (stands_among own (after_submessage own from y) ys index at x k)
 
 -- ---- the ACKNACK
 

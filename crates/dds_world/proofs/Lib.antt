@@ -5,3 +5,5 @@ pub mod Ruled
 pub mod RunSteps
 pub mod Opened
 pub mod Rounds
+pub mod Caught
+pub mod CatchingUp

@@ -132,12 +132,12 @@ stage_steps Is from peer Next old events replies new next h =
     ⊎_elim (λ f. steps_as old events [] replies [] new f.0 f.1 f.2)
     (λ f. steps_as old events (world.Deliver peer f.0 ∷ f.3) replies (f.1 ∷ f.4) new f.7 f.8 (f.2, f.6, next f.2 f.3 f.4 f.9)) h
 
-acks_steps : (m : Matched) (from : ℕ) (old : WorldKept) (events : List WorldEvent) (replies : List RoundReply) (new : WorldKept) → Acknowledging m from old events replies new → AreSteps old events replies new
+pub acks_steps : (m : Matched) (from : ℕ) (old : WorldKept) (events : List WorldEvent) (replies : List RoundReply) (new : WorldKept) → Acknowledging m from old events replies new → AreSteps old events replies new
 acks_steps m from old events replies new h =
     stage_steps (IsTo m.writer.peer (sought.AckNack m.pair.reader m.pair.writer)) from m.writer.peer (Answering m (length old.sent)) old events replies new
     (λ mid es rs a. a.1) h
 
-beats_steps : (m : Matched) (from : ℕ) (old : WorldKept) (events : List WorldEvent) (replies : List RoundReply) (new : WorldKept) → Beating m from old events replies new → AreSteps old events replies new
+pub beats_steps : (m : Matched) (from : ℕ) (old : WorldKept) (events : List WorldEvent) (replies : List RoundReply) (new : WorldKept) → Beating m from old events replies new → AreSteps old events replies new
 beats_steps m from old events replies new h =
     stage_steps (IsTo m.reader.peer (sought.Heartbeat m.pair.writer)) from m.reader.peer (Acknowledging m (length old.sent)) old events replies new
     (λ mid es rs a. acks_steps m (length old.sent) mid es rs new a) h

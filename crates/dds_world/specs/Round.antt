@@ -2,7 +2,8 @@
 -- HEARTBEAT, the reader's ACKNACK, and its answers, each delivered once.
 --
 -- RTPS 2.5, 8.4.9 (reliable StatefulWriter), 8.4.12 (reliable StatefulReader).
-use Rattle.std.specs.Prelude.{◌≡◌, ℕ, ◌+◌, ◌-◌, ◌<◌, ◌≤◌, min, if◌then◌else◌, List, [], ◌∷◌, length, map, is_some, Option, Some, None}
+use Rattle.std.specs.Prelude.{◌≡◌, ◌⊎◌, ℕ, ◌+◌, ◌-◌, ◌^◌, ◌<◌, ◌≤◌, min, if◌then◌else◌, Bool, true, false, not, List, [], ◌∷◌, length, map, is_some, Option, Some, None}
+use Rattle.std.specs.List.{list_all}
 use Rattle.dds_base.specs.declared.code.Code.{Code}
 use Rattle.dds_base.specs.declared.code.Code.TheVariants.{BadParameter}
 use Rattle.dds_base.specs.declared.config.Config.{Config}
@@ -16,8 +17,13 @@ use Rattle.dds_model.specs.declared.event.Packet.{Packet}
 use Rattle.dds_model.specs.declared.event.WorldEvent.{WorldEvent}
 use Rattle.dds_model.specs.declared.event.WorldEvent.TheVariants.{Tick, Deliver}
 use Rattle.dds_model.specs.Claims.{IsNumbered}
-use Rattle.dds_model.specs.Machine.{Machine, part_at, writer_at}
-use Rattle.dds_model.specs.Part.{acknowledged_of}
+use Rattle.dds_model.specs.declared.reply.Reply.{Reply}
+use Rattle.dds_model.specs.declared.reply.Reply.TheVariants.{Done, Reported}
+use Rattle.dds_model.specs.Fresh.{heartbeats_used_at, acknacks_used_at}
+use Rattle.dds_model.specs.Machine.{Machine, no_tests, part_at, place_at, writer_at}
+use Rattle.dds_model.specs.Part.{acknowledged_of, writer_changes}
+use Rattle.dds_model.specs.Repair.{HasCaughtUp}
+use Rattle.dds_model.specs.Rules.{RuledStep}
 use Rattle.dds_model.specs.Protocol.{writer_entity}
 use Rattle.dds_model.specs.World.{WorldState, machine_of}
 use Rattle.dds_core.specs.Pairs.{reader_entity}
@@ -109,3 +115,39 @@ pub record Rounds (old : WorldKept) (writer reader : Endpoint) (replies : List R
   pub run : Runs old events (map (λ (r : RoundReply). r.reply) replies) new
   pub steps : AreSteps old events replies new
   pub round : (config : Config) (network : WorldState) → StandsFor old config network → IsRound config network writer reader new.sent events replies
+
+-- memory was found for all of what this answers
+abbrev pub is_whole : Reply → Bool
+is_whole Done = true
+is_whole (Reported report) = not (is_some report.refused)
+is_whole other = false
+
+-- What may keep a round from its end, which its replies and the counts of unsent packets show: a reply that lacked memory;
+-- packets that were not sent, or a count of those that stood at its greatest value; or a writer without counts for its
+-- HEARTBEAT, or a reader without counts for its ACKNACK, where the round ends before that.
+abbrev pub IsHindered : WorldState → Endpoint → Endpoint → WorldKept → List RoundReply → WorldKept → Type 0
+IsHindered network writer reader old replies new =
+    (list_all (λ (r : RoundReply). is_whole r.reply) replies ≡ false)
+    ⊎ (old.unsent < new.unsent) ⊎ (2 ^ 64 - 1 ≤ old.unsent)
+    ⊎ ((length replies ≡ 1) × (2 ^ 31 - 1 ≤ heartbeats_used_at network writer))
+    ⊎ ((length replies ≡ 2) × (2 ^ 31 - 1 ≤ acknacks_used_at network writer reader))
+
+-- a run of a network's peers by the rules of the protocol
+abbrev pub RuledRun : Config → WorldState → List WorldEvent → List Reply → WorldState → Type 0
+RuledRun config old [] [] new = new ≡ old
+RuledRun config old (event ∷ events) (reply ∷ replies) new =
+    (mid : WorldState) × (lost : ℕ) × RuledStep config no_tests old event reply lost mid
+    × RuledRun config mid events replies new
+RuledRun config old [] (reply ∷ replies) new = ⊥
+RuledRun config old (event ∷ events) [] new = ⊥
+
+-- For each state that the old network stands for, the replies are a run of its peers by the rules, to one that the new network
+-- stands for. There the reader has gone on by 256 numbers, or to the end of the writer's list, or to a change that has no room,
+-- and the writer knows of all that the reader had before, unless something hindered the round.
+abbrev pub CatchesUp : WorldKept → Endpoint → Endpoint → List RoundReply → WorldKept → Type 0
+CatchesUp old writer reader replies new = (config : Config) (network : WorldState) (place : ℕ) → StandsFor old config network
+    → place_at (machine_of network) reader writer ≡ Some place
+    → (events : List WorldEvent) × (after : WorldState)
+    × RuledRun config network events (map (λ (r : RoundReply). r.reply) replies) after × StandsFor new config after
+    × (IsHindered network writer reader old replies new
+    ⊎ HasCaughtUp after writer reader place (length (writer_changes (writer_at (machine_of network) writer))))

@@ -4,7 +4,7 @@
 
 ghost use Rattle.std.specs.Prelude.{◌≡◌, ◌++◌, ◌+◌, ◌<◌, ◌≤◌, ◌↔◌, List, [], ◌∷◌, length, vec_len, vec_capacity, IsTrue, IfOk, IfErr, OnErr, MatchOption};
 ghost use Rattle.dds_world.specs.declared.round.RoundReply.{RoundReply as ReplyOf};
-ghost use Rattle.dds_world.specs.Round.{answers_at, AreMatched, AreSteps, HasNone, IsFirst, IsStep, IsTo, RefusesRound, Rounds};
+ghost use Rattle.dds_world.specs.Round.{answers_at, AreMatched, AreSteps, CatchesUp, HasNone, IsFirst, IsStep, IsTo, RefusesRound, Rounds};
 ghost use Rattle.dds_world.specs.Repairing.{Acknowledging, Adds, Beating, IsKnown, NotMatched};
 
 use crate::world::{World, index_of};
@@ -65,6 +65,8 @@ impl World {
     ) -> Result<Sequence<RoundReply>, Code>
         // The replies are a run over the events of a round, with the counts as they stood after each.
         ensures round { IfOk result (λ replies. Rounds self.old writer reader replies self.new) }
+        // After them the reader has caught up, unless a reply, the count of unsent packets or used counts say why not.
+        ensures catches_up { IfOk result (λ replies. CatchesUp self.old writer reader replies self.new) }
         // There is a round only where the two are matched.
         ensures matched { IfOk result (λ replies. AreMatched self.old writer reader) }
         // It is refused where they are not, or else for want of memory.

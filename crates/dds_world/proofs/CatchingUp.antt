@@ -1,0 +1,506 @@
+-- A round by its stages: after it the reader has caught up, unless something hindered it.
+use Rattle.std.proofs.Common.{◌≡◌, ◌⊎◌, ℕ, ℤ, zero, suc, ◌+◌, ◌-◌, ◌^◌, ◌<◌, ◌≤◌, min, Bool, true, false, List, [], ◌∷◌, ◌++◌}
+use Rattle.std.proofs.Common.{Option, Some, None, Contains, map, length, slice_get, is_some}
+use Rattle.std.proofs.Common.{refl, subst, ap, sym, ◌∙◌, inl, inr, ⊎_elim, arith, length-append}
+use Rattle.std.specs.Prelude.{IsSome}
+use Rattle.std.proofs.lemmas.Bool.{cases_lt}
+use Rattle.dds_base.specs.declared.config.Config.{Config}
+use Rattle.dds_base.specs.declared.config.PeerConfig.{PeerConfig}
+use Rattle.dds_base.specs.declared.config.ReaderConfig.{ReaderConfig}
+use Rattle.dds_base.specs.declared.guid.EntityId.{EntityId}
+use Rattle.dds_base.specs.declared.guid.GuidPrefix.{GuidPrefix}
+use Rattle.dds_base.specs.Kept.{numbers_from}
+use Rattle.std.specs.Option.{option_map_or}
+use Rattle.rtps_wire.specs.declared.seek.Sought.{Sought}
+use Rattle.rtps_wire.specs.declared.seek.Sought.TheVariants as sought
+use Rattle.rtps_wire.specs.Sought.{Has}
+use Rattle.dds_model.specs.declared.endpoint.Endpoint.{Endpoint}
+use Rattle.dds_model.specs.declared.event.Packet.{Packet}
+use Rattle.dds_model.specs.declared.event.WorldEvent.{WorldEvent}
+use Rattle.dds_model.specs.declared.event.WorldEvent.TheVariants as world
+use Rattle.dds_model.specs.declared.reply.Reply.{Reply}
+use Rattle.dds_model.specs.declared.reply.Reply.TheVariants.{Done}
+use Rattle.dds_model.specs.Claims.{IsReader, every_reader}
+use Rattle.dds_model.specs.Dues.{IsPartOf}
+use Rattle.dds_model.specs.Fresh.{HasHeartbeat, HasAckNack, heartbeats_used_at, acknacks_used_at}
+use Rattle.dds_model.specs.Machine.{no_tests, place_at, writer_at}
+use Rattle.dds_model.specs.Numbered.{numbered, HasNumber}
+use Rattle.dds_model.specs.Part.{Part, Reader, ReaderProxy, Writer, WriterProxy, NoLess, own_writer, own_proxies, acknowledged_of, place_of, writer_changes}
+use Rattle.dds_model.specs.Protocol.{Known, writer_entity}
+use Rattle.dds_model.specs.Repair.{AsksInRound, BeginsRound, Delivers, DeliversAll, HasCaughtUp, IsRepairRound, StandsAt}
+use Rattle.dds_model.specs.Rules.{RuledStep}
+use Rattle.dds_model.specs.World.{WorldState, WorldStep, peer_at, machine_of}
+use Rattle.dds_model.proofs.PairAsked.{has_writer}
+use Rattle.dds_model.proofs.PairAsks.{asks_found}
+use Rattle.dds_model.proofs.PairBeats.{beats_are_sent}
+use Rattle.dds_model.proofs.PairBegun.{Begun, writer_is, place_is}
+use Rattle.dds_model.proofs.PairCaughtUp.{pair_catches_up, answers_are_few}
+use Rattle.dds_model.proofs.PairFound.{beat_found, beat_sought, ask_found_among}
+use Rattle.dds_model.proofs.PairNamed.{PairOf, pair_named}
+use Rattle.dds_model.proofs.PairTicked.{TickLeaves, tick_leaves, ticks_there}
+use Rattle.dds_model.proofs.DuesMatched.{own_name}
+use Rattle.dds_core.specs.Pairs.{reader_entity}
+use Rattle.dds_world.specs.declared.round.Matched.{Matched}
+use Rattle.dds_world.specs.declared.round.RoundReply.{RoundReply}
+use Rattle.dds_world.specs.Repairing.{Knows, IsKnown, Answering, Acknowledging, Beating}
+use Rattle.dds_world.specs.Round.{CatchesUp, IsHindered, IsStep, AreSteps, IsTo, HasNone, IsFirst, RuledRun, answers_at, is_whole}
+use Rattle.dds_world.specs.WorldStanding.{WorldKept, StandsFor}
+use Rattle.dds_world.proofs.Caught.{CoreAt, core_at, place_known, few_changes, Went, went, sent_by, whole_tick, delivers, replies_of, are_whole, both_are, Ran, ran, unsent_on, none_lost, deliver_all, later_packet, among_none, get_later}
+use Rattle.dds_world.proofs.Rounds.{acks_steps, beats_steps}
+
+-- ---- what is known at the beginning
+
+-- the acknowledgement of a matched reader
+some_is : (o : Option ℕ) → IsSome o → (x : ℕ) × (o ≡ Some x)
+some_is (Some x) h = (x, refl)
+some_is None h = absurd cc
+
+-- the entity id that the configuration gives a reader
+entity_is : (config : Config) (prefix : GuidPrefix) (entity : EntityId) (r : Endpoint) → IsReader config prefix entity r → reader_entity config r.peer r.number ≡ entity
+entity_is config prefix entity r is =
+    ap (λ (o : Option PeerConfig). option_map_or (λ (p : PeerConfig). option_map_or (λ (x : ReaderConfig). x.entity) (slice_get p.readers (r.number - 1)) every_reader) o every_reader) is.at_peer.1
+    ∙ (ap (λ (o : Option ReaderConfig). option_map_or (λ (x : ReaderConfig). x.entity) o every_reader) is.at_reader.1 ∙ is.same_entity)
+
+-- a tick of the writer's peer, for which memory was found and at which nothing was lost
+record Tick : Type 0 where
+  config : Config
+  network : WorldState
+  old : WorldKept
+  mid : WorldKept
+  m : Matched
+  place : ℕ
+  ticked : RoundReply
+  s : StandsFor old config network
+  at : place_at (machine_of network) m.reader m.writer ≡ Some place
+  known : Knows config network m
+  step : IsStep old (world.Tick m.writer.peer m.moment) ticked mid
+  whole : is_whole ticked.reply ≡ true
+  same : mid.unsent ≤ old.unsent
+  below : old.unsent < 2 ^ 64 - 1
+
+w0 : (t : Tick) → Went t.config t.network t.old (world.Tick t.m.writer.peer t.m.moment) t.ticked.reply t.mid
+w0 t = went t.config t.network t.old (world.Tick t.m.writer.peer t.m.moment) t.ticked t.mid t.step t.s
+
+abbrev after_tick : Tick → WorldState
+after_tick t = (w0 t).after
+
+ruled0 : (t : Tick) → RuledStep t.config no_tests t.network (world.Tick t.m.writer.peer t.m.moment) Done 0 (after_tick t)
+ruled0 t =
+    subst (λ (n : ℕ). RuledStep t.config no_tests t.network (world.Tick t.m.writer.peer t.m.moment) Done n (after_tick t)) (none_lost t.old.unsent (w0 t).lost t.mid.unsent (w0 t).unsent t.same t.below)
+    (subst (λ (r : Reply). RuledStep t.config no_tests t.network (world.Tick t.m.writer.peer t.m.moment) r (w0 t).lost (after_tick t))
+    (whole_tick t.config t.network t.m.writer.peer t.m.moment t.ticked.reply (after_tick t) t.whole (w0 t).ruled.step) (w0 t).ruled)
+
+sent0 : (t : Tick) → t.mid.sent ≡ t.old.sent ++ (ruled0 t).packets
+sent0 t = sent_by t.config t.network t.old (world.Tick t.m.writer.peer t.m.moment) Done 0 (after_tick t) t.mid t.s (w0 t).stands (ruled0 t)
+
+abbrev part : Tick → Part
+part t = (peer_at t.network t.m.writer.peer).part
+
+there : (t : Tick) → HasNumber t.network.peers t.m.writer.peer
+there t = ticks_there t.config no_tests t.network t.m.writer.peer t.m.moment (after_tick t) (ruled0 t).step
+
+core : (t : Tick) → CoreAt t.config t.network t.m.writer.peer
+core t = core_at t.old t.config t.network t.m.writer.peer t.s (there t)
+
+of : (t : Tick) → IsPartOf t.config t.m.writer.peer (part t)
+of t = t.s.used.of_config t.m.writer.peer (there t)
+
+acknowledged : Tick → ℕ
+acknowledged t = (some_is (acknowledged_of (writer_at (machine_of t.network) t.m.writer).readers t.m.reader) t.known.matched).0
+
+abbrev the_last : Tick → ℕ
+the_last t = length (writer_changes (writer_at (machine_of t.network) t.m.writer))
+
+row : (t : Tick) → acknowledged_of (writer_at (machine_of t.network) t.m.writer).readers t.m.reader ≡ Some (acknowledged t)
+unfolding acknowledged
+row t = (some_is (acknowledged_of (writer_at (machine_of t.network) t.m.writer).readers t.m.reader) t.known.matched).1
+
+own_row : (t : Tick) → acknowledged_of (own_writer (part t) t.m.writer.number).readers t.m.reader ≡ Some (acknowledged t)
+own_row t = subst (λ (w : Writer). acknowledged_of w.readers t.m.reader ≡ Some (acknowledged t)) (writer_is t.network t.m.writer) (row t)
+
+here : (t : Tick) → HasNumber (part t).rtps.writers t.m.writer.number
+here t = has_writer (part t) t.m.writer.number t.m.reader (acknowledged t, own_row t)
+
+pair : (t : Tick) → PairOf t.config t.m.writer t.m.reader
+pair t = pair_named t.config t.m.writer t.m.reader (part t) (acknowledged t) (of t) (own_row t)
+
+stands : (t : Tick) → StandsAt t.network t.m.writer t.m.reader t.place (acknowledged t)
+stands t =
+    let k = place_known t.old t.config t.network t.m.writer t.m.reader t.place t.s t.at in
+    record { here = k.here; place_is = t.at; known = k.known; acknowledged_is = row t }
+
+few : (t : Tick) → the_last t < 2 ^ 62
+few t =
+    subst (λ (w : Writer). length (writer_changes w) < 2 ^ 62) (sym (writer_is t.network t.m.writer))
+    (few_changes (core t).core t.config (peer_at t.network t.m.writer.peer) t.m.writer.number (core t).stands (here t))
+
+-- ---- what a round ends with
+
+abbrev Ends : Tick → List RoundReply → WorldKept → Type 0
+Ends t replies new = (events : List WorldEvent) × (after : WorldState) × RuledRun t.config t.network events (replies_of replies) after × StandsFor new t.config after
+    × (IsHindered t.network t.m.writer t.m.reader t.old replies new ⊎ HasCaughtUp after t.m.writer t.m.reader t.place (the_last t))
+
+ends_as : (t : Tick) (replies replies' : List RoundReply) (new new' : WorldKept) → replies ≡ replies' → new ≡ new' → Ends t replies' new' → Ends t replies new
+ends_as t replies replies' new new' r n h = subst (λ (k : WorldKept). Ends t replies k) (sym n) (subst (λ (rs : List RoundReply). Ends t rs new') (sym r) h)
+
+-- ---- no HEARTBEAT was sent
+
+-- where the reader is not behind, it has caught up already
+not_behind : (t : Tick) → the_last t < acknowledged t → HasCaughtUp (after_tick t) t.m.writer t.m.reader t.place (the_last t)
+not_behind t past =
+    record {
+      place = t.place;
+      acknowledged = acknowledged t;
+      stands = record {
+        here = subst (λ (rs : List Reader). HasNumber rs t.m.reader.number) (sym (left t.m.reader.peer).readers) (stands t).here;
+        place_is = place_is (after_tick t) t.m.reader t.m.writer
+            ∙ (ap (λ (rows : List (List WriterProxy)). place_of (numbered_rows rows) t.m.writer) (left t.m.reader.peer).rows ∙ (sym (place_is t.network t.m.reader t.m.writer) ∙ t.at));
+        known = ap (λ (k : Known). (k.tracked t.m.writer t.m.reader.number).place) (left t.m.reader.peer).known ∙ (stands t).known;
+        acknowledged_is = ap (λ (w : Writer). acknowledged_of w.readers t.m.reader) (writer_is (after_tick t) t.m.writer)
+            ∙ (ap (λ (rows : List ReaderProxy). acknowledged_of rows t.m.reader) ((left t.m.writer.peer).acknowledged t.m.writer.number) ∙ own_row t);
+      };
+      reached = inl (omega (arith, past, low));
+      told = omega (arith, past, high);
+    }
+  where
+    left : (p : ℕ) → TickLeaves t.network (after_tick t) p
+    left p = tick_leaves t.config no_tests t.network t.m.writer.peer t.m.moment (after_tick t) (ruled0 t).step p
+
+    numbered_rows : List (List WriterProxy) → List WriterProxy
+    numbered_rows rows = numbered rows t.m.reader.number []
+
+    low : acknowledged t ≤ t.place
+    low =
+        subst (λ (o : Option ℕ). NoLess o (Some t.place)) (row t)
+        (subst (λ (o : Option ℕ). NoLess (acknowledged_of (writer_at (machine_of t.network) t.m.writer).readers t.m.reader) o) t.at (t.s.sound.acknowledged t.m.writer t.m.reader))
+
+    high : t.place ≤ the_last t + 1
+    high = t.s.bounded t.m.reader t.m.writer t.place t.at
+
+-- a HEARTBEAT that was sent is found
+beat_is_found : (t : Tick) → acknowledged t ≤ the_last t → heartbeats_used_at t.network t.m.writer < 2 ^ 31 - 1
+    → HasNone (IsTo t.m.reader.peer (sought.Heartbeat t.m.pair.writer)) t.mid.sent (length t.old.sent) (length t.mid.sent) → ⊥
+beat_is_found t behind left none =
+    let beat = beats_are_sent t.config no_tests t.m.writer t.m.reader (acknowledged t) t.m.moment t.network (after_tick t) (core t).stands.is_peer.checked t.s.used (row t) behind left (ruled0 t) in
+    let name = own_name t.config t.m.writer.peer (part t) (of t) t.m.writer.number (here t) in
+    let has : Has beat.packet.bytes (sought.Heartbeat t.m.pair.writer) =
+    subst (λ (e : EntityId). Has beat.packet.bytes (sought.Heartbeat e)) (sym t.known.writer)
+    (beat_sought t.config t.m.writer beat.packet.bytes beat.count _ (writer_entity t.config t.m.writer.peer t.m.writer.number) name.name beat.has) in
+    among_none (IsTo t.m.reader.peer (sought.Heartbeat t.m.pair.writer)) t.old.sent (ruled0 t).packets t.mid.sent beat.packet (sent0 t) beat.among (beat.to, has) none
+
+no_beat : (t : Tick) → HasNone (IsTo t.m.reader.peer (sought.Heartbeat t.m.pair.writer)) t.mid.sent (length t.old.sent) (length t.mid.sent) → Ends t (t.ticked ∷ []) t.mid
+no_beat t none = (
+  world.Tick t.m.writer.peer t.m.moment ∷ [],
+  after_tick t,
+  (after_tick t, (w0 t).lost, (w0 t).ruled, refl),
+  (w0 t).stands,
+  ⊎_elim (λ past. inr (not_behind t past))
+      (λ behind.
+      ⊎_elim (λ left. absurd (beat_is_found t behind left none)) (λ used. inl (inr (inr (inr (inl (refl, used))))))
+      (cases_lt (heartbeats_used_at t.network t.m.writer) (2 ^ 31 - 1)))
+      (cases_lt (the_last t) (acknowledged t)),
+)
+
+-- ---- the HEARTBEAT was heard
+
+record Hear : Type 0 where
+  t : Tick
+  k : ℕ
+  heard : RoundReply
+  mid : WorldKept
+  first : IsFirst (IsTo t.m.reader.peer (sought.Heartbeat t.m.pair.writer)) t.mid.sent (length t.old.sent) (length t.mid.sent) k
+  step : IsStep t.mid (world.Deliver t.m.reader.peer k) heard mid
+  whole : is_whole heard.reply ≡ true
+  same : mid.unsent ≤ t.old.unsent
+  more : t.old.unsent ≤ t.mid.unsent
+
+w1 : (h : Hear) → Went h.t.config (after_tick h.t) h.t.mid (world.Deliver h.t.m.reader.peer h.k) h.heard.reply h.mid
+w1 h = went h.t.config (after_tick h.t) h.t.mid (world.Deliver h.t.m.reader.peer h.k) h.heard h.mid h.step (w0 h.t).stands
+
+abbrev after_beat : Hear → WorldState
+after_beat h = (w1 h).after
+
+hears : (h : Hear) → Delivers h.t.config no_tests (after_tick h.t) h.t.m.reader.peer h.first.packet (w1 h).lost (after_beat h)
+hears h = delivers h.t.config (after_tick h.t) h.t.mid h.t.m.reader.peer h.k h.first.packet h.heard.reply h.mid (w0 h.t).stands h.first.at.1 h.whole (w1 h)
+
+among1 : (h : Hear) → Contains (ruled0 h.t).packets h.first.packet
+among1 h =
+    let above = h.first.above in
+    later_packet h.t.old.sent (ruled0 h.t).packets (h.k - 1) h.first.packet (omega (arith, above))
+    (subst (λ (ps : List Packet). slice_get ps (h.k - 1) ≡ Some h.first.packet) (sent0 h.t) h.first.at.1)
+
+beat_has : (h : Hear) → (count : ℤ) × HasHeartbeat h.t.config h.first.packet.bytes h.t.m.writer count
+beat_has h =
+    beat_found h.t.config no_tests h.t.network h.t.m.moment 0 (after_tick h.t) h.t.m.writer h.first.packet (of h.t) (here h.t) (ruled0 h.t) (among1 h)
+    (subst (λ (e : EntityId). Has h.first.packet.bytes (sought.Heartbeat e)) h.t.known.writer h.first.is.1)
+
+begins : (h : Hear) → BeginsRound h.t.config no_tests h.t.m.writer h.t.m.reader h.t.network (after_beat h)
+begins h = record {
+  now = h.t.m.moment;
+  ticked = after_tick h.t;
+  lost_beats = 0;
+  ticks = ruled0 h.t;
+  beat = h.first.packet;
+  beat_sent = among1 h;
+  beat_to = h.first.is.0;
+  beat_count = (beat_has h).0;
+  beat_of = (beat_has h).1;
+  lost_asks = (w1 h).lost;
+  hears = hears h;
+}
+
+begun : Hear → Begun
+begun h = record {
+  config = h.t.config;
+  tests = no_tests;
+  writer = h.t.m.writer;
+  reader = h.t.m.reader;
+  place = h.t.place;
+  acknowledged = acknowledged h.t;
+  old = h.t.network;
+  heard = after_beat h;
+  checked = (core h.t).stands.is_peer.checked;
+  sound = h.t.s.sound;
+  used = h.t.s.used;
+  bounded = h.t.s.bounded;
+  pair = (pair h.t).pair;
+  stands = stands h.t;
+  begins = begins h;
+}
+
+none1 : (h : Hear) → (w1 h).lost ≡ 0
+none1 h =
+    let same = h.same in
+    let more = h.more in
+    let below = h.t.below in
+    let first = h.t.same in
+    none_lost h.t.mid.unsent (w1 h).lost h.mid.unsent (w1 h).unsent (omega (arith, same, more)) (omega (arith, below, first))
+
+sent1 : (h : Hear) → h.mid.sent ≡ h.t.mid.sent ++ (hears h).step.packets
+sent1 h = sent_by h.t.config (after_tick h.t) h.t.mid (world.Deliver h.t.m.reader.peer (hears h).number) _ (w1 h).lost (after_beat h) h.mid (w0 h.t).stands (w1 h).stands (hears h).step
+
+-- the ACKNACK, as it is looked for
+abbrev ask_of : Hear → Sought
+ask_of h = sought.AckNack h.t.m.pair.reader h.t.m.pair.writer
+
+ask_is : (h : Hear) → sought.AckNack (pair h.t).pair.reader_entity (writer_entity h.t.config h.t.m.writer.peer h.t.m.writer.number) ≡ ask_of h
+ask_is h =
+    let r : h.t.m.pair.reader ≡ (pair h.t).pair.reader_entity =
+    h.t.known.reader ∙ entity_is h.t.config _ (pair h.t).pair.reader_entity h.t.m.reader (pair h.t).pair.is_reader in
+    let w = h.t.known.writer in cc
+
+-- one that was sent is found
+ask_is_found : (h : Hear) → acknacks_used_at h.t.network h.t.m.writer h.t.m.reader < 2 ^ 31 - 1
+    → HasNone (IsTo h.t.m.writer.peer (ask_of h)) h.mid.sent (length h.t.mid.sent) (length h.mid.sent) → ⊥
+unfolding begun begins w1 hears
+ask_is_found h left none =
+    let last : the_last h.t ≡ length (writer_changes (own_writer (part h.t) h.t.m.writer.number)) = ap (λ (w : Writer). length (writer_changes w)) (writer_is h.t.network h.t.m.writer) in
+    let small = few h.t in
+    let ask = asks_found (begun h) (omega (arith, small, last)) left (none1 h) in
+    among_none (IsTo h.t.m.writer.peer (ask_of h)) h.t.mid.sent (hears h).step.packets h.mid.sent ask.0 (sent1 h) ask.1
+    (ask.2, subst (λ (x : Sought). Has ask.0.bytes x) (ask_is h) ask.3) none
+
+no_ask : (h : Hear) → HasNone (IsTo h.t.m.writer.peer (ask_of h)) h.mid.sent (length h.t.mid.sent) (length h.mid.sent) → Ends h.t (h.t.ticked ∷ h.heard ∷ []) h.mid
+no_ask h none = (
+  world.Tick h.t.m.writer.peer h.t.m.moment ∷ world.Deliver h.t.m.reader.peer h.k ∷ [],
+  after_beat h,
+  (after_tick h.t, (w0 h.t).lost, (w0 h.t).ruled, (after_beat h, (w1 h).lost, (w1 h).ruled, refl)),
+  (w1 h).stands,
+  inl
+      (⊎_elim (λ left. absurd (ask_is_found h left none)) (λ used. inr (inr (inr (inr (refl, used)))))
+      (cases_lt (acknacks_used_at h.t.network h.t.m.writer h.t.m.reader) (2 ^ 31 - 1))),
+)
+
+-- ---- the ACKNACK was taken
+
+record Ask : Type 0 where
+  h : Hear
+  k : ℕ
+  asked : RoundReply
+  mid : WorldKept
+  first : IsFirst (IsTo h.t.m.writer.peer (ask_of h)) h.mid.sent (length h.t.mid.sent) (length h.mid.sent) k
+  step : IsStep h.mid (world.Deliver h.t.m.writer.peer k) asked mid
+  whole : is_whole asked.reply ≡ true
+  same : mid.unsent ≤ h.t.old.unsent
+  more : h.t.old.unsent ≤ h.mid.unsent
+
+w2 : (a : Ask) → Went a.h.t.config (after_beat a.h) a.h.mid (world.Deliver a.h.t.m.writer.peer a.k) a.asked.reply a.mid
+w2 a = went a.h.t.config (after_beat a.h) a.h.mid (world.Deliver a.h.t.m.writer.peer a.k) a.asked a.mid a.step (w1 a.h).stands
+
+abbrev after_ask : Ask → WorldState
+after_ask a = (w2 a).after
+
+none2 : (a : Ask) → (w2 a).lost ≡ 0
+none2 a =
+    let same = a.same in
+    let more = a.more in
+    let below = a.h.t.below in
+    let first = a.h.same in
+    none_lost a.h.mid.unsent (w2 a).lost a.mid.unsent (w2 a).unsent (omega (arith, same, more)) (omega (arith, below, first))
+
+takes : (a : Ask) → Delivers a.h.t.config no_tests (after_beat a.h) a.h.t.m.writer.peer a.first.packet 0 (after_ask a)
+takes a =
+    subst (λ (n : ℕ). Delivers a.h.t.config no_tests (after_beat a.h) a.h.t.m.writer.peer a.first.packet n (after_ask a)) (none2 a)
+    (delivers a.h.t.config (after_beat a.h) a.h.mid a.h.t.m.writer.peer a.k a.first.packet a.asked.reply a.mid (w1 a.h).stands a.first.at.1 a.whole (w2 a))
+
+among2 : (a : Ask) → Contains (hears a.h).step.packets a.first.packet
+among2 a =
+    let above = a.first.above in
+    later_packet a.h.t.mid.sent (hears a.h).step.packets (a.k - 1) a.first.packet (omega (arith, above))
+    (subst (λ (ps : List Packet). slice_get ps (a.k - 1) ≡ Some a.first.packet) (sent1 a.h) a.first.at.1)
+
+ask_has : (a : Ask) → (count : ℤ) × HasAckNack a.h.t.config a.first.packet.bytes a.h.t.m.writer a.h.t.m.reader count
+unfolding begun begins hears
+ask_has a = ask_found_among (begun a.h) a.first.packet (among2 a) (subst (λ (x : Sought). Has a.first.packet.bytes x) (sym (ask_is a.h)) a.first.is.1)
+
+asks : (a : Ask) → AsksInRound a.h.t.config no_tests a.h.t.m.writer a.h.t.m.reader a.h.t.network (after_ask a)
+unfolding begins hears
+asks a = record {
+  heard = after_beat a.h;
+  begins = begins a.h;
+  ask = a.first.packet;
+  ask_sent = among2 a;
+  ask_count = (ask_has a).0;
+  ask_of = (ask_has a).1;
+  answers = takes a;
+}
+
+abbrev answers : Ask → List Packet
+answers a = (takes a).step.packets
+
+sent2 : (a : Ask) → a.mid.sent ≡ a.h.mid.sent ++ answers a
+sent2 a = sent_by a.h.t.config (after_beat a.h) a.h.mid (world.Deliver a.h.t.m.writer.peer (takes a).number) _ 0 (after_ask a) a.mid (w1 a.h).stands (w2 a).stands (takes a).step
+
+-- all of them are delivered
+all_answers : (a : Ask) → answers_at a.h.t.m.reader.peer (length a.h.mid.sent) (length a.mid.sent) ≡ map (λ k. world.Deliver a.h.t.m.reader.peer k) (numbers_from (length a.h.mid.sent + 1) (length (answers a)))
+unfolding asks
+all_answers a =
+    let c = a.h.t in
+    let most : length (answers a) ≤ 32 =
+    answers_are_few c.config no_tests c.m.writer c.m.reader c.place (acknowledged c) c.network (after_ask a) (core c).stands.is_peer.checked c.s.sound c.s.used c.s.bounded (pair c).pair (stands c) (asks a) in
+    let size = ap (λ (ps : List Packet). length ps) (sent2 a) in
+    let parts = length-append a.h.mid.sent (answers a) in
+    let count : min 32 (length a.mid.sent - length a.h.mid.sent) ≡ length (answers a) = omega (arith, most, size, parts) in
+    ap (λ (n : ℕ). map (λ k. world.Deliver c.m.reader.peer k) (numbers_from (length a.h.mid.sent + 1) n)) count
+
+answered : (a : Ask) (later : List WorldEvent) (rest : List RoundReply) (new : WorldKept) → are_whole rest ≡ true → Answering a.h.t.m (length a.h.mid.sent) a.mid later rest new
+    → Ends a.h.t (a.h.t.ticked ∷ a.h.heard ∷ a.asked ∷ rest) new
+unfolding asks
+answered a later rest new whole next = (
+  world.Tick c.m.writer.peer c.m.moment ∷ world.Deliver c.m.reader.peer a.h.k ∷ world.Deliver c.m.writer.peer a.k ∷ map (λ k. world.Deliver c.m.reader.peer k) (numbers_from (length a.h.mid.sent + 1) (length (answers a))),
+  all.after,
+  (after_tick c, (w0 c).lost, (w0 c).ruled, (after_beat a.h, (w1 a.h).lost, (w1 a.h).ruled, (after_ask a, (w2 a).lost, (w2 a).ruled, all.run))),
+  all.stands,
+  inr (pair_catches_up c.config no_tests c.m.writer c.m.reader c.place (acknowledged c) c.network all.after (core c).stands.is_peer.checked c.s.sound c.s.used c.s.bounded (pair c).pair (stands c) round),
+)
+  where
+    c : Tick
+    c = a.h.t
+
+    steps : AreSteps a.mid (map (λ k. world.Deliver c.m.reader.peer k) (numbers_from (length a.h.mid.sent + 1) (length (answers a)))) rest new
+    steps = subst (λ (es : List WorldEvent). AreSteps a.mid es rest new) (next.0 ∙ all_answers a) next.1
+
+    at : (k : ℕ) (p : Packet) → slice_get (answers a) k ≡ Some p → slice_get a.mid.sent (length a.h.mid.sent + 1 + k - 1) ≡ Some p
+    at k p is =
+        let index : length a.h.mid.sent + k ≡ length a.h.mid.sent + 1 + k - 1 = omega arith in
+        subst (λ (i : ℕ). slice_get a.mid.sent i ≡ Some p) index
+        (subst (λ (ps : List Packet). slice_get ps (length a.h.mid.sent + k) ≡ Some p) (sym (sent2 a)) (get_later a.h.mid.sent (answers a) k p is))
+
+    all : Ran c.config (after_ask a) (map (λ k. world.Deliver c.m.reader.peer k) (numbers_from (length a.h.mid.sent + 1) (length (answers a)))) rest new (λ x. DeliversAll c.config no_tests (after_ask a) c.m.reader.peer (answers a) x)
+    all = deliver_all c.config c.m.reader.peer (length a.h.mid.sent + 1) (answers a) (after_ask a) a.mid rest new (omega arith) at whole steps (w2 a).stands
+
+    round : IsRepairRound c.config no_tests c.m.writer c.m.reader c.network all.after
+    round = record { asked = after_ask a; asks = asks a; repairs = all.then }
+
+-- ---- the stages
+
+-- what is so of replies that were found whole
+whole_as : (replies rest : List RoundReply) (r : RoundReply) → replies ≡ r ∷ rest → are_whole replies ≡ true → (is_whole r.reply ≡ true) × (are_whole rest ≡ true)
+whole_as replies rest r is whole = both_are (is_whole r.reply) (are_whole rest) (subst (λ (rs : List RoundReply). are_whole rs ≡ true) is whole)
+
+after_hearing : (h : Hear) (events : List WorldEvent) (replies : List RoundReply) (new : WorldKept) → are_whole replies ≡ true → new.unsent ≤ h.t.old.unsent → h.t.old.unsent ≤ h.mid.unsent
+    → Acknowledging h.t.m (length h.t.mid.sent) h.mid events replies new → Ends h.t (h.t.ticked ∷ h.heard ∷ replies) new
+after_hearing h events replies new whole same more next =
+    ⊎_elim
+    (λ f. ends_as h.t (h.t.ticked ∷ h.heard ∷ replies) (h.t.ticked ∷ h.heard ∷ []) new h.mid (ap (λ (rs : List RoundReply). h.t.ticked ∷ h.heard ∷ rs) f.1) f.2 (no_ask h f.3))
+    (λ f.
+    let all = whole_as replies f.4 f.1 f.8 whole in
+    let w = went h.t.config (after_beat h) h.mid (world.Deliver h.t.m.writer.peer f.0) f.1 f.2 f.6 (w1 h).stands in
+    let rest = unsent_on h.t.config w.after f.2 f.3 f.4 new f.9.1 w.stands in
+    let a : Ask = record { h = h; k = f.0; asked = f.1; mid = f.2; first = f.5; step = f.6; whole = all.0; same = omega (arith, rest, same); more = more } in
+    ends_as h.t (h.t.ticked ∷ h.heard ∷ replies) (h.t.ticked ∷ h.heard ∷ f.1 ∷ f.4) new new (ap (λ (rs : List RoundReply). h.t.ticked ∷ h.heard ∷ rs) f.8) refl (answered a f.3 f.4 new all.1 f.9))
+    next
+
+after_ticking : (t : Tick) (events : List WorldEvent) (replies : List RoundReply) (new : WorldKept) → are_whole replies ≡ true → new.unsent ≤ t.old.unsent → t.old.unsent ≤ t.mid.unsent
+    → Beating t.m (length t.old.sent) t.mid events replies new → Ends t (t.ticked ∷ replies) new
+after_ticking t events replies new whole same more next =
+    ⊎_elim
+    (λ f. ends_as t (t.ticked ∷ replies) (t.ticked ∷ []) new t.mid (ap (λ (rs : List RoundReply). t.ticked ∷ rs) f.1) f.2 (no_beat t f.3))
+    (λ f.
+    let all = whole_as replies f.4 f.1 f.8 whole in
+    let w = went t.config (after_tick t) t.mid (world.Deliver t.m.reader.peer f.0) f.1 f.2 f.6 (w0 t).stands in
+    let steps : AreSteps f.2 f.3 f.4 new = acks_steps t.m (length t.mid.sent) f.2 f.3 f.4 new f.9 in
+    let rest = unsent_on t.config w.after f.2 f.3 f.4 new steps w.stands in
+    let one = unsent_on t.config (after_tick t) t.mid (world.Deliver t.m.reader.peer f.0 ∷ []) (f.1 ∷ []) f.2 (f.2, f.6, refl) (w0 t).stands in
+    let h : Hear = record { t = t; k = f.0; heard = f.1; mid = f.2; first = f.5; step = f.6; whole = all.0; same = omega (arith, rest, same); more = more } in
+    ends_as t (t.ticked ∷ replies) (t.ticked ∷ f.1 ∷ f.4) new new (ap (λ (rs : List RoundReply). t.ticked ∷ rs) f.8) refl
+    (after_hearing h f.3 f.4 new all.1 same (omega (arith, one, more)) f.9))
+    next
+
+catches_up : (old : WorldKept) (m : Matched) (ticked : RoundReply) (mid : WorldKept) (events : List WorldEvent) (replies : List RoundReply) (new : WorldKept) → IsKnown old m
+    → IsStep old (world.Tick m.writer.peer m.moment) ticked mid → Beating m (length old.sent) mid events replies new → CatchesUp old m.writer m.reader (ticked ∷ replies) new
+catches_up old m ticked mid events replies new known tick beats config network place s at = by (are_whole (ticked ∷ replies)) refl
+  where
+    steps : AreSteps mid events replies new
+    steps = beats_steps m (length old.sent) mid events replies new beats
+
+    w : Went config network old (world.Tick m.writer.peer m.moment) ticked.reply mid
+    w = went config network old (world.Tick m.writer.peer m.moment) ticked mid tick s
+
+    hindered : IsHindered network m.writer m.reader old (ticked ∷ replies) new
+        → (es : List WorldEvent) × (after : WorldState) × RuledRun config network es (replies_of (ticked ∷ replies)) after × StandsFor new config after
+        × (IsHindered network m.writer m.reader old (ticked ∷ replies) new ⊎ HasCaughtUp after m.writer m.reader place (length (writer_changes (writer_at (machine_of network) m.writer))))
+    hindered why =
+        let r = ran config network old (world.Tick m.writer.peer m.moment ∷ events) (ticked ∷ replies) new (mid, tick, steps) s in
+        (world.Tick m.writer.peer m.moment ∷ events, r.after, r.run, r.stands, inl why)
+
+    good : are_whole (ticked ∷ replies) ≡ true → new.unsent ≤ old.unsent → old.unsent < 2 ^ 64 - 1
+        → (es : List WorldEvent) × (after : WorldState) × RuledRun config network es (replies_of (ticked ∷ replies)) after × StandsFor new config after
+        × (IsHindered network m.writer m.reader old (ticked ∷ replies) new ⊎ HasCaughtUp after m.writer m.reader place (length (writer_changes (writer_at (machine_of network) m.writer))))
+    good whole same below =
+        let all = both_are (is_whole ticked.reply) (are_whole replies) whole in
+        let rest = unsent_on config w.after mid events replies new steps w.stands in
+        let one = unsent_on config network old (world.Tick m.writer.peer m.moment ∷ []) (ticked ∷ []) mid (mid, tick, refl) s in
+        let t : Tick = record {
+          config = config;
+          network = network;
+          old = old;
+          mid = mid;
+          m = m;
+          place = place;
+          ticked = ticked;
+          s = s;
+          at = at;
+          known = known config network s;
+          step = tick;
+          whole = all.0;
+          same = omega (arith, rest, same);
+          below = below;
+        } in
+        after_ticking t events replies new all.1 same one beats
+
+    by : (b : Bool) → are_whole (ticked ∷ replies) ≡ b
+        → (es : List WorldEvent) × (after : WorldState) × RuledRun config network es (replies_of (ticked ∷ replies)) after × StandsFor new config after
+        × (IsHindered network m.writer m.reader old (ticked ∷ replies) new ⊎ HasCaughtUp after m.writer m.reader place (length (writer_changes (writer_at (machine_of network) m.writer))))
+    by false e = hindered (inl e)
+    by true e =
+        ⊎_elim (λ grew. hindered (inr (inl grew)))
+        (λ same. ⊎_elim (λ below. good e same below) (λ full. hindered (inr (inr (inl full)))) (cases_lt old.unsent (2 ^ 64 - 1)))
+        (cases_lt old.unsent new.unsent)
+
+pub all_catches_up : (old : WorldKept) (writer reader : Endpoint) (m : Matched) (ticked : RoundReply) (mid : WorldKept) (replies all : List RoundReply) (new : WorldKept) (events : List WorldEvent) → m.writer ≡ writer → m.reader ≡ reader
+    → all ≡ ticked ∷ replies → IsKnown old m → IsStep old (world.Tick m.writer.peer m.moment) ticked mid → Beating m (length old.sent) mid events replies new → CatchesUp old writer reader all new
+all_catches_up old writer reader m ticked mid replies all new events w r is known tick beats =
+    subst (λ (e : Endpoint). CatchesUp old e reader all new) w
+    (subst (λ (e : Endpoint). CatchesUp old m.writer e all new) r
+    (subst (λ (rs : List RoundReply). CatchesUp old m.writer m.reader rs new) (sym is) (catches_up old m ticked mid events replies new known tick beats)))

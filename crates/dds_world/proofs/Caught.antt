@@ -1,0 +1,260 @@
+-- What a network of a round knows of the pair, and the steps of a round by the rules.
+use Rattle.std.proofs.Common.{◌≡◌, ◌⊎◌, ℕ, zero, suc, ◌+◌, ◌-◌, ◌^◌, ◌<◌, ◌≤◌, ◌&&◌, min, Bool, true, false, not, List, [], ◌∷◌, ◌++◌}
+use Rattle.std.proofs.Common.{Option, Some, None, Contains, map, length, get_or, slice_get, is_some}
+use Rattle.std.proofs.Common.{refl, subst, ap, sym, ◌∙◌, inl, inr, ⊎_elim, arith, length-append}
+use Rattle.std.specs.List.{list_all}
+use Rattle.dds_base.specs.declared.config.Config.{Config}
+use Rattle.dds_base.specs.Checked.{check_refusal}
+use Rattle.dds_base.specs.Kept.{numbers_from}
+use Rattle.dds_model.specs.declared.endpoint.Endpoint.{Endpoint}
+use Rattle.dds_model.specs.declared.event.Event.TheVariants as event
+use Rattle.dds_model.specs.declared.event.Packet.{Packet}
+use Rattle.dds_model.specs.declared.event.WorldEvent.{WorldEvent}
+use Rattle.dds_model.specs.declared.event.WorldEvent.TheVariants as world
+use Rattle.dds_model.specs.declared.reply.Reply.{Reply}
+use Rattle.dds_model.specs.declared.reply.Reply.TheVariants.{Done, Reported}
+use Rattle.dds_model.specs.declared.reply.Report.{Report}
+use Rattle.dds_model.specs.Numbered.{numbered, HasNumber}
+use Rattle.dds_model.specs.Machine.{no_tests, place_at}
+use Rattle.dds_model.specs.Part.{Part, WriterProxy, own_writer, own_proxies, place_of, writer_changes}
+use Rattle.dds_model.specs.Calls.{TickStep}
+use Rattle.dds_model.specs.Peer.{Peer, EventStep, no_peer}
+use Rattle.dds_model.specs.Repair.{Delivers, DeliversAll}
+use Rattle.dds_model.specs.Rules.{RuledStep}
+use Rattle.dds_model.specs.World.{WorldState, WorldStep, peer_at, machine_of}
+use Rattle.dds_model.specs.Fresh.{tracked_at}
+use Rattle.dds_model.proofs.Composed.{contains_at, front_or_rest}
+use Rattle.dds_model.proofs.Framing.{has_reader}
+use Rattle.dds_model.proofs.PairBegun.{place_is}
+use Rattle.dds_model.proofs.Tables.{slice_get-append}
+use Rattle.dds_core.specs.Kept.{CoreKept}
+use Rattle.dds_core.specs.Standing.{StandsFor as CoreStandsFor, IsSound}
+use Rattle.dds_core.proofs.Lists.{element, get-within}
+use Rattle.dds_world.specs.declared.round.RoundReply.{RoundReply}
+use Rattle.dds_world.specs.Round.{IsStep, AreSteps, HasNone, RuledRun, is_whole}
+use Rattle.dds_world.specs.WorldStanding.{WorldKept, StandsFor}
+
+-- ---- the peers
+
+-- what a network keeps of a peer
+pub record CoreAt (config : Config) (network : WorldState) (n : ℕ) : Type 0 where
+  pub core : CoreKept
+  pub stands : CoreStandsFor core config (peer_at network n)
+  pub known : IsSound config (peer_at network n)
+
+pub core_at : (kept : WorldKept) (config : Config) (network : WorldState) (n : ℕ) → StandsFor kept config network → HasNumber network.peers n → CoreAt config network n
+core_at kept config network zero s has = let low = has.0 in absurd (omega (arith, low))
+core_at kept config network (suc i) s has =
+    let count = s.count in
+    let high = has.1 in
+    let found = element kept.peers i (omega (arith, count, high)) in
+    record { core = found.0; stands = s.each i found.0 found.1; known = s.known i found.0 found.1 }
+
+-- a peer that has readers is there
+peer_there : (peers : List Peer) (n r : ℕ) → HasNumber (numbered peers n no_peer).part.rtps.readers r → HasNumber peers n
+peer_there peers zero r has = let low = has.0 in let high = has.1 in absurd (omega (arith, low, high))
+peer_there peers (suc i) r has = (omega arith, within peers i has)
+  where
+    within : (ps : List Peer) (i : ℕ) → HasNumber (get_or ps i no_peer).part.rtps.readers r → suc i ≤ length ps
+    within [] i k = let low = k.0 in let high = k.1 in absurd (omega (arith, low, high))
+    within (p ∷ ps) zero k = omega arith
+    within (p ∷ ps) (suc i) k = let rest = within ps i k in omega (arith, rest)
+
+-- the reader of a place is there, and knows of that place
+pub record PlaceKnown (network : WorldState) (writer reader : Endpoint) (place : ℕ) : Type 0 where
+  pub here : HasNumber (peer_at network reader.peer).part.dds.readers reader.number
+  pub known : (tracked_at network writer reader).place ≡ place
+
+pub place_known : (kept : WorldKept) (config : Config) (network : WorldState) (writer reader : Endpoint) (place : ℕ) → StandsFor kept config network
+    → place_at (machine_of network) reader writer ≡ Some place → PlaceKnown network writer reader place
+place_known kept config network writer reader place s at =
+    let row : place_of (own_proxies (peer_at network reader.peer).part reader.number) writer ≡ Some place = sym (place_is network reader writer) ∙ at in
+    let has = has_reader (peer_at network reader.peer).part reader.number place writer row in
+    let c = core_at kept config network reader.peer s (peer_there network.peers reader.peer reader.number has) in
+    let rows = c.stands.readers.rows in
+    let count = c.stands.readers.count in
+    let low = has.0 in
+    let high = has.1 in
+    record { here = (omega (arith, low), omega (arith, high, rows, count)); known = c.known.place writer reader.number place row }
+
+-- a writer has far fewer changes than there are numbers
+pub few_changes : (core : CoreKept) (config : Config) (peer : Peer) (n : ℕ) → CoreStandsFor core config peer → HasNumber peer.part.rtps.writers n → length (writer_changes (own_writer peer.part n)) < 2 ^ 62
+few_changes core config peer zero s has = let low = has.0 in absurd (omega (arith, low))
+few_changes core config peer (suc i) s has =
+    let count = s.writers.count in
+    let high = has.1 in
+    let found = element core.writers i (omega (arith, count, high)) in
+    let history = (s.writers.each i found.0 found.1).writer.history in
+    let last = history.last in
+    let few = history.few in
+    omega (arith, last, few)
+
+-- ---- one step
+
+-- a step by the rules, of a network that stands for this state
+pub record Went (config : Config) (network : WorldState) (old : WorldKept) (ev : WorldEvent) (reply : Reply) (new : WorldKept) : Type 0 where
+  pub after : WorldState
+  pub lost : ℕ
+  pub ruled : RuledStep config no_tests network ev reply lost after
+  pub unsent : new.unsent ≡ min (old.unsent + lost) (2 ^ 64 - 1)
+  pub stands : StandsFor new config after
+
+pub went : (config : Config) (network : WorldState) (old : WorldKept) (ev : WorldEvent) (reply : RoundReply) (new : WorldKept) → IsStep old ev reply new → StandsFor old config network
+    → Went config network old ev reply.reply new
+went config network old ev reply new step s =
+    let t = step.rules config network s in record { after = t.0; lost = t.1; ruled = t.2; unsent = t.3; stands = t.4 }
+
+-- the packets that were sent at it follow those before
+pub sent_by : (config : Config) (network : WorldState) (old : WorldKept) (ev : WorldEvent) (reply : Reply) (lost : ℕ) (after : WorldState) (new : WorldKept) → StandsFor old config network → StandsFor new config after
+    → (r : RuledStep config no_tests network ev reply lost after) → new.sent ≡ old.sent ++ r.packets
+sent_by config network old ev reply lost after new s stands r = sym stands.sent ∙ (r.sent ∙ ap (λ (ps : List Packet). ps ++ r.packets) s.sent)
+
+-- a tick for which memory was found is done
+pub whole_tick : (config : Config) (old : WorldState) (peer now : ℕ) (reply : Reply) (new : WorldState) → is_whole reply ≡ true → WorldStep config no_tests old (world.Tick peer now) reply new → reply ≡ Done
+whole_tick config old peer now Done new whole step = refl
+whole_tick config old peer now (Reported report) new whole (inl h) =
+    absurd (subst (λ (r : Reply). TickStep (peer_at old peer).part now r h.after.part) h.replies h.step.step.0)
+whole_tick config old peer now (Reported report) new whole (inr h) = let r = h.1.is_refused in absurd cc
+whole_tick config old peer now reply new whole step = absurd cc
+
+-- a delivery for which memory was found is reported as whole
+record WholeReport (reply : Reply) : Type 0 where
+  report : Report
+  is : reply ≡ Reported report
+  none : report.refused ≡ None
+
+not_some : (o : Option ℕ) → not (is_some o) ≡ true → o ≡ None
+not_some None h = refl
+not_some (Some n) h = absurd cc
+
+whole_report : (config : Config) (old : WorldState) (peer k : ℕ) (reply : Reply) (new : WorldState) → is_whole reply ≡ true → WorldStep config no_tests old (world.Deliver peer k) reply new → WholeReport reply
+whole_report config old peer k Done new whole (inl h) =
+    absurd (subst (λ (r : Reply). EventStep config (no_tests peer) (peer_at old peer) (event.Deliver h.0.bytes) r h.3.after) h.3.replies h.3.step.step)
+whole_report config old peer k Done new whole (inr h) = let r = h.1.is_refused in absurd cc
+whole_report config old peer k (Reported report) new whole step = record { report = report; is = refl; none = not_some report.refused whole }
+whole_report config old peer k reply new whole step = absurd cc
+
+pub delivers : (config : Config) (network : WorldState) (old : WorldKept) (peer k : ℕ) (packet : Packet) (reply : Reply) (new : WorldKept) → StandsFor old config network → slice_get old.sent (k - 1) ≡ Some packet → is_whole reply ≡ true
+    → (w : Went config network old (world.Deliver peer k) reply new) → Delivers config no_tests network peer packet w.lost w.after
+delivers config network old peer k packet reply new s at whole w =
+    let r = whole_report config network peer k reply w.after whole w.ruled.step in
+    record {
+      number = k;
+      at = subst (λ (ps : List Packet). slice_get ps (k - 1) ≡ Some packet) (sym s.sent) at;
+      report = r.report;
+      whole = r.none;
+      step = subst (λ (x : Reply). RuledStep config no_tests network (world.Deliver peer k) x w.lost w.after) r.is w.ruled;
+    }
+
+-- ---- steps one after the other
+
+abbrev pub replies_of : List RoundReply → List Reply
+replies_of replies = map (λ (r : RoundReply). r.reply) replies
+
+abbrev pub are_whole : List RoundReply → Bool
+are_whole replies = list_all (λ (r : RoundReply). is_whole r.reply) replies
+
+pub both_are : (a b : Bool) → (a && b) ≡ true → (a ≡ true) × (b ≡ true)
+both_are true b h = (refl, h)
+both_are false b h = absurd cc
+
+-- a run by the rules, and what is so after it
+pub record Ran (config : Config) (network : WorldState) (events : List WorldEvent) (replies : List RoundReply) (new : WorldKept) (Then : WorldState → Type 0) : Type 0 where
+  pub after : WorldState
+  pub run : RuledRun config network events (replies_of replies) after
+  pub stands : StandsFor new config after
+  pub then : Then after
+
+pub ran : (config : Config) (network : WorldState) (old : WorldKept) (events : List WorldEvent) (replies : List RoundReply) (new : WorldKept) → AreSteps old events replies new → StandsFor old config network
+    → Ran config network events replies new (λ x. Unit {0})
+ran config network old [] [] new same s = record { after = network; run = refl; stands = subst (λ (k : WorldKept). StandsFor k config network) (sym same) s; then = tt }
+ran config network old (e ∷ es) (r ∷ rs) new h s =
+    let w = went config network old e r h.0 h.1 s in
+    let rest = ran config w.after h.0 es rs new h.2 w.stands in
+    record { after = rest.after; run = (w.after, w.lost, w.ruled, rest.run); stands = rest.stands; then = tt }
+ran config network old [] (r ∷ rs) new h s = absurd h
+ran config network old (e ∷ es) [] new h s = absurd h
+
+-- what is counted as unsent does not get less
+no_less : (old lost new : ℕ) → new ≡ min (old + lost) (2 ^ 64 - 1) → old ≤ 2 ^ 64 - 1 → old ≤ new
+no_less old lost new is few = omega (arith, is, few)
+
+pub unsent_on : (config : Config) (network : WorldState) (old : WorldKept) (events : List WorldEvent) (replies : List RoundReply) (new : WorldKept) → AreSteps old events replies new → StandsFor old config network
+    → old.unsent ≤ new.unsent
+unsent_on config network old [] [] new same s = let e = ap (λ (k : WorldKept). k.unsent) same in omega (arith, e)
+unsent_on config network old (e ∷ es) (r ∷ rs) new h s =
+    let w = went config network old e r h.0 h.1 s in
+    let first = no_less old.unsent w.lost h.0.unsent w.unsent s.few in
+    let rest = unsent_on config w.after h.0 es rs new h.2 w.stands in
+    omega (arith, first, rest)
+unsent_on config network old [] (r ∷ rs) new h s = absurd h
+unsent_on config network old (e ∷ es) [] new h s = absurd h
+
+-- where it stays below its greatest value nothing is lost
+pub none_lost : (old lost new : ℕ) → new ≡ min (old + lost) (2 ^ 64 - 1) → new ≤ old → old < 2 ^ 64 - 1 → lost ≡ 0
+none_lost old lost new is same few = omega (arith, is, same, few)
+
+-- packets are delivered in turn, with memory for all of them
+pub deliver_all : (config : Config) (peer first : ℕ) (packets : List Packet) (network : WorldState) (old : WorldKept) (replies : List RoundReply) (new : WorldKept) → 1 ≤ first
+    → ((k : ℕ) (p : Packet) → slice_get packets k ≡ Some p → slice_get old.sent (first + k - 1) ≡ Some p) → are_whole replies ≡ true
+    → AreSteps old (map (λ k. world.Deliver peer k) (numbers_from first (length packets))) replies new → StandsFor old config network
+    → Ran config network (map (λ k. world.Deliver peer k) (numbers_from first (length packets))) replies new (λ x. DeliversAll config no_tests network peer packets x)
+deliver_all config peer first [] network old [] new low there whole same s =
+    record { after = network; run = refl; stands = subst (λ (k : WorldKept). StandsFor k config network) (sym same) s; then = refl }
+deliver_all config peer first [] network old (r ∷ rs) new low there whole h s = absurd h
+deliver_all config peer first (p ∷ ps) network old [] new low there whole h s = absurd h
+deliver_all config peer first (p ∷ ps) network old (r ∷ rs) new low there whole h s =
+    let w = went config network old (world.Deliver peer first) r h.0 h.1 s in
+    let all = both_are (is_whole r.reply) (are_whole rs) whole in
+    let here : first + 0 - 1 ≡ first - 1 = omega arith in
+    let at : slice_get old.sent (first - 1) ≡ Some p = subst (λ (i : ℕ). slice_get old.sent i ≡ Some p) here (there 0 p refl) in
+    let later : (k : ℕ) (q : Packet) → slice_get ps k ≡ Some q → slice_get h.0.sent (first + 1 + k - 1) ≡ Some q = λ k q is.
+    let next : first + suc k - 1 ≡ first + 1 + k - 1 = omega arith in
+    subst (λ (i : ℕ). slice_get h.0.sent i ≡ Some q) next
+    (subst (λ (xs : List Packet). slice_get xs (first + suc k - 1) ≡ Some q) (sym (sent_by config network old (world.Deliver peer first) r.reply w.lost w.after h.0 s w.stands w.ruled))
+    (slice_get-append old.sent w.ruled.packets (first + suc k - 1) q (there (suc k) q is))) in
+    let rest = deliver_all config peer (first + 1) ps w.after h.0 rs new (omega (arith, low)) later all.1 h.2 w.stands in
+    record {
+      after = rest.after;
+      run = (w.after, w.lost, w.ruled, rest.run);
+      stands = rest.stands;
+      then = (w.after, w.lost, delivers config network old peer first p r.reply h.0 s at all.0 w, rest.then);
+    }
+
+-- ---- packets that were sent at a step
+
+-- one from this index on is among those that follow
+pub later_packet : (old packets : List Packet) (i : ℕ) (p : Packet) → length old ≤ i → slice_get (old ++ packets) i ≡ Some p → Contains packets p
+later_packet [] packets i p low at = contains_at packets i p at
+later_packet (x ∷ old) packets zero p low at = absurd (omega (arith, low))
+later_packet (x ∷ old) packets (suc i) p low at = later_packet old packets i p (omega (arith, low)) at
+
+-- and each of them has such an index
+pub packet_later : (old packets : List Packet) (p : Packet) → Contains packets p → (i : ℕ) × (length old ≤ i) × (i < length (old ++ packets)) × (slice_get (old ++ packets) i ≡ Some p)
+packet_later [] packets p h = place packets h
+  where
+    place : (ps : List Packet) → Contains ps p → (i : ℕ) × (0 ≤ i) × (i < length ps) × (slice_get ps i ≡ Some p)
+    place [] h = let lt = h.1 in absurd (omega (arith, lt))
+    place (q ∷ qs) h =
+        ⊎_elim (λ e. (0, omega arith, omega arith, ap (λ (x : Packet). Some x) e)) (λ later. let r = place qs later in let lt = r.2 in (suc r.0, omega arith, omega (arith, lt), r.3))
+        (front_or_rest q qs p h.0 h.1 h.2)
+packet_later (x ∷ old) packets p h = let r = packet_later old packets p h in let low = r.1 in let lt = r.2 in (suc r.0, omega (arith, low), omega (arith, lt), r.3)
+
+-- so a packet of them that is looked for is found
+pub among_none : (Is : Packet → Type 0) (old packets new : List Packet) (p : Packet) → new ≡ old ++ packets → Contains packets p → Is p → HasNone Is new (length old) (length new) → ⊥
+among_none Is old packets new p is among has none =
+    let r = packet_later old packets p among in
+    let low = r.1 in
+    let lt = r.2 in
+    let size = ap (λ (ps : List Packet). length ps) is in
+    let back : r.0 ≡ r.0 + 1 - 1 = omega arith in
+    let at : slice_get new (r.0 + 1 - 1) ≡ Some p =
+    subst (λ (i : ℕ). slice_get new i ≡ Some p) back (subst (λ (ps : List Packet). slice_get ps r.0 ≡ Some p) (sym is) r.3) in
+    none (r.0 + 1) p (omega (arith, low)) (omega (arith, lt, size)) (omega arith, at) has
+
+-- one of those that follow has its index after the others
+pub get_later : (old packets : List Packet) (k : ℕ) (p : Packet) → slice_get packets k ≡ Some p → slice_get (old ++ packets) (length old + k) ≡ Some p
+get_later [] packets k p h = let same : k ≡ 0 + k = omega arith in subst (λ (i : ℕ). slice_get packets i ≡ Some p) same h
+get_later (x ∷ old) packets k p h =
+    let next : suc (length old + k) ≡ suc (length old) + k = omega arith in
+    subst (λ (i : ℕ). slice_get (x ∷ old ++ packets) i ≡ Some p) next (get_later old packets k p h)
