@@ -3,3 +3,4 @@ pub mod TrackLaws
 pub mod KnownLaws
 pub mod PlaceLaws
 pub mod StandingLaws
+pub mod ForesightLaws

@@ -140,7 +140,7 @@ pub unknown-kept : (q : ReaderQos) (h : List Happening) (ts : List InstanceTrack
 unknown-kept q h ts i none follows = none-from (last_accepted q i h) (known-kept q h ts i false follows none)
 
 -- a write or a dispose of an unknown instance is accepted
-first-accepted : (q : ReaderQos) (h : List Happening) (a : Arrival) → last_accepted q a.change.key h ≡ None → accepted_kind q a.change.key h (Came a) ≡ (if is_write_or_dispose a.change.kind then Some a.change.kind else None)
+pub first-accepted : (q : ReaderQos) (h : List Happening) (a : Arrival) → last_accepted q a.change.key h ≡ None → accepted_kind q a.change.key h (Came a) ≡ (if is_write_or_dispose a.change.kind then Some a.change.kind else None)
 first-accepted q h a last =
     rejected q a.change.key h a (unknown q a.change.key h last).registered
     ∙ ap (λ (b : Bool). if b && is_write_or_dispose a.change.kind then Some a.change.kind else None) (same_key-refl a.change.key)

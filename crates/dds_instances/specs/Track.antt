@@ -1,9 +1,10 @@
 -- What is known of one instance when it was followed through what happened so far. Inner functions
 -- alone cite this: nothing here has to be believed.
-use Rattle.std.specs.Prelude.{◌≡◌, ℕ, ◌+◌, ◌<◌, List, map, Bool, true, false, ◌&&◌, ◌||◌, not, Option, Some, None, if◌then◌else◌, nat_le}
+use Rattle.std.specs.Prelude.{◌≡◌, ℕ, ◌+◌, ◌<◌, List, map, Bool, true, false, ◌&&◌, ◌||◌, not, Option, Some, None, if◌then◌else◌, nat_le, nat_lt}
 use Rattle.std.specs.List.{list_any}
 use Rattle.dds_base.specs.declared.key.Key.{Key}
 use Rattle.dds_base.specs.declared.change.ChangeKind.{ChangeKind}
+use Rattle.dds_base.specs.declared.change.ChangeKind.TheVariants.{Write, Unregister}
 use Rattle.dds_base.specs.declared.happening.Happening.{Happening}
 use Rattle.dds_base.specs.declared.sample.InstanceState.{InstanceState}
 use Rattle.dds_base.specs.declared.qos.ReaderQos.{ReaderQos}
@@ -12,7 +13,7 @@ use Rattle.dds_base.specs.Instance.{or_else, is_write, is_disposed, is_without_w
 use Rattle.dds_base.specs.Presence.{becomes_not_alive, last_marker, accepted_writes}
 use Rattle.dds_instances.specs.declared.registration.Registration.{Registration}
 use Rattle.dds_instances.specs.declared.track.InstanceTrack.{InstanceTrack}
-use Rattle.dds_instances.specs.Registration.{registration_of, is_there}
+use Rattle.dds_instances.specs.Registration.{registration_of, is_there, noted, accepted_among}
 
 -- the track has followed instance i through what happened
 pub record Tracks (q : ReaderQos) (i : Key) (h : List Happening) (t : InstanceTrack) : Type 0 where
@@ -80,6 +81,16 @@ pub record Advances (kind : Option ChangeKind) (registrations : List Registratio
   pub seen : new.is_seen ≡ (not (is_revival kind (state_of_track old)) && old.is_seen)
   pub marker : new.last_marker ≡ (if becomes_not_alive (state_of_track old) (state_of_track new) then Some n else old.last_marker)
   pub writes : new.accepted_writes ≡ old.accepted_writes + one_if (is_write kind)
+
+-- a change by writer w would turn the instance to a state that is not alive, from another one
+abbrev pub would_end : ReaderQos → ℕ → ChangeKind → InstanceTrack → Bool
+would_end q w kind t = becomes_not_alive (state_of_track t) (state_after (or_else (accepted_among q t.registrations w kind) t.last_accepted) (not (list_any (λ r. is_there (noted w kind r)) t.registrations)))
+
+-- the first change of an instance turns it to such a state: a dispose, or a write of a writer that is not matched
+abbrev pub is_born_dead : ℕ → ℕ → ChangeKind → Bool
+is_born_dead writers w Write = not (nat_lt 0 w && nat_le w writers)
+is_born_dead writers w Unregister = false
+is_born_dead writers w _ = true
 
 -- a sample of this position was returned
 abbrev pub seen_at : ℕ → InstanceTrack → InstanceTrack

@@ -13,7 +13,7 @@ use crate::keeping::{add_blanks, bury_all, look_up, see_all, take_up, track_of};
 use crate::known::{KnownInstance, told, view_of};
 use crate::place::find;
 use crate::registration::{Registrations, is_data};
-use crate::track::InstanceTrack;
+use crate::track::{InstanceTrack, begins_dead};
 use dds_base::{Arrival, Code, Handle, InstanceState, Key, ReaderQos, SamplePosition, ViewState};
 use indexmap::IndexSet;
 use std::alloc::Global;
@@ -67,7 +67,7 @@ fn room_after(happened: u64, room: usize) -> Result<usize, Code>
 
 impl Instances {
     ghost use Rattle.dds_base.specs.Ownership.{IsMatched, is_registered};
-    ghost use Rattle.dds_base.specs.Presence.{is_accepted};
+    ghost use Rattle.dds_base.specs.Presence.{is_accepted, marks};
     ghost use Rattle.dds_instances.specs.Known.{IsKnown, IsReturnable};
     ghost use Rattle.dds_base.specs.Access.{handle_of, instance_of};
     ghost use Rattle.dds_base.specs.Instance.{instance_state_of, view_state_of, disposed_generations, no_writers_generations, known_instances};
@@ -349,6 +349,8 @@ impl Instances {
         ensures key { (q : ReaderQos) (h : List Happening) → Stands q self.now h → MatchOption result (instance_state_of q key h ≡ None) (λ known. known.key ≡ key) }
         // What is told is what the definitions say.
         ensures known { (q : ReaderQos) (h : List Happening) → Stands q self.now h → IfSome result (IsKnown q h) }
+        // The two generation counts can be added.
+        ensures small { IfSome result (λ known. known.disposed_generations + known.no_writers_generations < 2 ^ 64) }
     {
         match look_up(&self.index, &self.tracks, key) {
             Some(track) => Some(told(track)),
@@ -383,6 +385,20 @@ impl Instances {
                 .accepted(qos, arrival.writer, change.kind)
                 .is_some(),
             None => is_data(change.kind),
+        }
+    }
+
+    /// Whether a change, if it came at a reader of these policies, would leave a sample without data of its instance.
+    ///
+    /// DDS 1.4, 2.2.2.5 (valid_data).
+    pub fn would_mark(&self, qos: &ReaderQos, arrival: &Arrival) -> bool
+        // It is so by the definitions.
+        ensures marks { (h : List Happening) → Stands qos.now self.now h → result ≡ marks qos.now arrival.now.change.key h (Came arrival.now) }
+    {
+        let change = &arrival.change;
+        match look_up(&self.index, &self.tracks, change.key) {
+            Some(track) => track.would_mark(qos, arrival.writer, change.kind),
+            None => begins_dead(change.kind, arrival.writer, self.writers),
         }
     }
 }

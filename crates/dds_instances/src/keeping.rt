@@ -1,6 +1,6 @@
 //! What an entry changes at the instances that are kept.
 
-ghost use Rattle.std.specs.Prelude.{◌≡◌, ◌+◌, ◌<◌, ◌≤◌, ◌++◌, ◌∷◌, [], List, ℕ, true, false, None, option_copied, is_some, IsTrue, MatchOption, OnOk, map, length, All, vec_len, vec_capacity, take};
+ghost use Rattle.std.specs.Prelude.{◌≡◌, ◌+◌, ◌<◌, ◌≤◌, ◌++◌, ◌∷◌, [], List, ℕ, true, false, None, option_copied, is_some, IsTrue, MatchOption, IfSome, OnOk, map, length, All, vec_len, vec_capacity, take};
 ghost use Rattle.std.specs.List.{list_any};
 ghost use Rattle.indexmap.specs.IndexSet.{spare};
 ghost use Rattle.dds_base.specs.declared.happening.Happening.{Happening};
@@ -172,7 +172,8 @@ pub fn look_up<'a>(
     key: Key,
 ) -> Option<&'a InstanceTrack>
     requires indexed { index.now.keys ≡ map key_of tracks.now }
-    ensures { (q : ReaderQos) (h : List Happening) → Follows q h tracks.now → MatchOption result (last_accepted q key h ≡ None) (λ t. Tracks q key h t.now × IsTrue (is_some (last_accepted q key h))) }
+    ensures kept { (q : ReaderQos) (h : List Happening) → Follows q h tracks.now → MatchOption result (last_accepted q key h ≡ None) (λ t. Tracks q key h t.now × IsTrue (is_some (last_accepted q key h))) }
+    ensures fits { (n : ℕ) → All (Fits n) tracks.now → IfSome result (λ t. Fits n t.now) }
 {
     match find(index, key) {
         Some(at) => Some(&tracks[at]),

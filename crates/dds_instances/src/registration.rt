@@ -133,6 +133,14 @@ fn noted_registration(r: &Registration, writer: Handle, kind: ChangeKind) -> Reg
     }
 }
 
+fn is_anybody_left(registrations: &[Registration], writer: Handle, kind: ChangeKind) -> bool
+    ensures { result ≡ list_any (λ r. is_there (noted writer kind r)) registrations.now }
+{
+    registrations
+        .iter()
+        .any(|r| noted_registration(r, writer, kind).is_registered)
+}
+
 fn note_all(registrations: &mut [Registration], writer: Handle, kind: ChangeKind)
     ensures { registrations.new ≡ map (noted writer kind) registrations.old }
 {
@@ -198,6 +206,13 @@ impl Registrations {
         ensures { result ≡ not (list_any is_there self.now) }
     {
         !is_anybody_there(&self.items)
+    }
+
+    /// Whether nobody would be registered any more, if a change came.
+    pub fn would_be_abandoned(&self, writer: Handle, kind: ChangeKind) -> bool
+        ensures { result ≡ not (list_any (λ r. is_there (noted writer kind r)) self.now) }
+    {
+        !is_anybody_left(&self.items, writer, kind)
     }
 
     /// Whether a writer is registered.

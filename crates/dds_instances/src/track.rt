@@ -6,7 +6,7 @@ ghost use Rattle.std.specs.Prelude.{◌≡◌, ◌+◌, ◌<◌, ◌≤◌, ◌^
 ghost use Rattle.dds_base.specs.Instance.{or_else, state_after, is_write, is_disposed, is_without_writers};
 ghost use Rattle.dds_base.specs.Presence.{becomes_not_alive};
 ghost use Rattle.dds_instances.specs.Registration.{accepted_among, noted, noted_death};
-ghost use Rattle.dds_instances.specs.Track.{state_of_track, one_if, fresh, seen_at, Counts, Advances, Fits};
+ghost use Rattle.dds_instances.specs.Track.{state_of_track, one_if, fresh, seen_at, would_end, is_born_dead, Counts, Advances, Fits};
 
 use crate::registration::Registrations;
 use dds_base::{ChangeKind, Handle, InstanceState, Key, ReaderQos};
@@ -42,6 +42,17 @@ fn state_by(last: Option<ChangeKind>, nobody: bool) -> Option<InstanceState>
             }
         }
         Some(_) => Some(InstanceState::NotAliveDisposed),
+    }
+}
+
+/// Whether the first change of an instance turns it to a state that is not alive, where so many writers are matched.
+pub fn begins_dead(kind: ChangeKind, writer: Handle, writers: usize) -> bool
+    ensures { result ≡ is_born_dead writers writer kind }
+{
+    match kind {
+        ChangeKind::Write => !(0 < writer.number() && writer.number() <= writers as u64),
+        ChangeKind::Unregister => false,
+        _ => true,
     }
 }
 
@@ -133,6 +144,16 @@ impl InstanceTrack {
         ensures { result ≡ state_of_track self.now }
     {
         state_by(self.last_accepted, self.registrations.is_abandoned())
+    }
+
+    /// Whether a change of the instance would turn it to a state that is not alive, from another one.
+    pub fn would_mark(&self, qos: &ReaderQos, writer: Handle, kind: ChangeKind) -> bool
+        ensures { result ≡ would_end qos.now writer kind self.now }
+    {
+        let accepted = self.registrations.accepted(qos, writer, kind);
+        let last = first_there(accepted, self.last_accepted);
+        let nobody = self.registrations.would_be_abandoned(writer, kind);
+        is_new_end(self.state(), state_by(last, nobody))
     }
 
     /// Counts an entry, once its registrations are noted.

@@ -7,7 +7,7 @@ use Rattle.dds_instances.proofs.KnownLaws.{unknown}
 use Rattle.dds_instances.proofs.instances.Instances.is_registered.Goals as goal
 
 pub returns-in-Some : goal.returns-in-Some
-returns-in-Some c = record { registered = λ q h stands matched. c.has.ensures ∙ has-writer q c.args.key h c.args.writer c.in-Some.track.now.registrations matched ((c.in-Some.ensures q h (follows-of q h c.args.self.now c.deref.result.now (c.deref.ensures.value ∙ ap (λ (t : Table). t.tracks) c.self.view_is) stands)).0).registrations_are }
+returns-in-Some c = record { registered = λ q h stands matched. c.has.ensures ∙ has-writer q c.args.key h c.args.writer c.in-Some.track.now.registrations matched ((c.in-Some.ensures.kept q h (follows-of q h c.args.self.now c.deref.result.now (c.deref.ensures.value ∙ ap (λ (t : Table). t.tracks) c.self.view_is) stands)).0).registrations_are }
 
 pub returns-in-None : goal.returns-in-None
-returns-in-None c = record { registered = λ q h stands matched. sym ((unknown q c.args.key h (c.in-None.ensures q h (follows-of q h c.args.self.now c.deref.result.now (c.deref.ensures.value ∙ ap (λ (t : Table). t.tracks) c.self.view_is) stands))).registered c.args.writer) }
+returns-in-None c = record { registered = λ q h stands matched. sym ((unknown q c.args.key h (c.in-None.ensures.kept q h (follows-of q h c.args.self.now c.deref.result.now (c.deref.ensures.value ∙ ap (λ (t : Table). t.tracks) c.self.view_is) stands))).registered c.args.writer) }

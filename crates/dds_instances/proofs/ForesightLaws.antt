@@ -1,0 +1,94 @@
+-- Whether a change that comes turns its instance to a state that is not alive.
+use Rattle.std.proofs.Common.{◌≡◌, ℕ, ◌+◌, List, [], ◌∷◌, suc, length, map, Bool, true, false, not, ◌==◌, ◌&&◌, ◌||◌, sym, ap, ◌∙◌, refl, Option, Some, None, cond, arith, ⊎_elim}
+use Rattle.std.specs.Prelude.{if◌then◌else◌, nat_le, nat_lt}
+use Rattle.std.specs.List.{list_any, filter}
+use Rattle.std.proofs.lemmas.Bool.{cases_Bool, eqb-true, eqb-false}
+use Rattle.std.proofs.lemmas.Bool.Decides.{nat_tests}
+use Rattle.dds_base.specs.declared.key.Key.{Key}
+use Rattle.dds_base.specs.declared.change.ChangeKind.{ChangeKind}
+use Rattle.dds_base.specs.declared.change.ChangeKind.TheVariants.{Write, Dispose, Unregister, DisposeUnregister}
+use Rattle.dds_base.specs.declared.happening.Arrival.{Arrival}
+use Rattle.dds_base.specs.declared.happening.Happening.{Happening}
+use Rattle.dds_base.specs.declared.happening.Happening.TheVariants.{Came}
+use Rattle.dds_base.specs.declared.sample.InstanceState.{InstanceState}
+use Rattle.dds_base.specs.declared.sample.InstanceState.TheVariants.{Alive, NotAliveNoWriters}
+use Rattle.dds_base.specs.declared.qos.MatchedWriter.{MatchedWriter}
+use Rattle.dds_base.specs.declared.qos.ReaderQos.{ReaderQos}
+use Rattle.dds_base.specs.Happening.{same_key, is_write_or_dispose, is_unregister}
+use Rattle.dds_base.specs.Ownership.{accepted_kind, numbers_from, is_registered, registered_writers}
+use Rattle.dds_base.specs.Instance.{or_else, state_after, is_nobody, last_accepted, instance_state_of}
+use Rattle.dds_base.specs.Presence.{becomes_not_alive, marks}
+use Rattle.dds_base.proofs.KeyLaws.{same_key-refl}
+use Rattle.dds_instances.specs.declared.registration.Registration.{Registration}
+use Rattle.dds_instances.specs.declared.track.InstanceTrack.{InstanceTrack}
+use Rattle.dds_instances.specs.Registration.{accepted_among, noted, is_there}
+use Rattle.dds_instances.specs.Track.{Tracks, would_end, is_born_dead}
+use Rattle.dds_instances.proofs.RegistrationLaws.{accepted-among, noted-registrations, nobody-there}
+use Rattle.dds_instances.proofs.TrackLaws.{state-tracked}
+use Rattle.dds_instances.proofs.KnownLaws.{unknown}
+use Rattle.dds_instances.proofs.StandingLaws.{first-accepted}
+
+any-map : (p : Registration → Bool) (f : Registration → Registration) (rs : List Registration) → list_any p (map f rs) ≡ list_any (λ r. p (f r)) rs
+any-map p f [] = refl
+any-map p f (r ∷ rs) = ap (λ (b : Bool). p (f r) || b) (any-map p f rs)
+
+-- of an instance that is kept
+pub marks-tracked : (q : ReaderQos) (h : List Happening) (a : Arrival) (t : InstanceTrack) → Tracks q a.change.key h t → would_end q a.writer a.change.kind t ≡ marks q a.change.key h (Came a)
+marks-tracked q h a t tracks =
+    let i : Key = a.change.key in
+    let n : Bool = not (list_any (λ r. is_there (noted a.writer a.change.kind r)) t.registrations) in
+    let nobody : n ≡ is_nobody (registered_writers q i (Came a ∷ h)) = ap (λ (b : Bool). not b) (sym (any-map is_there (noted a.writer a.change.kind) t.registrations)) ∙ sym (nobody-there q i (Came a ∷ h) (map (noted a.writer a.change.kind) t.registrations) (noted-registrations q h a t.registrations tracks.registrations_are)) in
+    ap (λ (s : Option InstanceState). becomes_not_alive s (state_after (or_else (accepted_among q t.registrations a.writer a.change.kind) t.last_accepted) n)) (state-tracked q i h t tracks)
+    ∙ (ap (λ (k : Option ChangeKind). becomes_not_alive (instance_state_of q i h) (state_after (or_else k t.last_accepted) n)) (accepted-among q h a t.registrations tracks.registrations_are)
+    ∙ (ap (λ (l : Option ChangeKind). becomes_not_alive (instance_state_of q i h) (state_after (or_else (accepted_kind q i h (Came a)) l) n)) tracks.last_is
+    ∙ ap (λ (b : Bool). becomes_not_alive (instance_state_of q i h) (state_after (last_accepted q i (Came a ∷ h)) b)) nobody))
+
+-- ---- of an instance that is unknown
+
+nobody-but : (p : ℕ → Bool) (w k : ℕ) (xs : List MatchedWriter) → ((v : ℕ) → p v ≡ (w == v)) → is_nobody (filter p (numbers_from k xs)) ≡ not (nat_le k w && nat_lt w (k + length xs))
+nobody-but p w k [] is = none k w
+  where
+    none : (k w : ℕ) → true ≡ not (nat_le k w && nat_lt w (k + 0))
+    none k w = grind (arith, nat_tests)
+nobody-but p w k (x ∷ xs) is =
+    ⊎_elim
+    (λ same. ap (λ (b : Bool). is_nobody (cond b (k ∷ filter p (numbers_from (k + 1) xs)) (filter p (numbers_from (k + 1) xs)))) (is k ∙ same) ∙ here k w (length xs) (eqb-true w k same))
+    (λ other. ap (λ (b : Bool). is_nobody (cond b (k ∷ filter p (numbers_from (k + 1) xs)) (filter p (numbers_from (k + 1) xs)))) (is k ∙ other) ∙ (nobody-but p w (k + 1) xs is ∙ later k w (length xs) (eqb-false w k other)))
+    (cases_Bool (w == k))
+  where
+    here : (k w n : ℕ) → w ≡ k → false ≡ not (nat_le k w && nat_lt w (k + suc n))
+    here k w n e = grind (arith, nat_tests)
+
+    later : (k w n : ℕ) → (w ≡ k → ⊥) → not (nat_le (k + 1) w && nat_lt w (k + 1 + n)) ≡ not (nat_le k w && nat_lt w (k + suc n))
+    later k w n differ = grind (arith, nat_tests)
+
+within-is : (w n : ℕ) → not (nat_le 1 w && nat_lt w (1 + n)) ≡ not (nat_lt 0 w && nat_le w n)
+within-is w n = grind (arith, nat_tests)
+
+registered-one : (s x u d r : Bool) → s ≡ true → u ≡ false → d ≡ true → r ≡ false → (not ((s && x) && u) && (((s && x) && d) || r)) ≡ x
+registered-one s true u d r s_is u_is d_is r_is = cc
+registered-one s false u d r s_is u_is d_is r_is = cc
+
+-- after a write of an instance of which nobody was registered its writer is, if it is matched
+nobody-written : (q : ReaderQos) (h : List Happening) (a : Arrival) → ((w : ℕ) → is_registered a.change.key w h ≡ false) → a.change.kind ≡ Write → is_nobody (registered_writers q a.change.key (Came a ∷ h)) ≡ not (nat_lt 0 a.writer && nat_le a.writer (length q.writers))
+nobody-written q h a none kind =
+    nobody-but (λ v. is_registered a.change.key v (Came a ∷ h)) a.writer 1 q.writers (λ v. registered-one (same_key a.change.key a.change.key) (a.writer == v) (is_unregister a.change.kind) (is_write_or_dispose a.change.kind) (is_registered a.change.key v h) (same_key-refl a.change.key) (ap is_unregister kind) (ap is_write_or_dispose kind) (none v))
+    ∙ within-is a.writer (length q.writers)
+
+ends : (n : Bool) → n ≡ becomes_not_alive None (Some (if n then NotAliveNoWriters else Alive))
+ends true = refl
+ends false = refl
+
+first-table : (kind : ChangeKind) (writers w : ℕ) (n : Bool) → (kind ≡ Write → n ≡ not (nat_lt 0 w && nat_le w writers)) → is_born_dead writers w kind ≡ becomes_not_alive None (state_after (or_else (if is_write_or_dispose kind then Some kind else None) None) n)
+first-table Write writers w n is = sym (is refl) ∙ ends n
+first-table Dispose writers w n is = refl
+first-table Unregister writers w n is = refl
+first-table DisposeUnregister writers w n is = refl
+
+pub marks-first : (q : ReaderQos) (h : List Happening) (a : Arrival) → last_accepted q a.change.key h ≡ None → is_born_dead (length q.writers) a.writer a.change.kind ≡ marks q a.change.key h (Came a)
+marks-first q h a last =
+    let i : Key = a.change.key in
+    let n : Bool = is_nobody (registered_writers q i (Came a ∷ h)) in
+    first-table a.change.kind (length q.writers) a.writer n (nobody-written q h a (unknown q i h last).registered)
+    ∙ (ap (λ (k : Option ChangeKind). becomes_not_alive None (state_after (or_else k None) n)) (sym (first-accepted q h a last))
+    ∙ ap (λ (l : Option ChangeKind). becomes_not_alive (state_after l (is_nobody (registered_writers q i h))) (state_after (or_else (accepted_kind q i h (Came a)) l) n)) (sym last))
