@@ -157,25 +157,29 @@ map-groups cs H a (suc n) all =
     ∙ (ap (λ (ss : List SamplePosition). group H (map sample_in cs) a ++ ss) (map-groups cs H (a + 1) n all)
     ∙ sym (flat_map-cons (group H (map sample_in cs)) a (range_with_len (a + 1) n)))))
 
-filter-flat_map : (p : SamplePosition → Bool) (f : Key → List SamplePosition) (ks : List Key) → filter p (flat_map f ks) ≡ flat_map (λ i. filter p (f i)) ks
+pub filter-flat_map : (p : SamplePosition → Bool) (f : Key → List SamplePosition) (ks : List Key) → filter p (flat_map f ks) ≡ flat_map (λ i. filter p (f i)) ks
 filter-flat_map p f [] = refl
 filter-flat_map p f (k ∷ ks) =
     ap (λ (ss : List SamplePosition). filter p ss) (flat_map-cons f k ks)
     ∙ (filter-append p (f k) (flat_map f ks) ∙ (ap (λ (ss : List SamplePosition). filter p (f k) ++ ss) (filter-flat_map p f ks) ∙ sym (flat_map-cons (λ (i : Key). filter p (f i)) k ks)))
 
--- the wanted samples of i, among those kept and among those present
-wanted-of : (q : ReaderQos) (h : List Happening) (masks : Masks) (i : Key) (ks : List Kept) → filter (λ (s : SamplePosition). same_key i s.key) (map sample_of (filter (is_wanted q h masks) ks)) ≡ filter (is_asked_for q h masks) (map (sample_at i) (positions_in q h i ks))
-wanted-of q h masks i [] = refl
-wanted-of q h masks i (k ∷ ks) =
+-- a kept sample is present and passes a test
+abbrev pub passes : ReaderQos → List Happening → (SamplePosition → Bool) → Kept → Bool
+passes q h test k = is_present q h k.sample.key k.sample.position && test k.sample
+
+-- the present samples of i that pass a test, among those kept and among those present
+pub wanted-of : (q : ReaderQos) (h : List Happening) (test : SamplePosition → Bool) (i : Key) (ks : List Kept) → filter (λ (s : SamplePosition). same_key i s.key) (map sample_of (filter (passes q h test) ks)) ≡ filter test (map (sample_at i) (positions_in q h i ks))
+wanted-of q h test i [] = refl
+wanted-of q h test i (k ∷ ks) =
     ⊎_elim
     (λ same. let is : k.sample.key ≡ i = key-same k.sample.key i same in
     let here : is_here q h i k ≡ is_present q h k.sample.key k.sample.position = ap (λ (b : Bool). b && is_present q h i k.sample.position) same ∙ ap (λ (x : Key). is_present q h x k.sample.position) (sym is) in
     let sample : sample_at i k.sample.position ≡ k.sample = ap (λ (x : Key). sample_at x k.sample.position) (sym is) in
-    own (is_present q h k.sample.key k.sample.position) (is_asked_for q h masks k.sample) k (filter (is_wanted q h masks) ks) (filter (is_here q h i) ks) (λ (s : SamplePosition). same_key i s.key) (is_asked_for q h masks) i (same_key-comm i k.sample.key ∙ same) sample refl (wanted-of q h masks i ks)
-    ∙ sym (ap (λ (b : Bool). filter (is_asked_for q h masks) (map (sample_at i) (map position_of (cond b (k ∷ filter (is_here q h i) ks) (filter (is_here q h i) ks))))) here))
-    (λ other. skip (is_wanted q h masks k) k (filter (is_wanted q h masks) ks) (λ (s : SamplePosition). same_key i s.key) (same_key-comm i k.sample.key ∙ other)
-    ∙ (wanted-of q h masks i ks
-    ∙ sym (ap (λ (b : Bool). filter (is_asked_for q h masks) (map (sample_at i) (map position_of (cond (b && is_present q h i k.sample.position) (k ∷ filter (is_here q h i) ks) (filter (is_here q h i) ks))))) other)))
+    own (is_present q h k.sample.key k.sample.position) (test k.sample) k (filter (passes q h test) ks) (filter (is_here q h i) ks) (λ (s : SamplePosition). same_key i s.key) test i (same_key-comm i k.sample.key ∙ same) sample refl (wanted-of q h test i ks)
+    ∙ sym (ap (λ (b : Bool). filter test (map (sample_at i) (map position_of (cond b (k ∷ filter (is_here q h i) ks) (filter (is_here q h i) ks))))) here))
+    (λ other. skip (passes q h test k) k (filter (passes q h test) ks) (λ (s : SamplePosition). same_key i s.key) (same_key-comm i k.sample.key ∙ other)
+    ∙ (wanted-of q h test i ks
+    ∙ sym (ap (λ (b : Bool). filter test (map (sample_at i) (map position_of (cond (b && is_present q h i k.sample.position) (k ∷ filter (is_here q h i) ks) (filter (is_here q h i) ks))))) other)))
     (cases_Bool (same_key k.sample.key i))
   where
     skip : (b : Bool) (k : Kept) (xs : List Kept) (o : SamplePosition → Bool) → o k.sample ≡ false → filter o (map sample_of (cond b (k ∷ xs) xs)) ≡ filter o (map sample_of xs)
@@ -285,7 +289,7 @@ matched q table h masks ks before after holds candidates permuted sorted stable 
     ∙ (map-groups before H 1 n handles
     ∙ (ap (λ (ss : List SamplePosition). groups H ss 1 n) candidates.samples_are
     ∙ (by-key 1 known_is S (omega arith) (known-distinct q h)
-    ∙ (flat_map-same (λ i. filter (λ (s : SamplePosition). same_key i s.key) S) (λ i. filter (is_asked_for q h masks) (present_of q h i)) known_is (λ i. wanted-of q h masks i ks ∙ ap (λ (ps : List ℕ). filter (is_asked_for q h masks) (map (sample_at i) ps)) (sym (holds.present i)))
+    ∙ (flat_map-same (λ i. filter (λ (s : SamplePosition). same_key i s.key) S) (λ i. filter (is_asked_for q h masks) (present_of q h i)) known_is (λ i. wanted-of q h (is_asked_for q h masks) i ks ∙ ap (λ (ps : List ℕ). filter (is_asked_for q h masks) (map (sample_at i) ps)) (sym (holds.present i)))
     ∙ sym (filter-flat_map (is_asked_for q h masks) (present_of q h) known_is)))))
 
 pub candidates-after : (q : ReaderQos) (h : List Happening) (masks : Masks) (ks : List Kept) (before after : List Candidate) → AreCandidates q h masks ks ks before → IsPermutation before after → All (IsCandidate q h ks) after

@@ -3,3 +3,9 @@ pub mod KeptLaws
 pub mod StandingLaws
 pub mod GroupLaws
 pub mod FindingLaws
+pub mod PickLaws
+pub mod CollectionLaws
+pub mod CountLaws
+pub mod RoomLaws
+pub mod DeathLaws
+pub mod SweepLaws

@@ -44,6 +44,10 @@ marker-past q i (e ∷ h) j is =
     (λ unmarked. let before : j ≤ length h = marker-past q i h j (sym (ap (λ (b : Bool). is_at (if b then Some (length h + 1) else last_marker q i h) j) unmarked) ∙ is) in omega (arith, before))
     (cases_Bool (marks q i h e))
 
+-- it is not what comes next
+pub marker-future : (q : ReaderQos) (i : Key) (h : List Happening) → is_at (last_marker q i h) (length h + 1) ≡ false
+marker-future q i h = ⊎_elim (λ there. absurd (let past : length h + 1 ≤ length h = marker-past q i h (length h + 1) there in omega (arith, past))) (λ none. none) (cases_Bool (is_at (last_marker q i h) (length h + 1)))
+
 not-or : (a b : Bool) → not (a || b) ≡ true → b ≡ false
 not-or true b e = absurd (let clash : false ≡ true = e in cc)
 not-or false true e = absurd (let clash : false ≡ true = e in cc)
@@ -82,16 +86,13 @@ pub newest-absent : (q : ReaderQos) (e : Happening) (h : List Happening) (i : Ke
 newest-absent q e h i written marked =
     let n : ℕ = length h + 1 in
     let kept : is_kept_write q (e ∷ h) i n ≡ false = ap (λ (g : List Happening). ends_with_write q i g && keeps q.history (later_writes q (e ∷ h) i n)) (as_of-newest e h) ∙ ap (λ (b : Bool). b && keeps q.history (later_writes q (e ∷ h) i n)) written in
-    let at : is_at (last_marker q i (e ∷ h)) n ≡ false = ap (λ (b : Bool). is_at (if b then Some n else last_marker q i h) n) marked ∙ not-future q i h in
+    let at : is_at (last_marker q i (e ∷ h)) n ≡ false = ap (λ (b : Bool). is_at (if b then Some n else last_marker q i h) n) marked ∙ marker-future q i h in
     ap (λ (b : Bool). not (is_taken (sample_at i n) (e ∷ h)) && (b || is_at (last_marker q i (e ∷ h)) n)) kept
     ∙ (ap (λ (b : Bool). not (is_taken (sample_at i n) (e ∷ h)) && b) at ∙ and-false (not (is_taken (sample_at i n) (e ∷ h))))
   where
     and-false : (b : Bool) → (b && false) ≡ false
     and-false true = refl
     and-false false = refl
-
-    not-future : (q : ReaderQos) (i : Key) (h : List Happening) → is_at (last_marker q i h) (length h + 1) ≡ false
-    not-future q i h = ⊎_elim (λ there. absurd (let past : length h + 1 ≤ length h = marker-past q i h (length h + 1) there in omega (arith, past))) (λ none. none) (cases_Bool (is_at (last_marker q i h) (length h + 1)))
 
 -- ---- lists that are narrowed
 
@@ -117,7 +118,7 @@ up_to-below (suc n) m within = All-push (λ (j : ℕ). j ≤ m) (up_to n) (suc n
 
 -- ---- one more entry
 
-here-append : (q : ReaderQos) (h : List Happening) (i : Key) (ks ns : List Kept) → positions_in q h i (ks ++ ns) ≡ positions_in q h i ks ++ positions_in q h i ns
+pub here-append : (q : ReaderQos) (h : List Happening) (i : Key) (ks ns : List Kept) → positions_in q h i (ks ++ ns) ≡ positions_in q h i ks ++ positions_in q h i ns
 here-append q h i ks ns = ap (λ (xs : List Kept). map position_of xs) (filter-append (is_here q h i) ks ns) ∙ map-append position_of (filter (is_here q h i) ks) (filter (is_here q h i) ns)
 
 -- the kept samples of i that pass a test, by the test of their positions
@@ -169,13 +170,19 @@ filter-same : (f g : ℕ → Bool) (ws : List ℕ) → ((w : ℕ) → f w ≡ g 
 filter-same f g [] same = refl
 filter-same f g (w ∷ ws) same = ap (λ (b : Bool). cond b (w ∷ filter f ws) (filter f ws)) (same w) ∙ ap (λ (xs : List ℕ). cond (g w) (w ∷ xs) xs) (filter-same f g ws same)
 
--- a change of another instance leaves no sample of i
+-- a change of another instance leaves the state of i as it was
+state-other : (q : ReaderQos) (a : Arrival) (h : List Happening) (i : Key) → same_key a.change.key i ≡ false → instance_state_of q i (Came a ∷ h) ≡ instance_state_of q i h
+state-other q a h i other =
+    ap (λ (k : Option ChangeKind). state_after (or_else k (last_accepted q i h)) (is_nobody (registered_writers q i (Came a ∷ h)))) (accepted-other q i h a other)
+    ∙ ap (λ (ws : List ℕ). state_after (last_accepted q i h) (is_nobody ws)) (filter-same (λ w. is_registered i w (Came a ∷ h)) (λ w. is_registered i w h) (publication_handles q) (λ w. registered-other i w h a other))
+
+-- it leaves no marker of i
+pub unmarked-other : (q : ReaderQos) (a : Arrival) (h : List Happening) (i : Key) → same_key a.change.key i ≡ false → marks q i h (Came a) ≡ false
+unmarked-other q a h i other = ap (λ (s : Option InstanceState). becomes_not_alive (instance_state_of q i h) s) (state-other q a h i other) ∙ unmarked (instance_state_of q i h)
+
+-- it leaves no sample of i
 pub other-absent : (q : ReaderQos) (a : Arrival) (h : List Happening) (i : Key) → same_key a.change.key i ≡ false → is_present q (Came a ∷ h) i (length h + 1) ≡ false
-other-absent q a h i other =
-    let none : accepted_kind q i h (Came a) ≡ None = accepted-other q i h a other in
-    quiet-absent q (Came a) h i none
-    (ap (λ (k : Option ChangeKind). state_after (or_else k (last_accepted q i h)) (is_nobody (registered_writers q i (Came a ∷ h)))) none
-    ∙ ap (λ (ws : List ℕ). state_after (last_accepted q i h) (is_nobody ws)) (filter-same (λ w. is_registered i w (Came a ∷ h)) (λ w. is_registered i w h) (publication_handles q) (λ w. registered-other i w h a other)))
+other-absent q a h i other = quiet-absent q (Came a) h i (accepted-other q i h a other) (state-other q a h i other)
 
 unstated : (last : Option ChangeKind) (nobody : Bool) → state_after last nobody ≡ None → last ≡ None
 unstated None nobody e = refl

@@ -19,7 +19,6 @@ use Rattle.dds_base.specs.Presence.{is_present, up_to}
 use Rattle.dds_base.specs.Access.{asks_for_sample_state, asks_for_view_state, asks_for_instance_state, meets, picked_of, own_generations, no_filter, value_of, matching_samples}
 use Rattle.dds_samples.specs.declared.kept.Kept.{Kept}
 use Rattle.dds_samples.specs.declared.access.Candidate.{Candidate}
-use Rattle.dds_samples.specs.declared.found.Found.{Found}
 use Rattle.dds_samples.specs.Kept.{IsKept, positions_in}
 use Rattle.dds_instances.specs.Table.{Table, Stands}
 

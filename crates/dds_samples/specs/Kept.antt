@@ -77,6 +77,10 @@ pub record Adds (q : ReaderQos) (e : Happening) (h : List Happening) (old new : 
 abbrev pub is_among : List SamplePosition → Kept → Bool
 is_among ss k = list_any (same_sample k.sample) ss
 
+-- two lists have the same samples
+abbrev pub HaveSame : List SamplePosition → List SamplePosition → Type 0
+HaveSame ss ts = (s : SamplePosition) → list_any (same_sample s) ss ≡ list_any (same_sample s) ts
+
 -- a kept sample after a read that returned these
 abbrev pub marked : List SamplePosition → Kept → Kept
 marked ss k = record k { is_read = is_among ss k || k.is_read }

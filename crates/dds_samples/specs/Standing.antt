@@ -1,10 +1,18 @@
 -- What the samples of a reader, as they are kept, stand for.
-use Rattle.std.specs.Prelude.{◌≡◌, ℕ, ◌<◌, List, length, filter, All, false}
+use Rattle.std.specs.Prelude.{◌≡◌, ◌≢◌, ℕ, ◌<◌, ◌-◌, ◌^◌, min, List, [], ◌∷◌, length, filter, All, false, Option, None, Result, Ok, Err}
+use Rattle.dds_base.specs.declared.code.Code.{Code}
+use Rattle.dds_base.specs.declared.code.Code.TheVariants.{NoData}
+use Rattle.dds_base.specs.declared.happening.SamplePosition.{SamplePosition}
 use Rattle.dds_base.specs.declared.happening.Happening.{Happening}
+use Rattle.dds_base.specs.declared.sample.Sample.{Sample}
 use Rattle.dds_base.specs.declared.qos.ReaderQos.{ReaderQos}
+use Rattle.dds_base.specs.declared.selection.Selection.{Selection}
 use Rattle.dds_base.specs.declared.key.Key.{Key}
-use Rattle.dds_base.specs.Happening.{is_read, is_taken}
+use Rattle.dds_base.specs.Happening.{is_read, is_taken, arrivals}
 use Rattle.dds_base.specs.Presence.{is_present, up_to}
+use Rattle.dds_base.specs.Access.{no_filter, collection_of}
+use Rattle.dds_base.specs.Refusal.{Refuses}
+use Rattle.dds_base.specs.Selection.{picked_by, selection_refusal}
 use Rattle.dds_samples.specs.declared.kept.Kept.{Kept}
 use Rattle.dds_samples.specs.Kept.{IsKept, positions_in, sample_at}
 use Rattle.dds_instances.specs.Table.{Table, Stands}
@@ -15,6 +23,7 @@ pub record Stored : Type 0 where
   pub qos : ReaderQos
   pub instances : Table
   pub samples : List Kept
+  pub arrivals : ℕ
   pub room : ℕ
 
 -- the policies and the matched writers that it was opened with
@@ -26,10 +35,36 @@ abbrev pub room_of : Stored → ℕ
 room_of stored = stored.room
 
 -- what is kept stands for what happened: so do its instances; each kept sample is what it was; the present samples of
--- each instance are kept in their order; and no access returned what had not happened
+-- each instance are kept in their order; no access returned what had not happened; and the changes are counted, up to a
+-- bound
 pub record StandsFor (stored : Stored) (h : List Happening) : Type 0 where
   pub instances : Stands stored.qos stored.instances h
   pub each : All (IsKept stored.qos h) stored.samples
   pub present : (i : Key) → filter (is_present stored.qos h i) (up_to (length h)) ≡ positions_in stored.qos h i stored.samples
   pub unread : (i : Key) (j : ℕ) → length h < j → is_read (sample_at i j) h ≡ false
   pub untaken : (i : Key) (j : ℕ) → length h < j → is_taken (sample_at i j) h ≡ false
+  pub arrivals_are : stored.arrivals ≡ min (arrivals h) (2 ^ 31 - 1)
+
+-- what an access without a filter picks
+abbrev pub picked : Stored → List Happening → Selection → List SamplePosition
+picked stored h selection = picked_by (qos_of stored) h selection no_filter
+
+-- why an access is refused
+abbrev pub refusal : Stored → List Happening → Selection → Option Code
+refusal stored h selection = selection_refusal (qos_of stored) h selection
+
+-- the answer of an access: the collection, or NO_DATA where nothing is picked; or the first cause that refuses it, or MEMORY
+-- where there is none
+abbrev pub Answers : Stored → List Happening → Selection → Result (List Sample) Code → Type 0
+Answers stored h selection (Ok samples) =
+    (refusal stored h selection ≡ None) × (picked stored h selection ≢ [])
+    × (samples ≡ collection_of (qos_of stored) h (picked stored h selection))
+Answers stored h selection (Err NoData) = (refusal stored h selection ≡ None) × (picked stored h selection ≡ [])
+Answers stored h selection (Err code) = Refuses (refusal stored h selection) code
+
+-- what a cache is after an access that was answered so: it stands for one entry more, the access, also where that found
+-- nothing; any other refusal leaves it as it was
+abbrev pub AfterAccess : (List SamplePosition → Happening) → Stored → List Happening → Selection → Result (List Sample) Code → Stored → Type 0
+AfterAccess entry old h selection (Ok samples) new = StandsFor new (entry (picked old h selection) ∷ h)
+AfterAccess entry old h selection (Err NoData) new = StandsFor new (entry [] ∷ h)
+AfterAccess entry old h selection (Err code) new = new ≡ old

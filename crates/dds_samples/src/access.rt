@@ -163,7 +163,7 @@ pub fn positions(alloc: Global, found: &[Candidate]) -> Result<Vec<SamplePositio
 }
 
 /// What is known of them before their ranks.
-fn descriptions(alloc: Global, found: &[Candidate]) -> Result<Vec<Picked>, AllocError>
+pub fn descriptions(alloc: Global, found: &[Candidate]) -> Result<Vec<Picked>, AllocError>
     ensures { IfOk result (λ picked. picked.items ≡ map picked_in found.now) }
 {
     found.iter().map(|c| c.picked).collect(alloc)

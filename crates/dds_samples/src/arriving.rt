@@ -1,6 +1,6 @@
 //! The samples that an entry leaves.
 
-ghost use Rattle.std.specs.Prelude.{◌≡◌, ◌+◌, ◌∷◌, [], ℕ, List, false, true, length, MatchOption, ◌<◌, ◌≤◌, vec_len, vec_capacity};
+ghost use Rattle.std.specs.Prelude.{◌≡◌, ◌+◌, ◌∷◌, [], ℕ, List, false, true, length, All, MatchOption, IfSome, ◌<◌, ◌≤◌, vec_len, vec_capacity};
 ghost use Rattle.dds_base.specs.declared.happening.Happening.{Happening};
 ghost use Rattle.dds_base.specs.declared.happening.Happening.TheVariants.{Came};
 ghost use Rattle.dds_base.specs.Happening.{is_read, is_taken};
@@ -8,6 +8,7 @@ ghost use Rattle.dds_base.specs.Instance.{instance_state_of};
 ghost use Rattle.dds_base.specs.Presence.{ends_with_write, is_present};
 ghost use Rattle.dds_instances.specs.Table.{Stands};
 ghost use Rattle.dds_samples.specs.Kept.{IsKeptAt, IsFresh, value_if, Adds};
+ghost use Rattle.dds_samples.specs.Finding.{IsSmall};
 
 use crate::kept::Kept;
 use dds_base::{Arrival, ChangeKind, Octets, ReaderQos, SamplePosition};
@@ -43,7 +44,8 @@ pub fn left_by(
     arrival: Arrival,
     is_write: bool,
 ) -> Option<Kept>
-    ensures { (h : List Happening) → Stands qos.now instances.now (Came arrival ∷ h) → is_write ≡ ends_with_write qos.now arrival.change.key (Came arrival ∷ h) → IsFresh h arrival.change.key → MatchOption result (is_present qos.now (Came arrival ∷ h) arrival.change.key (length h + 1) ≡ false) (IsKeptAt qos.now (Came arrival ∷ h) arrival.change.key (length h + 1)) }
+    ensures left { (h : List Happening) → Stands qos.now instances.now (Came arrival ∷ h) → is_write ≡ ends_with_write qos.now arrival.change.key (Came arrival ∷ h) → IsFresh h arrival.change.key → MatchOption result (is_present qos.now (Came arrival ∷ h) arrival.change.key (length h + 1) ≡ false) (IsKeptAt qos.now (Came arrival ∷ h) arrival.change.key (length h + 1)) }
+    ensures small { IfSome result IsSmall }
 {
     let Arrival { writer, change, .. } = arrival;
     let key = change.key;
@@ -87,6 +89,7 @@ pub fn add_left(
     ensures len { vec_len samples.new ≤ vec_len samples.old + 1 }
     ensures capacity { vec_capacity samples.old ≤ vec_capacity samples.new }
     ensures samples { (h : List Happening) → Stands qos.now instances.now (Came arrival ∷ h) → is_write ≡ ends_with_write qos.now arrival.change.key (Came arrival ∷ h) → IsFresh h arrival.change.key → Adds qos.now (Came arrival) h samples.old.items samples.new.items }
+    ensures small { All IsSmall samples.old.items → All IsSmall samples.new.items }
 {
     if let Some(kept) = left_by(alloc, instances, qos, arrival, is_write) {
         if samples.push(kept).is_err() {

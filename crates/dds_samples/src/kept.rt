@@ -1,8 +1,10 @@
 //! A sample that is kept.
 
-ghost use Rattle.std.specs.Prelude.{◌≡◌};
+ghost use Rattle.std.specs.Prelude.{◌≡◌, ◌+◌};
 ghost use Rattle.dds_base.specs.Presence.{keeps, is_at};
+ghost use Rattle.dds_instances.specs.Track.{one_if};
 ghost use Rattle.dds_samples.specs.Kept.{is_live, marked};
+ghost use Rattle.dds_samples.specs.Room.{is_write_after};
 
 use dds_base::{Handle, HistoryQos, Moment, Octets, ReaderQos, SamplePosition};
 use dds_instances::KnownInstance;
@@ -26,6 +28,7 @@ pub struct Kept {
     pub value: Octets,
 }
 
+/// Whether the history keeps a write that so many accepted ones have followed.
 fn is_kept(history: HistoryQos, later: u64) -> bool
     ensures { result ≡ keeps history later }
 {
@@ -35,7 +38,24 @@ fn is_kept(history: HistoryQos, later: u64) -> bool
     }
 }
 
-fn is_position(at: Option<u64>, position: u64) -> bool
+/// The same once one more has followed, if it has.
+pub fn is_kept_after(history: HistoryQos, later: u64, one_more: bool) -> bool
+    ensures { result ≡ keeps history (later + one_if one_more) }
+{
+    match history {
+        HistoryQos::KeepAll => true,
+        HistoryQos::KeepLast(depth) => {
+            let depth = u64::from(depth);
+            if one_more {
+                later < depth.saturating_sub(1)
+            } else {
+                later < depth
+            }
+        }
+    }
+}
+
+pub fn is_position(at: Option<u64>, position: u64) -> bool
     ensures { result ≡ is_at at position }
 {
     match at {
@@ -55,6 +75,23 @@ impl Kept {
                 known.accepted_writes.saturating_sub(self.number),
             )
             || is_position(known.last_marker, self.sample.position)
+    }
+
+    /// Whether it is a write that is present after a change: by what is known of its instance before it, whether one more
+    /// write of the instance is accepted, and whether the change leaves a marker of it.
+    pub fn is_write_after(
+        &self,
+        qos: &ReaderQos,
+        known: &KnownInstance,
+        one_more: bool,
+        is_marked: bool,
+    ) -> bool
+        ensures { result ≡ is_write_after qos.now known.now one_more is_marked self.now }
+    {
+        let later = known.accepted_writes.saturating_sub(self.number);
+        self.valid_data
+            && (is_kept_after(qos.history, later, one_more)
+                || !is_marked && is_position(known.last_marker, self.sample.position))
     }
 
     /// Takes up that a read returned these samples.

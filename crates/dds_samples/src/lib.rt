@@ -2,15 +2,19 @@
 //!
 //! DDS 1.4, 2.2.2.5 (read, take, SampleInfo), 2.2.3 (OWNERSHIP, HISTORY). `docs/MODEL.md`, "What is
 //! present" and "What an access returns".
-//! Not here yet: reads and takes themselves, deaths, and a reader's room; `dds_cache` does not stand on it.
+//! Not here yet: `dds_cache` does not stand on it.
 #![tactic(auto)]
 
 mod access;
 mod arriving;
-mod found;
+mod collection;
+mod dying;
 mod kept;
 mod masks;
+mod pick;
 mod reader_samples;
 mod returned;
+mod room;
+mod sweeping;
 
 pub use reader_samples::ReaderSamples;

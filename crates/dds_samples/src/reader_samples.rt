@@ -1,15 +1,30 @@
 //! The samples of a reader and its instances, kept up with what happens.
 
-ghost use Rattle.std.specs.Prelude.{◌≡◌, ℕ, ◌+◌, ◌≤◌, ◌∷◌, [], if◌then◌else◌, List, IsOk, OnOk, OnErr, IfOk, IfErr};
+ghost use Rattle.std.specs.Prelude.{◌≡◌, ℕ, ◌+◌, ◌≤◌, ◌∷◌, [], if◌then◌else◌, List, All, IsOk, OnOk, OnErr, IfOk, IfErr};
 ghost use Rattle.dds_base.specs.declared.happening.Happening.{Happening};
-ghost use Rattle.dds_base.specs.declared.happening.Happening.TheVariants.{Came, Passed, Heard};
-ghost use Rattle.dds_base.specs.declared.code.Code.TheVariants.{Memory};
+ghost use Rattle.dds_base.specs.declared.happening.Happening.TheVariants.{Came, Passed, Heard, Died, Read, Took};
+ghost use Rattle.dds_base.specs.declared.code.Code.TheVariants.{Memory, NoData};
+ghost use Rattle.dds_base.specs.Access.{instance_of, handle_of};
 ghost use Rattle.dds_base.specs.Ownership.{IsMatched};
-ghost use Rattle.dds_samples.specs.Standing.{qos_of, room_of, StandsFor};
+ghost use Rattle.dds_base.specs.Presence.{has_room};
+ghost use Rattle.dds_base.specs.Refusal.{Refuses};
+ghost use Rattle.dds_base.specs.Selection.{selection_refusal};
+ghost use Rattle.dds_instances.specs.Known.{IsReturnable};
+ghost use Rattle.dds_samples.specs.Kept.{HaveSame};
+ghost use Rattle.dds_samples.specs.Picking.{IsAccess};
+ghost use Rattle.dds_samples.specs.Standing.{qos_of, room_of, StandsFor, Answers, AfterAccess};
 
 use crate::arriving::{add_left, is_accepted_write};
+use crate::collection::{Access, gather};
+use crate::dying::add_markers;
 use crate::kept::Kept;
-use dds_base::{Arrival, Code, Handle, Moment, ReaderQos, Sn};
+use crate::pick::pick;
+use crate::returned::{mark_all, remove_all};
+use crate::room::{count_arrival, is_room};
+use crate::sweeping::{next_sweep, sweep};
+use dds_base::{
+    Arrival, Code, Handle, Key, Moment, ReaderQos, Sample, SamplePosition, Selection, Sequence, Sn,
+};
 use dds_instances::Instances;
 use std::alloc::Global;
 use std::marker::Model;
@@ -25,6 +40,10 @@ pub struct ReaderSamples {
     instances: Instances,
     /// The present samples, and some that are no longer present, but none that was taken.
     samples: Vec<Kept>,
+    /// How many changes came: at most `MAX_ARRIVALS`, where it stays.
+    arrivals: u32,
+    /// How many samples there are when they are swept next.
+    sweep_at: usize,
     /// For how many more changes there is memory.
     room: usize,
 }
@@ -55,6 +74,8 @@ impl ReaderSamples {
             qos,
             instances,
             samples: Vec::new(alloc),
+            arrivals: 0,
+            sweep_at: next_sweep(0),
             room: 0,
         }
     }
@@ -106,7 +127,20 @@ impl ReaderSamples {
             arrival,
             is_write,
         );
+        self.arrivals = count_arrival(self.arrivals);
         self.room -= 1;
+    }
+
+    /// Lets the samples go that are no longer present, where there are twice as many as the sweep before left.
+    fn sweep_if_due(&mut self)
+        ensures same { (h : List Happening) → StandsFor self.old h → StandsFor self.new h }
+        ensures qos { qos_of self.new ≡ qos_of self.old }
+        ensures room { room_of self.new ≡ room_of self.old }
+    {
+        if self.samples.len() >= self.sweep_at {
+            sweep(&self.instances, &self.qos, &mut self.samples);
+            self.sweep_at = next_sweep(self.samples.len());
+        }
     }
 
     /// Takes up an entry that says nothing of any instance.
@@ -150,6 +184,7 @@ impl ReaderSamples {
     {
         self.reserve(1)?;
         self.take_up(arrival);
+        self.sweep_if_due();
         Ok(())
     }
 
@@ -207,5 +242,199 @@ impl ReaderSamples {
         let _ = (writer, moment);
         self.skip()?;
         Ok(())
+    }
+
+    /// Takes up that the lease of a matched writer ran out, at a moment of the reader's peer.
+    ///
+    /// # Errors
+    ///
+    /// `Memory` where a growth was refused; the cache is then as it was.
+    ///
+    /// DDS 1.4, 2.2.3 (LIVELINESS).
+    pub fn died(&mut self, writer: Handle, moment: Moment) -> Result<(), Code>
+        // The writer is a matched one.
+        requires matched { IsMatched (qos_of self.old) writer }
+        // The writer died, and nothing else happened.
+        ensures ok { OnOk result ((h : List Happening) → StandsFor self.old h → StandsFor self.new (Died writer moment ∷ h)) }
+        // The policies stay.
+        ensures qos { qos_of self.new ≡ qos_of self.old }
+        // A refusal leaves the cache as it was.
+        ensures err { OnErr result (self.new ≡ self.old) }
+        // It is refused for want of memory alone.
+        ensures memory { IfErr result (λ e. e ≡ Memory) }
+    {
+        let count = self.instances.len();
+        let additional = count.checked_add(self.room).ok_or(Code::Memory)?;
+        self.samples.reserve(additional)?;
+        self.instances.died(writer)?;
+        add_markers(
+            self.alloc,
+            &self.instances,
+            &mut self.samples,
+            count,
+            writer,
+            moment,
+        );
+        self.room = self.room.saturating_sub(1);
+        Ok(())
+    }
+
+    /// Whether there is room for a change by the limits of the policies: fewer than 2^31 - 1 changes came with it, and if it
+    /// is accepted, the present writes and the known instances are as many as they may be. It needs no memory.
+    ///
+    /// It goes once over the samples, if there is a limit to them.
+    ///
+    /// DDS 1.4, 2.2.3 (RESOURCE_LIMITS).
+    pub fn has_room(&self, arrival: &Arrival) -> bool
+        // It is so by the definitions.
+        ensures room { (h : List Happening) → StandsFor self.now h → result ≡ has_room (qos_of self.now) h (Came arrival.now) }
+    {
+        is_room(
+            &self.instances,
+            &self.qos,
+            &self.samples,
+            self.arrivals,
+            arrival,
+        )
+    }
+
+    /// What an access finds.
+    fn access(&self, selection: Selection) -> Result<Access, Code>
+        ensures found { IfOk result (λ access. (h : List Happening) → StandsFor self.now h
+            → IsAccess (qos_of self.now) h selection access.positions.items access.samples.items) }
+        ensures set { IfOk result (λ access. HaveSame access.returned.keys access.positions.items) }
+        ensures refused { IfErr result (λ e. (h : List Happening) → StandsFor self.now h
+            → Refuses (selection_refusal (qos_of self.now) h selection) e) }
+    {
+        let found = pick(
+            self.alloc,
+            &self.instances,
+            &self.qos,
+            &self.samples,
+            selection,
+        )?;
+        let access = gather(self.alloc, &self.samples, &found)?;
+        Ok(access)
+    }
+
+    /// Takes up that a read returned these samples.
+    fn enter_read(&mut self, access: &Access) -> Result<(), Code>
+        requires set { HaveSame access.now.returned.keys access.now.positions.items }
+        ensures ok { OnOk result ((h : List Happening) → StandsFor self.old h
+            → All (IsReturnable (qos_of self.old) h) access.now.positions.items
+            → StandsFor self.new (Read access.now.positions.items ∷ h)) }
+        ensures qos { qos_of self.new ≡ qos_of self.old }
+        ensures err { OnErr result (self.new ≡ self.old) }
+        ensures memory { IfErr result (λ e. e ≡ Memory) }
+    {
+        self.instances.returned(&access.positions)?;
+        mark_all(&mut self.samples, &access.returned);
+        self.room = self.room.saturating_sub(1);
+        Ok(())
+    }
+
+    /// Takes up that a take returned these samples.
+    fn enter_take(&mut self, access: &Access) -> Result<(), Code>
+        requires set { HaveSame access.now.returned.keys access.now.positions.items }
+        ensures ok { OnOk result ((h : List Happening) → StandsFor self.old h
+            → All (IsReturnable (qos_of self.old) h) access.now.positions.items
+            → StandsFor self.new (Took access.now.positions.items ∷ h)) }
+        ensures qos { qos_of self.new ≡ qos_of self.old }
+        ensures err { OnErr result (self.new ≡ self.old) }
+        ensures memory { IfErr result (λ e. e ≡ Memory) }
+    {
+        self.instances.returned(&access.positions)?;
+        remove_all(&mut self.samples, &access.returned);
+        self.room = self.room.saturating_sub(1);
+        Ok(())
+    }
+
+    /// Reads the present samples that the selection asks for. They stay, and are READ from then on.
+    ///
+    /// # Errors
+    ///
+    /// The first of these: `BadParameter` for a `max` that is neither -1 nor positive, and for an instance that is not
+    /// known where it has to be; `NoData` where there is no such sample, and that too is an access, which lowers
+    /// DATA_AVAILABLE; `Memory` where a growth was refused. But for `NoData` the cache is then as it was.
+    ///
+    /// DDS 1.4, 2.2.2.5 (read, read_instance, read_next_instance, read_next_sample).
+    pub fn read(&mut self, selection: Selection) -> Result<Sequence<Sample>, Code>
+        // The samples are those that the definitions pick of what happened, or there is none; or it is refused by the
+        // first cause that there is, or for want of memory.
+        ensures answer { (h : List Happening) → StandsFor self.old h → Answers self.old h selection result }
+        // The read is entered, and nothing else; one that is refused is not.
+        ensures after { (h : List Happening) → StandsFor self.old h → AfterAccess Read self.old h selection result self.new }
+        // The policies stay.
+        ensures qos { qos_of self.new ≡ qos_of self.old }
+    {
+        let access = self.access(selection)?;
+        self.enter_read(&access)?;
+        let Access {
+            positions,
+            samples,
+            ..
+        } = access;
+        answer_of(positions.is_empty(), samples)
+    }
+
+    /// Takes the present samples that the selection asks for. They are gone from then on.
+    ///
+    /// # Errors
+    ///
+    /// The first of these: `BadParameter` for a `max` that is neither -1 nor positive, and for an instance that is not
+    /// known where it has to be; `NoData` where there is no such sample, and that too is an access, which lowers
+    /// DATA_AVAILABLE; `Memory` where a growth was refused. But for `NoData` the cache is then as it was.
+    ///
+    /// DDS 1.4, 2.2.2.5 (take, take_instance, take_next_instance, take_next_sample).
+    pub fn take(&mut self, selection: Selection) -> Result<Sequence<Sample>, Code>
+        // The samples are those that the definitions pick of what happened, or there is none; or it is refused by the
+        // first cause that there is, or for want of memory.
+        ensures answer { (h : List Happening) → StandsFor self.old h → Answers self.old h selection result }
+        // The take is entered, and nothing else; one that is refused is not.
+        ensures after { (h : List Happening) → StandsFor self.old h → AfterAccess Took self.old h selection result self.new }
+        // The policies stay.
+        ensures qos { qos_of self.new ≡ qos_of self.old }
+    {
+        let access = self.access(selection)?;
+        self.enter_take(&access)?;
+        let Access {
+            positions,
+            samples,
+            ..
+        } = access;
+        answer_of(positions.is_empty(), samples)
+    }
+
+    /// The key of a known instance, by its handle; `None` where no known instance has it. It needs no memory.
+    ///
+    /// DDS 1.4, 2.2.2.5 (get_key_value).
+    pub fn key_value(&self, instance: Handle) -> Option<Key>
+        // It is that of the instance whose handle this is, if there is one.
+        ensures key { (h : List Happening) → StandsFor self.now h
+            → result ≡ instance_of (qos_of self.now) h instance }
+    {
+        self.instances.key(instance)
+    }
+
+    /// The handle of an instance, `NIL` of one that is not known. It needs no memory.
+    ///
+    /// DDS 1.4, 2.2.2.5 (lookup_instance).
+    pub fn lookup(&self, key: Key) -> Handle
+        // It is 1 plus the number of the instances that became known before it, or 0.
+        ensures handle { (h : List Happening) → StandsFor self.now h
+            → result ≡ handle_of (qos_of self.now) h key }
+    {
+        self.instances.handle(key)
+    }
+}
+
+/// The samples of an access, or that there is none.
+fn answer_of(is_empty: bool, samples: Vec<Sample>) -> Result<Sequence<Sample>, Code>
+    ensures { result ≡ (if is_empty then Err NoData else Ok samples.items) }
+{
+    if is_empty {
+        Err(Code::NoData)
+    } else {
+        Ok(Sequence::from_vec(samples))
     }
 }

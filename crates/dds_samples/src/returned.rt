@@ -1,10 +1,8 @@
 //! What a read or a take leaves of the kept samples.
 
-ghost use Rattle.std.specs.Prelude.{◌≡◌, ◌≤◌, List, map, filter, not, IfOk, vec_len, vec_capacity};
-ghost use Rattle.std.specs.List.{list_any};
-ghost use Rattle.dds_base.specs.declared.happening.SamplePosition.{SamplePosition};
-ghost use Rattle.dds_base.specs.Happening.{same_sample};
-ghost use Rattle.dds_samples.specs.Kept.{marked, is_among};
+ghost use Rattle.std.specs.Prelude.{◌≡◌, ◌≤◌, map, filter, not, IfOk, IfErr, vec_len, vec_capacity};
+ghost use Rattle.dds_base.specs.declared.code.Code.TheVariants.{Memory};
+ghost use Rattle.dds_samples.specs.Kept.{HaveSame, marked, is_among};
 
 use crate::kept::Kept;
 use dds_base::{Code, SamplePosition};
@@ -13,7 +11,8 @@ use std::alloc::Global;
 
 /// The samples, as a set.
 pub fn set_of(alloc: Global, samples: &[SamplePosition]) -> Result<IndexSet<SamplePosition>, Code>
-    ensures { IfOk result (λ set. (s : SamplePosition) → list_any (same_sample s) set.keys ≡ list_any (same_sample s) samples.now) }
+    ensures same { IfOk result (λ set. HaveSame set.keys samples.now) }
+    ensures memory { IfErr result (λ e. e ≡ Memory) }
 {
     let mut set = IndexSet::with_capacity(alloc, samples.len())?;
     for sample in samples {

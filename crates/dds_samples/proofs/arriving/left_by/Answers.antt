@@ -9,11 +9,11 @@ use Rattle.dds_samples.proofs.PresenceLaws.{unknown-absent}
 use Rattle.dds_samples.proofs.KeptLaws.{newest-came, kept-newest, live-at}
 use Rattle.dds_samples.proofs.arriving.left_by.Goals as goal
 
-pub returns-in-None : goal.returns-in-None
-returns-in-None c = λ h stands valid fresh. unknown-absent c.args.qos.now (Came c.args.arrival) h c.args.arrival.change.key (c.in-None.ensures.key c.args.qos.now (Came c.args.arrival ∷ h) stands)
+pub returns-in-None-clause-left : goal.returns-in-None-clause-left
+returns-in-None-clause-left c = λ h stands valid fresh. unknown-absent c.args.qos.now (Came c.args.arrival) h c.args.arrival.change.key (c.in-None.ensures.key c.args.qos.now (Came c.args.arrival ∷ h) stands)
 
-pub returns-then-is_live : goal.returns-then-is_live
-returns-then-is_live c = λ h stands valid fresh.
+pub returns-then-is_live-clause-left : goal.returns-then-is_live-clause-left
+returns-then-is_live-clause-left c = λ h stands valid fresh.
     let q : ReaderQos = c.args.qos.now in
     let g : List Happening = Came c.args.arrival ∷ h in
     let k : Kept = record { sample = record { key = c.args.arrival.change.key; position = c.happened.result }; handle = c.handle.result; number = c.in-Some.known.accepted_writes; is_read = false; valid_data = c.args.is_write; disposed_generation_count = c.in-Some.known.disposed_generations; no_writers_generation_count = c.in-Some.known.no_writers_generations; source_timestamp = c.args.arrival.change.source_timestamp; publication_handle = c.args.arrival.writer; value = c.value_of.result } in
@@ -28,8 +28,8 @@ returns-then-is_live c = λ h stands valid fresh.
       present = live-at q g c.args.arrival.change.key (length h + 1) c.in-Some.known k true known key sample kept (sym c.is_live.ensures ∙ c.if-is_live.true);
     }
 
-pub returns-else-is_live : goal.returns-else-is_live
-returns-else-is_live c = λ h stands valid fresh.
+pub returns-else-is_live-clause-left : goal.returns-else-is_live-clause-left
+returns-else-is_live-clause-left c = λ h stands valid fresh.
     let q : ReaderQos = c.args.qos.now in
     let g : List Happening = Came c.args.arrival ∷ h in
     let k : Kept = record { sample = record { key = c.args.arrival.change.key; position = c.happened.result }; handle = c.handle.result; number = c.in-Some.known.accepted_writes; is_read = false; valid_data = c.args.is_write; disposed_generation_count = c.in-Some.known.disposed_generations; no_writers_generation_count = c.in-Some.known.no_writers_generations; source_timestamp = c.args.arrival.change.source_timestamp; publication_handle = c.args.arrival.writer; value = c.value_of.result } in

@@ -31,5 +31,5 @@ loop-sample-preserved c = λ s.
     more s _ c.loop-sample.set.keys (take c.loop-sample.sample-index c.args.samples.now) (list_any (same_sample s) c.insert.new.self.keys) (c.in_ok-insert.ensures.updates.0 s) (c.loop-sample.invariant s)
     ∙ ap (λ (ss : List SamplePosition). list_any (same_sample s) ss) (sym (take_more c.args.samples.now c.loop-sample.sample-index _ c.loop-sample-test.true))
 
-pub returns : goal.returns
-returns c = λ s. c.loop-sample.invariant s ∙ ap (λ (ss : List SamplePosition). list_any (same_sample s) ss) (take_all c.loop-sample.sample-index c.args.samples.now c.loop-sample-test.false)
+pub returns-clause-same : goal.returns-clause-same
+returns-clause-same c = λ s. c.loop-sample.invariant s ∙ ap (λ (ss : List SamplePosition). list_any (same_sample s) ss) (take_all c.loop-sample.sample-index c.args.samples.now c.loop-sample-test.false)
