@@ -1,62 +1,96 @@
 -- What the forms of an access find, cut to their maximum, is what the definitions pick.
-use Rattle.std.proofs.Common.{◌≡◌, ℕ, List, Bool, true, ◌&&◌, Option, None, ◌==◌, filter, ap, ◌∙◌}
-use Rattle.std.specs.Prelude.{ℤ, Ok, is_some}
+use Rattle.std.proofs.Common.{◌≡◌, ℕ, List, [], ◌∷◌, map, filter, Bool, true, false, ◌==◌, sym, ap, ◌∙◌, refl, subst, cond, Option, Some, None}
+use Rattle.std.specs.Prelude.{nat_lt, if◌then◌else◌}
+use Rattle.std.specs.List.{All}
+use Rattle.std.proofs.lemmas.List.{take-map}
+use Rattle.std.proofs.lemmas.List.Elements.{All-take, All-filter, All-head, All-tail, All-weaker}
 use Rattle.dds_base.specs.declared.happening.SamplePosition.{SamplePosition}
 use Rattle.dds_base.specs.declared.happening.Happening.{Happening}
 use Rattle.dds_base.specs.declared.mask.Masks.{Masks}
+use Rattle.dds_base.specs.declared.sample.Picked.{Picked}
 use Rattle.dds_base.specs.declared.qos.ReaderQos.{ReaderQos}
-use Rattle.dds_base.specs.declared.selection.Selection.TheVariants as selection
-use Rattle.dds_base.specs.Access.{at_most, matching_samples, no_filter, instance_of, handle_of, next_handle, is_of, picked_of_instance}
-use Rattle.dds_base.specs.Checked.{is_maximum, limit_of}
-use Rattle.dds_base.specs.Selection.{unless_bad}
-use Rattle.dds_cache.specs.declared.found.Found.{Found}
-use Rattle.dds_cache.specs.Matching.{IsDescribed, Picks, samples_of, first_above}
-use Rattle.dds_cache.proofs.MatchingLaws.{described-cut}
-use Rattle.dds_cache.proofs.RestrictLaws.{restricted, next-described}
+use Rattle.dds_base.specs.declared.selection.Selection.{Selection}
+use Rattle.dds_base.specs.declared.selection.Selection.TheVariants.{Any, Instance, NextInstance, NextSample}
+use Rattle.dds_base.specs.Access.{at_most, matching_samples, no_filter, handle_of, next_handle}
+use Rattle.dds_base.specs.Selection.{picked_by, selection_refusal}
+use Rattle.dds_cache.specs.declared.access.Candidate.{Candidate}
+use Rattle.dds_cache.specs.declared.kept.Kept.{Kept}
+use Rattle.dds_cache.specs.Finding.{IsCandidate, Finds, sample_in, handle_in}
+use Rattle.dds_cache.specs.Picking.{limit_in, masks_in, of_form, of_selection, has_handle, first_above, Picks}
 
--- new is old, cut to a limit
-abbrev pub IsCut : Option ℕ → Found → Found → Type 0
-IsCut limit old new = (new.samples.items ≡ at_most limit old.samples.items) × (new.picked.items ≡ at_most limit old.picked.items)
+-- the handle of a candidate is that of its instance
+abbrev pub IsOfHandle : ReaderQos → List Happening → Candidate → Type 0
+IsOfHandle q h c = handle_in c ≡ handle_of q h c.sample.key
 
--- new has the samples of one instance among those of old
-abbrev pub IsOfInstance : ℕ → Found → Found → Type 0
-IsOfInstance n old new = (new.samples.items ≡ samples_of n old.samples.items old.picked.items) × (new.picked.items ≡ filter (is_of n) old.picked.items)
+handles : (q : ReaderQos) (h : List Happening) (ks : List Kept) (cs : List Candidate) → All (IsCandidate q h ks) cs → All (IsOfHandle q h) cs
+handles q h ks cs each = All-weaker (IsCandidate q h ks) (IsOfHandle q h) (λ c is. ap (λ (p : Picked). p.instance_handle) is.picked_is) cs each
 
--- these are all the samples that meet the masks
-abbrev pub IsFound : ReaderQos → List Happening → Masks → Found → Type 0
-IsFound q h masks found = (found.samples.items ≡ matching_samples q h masks no_filter) × IsDescribed q h found
+-- ---- the candidates of one instance
 
-good : (b : Bool) → b ≡ true → unless_bad b ≡ None
-good b e = ap unless_bad e
+map-cond : (b : Bool) (c : Candidate) (cs : List Candidate) → map sample_in (cond b (c ∷ cs) cs) ≡ cond b (c.sample ∷ map sample_in cs) (map sample_in cs)
+map-cond true c cs = refl
+map-cond false c cs = refl
 
-pub any-picked : (q : ReaderQos) (h : List Happening) (max : ℤ) (masks : Masks) (limit : Option ℕ) (found new : Found) → is_maximum max ≡ true → limit ≡ limit_of max → IsFound q h masks found → IsCut limit found new
-    → Picks q h (selection.Any max masks) (Ok new)
-any-picked q h max masks limit found new valid limited all cut = (
-  good (is_maximum max) valid,
-  cut.0 ∙ (ap (λ (ss : List SamplePosition). at_most limit ss) all.0 ∙ ap (λ (l : Option ℕ). at_most l (matching_samples q h masks no_filter)) limited),
-  described-cut q h found new limit all.1 cut.0 cut.1,
-)
+of-handle : (q : ReaderQos) (h : List Happening) (n : ℕ) (cs : List Candidate) → All (IsOfHandle q h) cs → map sample_in (filter (has_handle n) cs) ≡ filter (λ (s : SamplePosition). handle_of q h s.key == n) (map sample_in cs)
+of-handle q h n [] each = refl
+of-handle q h n (c ∷ cs) each =
+    map-cond (handle_in c == n) c (filter (has_handle n) cs)
+    ∙ (ap (λ (m : ℕ). cond (m == n) (c.sample ∷ map sample_in (filter (has_handle n) cs)) (map sample_in (filter (has_handle n) cs))) (All-head (IsOfHandle q h) c cs each)
+    ∙ ap (λ (ss : List SamplePosition). cond (handle_of q h c.sample.key == n) (c.sample ∷ ss) ss) (of-handle q h n cs (All-tail (IsOfHandle q h) c cs each)))
 
--- the first samples of one instance
-of-picked : (q : ReaderQos) (h : List Happening) (max : ℤ) (masks : Masks) (limit : Option ℕ) (n : ℕ) (found kept new : Found) → limit ≡ limit_of max → IsFound q h masks found → IsOfInstance n found kept → IsCut limit kept new
-    → (new.samples.items ≡ picked_of_instance q h (limit_of max) masks no_filter n) × IsDescribed q h new
-of-picked q h max masks limit n found kept new limited all of cut =
-    let one = restricted q h n found kept all.1 of.0 of.1 in (
-      cut.0
-          ∙ (ap (λ (ss : List SamplePosition). at_most limit ss) (one.0 ∙ ap (λ (ss : List SamplePosition). filter (λ (s : SamplePosition). handle_of q h s.key == n) ss) all.0)
-          ∙ ap (λ (l : Option ℕ). picked_of_instance q h l masks no_filter n) limited),
-      described-cut q h kept new limit one.1 cut.0 cut.1,
-    )
+above : (q : ReaderQos) (h : List Happening) (n : ℕ) (cs : List Candidate) → All (IsOfHandle q h) cs → first_above n cs ≡ next_handle q h n (map sample_in cs)
+above q h n [] each = refl
+above q h n (c ∷ cs) each =
+    ap (λ (m : ℕ). if nat_lt n m then m else first_above n cs) (All-head (IsOfHandle q h) c cs each)
+    ∙ ap (λ (m : ℕ). if nat_lt n (handle_of q h c.sample.key) then handle_of q h c.sample.key else m) (above q h n cs (All-tail (IsOfHandle q h) c cs each))
 
-pub instance-picked : (q : ReaderQos) (h : List Happening) (max : ℤ) (masks : Masks) (limit : Option ℕ) (n : ℕ) (found kept new : Found) → is_maximum max ≡ true → is_some (instance_of q h n) ≡ true → limit ≡ limit_of max
-    → IsFound q h masks found → IsOfInstance n found kept → IsCut limit kept new → Picks q h (selection.Instance n max masks) (Ok new)
-instance-picked q h max masks limit n found kept new valid known limited all of cut =
-    let picked = of-picked q h max masks limit n found kept new limited all of cut in
-    (good (is_maximum max && is_some (instance_of q h n)) (ap (λ (b : Bool). b && is_some (instance_of q h n)) valid ∙ known), picked.0, picked.1)
+-- the samples of those that an access asks for
+asked-of : (q : ReaderQos) (h : List Happening) (selection : Selection) (cs : List Candidate) → All (IsOfHandle q h) cs → map sample_in (of_selection selection cs) ≡ of_form q h selection (map sample_in cs)
+asked-of q h (Any max masks) cs each = refl
+asked-of q h (Instance handle max masks) cs each = of-handle q h handle cs each
+asked-of q h (NextInstance previous max masks) cs each =
+    of-handle q h (first_above previous cs) cs each ∙ ap (λ (n : ℕ). filter (λ (s : SamplePosition). handle_of q h s.key == n) (map sample_in cs)) (above q h previous cs each)
+asked-of q h NextSample cs each = refl
 
-pub next-picked : (q : ReaderQos) (h : List Happening) (max : ℤ) (masks : Masks) (limit : Option ℕ) (n next : ℕ) (found kept new : Found) → is_maximum max ≡ true → limit ≡ limit_of max → IsFound q h masks found
-    → next ≡ first_above n found.picked.items → IsOfInstance next found kept → IsCut limit kept new → Picks q h (selection.NextInstance n max masks) (Ok new)
-next-picked q h max masks limit n next found kept new valid limited all above of cut =
-    let picked = of-picked q h max masks limit next found kept new limited all of cut in
-    let least : next ≡ next_handle q h n (matching_samples q h masks no_filter) = above ∙ (next-described q h n found all.1 ∙ ap (λ (ss : List SamplePosition). next_handle q h n ss) all.0) in
-    (good (is_maximum max) valid, picked.0 ∙ ap (λ (m : ℕ). picked_of_instance q h (limit_of max) masks no_filter m) least, picked.1)
+-- what holds of each holds of those
+pub asked-all : (P : Candidate → Type 0) (selection : Selection) (cs : List Candidate) → All P cs → All P (of_selection selection cs)
+asked-all P (Any max masks) cs all = all
+asked-all P (Instance handle max masks) cs all = All-filter (has_handle handle) P cs all
+asked-all P (NextInstance previous max masks) cs all = All-filter (has_handle (first_above previous cs)) P cs all
+asked-all P NextSample cs all = all
+
+-- ---- the first ones
+
+at_most-map : (max : Option ℕ) (cs : List Candidate) → map sample_in (at_most max cs) ≡ at_most max (map sample_in cs)
+at_most-map None cs = refl
+at_most-map (Some n) cs = sym (take-map sample_in n cs)
+
+pub at_most-all : (P : Candidate → Type 0) (max : Option ℕ) (cs : List Candidate) → All P cs → All P (at_most max cs)
+at_most-all P None cs all = all
+at_most-all P (Some n) cs all = All-take P n cs all
+
+-- ---- what is picked
+
+by-form : (q : ReaderQos) (h : List Happening) (selection : Selection) → at_most (limit_in selection) (of_form q h selection (matching_samples q h (masks_in selection) no_filter)) ≡ picked_by q h selection no_filter
+by-form q h (Any max masks) = refl
+by-form q h (Instance handle max masks) = refl
+by-form q h (NextInstance previous max masks) = refl
+by-form q h NextSample = refl
+
+pub picked : (q : ReaderQos) (h : List Happening) (selection : Selection) (masks : Masks) (limit : Option ℕ) (ks : List Kept) (found restricted new : List Candidate) → selection_refusal q h selection ≡ None → limit ≡ limit_in selection → masks ≡ masks_in selection
+    → Finds q h masks ks found → restricted ≡ of_selection selection found → new ≡ at_most limit restricted → Picks q h selection ks new
+picked q h selection masks limit ks found restricted new good limited masked finds of cut =
+    let whole : new ≡ at_most limit (of_selection selection found) = cut ∙ ap (λ (cs : List Candidate). at_most limit cs) of in
+    record {
+      good = good;
+      samples_are = ap (λ (cs : List Candidate). map sample_in cs) whole
+          ∙ (at_most-map limit (of_selection selection found)
+          ∙ (ap (λ (ss : List SamplePosition). at_most limit ss) (asked-of q h selection found (handles q h ks found finds.each) ∙ ap (λ (ss : List SamplePosition). of_form q h selection ss) (finds.samples_are ∙ ap (λ (m : Masks). matching_samples q h m no_filter) masked))
+          ∙ (ap (λ (l : Option ℕ). at_most l (of_form q h selection (matching_samples q h (masks_in selection) no_filter))) limited ∙ by-form q h selection)));
+      each = subst (λ (cs : List Candidate). All (IsCandidate q h ks) cs) (sym whole) (at_most-all (IsCandidate q h ks) limit (of_selection selection found) (asked-all (IsCandidate q h ks) selection found finds.each));
+    }
+
+-- what holds of each that was found holds of each that is picked
+pub picked-all : (P : Candidate → Type 0) (selection : Selection) (limit : Option ℕ) (found restricted new : List Candidate) → restricted ≡ of_selection selection found → new ≡ at_most limit restricted → All P found → All P new
+picked-all P selection limit found restricted new of cut all =
+    subst (λ (cs : List Candidate). All P cs) (sym (cut ∙ ap (λ (cs : List Candidate). at_most limit cs) of)) (at_most-all P limit (of_selection selection found) (asked-all P selection found all))

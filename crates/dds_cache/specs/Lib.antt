@@ -1,5 +1,8 @@
-pub mod Registration
-pub mod Track
-pub mod Matching
+pub mod Kept
 pub mod Standing
-pub mod Known
+pub mod Sound
+pub mod Finding
+pub mod Picking
+pub mod Room
+pub mod Dying
+pub mod Sweeping

@@ -1,5 +1,5 @@
--- What a reader's cache stands for, and what its reads and takes answer.
-use Rattle.std.specs.Prelude.{◌≡◌, ◌≢◌, ℕ, List, [], ◌∷◌, Option, None, Result, Ok, Err}
+-- What the samples of a reader, as they are kept, stand for.
+use Rattle.std.specs.Prelude.{◌≡◌, ◌≢◌, ℕ, ◌<◌, ◌-◌, ◌^◌, min, List, [], ◌∷◌, length, filter, All, false, Option, None, Result, Ok, Err}
 use Rattle.dds_base.specs.declared.code.Code.{Code}
 use Rattle.dds_base.specs.declared.code.Code.TheVariants.{NoData}
 use Rattle.dds_base.specs.declared.happening.SamplePosition.{SamplePosition}
@@ -7,17 +7,26 @@ use Rattle.dds_base.specs.declared.happening.Happening.{Happening}
 use Rattle.dds_base.specs.declared.sample.Sample.{Sample}
 use Rattle.dds_base.specs.declared.qos.ReaderQos.{ReaderQos}
 use Rattle.dds_base.specs.declared.selection.Selection.{Selection}
+use Rattle.dds_base.specs.declared.key.Key.{Key}
+use Rattle.dds_base.specs.Happening.{is_read, is_taken, arrivals}
+use Rattle.dds_base.specs.Presence.{is_present, up_to}
 use Rattle.dds_base.specs.Access.{no_filter, collection_of}
 use Rattle.dds_base.specs.Refusal.{Refuses}
 use Rattle.dds_base.specs.Selection.{picked_by, selection_refusal}
+use Rattle.dds_cache.specs.declared.kept.Kept.{Kept}
+use Rattle.dds_cache.specs.Kept.{IsKept, positions_in, sample_at}
+use Rattle.dds_instances.specs.Table.{Table, Stands}
 
--- what a cache keeps, and for how many more entries it has memory
+-- what is kept: the instances, the samples in the order in which they came, how many changes came, and for how
+-- many more entries it has memory
 pub record Stored : Type 0 where
   pub qos : ReaderQos
-  pub happenings : List Happening
+  pub instances : Table
+  pub samples : List Kept
+  pub arrivals : ℕ
   pub room : ℕ
 
--- the policies and the matched writers that a cache was opened with
+-- the policies and the matched writers that it was opened with
 abbrev pub qos_of : Stored → ReaderQos
 qos_of stored = stored.qos
 
@@ -25,9 +34,16 @@ qos_of stored = stored.qos
 abbrev pub room_of : Stored → ℕ
 room_of stored = stored.room
 
--- the cache stands for what happened
+-- what is kept stands for what happened: so do its instances; each kept sample is what it was; the present samples of
+-- each instance are kept in their order; no access returned what had not happened; and the changes are counted, up to a
+-- bound
 pub record StandsFor (stored : Stored) (h : List Happening) : Type 0 where
-  pub all : stored.happenings ≡ h
+  pub instances : Stands stored.qos stored.instances h
+  pub each : All (IsKept stored.qos h) stored.samples
+  pub present : (i : Key) → filter (is_present stored.qos h i) (up_to (length h)) ≡ positions_in stored.qos h i stored.samples
+  pub unread : (i : Key) (j : ℕ) → length h < j → is_read (sample_at i j) h ≡ false
+  pub untaken : (i : Key) (j : ℕ) → length h < j → is_taken (sample_at i j) h ≡ false
+  pub arrivals_are : stored.arrivals ≡ min (arrivals h) (2 ^ 31 - 1)
 
 -- what an access without a filter picks
 abbrev pub picked : Stored → List Happening → Selection → List SamplePosition

@@ -1,140 +1,170 @@
-//! The samples that meet the masks, and the collection of those that an access returns.
+//! What a read or a take returns.
 
-ghost use Rattle.std.specs.Prelude.{◌≡◌, ◌++◌, ◌∷◌, ◌<◌, ◌^◌, List, length, map, IfOk, IfErr, OnOk};
-ghost use Rattle.std.specs.List.{flat_map};
+ghost use Rattle.std.specs.Prelude.{◌≡◌, ◌+◌, ◌&&◌, Some, if◌then◌else◌, ◌<◌, ◌^◌, List, ℕ, false, true, map, filter, All, MatchOption, length, IfSome, IfOk, OnOk};
+ghost use Rattle.std.specs.List.Sorted.{IsPermutation, IsNonDecreasingBy, IsStableByKey};
+ghost use Rattle.std.specs.Ordering.{nat_cmp};
 ghost use Rattle.dds_base.specs.declared.happening.Happening.{Happening};
-ghost use Rattle.dds_base.specs.Happening.{as_of};
-ghost use Rattle.dds_base.specs.Instance.{known_instances};
-ghost use Rattle.dds_base.specs.Access.{matching_samples, no_filter, picked_of, infos_of, collection_of};
-ghost use Rattle.dds_cache.specs.Matching.{IsInstance, IsDescribed, matching_of, value_if};
+ghost use Rattle.dds_base.specs.declared.sample.SampleState.TheVariants.{Read as HasBeenRead, NotRead};
+ghost use Rattle.dds_base.specs.Access.{own_generations};
+ghost use Rattle.dds_instances.specs.Table.{Stands};
+ghost use Rattle.dds_cache.specs.Kept.{IsKept, is_live};
+ghost use Rattle.dds_cache.specs.Finding.{are_asked_for, is_wanted, described_by, IsFound, IsSmall, IsPlaced, AreCandidates, Holds, Finds, sample_in, picked_in, handle_in};
 
-use crate::found::Found;
-use crate::history::{history_at, split_at_position};
-use crate::instance::InstanceAtCall;
-use crate::instances::known_keys;
-use crate::track::InstanceTrack;
-use dds_base::{
-    Code, Happening, Key, Masks, Octets, ReaderQos, Sample, SampleInfo, SamplePosition,
-};
-use dds_info::fill;
+use crate::kept::Kept;
+use crate::masks::{asks_for_instance, asks_for_sample, asks_for_view};
+use dds_base::{InstanceState, Masks, Picked, ReaderQos, SamplePosition, SampleState, ViewState};
+use dds_instances::{Instances, KnownInstance};
 use std::alloc::{AllocError, Global};
 
-/// Adds the matching samples of one instance, by position.
-fn push_matching(
-    found: &mut Found,
-    alloc: Global,
-    qos: &ReaderQos,
-    entries: &[Happening],
-    masks: Masks,
-    instance: &InstanceAtCall,
-) -> Result<(), AllocError>
-    requires instance { IsInstance qos.now entries.now instance.now }
-    requires described { IsDescribed qos.now entries.now found.old }
-    ensures samples { OnOk result (found.new.samples.items ≡ found.old.samples.items ++ matching_of qos.now entries.now masks instance.now.key) }
-    ensures described { OnOk result (IsDescribed qos.now entries.now found.new) }
-{
-    let key = instance.key;
-    let mut track = InstanceTrack::new(alloc, qos)?;
-    for position in 0..entries.len() {
-        let (entry, older) = split_at_position(entries, position);
-        track.advance(qos, key, entry, older);
-        let at = position as u64 + 1;
-        if instance.is_wanted(qos, entries, masks, &track, at) {
-            let picked = instance.described(qos, entries, &track, entry, older);
-            found.push(SamplePosition { key, position: at }, picked)?;
-        }
-    }
-    Ok(())
+/// A sample that an access finds: what is known of it before its ranks, and where it is kept.
+#[derive(Clone, Copy)]
+pub struct Candidate {
+    pub sample: SamplePosition,
+    pub picked: Picked,
+    pub at: usize,
 }
 
-/// The matching samples, by handle and then by position.
-fn find_matching(
-    alloc: Global,
-    qos: &ReaderQos,
-    entries: &[Happening],
+/// Whether the masks ask for these states.
+fn is_asked(
     masks: Masks,
-    keys: &[Key],
-) -> Result<Found, AllocError>
-    requires { keys.now ≡ known_instances qos.now entries.now }
-    ensures samples { IfOk result (λ found. found.samples.items ≡ flat_map (matching_of qos.now entries.now masks) keys.now) }
-    ensures described { IfOk result (IsDescribed qos.now entries.now) }
+    sample: SampleState,
+    view: ViewState,
+    instance: Option<InstanceState>,
+) -> bool
+    ensures { result ≡ are_asked_for masks sample view instance }
 {
-    let mut found = Found::new(alloc);
-    for key in keys {
-        let instance = InstanceAtCall::of(alloc, qos, entries, keys, *key)?;
-        push_matching(&mut found, alloc, qos, entries, masks, &instance)?;
+    asks_for_sample(masks.samples, sample)
+        && (asks_for_view(masks.views, view) && asks_for_instance(masks.instances, instance))
+}
+
+fn sample_state(is_read: bool) -> SampleState
+    ensures { result ≡ (if is_read then HasBeenRead else NotRead) }
+{
+    if is_read {
+        SampleState::Read
+    } else {
+        SampleState::NotRead
+    }
+}
+
+/// What is known of a kept sample before its ranks, by what is known of its instance.
+fn picked(kept: &Kept, known: &KnownInstance) -> Picked
+    requires small { known.now.disposed_generations + known.now.no_writers_generations < 2 ^ 64 }
+    ensures { result ≡ described_by kept.now known.now }
+{
+    Picked {
+        sample_state: sample_state(kept.is_read),
+        view_state: known.view,
+        instance_state: known.state,
+        disposed_generation_count: kept.disposed_generation_count,
+        no_writers_generation_count: kept.no_writers_generation_count,
+        instance_generations: known.disposed_generations + known.no_writers_generations,
+        source_timestamp: kept.source_timestamp,
+        instance_handle: kept.handle,
+        publication_handle: kept.publication_handle,
+        valid_data: kept.valid_data,
+    }
+}
+
+/// Whether a kept sample is present and meets the masks, by what is known of its instance.
+fn is_found(kept: &Kept, qos: &ReaderQos, masks: Masks, known: &KnownInstance) -> bool
+    ensures { result ≡ (is_live qos.now known.now kept.now && are_asked_for masks (if kept.now.is_read then HasBeenRead else NotRead) known.now.view (Some known.now.state)) }
+{
+    kept.is_live(qos, known)
+        && is_asked(
+            masks,
+            sample_state(kept.is_read),
+            known.view,
+            Some(known.state),
+        )
+}
+
+/// The kept sample at an index as a candidate, if it is present and meets the masks.
+fn as_candidate(
+    instances: &Instances,
+    qos: &ReaderQos,
+    masks: Masks,
+    kept: &Kept,
+    at: usize,
+) -> Option<Candidate>
+    requires small { IsSmall kept.now }
+    ensures placed { IfSome result (λ c. (c.at ≡ at) × (own_generations c.picked < 2 ^ 64)) }
+    ensures wanted { (h : List Happening) → Stands qos.now instances.now h → IsKept qos.now h kept.now → MatchOption result (is_wanted qos.now h masks kept.now ≡ false) (IsFound qos.now h masks kept.now at) }
+{
+    match instances.at(kept.handle) {
+        None => None,
+        Some(known) => {
+            if is_found(kept, qos, masks, &known) {
+                Some(Candidate {
+                    sample: kept.sample,
+                    picked: picked(kept, &known),
+                    at,
+                })
+            } else {
+                None
+            }
+        }
+    }
+}
+
+/// The candidates, in the order in which they came.
+fn find_candidates(
+    alloc: Global,
+    instances: &Instances,
+    qos: &ReaderQos,
+    masks: Masks,
+    samples: &[Kept],
+) -> Result<Vec<Candidate>, AllocError>
+    requires small { All IsSmall samples.now }
+    ensures placed { IfOk result (λ cs. All (IsPlaced (length samples.now)) cs.items) }
+    ensures found { IfOk result (λ cs. (h : List Happening) → Stands qos.now instances.now h → All (IsKept qos.now h) samples.now → AreCandidates qos.now h masks samples.now samples.now cs.items) }
+{
+    let mut found = Vec::new(alloc);
+    for at in 0..samples.len() {
+        if let Some(candidate) = as_candidate(instances, qos, masks, &samples[at], at) {
+            found.push(candidate)?;
+        }
     }
     Ok(found)
 }
 
-/// The present samples that meet the masks, by handle and then by position, with what is known of each before its ranks.
-pub fn find(
+/// By handle, those of one instance in the order in which they came.
+fn sort_by_handle(candidates: &mut Vec<Candidate>) -> Result<(), AllocError>
+    ensures permutation { IsPermutation candidates.old.items candidates.new.items }
+    ensures sorted { OnOk result (IsNonDecreasingBy handle_in candidates.new.items) }
+    ensures stable { IsStableByKey handle_in nat_cmp candidates.old.items candidates.new.items }
+{
+    candidates.sort_by_key(|c| c.picked.instance_handle.number())?;
+    Ok(())
+}
+
+/// The present samples that meet the masks, by handle, and those of one instance in the order in which they came.
+pub fn find_matching(
     alloc: Global,
+    instances: &Instances,
     qos: &ReaderQos,
-    entries: &[Happening],
     masks: Masks,
-) -> Result<Found, AllocError>
-    ensures samples { IfOk result (λ found. found.samples.items ≡ matching_samples qos.now entries.now masks no_filter) }
-    ensures described { IfOk result (IsDescribed qos.now entries.now) }
+    samples: &[Kept],
+) -> Result<Vec<Candidate>, AllocError>
+    requires small { All IsSmall samples.now }
+    ensures placed { IfOk result (λ found. All (IsPlaced (length samples.now)) found.items) }
+    ensures found { IfOk result (λ found. (h : List Happening) → Holds qos.now instances.now samples.now h → Finds qos.now h masks samples.now found.items) }
 {
-    let keys = known_keys(alloc, entries)?;
-    find_matching(alloc, qos, entries, masks, &keys)
+    let mut found = find_candidates(alloc, instances, qos, masks, samples)?;
+    sort_by_handle(&mut found)?;
+    Ok(found)
 }
 
-/// The value of the change at a position, if it counts, else the empty one.
-fn value_at(
-    alloc: Global,
-    entries: &[Happening],
-    position: u64,
-    valid: bool,
-) -> Result<Octets, AllocError>
-    ensures { IfOk result (λ value. value ≡ value_if valid (as_of position entries.now)) }
+/// The samples that were found.
+pub fn positions(alloc: Global, found: &[Candidate]) -> Result<Vec<SamplePosition>, AllocError>
+    ensures { IfOk result (λ positions. positions.items ≡ map sample_in found.now) }
 {
-    let mut value = Vec::new(alloc);
-    if valid {
-        if let [Happening::Came(a), ..] = history_at(entries, position) {
-            value.extend_from_slice(a.change.value.as_slice())?;
-        }
-    }
-    Ok(Octets::from_vec(value))
+    found.iter().map(|c| c.sample).collect(alloc)
 }
 
-/// Samples with their infos, each with its key and its value.
-fn valued(
-    alloc: Global,
-    qos: &ReaderQos,
-    entries: &[Happening],
-    samples: &[SamplePosition],
-    infos: &[SampleInfo],
-) -> Result<Vec<Sample>, AllocError>
-    requires { infos.now ≡ infos_of (map (picked_of qos.now entries.now) samples.now) }
-    ensures { IfOk result (λ collection. collection.items ≡ collection_of qos.now entries.now samples.now) }
+/// What is known of them before their ranks.
+pub fn descriptions(alloc: Global, found: &[Candidate]) -> Result<Vec<Picked>, AllocError>
+    ensures { IfOk result (λ picked. picked.items ≡ map picked_in found.now) }
 {
-    let mut collection = Vec::with_capacity(alloc, samples.len())?;
-    for at in 0..samples.len() {
-        let sample = samples[at];
-        let info = infos[at];
-        let value = value_at(alloc, entries, sample.position, info.valid_data)?;
-        collection.push(Sample {
-            key: sample.key,
-            value,
-            info,
-        })?;
-    }
-    Ok(collection)
-}
-
-/// The picked samples, each with its key, its value and its info.
-pub fn collect(
-    alloc: Global,
-    qos: &ReaderQos,
-    entries: &[Happening],
-    found: &Found,
-) -> Result<Vec<Sample>, Code>
-    requires { IsDescribed qos.now entries.now found.now }
-    ensures ok { IfOk result (λ samples. samples.items ≡ collection_of qos.now entries.now found.now.samples.items) }
-    ensures memory { IfErr result (λ e. e ≡ Code.Memory) }
-{
-    let infos = fill(alloc, &found.picked)?;
-    Ok(valued(alloc, qos, entries, &found.samples, &infos)?)
+    found.iter().map(|c| c.picked).collect(alloc)
 }

@@ -1,20 +1,19 @@
-//! What a reader holds, read and taken: a plain program over the stored list of what happened.
+//! What a reader holds: its present samples, and its instances, kept up with what happens by running counters.
 //!
 //! DDS 1.4, 2.2.2.5 (read, take, SampleInfo), 2.2.3 (OWNERSHIP, HISTORY). `docs/MODEL.md`, "What is
 //! present" and "What an access returns".
-//! Not here: which changes come, and when (the reader's protocol).
 #![tactic(auto)]
 
 mod access;
-mod found;
-mod history;
-mod instance;
-mod instances;
+mod arriving;
+mod collection;
+mod dying;
+mod kept;
 mod masks;
 mod pick;
 mod reader_cache;
-mod registration;
 mod returned;
-mod track;
+mod room;
+mod sweeping;
 
 pub use reader_cache::ReaderCache;

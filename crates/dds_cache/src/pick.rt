@@ -2,15 +2,29 @@
 //!
 //! DDS 1.4, 2.2.2.5 (read, take, and their instance, next-instance and next-sample forms).
 
-ghost use Rattle.std.specs.Prelude.{◌≡◌, IfOk, ℕ};
-ghost use Rattle.dds_base.specs.declared.selection.Selection.TheVariants as selection;
-ghost use Rattle.dds_cache.specs.Matching.{Picks, IsLimit};
+ghost use Rattle.std.specs.Prelude.{◌≡◌, ℕ, List, length, filter, All, IfOk, IfErr};
+ghost use Rattle.dds_base.specs.declared.happening.Happening.{Happening};
+ghost use Rattle.dds_base.specs.declared.qos.ReaderQos.{ReaderQos};
+ghost use Rattle.dds_base.specs.Access.{at_most};
+ghost use Rattle.dds_base.specs.Refusal.{Refuses};
+ghost use Rattle.dds_base.specs.Selection.{selection_refusal};
+ghost use Rattle.dds_instances.specs.Table.{Stands};
+ghost use Rattle.dds_cache.specs.Finding.{Holds, IsPlaced, IsSmall};
+ghost use Rattle.dds_cache.specs.Picking.{IsLimit, IsRequestWith, IsRequest, Picks};
+ghost use Rattle.dds_cache.specs.Picking.{has_handle, first_above, of_selection};
 
-use crate::access::find;
-use crate::found::Found;
-use crate::instances::key_of;
-use dds_base::{Code, Handle, Happening, Masks, ReaderQos, Selection};
-use std::alloc::{AllocError, Global};
+use crate::access::{Candidate, find_matching};
+use crate::kept::Kept;
+use dds_base::{Code, Handle, Masks, ReaderQos, Selection};
+use dds_instances::Instances;
+use std::alloc::Global;
+
+/// How many samples an access asks for at most, and which masks they have to meet.
+#[derive(Clone, Copy)]
+struct Request {
+    limit: Option<u32>,
+    masks: Masks,
+}
 
 /// How many samples a maximum allows; `BadParameter` where it is neither -1 nor positive.
 fn limit_from(max: i32) -> Result<Option<u32>, Code>
@@ -25,68 +39,83 @@ fn limit_from(max: i32) -> Result<Option<u32>, Code>
     }
 }
 
-fn pick_any(
-    alloc: Global,
-    qos: &ReaderQos,
-    entries: &[Happening],
-    max: i32,
-    masks: Masks,
-) -> Result<Found, Code>
-    ensures { Picks qos.now entries.now (selection.Any max masks) result }
+fn request_with(max: i32, masks: Masks) -> Result<Request, Code>
+    ensures { IsRequestWith max masks result }
 {
     let limit = limit_from(max)?;
-    let mut found = find(alloc, qos, entries, masks)?;
-    found.cut(limit);
-    Ok(found)
+    Ok(Request { limit, masks })
 }
 
-fn pick_of_instance(
-    alloc: Global,
-    qos: &ReaderQos,
-    entries: &[Happening],
-    handle: Handle,
-    max: i32,
-    masks: Masks,
-) -> Result<Found, Code>
-    ensures { Picks qos.now entries.now (selection.Instance handle max masks) result }
+/// What an access asks for.
+///
+/// # Errors
+///
+/// `BadParameter` for a maximum that is neither -1 nor positive, and for an instance that is not known where it has to be.
+fn request_by(instances: &Instances, selection: &Selection) -> Result<Request, Code>
+    ensures { (q : ReaderQos) (h : List Happening) → Stands q instances.now h
+        → IsRequest q h selection.now result }
 {
-    let limit = limit_from(max)?;
-    if key_of(entries, handle).is_none() {
-        return Err(Code::BadParameter);
+    match *selection {
+        Selection::Any { max, masks } => request_with(max, masks),
+        Selection::NextInstance { max, masks, .. } => request_with(max, masks),
+        Selection::Instance { handle, max, masks } => {
+            let request = request_with(max, masks)?;
+            if instances.key(handle).is_some() {
+                Ok(request)
+            } else {
+                Err(Code::BadParameter)
+            }
+        }
+        Selection::NextSample => Ok(Request {
+            limit: Some(1),
+            masks: Masks::NOT_READ,
+        }),
     }
-    let found = find(alloc, qos, entries, masks)?;
-    let mut restricted = found.of_instance(alloc, handle)?;
-    restricted.cut(limit);
-    Ok(restricted)
 }
 
-fn pick_of_next_instance(
-    alloc: Global,
-    qos: &ReaderQos,
-    entries: &[Happening],
-    previous: Handle,
-    max: i32,
-    masks: Masks,
-) -> Result<Found, Code>
-    ensures { Picks qos.now entries.now (selection.NextInstance previous max masks) result }
+/// Leaves those of one instance.
+fn keep_instance(found: &mut Vec<Candidate>, handle: Handle)
+    ensures { found.new.items ≡ filter (has_handle handle) found.old.items }
 {
-    let limit = limit_from(max)?;
-    let found = find(alloc, qos, entries, masks)?;
-    let next = found.handle_above(previous);
-    let mut restricted = found.of_instance(alloc, next)?;
-    restricted.cut(limit);
-    Ok(restricted)
+    found.retain(|c| c.picked.instance_handle == handle);
 }
 
-fn pick_next_sample(alloc: Global, qos: &ReaderQos, entries: &[Happening]) -> Result<Found, Code>
-    ensures { Picks qos.now entries.now selection.NextSample result }
+/// The first handle above one, `NIL` for none.
+fn handle_above(found: &[Candidate], previous: Handle) -> Handle
+    ensures { result ≡ first_above previous found.now }
 {
-    let mut found = find(alloc, qos, entries, Masks::NOT_READ)?;
-    found.cut(Some(1));
-    Ok(found)
+    for candidate in found {
+        if previous.number() < candidate.picked.instance_handle.number() {
+            return candidate.picked.instance_handle;
+        }
+    }
+    Handle::NIL
 }
 
-/// The samples that an access picks, with what is known of each before its ranks.
+/// Leaves those of an instance that the access asks for.
+fn restrict(found: &mut Vec<Candidate>, selection: &Selection)
+    ensures { found.new.items ≡ of_selection selection.now found.old.items }
+{
+    match *selection {
+        Selection::Any { .. } | Selection::NextSample => {}
+        Selection::Instance { handle, .. } => keep_instance(found, handle),
+        Selection::NextInstance { previous, .. } => {
+            let next = handle_above(found, previous);
+            keep_instance(found, next);
+        }
+    }
+}
+
+/// Leaves the first ones, `max` of them at most.
+fn cut_to(found: &mut Vec<Candidate>, max: Option<u32>)
+    ensures { found.new.items ≡ at_most max found.old.items }
+{
+    if let Some(max) = max {
+        found.truncate(max as usize);
+    }
+}
+
+/// The kept samples that an access picks, with what is known of each before its ranks.
 ///
 /// # Errors
 ///
@@ -94,22 +123,21 @@ fn pick_next_sample(alloc: Global, qos: &ReaderQos, entries: &[Happening]) -> Re
 /// else `Memory` where a growth was refused.
 pub fn pick(
     alloc: Global,
+    instances: &Instances,
     qos: &ReaderQos,
-    entries: &[Happening],
+    samples: &[Kept],
     selection: Selection,
-) -> Result<Found, Code>
-    ensures { Picks qos.now entries.now selection result }
+) -> Result<Vec<Candidate>, Code>
+    requires small { All IsSmall samples.now }
+    ensures placed { IfOk result (λ found. All (IsPlaced (length samples.now)) found.items) }
+    ensures picks { IfOk result (λ found. (h : List Happening)
+        → Holds qos.now instances.now samples.now h → Picks qos.now h selection samples.now found.items) }
+    ensures refused { IfErr result (λ e. (h : List Happening) → Stands qos.now instances.now h
+        → Refuses (selection_refusal qos.now h selection) e) }
 {
-    match selection {
-        Selection::Any { max, masks } => pick_any(alloc, qos, entries, max, masks),
-        Selection::Instance { handle, max, masks } => {
-            pick_of_instance(alloc, qos, entries, handle, max, masks)
-        }
-        Selection::NextInstance {
-            previous,
-            max,
-            masks,
-        } => pick_of_next_instance(alloc, qos, entries, previous, max, masks),
-        Selection::NextSample => pick_next_sample(alloc, qos, entries),
-    }
+    let request = request_by(instances, &selection)?;
+    let mut found = find_matching(alloc, instances, qos, request.masks, samples)?;
+    restrict(&mut found, &selection);
+    cut_to(&mut found, request.limit);
+    Ok(found)
 }

@@ -1,48 +1,63 @@
-//! A reader's cache: what happened at the reader, stored.
+//! The samples of a reader and its instances, kept up with what happens.
 
-ghost use Rattle.std.specs.Prelude.{◌≡◌, ◌+◌, ◌≤◌, ◌∷◌, [], if◌then◌else◌, List, IsOk, OnOk, OnErr, IfOk, IfErr};
+ghost use Rattle.std.specs.Prelude.{◌≡◌, ℕ, ◌+◌, ◌≤◌, ◌∷◌, [], if◌then◌else◌, List, All, IsOk, OnOk, OnErr, IfOk, IfErr};
 ghost use Rattle.dds_base.specs.declared.happening.Happening.{Happening};
 ghost use Rattle.dds_base.specs.declared.happening.Happening.TheVariants.{Came, Passed, Heard, Died, Read, Took};
 ghost use Rattle.dds_base.specs.declared.code.Code.TheVariants.{Memory, NoData};
+ghost use Rattle.dds_base.specs.Access.{instance_of, handle_of};
 ghost use Rattle.dds_base.specs.Ownership.{IsMatched};
-ghost use Rattle.dds_base.specs.Access.{no_filter, collection_of, instance_of, handle_of};
+ghost use Rattle.dds_base.specs.Presence.{has_room};
 ghost use Rattle.dds_base.specs.Refusal.{Refuses};
-ghost use Rattle.dds_base.specs.Selection.{picked_by, selection_refusal};
+ghost use Rattle.dds_base.specs.Selection.{selection_refusal};
+ghost use Rattle.dds_instances.specs.Known.{IsReturnable};
+ghost use Rattle.dds_cache.specs.Kept.{HaveSame};
+ghost use Rattle.dds_cache.specs.Picking.{IsAccess};
 ghost use Rattle.dds_cache.specs.Standing.{qos_of, room_of, StandsFor, Answers, AfterAccess};
 
-use crate::access::collect;
-use crate::found::Found;
-use crate::instances::{handle_of, key_of};
+use crate::arriving::{add_left, is_accepted_write};
+use crate::collection::{Access, gather};
+use crate::dying::add_markers;
+use crate::kept::Kept;
 use crate::pick::pick;
+use crate::returned::{mark_all, remove_all};
+use crate::room::{count_arrival, is_room};
+use crate::sweeping::{next_sweep, sweep};
 use dds_base::{
-    Arrival, Code, Handle, Happening, Key, Moment, ReaderQos, Sample, SamplePosition, Selection,
-    Sequence, Sn,
+    Arrival, Code, Handle, Key, Moment, ReaderQos, Sample, SamplePosition, Selection, Sequence, Sn,
 };
+use dds_instances::Instances;
 use std::alloc::Global;
 use std::marker::Model;
 
-/// What a reader holds: all that happened at it, the newest first.
+/// What a reader holds: its instances, and its samples in the order in which they came.
 ///
-/// A read or a take computes its answer from the whole list, at a cost of about the number of entries times the
-/// number of instances.
+/// A change takes about the same time however many samples and instances there are; now and then the samples that are no
+/// longer present are swept out. A read or a take goes once over the samples, and sorts those that it returns by handle.
 #[derive(Drop)]
 pub struct ReaderCache {
     alloc: Global,
     qos: ReaderQos,
-    entries: Vec<Happening>,
+    instances: Instances,
+    /// The present samples, and some that are no longer present, but none that was taken.
+    samples: Vec<Kept>,
+    /// How many changes came: at most `MAX_ARRIVALS`, where it stays.
+    arrivals: u32,
+    /// How many samples there are when they are swept next.
+    sweep_at: usize,
+    /// For how many more changes there is memory.
+    room: usize,
 }
 
 impl Model for ReaderCache {
-    ghost use Rattle.std.specs.Prelude.{◌-◌, vec_len, vec_capacity};
     ghost use Rattle.dds_cache.specs.Standing.{Stored};
 
     ghost Value = { Stored };
 
-    ghost view = { λ c. record {
-      qos = c.qos;
-      happenings = c.entries.items;
-      room = vec_capacity c.entries - vec_len c.entries;
-    } };
+    ghost use Rattle.dds_cache.specs.Sound.{stored_of, IsSound};
+
+    ghost view = { stored_of };
+
+    ghost invariant = { IsSound };
 }
 
 impl ReaderCache {
@@ -53,10 +68,15 @@ impl ReaderCache {
         // The policies are those given.
         ensures qos { qos_of result ≡ qos }
     {
+        let instances = Instances::open(alloc, &qos);
         ReaderCache {
             alloc,
             qos,
-            entries: Vec::new(alloc),
+            instances,
+            samples: Vec::new(alloc),
+            arrivals: 0,
+            sweep_at: next_sweep(0),
+            room: 0,
         }
     }
 
@@ -81,22 +101,60 @@ impl ReaderCache {
         // It is refused for want of memory alone.
         ensures memory { IfErr result (λ e. e ≡ Memory) }
     {
-        self.entries.reserve(additional)?;
+        if additional <= self.room {
+            return Ok(());
+        }
+        self.samples.reserve(additional)?;
+        self.instances.reserve(additional)?;
+        self.room = additional;
         Ok(())
     }
 
-    fn enter(&mut self, entry: Happening) -> Result<(), Code>
-        ensures ok { OnOk result (self.new.happenings ≡ entry ∷ self.old.happenings) }
-        ensures qos { self.new.qos ≡ self.old.qos }
-        ensures reserved { 1 ≤ self.old.room → IsOk result }
-        ensures room { self.old.room ≤ self.new.room + 1 }
+    /// Takes up a change, in the room that there is.
+    fn take_up(&mut self, arrival: Arrival)
+        requires room { 1 ≤ room_of self.old }
+        ensures stands { (h : List Happening) → StandsFor self.old h → StandsFor self.new (Came arrival ∷ h) }
+        ensures qos { qos_of self.new ≡ qos_of self.old }
+        ensures room { room_of self.new + 1 ≡ room_of self.old }
+    {
+        let is_write = is_accepted_write(&self.instances, &self.qos, &arrival);
+        self.instances.come(&self.qos, &arrival).unwrap();
+        add_left(
+            self.alloc,
+            &self.instances,
+            &self.qos,
+            &mut self.samples,
+            arrival,
+            is_write,
+        );
+        self.arrivals = count_arrival(self.arrivals);
+        self.room -= 1;
+    }
+
+    /// Lets the samples go that are no longer present, where there are twice as many as the sweep before left.
+    fn sweep_if_due(&mut self)
+        ensures same { (h : List Happening) → StandsFor self.old h → StandsFor self.new h }
+        ensures qos { qos_of self.new ≡ qos_of self.old }
+        ensures room { room_of self.new ≡ room_of self.old }
+    {
+        if self.samples.len() >= self.sweep_at {
+            sweep(&self.instances, &self.qos, &mut self.samples);
+            self.sweep_at = next_sweep(self.samples.len());
+        }
+    }
+
+    /// Takes up an entry that says nothing of any instance.
+    fn skip(&mut self) -> Result<(), Code>
+        ensures passed { OnOk result ((h : List Happening) (w first last : ℕ) → StandsFor self.old h → StandsFor self.new (Passed w first last ∷ h)) }
+        ensures heard { OnOk result ((h : List Happening) (w moment : ℕ) → StandsFor self.old h → StandsFor self.new (Heard w moment ∷ h)) }
+        ensures qos { qos_of self.new ≡ qos_of self.old }
+        ensures reserved { 1 ≤ room_of self.old → IsOk result }
+        ensures room { room_of self.old ≤ room_of self.new + 1 }
         ensures err { OnErr result (self.new ≡ self.old) }
         ensures memory { IfErr result (λ e. e ≡ Memory) }
     {
-        self.entries.reserve(1)?;
-        if self.entries.insert(0, entry).is_err() {
-            unreachable!();
-        }
+        self.instances.skip()?;
+        self.room = self.room.saturating_sub(1);
         Ok(())
     }
 
@@ -124,7 +182,10 @@ impl ReaderCache {
         // It is refused for want of memory alone.
         ensures memory { IfErr result (λ e. e ≡ Memory) }
     {
-        self.enter(Happening::Came(arrival))
+        self.reserve(1)?;
+        self.take_up(arrival);
+        self.sweep_if_due();
+        Ok(())
     }
 
     /// Takes up that the changes from `first` to `last` of a matched writer, both of them too, were passed over.
@@ -150,11 +211,9 @@ impl ReaderCache {
         // It is refused for want of memory alone.
         ensures memory { IfErr result (λ e. e ≡ Memory) }
     {
-        self.enter(Happening::Passed {
-            writer,
-            first,
-            last,
-        })
+        let _ = (writer, first, last);
+        self.skip()?;
+        Ok(())
     }
 
     /// Takes up that a matched writer asserted its liveliness without a change, at a moment of the reader's peer.
@@ -180,7 +239,9 @@ impl ReaderCache {
         // It is refused for want of memory alone.
         ensures memory { IfErr result (λ e. e ≡ Memory) }
     {
-        self.enter(Happening::Heard { writer, moment })
+        let _ = (writer, moment);
+        self.skip()?;
+        Ok(())
     }
 
     /// Takes up that the lease of a matched writer ran out, at a moment of the reader's peer.
@@ -202,22 +263,90 @@ impl ReaderCache {
         // It is refused for want of memory alone.
         ensures memory { IfErr result (λ e. e ≡ Memory) }
     {
-        self.enter(Happening::Died { writer, moment })
+        let count = self.instances.len();
+        let additional = count.checked_add(self.room).ok_or(Code::Memory)?;
+        self.samples.reserve(additional)?;
+        self.instances.died(writer)?;
+        add_markers(
+            self.alloc,
+            &self.instances,
+            &mut self.samples,
+            count,
+            writer,
+            moment,
+        );
+        self.room = self.room.saturating_sub(1);
+        Ok(())
     }
 
-    fn access(&self, selection: Selection) -> Result<Access, Code>
-        ensures positions { IfOk result (λ access. access.positions.items ≡ picked_by self.now.qos self.now.happenings selection no_filter) }
-        ensures samples { IfOk result (λ access. access.samples.items ≡ collection_of self.now.qos self.now.happenings access.positions.items) }
-        ensures good { IfOk result (λ access. selection_refusal self.now.qos self.now.happenings selection ≡ None) }
-        ensures refused { IfErr result (Refuses (selection_refusal self.now.qos self.now.happenings selection)) }
+    /// Whether there is room for a change by the limits of the policies: fewer than 2^31 - 1 changes came with it, and if it
+    /// is accepted, the present writes and the known instances are as many as they may be. It needs no memory.
+    ///
+    /// It goes once over the samples, if there is a limit to them.
+    ///
+    /// DDS 1.4, 2.2.3 (RESOURCE_LIMITS).
+    pub fn has_room(&self, arrival: &Arrival) -> bool
+        // It is so by the definitions.
+        ensures room { (h : List Happening) → StandsFor self.now h → result ≡ has_room (qos_of self.now) h (Came arrival.now) }
     {
-        let found = pick(self.alloc, &self.qos, &self.entries, selection)?;
-        let samples = collect(self.alloc, &self.qos, &self.entries, &found)?;
-        let Found {
-            samples: positions,
-            ..
-        } = found;
-        Ok(Access { positions, samples })
+        is_room(
+            &self.instances,
+            &self.qos,
+            &self.samples,
+            self.arrivals,
+            arrival,
+        )
+    }
+
+    /// What an access finds.
+    fn access(&self, selection: Selection) -> Result<Access, Code>
+        ensures found { IfOk result (λ access. (h : List Happening) → StandsFor self.now h
+            → IsAccess (qos_of self.now) h selection access.positions.items access.samples.items) }
+        ensures set { IfOk result (λ access. HaveSame access.returned.keys access.positions.items) }
+        ensures refused { IfErr result (λ e. (h : List Happening) → StandsFor self.now h
+            → Refuses (selection_refusal (qos_of self.now) h selection) e) }
+    {
+        let found = pick(
+            self.alloc,
+            &self.instances,
+            &self.qos,
+            &self.samples,
+            selection,
+        )?;
+        let access = gather(self.alloc, &self.samples, &found)?;
+        Ok(access)
+    }
+
+    /// Takes up that a read returned these samples.
+    fn enter_read(&mut self, access: &Access) -> Result<(), Code>
+        requires set { HaveSame access.now.returned.keys access.now.positions.items }
+        ensures ok { OnOk result ((h : List Happening) → StandsFor self.old h
+            → All (IsReturnable (qos_of self.old) h) access.now.positions.items
+            → StandsFor self.new (Read access.now.positions.items ∷ h)) }
+        ensures qos { qos_of self.new ≡ qos_of self.old }
+        ensures err { OnErr result (self.new ≡ self.old) }
+        ensures memory { IfErr result (λ e. e ≡ Memory) }
+    {
+        self.instances.returned(&access.positions)?;
+        mark_all(&mut self.samples, &access.returned);
+        self.room = self.room.saturating_sub(1);
+        Ok(())
+    }
+
+    /// Takes up that a take returned these samples.
+    fn enter_take(&mut self, access: &Access) -> Result<(), Code>
+        requires set { HaveSame access.now.returned.keys access.now.positions.items }
+        ensures ok { OnOk result ((h : List Happening) → StandsFor self.old h
+            → All (IsReturnable (qos_of self.old) h) access.now.positions.items
+            → StandsFor self.new (Took access.now.positions.items ∷ h)) }
+        ensures qos { qos_of self.new ≡ qos_of self.old }
+        ensures err { OnErr result (self.new ≡ self.old) }
+        ensures memory { IfErr result (λ e. e ≡ Memory) }
+    {
+        self.instances.returned(&access.positions)?;
+        remove_all(&mut self.samples, &access.returned);
+        self.room = self.room.saturating_sub(1);
+        Ok(())
     }
 
     /// Reads the present samples that the selection asks for. They stay, and are READ from then on.
@@ -238,10 +367,14 @@ impl ReaderCache {
         // The policies stay.
         ensures qos { qos_of self.new ≡ qos_of self.old }
     {
-        let Access { positions, samples } = self.access(selection)?;
-        let is_empty = positions.is_empty();
-        self.enter(Happening::Read(Sequence::from_vec(positions)))?;
-        answer_of(is_empty, samples)
+        let access = self.access(selection)?;
+        self.enter_read(&access)?;
+        let Access {
+            positions,
+            samples,
+            ..
+        } = access;
+        answer_of(positions.is_empty(), samples)
     }
 
     /// Takes the present samples that the selection asks for. They are gone from then on.
@@ -262,10 +395,14 @@ impl ReaderCache {
         // The policies stay.
         ensures qos { qos_of self.new ≡ qos_of self.old }
     {
-        let Access { positions, samples } = self.access(selection)?;
-        let is_empty = positions.is_empty();
-        self.enter(Happening::Took(Sequence::from_vec(positions)))?;
-        answer_of(is_empty, samples)
+        let access = self.access(selection)?;
+        self.enter_take(&access)?;
+        let Access {
+            positions,
+            samples,
+            ..
+        } = access;
+        answer_of(positions.is_empty(), samples)
     }
 
     /// The key of a known instance, by its handle; `None` where no known instance has it. It needs no memory.
@@ -276,7 +413,7 @@ impl ReaderCache {
         ensures key { (h : List Happening) → StandsFor self.now h
             → result ≡ instance_of (qos_of self.now) h instance }
     {
-        key_of(&self.entries, instance)
+        self.instances.key(instance)
     }
 
     /// The handle of an instance, `NIL` of one that is not known. It needs no memory.
@@ -287,7 +424,7 @@ impl ReaderCache {
         ensures handle { (h : List Happening) → StandsFor self.now h
             → result ≡ handle_of (qos_of self.now) h key }
     {
-        handle_of(&self.entries, key)
+        self.instances.handle(key)
     }
 }
 
@@ -300,11 +437,4 @@ fn answer_of(is_empty: bool, samples: Vec<Sample>) -> Result<Sequence<Sample>, C
     } else {
         Ok(Sequence::from_vec(samples))
     }
-}
-
-/// The samples that an access returns, and where they stand in what happened.
-#[derive(Drop)]
-struct Access {
-    positions: Vec<SamplePosition>,
-    samples: Vec<Sample>,
 }

@@ -14,7 +14,6 @@ use Rattle.dds_base.specs.declared.selection.Selection.{Selection}
 use Rattle.dds_base.specs.declared.qos.ReaderQos.{ReaderQos}
 use Rattle.dds_base.specs.declared.sample.Sample.{Sample}
 use Rattle.dds_base.specs.Access.{no_filter, collection_of}
-use Rattle.dds_base.specs.Happening.{arrivals}
 use Rattle.dds_base.specs.Refusal.{Refuses}
 use Rattle.dds_base.specs.Selection.{picked_by, selection_refusal}
 use Rattle.dds_base.specs.Statuses.{lost_count}
@@ -42,9 +41,9 @@ use Rattle.dds_core.proofs.Ends.{with_reader, own_reader_changed}
 use Rattle.dds_core.proofs.Taking.{silent}
 use Rattle.dds_core.proofs.Identities.{same_identity}
 
--- what happens at a reader where an access was entered: nothing came, and nothing was passed over
+-- what happens at a reader where an access was entered: nothing was passed over
 abbrev pub IsQuiet : (List SamplePosition → Happening) → Type 0
-IsQuiet entry = (samples : List SamplePosition) (h : List Happening) → (arrivals (entry samples ∷ h) ≡ arrivals h) × (lost_count (entry samples ∷ h) ≡ lost_count h)
+IsQuiet entry = (samples : List SamplePosition) (h : List Happening) → lost_count (entry samples ∷ h) ≡ lost_count h
 
 -- the call is an access that enters so: it is answered as one, and does nothing at a writer
 pub record IsAccess (c : Call) (entry : List SamplePosition → Happening) (reader : ℕ) (selection : Selection) : Type 0 where
@@ -53,10 +52,10 @@ pub record IsAccess (c : Call) (entry : List SamplePosition → Happening) (read
   pub effect : (part : Part) (reply : Reply) → effect_of part c reply ≡ nothing
 
 pub read_is_access : (reader : ℕ) (selection : Selection) → IsAccess (call.Read reader selection) HasRead reader selection
-read_is_access reader selection = record { quiet = λ samples h. (refl, refl); answers = λ part reply dds a. a; effect = λ part reply. refl }
+read_is_access reader selection = record { quiet = λ samples h. refl; answers = λ part reply dds a. a; effect = λ part reply. refl }
 
 pub take_is_access : (reader : ℕ) (selection : Selection) → IsAccess (call.Take reader selection) Took reader selection
-take_is_access reader selection = record { quiet = λ samples h. (refl, refl); answers = λ part reply dds a. a; effect = λ part reply. refl }
+take_is_access reader selection = record { quiet = λ samples h. refl; answers = λ part reply dds a. a; effect = λ part reply. refl }
 
 -- the reader with one more entry, an access
 one_entered : (entry : List SamplePosition → Happening) → IsQuiet entry → (k k' : ReaderKept) (proxies : List WriterProxy) (r : Reader) (tracked : Endpoint → Tracked) (samples : List SamplePosition) → TakesOnly k k' → ReaderStands k proxies r tracked
@@ -68,8 +67,7 @@ one_entered entry quiet k k' proxies r tracked samples same s stands = record {
   qos_is = s.qos_is ∙ sym same.qos;
   holds = record {
     cache = stands;
-    arrivals_are = same.arrivals ∙ (s.holds.arrivals_are ∙ ap (λ (n : ℕ). min n (2 ^ 31 - 1)) (sym (quiet samples r.happened).0));
-    lost_is = same.lost ∙ (s.holds.lost_is ∙ sym (quiet samples r.happened).1);
+    lost_is = same.lost ∙ (s.holds.lost_is ∙ sym (quiet samples r.happened));
   };
   seen_is = s.seen_is ∙ sym same.lost_seen;
 }
@@ -102,10 +100,10 @@ not_entered c kept i k k' config peer code s at same is =
 kept_same : (k k' : ReaderKept) → TakesOnly k k' → k'.store.cache ≡ k.store.cache → k' ≡ k
 kept_same k k' same cache =
     reader_as k'.entity k.entity k'.writers k.writers k'.reader k.reader k'.store k.store k'.lost_seen k.lost_seen same.entity same.writers same.reader
-    (store_as k'.store.arrivals k.store.arrivals k'.store.lost k.store.lost k'.store.cache k.store.cache same.arrivals same.lost cache) same.lost_seen
+    (store_as k'.store.lost k.store.lost k'.store.cache k.store.cache same.lost cache) same.lost_seen
   where
-    store_as : (m n i j : ℕ) (c d : Stored) → m ≡ n → i ≡ j → c ≡ d → ◌≡◌ {A = StoreKept} (record { arrivals = m; lost = i; cache = c }) (record { arrivals = n; lost = j; cache = d })
-    store_as m n i j c d e f g = cc
+    store_as : (i j : ℕ) (c d : Stored) → i ≡ j → c ≡ d → ◌≡◌ {A = StoreKept} (record { lost = i; cache = c }) (record { lost = j; cache = d })
+    store_as i j c d e f = cc
 
     reader_as : (a b : EntityId) (x y : List WriterName) (p q : Proxies) (s t : StoreKept) (i j : ℕ) → a ≡ b → x ≡ y → p ≡ q → s ≡ t → i ≡ j
         → ◌≡◌ {A = ReaderKept} (record { entity = a; writers = x; reader = p; store = s; lost_seen = i }) (record { entity = b; writers = y; reader = q; store = t; lost_seen = j })

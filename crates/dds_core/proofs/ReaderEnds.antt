@@ -21,27 +21,19 @@ use Rattle.dds_model.proofs.OwnGuids.{as_many}
 use Rattle.dds_core.specs.declared.matching.WriterName.{WriterName}
 use Rattle.dds_core.specs.Kept.{FitsWriters}
 use Rattle.dds_core.specs.Matching.{writer_name, matched_writer}
-use Rattle.dds_core.specs.Opening.{is_shared, is_unlimited, is_plain_reader, OpensReader}
+use Rattle.dds_core.specs.Opening.{OpensReader}
 use Rattle.dds_core.specs.Stored.{StoreKept, Holds}
 use Rattle.dds_core.proofs.Identities.{identity_as}
 use Rattle.dds_core.proofs.Lists.{get-within}
 use Rattle.dds_core.proofs.Tables.{map-matched_writers}
-use Rattle.dds_core.proofs.WriterEnds.{both_parts, no_limit}
 
-qos_as : (o : OwnershipQos) (h : HistoryQos) (s t i j : Option ℕ) (ws vs : List MatchedWriter) → s ≡ t → i ≡ j → ws ≡ vs
-    → ◌≡◌ {A = ReaderQos} (record { ownership = o; history = h; max_samples = s; max_instances = i; writers = ws }) (record { ownership = o; history = h; max_samples = t; max_instances = j; writers = vs })
-qos_as o h s t i j ws vs e f g = cc
+-- the policies of a reader, with these matched writers
+abbrev pub qos_with : ReaderConfig → List MatchedWriter → ReaderQos
+qos_with r writers = record { ownership = r.ownership; history = r.history; max_samples = limit_of r.max_samples; max_instances = limit_of r.max_instances; writers = writers }
 
-plain_limits : (r : ReaderConfig) → is_plain_reader r ≡ true → (limit_of r.max_samples ≡ None) × (limit_of r.max_instances ≡ None)
-plain_limits r plain =
-    let shared = both_parts (is_shared r.ownership) _ plain in
-    let samples = both_parts (is_unlimited r.max_samples) _ shared.1 in
-    let instances = both_parts (is_unlimited r.max_instances) (not (is_some r.lease)) samples.1 in
-    (no_limit r.max_samples samples.0, no_limit r.max_instances instances.0)
-
--- the policies of a reader without limits
-abbrev pub plain_qos : ReaderConfig → List MatchedWriter → ReaderQos
-plain_qos r writers = record { ownership = r.ownership; history = r.history; max_samples = None; max_instances = None; writers = writers }
+pub qos_as : (r : ReaderConfig) (samples instances : Option ℕ) (writers matched : List MatchedWriter) → samples ≡ limit_of r.max_samples → instances ≡ limit_of r.max_instances → writers ≡ matched
+    → ◌≡◌ {A = ReaderQos} (record { ownership = r.ownership; history = r.history; max_samples = samples; max_instances = instances; writers = writers }) (qos_with r matched)
+qos_as r samples instances writers matched e f g = cc
 
 -- ---- each place is 1
 
@@ -80,11 +72,10 @@ are_ones topic peer (p ∷ ps) = ones_both (writers_in topic peer 1 p.writers) (
 
 -- ---- the reader
 
-pub opens_reader : (peers : List PeerConfig) (r : ReaderConfig) (names : List WriterName) (writers : List MatchedWriter) (reader : Proxies) (store : StoreKept) → is_plain_reader r ≡ true
+pub opens_reader : (peers : List PeerConfig) (r : ReaderConfig) (names : List WriterName) (writers : List MatchedWriter) (reader : Proxies) (store : StoreKept)
     → names ≡ of_matched_writers writer_name r.topic 1 peers → writers ≡ of_matched_writers matched_writer r.topic 1 peers → ((index : ℕ) → index < length names → Tracks reader index fresh)
-    → qos_of store.cache ≡ plain_qos r writers → Holds store [] → OpensReader peers r (record { entity = r.entity; writers = names; reader = reader; store = store; lost_seen = 0 })
-opens_reader peers r names writers reader store plain matched told nothing qos stands =
-    let limits = plain_limits r plain in
+    → qos_of store.cache ≡ qos_with r writers → Holds store [] → OpensReader peers r (record { entity = r.entity; writers = names; reader = reader; store = store; lost_seen = 0 })
+opens_reader peers r names writers reader store matched told nothing qos stands =
     record {
       identity = identity_as r.entity r.entity names _ refl matched;
       stands = record {
@@ -92,7 +83,7 @@ opens_reader peers r names writers reader store plain matched told nothing qos s
             ∙ sym (ap (λ (ns : List WriterName). map (λ (n : WriterName). n.writer) ns) matched ∙ map-matched_writers (λ (n : WriterName). n.writer) writer_name r.topic 1 peers);
         places = λ w k h. place_is_one (matched_writers r.topic 1 peers) w k (are_ones r.topic 1 peers) h;
         knows = λ w k f. nothing k (get-within names k f.name f.at);
-        qos_is = sym (qos ∙ qos_as r.ownership r.history None (limit_of r.max_samples) None (limit_of r.max_instances) writers (writer_qos r.topic peers) (sym limits.0) (sym limits.1) told);
+        qos_is = sym (qos ∙ ap (λ (ws : List MatchedWriter). qos_with r ws) told);
         holds = stands;
         seen_is = refl;
       };
@@ -100,7 +91,7 @@ opens_reader peers r names writers reader store plain matched told nothing qos s
 
 -- there are as many rows as writers in the policies
 pub rows_fit : (peers : List PeerConfig) (r : ReaderConfig) (names : List WriterName) (writers : List MatchedWriter) (reader : Proxies) (store : StoreKept) → names ≡ of_matched_writers writer_name r.topic 1 peers
-    → writers ≡ of_matched_writers matched_writer r.topic 1 peers → count_of reader ≡ length names → qos_of store.cache ≡ plain_qos r writers → FitsWriters names reader store
+    → writers ≡ of_matched_writers matched_writer r.topic 1 peers → count_of reader ≡ length names → qos_of store.cache ≡ qos_with r writers → FitsWriters names reader store
 rows_fit peers r names writers reader store matched told count qos =
     let same = as_many writer_name matched_writer r.topic 1 peers in
     let a : length names ≡ length (of_matched_writers writer_name r.topic 1 peers) = ap (λ (ns : List WriterName). length ns) matched in

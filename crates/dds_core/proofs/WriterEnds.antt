@@ -21,7 +21,7 @@ use Rattle.dds_core.specs.declared.matching.Destination.{Destination}
 use Rattle.dds_core.specs.declared.matching.ReaderName.{ReaderName}
 use Rattle.dds_core.specs.Kept.{WriterKept, WriterIdentity, writer_identity}
 use Rattle.dds_core.specs.Matching.{destinations, reader_name, reader_names}
-use Rattle.dds_core.specs.Opening.{OpensWriter, is_unlimited}
+use Rattle.dds_core.specs.Opening.{OpensWriter}
 use Rattle.dds_core.specs.Standing.{Enters, Ticks, WriterStands, state_of}
 use Rattle.dds_core.proofs.Tables.{map-matched_readers, told_alike}
 
@@ -34,10 +34,6 @@ and_left false b h = absurd cc
 and_right : (a b : Bool) → (a && b) ≡ true → b ≡ true
 and_right true b h = h
 and_right false b h = absurd cc
-
-pub no_limit : (max : ℤ) → is_unlimited max ≡ true → limit_of max ≡ None
-no_limit (pos n) h = absurd cc
-no_limit (negsuc n) h = refl
 
 pub both_parts : (a b : Bool) → (a && b) ≡ true → (a ≡ true) × (b ≡ true)
 both_parts a b h = (and_left a b h, and_right a b h)

@@ -1,5 +1,5 @@
 -- How a peer begins, and which configurations are taken so far.
-use Rattle.std.specs.Prelude.{◌≡◌, ℕ, zero, ◌+◌, ◌&&◌, not, Bool, true, false, List, [], length, slice_get, is_some, Option, Some, None, ℤ, negsuc, if◌then◌else◌}
+use Rattle.std.specs.Prelude.{◌≡◌, ℕ, ◌+◌, ◌&&◌, not, Bool, true, false, List, [], length, slice_get, is_some, Option, Some, None, if◌then◌else◌}
 use Rattle.std.specs.List.{list_all}
 use Rattle.dds_base.specs.declared.code.Code.{Code}
 use Rattle.dds_base.specs.declared.code.Code.TheVariants.{BadParameter}
@@ -22,18 +22,13 @@ abbrev pub is_shared : OwnershipQos → Bool
 is_shared Shared = true
 is_shared Exclusive = false
 
--- LENGTH_UNLIMITED, which is -1 (DDS 1.4, 2.2.3, RESOURCE_LIMITS)
-abbrev pub is_unlimited : ℤ → Bool
-is_unlimited (negsuc zero) = true
-is_unlimited _ = false
-
 -- a shared writer without a lease
 abbrev pub is_plain_writer : WriterConfig → Bool
 is_plain_writer w = is_shared w.ownership && not (is_some w.lease)
 
--- a shared reader without a limit or a lease
+-- a shared reader without a lease
 abbrev pub is_plain_reader : ReaderConfig → Bool
-is_plain_reader r = is_shared r.ownership && (is_unlimited r.max_samples && (is_unlimited r.max_instances && not (is_some r.lease)))
+is_plain_reader r = is_shared r.ownership && not (is_some r.lease)
 
 abbrev pub is_plain_peer : PeerConfig → Bool
 is_plain_peer p = list_all is_plain_writer p.writers && list_all is_plain_reader p.readers

@@ -299,7 +299,6 @@ pub record TakesOnly (old new : ReaderKept) : Type 0 where
   pub entity : new.entity ≡ old.entity
   pub writers : new.writers ≡ old.writers
   pub reader : new.reader ≡ old.reader
-  pub arrivals : new.store.arrivals ≡ old.store.arrivals
   pub lost : new.store.lost ≡ old.store.lost
   pub qos : qos_of new.store.cache ≡ qos_of old.store.cache
   pub lost_seen : new.lost_seen ≡ old.lost_seen

@@ -10,6 +10,7 @@ mod answering;
 mod calls;
 mod delivery;
 mod heartbeat;
+mod limits;
 mod matching;
 mod opening;
 mod output;

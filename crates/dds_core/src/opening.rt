@@ -21,14 +21,11 @@ fn is_plain_writer(writer: &WriterConfig) -> bool
     matches!(writer.ownership, OwnershipQos::Shared) && writer.lease.is_none()
 }
 
-/// Whether a reader is shared, without a limit or a lease.
+/// Whether a reader is shared, without a lease.
 fn is_plain_reader(reader: &ReaderConfig) -> bool
     ensures { result ≡ is_plain_reader reader.now }
 {
-    matches!(reader.ownership, OwnershipQos::Shared)
-        && reader.max_samples == -1
-        && reader.max_instances == -1
-        && reader.lease.is_none()
+    matches!(reader.ownership, OwnershipQos::Shared) && reader.lease.is_none()
 }
 
 /// Whether all of these writers are plain.

@@ -11,12 +11,13 @@ ghost use Rattle.dds_base.specs.declared.happening.Happening.TheVariants.{Read, 
 ghost use Rattle.rtps_wire.specs.declared.submessage.Submessage.TheVariants as submessage;
 ghost use Rattle.rtps_reader.specs.Answer.{IsSayable};
 ghost use Rattle.rtps_reader.specs.Tracked.{Tracked};
-ghost use Rattle.dds_core.specs.Opening.{is_plain_reader, OpensReader};
+ghost use Rattle.dds_core.specs.Opening.{OpensReader};
 ghost use Rattle.dds_core.specs.Receiving.{receiver_at, IsFirstName, IsNamedFor, NamedBy, NamesNobody, IsToldBy, HasMemory, IsReadyFor, IsAlike, CanTake, TakesTold, SameReader, TakesOnly, TellsLost, IsPlaceAt};
 ghost use Rattle.dds_core.specs.Stored.{Holds};
 ghost use Rattle.dds_cache.specs.Standing.{qos_of, Answers, AfterAccess};
 ghost use Rattle.dds_model.specs.Claims.{is_for, Names};
 
+use crate::limits::limit_of;
 use crate::matching::{MatchedWriters, WriterName, matched_writers};
 use crate::receiver::{MessageReceiver, is_for};
 use crate::store::Store;
@@ -94,14 +95,13 @@ fn find(names: &[WriterName], guid: &Guid) -> Option<usize>
 }
 
 impl ReaderEnd {
-    /// A plain reader of a peer, at which nothing has happened.
+    /// A reader of a peer, at which nothing has happened.
     pub fn open(
         alloc: Global,
         peers: &[PeerConfig],
         config: &ReaderConfig,
     ) -> Result<ReaderEnd, AllocError>
         requires checked { check_refusal peers.now ≡ None }
-        requires plain { is_plain_reader config.now ≡ true }
         ensures { IfOk result (OpensReader peers.now config.now) }
     {
         let MatchedWriters { names, qos } = matched_writers(alloc, peers, config.topic)?;
@@ -112,8 +112,8 @@ impl ReaderEnd {
         let qos = ReaderQos {
             ownership: config.ownership,
             history: config.history,
-            max_samples: None,
-            max_instances: None,
+            max_samples: limit_of(config.max_samples),
+            max_instances: limit_of(config.max_instances),
             writers: Sequence::from_vec(qos),
         };
         Ok(ReaderEnd {

@@ -2,13 +2,13 @@
 //!
 //! RTPS 2.5, 8.2 (HistoryCache of a reader); DDS 1.4, 2.2.3 (RESOURCE_LIMITS).
 
-ghost use Rattle.std.specs.Prelude.{◌≡◌, None, ℕ, List, []};
+ghost use Rattle.std.specs.Prelude.{◌≡◌, ℕ, List, []};
 ghost use Rattle.dds_base.specs.declared.happening.Happening.{Happening};
 ghost use Rattle.dds_base.specs.declared.happening.Happening.TheVariants.{Read, Took};
 ghost use Rattle.dds_base.specs.Access.{instance_of, handle_of};
 ghost use Rattle.dds_base.specs.Statuses.{lost_count};
 ghost use Rattle.dds_cache.specs.Standing.{qos_of, Answers, AfterAccess};
-ghost use Rattle.dds_core.specs.Stored.{StoreKept, Holds, Counts, Loses};
+ghost use Rattle.dds_core.specs.Stored.{StoreKept, Holds, Loses};
 
 use dds_base::{Arrival, Code, Handle, Key, Moment, ReaderQos, Sample, Selection, Sequence, Sn};
 use dds_cache::ReaderCache;
@@ -16,58 +16,39 @@ use rtps_reader::Sink;
 use std::alloc::Global;
 use std::marker::Model;
 
-/// Fewer changes than this come at a reader.
-const MAX_ARRIVALS: u32 = (1 << 31) - 1;
-
-/// What a reader without limits stores, how many changes came, and how many were passed over.
+/// What a reader stores, and how many changes were passed over.
 #[derive(Drop)]
 pub struct Store {
-    /// At most `MAX_ARRIVALS`, where it stays.
-    arrivals: u32,
     /// At most 2^64 - 1, where it stays.
     lost: u64,
     cache: ReaderCache,
 }
 
 impl Model for Store {
-    ghost use Rattle.dds_core.specs.Stored.{StoreKept, IsPlain};
+    ghost use Rattle.std.specs.Prelude.{◌<◌, ◌^◌};
+    ghost use Rattle.dds_core.specs.Stored.{StoreKept};
 
     ghost Value = { StoreKept };
 
-    ghost view = { λ s. record { arrivals = s.arrivals; lost = s.lost; cache = s.cache } };
+    ghost view = { λ s. record { lost = s.lost; cache = s.cache } };
 
-    ghost invariant = { λ s. IsPlain (record { arrivals = s.arrivals; lost = s.lost; cache = s.cache }) };
+    ghost invariant = { λ s. s.lost < 2 ^ 64 };
 }
 
 impl Store {
-    /// Of a reader without limits, at which nothing has happened.
+    /// Of a reader at which nothing has happened.
     pub fn open(alloc: Global, qos: ReaderQos) -> Store
-        requires samples { qos.max_samples ≡ None }
-        requires instances { qos.max_instances ≡ None }
         ensures opening { Holds result [] }
         ensures qos { qos_of result.cache ≡ qos }
     {
         Store {
-            arrivals: 0,
             lost: 0,
             cache: ReaderCache::open(alloc, qos),
         }
     }
 
-    /// One more change came.
-    fn count(&mut self)
-        ensures arrivals { Counts self.old.arrivals self.new.arrivals }
-        ensures lost { self.new.lost ≡ self.old.lost }
-        ensures cache { self.new.cache ≡ self.old.cache }
-    {
-        if self.arrivals < MAX_ARRIVALS {
-            self.arrivals += 1;
-        }
-    }
-
     /// The changes from `first` to `last` were passed over.
     fn lose(&mut self, first: Sn, last: Sn)
-        ensures arrivals { self.new.arrivals ≡ self.old.arrivals }
         ensures lost { Loses self.old.lost first last self.new.lost }
         ensures cache { self.new.cache ≡ self.old.cache }
     {
@@ -92,7 +73,6 @@ impl Store {
         ensures answer { (h : List Happening) → Holds self.old h → Answers self.old.cache h selection result }
         ensures after { (h : List Happening) → Holds self.old h → AfterAccess Read self.old.cache h selection result self.new.cache }
         ensures qos { qos_of self.new.cache ≡ qos_of self.old.cache }
-        ensures arrivals { self.new.arrivals ≡ self.old.arrivals }
         ensures lost { self.new.lost ≡ self.old.lost }
     {
         self.cache.read(selection)
@@ -103,7 +83,6 @@ impl Store {
         ensures answer { (h : List Happening) → Holds self.old h → Answers self.old.cache h selection result }
         ensures after { (h : List Happening) → Holds self.old h → AfterAccess Took self.old.cache h selection result self.new.cache }
         ensures qos { qos_of self.new.cache ≡ qos_of self.old.cache }
-        ensures arrivals { self.new.arrivals ≡ self.old.arrivals }
         ensures lost { self.new.lost ≡ self.old.lost }
     {
         self.cache.take(selection)
@@ -138,14 +117,12 @@ impl Sink for Store {
         self.cache.reserve(n)
     }
 
-    fn room(&self, _: &Arrival) -> bool {
-        self.arrivals + 1 < MAX_ARRIVALS
+    fn room(&self, arrival: &Arrival) -> bool {
+        self.cache.has_room(arrival)
     }
 
     fn come(&mut self, arrival: Arrival) -> Result<(), Code> {
-        self.cache.come(arrival)?;
-        self.count();
-        Ok(())
+        self.cache.come(arrival)
     }
 
     fn pass(&mut self, writer: Handle, first: Sn, last: Sn) -> Result<(), Code> {

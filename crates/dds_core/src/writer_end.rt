@@ -9,7 +9,6 @@ ghost use Rattle.dds_base.specs.Kept.{append_refusal};
 ghost use Rattle.dds_base.specs.Refusal.{Refuses};
 ghost use Rattle.dds_base.specs.Written.{Registered, Changed, is_key_registered};
 ghost use Rattle.dds_model.specs.declared.endpoint.Endpoint.{Endpoint as EndpointOf};
-ghost use Rattle.dds_base.specs.Checked.{limit_of};
 ghost use Rattle.dds_model.specs.Calls.{unregister_kind};
 ghost use Rattle.dds_model.specs.Part.{Writer, history_of, writer_changes};
 ghost use Rattle.dds_core.specs.declared.matching.ReaderName.{ReaderName as NameOf};
@@ -23,6 +22,7 @@ ghost use Rattle.dds_core.specs.Standing.{WriterStands, Enters, Ticks, AllTick};
 
 use crate::answering::{Answering, Room, rooms, send_answers};
 use crate::heartbeat::{Beat, send_beats};
+use crate::limits::limit_of;
 use crate::matching::{Destination, ReaderName, destinations, matched_readers};
 use crate::receiver::MessageReceiver;
 use crate::sending::Announced;
@@ -62,13 +62,6 @@ impl Model for WriterEnd {
     } };
 
     ghost invariant = { λ w. IsWhole w.destinations.items w.readers.items w.writer };
-}
-
-/// A limit as a number; `None` where there is none.
-fn limit_of(max: i32) -> Option<u32>
-    ensures { result ≡ limit_of max }
-{
-    if max < 0 { None } else { Some(max as u32) }
 }
 
 impl WriterEnd {

@@ -1,16 +1,33 @@
-use Rattle.std.proofs.Common.{◌∙◌, ℕ, ◌<◌, List, ap, sym, subst}
+use mir.Val.{SFits}
+use Rattle.std.proofs.Common.{◌≡◌, ◌∙◌, ℕ, ◌<◌, List, Option, ap, rules, sym, subst}
+use Rattle.std.specs.Prelude.{ℤ}
+use Rattle.std.specs.Int.{w32}
+use Rattle.std.proofs.lemmas.Int.{to_z-of_z}
 use Rattle.dds_base.specs.declared.qos.MatchedWriter.{MatchedWriter}
-use Rattle.dds_core.proofs.ReaderEnds.{opens_reader, rows_fit, plain_qos}
+use Rattle.dds_base.specs.declared.qos.HistoryQos.{HistoryQos}
+use Rattle.dds_base.specs.declared.qos.OwnershipQos.{OwnershipQos}
+use Rattle.dds_base.specs.declared.qos.ReaderQos.{ReaderQos}
+use Rattle.dds_base.specs.Checked.{limit_of}
+use Rattle.dds_core.proofs.ReaderEnds.{opens_reader, rows_fit, qos_with, qos_as}
 use Rattle.dds_core.proofs.reader_end.ReaderEnd.open.Goals as goal
 
 pub invariant_of-result : goal.invariant_of-result
 invariant_of-result c =
+    let samples_fit : SFits w32 c.args.config.now.max_samples = search rules in
+    let instances_fit : SFits w32 c.args.config.now.max_instances = search rules in
+    let samples = c.limit_of.ensures ∙ ap (λ (z : ℤ). limit_of z) (to_z-of_z w32 c.args.config.now.max_samples samples_fit) in
+    let instances = c.limit_of-2.ensures ∙ ap (λ (z : ℤ). limit_of z) (to_z-of_z w32 c.args.config.now.max_instances instances_fit) in
     rows_fit c.args.peers.now c.args.config.now c.in_ok-names.field-0.names.items c.in_ok-names.field-0.qos.items c.in-Ok.reader c.open-2.result c.in_ok-names.ensures.names c.in_ok-names.ensures.qos
-    (c.in-Ok.ensures.count ∙ (c.len.ensures ∙ c.in_ok-names.field-0.names.ok.0)) (c.open-2.ensures.qos ∙ ap (λ (ws : List MatchedWriter). plain_qos c.args.config.now ws) c.from_vec.ensures)
+    (c.in-Ok.ensures.count ∙ (c.len.ensures ∙ c.in_ok-names.field-0.names.ok.0))
+    (c.open-2.ensures.qos ∙ qos_as c.args.config.now c.limit_of.result c.limit_of-2.result _ c.in_ok-names.field-0.qos.items samples instances c.from_vec.ensures)
 
 pub returns : goal.returns
 returns c =
     let count = c.len.ensures ∙ c.in_ok-names.field-0.names.ok.0 in
-    opens_reader c.args.peers.now c.args.config.now c.in_ok-names.field-0.names.items c.in_ok-names.field-0.qos.items c.in-Ok.reader c.open-2.result c.requires.plain c.in_ok-names.ensures.names c.in_ok-names.ensures.qos
+    let samples_fit : SFits w32 c.args.config.now.max_samples = search rules in
+    let instances_fit : SFits w32 c.args.config.now.max_instances = search rules in
+    let samples = c.limit_of.ensures ∙ ap (λ (z : ℤ). limit_of z) (to_z-of_z w32 c.args.config.now.max_samples samples_fit) in
+    let instances = c.limit_of-2.ensures ∙ ap (λ (z : ℤ). limit_of z) (to_z-of_z w32 c.args.config.now.max_instances instances_fit) in
+    opens_reader c.args.peers.now c.args.config.now c.in_ok-names.field-0.names.items c.in_ok-names.field-0.qos.items c.in-Ok.reader c.open-2.result c.in_ok-names.ensures.names c.in_ok-names.ensures.qos
     (λ index within. c.in-Ok.ensures.fresh index (subst (λ (n : ℕ). index < n) (sym count) within))
-    (c.open-2.ensures.qos ∙ ap (λ (ws : List MatchedWriter). plain_qos c.args.config.now ws) c.from_vec.ensures) c.open-2.ensures.opening
+    (c.open-2.ensures.qos ∙ qos_as c.args.config.now c.limit_of.result c.limit_of-2.result _ c.in_ok-names.field-0.qos.items samples instances c.from_vec.ensures) c.open-2.ensures.opening

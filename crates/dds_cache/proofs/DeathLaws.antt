@@ -1,0 +1,148 @@
+-- A death adds the samples that it leaves, one instance after another.
+use Rattle.std.proofs.Common.{◌≡◌, ℕ, ◌+◌, ◌<◌, List, [], ◌∷◌, ◌++◌, length, map, filter, take, Bool, true, false, ◌&&◌, ◌||◌, sym, ap, ◌∙◌, refl, subst, cond, Option, Some, None, arith, zero, suc, ⊎_elim, append_assoc}
+use Rattle.std.specs.Prelude.{slice_get, is_some}
+use Rattle.std.specs.List.{list_any, All, IsDistinct, AllByRecursion}
+use Rattle.std.proofs.lemmas.Bool.{cases_Bool}
+use Rattle.std.proofs.lemmas.List.{append-nil, take_more}
+use Rattle.std.proofs.lemmas.Option.{get_or_from_slice_get, slice_get_within}
+use Rattle.std.proofs.lemmas.List.Folds.{list_any-append}
+use Rattle.std.proofs.lemmas.List.Elements.{All-append, All-nil, All-cons}
+use Rattle.std.proofs.lemmas.Map.Keys.{IsDistinct-head, IsDistinct-tail}
+use Rattle.dds_base.specs.declared.key.Key.{Key}
+use Rattle.dds_base.specs.declared.change.ChangeKind.{ChangeKind}
+use Rattle.dds_base.specs.declared.happening.SamplePosition.{SamplePosition}
+use Rattle.dds_base.specs.declared.happening.Happening.{Happening}
+use Rattle.dds_base.specs.declared.happening.Happening.TheVariants.{Died}
+use Rattle.dds_base.specs.declared.qos.ReaderQos.{ReaderQos}
+use Rattle.dds_base.specs.Happening.{same_key}
+use Rattle.dds_base.specs.Ownership.{registered_writers}
+use Rattle.dds_base.specs.Instance.{known_instances, last_accepted, state_after, is_nobody, instance_state_of, disposed_generations, no_writers_generations}
+use Rattle.dds_base.specs.Presence.{accepted_writes, is_present}
+use Rattle.dds_base.specs.Access.{handle_of, instance_of}
+use Rattle.dds_base.proofs.KeyLaws.{key-same}
+use Rattle.dds_instances.specs.declared.known.KnownInstance.{KnownInstance}
+use Rattle.dds_instances.specs.Known.{IsKnown}
+use Rattle.dds_instances.proofs.KnownLaws.{known}
+use Rattle.dds_cache.specs.declared.kept.Kept.{Kept}
+use Rattle.dds_cache.specs.Kept.{Adds, IsFresh, IsKept, IsKeptAt, is_live, positions_in, sample_at}
+use Rattle.dds_cache.specs.Dying.{AddsOf}
+use Rattle.dds_cache.proofs.PresenceLaws.{here-append, unknown-absent}
+use Rattle.dds_cache.proofs.KeptLaws.{IsNewest, kept-newest, live-at}
+use Rattle.dds_cache.proofs.StandingLaws.{one-position}
+use Rattle.dds_cache.proofs.FindingLaws.{known-distinct}
+
+-- ---- the sample of one instance
+
+-- what is kept of a death, by what is known of the instance then
+pub newest-died : (q : ReaderQos) (w moment : ℕ) (h : List Happening) (known_is : KnownInstance) (k : Kept) → IsKnown q (Died w moment ∷ h) known_is → known_is.key ≡ k.sample.key → k.valid_data ≡ false → k.number ≡ known_is.accepted_writes → k.disposed_generation_count ≡ known_is.disposed_generations → k.no_writers_generation_count ≡ known_is.no_writers_generations → k.source_timestamp ≡ moment → k.publication_handle ≡ w → k.value ≡ [] → k.is_read ≡ false → k.handle ≡ handle_of q (Died w moment ∷ h) k.sample.key → IsNewest q (Died w moment ∷ h) k
+newest-died q w moment h known_is k is_known same valid number disposed no_writers timestamp publication value unread handle =
+    let g : List Happening = Died w moment ∷ h in
+    record {
+      handle_is = handle;
+      read_is = unread;
+      is_of = record {
+        valid_is = valid;
+        number_is = number ∙ (is_known.writes_are ∙ ap (λ (x : Key). accepted_writes q x g) same);
+        disposed_is = disposed ∙ (is_known.disposed_is ∙ ap (λ (x : Key). disposed_generations q x g) same);
+        no_writers_is = no_writers ∙ (is_known.no_writers_is ∙ ap (λ (x : Key). no_writers_generations q x g) same);
+        timestamp_is = timestamp;
+        publication_is = publication;
+        value_is = value;
+      };
+    }
+
+or-none : (b : Bool) → (b || false) ≡ b
+or-none true = refl
+or-none false = refl
+
+-- of one instance, where the entry left a sample of it
+pub adds-of-one : (q : ReaderQos) (g : List Happening) (n : ℕ) (x : Key) (ks : List Kept) (k : Kept) → IsKeptAt q g x n k → AddsOf q g n (x ∷ []) ks (ks ++ k ∷ [])
+adds-of-one q g n x ks k at = record {
+  added = k ∷ [];
+  are = refl;
+  each = All-cons (IsKept q g) k [] at.kept (All-nil (IsKept q g));
+  present = λ i. ap (λ (b : Bool). cond (b && is_present q g i n) (n ∷ []) []) (or-none (same_key x i)) ∙ sym (one-position q g x i n k at.sample_is);
+}
+
+-- and where it left none
+pub adds-of-nothing : (q : ReaderQos) (g : List Happening) (n : ℕ) (x : Key) (ks : List Kept) → is_present q g x n ≡ false → AddsOf q g n (x ∷ []) ks ks
+adds-of-nothing q g n x ks absent = record {
+  added = [];
+  are = sym (append-nil ks);
+  each = All-nil (IsKept q g);
+  present = λ i. ap (λ (b : Bool). cond (b && is_present q g i n) (n ∷ []) []) (or-none (same_key x i)) ∙ ⊎_elim
+      (λ same. ap (λ (b : Bool). cond (b && is_present q g i n) (n ∷ []) []) same ∙ ap (λ (b : Bool). cond b (n ∷ []) []) (ap (λ (y : Key). is_present q g y n) (sym (key-same x i same)) ∙ absent))
+      (λ other. ap (λ (b : Bool). cond (b && is_present q g i n) (n ∷ []) []) other)
+      (cases_Bool (same_key x i));
+}
+
+-- ---- one instance after another
+
+pub adds-of-none : (q : ReaderQos) (g : List Happening) (n : ℕ) (ks : List Kept) → AddsOf q g n [] ks ks
+adds-of-none q g n ks = record { added = []; are = sym (append-nil ks); each = All-nil (IsKept q g); present = λ i. refl }
+
+apart-later : (k x : Key) (ks : List Key) (at : ℕ) → AllByRecursion (λ y. same_key x y ≡ false) ks → slice_get ks at ≡ Some k → same_key x k ≡ false
+apart-later k x [] at apart there = absurd cc
+apart-later k x (y ∷ ks) zero apart there = let same : y ≡ k = cc in ap (λ (z : Key). same_key x z) (sym same) ∙ apart.0
+apart-later k x (y ∷ ks) (suc at) apart there = apart-later k x ks at apart.1 there
+
+-- a key of distinct ones is not among those before it
+before-apart : (ks : List Key) (at : ℕ) (k : Key) → IsDistinct same_key ks → slice_get ks at ≡ Some k → list_any (λ x. same_key x k) (take at ks) ≡ false
+before-apart [] at k distinct there = absurd cc
+before-apart (x ∷ ks) zero k distinct there = refl
+before-apart (x ∷ ks) (suc at) k distinct there =
+    ap (λ (b : Bool). b || list_any (λ y. same_key y k) (take at ks)) (apart-later k x ks at (IsDistinct-head same_key x ks distinct) there)
+    ∙ before-apart ks at k (IsDistinct-tail same_key x ks distinct) there
+
+both-table : (a s p : Bool) (n : ℕ) → (s ≡ true → a ≡ false) → cond ((a || (s || false)) && p) (n ∷ []) [] ≡ cond (a && p) (n ∷ []) [] ++ cond ((s || false) && p) (n ∷ []) []
+both-table true true p n apart = absurd (let clash : true ≡ false = apart refl in cc)
+both-table true false true n apart = refl
+both-table true false false n apart = refl
+both-table false s p n apart = refl
+
+take-step : (ks : List Key) (at : ℕ) (k : Key) → slice_get ks at ≡ Some k → take (at + 1) ks ≡ take at ks ++ k ∷ []
+take-step ks at k there = take_more ks at k (slice_get_within ks at k there) ∙ ap (λ (x : Key). take at ks ++ x ∷ []) (get_or_from_slice_get ks at k k there)
+
+-- one more instance
+pub adds-of-more : (q : ReaderQos) (g : List Happening) (n at : ℕ) (x : Key) (a b c : List Kept) → slice_get (known_instances q g) at ≡ Some x → AddsOf q g n (take at (known_instances q g)) a b → AddsOf q g n (x ∷ []) b c → AddsOf q g n (take (at + 1) (known_instances q g)) a c
+adds-of-more q g n at x a b c there first second =
+    let before : List Key = take at (known_instances q g) in
+    let apart : (i : Key) → same_key x i ≡ true → list_any (λ k. same_key k i) before ≡ false = λ i same. ap (λ (y : Key). list_any (λ k. same_key k y) before) (sym (key-same x i same)) ∙ before-apart (known_instances q g) at x (known-distinct q g) there in
+    record {
+      added = first.added ++ second.added;
+      are = second.are ∙ (ap (λ (ks : List Kept). ks ++ second.added) first.are ∙ append_assoc a first.added second.added);
+      each = All-append (IsKept q g) first.added second.added first.each second.each;
+      present = λ i.
+          ap (λ (is : List Key). cond (list_any (λ k. same_key k i) is && is_present q g i n) (n ∷ []) []) (take-step (known_instances q g) at x there)
+          ∙ (ap (λ (b : Bool). cond (b && is_present q g i n) (n ∷ []) []) (list_any-append (λ k. same_key k i) before (x ∷ []))
+          ∙ (both-table (list_any (λ k. same_key k i) before) (same_key x i) (is_present q g i n) n (apart i)
+          ∙ (ap (λ (ps : List ℕ). ps ++ cond ((same_key x i || false) && is_present q g i n) (n ∷ []) []) (first.present i)
+          ∙ (ap (λ (ps : List ℕ). positions_in q g i first.added ++ ps) (second.present i)
+          ∙ sym (here-append q g i first.added second.added)))));
+    }
+
+none-from : (o : Option ChangeKind) → is_some o ≡ false → o ≡ None
+none-from None e = refl
+none-from (Some k) e = absurd cc
+
+-- the samples of all known instances are all that a death leaves
+pub adds-died : (q : ReaderQos) (e : Happening) (h : List Happening) (count : ℕ) (old new : List Kept) → count ≡ length (known_instances q (e ∷ h)) → AddsOf q (e ∷ h) (length h + 1) (take count (known_instances q (e ∷ h))) old new → Adds q e h old new
+adds-died q e h count old new all adds =
+    let g : List Happening = e ∷ h in
+    let n : ℕ = length h + 1 in
+    record {
+      added = adds.added;
+      are = adds.are;
+      each = adds.each;
+      present = λ i. (⊎_elim
+          (λ there. sym (ap (λ (b : Bool). cond (b && is_present q g i n) (n ∷ []) []) there))
+          (λ unknown. let state : instance_state_of q i g ≡ None = ap (λ (l : Option ChangeKind). state_after l (is_nobody (registered_writers q i g))) (none-from (last_accepted q i g) (sym (known q g i) ∙ unknown)) in
+          ap (λ (b : Bool). cond b (n ∷ []) []) (unknown-absent q e h i state) ∙ sym (ap (λ (b : Bool). cond (b && is_present q g i n) (n ∷ []) []) unknown))
+          (cases_Bool (list_any (λ k. same_key k i) (known_instances q g)))
+          ∙ (ap (λ (is : List Key). cond (list_any (λ k. same_key k i) is && is_present q g i n) (n ∷ []) []) (sym (ap (λ (m : ℕ). take m (known_instances q g)) all ∙ take_whole (known_instances q g)))
+          ∙ adds.present i));
+    }
+  where
+    take_whole : (ks : List Key) → take (length ks) ks ≡ ks
+    take_whole [] = refl
+    take_whole (k ∷ ks) = ap (λ (xs : List Key). k ∷ xs) (take_whole ks)

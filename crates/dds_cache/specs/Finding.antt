@@ -1,0 +1,105 @@
+-- The samples that an access finds among those that are kept. Inner functions alone cite this: nothing here has to be
+-- believed.
+use Rattle.std.specs.Prelude.{◌≡◌, ℕ, ◌+◌, if◌then◌else◌, ◌<◌, ◌^◌, List, length, Bool, true, ◌&&◌, map, filter, All, Option, IsTrue, slice_index_or}
+use Rattle.std.specs.List.{list_any}
+use Rattle.dds_base.specs.declared.happening.SamplePosition.{SamplePosition}
+use Rattle.dds_base.specs.declared.happening.Happening.{Happening}
+use Rattle.dds_base.specs.declared.key.Key.{Key}
+use Rattle.dds_base.specs.declared.mask.Masks.{Masks}
+use Rattle.dds_base.specs.declared.sample.SampleState.{SampleState}
+use Rattle.dds_base.specs.declared.sample.SampleState.TheVariants.{Read as HasBeenRead, NotRead}
+use Rattle.dds_instances.specs.declared.known.KnownInstance.{KnownInstance}
+use Rattle.dds_base.specs.declared.sample.ViewState.{ViewState}
+use Rattle.dds_base.specs.declared.sample.InstanceState.{InstanceState}
+use Rattle.dds_base.specs.declared.sample.Picked.{Picked}
+use Rattle.dds_base.specs.declared.qos.ReaderQos.{ReaderQos}
+use Rattle.dds_base.specs.Happening.{same_key}
+use Rattle.dds_base.specs.Instance.{known_instances}
+use Rattle.dds_base.specs.Presence.{is_present, up_to}
+use Rattle.dds_base.specs.Access.{asks_for_sample_state, asks_for_view_state, asks_for_instance_state, meets, picked_of, own_generations, no_filter, value_of, matching_samples}
+use Rattle.dds_cache.specs.declared.kept.Kept.{Kept}
+use Rattle.dds_cache.specs.declared.access.Candidate.{Candidate}
+use Rattle.dds_cache.specs.Kept.{IsKept, positions_in}
+use Rattle.dds_instances.specs.Table.{Table, Stands}
+
+-- the masks ask for these states
+abbrev pub are_asked_for : Masks → SampleState → ViewState → Option InstanceState → Bool
+are_asked_for masks sample view instance = asks_for_sample_state masks.samples sample && (asks_for_view_state masks.views view && asks_for_instance_state masks.instances instance)
+
+-- the sample meets the masks; there is no filter
+abbrev pub is_asked_for : ReaderQos → List Happening → Masks → SamplePosition → Bool
+is_asked_for q h masks s = meets q h masks s && no_filter s.key (value_of q h s)
+
+-- a kept sample is present and meets the masks
+abbrev pub is_wanted : ReaderQos → List Happening → Masks → Kept → Bool
+is_wanted q h masks k = is_present q h k.sample.key k.sample.position && is_asked_for q h masks k.sample
+
+-- the instances and the samples are those of what happened
+pub record Holds (q : ReaderQos) (table : Table) (ks : List Kept) (h : List Happening) : Type 0 where
+  pub instances : Stands q table h
+  pub each : All (IsKept q h) ks
+  pub present : (i : Key) → filter (is_present q h i) (up_to (length h)) ≡ positions_in q h i ks
+
+-- a candidate is the kept sample at an index, described
+pub record IsCandidate (q : ReaderQos) (h : List Happening) (ks : List Kept) (c : Candidate) : Type 0 where
+  pub within : c.at < length ks
+  pub there : (d : Kept) → (slice_index_or ks c.at d).sample ≡ c.sample
+  pub is_known : IsTrue (list_any (λ i. same_key i c.sample.key) (known_instances q h))
+  pub picked_is : c.picked ≡ picked_of q h c.sample
+  pub small : own_generations c.picked < 2 ^ 64
+
+-- the sample of a candidate, and that of a kept one
+abbrev pub sample_in : Candidate → SamplePosition
+sample_in c = c.sample
+
+abbrev pub sample_of : Kept → SamplePosition
+sample_of k = k.sample
+
+-- the handle of a candidate's instance
+abbrev pub handle_in : Candidate → ℕ
+handle_in c = c.picked.instance_handle
+
+abbrev pub picked_in : Candidate → Picked
+picked_in c = c.picked
+
+-- the candidates are the wanted ones of a list of kept samples, in their order
+pub record AreCandidates (q : ReaderQos) (h : List Happening) (masks : Masks) (ks wanted : List Kept) (cs : List Candidate) : Type 0 where
+  pub samples_are : map sample_in cs ≡ map sample_of (filter (is_wanted q h masks) wanted)
+  pub each : All (IsCandidate q h ks) cs
+
+-- what is said of a kept sample before its ranks, by what is known of its instance
+abbrev pub described_by : Kept → KnownInstance → Picked
+described_by k known = record {
+  sample_state = if k.is_read then HasBeenRead else NotRead;
+  view_state = known.view;
+  instance_state = known.state;
+  disposed_generation_count = k.disposed_generation_count;
+  no_writers_generation_count = k.no_writers_generation_count;
+  instance_generations = known.disposed_generations + known.no_writers_generations;
+  source_timestamp = k.source_timestamp;
+  instance_handle = k.handle;
+  publication_handle = k.publication_handle;
+  valid_data = k.valid_data;
+}
+
+-- a kept sample is wanted, and found as a candidate
+pub record IsFound (q : ReaderQos) (h : List Happening) (masks : Masks) (k : Kept) (at : ℕ) (c : Candidate) : Type 0 where
+  pub wanted : is_wanted q h masks k ≡ true
+  pub sample_is : c.sample ≡ k.sample
+  pub picked_is : c.picked ≡ picked_of q h k.sample
+  pub at_is : c.at ≡ at
+  pub small : own_generations c.picked < 2 ^ 64
+
+-- the counts of a kept sample can be added
+abbrev pub IsSmall : Kept → Type 0
+IsSmall k = k.disposed_generation_count + k.no_writers_generation_count < 2 ^ 64
+
+-- a candidate stands among n kept samples, and its counts can be added
+pub record IsPlaced (n : ℕ) (c : Candidate) : Type 0 where
+  pub within : c.at < n
+  pub small : own_generations c.picked < 2 ^ 64
+
+-- what is found are the matching samples, in their order
+pub record Finds (q : ReaderQos) (h : List Happening) (masks : Masks) (ks : List Kept) (cs : List Candidate) : Type 0 where
+  pub samples_are : map sample_in cs ≡ matching_samples q h masks no_filter
+  pub each : All (IsCandidate q h ks) cs

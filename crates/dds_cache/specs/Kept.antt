@@ -1,0 +1,86 @@
+-- What is kept of a sample. Inner functions alone cite this: nothing here has to be believed.
+use Rattle.std.specs.Prelude.{◌≡◌, ℕ, ◌+◌, ◌-◌, ◌≤◌, List, [], ◌∷◌, ◌++◌, All, if◌then◌else◌, length, Bool, true, false, ◌&&◌, ◌||◌, map, filter, IsTrue}
+use Rattle.std.specs.List.{list_any}
+use Rattle.dds_base.specs.declared.key.Key.{Key}
+use Rattle.dds_base.specs.declared.happening.SamplePosition.{SamplePosition}
+use Rattle.dds_base.specs.declared.happening.Happening.{Happening}
+use Rattle.dds_base.specs.declared.qos.ReaderQos.{ReaderQos}
+use Rattle.dds_base.specs.Happening.{same_key, same_sample, as_of, is_read, is_taken}
+use Rattle.dds_base.specs.Instance.{disposed_generations, no_writers_generations, known_instances}
+use Rattle.dds_base.specs.Presence.{accepted_writes, ends_with_write, is_present, keeps, is_at}
+use Rattle.dds_base.specs.Access.{handle_of, timestamp_of, publication_of, newest_value}
+use Rattle.dds_cache.specs.declared.kept.Kept.{Kept}
+use Rattle.dds_instances.specs.declared.known.KnownInstance.{KnownInstance}
+
+-- the sample of i at a position
+abbrev pub sample_at : Key → ℕ → SamplePosition
+sample_at i j = record { key = i; position = j }
+
+-- what is kept of a sample by what had happened when its entry was the newest
+pub record IsOf (q : ReaderQos) (past : List Happening) (k : Kept) : Type 0 where
+  pub valid_is : k.valid_data ≡ ends_with_write q k.sample.key past
+  pub number_is : k.number ≡ accepted_writes q k.sample.key past
+  pub disposed_is : k.disposed_generation_count ≡ disposed_generations q k.sample.key past
+  pub no_writers_is : k.no_writers_generation_count ≡ no_writers_generations q k.sample.key past
+  pub timestamp_is : k.source_timestamp ≡ timestamp_of past
+  pub publication_is : k.publication_handle ≡ publication_of past
+  pub value_is : k.value ≡ newest_value q k.sample.key past
+
+-- a sample that no take returned, of a known instance, with what is kept of it
+pub record IsKept (q : ReaderQos) (h : List Happening) (k : Kept) : Type 0 where
+  pub in_past : k.sample.position ≤ length h
+  pub is_known : IsTrue (list_any (λ i. same_key i k.sample.key) (known_instances q h))
+  pub handle_is : k.handle ≡ handle_of q h k.sample.key
+  pub untaken : is_taken k.sample h ≡ false
+  pub read_is : k.is_read ≡ is_read k.sample h
+  pub is_of : IsOf q (as_of k.sample.position h) k
+
+-- a kept sample is of instance i and present
+abbrev pub is_here : ReaderQos → List Happening → Key → Kept → Bool
+is_here q h i k = same_key k.sample.key i && is_present q h i k.sample.position
+
+-- the position of a kept sample
+abbrev pub position_of : Kept → ℕ
+position_of k = k.sample.position
+
+-- the positions of the present samples of i, as they are kept
+abbrev pub positions_in : ReaderQos → List Happening → Key → List Kept → List ℕ
+positions_in q h i ks = map position_of (filter (is_here q h i) ks)
+
+-- by the counts of its instance a kept sample is a write that the history keeps, or the last marker
+abbrev pub is_live : ReaderQos → KnownInstance → Kept → Bool
+is_live q known k = (k.valid_data && keeps q.history (known.accepted_writes - k.number)) || is_at known.last_marker k.sample.position
+
+-- no access returned what i has next
+pub record IsFresh (h : List Happening) (i : Key) : Type 0 where
+  pub unread : is_read (sample_at i (length h + 1)) h ≡ false
+  pub untaken : is_taken (sample_at i (length h + 1)) h ≡ false
+
+-- the sample of i at position n is kept, and is present
+pub record IsKeptAt (q : ReaderQos) (h : List Happening) (i : Key) (n : ℕ) (k : Kept) : Type 0 where
+  pub sample_is : k.sample ≡ sample_at i n
+  pub kept : IsKept q h k
+  pub present : is_present q h i n ≡ true
+
+-- the value, if it counts
+abbrev pub value_if : Bool → List ℕ → List ℕ
+value_if is_write value = if is_write then value else []
+
+-- the present samples that an entry left of each instance are added to those kept
+pub record Adds (q : ReaderQos) (e : Happening) (h : List Happening) (old new : List Kept) : Type 0 where
+  pub added : List Kept
+  pub are : new ≡ old ++ added
+  pub each : All (IsKept q (e ∷ h)) added
+  pub present : (i : Key) → filter (is_present q (e ∷ h) i) ((length h + 1) ∷ []) ≡ positions_in q (e ∷ h) i added
+
+-- the sample is among those that were returned
+abbrev pub is_among : List SamplePosition → Kept → Bool
+is_among ss k = list_any (same_sample k.sample) ss
+
+-- two lists have the same samples
+abbrev pub HaveSame : List SamplePosition → List SamplePosition → Type 0
+HaveSame ss ts = (s : SamplePosition) → list_any (same_sample s) ss ≡ list_any (same_sample s) ts
+
+-- a kept sample after a read that returned these
+abbrev pub marked : List SamplePosition → Kept → Kept
+marked ss k = record k { is_read = is_among ss k || k.is_read }

@@ -1,0 +1,98 @@
+-- The samples that an access picks among those that it finds, by its form. Inner functions alone cite this: nothing here
+-- has to be believed.
+use Rattle.std.specs.Prelude.{◌≡◌, ℕ, List, [], ◌∷◌, All, map, filter, Bool, true, false, ◌==◌, nat_lt, Option, None, Some, Result, Ok, Err, ℤ, if◌then◌else◌}
+use Rattle.dds_base.specs.declared.code.Code.{Code}
+use Rattle.dds_base.specs.declared.code.Code.TheVariants.{BadParameter}
+use Rattle.dds_base.specs.declared.happening.SamplePosition.{SamplePosition}
+use Rattle.dds_base.specs.declared.happening.Happening.{Happening}
+use Rattle.dds_base.specs.declared.mask.Masks.{Masks}
+use Rattle.dds_base.specs.declared.qos.ReaderQos.{ReaderQos}
+use Rattle.dds_base.specs.declared.selection.Selection.{Selection}
+use Rattle.dds_base.specs.declared.selection.Selection.TheVariants.{Any, Instance, NextInstance, NextSample}
+use Rattle.dds_base.specs.Checked.{is_maximum, limit_of}
+use Rattle.dds_base.specs.Selection.{picked_by, selection_refusal}
+use Rattle.dds_base.specs.Access.{handle_of, next_handle, no_filter, not_read, collection_of}
+use Rattle.dds_base.specs.declared.sample.Sample.{Sample}
+use Rattle.dds_instances.specs.Known.{IsReturnable}
+use Rattle.dds_cache.specs.declared.access.Candidate.{Candidate}
+use Rattle.dds_cache.specs.declared.kept.Kept.{Kept}
+use Rattle.dds_cache.specs.declared.pick.Request.{Request}
+use Rattle.dds_cache.specs.Kept.{IsKept}
+use Rattle.dds_cache.specs.Finding.{IsCandidate, sample_in, handle_in}
+
+-- how many samples an access asks for at most
+abbrev pub limit_in : Selection → Option ℕ
+limit_in (Any max masks) = limit_of max
+limit_in (Instance handle max masks) = limit_of max
+limit_in (NextInstance previous max masks) = limit_of max
+limit_in NextSample = Some 1
+
+-- the masks that they have to meet
+abbrev pub masks_in : Selection → Masks
+masks_in (Any max masks) = masks
+masks_in (Instance handle max masks) = masks
+masks_in (NextInstance previous max masks) = masks
+masks_in NextSample = not_read
+
+-- those of one instance
+abbrev pub of_handle : ReaderQos → List Happening → ℕ → List SamplePosition → List SamplePosition
+of_handle q h n ss = filter (λ (s : SamplePosition). handle_of q h s.key == n) ss
+
+-- those of the matching samples that are of an instance that the access asks for
+abbrev pub of_form : ReaderQos → List Happening → Selection → List SamplePosition → List SamplePosition
+of_form q h (Any max masks) ss = ss
+of_form q h (Instance handle max masks) ss = of_handle q h handle ss
+of_form q h (NextInstance previous max masks) ss = of_handle q h (next_handle q h previous ss) ss
+of_form q h NextSample ss = ss
+
+-- the candidate is of this instance
+abbrev pub has_handle : ℕ → Candidate → Bool
+has_handle n c = handle_in c == n
+
+-- the first handle above n, 0 for none
+abbrev pub first_above : ℕ → List Candidate → ℕ
+first_above n [] = 0
+first_above n (c ∷ cs) = if nat_lt n (handle_in c) then handle_in c else first_above n cs
+
+-- those of the candidates that are of an instance that the access asks for
+abbrev pub of_selection : Selection → List Candidate → List Candidate
+of_selection (Any max masks) cs = cs
+of_selection (Instance handle max masks) cs = filter (has_handle handle) cs
+of_selection (NextInstance previous max masks) cs = filter (has_handle (first_above previous cs)) cs
+of_selection NextSample cs = cs
+
+-- the limit of a valid maximum, or BAD_PARAMETER
+abbrev pub IsLimit : ℤ → Result (Option ℕ) Code → Type 0
+IsLimit max (Ok limit) = (is_maximum max ≡ true) × (limit ≡ limit_of max)
+IsLimit max (Err code) = (is_maximum max ≡ false) × (code ≡ BadParameter)
+
+-- a valid maximum and the masks, or BAD_PARAMETER
+abbrev pub IsRequestWith : ℤ → Masks → Result Request Code → Type 0
+IsRequestWith max masks (Ok request) =
+    (is_maximum max ≡ true) × (request.limit ≡ limit_of max) × (request.masks ≡ masks)
+IsRequestWith max masks (Err code) = (is_maximum max ≡ false) × (code ≡ BadParameter)
+
+-- how many samples an access asks for, and by which masks, or why it is refused
+abbrev pub IsRequest : ReaderQos → List Happening → Selection → Result Request Code → Type 0
+IsRequest q h selection (Ok request) =
+    (selection_refusal q h selection ≡ None) × (request.limit ≡ limit_in selection) × (request.masks ≡ masks_in selection)
+IsRequest q h selection (Err code) = selection_refusal q h selection ≡ Some code
+
+-- an access that is not refused picks these of the kept samples
+pub record Picks (q : ReaderQos) (h : List Happening) (selection : Selection) (ks : List Kept) (cs : List Candidate) : Type 0 where
+  pub good : selection_refusal q h selection ≡ None
+  pub samples_are : map sample_in cs ≡ picked_by q h selection no_filter
+  pub each : All (IsCandidate q h ks) cs
+
+-- this is the collection of these candidates
+abbrev pub IsCollection : List Kept → List Candidate → List Sample → Type 0
+IsCollection ks cs collection =
+    (q : ReaderQos) (h : List Happening) → All (IsKept q h) ks → All (IsCandidate q h ks) cs
+    → collection ≡ collection_of q h (map sample_in cs)
+
+-- an access that is not refused finds these samples, and this is their collection
+pub record IsAccess (q : ReaderQos) (h : List Happening) (selection : Selection) (positions : List SamplePosition) (collection : List Sample) : Type 0 where
+  pub good : selection_refusal q h selection ≡ None
+  pub positions_are : positions ≡ picked_by q h selection no_filter
+  pub collection_is : collection ≡ collection_of q h positions
+  pub each : All (IsReturnable q h) positions

@@ -1,0 +1,95 @@
+//! The samples without data that a death leaves.
+
+ghost use Rattle.std.specs.Prelude.{◌≡◌, ◌+◌, ◌∷◌, [], ℕ, List, Some, false, length, All, MatchOption, IfSome, ◌<◌, ◌≤◌, vec_len, vec_capacity};
+ghost use Rattle.dds_base.specs.declared.happening.Happening.{Happening};
+ghost use Rattle.dds_base.specs.declared.happening.Happening.TheVariants.{Died};
+ghost use Rattle.dds_base.specs.declared.key.Key.{Key};
+ghost use Rattle.dds_base.specs.declared.qos.ReaderQos.{ReaderQos};
+ghost use Rattle.dds_base.specs.Access.{instance_of};
+ghost use Rattle.dds_base.specs.Instance.{known_instances};
+ghost use Rattle.dds_base.specs.Presence.{is_present};
+ghost use Rattle.dds_instances.specs.Table.{Stands};
+ghost use Rattle.dds_cache.specs.Kept.{Adds, IsFresh, IsKeptAt};
+ghost use Rattle.dds_cache.specs.Dying.{AddsOf};
+ghost use Rattle.dds_cache.specs.Finding.{IsSmall};
+
+use crate::kept::{Kept, is_position};
+use dds_base::{Handle, Moment, Octets, SamplePosition};
+use dds_instances::Instances;
+use std::alloc::Global;
+
+/// The sample that a death has left of the instance of a handle, if it left one. The instances have taken the death up.
+fn marker_of(
+    alloc: Global,
+    instances: &Instances,
+    handle: Handle,
+    writer: Handle,
+    moment: Moment,
+) -> Option<Kept>
+    ensures left { (q : ReaderQos) (h : List Happening) (i : Key) → Stands q instances.now (Died writer moment ∷ h) → instance_of q (Died writer moment ∷ h) handle ≡ Some i → IsFresh h i → MatchOption result (is_present q (Died writer moment ∷ h) i (length h + 1) ≡ false) (IsKeptAt q (Died writer moment ∷ h) i (length h + 1)) }
+    ensures small { IfSome result IsSmall }
+{
+    let known = instances.at(handle)?;
+    let position = instances.happened();
+    if !is_position(known.last_marker, position) {
+        return None;
+    }
+    Some(Kept {
+        sample: SamplePosition {
+            key: known.key,
+            position,
+        },
+        handle: instances.handle(known.key),
+        number: known.accepted_writes,
+        is_read: false,
+        valid_data: false,
+        disposed_generation_count: known.disposed_generations,
+        no_writers_generation_count: known.no_writers_generations,
+        source_timestamp: moment,
+        publication_handle: writer,
+        value: Octets::from_vec(Vec::new(alloc)),
+    })
+}
+
+/// Adds the sample that a death has left of the instance of a handle, if it left one.
+fn add_marker(
+    alloc: Global,
+    instances: &Instances,
+    samples: &mut Vec<Kept>,
+    handle: Handle,
+    writer: Handle,
+    moment: Moment,
+)
+    requires room { vec_len samples.old < vec_capacity samples.old }
+    ensures len { vec_len samples.new ≤ vec_len samples.old + 1 }
+    ensures capacity { vec_capacity samples.old ≤ vec_capacity samples.new }
+    ensures samples { (q : ReaderQos) (h : List Happening) (i : Key) → Stands q instances.now (Died writer moment ∷ h) → instance_of q (Died writer moment ∷ h) handle ≡ Some i → IsFresh h i → AddsOf q (Died writer moment ∷ h) (length h + 1) (i ∷ []) samples.old.items samples.new.items }
+    ensures small { All IsSmall samples.old.items → All IsSmall samples.new.items }
+{
+    if let Some(kept) = marker_of(alloc, instances, handle, writer, moment) {
+        if samples.push(kept).is_err() {
+            unreachable!();
+        }
+    }
+}
+
+/// Adds the samples that a death has left, of so many instances. The instances have taken the death up.
+pub fn add_markers(
+    alloc: Global,
+    instances: &Instances,
+    samples: &mut Vec<Kept>,
+    count: usize,
+    writer: Handle,
+    moment: Moment,
+)
+    requires room { vec_len samples.old + count ≤ vec_capacity samples.old }
+    ensures len { vec_len samples.new ≤ vec_len samples.old + count }
+    ensures capacity { vec_capacity samples.old ≤ vec_capacity samples.new }
+    ensures samples { (q : ReaderQos) (h : List Happening) → Stands q instances.now (Died writer moment ∷ h) → count ≡ length (known_instances q (Died writer moment ∷ h)) → ((i : Key) → IsFresh h i) → Adds q (Died writer moment) h samples.old.items samples.new.items }
+    ensures small { All IsSmall samples.old.items → All IsSmall samples.new.items }
+{
+    for at in 0..count {
+        let handle = Handle::new(at as u64 + 1);
+        add_marker(alloc, instances, samples, handle, writer, moment);
+    }
+}

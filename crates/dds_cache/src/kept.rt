@@ -1,0 +1,103 @@
+//! A sample that is kept.
+
+ghost use Rattle.std.specs.Prelude.{◌≡◌, ◌+◌};
+ghost use Rattle.dds_base.specs.Presence.{keeps, is_at};
+ghost use Rattle.dds_instances.specs.Track.{one_if};
+ghost use Rattle.dds_cache.specs.Kept.{is_live, marked};
+ghost use Rattle.dds_cache.specs.Room.{is_write_after};
+
+use dds_base::{Handle, HistoryQos, Moment, Octets, ReaderQos, SamplePosition};
+use dds_instances::KnownInstance;
+use indexmap::IndexSet;
+
+/// A sample, with what is said of it that does not change.
+#[derive(Drop)]
+pub struct Kept {
+    pub sample: SamplePosition,
+    /// The handle of its instance.
+    pub handle: Handle,
+    /// How many writes of its instance were accepted, up to it.
+    pub number: u64,
+    /// Whether a read returned it.
+    pub is_read: bool,
+    pub valid_data: bool,
+    pub disposed_generation_count: u64,
+    pub no_writers_generation_count: u64,
+    pub source_timestamp: Moment,
+    pub publication_handle: Handle,
+    pub value: Octets,
+}
+
+/// Whether the history keeps a write that so many accepted ones have followed.
+fn is_kept(history: HistoryQos, later: u64) -> bool
+    ensures { result ≡ keeps history later }
+{
+    match history {
+        HistoryQos::KeepAll => true,
+        HistoryQos::KeepLast(depth) => later < u64::from(depth),
+    }
+}
+
+/// The same once one more has followed, if it has.
+pub fn is_kept_after(history: HistoryQos, later: u64, one_more: bool) -> bool
+    ensures { result ≡ keeps history (later + one_if one_more) }
+{
+    match history {
+        HistoryQos::KeepAll => true,
+        HistoryQos::KeepLast(depth) => {
+            let depth = u64::from(depth);
+            if one_more {
+                later < depth.saturating_sub(1)
+            } else {
+                later < depth
+            }
+        }
+    }
+}
+
+pub fn is_position(at: Option<u64>, position: u64) -> bool
+    ensures { result ≡ is_at at position }
+{
+    match at {
+        None => false,
+        Some(at) => at == position,
+    }
+}
+
+impl Kept {
+    /// Whether it is a write that the history keeps, or the last marker of its instance.
+    pub fn is_live(&self, qos: &ReaderQos, known: &KnownInstance) -> bool
+        ensures { result ≡ is_live qos.now known.now self.now }
+    {
+        self.valid_data
+            && is_kept(
+                qos.history,
+                known.accepted_writes.saturating_sub(self.number),
+            )
+            || is_position(known.last_marker, self.sample.position)
+    }
+
+    /// Whether it is a write that is present after a change: by what is known of its instance before it, whether one more
+    /// write of the instance is accepted, and whether the change leaves a marker of it.
+    pub fn is_write_after(
+        &self,
+        qos: &ReaderQos,
+        known: &KnownInstance,
+        one_more: bool,
+        is_marked: bool,
+    ) -> bool
+        ensures { result ≡ is_write_after qos.now known.now one_more is_marked self.now }
+    {
+        let later = known.accepted_writes.saturating_sub(self.number);
+        self.valid_data
+            && (is_kept_after(qos.history, later, one_more)
+                || !is_marked && is_position(known.last_marker, self.sample.position))
+    }
+
+    /// Takes up that a read returned these samples.
+    pub fn mark(&mut self, returned: &IndexSet<SamplePosition>)
+        ensures { self.new ≡ marked returned.now.keys self.old }
+    {
+        self.is_read = returned.contains(&self.sample) || self.is_read;
+    }
+}

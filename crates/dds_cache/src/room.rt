@@ -1,0 +1,129 @@
+//! Whether there is room for a change.
+//!
+//! DDS 1.4, 2.2.3 (RESOURCE_LIMITS).
+
+ghost use Rattle.std.specs.Prelude.{◌≡◌, ◌+◌, ◌-◌, ◌^◌, ◌∷◌, min, ℕ, List, length, filter, All, true};
+ghost use Rattle.std.specs.List.{count_by};
+ghost use Rattle.dds_base.specs.declared.happening.Happening.{Happening};
+ghost use Rattle.dds_base.specs.declared.happening.Happening.TheVariants.{Came};
+ghost use Rattle.dds_base.specs.declared.key.Key.{Key};
+ghost use Rattle.dds_base.specs.Happening.{arrivals as arrivals_of};
+ghost use Rattle.dds_base.specs.Instance.{known_instances};
+ghost use Rattle.dds_base.specs.Presence.{ends_with_write, has_room, is_accepted, is_present, is_within, marks, present_writes, up_to};
+ghost use Rattle.dds_instances.specs.Table.{Stands};
+ghost use Rattle.dds_instances.specs.Track.{one_if};
+ghost use Rattle.dds_cache.specs.Kept.{IsFresh, IsKept, positions_in};
+ghost use Rattle.dds_cache.specs.Room.{is_present_write};
+
+use crate::arriving::is_accepted_write;
+use crate::kept::{Kept, is_kept_after};
+use dds_base::{Arrival, ReaderQos};
+use dds_instances::Instances;
+
+/// Fewer changes than this come at a reader.
+const MAX_ARRIVALS: u32 = (1 << 31) - 1;
+
+/// How many changes came once one more has; the count stays at `MAX_ARRIVALS`.
+pub fn count_arrival(arrivals: u32) -> u32
+    ensures { result ≡ min (arrivals + 1) (2 ^ 31 - 1) }
+{
+    if arrivals < MAX_ARRIVALS {
+        arrivals + 1
+    } else {
+        MAX_ARRIVALS
+    }
+}
+
+/// Whether the number, or the one after it, keeps to the limit, if there is one.
+fn keeps_to(limit: Option<u32>, count: usize, one_more: bool) -> bool
+    ensures { result ≡ is_within limit (count + one_if one_more) }
+{
+    match limit {
+        None => true,
+        Some(limit) => {
+            if one_more {
+                count < limit as usize
+            } else {
+                count <= limit as usize
+            }
+        }
+    }
+}
+
+/// Whether there may be so many instances after an accepted change.
+fn instances_fit(instances: &Instances, qos: &ReaderQos, arrival: &Arrival) -> bool
+    ensures { (h : List Happening) → Stands qos.now instances.now h → is_accepted qos.now h (Came arrival.now) ≡ true → result ≡ is_within qos.now.max_instances (length (known_instances qos.now (Came arrival.now ∷ h))) }
+{
+    let is_new = instances.known(arrival.change.key).is_none();
+    keeps_to(qos.max_instances, instances.len(), is_new)
+}
+
+/// Whether a kept sample is a write that is present after a change.
+fn is_write_then(
+    instances: &Instances,
+    qos: &ReaderQos,
+    arrival: &Arrival,
+    is_write: bool,
+    is_marked: bool,
+    kept: &Kept,
+) -> bool
+    ensures { (h : List Happening) → Stands qos.now instances.now h → is_write ≡ ends_with_write qos.now arrival.now.change.key (Came arrival.now ∷ h) → is_marked ≡ marks qos.now arrival.now.change.key h (Came arrival.now) → IsKept qos.now h kept.now → result ≡ is_present_write qos.now (Came arrival.now ∷ h) kept.now }
+{
+    match instances.at(kept.handle) {
+        None => false,
+        Some(known) => {
+            let is_own = kept.sample.key == arrival.change.key;
+            kept.is_write_after(qos, &known, is_own && is_write, is_own && is_marked)
+        }
+    }
+}
+
+/// How many of the kept samples are writes that are present after a change.
+fn count_writes(
+    instances: &Instances,
+    qos: &ReaderQos,
+    arrival: &Arrival,
+    is_write: bool,
+    is_marked: bool,
+    samples: &[Kept],
+) -> usize
+    ensures { (h : List Happening) → Stands qos.now instances.now h → is_write ≡ ends_with_write qos.now arrival.now.change.key (Came arrival.now ∷ h) → is_marked ≡ marks qos.now arrival.now.change.key h (Came arrival.now) → All (IsKept qos.now h) samples.now → result ≡ count_by (is_present_write qos.now (Came arrival.now ∷ h)) samples.now }
+{
+    let mut count = 0;
+    for at in 0..samples.len() {
+        if is_write_then(instances, qos, arrival, is_write, is_marked, &samples[at]) {
+            count += 1;
+        }
+    }
+    count
+}
+
+/// Whether there may be so many present writes after an accepted change.
+fn samples_fit(instances: &Instances, qos: &ReaderQos, arrival: &Arrival, samples: &[Kept]) -> bool
+    ensures { (h : List Happening) → Stands qos.now instances.now h → All (IsKept qos.now h) samples.now → ((i : Key) → filter (is_present qos.now h i) (up_to (length h)) ≡ positions_in qos.now h i samples.now) → IsFresh h arrival.now.change.key → is_accepted qos.now h (Came arrival.now) ≡ true → result ≡ is_within qos.now.max_samples (present_writes qos.now (Came arrival.now ∷ h)) }
+{
+    if qos.max_samples.is_none() {
+        return true;
+    }
+    let is_write = is_accepted_write(instances, qos, arrival);
+    let is_marked = instances.would_mark(qos, arrival);
+    let count = count_writes(instances, qos, arrival, is_write, is_marked, samples);
+    let is_left = is_write && (is_kept_after(qos.history, 0, false) || is_marked);
+    keeps_to(qos.max_samples, count, is_left)
+}
+
+/// Whether there is room for a change at a reader of these policies, at which so many came.
+pub fn is_room(
+    instances: &Instances,
+    qos: &ReaderQos,
+    samples: &[Kept],
+    arrivals: u32,
+    arrival: &Arrival,
+) -> bool
+    ensures { (h : List Happening) → Stands qos.now instances.now h → All (IsKept qos.now h) samples.now → ((i : Key) → filter (is_present qos.now h i) (up_to (length h)) ≡ positions_in qos.now h i samples.now) → IsFresh h arrival.now.change.key → arrivals ≡ min (arrivals_of h) (2 ^ 31 - 1) → result ≡ has_room qos.now h (Came arrival.now) }
+{
+    arrivals < MAX_ARRIVALS - 1
+        && (!instances.accepts(qos, arrival)
+            || samples_fit(instances, qos, arrival, samples)
+                && instances_fit(instances, qos, arrival))
+}

@@ -1,0 +1,42 @@
+//! Samples that are no longer present are let go.
+
+ghost use Rattle.std.specs.Prelude.{◌≡◌, ◌≤◌, ◌+◌, ◌-◌, ◌*◌, ◌^◌, min, List, All, filter, vec_len, vec_capacity};
+ghost use Rattle.dds_base.specs.declared.happening.Happening.{Happening};
+ghost use Rattle.dds_instances.specs.Table.{Stands};
+ghost use Rattle.dds_cache.specs.Finding.{IsSmall};
+ghost use Rattle.dds_cache.specs.Sweeping.{stays};
+
+use crate::kept::Kept;
+use dds_base::ReaderQos;
+use dds_instances::Instances;
+
+/// Fewer samples than this are not swept.
+const SWEPT_FROM: usize = 16;
+
+/// Whether a kept sample may still be present.
+fn is_still_live(instances: &Instances, qos: &ReaderQos, kept: &Kept) -> bool
+    ensures { (h : List Happening) → Stands qos.now instances.now h → result ≡ stays qos.now h kept.now }
+{
+    match instances.at(kept.handle) {
+        None => true,
+        Some(known) => kept.is_live(qos, &known),
+    }
+}
+
+/// Lets the samples go that are no longer present.
+pub fn sweep(instances: &Instances, qos: &ReaderQos, samples: &mut Vec<Kept>)
+    ensures items { (h : List Happening) → Stands qos.now instances.now h → samples.new.items ≡ filter (stays qos.now h) samples.old.items }
+    ensures small { All IsSmall samples.old.items → All IsSmall samples.new.items }
+    ensures len { vec_len samples.new ≤ vec_len samples.old }
+    ensures capacity { vec_capacity samples.new ≡ vec_capacity samples.old }
+{
+    samples.retain(|k| is_still_live(instances, qos, k));
+}
+
+/// At how many samples the next sweep is due, where so many were left: when their number has doubled.
+pub fn next_sweep(len: usize) -> usize
+    ensures doubled { min (len * 2) (2 ^ 64 - 1) ≤ result }
+    ensures bound { result ≤ len * 2 + 16 }
+{
+    len.saturating_mul(2).max(SWEPT_FROM)
+}
