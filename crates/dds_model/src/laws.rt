@@ -8,7 +8,7 @@ ghost use Rattle.dds_model.specs.InOrder.{ChangesComeInOrder};
 ghost use Rattle.dds_model.specs.Laws.{AnswersAreTrue, AnswersCanBeWritten, Composes, ComposesRuns, HeartbeatsAreTrue, KeepAllIsKept, OpensBacked, OpensSound, OwnersExist, ReadersTellWritersApart, RulesRestOnClaims};
 ghost use Rattle.dds_model.specs.Repair.{AnswersAreFew, AsksAreSent, BeatsAreSent, PairCatchesUp};
 
-use crate::event::Event;
+use crate::event::{Event, Output};
 use dds_base::owner_is_found;
 
 /// All that packets claim is true at the opening of every configuration.
@@ -54,6 +54,13 @@ pub fn events_are_compared(event: &Event, other: &Event) -> bool
     ensures { IsTrue result ↔ (event.now ≡ other.now) }
 {
     event == other
+}
+
+/// `==` says of two outputs whether they are equal.
+pub fn outputs_are_compared(output: &Output, other: &Output) -> bool
+    ensures { IsTrue result ↔ (output.now ≡ other.now) }
+{
+    output == other
 }
 
 /// Each reader of a configuration that is not refused tells its matched writers apart, by GUIDs and by publication handles:
