@@ -7,8 +7,6 @@ use Rattle.dds_base.specs.declared.config.Config.{Config}
 use Rattle.dds_base.specs.declared.config.PeerConfig.{PeerConfig}
 use Rattle.dds_base.specs.declared.config.WriterConfig.{WriterConfig}
 use Rattle.dds_base.specs.declared.config.ReaderConfig.{ReaderConfig}
-use Rattle.dds_base.specs.declared.qos.OwnershipQos.{OwnershipQos}
-use Rattle.dds_base.specs.declared.qos.OwnershipQos.TheVariants.{Shared, Exclusive}
 use Rattle.dds_base.specs.Checked.{check_refusal}
 use Rattle.rtps_reader.specs.Tracked.{fresh}
 use Rattle.dds_model.specs.Calls.{has_number}
@@ -18,17 +16,13 @@ use Rattle.dds_model.specs.World.{peer_at}
 use Rattle.dds_core.specs.Kept.{WriterKept, ReaderKept, CoreKept, writer_identity, reader_identity, configured_writer, configured_reader}
 use Rattle.dds_core.specs.Standing.{WriterStands, ReaderStands, StandsFor}
 
-abbrev pub is_shared : OwnershipQos → Bool
-is_shared Shared = true
-is_shared Exclusive = false
-
--- a shared writer without a lease
+-- a writer without a lease
 abbrev pub is_plain_writer : WriterConfig → Bool
-is_plain_writer w = is_shared w.ownership && not (is_some w.lease)
+is_plain_writer w = not (is_some w.lease)
 
--- a shared reader without a lease
+-- a reader without a lease
 abbrev pub is_plain_reader : ReaderConfig → Bool
-is_plain_reader r = is_shared r.ownership && not (is_some r.lease)
+is_plain_reader r = not (is_some r.lease)
 
 abbrev pub is_plain_peer : PeerConfig → Bool
 is_plain_peer p = list_all is_plain_writer p.writers && list_all is_plain_reader p.readers

@@ -11,21 +11,21 @@ use crate::calls::index_of;
 use crate::peer::Core;
 use crate::reader_end::ReaderEnd;
 use crate::writer_end::WriterEnd;
-use dds_base::{Code, Config, Moment, OwnershipQos, PeerConfig, ReaderConfig, WriterConfig};
+use dds_base::{Code, Config, Moment, PeerConfig, ReaderConfig, WriterConfig};
 use std::alloc::{AllocError, Global};
 
-/// Whether a writer is shared, without a lease.
+/// Whether a writer has no lease.
 fn is_plain_writer(writer: &WriterConfig) -> bool
     ensures { result ≡ is_plain_writer writer.now }
 {
-    matches!(writer.ownership, OwnershipQos::Shared) && writer.lease.is_none()
+    writer.lease.is_none()
 }
 
-/// Whether a reader is shared, without a lease.
+/// Whether a reader has no lease.
 fn is_plain_reader(reader: &ReaderConfig) -> bool
     ensures { result ≡ is_plain_reader reader.now }
 {
-    matches!(reader.ownership, OwnershipQos::Shared) && reader.lease.is_none()
+    reader.lease.is_none()
 }
 
 /// Whether all of these writers are plain.
@@ -115,7 +115,7 @@ impl Core {
     /// # Errors
     ///
     /// The first of these: what `Config::check` answers; `BadParameter` where the configuration has no peer of this
-    /// number, or has a writer or a reader that is not shared or has a lease, or a reader that has a limit; `Memory` where a growth was refused.
+    /// number, or has a writer or a reader with a lease; `Memory` where a growth was refused.
     pub fn open(alloc: Global, config: &Config, peer: u8) -> Result<Core, Code>
         // The peer stands for its opening in the configuration.
         ensures opening { IfOk result (λ core. StandsFor core config.now (opening_peer config.now peer)) }

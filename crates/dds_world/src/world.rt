@@ -106,8 +106,8 @@ impl World {
     ///
     /// # Errors
     ///
-    /// The first of these: what `Config::check` answers; `BadParameter` for a writer or a reader that is not shared or has a
-    /// lease, or a reader that has a limit; `Memory` where a growth was refused.
+    /// The first of these: what `Config::check` answers; `BadParameter` for a writer or a reader with a lease;
+    /// `Memory` where a growth was refused.
     pub fn open(alloc: Global, config: &Config) -> Result<World, Code>
         // The network stands for the opening of its configuration.
         ensures opening { IfOk result (λ world. StandsFor world config.now (opening_world config.now)) }
