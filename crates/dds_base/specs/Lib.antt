@@ -10,6 +10,7 @@ pub mod Statuses
 pub mod Ownership
 pub mod Instance
 pub mod Presence
+pub mod Liveliness
 pub mod Access
 pub mod Matched
 pub mod Checked

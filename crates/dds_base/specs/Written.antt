@@ -1,9 +1,10 @@
 -- What happened at a writer, the newest first, and its changes in the order of their numbers
 -- (DDS 1.4, 2.2.2.4: register_instance, write, dispose, unregister_instance, assert_liveliness; 2.2.3: LIVELINESS;
 -- RTPS 2.5, 8.2: HistoryCache, CacheChange).
-use Rattle.std.specs.Prelude.{ℕ, ◌+◌, nat_le, Option, Some, None, List, [], ◌∷◌, ◌++◌, Bool, true, false, ◌||◌, not, if◌then◌else◌}
+use Rattle.std.specs.Prelude.{ℕ, ◌+◌, ◌-◌, ◌^◌, min, nat_le, Option, Some, None, List, [], ◌∷◌, ◌++◌, Bool, true, false, ◌||◌, not, if◌then◌else◌}
 use Rattle.dds_base.specs.declared.key.Key.{Key}
 use Rattle.dds_base.specs.declared.change.Change.{Change}
+use Rattle.dds_base.specs.declared.status.LivelinessLostStatus.{LivelinessLostStatus}
 use Rattle.dds_base.specs.Happening.{same_key, is_unregister}
 
 -- one thing that happened at a writer: an accepted call, a look at LIVELINESS_LOST, or a tick of its peer
@@ -51,6 +52,27 @@ abbrev pub losses : Option ℕ → List Written → ℕ
 losses lease [] = 0
 losses lease (Ticked now behind ∷ c) = losses lease c + (if is_over lease (live_since lease c) now then 1 else 0)
 losses lease (_ ∷ c) = losses lease c
+
+-- how many of its losses there were when the application looked at them last; 0 before the first look
+abbrev pub losses_seen : Option ℕ → List Written → ℕ
+losses_seen lease [] = 0
+losses_seen lease (LookedAt ∷ c) = losses lease c
+losses_seen lease (_ ∷ c) = losses_seen lease c
+
+-- a number of losses as LIVELINESS_LOST tells it: in 64 bits, where it stays at the greatest number
+abbrev pub told_losses : ℕ → ℕ
+told_losses n = min n (2 ^ 64 - 1)
+
+-- the total of LIVELINESS_LOST
+abbrev pub loss_count : Option ℕ → List Written → ℕ
+loss_count lease c = told_losses (losses lease c)
+
+-- LIVELINESS_LOST after this happened: the change is against the total when the application looked at it last
+abbrev pub liveliness_lost_status : Option ℕ → List Written → LivelinessLostStatus
+liveliness_lost_status lease c = record {
+  total_count = loss_count lease c;
+  total_count_change = loss_count lease c - told_losses (losses_seen lease c);
+}
 
 -- What each HEARTBEAT count of a writer numbers, in order: an assertion, or not. A count is due to each assertion of a
 -- writer that has matched readers, and to each tick at which some reader was behind.

@@ -52,4 +52,4 @@ pub use sample::{InstanceState, Picked, Sample, SampleInfo, SampleState, ViewSta
 pub use selection::Selection;
 pub use sequence::Sequence;
 pub use sn::Sn;
-pub use status::SampleLostStatus;
+pub use status::{LivelinessChangedStatus, LivelinessLostStatus, SampleLostStatus};

@@ -1,6 +1,8 @@
-//! The communication statuses of a reader.
+//! The communication statuses of a reader, and of a writer.
 //!
 //! DDS 1.4, 2.2.4.1.
+
+use crate::handle::Handle;
 
 /// How many changes a reader passed over: those of its matched writers that will never come at it.
 ///
@@ -10,5 +12,33 @@ pub struct SampleLostStatus {
     /// How many there were. It stays at 2^64 - 1.
     pub total_count: u64,
     /// How many more than when the status was looked at last; at the first look, all of them.
+    pub total_count_change: u64,
+}
+
+/// How many matched writers of a reader are alive, and how many died and are not alive.
+///
+/// DDS 1.4, 2.2.4.1 (LIVELINESS_CHANGED, LivelinessChangedStatus).
+#[derive(Clone, Copy, Debug, PartialEq, Eq)]
+pub struct LivelinessChangedStatus {
+    /// How many are alive.
+    pub alive_count: i32,
+    /// How many died and are not alive.
+    pub not_alive_count: i32,
+    /// How many more are alive than when the status was looked at last; below 0 where there are fewer.
+    pub alive_count_change: i32,
+    /// How many more are not alive than when the status was looked at last; below 0 where there are fewer.
+    pub not_alive_count_change: i32,
+    /// The publication handle of the writer that last changed one of the two counts, `NIL` for none.
+    pub last_publication_handle: Handle,
+}
+
+/// How often a writer's liveliness was lost: its lease ran out, and no assertion had come.
+///
+/// DDS 1.4, 2.2.4.1 (LIVELINESS_LOST, LivelinessLostStatus).
+#[derive(Clone, Copy, Debug, PartialEq, Eq)]
+pub struct LivelinessLostStatus {
+    /// How often it was. It stays at 2^64 - 1.
+    pub total_count: u64,
+    /// How much oftener than when the status was looked at last; at the first look, all of them.
     pub total_count_change: u64,
 }
