@@ -242,7 +242,7 @@ refused_tick kept config peer s now bad =
     let is_bad : (nat_lt now peer.part.dds.moment || nat_le (2 ^ 63) now) ≡ true =
     ⊎_elim (λ back. first (nat_lt now peer.part.dds.moment) (nat_le (2 ^ 63) now) (grind (arith, nat_tests))) (λ late. second (nat_lt now peer.part.dds.moment) (nat_le (2 ^ 63) now) (grind (arith, nat_tests))) bad in
     let is : tick_refusal peer.part now ≡ Some BadParameter = ap (λ (b : Bool). if b then Some BadParameter else None) is_bad in
-    (peer, record { same_number = refl; knows = refl; step = ((subst (λ (o : Option Code). Refuses o BadParameter) (sym is) refl, refl), refl); sent = λ p x m h. absurd (omega (arith, m.1)) }, s)
+    (peer, record { same_number = refl; knows = refl; step = ((is, refl), refl); sent = λ p x m h. absurd (omega (arith, m.1)) }, s)
   where
     first : (a b : Bool) → a ≡ true → (a || b) ≡ true
     first true b h = refl

@@ -1,6 +1,6 @@
 -- A writer and a reader that it is matched with, by what a peer keeps.
-use Rattle.std.proofs.Common.{◌≡◌, ℕ, zero, suc, ◌+◌, ◌-◌, ◌≤◌, ◌==◌, Bool, true, false, cond, List, [], ◌∷◌, Option, Some, None, map, length, get_or, slice_get, refl, ap, sym, ◌∙◌, subst, arith, eq-eqb}
-use Rattle.std.specs.Prelude.{◌&&◌, nat_lt, nat_le, IsSome}
+use Rattle.std.proofs.Common.{◌≡◌, ℕ, ℤ, zero, suc, ◌+◌, ◌-◌, ◌<◌, ◌≤◌, ◌==◌, Bool, true, false, cond, List, [], ◌∷◌, Option, Some, None, map, length, get_or, slice_get, refl, ap, sym, ◌∙◌, subst, arith, eq-eqb}
+use Rattle.std.specs.Prelude.{◌&&◌, nat_lt, nat_le, IsSome, slice_index}
 use Rattle.std.specs.Option.{option_map, option_map_or}
 use Rattle.std.proofs.lemmas.Bool.Decides.{nat_tests}
 use Rattle.std.proofs.lemmas.Option.{same_Some}
@@ -10,15 +10,16 @@ use Rattle.dds_base.specs.declared.config.ReaderConfig.{ReaderConfig}
 use Rattle.dds_base.specs.declared.guid.EntityId.{EntityId}
 use Rattle.dds_model.specs.declared.endpoint.Endpoint.{Endpoint}
 use Rattle.dds_model.specs.Claims.{every_reader}
-use Rattle.dds_model.specs.Part.{ReaderProxy, Writer, no_writer, same_endpoint, row_of, acknowledged_of}
+use Rattle.dds_model.specs.Part.{ReaderProxy, Writer, no_writer, same_endpoint, row_of, acknowledged_of, is_reader_behind, writer_changes}
 use Rattle.dds_model.specs.Peer.{Peer}
 use Rattle.dds_model.specs.Protocol.{writer_entity}
 use Rattle.dds_model.proofs.Tables.{same_is}
 use Rattle.dds_core.specs.declared.matching.ReaderName.{ReaderName}
+use Rattle.dds_core.specs.declared.pairing.Pair.{Pair}
 use Rattle.dds_core.specs.Kept.{CoreKept, WriterKept}
 use Rattle.dds_core.specs.Matching.{reader_name, reader_names}
 use Rattle.dds_core.specs.Pairs.{IsPair, reader_entity}
-use Rattle.dds_core.specs.Standing.{StandsFor}
+use Rattle.dds_core.specs.Standing.{StandsFor, WriterStands, IsFirstReader}
 use Rattle.dds_core.proofs.BeatsDue.{writer_named, readers_named}
 use Rattle.dds_core.proofs.Lists.{get-map, map-get}
 use Rattle.dds_core.proofs.Numbered.{is_told}
@@ -53,6 +54,23 @@ some_row (r ∷ rs) reader zero at =
     let same : same_endpoint r.reader reader ≡ true = subst (λ (e : Endpoint). same_endpoint r.reader e ≡ true) (same_Some r.reader reader at) (same_itself r.reader) in
     first_row (same_endpoint r.reader reader) r rs reader (λ other. absurd cc)
 some_row (r ∷ rs) reader (suc j) at = first_row (same_endpoint r.reader reader) r rs reader (λ other. some_row rs reader j at)
+
+-- what the first row of a reader says of it
+behind_later : (b : Bool) (r : ReaderProxy) (rs : List ReaderProxy) (reader : Endpoint) (last a : ℕ) → same_endpoint r.reader reader ≡ b → (r.reader ≡ reader → ⊥) → option_map_or (λ x. nat_le x last) (acknowledged_of rs reader) false ≡ nat_le a last
+    → option_map_or (λ x. nat_le x last) (option_map (λ (p : ReaderProxy). p.acknowledged) (cond b (Some r) (row_of reader_of rs reader))) false ≡ nat_le a last
+behind_later true r rs reader last a is other rest = absurd (other (same_is r.reader reader is))
+behind_later false r rs reader last a is other rest = rest
+
+behind_at : (rows : List ReaderProxy) (reader : Endpoint) (k last : ℕ) → slice_get (map reader_of rows) k ≡ Some reader → ((j : ℕ) → j < k → slice_get (map reader_of rows) j ≡ Some reader → ⊥)
+    → option_map_or (λ x. nat_le x last) (acknowledged_of rows reader) false ≡ nat_le (slice_index (map (λ (p : ReaderProxy). p.acknowledged) rows) k) last
+behind_at [] reader k last at first = absurd cc
+behind_at (r ∷ rs) reader zero last at first =
+    let same : same_endpoint r.reader reader ≡ true = subst (λ (e : Endpoint). same_endpoint r.reader e ≡ true) (same_Some r.reader reader at) (same_itself r.reader) in
+    ap (λ (b : Bool). option_map_or (λ x. nat_le x last) (option_map (λ (p : ReaderProxy). p.acknowledged) (cond b (Some r) (row_of reader_of rs reader))) false) same
+behind_at (r ∷ rs) reader (suc k) last at first =
+    behind_later (same_endpoint r.reader reader) r rs reader last (slice_index (map (λ (p : ReaderProxy). p.acknowledged) rs) k) refl
+    (λ same. first zero (omega arith) (ap (λ (e : Endpoint). Some e) same))
+    (behind_at rs reader k last at (λ j low there. first (suc j) (omega (arith, low)) there))
 
 -- no writer has this number
 
@@ -94,19 +112,30 @@ named_reader config topic j n at =
     ∙ ap (λ (o : Option ReaderConfig). option_map_or (λ (r : ReaderConfig). r.entity) o every_reader) t.at_end.1 in
     subst (λ (x : ReaderName). x.guid.entity ≡ reader_entity config x.reader.peer x.reader.number) t.told (sym configured)
 
-pub is_among : (kept : CoreKept) (i number : ℕ) (k : WriterKept) (reader : Endpoint) (entity : EntityId) → number ≡ i + 1 → slice_get kept.writers i ≡ Some k
-    → ((j : ℕ) × (n : ReaderName) × (slice_get k.readers j ≡ Some n) × (n.reader ≡ reader) × (n.guid.entity ≡ entity))
-    → (config : Config) (peer : Peer) → StandsFor kept config peer → IsPair config peer number reader (Some (record { writer = k.entity; reader = entity }))
-is_among kept i number k reader entity is at f config peer s =
+-- a pair, by what the peer keeps of the writer
+abbrev pair_of : WriterKept → EntityId → Bool → Pair
+pair_of k entity behind = record { writer = k.entity; reader = entity; is_behind = behind }
+
+pub is_among : (kept : CoreKept) (i number : ℕ) (k : WriterKept) (reader : Endpoint) (row : ℕ) (behind : Bool) → number ≡ i + 1 → slice_get kept.writers i ≡ Some k
+    → (f : IsFirstReader k.readers reader row)
+    → ((w : Writer) (answered : Endpoint → Option ℤ) → WriterStands k w answered → behind ≡ nat_le (slice_index (map (λ (p : ReaderProxy). p.acknowledged) w.readers) row) (length (writer_changes w)))
+    → (config : Config) (peer : Peer) → StandsFor kept config peer → IsPair config peer number reader (Some (pair_of k f.name.guid.entity behind))
+is_among kept i number k reader row behind is at f is_behind config peer s =
     let w : Writer = get_or peer.part.rtps.writers i no_writer in
-    let rows = (s.writers.each i k at).readers in
-    let there : slice_get (map reader_of w.readers) f.0 ≡ Some reader =
-    subst (λ (es : List Endpoint). slice_get es f.0 ≡ Some reader) (sym rows) (map-get (λ (r : ReaderName). r.reader) k.readers f.0 f.1 f.2 ∙ ap (λ (e : Endpoint). Some e) f.3) in
+    let stands = s.writers.each i k at in
+    let rows = stands.readers in
+    let reader_at : (j : ℕ) (n : ReaderName) → slice_get k.readers j ≡ Some n → slice_get (map reader_of w.readers) j ≡ Some n.reader = λ j n there.
+    subst (λ (es : List Endpoint). slice_get es j ≡ Some n.reader) (sym rows) (map-get (λ (r : ReaderName). r.reader) k.readers j n there) in
+    let there : slice_get (map reader_of w.readers) row ≡ Some reader = reader_at row f.name f.at ∙ ap (λ (e : Endpoint). Some e) f.is in
+    let none : (j : ℕ) → j < row → slice_get (map reader_of w.readers) j ≡ Some reader → ⊥ = λ j low found.
+    let g = get-map (λ (r : ReaderName). r.reader) k.readers j reader (subst (λ (es : List Endpoint). slice_get es j ≡ Some reader) rows found) in
+    f.first j g.0 low g.1 g.2 in
     let next : suc i ≡ number = omega (arith, is) in
     let first : 1 + i ≡ suc i = omega arith in
     let names = readers_named config peer kept s i k at in
     let own : k.entity ≡ writer_entity config peer.number (suc i) = subst (λ (m : ℕ). k.entity ≡ writer_entity config peer.number m) first (sym (writer_named config peer kept s i k at)) in
-    let far : entity ≡ reader_entity config reader.peer reader.number =
-    sym f.4 ∙ subst (λ (e : Endpoint). f.1.guid.entity ≡ reader_entity config e.peer e.number) f.3 (named_reader config names.0 f.0 f.1 (subst (λ (ns : List ReaderName). slice_get ns f.0 ≡ Some f.1) names.1 f.2)) in
-    let pair : IsPair config peer (suc i) reader (Some (record { writer = k.entity; reader = entity })) = (some_row w.readers reader f.0 there, own, far) in
-    subst (λ (m : ℕ). IsPair config peer m reader (Some (record { writer = k.entity; reader = entity }))) next pair
+    let far : f.name.guid.entity ≡ reader_entity config reader.peer reader.number =
+    subst (λ (e : Endpoint). f.name.guid.entity ≡ reader_entity config e.peer e.number) f.is (named_reader config names.0 row f.name (subst (λ (ns : List ReaderName). slice_get ns row ≡ Some f.name) names.1 f.at)) in
+    let still : behind ≡ is_reader_behind w reader = is_behind w (peer.known.answered (suc i)) stands ∙ sym (behind_at w.readers reader row (length (writer_changes w)) there none) in
+    let pair : IsPair config peer (suc i) reader (Some (pair_of k f.name.guid.entity behind)) = (some_row w.readers reader row there, own, far, still) in
+    subst (λ (m : ℕ). IsPair config peer m reader (Some (pair_of k f.name.guid.entity behind))) next pair

@@ -68,6 +68,14 @@ pub record IsFirstRow (names : List WriterName) (writer : Endpoint) (k : ℕ) : 
   pub is : name.writer ≡ writer
   pub first : (j : ℕ) (n : WriterName) → j < k → slice_get names j ≡ Some n → n.writer ≡ writer → ⊥
 
+-- the writer's reader of this row is this one, and no earlier row is
+pub record IsFirstReader (names : List ReaderName) (reader : Endpoint) (k : ℕ) : Type 0 where
+  pub within : k < length names
+  pub name : ReaderName
+  pub at : slice_get names k ≡ Some name
+  pub is : name.reader ≡ reader
+  pub first : (j : ℕ) (n : ReaderName) → j < k → slice_get names j ≡ Some n → n.reader ≡ reader → ⊥
+
 -- a reader of the machine, with its matched writers and what is known of them, for which what is kept stands
 pub record ReaderStands (kept : ReaderKept) (proxies : List WriterProxy) (r : Reader) (tracked : Endpoint → Tracked) : Type 0 where
   pub writers_are : map (λ (p : WriterProxy). p.writer) proxies ≡ map (λ (n : WriterName). n.writer) kept.writers

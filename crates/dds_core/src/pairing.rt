@@ -5,7 +5,7 @@ ghost use Rattle.dds_base.specs.declared.config.Config.{Config};
 ghost use Rattle.dds_model.specs.Peer.{Peer};
 ghost use Rattle.dds_core.specs.declared.matching.ReaderName.{ReaderName as NameOf};
 ghost use Rattle.dds_core.specs.Pairs.{IsPair};
-ghost use Rattle.dds_core.specs.Standing.{StandsFor};
+ghost use Rattle.dds_core.specs.Standing.{StandsFor, IsFirstReader};
 
 use crate::calls::index_of;
 use crate::matching::ReaderName;
@@ -18,17 +18,19 @@ use dds_model::Endpoint;
 pub struct Pair {
     pub writer: EntityId,
     pub reader: EntityId,
+    /// Whether the reader has not acknowledged all changes of the writer.
+    pub is_behind: bool,
 }
 
-/// The entity id of this reader, if it is among these.
-fn entity_among(names: &[ReaderName], reader: Endpoint) -> Option<EntityId>
+/// The first row of this reader, if it is among these.
+fn row_among(names: &[ReaderName], reader: Endpoint) -> Option<usize>
     ensures { MatchOption result
         ((k : ℕ) (n : NameOf) → slice_get names.now k ≡ Some n → n.reader ≡ reader → ⊥)
-        (λ entity. (k : ℕ) × (n : NameOf) × (slice_get names.now k ≡ Some n) × (n.reader ≡ reader) × (n.guid.entity ≡ entity)) }
+        (IsFirstReader names.now reader) }
 {
-    for name in names {
+    for (row, name) in names.iter().enumerate() {
         if name.reader == reader {
-            return Some(name.guid.entity);
+            return Some(row);
         }
     }
     None
@@ -44,12 +46,13 @@ impl Core {
         self.moment
     }
 
-    /// The entity ids of the writer of this number and of a reader; `None` where they are not matched, or where there are
-    /// no such ends.
+    /// The writer of this number and a reader, by their entity ids, and whether the reader is behind; `None` where they are
+    /// not matched, or where there are no such ends.
     ///
-    /// RTPS 2.5, 8.4.7 (StatefulWriter, matched_readers).
+    /// RTPS 2.5, 8.4.7 (StatefulWriter, matched_readers), 8.4.9 (ReaderProxy, unacked_changes).
     pub fn pair(&self, writer: u8, reader: Endpoint) -> Option<Pair>
-        // They are matched exactly if a pair is found, and the ids are those of the configuration.
+        // They are matched exactly if a pair is found, and the ids are those of the configuration; the reader is behind
+        // exactly where it has not acknowledged some change.
         ensures pair { (config : Config) (peer : Peer) → StandsFor self.now config peer
             → IsPair config peer writer reader result }
     {
@@ -57,12 +60,13 @@ impl Core {
             return None;
         };
         let end = &self.writers[index];
-        match entity_among(end.readers(), reader) {
-            Some(entity) => Some(Pair {
-                writer: end.entity(),
-                reader: entity,
-            }),
-            None => None,
-        }
+        let Some(row) = row_among(end.readers(), reader) else {
+            return None;
+        };
+        Some(Pair {
+            writer: end.entity(),
+            reader: end.readers()[row].guid.entity,
+            is_behind: end.is_behind(row),
+        })
     }
 }

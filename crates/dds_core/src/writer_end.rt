@@ -2,7 +2,7 @@
 //!
 //! RTPS 2.5, 8.4.7 (StatefulWriter); DDS 1.4, 2.2.2.4 (DataWriter).
 
-ghost use Rattle.std.specs.Prelude.{◌≡◌, ◌+◌, ◌^◌, ◌<◌, ◌≤◌, ℤ, Option, length, slice_get, Some, None, true, IfOk, IfErr, OnOk, OnErr};
+ghost use Rattle.std.specs.Prelude.{◌≡◌, ◌+◌, ◌^◌, ◌<◌, ◌≤◌, ℤ, Option, length, map, nat_le, slice_get, slice_index, Some, None, true, IfOk, IfErr, OnOk, OnErr};
 ghost use Rattle.dds_base.specs.Checked.{check_refusal};
 ghost use Rattle.dds_base.specs.declared.code.Code.TheVariants.{Memory};
 ghost use Rattle.dds_base.specs.Kept.{append_refusal};
@@ -10,7 +10,7 @@ ghost use Rattle.dds_base.specs.Refusal.{Refuses};
 ghost use Rattle.dds_base.specs.Written.{Registered, Changed, is_key_registered};
 ghost use Rattle.dds_model.specs.declared.endpoint.Endpoint.{Endpoint as EndpointOf};
 ghost use Rattle.dds_model.specs.Calls.{unregister_kind};
-ghost use Rattle.dds_model.specs.Part.{Writer, history_of, writer_changes};
+ghost use Rattle.dds_model.specs.Part.{ReaderProxy, Writer, history_of, writer_changes};
 ghost use Rattle.dds_core.specs.declared.matching.ReaderName.{ReaderName as NameOf};
 ghost use Rattle.dds_core.specs.Answering.{HasRoom, AreRooms, TakesAckNack};
 ghost use Rattle.dds_core.specs.Beating.{BeatsOf, BeatsOfAll};
@@ -109,6 +109,15 @@ impl WriterEnd {
         ensures { result.now ≡ self.now.readers }
     {
         self.readers.as_slice()
+    }
+
+    /// Whether the matched reader of this row, from 0, has not acknowledged all its changes.
+    pub fn is_behind(&self, row: usize) -> bool
+        requires within { row < length self.now.readers }
+        ensures behind { (w : Writer) (answered : EndpointOf → Option ℤ) → WriterStands self.now w answered
+            → result ≡ nat_le (slice_index (map (λ (p : ReaderProxy). p.acknowledged) w.readers) row) (length (writer_changes w)) }
+    {
+        self.writer.is_behind(row)
     }
 
     /// Whether it has registered the instance.

@@ -20,12 +20,19 @@ use Rattle.dds_model.specs.Calls.{Tests, CallStep, TickStep}
 use Rattle.dds_model.specs.Machine.{Machine, AllTests, part_at, writer_at, grounds_of, Step}
 use Rattle.dds_model.specs.World.{WorldState, machine_of, Sound}
 use Rattle.dds_model.specs.Runs.{Traffic, Run}
+use Rattle.dds_model.specs.Rules.{RuledRun, traffic_of}
 use Rattle.dds_model.specs.Laws.{WorldRun, PassesNone, LosesNone}
 use Rattle.dds_model.proofs.Growth.{CallStep-grows, TickStep-grows, DeliveryStep-grows, with_part-grows}
 use Rattle.dds_model.proofs.Composed.{composes}
 
-abbrev traffic_of : WorldState → ℕ → Traffic
-traffic_of world unsent = record { sent = world.sent; unsent = unsent }
+-- a run by the rules is a run of the peers
+pub run_by_rules : (config : Config) (tests : AllTests) (old new : WorldState) (unsent last : ℕ) (events : List WorldEvent) (replies : List Reply)
+    → RuledRun config tests old unsent events replies new last → WorldRun config tests old unsent events replies new last
+run_by_rules config tests old new unsent last [] [] run = run
+run_by_rules config tests old new unsent last (e ∷ es) (r ∷ rs) run =
+    (run.0, run.1, run.2.ruled.step, run.2.sends, run_by_rules config tests run.0 new run.1 last es rs run.3)
+run_by_rules config tests old new unsent last [] (r ∷ rs) run = absurd run
+run_by_rules config tests old new unsent last (e ∷ es) [] run = absurd run
 
 pub composes_runs : (config : Config) (tests : AllTests) (old new : WorldState) (unsent last : ℕ) (events : List WorldEvent) (replies : List Reply) → Sound config old → WorldRun config tests old unsent events replies new last
     → Run config tests (traffic_of old unsent) (machine_of old) events replies (traffic_of new last) (machine_of new) × Sound config new

@@ -178,6 +178,8 @@ ticked now w = with_written w (Ticked now (is_behind w))
 abbrev pub after_tick : Part → ℕ → Part
 after_tick old now = record { rtps = record old.rtps { writers = map (ticked now) old.rtps.writers }; dds = record old.dds { moment = now } }
 
--- the time of a peer goes on to this moment
+-- The time of a peer goes on to this moment, exactly unless that is refused: a tick needs no memory.
 abbrev pub TickStep : Part → ℕ → Reply → Part → Type 0
-TickStep old now reply new = IsDoneUnless (tick_refusal old now) reply old (after_tick old now) new
+TickStep old now Done new = (tick_refusal old now ≡ None) × (new ≡ after_tick old now)
+TickStep old now (Refused code) new = (tick_refusal old now ≡ Some code) × (new ≡ old)
+TickStep old now reply new = ⊥

@@ -4,7 +4,7 @@
 -- RTPS 2.5, 8.4.7 (StatefulWriter, ReaderProxy), 8.4.10 (StatefulReader, WriterProxy).
 use Rattle.std.specs.Prelude.{ℕ, ◌+◌, ◌<◌, ◌≤◌, Bool, false, cond, if◌then◌else◌, ◌==◌, nat_le, nat_lt, List, [], ◌∷◌, length, map, Option, Some, None, ℤ, pos, negsuc}
 use Rattle.std.specs.List.{list_any}
-use Rattle.std.specs.Option.{option_map}
+use Rattle.std.specs.Option.{option_map, option_map_or}
 use Rattle.dds_base.specs.declared.change.Change.{Change}
 use Rattle.dds_base.specs.declared.happening.Happening.{Happening}
 use Rattle.dds_base.specs.declared.qos.HistoryQos.{HistoryQos}
@@ -143,6 +143,11 @@ IsAtMost number (Some bound) = number ≤ bound
 abbrev pub NoLess : Option ℕ → Option ℕ → Type 0
 NoLess None second = Unit {0}
 NoLess (Some first) second = IsAtMost first second
+
+-- this reader is matched, and has not acknowledged all changes of the writer
+abbrev pub is_reader_behind : Writer → Endpoint → Bool
+is_reader_behind w reader =
+    option_map_or (λ acknowledged. nat_le acknowledged (length (writer_changes w))) (acknowledged_of w.readers reader) false
 
 -- some matched reliable reader has not acknowledged all changes of the writer
 abbrev pub is_behind : Writer → Bool

@@ -2,7 +2,7 @@
 -- sent of them.
 --
 -- RTPS 2.5, 8.4.9 (reliable StatefulWriter), 8.4.12 (reliable StatefulReader).
-use Rattle.std.specs.Prelude.{◌≡◌, ℕ, ◌+◌, ◌-◌, List, [], ◌++◌, length, slice_get, Some}
+use Rattle.std.specs.Prelude.{◌≡◌, ℕ, ◌+◌, ◌-◌, ◌^◌, min, List, [], ◌∷◌, ◌++◌, length, slice_get, Some}
 use Rattle.dds_base.specs.declared.config.Config.{Config}
 use Rattle.dds_base.specs.Written.{Changed}
 use Rattle.dds_model.specs.declared.event.Packet.{Packet}
@@ -15,7 +15,8 @@ use Rattle.dds_model.specs.Calls.{Effect, writes, effect_of}
 use Rattle.dds_model.specs.Machine.{AllTests}
 use Rattle.dds_model.specs.Peer.{state_of}
 use Rattle.dds_model.specs.Protocol.{Due, TakesPacket, AreSent, changes_due, heartbeats_due}
-use Rattle.dds_model.specs.World.{WorldState, WorldStep, peer_at}
+use Rattle.dds_model.specs.Runs.{Traffic, Sends}
+use Rattle.dds_model.specs.World.{WorldState, WorldStep, peer_at, machine_of}
 
 -- what is due for what a call enters at a writer of the peer: a change is announced, with the next number
 abbrev pub announcements_due : Config → ℕ → Part → Effect → List Due
@@ -45,3 +46,26 @@ pub record RuledStep (config : Config) (tests : AllTests) (old : WorldState) (ev
   pub packets : List Packet
   pub sent : new.sent ≡ old.sent ++ packets
   pub are_sent : AreSent dues packets lost
+
+-- what a network sent so far, where so many packets were counted as unsent
+abbrev pub traffic_of : WorldState → ℕ → Traffic
+traffic_of world unsent = record { sent = world.sent; unsent = unsent }
+
+-- One event of a network by the rules, and how many packets are counted as unsent before it and after it: to the greatest
+-- number that has 64 bits, those that are due and not sent besides.
+pub record CountedStep (config : Config) (tests : AllTests) (old : WorldState) (unsent : ℕ) (event : WorldEvent) (reply : Reply)
+    (new : WorldState) (next : ℕ) : Type 0 where
+  pub lost : ℕ
+  pub ruled : RuledStep config tests old event reply lost new
+  pub counted : next ≡ min (unsent + lost) (2 ^ 64 - 1)
+  pub sends : Sends config (traffic_of old unsent) (machine_of old) event reply (traffic_of new next)
+
+-- Replies to a list of events of a network by the rules, one after another, with the counts of unsent packets before and
+-- after.
+abbrev pub RuledRun : Config → AllTests → WorldState → ℕ → List WorldEvent → List Reply → WorldState → ℕ → Type 0
+RuledRun config tests old unsent [] [] new last = (new ≡ old) × (last ≡ unsent)
+RuledRun config tests old unsent (event ∷ events) (reply ∷ replies) new last =
+    (mid : WorldState) × (next : ℕ) × CountedStep config tests old unsent event reply mid next
+    × RuledRun config tests mid next events replies new last
+RuledRun config tests old unsent [] (reply ∷ replies) new last = ⊥
+RuledRun config tests old unsent (event ∷ events) [] new last = ⊥

@@ -48,8 +48,8 @@ fn push_event(text: &mut TranscriptLine, world: &mut World, event: WorldEvent) {
 fn push_round(text: &mut TranscriptLine, world: &mut World, writer: Endpoint, reader: Endpoint) {
     let (mut sent, mut unsent) = (world.sent(), world.unsent());
     match world.round(writer, reader) {
-        Ok(replies) => {
-            for (index, next) in replies.as_slice().iter().enumerate() {
+        Ok(round) => {
+            for (index, next) in round.replies.as_slice().iter().enumerate() {
                 if index > 0 {
                     text.end_line();
                 }

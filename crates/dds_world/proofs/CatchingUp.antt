@@ -2,8 +2,9 @@
 use Rattle.std.proofs.Common.{◌≡◌, ◌⊎◌, ℕ, ℤ, zero, suc, ◌+◌, ◌-◌, ◌^◌, ◌<◌, ◌≤◌, min, Bool, true, false, List, [], ◌∷◌, ◌++◌}
 use Rattle.std.proofs.Common.{Option, Some, None, Contains, map, length, slice_get, is_some}
 use Rattle.std.proofs.Common.{refl, subst, ap, sym, ◌∙◌, inl, inr, ⊎_elim, arith, length-append}
-use Rattle.std.specs.Prelude.{IsSome}
+use Rattle.std.specs.Prelude.{IsSome, nat_le}
 use Rattle.std.proofs.lemmas.Bool.{cases_lt}
+use Rattle.std.proofs.lemmas.Bool.Decides.{nat_tests}
 use Rattle.dds_base.specs.declared.config.Config.{Config}
 use Rattle.dds_base.specs.declared.config.PeerConfig.{PeerConfig}
 use Rattle.dds_base.specs.declared.config.ReaderConfig.{ReaderConfig}
@@ -25,10 +26,10 @@ use Rattle.dds_model.specs.Dues.{IsPartOf}
 use Rattle.dds_model.specs.Fresh.{HasHeartbeat, HasAckNack, heartbeats_used_at, acknacks_used_at}
 use Rattle.dds_model.specs.Machine.{no_tests, place_at, writer_at}
 use Rattle.dds_model.specs.Numbered.{numbered, HasNumber}
-use Rattle.dds_model.specs.Part.{Part, Reader, ReaderProxy, Writer, WriterProxy, NoLess, own_writer, own_proxies, acknowledged_of, place_of, writer_changes}
+use Rattle.dds_model.specs.Part.{Part, Reader, ReaderProxy, Writer, WriterProxy, NoLess, IsAtMost, own_writer, own_proxies, acknowledged_of, place_of, writer_changes}
 use Rattle.dds_model.specs.Protocol.{Known, writer_entity}
 use Rattle.dds_model.specs.Repair.{AsksInRound, BeginsRound, Delivers, DeliversAll, HasCaughtUp, IsRepairRound, StandsAt}
-use Rattle.dds_model.specs.Rules.{RuledStep}
+use Rattle.dds_model.specs.Rules.{RuledStep, RuledRun}
 use Rattle.dds_model.specs.World.{WorldState, WorldStep, peer_at, machine_of}
 use Rattle.dds_model.proofs.PairAsked.{has_writer}
 use Rattle.dds_model.proofs.PairAsks.{asks_found}
@@ -41,12 +42,14 @@ use Rattle.dds_model.proofs.PairTicked.{TickLeaves, tick_leaves, ticks_there}
 use Rattle.dds_model.proofs.DuesMatched.{own_name}
 use Rattle.dds_core.specs.Pairs.{reader_entity}
 use Rattle.dds_world.specs.declared.round.Matched.{Matched}
+use Rattle.dds_world.specs.declared.round.Round.{Round}
 use Rattle.dds_world.specs.declared.round.RoundReply.{RoundReply}
 use Rattle.dds_world.specs.Repairing.{Knows, IsKnown, Answering, Acknowledging, Beating}
-use Rattle.dds_world.specs.Round.{CatchesUp, IsHindered, IsStep, AreSteps, IsTo, HasNone, IsFirst, RuledRun, answers_at, is_whole}
+use Rattle.dds_world.specs.Round.{IsHindered, IsStep, AreSteps, IsTo, HasNone, IsFirst, Rounds, answers_at, is_whole, are_whole, replies_of}
 use Rattle.dds_world.specs.WorldStanding.{WorldKept, StandsFor}
-use Rattle.dds_world.proofs.Caught.{CoreAt, core_at, place_known, few_changes, Went, went, sent_by, whole_tick, delivers, replies_of, are_whole, both_are, Ran, ran, unsent_on, none_lost, deliver_all, later_packet, among_none, get_later}
-use Rattle.dds_world.proofs.Rounds.{acks_steps, beats_steps}
+use Rattle.dds_world.proofs.Caught.{CoreAt, core_at, place_known, few_changes, went, sent_by, whole_tick, delivers, both_are, Ran, ran, unsent_on, none_lost, deliver_all, later_packet, among_none, get_later}
+use Rattle.dds_world.proofs.Rounds.{acks_steps, beats_steps, round_is}
+use Rattle.dds_world.proofs.RunSteps.{Went, runs_so}
 
 -- ---- what is known at the beginning
 
@@ -86,9 +89,9 @@ after_tick t = (w0 t).after
 
 ruled0 : (t : Tick) → RuledStep t.config no_tests t.network (world.Tick t.m.writer.peer t.m.moment) Done 0 (after_tick t)
 ruled0 t =
-    subst (λ (n : ℕ). RuledStep t.config no_tests t.network (world.Tick t.m.writer.peer t.m.moment) Done n (after_tick t)) (none_lost t.old.unsent (w0 t).lost t.mid.unsent (w0 t).unsent t.same t.below)
-    (subst (λ (r : Reply). RuledStep t.config no_tests t.network (world.Tick t.m.writer.peer t.m.moment) r (w0 t).lost (after_tick t))
-    (whole_tick t.config t.network t.m.writer.peer t.m.moment t.ticked.reply (after_tick t) t.whole (w0 t).ruled.step) (w0 t).ruled)
+    subst (λ (n : ℕ). RuledStep t.config no_tests t.network (world.Tick t.m.writer.peer t.m.moment) Done n (after_tick t)) (none_lost t.old.unsent (w0 t).step.lost t.mid.unsent (w0 t).step.counted t.same t.below)
+    (subst (λ (r : Reply). RuledStep t.config no_tests t.network (world.Tick t.m.writer.peer t.m.moment) r (w0 t).step.lost (after_tick t))
+    (whole_tick t.config t.network t.m.writer.peer t.m.moment t.ticked.reply (after_tick t) t.whole (w0 t).step.ruled.step) (w0 t).step.ruled)
 
 sent0 : (t : Tick) → t.mid.sent ≡ t.old.sent ++ (ruled0 t).packets
 sent0 t = sent_by t.config t.network t.old (world.Tick t.m.writer.peer t.m.moment) Done 0 (after_tick t) t.mid t.s (w0 t).stands (ruled0 t)
@@ -136,12 +139,22 @@ few t =
 
 -- ---- what a round ends with
 
-abbrev Ends : Tick → List RoundReply → WorldKept → Type 0
-Ends t replies new = (events : List WorldEvent) × (after : WorldState) × RuledRun t.config t.network events (replies_of replies) after × StandsFor new t.config after
-    × (IsHindered t.network t.m.writer t.m.reader t.old replies new ⊎ HasCaughtUp after t.m.writer t.m.reader t.place (the_last t))
+-- what the round answers
+abbrev pub answer_of : Matched → List RoundReply → Round
+answer_of m replies = record { replies = replies; was_behind = m.pair.is_behind }
 
-ends_as : (t : Tick) (replies replies' : List RoundReply) (new new' : WorldKept) → replies ≡ replies' → new ≡ new' → Ends t replies' new' → Ends t replies new
-ends_as t replies replies' new new' r n h = subst (λ (k : WorldKept). Ends t replies k) (sym n) (subst (λ (rs : List RoundReply). Ends t rs new') (sym r) h)
+abbrev EndsSo : Config → WorldState → WorldKept → Matched → ℕ → List WorldEvent → List RoundReply → WorldKept → Type 0
+EndsSo config network old m place events replies new =
+    (after : WorldState) × RuledRun config no_tests network old.unsent events (replies_of replies) after new.unsent × StandsFor new config after
+    × (IsHindered network m.writer m.reader old (answer_of m replies) new ⊎ HasCaughtUp after m.writer m.reader place (length (writer_changes (writer_at (machine_of network) m.writer))))
+
+abbrev Ends : Tick → List WorldEvent → List RoundReply → WorldKept → Type 0
+Ends t events replies new = EndsSo t.config t.network t.old t.m t.place events replies new
+
+ends_as : (t : Tick) (events events' : List WorldEvent) (replies replies' : List RoundReply) (new new' : WorldKept) → events ≡ events' → replies ≡ replies' → new ≡ new' → Ends t events' replies' new' → Ends t events replies new
+ends_as t events events' replies replies' new new' e r n h =
+    subst (λ (k : WorldKept). Ends t events replies k) (sym n)
+    (subst (λ (rs : List RoundReply). Ends t events rs new') (sym r) (subst (λ (es : List WorldEvent). Ends t es replies' new') (sym e) h))
 
 -- ---- no HEARTBEAT was sent
 
@@ -188,15 +201,24 @@ beat_is_found t behind left none =
     (beat_sought t.config t.m.writer beat.packet.bytes beat.count _ (writer_entity t.config t.m.writer.peer t.m.writer.number) name.name beat.has) in
     among_none (IsTo t.m.reader.peer (sought.Heartbeat t.m.pair.writer)) t.old.sent (ruled0 t).packets t.mid.sent beat.packet (sent0 t) beat.among (beat.to, has) none
 
-no_beat : (t : Tick) → HasNone (IsTo t.m.reader.peer (sought.Heartbeat t.m.pair.writer)) t.mid.sent (length t.old.sent) (length t.mid.sent) → Ends t (t.ticked ∷ []) t.mid
+-- the reader is behind, as the answer says
+told_behind : (t : Tick) → acknowledged t ≤ the_last t → t.m.pair.is_behind ≡ true
+told_behind t behind =
+    t.known.behind
+    ∙ (ap (λ (o : Option ℕ). option_map_or (λ a. nat_le a (the_last t)) o false) (row t) ∙ is_le (acknowledged t) (the_last t) behind)
+  where
+    is_le : (a b : ℕ) → a ≤ b → nat_le a b ≡ true
+    is_le a b le = grind (arith, nat_tests, le)
+
+no_beat : (t : Tick) → HasNone (IsTo t.m.reader.peer (sought.Heartbeat t.m.pair.writer)) t.mid.sent (length t.old.sent) (length t.mid.sent)
+    → Ends t (world.Tick t.m.writer.peer t.m.moment ∷ []) (t.ticked ∷ []) t.mid
 no_beat t none = (
-  world.Tick t.m.writer.peer t.m.moment ∷ [],
   after_tick t,
-  (after_tick t, (w0 t).lost, (w0 t).ruled, refl),
+  (after_tick t, t.mid.unsent, (w0 t).step, (refl, refl)),
   (w0 t).stands,
   ⊎_elim (λ past. inr (not_behind t past))
       (λ behind.
-      ⊎_elim (λ left. absurd (beat_is_found t behind left none)) (λ used. inl (inr (inr (inr (inl (refl, used))))))
+      ⊎_elim (λ left. absurd (beat_is_found t behind left none)) (λ used. inl (inr (inr (inr (inl (refl, told_behind t behind, used))))))
       (cases_lt (heartbeats_used_at t.network t.m.writer) (2 ^ 31 - 1)))
       (cases_lt (the_last t) (acknowledged t)),
 )
@@ -220,7 +242,7 @@ w1 h = went h.t.config (after_tick h.t) h.t.mid (world.Deliver h.t.m.reader.peer
 abbrev after_beat : Hear → WorldState
 after_beat h = (w1 h).after
 
-hears : (h : Hear) → Delivers h.t.config no_tests (after_tick h.t) h.t.m.reader.peer h.first.packet (w1 h).lost (after_beat h)
+hears : (h : Hear) → Delivers h.t.config no_tests (after_tick h.t) h.t.m.reader.peer h.first.packet (w1 h).step.lost (after_beat h)
 hears h = delivers h.t.config (after_tick h.t) h.t.mid h.t.m.reader.peer h.k h.first.packet h.heard.reply h.mid (w0 h.t).stands h.first.at.1 h.whole (w1 h)
 
 among1 : (h : Hear) → Contains (ruled0 h.t).packets h.first.packet
@@ -245,7 +267,7 @@ begins h = record {
   beat_to = h.first.is.0;
   beat_count = (beat_has h).0;
   beat_of = (beat_has h).1;
-  lost_asks = (w1 h).lost;
+  lost_asks = (w1 h).step.lost;
   hears = hears h;
 }
 
@@ -268,16 +290,16 @@ begun h = record {
   begins = begins h;
 }
 
-none1 : (h : Hear) → (w1 h).lost ≡ 0
+none1 : (h : Hear) → (w1 h).step.lost ≡ 0
 none1 h =
     let same = h.same in
     let more = h.more in
     let below = h.t.below in
     let first = h.t.same in
-    none_lost h.t.mid.unsent (w1 h).lost h.mid.unsent (w1 h).unsent (omega (arith, same, more)) (omega (arith, below, first))
+    none_lost h.t.mid.unsent (w1 h).step.lost h.mid.unsent (w1 h).step.counted (omega (arith, same, more)) (omega (arith, below, first))
 
 sent1 : (h : Hear) → h.mid.sent ≡ h.t.mid.sent ++ (hears h).step.packets
-sent1 h = sent_by h.t.config (after_tick h.t) h.t.mid (world.Deliver h.t.m.reader.peer (hears h).number) _ (w1 h).lost (after_beat h) h.mid (w0 h.t).stands (w1 h).stands (hears h).step
+sent1 h = sent_by h.t.config (after_tick h.t) h.t.mid (world.Deliver h.t.m.reader.peer (hears h).number) _ (w1 h).step.lost (after_beat h) h.mid (w0 h.t).stands (w1 h).stands (hears h).step
 
 -- the ACKNACK, as it is looked for
 abbrev ask_of : Hear → Sought
@@ -300,11 +322,11 @@ ask_is_found h left none =
     among_none (IsTo h.t.m.writer.peer (ask_of h)) h.t.mid.sent (hears h).step.packets h.mid.sent ask.0 (sent1 h) ask.1
     (ask.2, subst (λ (x : Sought). Has ask.0.bytes x) (ask_is h) ask.3) none
 
-no_ask : (h : Hear) → HasNone (IsTo h.t.m.writer.peer (ask_of h)) h.mid.sent (length h.t.mid.sent) (length h.mid.sent) → Ends h.t (h.t.ticked ∷ h.heard ∷ []) h.mid
+no_ask : (h : Hear) → HasNone (IsTo h.t.m.writer.peer (ask_of h)) h.mid.sent (length h.t.mid.sent) (length h.mid.sent)
+    → Ends h.t (world.Tick h.t.m.writer.peer h.t.m.moment ∷ world.Deliver h.t.m.reader.peer h.k ∷ []) (h.t.ticked ∷ h.heard ∷ []) h.mid
 no_ask h none = (
-  world.Tick h.t.m.writer.peer h.t.m.moment ∷ world.Deliver h.t.m.reader.peer h.k ∷ [],
   after_beat h,
-  (after_tick h.t, (w0 h.t).lost, (w0 h.t).ruled, (after_beat h, (w1 h).lost, (w1 h).ruled, refl)),
+  (after_tick h.t, h.t.mid.unsent, (w0 h.t).step, (after_beat h, h.mid.unsent, (w1 h).step, (refl, refl))),
   (w1 h).stands,
   inl
       (⊎_elim (λ left. absurd (ask_is_found h left none)) (λ used. inr (inr (inr (inr (refl, used)))))
@@ -330,13 +352,13 @@ w2 a = went a.h.t.config (after_beat a.h) a.h.mid (world.Deliver a.h.t.m.writer.
 abbrev after_ask : Ask → WorldState
 after_ask a = (w2 a).after
 
-none2 : (a : Ask) → (w2 a).lost ≡ 0
+none2 : (a : Ask) → (w2 a).step.lost ≡ 0
 none2 a =
     let same = a.same in
     let more = a.more in
     let below = a.h.t.below in
     let first = a.h.same in
-    none_lost a.h.mid.unsent (w2 a).lost a.mid.unsent (w2 a).unsent (omega (arith, same, more)) (omega (arith, below, first))
+    none_lost a.h.mid.unsent (w2 a).step.lost a.mid.unsent (w2 a).step.counted (omega (arith, same, more)) (omega (arith, below, first))
 
 takes : (a : Ask) → Delivers a.h.t.config no_tests (after_beat a.h) a.h.t.m.writer.peer a.first.packet 0 (after_ask a)
 takes a =
@@ -384,12 +406,11 @@ all_answers a =
     ap (λ (n : ℕ). map (λ k. world.Deliver c.m.reader.peer k) (numbers_from (length a.h.mid.sent + 1) n)) count
 
 answered : (a : Ask) (later : List WorldEvent) (rest : List RoundReply) (new : WorldKept) → are_whole rest ≡ true → Answering a.h.t.m (length a.h.mid.sent) a.mid later rest new
-    → Ends a.h.t (a.h.t.ticked ∷ a.h.heard ∷ a.asked ∷ rest) new
+    → Ends a.h.t (world.Tick a.h.t.m.writer.peer a.h.t.m.moment ∷ world.Deliver a.h.t.m.reader.peer a.h.k ∷ world.Deliver a.h.t.m.writer.peer a.k ∷ later) (a.h.t.ticked ∷ a.h.heard ∷ a.asked ∷ rest) new
 unfolding asks
 answered a later rest new whole next = (
-  world.Tick c.m.writer.peer c.m.moment ∷ world.Deliver c.m.reader.peer a.h.k ∷ world.Deliver c.m.writer.peer a.k ∷ map (λ k. world.Deliver c.m.reader.peer k) (numbers_from (length a.h.mid.sent + 1) (length (answers a))),
   all.after,
-  (after_tick c, (w0 c).lost, (w0 c).ruled, (after_beat a.h, (w1 a.h).lost, (w1 a.h).ruled, (after_ask a, (w2 a).lost, (w2 a).ruled, all.run))),
+  (after_tick c, c.mid.unsent, (w0 c).step, (after_beat a.h, a.h.mid.unsent, (w1 a.h).step, (after_ask a, a.mid.unsent, (w2 a).step, run))),
   all.stands,
   inr (pair_catches_up c.config no_tests c.m.writer c.m.reader c.place (acknowledged c) c.network all.after (core c).stands.is_peer.checked c.s.sound c.s.used c.s.bounded (pair c).pair (stands c) round),
 )
@@ -406,8 +427,11 @@ answered a later rest new whole next = (
         subst (λ (i : ℕ). slice_get a.mid.sent i ≡ Some p) index
         (subst (λ (ps : List Packet). slice_get ps (length a.h.mid.sent + k) ≡ Some p) (sym (sent2 a)) (get_later a.h.mid.sent (answers a) k p is))
 
-    all : Ran c.config (after_ask a) (map (λ k. world.Deliver c.m.reader.peer k) (numbers_from (length a.h.mid.sent + 1) (length (answers a)))) rest new (λ x. DeliversAll c.config no_tests (after_ask a) c.m.reader.peer (answers a) x)
+    all : Ran c.config (after_ask a) a.mid (map (λ k. world.Deliver c.m.reader.peer k) (numbers_from (length a.h.mid.sent + 1) (length (answers a)))) rest new (λ x. DeliversAll c.config no_tests (after_ask a) c.m.reader.peer (answers a) x)
     all = deliver_all c.config c.m.reader.peer (length a.h.mid.sent + 1) (answers a) (after_ask a) a.mid rest new (omega arith) at whole steps (w2 a).stands
+
+    run : RuledRun c.config no_tests (after_ask a) a.mid.unsent later (replies_of rest) all.after new.unsent
+    run = subst (λ (es : List WorldEvent). RuledRun c.config no_tests (after_ask a) a.mid.unsent es (replies_of rest) all.after new.unsent) (sym (next.0 ∙ all_answers a)) all.run
 
     round : IsRepairRound c.config no_tests c.m.writer c.m.reader c.network all.after
     round = record { asked = after_ask a; asks = asks a; repairs = all.then }
@@ -419,23 +443,30 @@ whole_as : (replies rest : List RoundReply) (r : RoundReply) → replies ≡ r �
 whole_as replies rest r is whole = both_are (is_whole r.reply) (are_whole rest) (subst (λ (rs : List RoundReply). are_whole rs ≡ true) is whole)
 
 after_hearing : (h : Hear) (events : List WorldEvent) (replies : List RoundReply) (new : WorldKept) → are_whole replies ≡ true → new.unsent ≤ h.t.old.unsent → h.t.old.unsent ≤ h.mid.unsent
-    → Acknowledging h.t.m (length h.t.mid.sent) h.mid events replies new → Ends h.t (h.t.ticked ∷ h.heard ∷ replies) new
+    → Acknowledging h.t.m (length h.t.mid.sent) h.mid events replies new
+    → Ends h.t (world.Tick h.t.m.writer.peer h.t.m.moment ∷ world.Deliver h.t.m.reader.peer h.k ∷ events) (h.t.ticked ∷ h.heard ∷ replies) new
 after_hearing h events replies new whole same more next =
     ⊎_elim
-    (λ f. ends_as h.t (h.t.ticked ∷ h.heard ∷ replies) (h.t.ticked ∷ h.heard ∷ []) new h.mid (ap (λ (rs : List RoundReply). h.t.ticked ∷ h.heard ∷ rs) f.1) f.2 (no_ask h f.3))
+    (λ f. ends_as h.t (before ++ events) before (h.t.ticked ∷ h.heard ∷ replies) (h.t.ticked ∷ h.heard ∷ []) new h.mid
+    (ap (λ (es : List WorldEvent). before ++ es) f.0) (ap (λ (rs : List RoundReply). h.t.ticked ∷ h.heard ∷ rs) f.1) f.2 (no_ask h f.3))
     (λ f.
     let all = whole_as replies f.4 f.1 f.8 whole in
     let w = went h.t.config (after_beat h) h.mid (world.Deliver h.t.m.writer.peer f.0) f.1 f.2 f.6 (w1 h).stands in
     let rest = unsent_on h.t.config w.after f.2 f.3 f.4 new f.9.1 w.stands in
     let a : Ask = record { h = h; k = f.0; asked = f.1; mid = f.2; first = f.5; step = f.6; whole = all.0; same = omega (arith, rest, same); more = more } in
-    ends_as h.t (h.t.ticked ∷ h.heard ∷ replies) (h.t.ticked ∷ h.heard ∷ f.1 ∷ f.4) new new (ap (λ (rs : List RoundReply). h.t.ticked ∷ h.heard ∷ rs) f.8) refl (answered a f.3 f.4 new all.1 f.9))
+    ends_as h.t (before ++ events) (before ++ world.Deliver h.t.m.writer.peer f.0 ∷ f.3) (h.t.ticked ∷ h.heard ∷ replies) (h.t.ticked ∷ h.heard ∷ f.1 ∷ f.4) new new
+    (ap (λ (es : List WorldEvent). before ++ es) f.7) (ap (λ (rs : List RoundReply). h.t.ticked ∷ h.heard ∷ rs) f.8) refl (answered a f.3 f.4 new all.1 f.9))
     next
+  where
+    before : List WorldEvent
+    before = world.Tick h.t.m.writer.peer h.t.m.moment ∷ world.Deliver h.t.m.reader.peer h.k ∷ []
 
 after_ticking : (t : Tick) (events : List WorldEvent) (replies : List RoundReply) (new : WorldKept) → are_whole replies ≡ true → new.unsent ≤ t.old.unsent → t.old.unsent ≤ t.mid.unsent
-    → Beating t.m (length t.old.sent) t.mid events replies new → Ends t (t.ticked ∷ replies) new
+    → Beating t.m (length t.old.sent) t.mid events replies new → Ends t (world.Tick t.m.writer.peer t.m.moment ∷ events) (t.ticked ∷ replies) new
 after_ticking t events replies new whole same more next =
     ⊎_elim
-    (λ f. ends_as t (t.ticked ∷ replies) (t.ticked ∷ []) new t.mid (ap (λ (rs : List RoundReply). t.ticked ∷ rs) f.1) f.2 (no_beat t f.3))
+    (λ f. ends_as t (tick ∷ events) (tick ∷ []) (t.ticked ∷ replies) (t.ticked ∷ []) new t.mid
+    (ap (λ (es : List WorldEvent). tick ∷ es) f.0) (ap (λ (rs : List RoundReply). t.ticked ∷ rs) f.1) f.2 (no_beat t f.3))
     (λ f.
     let all = whole_as replies f.4 f.1 f.8 whole in
     let w = went t.config (after_tick t) t.mid (world.Deliver t.m.reader.peer f.0) f.1 f.2 f.6 (w0 t).stands in
@@ -443,13 +474,32 @@ after_ticking t events replies new whole same more next =
     let rest = unsent_on t.config w.after f.2 f.3 f.4 new steps w.stands in
     let one = unsent_on t.config (after_tick t) t.mid (world.Deliver t.m.reader.peer f.0 ∷ []) (f.1 ∷ []) f.2 (f.2, f.6, refl) (w0 t).stands in
     let h : Hear = record { t = t; k = f.0; heard = f.1; mid = f.2; first = f.5; step = f.6; whole = all.0; same = omega (arith, rest, same); more = more } in
-    ends_as t (t.ticked ∷ replies) (t.ticked ∷ f.1 ∷ f.4) new new (ap (λ (rs : List RoundReply). t.ticked ∷ rs) f.8) refl
+    ends_as t (tick ∷ events) (tick ∷ world.Deliver t.m.reader.peer f.0 ∷ f.3) (t.ticked ∷ replies) (t.ticked ∷ f.1 ∷ f.4) new new
+    (ap (λ (es : List WorldEvent). tick ∷ es) f.7) (ap (λ (rs : List RoundReply). t.ticked ∷ rs) f.8) refl
     (after_hearing h f.3 f.4 new all.1 same (omega (arith, one, more)) f.9))
     next
+  where
+    tick : WorldEvent
+    tick = world.Tick t.m.writer.peer t.m.moment
 
-catches_up : (old : WorldKept) (m : Matched) (ticked : RoundReply) (mid : WorldKept) (events : List WorldEvent) (replies : List RoundReply) (new : WorldKept) → IsKnown old m
-    → IsStep old (world.Tick m.writer.peer m.moment) ticked mid → Beating m (length old.sent) mid events replies new → CatchesUp old m.writer m.reader (ticked ∷ replies) new
-catches_up old m ticked mid events replies new known tick beats config network place s at = by (are_whole (ticked ∷ replies)) refl
+-- ---- the round
+
+-- the place of a matched reader is known
+place_of_matched : (old : WorldKept) (config : Config) (network : WorldState) (m : Matched) → StandsFor old config network → Knows config network m → (place : ℕ) × (place_at (machine_of network) m.reader m.writer ≡ Some place)
+place_of_matched old config network m s known =
+    let a = some_is (acknowledged_of (writer_at (machine_of network) m.writer).readers m.reader) known.matched in
+    known_of (place_at (machine_of network) m.reader m.writer) a.0
+    (subst (λ (o : Option ℕ). NoLess o (place_at (machine_of network) m.reader m.writer)) a.1 (s.sound.acknowledged m.writer m.reader))
+  where
+    known_of : (o : Option ℕ) (a : ℕ) → IsAtMost a o → (place : ℕ) × (o ≡ Some place)
+    known_of (Some place) a h = (place, refl)
+    known_of None a h = absurd h
+
+ends : (old : WorldKept) (m : Matched) (ticked : RoundReply) (mid : WorldKept) (events : List WorldEvent) (replies : List RoundReply) (new : WorldKept) → IsKnown old m
+    → IsStep old (world.Tick m.writer.peer m.moment) ticked mid → Beating m (length old.sent) mid events replies new
+    → (config : Config) (network : WorldState) (place : ℕ) → StandsFor old config network → place_at (machine_of network) m.reader m.writer ≡ Some place
+    → EndsSo config network old m place (world.Tick m.writer.peer m.moment ∷ events) (ticked ∷ replies) new
+ends old m ticked mid events replies new known tick beats config network place s at = by (are_whole (ticked ∷ replies)) refl
   where
     steps : AreSteps mid events replies new
     steps = beats_steps m (length old.sent) mid events replies new beats
@@ -457,16 +507,14 @@ catches_up old m ticked mid events replies new known tick beats config network p
     w : Went config network old (world.Tick m.writer.peer m.moment) ticked.reply mid
     w = went config network old (world.Tick m.writer.peer m.moment) ticked mid tick s
 
-    hindered : IsHindered network m.writer m.reader old (ticked ∷ replies) new
-        → (es : List WorldEvent) × (after : WorldState) × RuledRun config network es (replies_of (ticked ∷ replies)) after × StandsFor new config after
-        × (IsHindered network m.writer m.reader old (ticked ∷ replies) new ⊎ HasCaughtUp after m.writer m.reader place (length (writer_changes (writer_at (machine_of network) m.writer))))
+    hindered : IsHindered network m.writer m.reader old (answer_of m (ticked ∷ replies)) new
+        → EndsSo config network old m place (world.Tick m.writer.peer m.moment ∷ events) (ticked ∷ replies) new
     hindered why =
         let r = ran config network old (world.Tick m.writer.peer m.moment ∷ events) (ticked ∷ replies) new (mid, tick, steps) s in
-        (world.Tick m.writer.peer m.moment ∷ events, r.after, r.run, r.stands, inl why)
+        (r.after, r.run, r.stands, inl why)
 
     good : are_whole (ticked ∷ replies) ≡ true → new.unsent ≤ old.unsent → old.unsent < 2 ^ 64 - 1
-        → (es : List WorldEvent) × (after : WorldState) × RuledRun config network es (replies_of (ticked ∷ replies)) after × StandsFor new config after
-        × (IsHindered network m.writer m.reader old (ticked ∷ replies) new ⊎ HasCaughtUp after m.writer m.reader place (length (writer_changes (writer_at (machine_of network) m.writer))))
+        → EndsSo config network old m place (world.Tick m.writer.peer m.moment ∷ events) (ticked ∷ replies) new
     good whole same below =
         let all = both_are (is_whole ticked.reply) (are_whole replies) whole in
         let rest = unsent_on config w.after mid events replies new steps w.stands in
@@ -489,18 +537,38 @@ catches_up old m ticked mid events replies new known tick beats config network p
         } in
         after_ticking t events replies new all.1 same one beats
 
-    by : (b : Bool) → are_whole (ticked ∷ replies) ≡ b
-        → (es : List WorldEvent) × (after : WorldState) × RuledRun config network es (replies_of (ticked ∷ replies)) after × StandsFor new config after
-        × (IsHindered network m.writer m.reader old (ticked ∷ replies) new ⊎ HasCaughtUp after m.writer m.reader place (length (writer_changes (writer_at (machine_of network) m.writer))))
+    by : (b : Bool) → are_whole (ticked ∷ replies) ≡ b → EndsSo config network old m place (world.Tick m.writer.peer m.moment ∷ events) (ticked ∷ replies) new
     by false e = hindered (inl e)
     by true e =
         ⊎_elim (λ grew. hindered (inr (inl grew)))
         (λ same. ⊎_elim (λ below. good e same below) (λ full. hindered (inr (inr (inl full)))) (cases_lt old.unsent (2 ^ 64 - 1)))
         (cases_lt old.unsent new.unsent)
 
-pub all_catches_up : (old : WorldKept) (writer reader : Endpoint) (m : Matched) (ticked : RoundReply) (mid : WorldKept) (replies all : List RoundReply) (new : WorldKept) (events : List WorldEvent) → m.writer ≡ writer → m.reader ≡ reader
-    → all ≡ ticked ∷ replies → IsKnown old m → IsStep old (world.Tick m.writer.peer m.moment) ticked mid → Beating m (length old.sent) mid events replies new → CatchesUp old writer reader all new
-all_catches_up old writer reader m ticked mid replies all new events w r is known tick beats =
-    subst (λ (e : Endpoint). CatchesUp old e reader all new) w
-    (subst (λ (e : Endpoint). CatchesUp old m.writer e all new) r
-    (subst (λ (rs : List RoundReply). CatchesUp old m.writer m.reader rs new) (sym is) (catches_up old m ticked mid events replies new known tick beats)))
+rounds_of : (old : WorldKept) (m : Matched) (ticked : RoundReply) (mid : WorldKept) (events : List WorldEvent) (replies : List RoundReply) (new : WorldKept) → IsKnown old m
+    → IsStep old (world.Tick m.writer.peer m.moment) ticked mid → Beating m (length old.sent) mid events replies new → Rounds old m.writer m.reader (answer_of m (ticked ∷ replies)) new
+rounds_of old m ticked mid events replies new known tick beats = record {
+  events = world.Tick m.writer.peer m.moment ∷ events;
+  steps = (mid, tick, beats_steps m (length old.sent) mid events replies new beats);
+  round = λ config network s.
+      let k = known config network s in
+      let place = place_of_matched old config network m s k in
+      let end = ends old m ticked mid events replies new known tick beats config network place.0 s place.1 in
+      record {
+        is_round = round_is old m ticked mid events replies new known tick beats config network s;
+        after = end.0;
+        run = end.1;
+        machine = runs_so old new (world.Tick m.writer.peer m.moment ∷ events) (replies_of (ticked ∷ replies)) config network end.0 s end.2 end.1;
+        stands = end.2;
+        was_behind = k.behind;
+        place = place.0;
+        at = place.1;
+        caught_up = end.3;
+      };
+}
+
+pub rounds_are : (old : WorldKept) (writer reader : Endpoint) (m : Matched) (ticked : RoundReply) (mid : WorldKept) (replies all : List RoundReply) (new : WorldKept) (events : List WorldEvent) → m.writer ≡ writer → m.reader ≡ reader
+    → all ≡ ticked ∷ replies → IsKnown old m → IsStep old (world.Tick m.writer.peer m.moment) ticked mid → Beating m (length old.sent) mid events replies new → Rounds old writer reader (answer_of m all) new
+rounds_are old writer reader m ticked mid replies all new events w r is known tick beats =
+    subst (λ (e : Endpoint). Rounds old e reader (answer_of m all) new) w
+    (subst (λ (e : Endpoint). Rounds old m.writer e (answer_of m all) new) r
+    (subst (λ (rs : List RoundReply). Rounds old m.writer m.reader (answer_of m rs) new) (sym is) (rounds_of old m ticked mid events replies new known tick beats)))

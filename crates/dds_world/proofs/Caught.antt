@@ -2,7 +2,6 @@
 use Rattle.std.proofs.Common.{◌≡◌, ◌⊎◌, ℕ, zero, suc, ◌+◌, ◌-◌, ◌^◌, ◌<◌, ◌≤◌, ◌&&◌, min, Bool, true, false, not, List, [], ◌∷◌, ◌++◌}
 use Rattle.std.proofs.Common.{Option, Some, None, Contains, map, length, get_or, slice_get, is_some}
 use Rattle.std.proofs.Common.{refl, subst, ap, sym, ◌∙◌, inl, inr, ⊎_elim, arith, length-append}
-use Rattle.std.specs.List.{list_all}
 use Rattle.dds_base.specs.declared.config.Config.{Config}
 use Rattle.dds_base.specs.Checked.{check_refusal}
 use Rattle.dds_base.specs.Kept.{numbers_from}
@@ -20,7 +19,7 @@ use Rattle.dds_model.specs.Part.{Part, WriterProxy, own_writer, own_proxies, pla
 use Rattle.dds_model.specs.Calls.{TickStep}
 use Rattle.dds_model.specs.Peer.{Peer, EventStep, no_peer}
 use Rattle.dds_model.specs.Repair.{Delivers, DeliversAll}
-use Rattle.dds_model.specs.Rules.{RuledStep}
+use Rattle.dds_model.specs.Rules.{RuledStep, RuledRun}
 use Rattle.dds_model.specs.World.{WorldState, WorldStep, peer_at, machine_of}
 use Rattle.dds_model.specs.Fresh.{tracked_at}
 use Rattle.dds_model.proofs.Composed.{contains_at, front_or_rest}
@@ -31,8 +30,9 @@ use Rattle.dds_core.specs.Kept.{CoreKept}
 use Rattle.dds_core.specs.Standing.{StandsFor as CoreStandsFor, IsSound}
 use Rattle.dds_core.proofs.Lists.{element, get-within}
 use Rattle.dds_world.specs.declared.round.RoundReply.{RoundReply}
-use Rattle.dds_world.specs.Round.{IsStep, AreSteps, HasNone, RuledRun, is_whole}
+use Rattle.dds_world.specs.Round.{IsStep, AreSteps, HasNone, is_whole, are_whole, replies_of}
 use Rattle.dds_world.specs.WorldStanding.{WorldKept, StandsFor}
+use Rattle.dds_world.proofs.RunSteps.{Went, went_by}
 
 -- ---- the peers
 
@@ -91,18 +91,9 @@ few_changes core config peer (suc i) s has =
 
 -- ---- one step
 
--- a step by the rules, of a network that stands for this state
-pub record Went (config : Config) (network : WorldState) (old : WorldKept) (ev : WorldEvent) (reply : Reply) (new : WorldKept) : Type 0 where
-  pub after : WorldState
-  pub lost : ℕ
-  pub ruled : RuledStep config no_tests network ev reply lost after
-  pub unsent : new.unsent ≡ min (old.unsent + lost) (2 ^ 64 - 1)
-  pub stands : StandsFor new config after
-
 pub went : (config : Config) (network : WorldState) (old : WorldKept) (ev : WorldEvent) (reply : RoundReply) (new : WorldKept) → IsStep old ev reply new → StandsFor old config network
     → Went config network old ev reply.reply new
-went config network old ev reply new step s =
-    let t = step.rules config network s in record { after = t.0; lost = t.1; ruled = t.2; unsent = t.3; stands = t.4 }
+went config network old ev reply new step s = went_by config network old ev reply.reply new step.rules step.sends s
 
 -- the packets that were sent at it follow those before
 pub sent_by : (config : Config) (network : WorldState) (old : WorldKept) (ev : WorldEvent) (reply : Reply) (lost : ℕ) (after : WorldState) (new : WorldKept) → StandsFor old config network → StandsFor new config after
@@ -135,43 +126,38 @@ whole_report config old peer k (Reported report) new whole step = record { repor
 whole_report config old peer k reply new whole step = absurd cc
 
 pub delivers : (config : Config) (network : WorldState) (old : WorldKept) (peer k : ℕ) (packet : Packet) (reply : Reply) (new : WorldKept) → StandsFor old config network → slice_get old.sent (k - 1) ≡ Some packet → is_whole reply ≡ true
-    → (w : Went config network old (world.Deliver peer k) reply new) → Delivers config no_tests network peer packet w.lost w.after
+    → (w : Went config network old (world.Deliver peer k) reply new) → Delivers config no_tests network peer packet w.step.lost w.after
 delivers config network old peer k packet reply new s at whole w =
-    let r = whole_report config network peer k reply w.after whole w.ruled.step in
+    let r = whole_report config network peer k reply w.after whole w.step.ruled.step in
     record {
       number = k;
       at = subst (λ (ps : List Packet). slice_get ps (k - 1) ≡ Some packet) (sym s.sent) at;
       report = r.report;
       whole = r.none;
-      step = subst (λ (x : Reply). RuledStep config no_tests network (world.Deliver peer k) x w.lost w.after) r.is w.ruled;
+      step = subst (λ (x : Reply). RuledStep config no_tests network (world.Deliver peer k) x w.step.lost w.after) r.is w.step.ruled;
     }
 
 -- ---- steps one after the other
-
-abbrev pub replies_of : List RoundReply → List Reply
-replies_of replies = map (λ (r : RoundReply). r.reply) replies
-
-abbrev pub are_whole : List RoundReply → Bool
-are_whole replies = list_all (λ (r : RoundReply). is_whole r.reply) replies
 
 pub both_are : (a b : Bool) → (a && b) ≡ true → (a ≡ true) × (b ≡ true)
 both_are true b h = (refl, h)
 both_are false b h = absurd cc
 
 -- a run by the rules, and what is so after it
-pub record Ran (config : Config) (network : WorldState) (events : List WorldEvent) (replies : List RoundReply) (new : WorldKept) (Then : WorldState → Type 0) : Type 0 where
+pub record Ran (config : Config) (network : WorldState) (old : WorldKept) (events : List WorldEvent) (replies : List RoundReply) (new : WorldKept) (Then : WorldState → Type 0) : Type 0 where
   pub after : WorldState
-  pub run : RuledRun config network events (replies_of replies) after
+  pub run : RuledRun config no_tests network old.unsent events (replies_of replies) after new.unsent
   pub stands : StandsFor new config after
   pub then : Then after
 
 pub ran : (config : Config) (network : WorldState) (old : WorldKept) (events : List WorldEvent) (replies : List RoundReply) (new : WorldKept) → AreSteps old events replies new → StandsFor old config network
-    → Ran config network events replies new (λ x. Unit {0})
-ran config network old [] [] new same s = record { after = network; run = refl; stands = subst (λ (k : WorldKept). StandsFor k config network) (sym same) s; then = tt }
+    → Ran config network old events replies new (λ x. Unit {0})
+ran config network old [] [] new same s =
+    record { after = network; run = (refl, ap (λ (k : WorldKept). k.unsent) same); stands = subst (λ (k : WorldKept). StandsFor k config network) (sym same) s; then = tt }
 ran config network old (e ∷ es) (r ∷ rs) new h s =
     let w = went config network old e r h.0 h.1 s in
     let rest = ran config w.after h.0 es rs new h.2 w.stands in
-    record { after = rest.after; run = (w.after, w.lost, w.ruled, rest.run); stands = rest.stands; then = tt }
+    record { after = rest.after; run = (w.after, h.0.unsent, w.step, rest.run); stands = rest.stands; then = tt }
 ran config network old [] (r ∷ rs) new h s = absurd h
 ran config network old (e ∷ es) [] new h s = absurd h
 
@@ -184,7 +170,7 @@ pub unsent_on : (config : Config) (network : WorldState) (old : WorldKept) (even
 unsent_on config network old [] [] new same s = let e = ap (λ (k : WorldKept). k.unsent) same in omega (arith, e)
 unsent_on config network old (e ∷ es) (r ∷ rs) new h s =
     let w = went config network old e r h.0 h.1 s in
-    let first = no_less old.unsent w.lost h.0.unsent w.unsent s.few in
+    let first = no_less old.unsent w.step.lost h.0.unsent w.step.counted s.few in
     let rest = unsent_on config w.after h.0 es rs new h.2 w.stands in
     omega (arith, first, rest)
 unsent_on config network old [] (r ∷ rs) new h s = absurd h
@@ -198,9 +184,9 @@ none_lost old lost new is same few = omega (arith, is, same, few)
 pub deliver_all : (config : Config) (peer first : ℕ) (packets : List Packet) (network : WorldState) (old : WorldKept) (replies : List RoundReply) (new : WorldKept) → 1 ≤ first
     → ((k : ℕ) (p : Packet) → slice_get packets k ≡ Some p → slice_get old.sent (first + k - 1) ≡ Some p) → are_whole replies ≡ true
     → AreSteps old (map (λ k. world.Deliver peer k) (numbers_from first (length packets))) replies new → StandsFor old config network
-    → Ran config network (map (λ k. world.Deliver peer k) (numbers_from first (length packets))) replies new (λ x. DeliversAll config no_tests network peer packets x)
+    → Ran config network old (map (λ k. world.Deliver peer k) (numbers_from first (length packets))) replies new (λ x. DeliversAll config no_tests network peer packets x)
 deliver_all config peer first [] network old [] new low there whole same s =
-    record { after = network; run = refl; stands = subst (λ (k : WorldKept). StandsFor k config network) (sym same) s; then = refl }
+    record { after = network; run = (refl, ap (λ (k : WorldKept). k.unsent) same); stands = subst (λ (k : WorldKept). StandsFor k config network) (sym same) s; then = refl }
 deliver_all config peer first [] network old (r ∷ rs) new low there whole h s = absurd h
 deliver_all config peer first (p ∷ ps) network old [] new low there whole h s = absurd h
 deliver_all config peer first (p ∷ ps) network old (r ∷ rs) new low there whole h s =
@@ -211,14 +197,14 @@ deliver_all config peer first (p ∷ ps) network old (r ∷ rs) new low there wh
     let later : (k : ℕ) (q : Packet) → slice_get ps k ≡ Some q → slice_get h.0.sent (first + 1 + k - 1) ≡ Some q = λ k q is.
     let next : first + suc k - 1 ≡ first + 1 + k - 1 = omega arith in
     subst (λ (i : ℕ). slice_get h.0.sent i ≡ Some q) next
-    (subst (λ (xs : List Packet). slice_get xs (first + suc k - 1) ≡ Some q) (sym (sent_by config network old (world.Deliver peer first) r.reply w.lost w.after h.0 s w.stands w.ruled))
-    (slice_get-append old.sent w.ruled.packets (first + suc k - 1) q (there (suc k) q is))) in
+    (subst (λ (xs : List Packet). slice_get xs (first + suc k - 1) ≡ Some q) (sym (sent_by config network old (world.Deliver peer first) r.reply w.step.lost w.after h.0 s w.stands w.step.ruled))
+    (slice_get-append old.sent w.step.ruled.packets (first + suc k - 1) q (there (suc k) q is))) in
     let rest = deliver_all config peer (first + 1) ps w.after h.0 rs new (omega (arith, low)) later all.1 h.2 w.stands in
     record {
       after = rest.after;
-      run = (w.after, w.lost, w.ruled, rest.run);
+      run = (w.after, h.0.unsent, w.step, rest.run);
       stands = rest.stands;
-      then = (w.after, w.lost, delivers config network old peer first p r.reply h.0 s at all.0 w, rest.then);
+      then = (w.after, w.step.lost, delivers config network old peer first p r.reply h.0 s at all.0 w, rest.then);
     }
 
 -- ---- packets that were sent at a step

@@ -13,7 +13,7 @@ use Rattle.dds_model.specs.declared.event.WorldEvent.{WorldEvent}
 use Rattle.dds_model.specs.declared.event.WorldEvent.TheVariants as world
 use Rattle.dds_model.specs.declared.reply.Reply.{Reply}
 use Rattle.dds_model.specs.Machine.{AllTests, no_tests, part_at}
-use Rattle.dds_model.specs.Part.{Part, own_writer, acknowledged_of}
+use Rattle.dds_model.specs.Part.{Part, own_writer, acknowledged_of, is_reader_behind}
 use Rattle.dds_model.specs.Peer.{Peer, no_peer}
 use Rattle.dds_model.specs.Protocol.{writer_entity}
 use Rattle.dds_model.specs.World.{WorldState, WorldStep, machine_of}
@@ -26,9 +26,8 @@ use Rattle.dds_core.proofs.Lists.{get-within}
 use Rattle.dds_world.specs.declared.round.Matched.{Matched}
 use Rattle.dds_world.specs.declared.round.RoundReply.{RoundReply}
 use Rattle.dds_world.specs.Repairing.{Knows, IsKnown, NotMatched, Stage, Answering, Acknowledging, Beating}
-use Rattle.dds_world.specs.Round.{IsStep, AreSteps, IsTo, HasNone, IsFirst, heartbeat_of, acknack_of, answers_at, AfterHeartbeat, AfterTick, Rounds}
-use Rattle.dds_world.specs.WorldStanding.{WorldKept, StandsFor, Steps, Runs}
-use Rattle.dds_world.proofs.RunSteps.{runs_none, runs_more}
+use Rattle.dds_world.specs.Round.{IsStep, AreSteps, IsTo, HasNone, IsFirst, heartbeat_of, acknack_of, answers_at, AfterHeartbeat, AfterTick, IsRound}
+use Rattle.dds_world.specs.WorldStanding.{WorldKept, StandsFor, Steps}
 
 -- ---- what was sent stays
 
@@ -96,23 +95,6 @@ first_on Is old new from to k g high f =
     }
 
 -- ---- steps one after the other
-
--- steps are a run
-abbrev replies_of : List RoundReply → List Reply
-replies_of replies = map (λ (r : RoundReply). r.reply) replies
-
-runs_on : (start : WorldKept) (before : List WorldEvent) (given : List Reply) (old : WorldKept) (events : List WorldEvent) (replies : List RoundReply) (new : WorldKept) → Runs start before given old → AreSteps old events replies new
-    → Runs start (before ++ events) (given ++ replies_of replies) new
-runs_on start before given old [] [] new runs same =
-    subst (λ (es : List WorldEvent). Runs start es (given ++ []) new) (sym (append-nil before))
-    (subst (λ (rs : List Reply). Runs start before rs new) (sym (append-nil given)) (subst (λ (k : WorldKept). Runs start before given k) (sym same) runs))
-runs_on start before given old (e ∷ es) (r ∷ rs) new runs h =
-    let more = runs_more start old h.0 before given e r.reply runs h.1.step h.1.sends in
-    let rest = runs_on start (before ++ e ∷ []) (given ++ r.reply ∷ []) h.0 es rs new more h.2 in
-    subst (λ (xs : List WorldEvent). Runs start xs (given ++ r.reply ∷ replies_of rs) new) (append_assoc before (e ∷ []) es)
-    (subst (λ (ys : List Reply). Runs start ((before ++ e ∷ []) ++ es) ys new) (append_assoc given (r.reply ∷ []) (replies_of rs)) rest)
-runs_on start before given old [] (r ∷ rs) new runs h = absurd h
-runs_on start before given old (e ∷ es) [] new runs h = absurd h
 
 -- one more step
 pub steps_more : (old : WorldKept) (events : List WorldEvent) (replies : List RoundReply) (mid : WorldKept) (ev : WorldEvent) (reply : RoundReply) (new : WorldKept) → AreSteps old events replies mid → IsStep mid ev reply new
@@ -217,28 +199,15 @@ after_tick config network known m from old events replies new k s h =
     ))
     h
 
-rounds_of : (old : WorldKept) (m : Matched) (ticked : RoundReply) (mid : WorldKept) (events : List WorldEvent) (replies : List RoundReply) (new : WorldKept) → IsKnown old m → IsStep old (world.Tick m.writer.peer m.moment) ticked mid
-    → Beating m (length old.sent) mid events replies new → Rounds old m.writer m.reader (ticked ∷ replies) new
-rounds_of old m ticked mid events replies new known tick beats =
-    let steps : AreSteps old (world.Tick m.writer.peer m.moment ∷ events) (ticked ∷ replies) new = (mid, tick, beats_steps m (length old.sent) mid events replies new beats) in
-    record {
-      events = world.Tick m.writer.peer m.moment ∷ events;
-      run = runs_on old [] [] old (world.Tick m.writer.peer m.moment ∷ events) (ticked ∷ replies) new (runs_none old) steps;
-      steps = steps;
-      round = λ config network s.
-          let k = known config network s in
-          let on = step_on config network old (world.Tick m.writer.peer m.moment) ticked.reply mid tick.step s in
-          let after = after_tick config on.after network m (length old.sent) mid events replies new k on.stands beats in
-          let counted = subst (λ (n : ℕ). AfterTick config m.writer m.reader new.sent (length old.sent) n events replies) (sym tick.sent) after in
-          (refl, k.moment, subst (λ (ps : List Packet). AfterTick config m.writer m.reader new.sent (length ps) ticked.sent events replies) (sym s.sent) counted);
-    }
-
-pub rounds_are : (old : WorldKept) (writer reader : Endpoint) (m : Matched) (ticked : RoundReply) (mid : WorldKept) (replies all : List RoundReply) (new : WorldKept) (events : List WorldEvent) → m.writer ≡ writer → m.reader ≡ reader → all ≡ ticked ∷ replies
-    → IsKnown old m → IsStep old (world.Tick m.writer.peer m.moment) ticked mid → Beating m (length old.sent) mid events replies new → Rounds old writer reader all new
-rounds_are old writer reader m ticked mid replies all new events w r is known tick beats =
-    subst (λ (e : Endpoint). Rounds old e reader all new) w
-    (subst (λ (e : Endpoint). Rounds old m.writer e all new) r
-    (subst (λ (rs : List RoundReply). Rounds old m.writer m.reader rs new) (sym is) (rounds_of old m ticked mid events replies new known tick beats)))
+pub round_is : (old : WorldKept) (m : Matched) (ticked : RoundReply) (mid : WorldKept) (events : List WorldEvent) (replies : List RoundReply) (new : WorldKept) → IsKnown old m → IsStep old (world.Tick m.writer.peer m.moment) ticked mid
+    → Beating m (length old.sent) mid events replies new → (config : Config) (network : WorldState) → StandsFor old config network
+    → IsRound config network m.writer m.reader new.sent (world.Tick m.writer.peer m.moment ∷ events) (ticked ∷ replies)
+round_is old m ticked mid events replies new known tick beats config network s =
+    let k = known config network s in
+    let on = step_on config network old (world.Tick m.writer.peer m.moment) ticked.reply mid tick.step s in
+    let after = after_tick config on.after network m (length old.sent) mid events replies new k on.stands beats in
+    let counted = subst (λ (n : ℕ). AfterTick config m.writer m.reader new.sent (length old.sent) n events replies) (sym tick.sent) after in
+    (refl, k.moment, subst (λ (ps : List Packet). AfterTick config m.writer m.reader new.sent (length ps) ticked.sent events replies) (sym s.sent) counted)
 
 -- ---- who is matched
 
@@ -278,6 +247,7 @@ pair_matched kept i core writer reader pair now is at found moment = λ config n
       matched = subst (λ (part : Part). IsSome (acknowledged_of (own_writer part writer.number).readers reader)) (sym p.part) f.0;
       writer = subst (λ (n : ℕ). pair.writer ≡ writer_entity config n writer.number) p.numbered f.1;
       reader = f.2;
+      behind = f.3 ∙ ap (λ (part : Part). is_reader_behind (own_writer part writer.number) reader) (sym p.part);
       moment = moment config p.peer p.stands ∙ ap (λ (part : Part). part.dds.moment) (sym p.part);
     }
 

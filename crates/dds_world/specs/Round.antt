@@ -21,14 +21,16 @@ use Rattle.dds_model.specs.declared.reply.Reply.{Reply}
 use Rattle.dds_model.specs.declared.reply.Reply.TheVariants.{Done, Reported}
 use Rattle.dds_model.specs.Fresh.{heartbeats_used_at, acknacks_used_at}
 use Rattle.dds_model.specs.Machine.{Machine, no_tests, part_at, place_at, writer_at}
-use Rattle.dds_model.specs.Part.{acknowledged_of, writer_changes}
+use Rattle.dds_model.specs.Part.{acknowledged_of, is_reader_behind, writer_changes}
 use Rattle.dds_model.specs.Repair.{HasCaughtUp}
-use Rattle.dds_model.specs.Rules.{RuledStep}
+use Rattle.dds_model.specs.Rules.{RuledRun}
+use Rattle.dds_model.specs.Runs.{Run}
 use Rattle.dds_model.specs.Protocol.{writer_entity}
 use Rattle.dds_model.specs.World.{WorldState, machine_of}
 use Rattle.dds_core.specs.Pairs.{reader_entity}
+use Rattle.dds_world.specs.declared.round.Round.{Round}
 use Rattle.dds_world.specs.declared.round.RoundReply.{RoundReply}
-use Rattle.dds_world.specs.WorldStanding.{WorldKept, StandsFor, Steps, Announces, MovesOn, KeepsRules, Runs}
+use Rattle.dds_world.specs.WorldStanding.{WorldKept, StandsFor, Steps, Announces, MovesOn, KeepsRules, traffic}
 
 -- why there is no round: the writer is not matched with the reader
 abbrev pub round_refusal : Machine → Endpoint → Endpoint → Option Code
@@ -108,46 +110,50 @@ IsRound config network writer reader sent (Tick peer now ∷ events) (ticked ∷
     (peer ≡ writer.peer) × (now ≡ (part_at (machine_of network) writer.peer).dds.moment) × AfterTick config writer reader sent (length network.sent) ticked.sent events replies
 IsRound config network writer reader sent events replies = ⊥
 
--- The replies are a run of the network over some events, with the counts as they stood after each; for each state that the
--- old network stands for, the events are those of a round.
-pub record Rounds (old : WorldKept) (writer reader : Endpoint) (replies : List RoundReply) (new : WorldKept) : Type 0 where
-  pub events : List WorldEvent
-  pub run : Runs old events (map (λ (r : RoundReply). r.reply) replies) new
-  pub steps : AreSteps old events replies new
-  pub round : (config : Config) (network : WorldState) → StandsFor old config network → IsRound config network writer reader new.sent events replies
-
 -- memory was found for all of what this answers
 abbrev pub is_whole : Reply → Bool
 is_whole Done = true
 is_whole (Reported report) = not (is_some report.refused)
 is_whole other = false
 
--- What may keep a round from its end, which its replies and the counts of unsent packets show: a reply that lacked memory;
--- packets that were not sent, or a count of those that stood at its greatest value; or a writer without counts for its
--- HEARTBEAT, or a reader without counts for its ACKNACK, where the round ends before that.
-abbrev pub IsHindered : WorldState → Endpoint → Endpoint → WorldKept → List RoundReply → WorldKept → Type 0
-IsHindered network writer reader old replies new =
-    (list_all (λ (r : RoundReply). is_whole r.reply) replies ≡ false)
+abbrev pub are_whole : List RoundReply → Bool
+are_whole replies = list_all (λ (r : RoundReply). is_whole r.reply) replies
+
+-- What may keep a round from its end, which its answer and the counts of unsent packets show: a reply that lacked memory;
+-- packets that were not sent, or a count of those that stood at its greatest value; a reader that is behind and hears
+-- nothing, as its writer has no count left for a HEARTBEAT; or one that answers nothing, as it has none for an ACKNACK.
+abbrev pub IsHindered : WorldState → Endpoint → Endpoint → WorldKept → Round → WorldKept → Type 0
+IsHindered network writer reader old answer new =
+    (are_whole answer.replies ≡ false)
     ⊎ (old.unsent < new.unsent) ⊎ (2 ^ 64 - 1 ≤ old.unsent)
-    ⊎ ((length replies ≡ 1) × (2 ^ 31 - 1 ≤ heartbeats_used_at network writer))
-    ⊎ ((length replies ≡ 2) × (2 ^ 31 - 1 ≤ acknacks_used_at network writer reader))
+    ⊎ ((length answer.replies ≡ 1) × (answer.was_behind ≡ true) × (2 ^ 31 - 1 ≤ heartbeats_used_at network writer))
+    ⊎ ((length answer.replies ≡ 2) × (2 ^ 31 - 1 ≤ acknacks_used_at network writer reader))
 
--- a run of a network's peers by the rules of the protocol
-abbrev pub RuledRun : Config → WorldState → List WorldEvent → List Reply → WorldState → Type 0
-RuledRun config old [] [] new = new ≡ old
-RuledRun config old (event ∷ events) (reply ∷ replies) new =
-    (mid : WorldState) × (lost : ℕ) × RuledStep config no_tests old event reply lost mid
-    × RuledRun config mid events replies new
-RuledRun config old [] (reply ∷ replies) new = ⊥
-RuledRun config old (event ∷ events) [] new = ⊥
+abbrev pub replies_of : List RoundReply → List Reply
+replies_of replies = map (λ (r : RoundReply). r.reply) replies
 
--- For each state that the old network stands for, the replies are a run of its peers by the rules, to one that the new network
--- stands for. There the reader has gone on by 256 numbers, or to the end of the writer's list, or to a change that has no room,
--- and the writer knows of all that the reader had before, unless something hindered the round.
-abbrev pub CatchesUp : WorldKept → Endpoint → Endpoint → List RoundReply → WorldKept → Type 0
-CatchesUp old writer reader replies new = (config : Config) (network : WorldState) (place : ℕ) → StandsFor old config network
-    → place_at (machine_of network) reader writer ≡ Some place
-    → (events : List WorldEvent) × (after : WorldState)
-    × RuledRun config network events (map (λ (r : RoundReply). r.reply) replies) after × StandsFor new config after
-    × (IsHindered network writer reader old replies new
-    ⊎ HasCaughtUp after writer reader place (length (writer_changes (writer_at (machine_of network) writer))))
+-- A round, from one state that the old network stands for: the events are those of a round, and the replies a run over them
+-- by the rules of the protocol, and of the machine, to a state that the new network stands for. There the reader has gone on
+-- by 256 numbers, or to the end of the writer's list, or to a change that has no room, and the writer knows of all that the
+-- reader had before, unless something hindered the round.
+pub record RoundFrom (config : Config) (network : WorldState) (old : WorldKept) (writer reader : Endpoint)
+    (events : List WorldEvent) (answer : Round) (new : WorldKept) : Type 0 where
+  pub is_round : IsRound config network writer reader new.sent events answer.replies
+  pub after : WorldState
+  pub run : RuledRun config no_tests network old.unsent events (replies_of answer.replies) after new.unsent
+  pub machine : Run config no_tests (traffic old) (machine_of network) events (replies_of answer.replies) (traffic new)
+      (machine_of after)
+  pub stands : StandsFor new config after
+  pub was_behind : answer.was_behind ≡ is_reader_behind (writer_at (machine_of network) writer) reader
+  pub place : ℕ
+  pub at : place_at (machine_of network) reader writer ≡ Some place
+  pub caught_up : IsHindered network writer reader old answer new
+      ⊎ HasCaughtUp after writer reader place (length (writer_changes (writer_at (machine_of network) writer)))
+
+-- One round: each reply is that of a step of the network, with the counts as they stood after it; and from each state that the
+-- old network stands for it is a round.
+pub record Rounds (old : WorldKept) (writer reader : Endpoint) (answer : Round) (new : WorldKept) : Type 0 where
+  pub events : List WorldEvent
+  pub steps : AreSteps old events answer.replies new
+  pub round : (config : Config) (network : WorldState) → StandsFor old config network
+      → RoundFrom config network old writer reader events answer new

@@ -8,9 +8,8 @@ use Rattle.dds_model.specs.Machine.{no_tests, Step}
 use Rattle.dds_model.specs.Progress.{Progresses}
 use Rattle.dds_model.specs.Bounds.{IsBounded}
 use Rattle.dds_model.specs.Fresh.{HasUsedCounts}
-use Rattle.dds_model.specs.Rules.{RuledStep}
+use Rattle.dds_model.specs.Rules.{RuledStep, RuledRun}
 use Rattle.dds_model.specs.Runs.{Traffic, Sends, Run}
-use Rattle.dds_model.specs.Laws.{WorldRun}
 use Rattle.dds_model.specs.Peer.{no_peer}
 use Rattle.dds_model.specs.World.{WorldState, WorldStep, peer_at, machine_of, Sound}
 use Rattle.dds_core.specs.Kept.{CoreKept}
@@ -80,9 +79,9 @@ KeepsRules old event reply new = (config : Config) (network : WorldState) → St
 abbrev pub MovesOn : WorldKept → WorldEvent → Reply → Type 0
 MovesOn old event reply = (config : Config) (network : WorldState) → StandsFor old config network → Progresses config old.sent (machine_of network) event reply
 
--- For each state that the old network stands for, these replies are a run of its peers, and of its machine, over the
--- events, with what is sent meanwhile, and the new network stands for the state afterwards.
+-- For each state that the old network stands for, these replies are a run of its peers by the rules of the protocol, and of
+-- its machine, over the events, with what is sent meanwhile, and the new network stands for the state afterwards.
 pub record Runs (old : WorldKept) (events : List WorldEvent) (replies : List Reply) (new : WorldKept) : Type 0 where
   pub run : (config : Config) (network : WorldState) → StandsFor old config network
-      → (after : WorldState) × WorldRun config no_tests network old.unsent events replies after new.unsent
+      → (after : WorldState) × RuledRun config no_tests network old.unsent events replies after new.unsent
       × Run config no_tests (traffic old) (machine_of network) events replies (traffic new) (machine_of after) × StandsFor new config after

@@ -10,5 +10,5 @@ pub use dds_model::{
     Call, Endpoint, Event, Move, Output, Packet, PassedRun, Reply, Report, SampleLostStatus,
     WorldEvent,
 };
-pub use round::RoundReply;
+pub use round::{Round, RoundReply};
 pub use world::World;

@@ -4,7 +4,7 @@
 
 ghost use Rattle.std.specs.Prelude.{◌≡◌, ◌++◌, ◌+◌, ◌<◌, ◌≤◌, ◌↔◌, List, [], ◌∷◌, length, vec_len, vec_capacity, IsTrue, IfOk, IfErr, OnErr, MatchOption};
 ghost use Rattle.dds_world.specs.declared.round.RoundReply.{RoundReply as ReplyOf};
-ghost use Rattle.dds_world.specs.Round.{answers_at, AreMatched, AreSteps, CatchesUp, HasNone, IsFirst, IsStep, IsTo, RefusesRound, Rounds};
+ghost use Rattle.dds_world.specs.Round.{answers_at, AreMatched, AreSteps, HasNone, IsFirst, IsStep, IsTo, RefusesRound, Rounds};
 ghost use Rattle.dds_world.specs.Repairing.{Acknowledging, Adds, Beating, IsKnown, NotMatched};
 
 use crate::world::{World, index_of};
@@ -21,6 +21,20 @@ pub struct RoundReply {
     pub sent: u64,
     /// How many packets had found no memory, as `World::unsent` counts them.
     pub unsent: u64,
+}
+
+/// What a round of repair answers.
+///
+/// The reader has caught up where each reply has found its memory, no packet was counted as unsent (nor did the count stand
+/// at its greatest value), and there are three replies or more, or one, of a reader that was not behind. A reader that was
+/// behind and hears of it no more is one whose writer has used up its HEARTBEAT counts, 2^31 - 1; two replies are those of a
+/// reader that has used up its ACKNACK counts for the writer.
+#[derive(Debug, Drop)]
+pub struct Round {
+    /// The replies to its events, 1 to 35.
+    pub replies: Sequence<RoundReply>,
+    /// Whether there were changes of the writer that the reader had not acknowledged, when the round began.
+    pub was_behind: bool,
 }
 
 /// A writer and a reader that it is matched with, their entity ids, and the moment of the writer's peer.
@@ -50,7 +64,8 @@ impl World {
     /// peer, and each packet that this sent, up to 32, at the reader's. Where one of them was not sent, the round ends.
     ///
     /// Each packet is delivered once, and no other one is. There are 1 to 35 replies; one of them may lack memory, as those
-    /// of `World::step`.
+    /// of `World::step`. Afterwards the reader has come to the next 256 changes, or to all, or to one for which it has no
+    /// room, unless the answer shows why not (see `Round`).
     ///
     /// # Errors
     ///
@@ -58,17 +73,12 @@ impl World {
     /// was found for the replies. Nothing was done then.
     ///
     /// RTPS 2.5, 8.4.9 and 8.4.12.
-    pub fn round(
-        &mut self,
-        writer: Endpoint,
-        reader: Endpoint,
-    ) -> Result<Sequence<RoundReply>, Code>
-        // The replies are a run over the events of a round, with the counts as they stood after each.
-        ensures round { IfOk result (λ replies. Rounds self.old writer reader replies self.new) }
-        // After them the reader has caught up, unless a reply, the count of unsent packets or used counts say why not.
-        ensures catches_up { IfOk result (λ replies. CatchesUp self.old writer reader replies self.new) }
+    pub fn round(&mut self, writer: Endpoint, reader: Endpoint) -> Result<Round, Code>
+        // The replies are a run over the events of a round, with the counts as they stood after each. After them the reader
+        // has caught up, unless a reply, the count of unsent packets or used counts say why not.
+        ensures round { IfOk result (λ answer. Rounds self.old writer reader answer self.new) }
         // There is a round only where the two are matched.
-        ensures matched { IfOk result (λ replies. AreMatched self.old writer reader) }
+        ensures matched { IfOk result (λ answer. AreMatched self.old writer reader) }
         // It is refused where they are not, or else for want of memory.
         ensures refused { IfErr result (RefusesRound self.old writer reader) }
         // A refusal leaves the network as it was.
@@ -77,6 +87,7 @@ impl World {
         let Some(m) = self.matched(writer, reader) else {
             return Err(Code::BadParameter);
         };
+        let was_behind = m.pair.is_behind;
         let mut replies = Vec::with_capacity(self.alloc, MAX_REPLIES)?;
         let sent = self.sent();
         let tick = WorldEvent::Tick {
@@ -85,7 +96,11 @@ impl World {
         };
         self.add_step(tick, &mut replies);
         self.deliver_heartbeat(m, sent, &mut replies);
-        Ok(Sequence::from_vec(replies))
+        let replies = Sequence::from_vec(replies);
+        Ok(Round {
+            replies,
+            was_behind,
+        })
     }
 
     /// The writer and the reader with what a round needs, if they are matched.

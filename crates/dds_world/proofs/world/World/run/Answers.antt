@@ -9,5 +9,5 @@ pub loop-event-preserved : goal.loop-event-preserved
 loop-event-preserved c =
     let items : c.push.new.self.items ≡ c.loop-event.replies.items ++ c.step-reply.result ∷ [] = grind (arith, common_steps) in
     let runs : Runs c.args.self.now (c.loop-event.yielded ++ c.in-Some.event ∷ []) (c.loop-event.replies.items ++ c.step-reply.result ∷ []) c.step-reply.new.self =
-    runs_more c.args.self.now c.loop-event.self c.step-reply.new.self c.loop-event.yielded c.loop-event.replies.items c.in-Some.event c.step-reply.result c.loop-event.invariant.0 c.step-reply.ensures.step c.step-reply.ensures.sends in
+    runs_more c.args.self.now c.loop-event.self c.step-reply.new.self c.loop-event.yielded c.loop-event.replies.items c.in-Some.event c.step-reply.result c.loop-event.invariant.0 c.step-reply.ensures.rules c.step-reply.ensures.sends in
     (subst (λ (rs : List Reply). Runs c.args.self.now (c.loop-event.yielded ++ c.in-Some.event ∷ []) rs c.step-reply.new.self) (sym items) runs, grind (arith, common_steps), grind (arith, common_steps))

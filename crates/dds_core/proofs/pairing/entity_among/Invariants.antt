@@ -1,7 +1,0 @@
-use Rattle.std.proofs.Common.{◌≡◌, ◌<◌, ℕ, Some, slice_get}
-use Rattle.dds_core.specs.declared.matching.ReaderName.{ReaderName}
-use Rattle.dds_core.proofs.pairing.entity_among.Given as goal
-
--- no name before this one is the reader's
-abbrev pub invariant-loop-name : goal.invariant-loop-name
-invariant-loop-name l = (j : ℕ) (n : ReaderName) → j < l.name-index → slice_get l.fn.names j ≡ Some n → n.reader ≡ l.fn.reader → ⊥
