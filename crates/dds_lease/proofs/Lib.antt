@@ -1,0 +1,4 @@
+pub mod TrackLaws
+pub mod FindingLaws
+pub mod DeathLaws
+pub mod StandingLaws

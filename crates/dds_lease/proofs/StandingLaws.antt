@@ -1,0 +1,149 @@
+-- What is kept stands for what happened, after one more entry.
+use Rattle.std.proofs.Common.{◌≡◌, ℕ, ◌+◌, ◌<◌, List, ◌∷◌, length, get_or, set, map, Bool, true, false, not, ◌==◌, ◌&&◌, cond, sym, subst, ap, ◌∙◌, refl, Option, Some, None, arith}
+use Rattle.std.proofs.lemmas.List.Sums.{sum_by-set}
+use Rattle.std.specs.Prelude.{if◌then◌else◌, count_by, is_some, nat_lt, find}
+use Rattle.std.specs.List.{list_any}
+use Rattle.dds_base.specs.declared.happening.Arrival.{Arrival}
+use Rattle.dds_base.specs.declared.happening.Happening.{Happening}
+use Rattle.dds_base.specs.declared.happening.Happening.TheVariants.{Came, Heard, Died}
+use Rattle.dds_base.specs.declared.qos.ReaderQos.{ReaderQos}
+use Rattle.dds_base.specs.Liveliness.{alive_since, dead_at, is_alive, is_death_of, last_turned}
+use Rattle.dds_base.specs.Ownership.{publication_handles}
+use Rattle.dds_lease.specs.declared.track.LeaseTrack.{LeaseTrack}
+use Rattle.dds_lease.specs.Standing.{Kept, StandsFor}
+use Rattle.dds_base.specs.Written.{is_over}
+use Rattle.dds_lease.specs.Track.{asserted, buried, first_over, is_dead_track, is_live_track, track_of}
+use Rattle.dds_lease.proofs.FindingLaws.{first-dead}
+use Rattle.dds_lease.proofs.TrackLaws.{changed-at, track-at, track-came, track-count, track-died, track-heard}
+
+pub matched-count : (kept : Kept) (q : ReaderQos) (h : List Happening) → StandsFor kept q h
+    → length kept.tracks ≡ length q.writers
+matched-count kept q h given =
+    ap (λ (ts : List LeaseTrack). length ts) given.tracks ∙ track-count (track_of q h) 1 q.writers
+
+-- what is kept of one writer
+pub kept-track : (kept : Kept) (q : ReaderQos) (h : List Happening) (w at : ℕ) (d : LeaseTrack) → StandsFor kept q h
+    → 1 + at ≡ w → at < length kept.tracks → get_or kept.tracks at d ≡ track_of q h w
+kept-track kept q h w at d given here within =
+    let count = matched-count kept q h given in
+    ap (λ (ts : List LeaseTrack). get_or ts at d) given.tracks
+    ∙ track-at (track_of q h) w 1 at d q.writers here (omega (arith, count, within))
+
+-- the tracks after an entry that changes that of one writer
+one-changed : (kept : Kept) (q : ReaderQos) (h : List Happening) (e : Happening) (change : LeaseTrack → LeaseTrack)
+    (w at : ℕ) (d : LeaseTrack) (tracks : List LeaseTrack)
+    → ((v : ℕ) → track_of q (e ∷ h) v ≡ (if w == v then change (track_of q h v) else track_of q h v))
+    → StandsFor kept q h → 1 + at ≡ w → at < length kept.tracks
+    → tracks ≡ set kept.tracks at (change (get_or kept.tracks at d))
+    → tracks ≡ map (track_of q (e ∷ h)) (publication_handles q)
+one-changed kept q h e change w at d tracks is given here within put =
+    let count = matched-count kept q h given in
+    put
+    ∙ (ap (λ (ts : List LeaseTrack). set ts at (change (get_or ts at d))) given.tracks
+    ∙ sym (changed-at (track_of q h) (track_of q (e ∷ h)) change w 1 at d q.writers is here
+    (omega (arith, count, within))))
+
+-- the writer that last changed a count, after an assertion
+turned : (is_alive : Bool) (w before last : ℕ) → last ≡ (if is_alive then before else w)
+    → last ≡ (if not is_alive then w else before)
+turned true w before last is = is
+turned false w before last is = is
+
+-- an assertion was taken up: of a writer that was alive, or not
+pub record Asserts (kept new : Kept) (at : ℕ) (moment : ℕ) (track : LeaseTrack) : Type 0 where
+  pub within : at < length kept.tracks
+  pub is : track ≡ get_or kept.tracks at track
+  pub tracks : new.tracks ≡ set kept.tracks at (asserted moment track)
+  pub last : new.last_turned ≡ (if is_some track.since then kept.last_turned else 1 + at)
+
+since-of : (kept : Kept) (q : ReaderQos) (h : List Happening) (at w : ℕ) (track : LeaseTrack) → StandsFor kept q h
+    → at < length kept.tracks → track ≡ get_or kept.tracks at track → 1 + at ≡ w → track.since ≡ alive_since w h
+since-of kept q h at w track given within is here =
+    ap (λ (t : LeaseTrack). t.since) (is ∙ kept-track kept q h w at track given here within)
+
+asserts-last : (kept new : Kept) (q : ReaderQos) (h : List Happening) (at w moment : ℕ) (track : LeaseTrack)
+    → StandsFor kept q h → Asserts kept new at moment track → 1 + at ≡ w
+    → new.last_turned ≡ (if not (is_alive w h) then w else last_turned h)
+asserts-last kept new q h at w moment track given put here =
+    turned (is_alive w h) w (last_turned h) new.last_turned
+    (put.last
+    ∙ (ap (λ (o : Option ℕ). if is_some o then kept.last_turned else 1 + at)
+    (since-of kept q h at w track given put.within put.is here)
+    ∙ (ap (λ (n : ℕ). if is_alive w h then n else 1 + at) given.last_turned
+    ∙ ap (λ (n : ℕ). if is_alive w h then last_turned h else n) here)))
+
+put-track : (kept : Kept) (at : ℕ) (track : LeaseTrack) (change : LeaseTrack → LeaseTrack) (tracks : List LeaseTrack)
+    → track ≡ get_or kept.tracks at track → tracks ≡ set kept.tracks at (change track)
+    → tracks ≡ set kept.tracks at (change (get_or kept.tracks at track))
+put-track kept at track change tracks is put =
+    put ∙ ap (λ (t : LeaseTrack). set kept.tracks at (change t)) is
+
+pub came-stands : (kept new : Kept) (q : ReaderQos) (h : List Happening) (a : Arrival) (at : ℕ) (track : LeaseTrack)
+    → StandsFor kept q h → Asserts kept new at a.moment track → 1 + at ≡ a.writer → StandsFor new q (Came a ∷ h)
+came-stands kept new q h a at track given put here = record {
+  tracks = one-changed kept q h (Came a) (asserted a.moment) a.writer at track new.tracks
+      (λ v. track-came q h a v) given here put.within
+      (put-track kept at track (asserted a.moment) new.tracks put.is put.tracks);
+  last_turned = asserts-last kept new q h at a.writer a.moment track given put here;
+}
+
+pub heard-stands : (kept new : Kept) (q : ReaderQos) (h : List Happening) (w moment at : ℕ) (track : LeaseTrack)
+    → StandsFor kept q h → Asserts kept new at moment track → 1 + at ≡ w → StandsFor new q (Heard w moment ∷ h)
+heard-stands kept new q h w moment at track given put here = record {
+  tracks = one-changed kept q h (Heard w moment) (asserted moment) w at track new.tracks
+      (λ v. track-heard q h w moment v) given here put.within
+      (put-track kept at track (asserted moment) new.tracks put.is put.tracks);
+  last_turned = asserts-last kept new q h at w moment track given put here;
+}
+
+-- the death of a writer that was alive
+pub died-stands : (kept new : Kept) (q : ReaderQos) (h : List Happening) (w moment at : ℕ) (track : LeaseTrack)
+    → StandsFor kept q h → 1 + at ≡ w → at < length kept.tracks → track ≡ get_or kept.tracks at track
+    → is_some track.since ≡ true → new.tracks ≡ set kept.tracks at (buried track) → new.last_turned ≡ w
+    → StandsFor new q (Died w moment ∷ h)
+died-stands kept new q h w moment at track given here within is alive put last = record {
+  tracks = one-changed kept q h (Died w moment) buried w at track new.tracks
+      (λ v. track-died q h w moment v) given here within (put-track kept at track buried new.tracks is put);
+  last_turned = last ∙ sym (turns (list_any (is_death_of w) h) (is_alive w h)
+      (ap (λ (o : Option ℕ). is_some o) (sym (since-of kept q h at w track given within is here)) ∙ alive));
+}
+  where
+    turns : (died alive : Bool) → alive ≡ true → (if not (died && not alive) then w else last_turned h) ≡ w
+    turns true alive e = ap (λ (b : Bool). if not (true && not b) then w else last_turned h) e
+    turns false alive e = refl
+
+-- what is found among the tracks is the first of those that die
+pub found-first : (kept : Kept) (q : ReaderQos) (h : List Happening) (now after : ℕ) → StandsFor kept q h
+    → first_over after now 1 kept.tracks ≡ find (nat_lt after) (dead_at q now h)
+found-first kept q h now after given =
+    ap (λ (ts : List LeaseTrack). first_over after now 1 ts) given.tracks
+    ∙ sym (first-dead q now after 1 h q.writers)
+
+-- the same, seen as it is kept
+pub stands-as : (kept seen : Kept) (q : ReaderQos) (h : List Happening) → seen ≡ kept → StandsFor kept q h
+    → StandsFor seen q h
+stands-as kept seen q h same given = subst (λ (k : Kept). StandsFor k q h) (sym same) given
+
+-- a lease that is over is that of a writer that is alive
+pub over-live : (lease since : Option ℕ) (now : ℕ) → is_over lease since now ≡ true → is_some since ≡ true
+over-live lease (Some since) now over = refl
+over-live None None now over = absurd (cc)
+over-live (Some lease) None now over = absurd (cc)
+
+-- how many are alive, and not alive, once one of those that were alive died
+pub buried-counts : (ts : List LeaseTrack) (at : ℕ) (track : LeaseTrack) → at < length ts
+    → track ≡ get_or ts at track → is_some track.since ≡ true
+    → (count_by is_live_track ts ≡ count_by is_live_track (set ts at (buried track)) + 1)
+    × (count_by is_dead_track (set ts at (buried track)) ≡ count_by is_dead_track ts + 1)
+buried-counts ts at track within is alive =
+    let live = sum_by-set (λ (t : LeaseTrack). cond (is_live_track t) 1 0) ts at (buried track) track within in
+    let dead = sum_by-set (λ (t : LeaseTrack). cond (is_dead_track t) 1 0) ts at (buried track) track within in
+    let was_live : ◌≡◌ {A = ℕ} (cond (is_live_track (get_or ts at track)) 1 0) 1 =
+    ap (λ (t : LeaseTrack). cond (is_live_track t) 1 0) (sym is) ∙ ap (λ (b : Bool). cond b 1 0) alive in
+    let was_dead : ◌≡◌ {A = ℕ} (cond (is_dead_track (get_or ts at track)) 1 0) 0 =
+    ap (λ (t : LeaseTrack). cond (is_dead_track t) 1 0) (sym is) ∙ none track.has_died (is_some track.since) alive in
+    (omega (arith, live, was_live), omega (arith, dead, was_dead))
+  where
+    none : (died live : Bool) → live ≡ true → ◌≡◌ {A = ℕ} (cond (died && not live) 1 0) 0
+    none true live e = ap (λ (b : Bool). cond (not b) 1 0) e
+    none false live e = refl

@@ -1,0 +1,134 @@
+-- What is known of each matched writer, after one more entry.
+use Rattle.std.proofs.Common.{◌≡◌, ℕ, zero, suc, ◌+◌, ◌<◌, List, [], ◌∷◌, length, get_or, set, map, Bool, true, false, ◌==◌, ◌||◌, sym, ap, ◌∙◌, refl, cond, Option, Some, None, arith, ⊎_elim}
+use Rattle.std.proofs.lemmas.Bool.{cases_Bool, eqb-true, eqb-false}
+use Rattle.std.proofs.lemmas.List.Sums.{length-filter}
+use Rattle.std.specs.Prelude.{if◌then◌else◌, slice_get, count_by, filter}
+use Rattle.dds_base.specs.declared.happening.Arrival.{Arrival}
+use Rattle.dds_base.specs.declared.happening.Happening.{Happening}
+use Rattle.dds_base.specs.declared.happening.Happening.TheVariants.{Came, Heard, Died}
+use Rattle.dds_base.specs.declared.qos.MatchedWriter.{MatchedWriter}
+use Rattle.dds_base.specs.declared.qos.ReaderQos.{ReaderQos}
+use Rattle.dds_base.specs.Instance.{or_else}
+use Rattle.dds_base.specs.Liveliness.{lease_of}
+use Rattle.dds_base.specs.Ownership.{numbers_from, publication_handles, writer_of}
+use Rattle.dds_lease.specs.declared.track.LeaseTrack.{LeaseTrack}
+use Rattle.dds_lease.specs.Track.{asserted, buried, fresh, is_dead_track, is_live_track, track_of}
+
+-- ---- before anything happened
+
+fresh-from : (q : ReaderQos) (k : ℕ) (rest : List MatchedWriter)
+    → ((at : ℕ) → writer_of q.writers (k + at) ≡ slice_get rest at)
+    → map (track_of q []) (numbers_from k rest) ≡ map fresh rest
+fresh-from q k [] is = refl
+fresh-from q k (r ∷ rest) is =
+    ap (λ (o : Option MatchedWriter). (record { lease = lease_of o; since = None; has_died = false })
+    ∷ map (track_of q []) (numbers_from (k + 1) rest))
+    (ap (λ (w : ℕ). writer_of q.writers w) (omega arith) ∙ is 0)
+    ∙ ap (λ (ts : List LeaseTrack). fresh r ∷ ts)
+    (fresh-from q (k + 1) rest (λ at. ap (λ (w : ℕ). writer_of q.writers w) (omega arith) ∙ is (suc at)))
+
+pub fresh-tracks : (q : ReaderQos) → map (track_of q []) (publication_handles q) ≡ map fresh q.writers
+fresh-tracks q = fresh-from q 1 q.writers (λ at. first at (1 + at) (omega arith))
+  where
+    first : (at w : ℕ) → w ≡ suc at → writer_of q.writers w ≡ slice_get q.writers at
+    first at w is = ap (λ (n : ℕ). writer_of q.writers n) is
+
+-- ---- one more entry, which asserts a writer or is its death
+
+told : (lease since : Option ℕ) (has_died asserts : Bool) (moment : ℕ)
+    → ◌≡◌ {A = LeaseTrack}
+    (record { lease = lease; since = or_else (if asserts then Some moment else None) since; has_died = has_died })
+    (if asserts then asserted moment (record { lease = lease; since = since; has_died = has_died })
+    else record { lease = lease; since = since; has_died = has_died })
+told lease since has_died true moment = refl
+told lease since has_died false moment = refl
+
+pub track-came : (q : ReaderQos) (h : List Happening) (a : Arrival) (v : ℕ)
+    → track_of q (Came a ∷ h) v ≡ (if a.writer == v then asserted a.moment (track_of q h v) else track_of q h v)
+track-came q h a v =
+    let t = track_of q h v in told t.lease t.since t.has_died (a.writer == v) a.moment
+
+pub track-heard : (q : ReaderQos) (h : List Happening) (w moment v : ℕ)
+    → track_of q (Heard w moment ∷ h) v ≡ (if w == v then asserted moment (track_of q h v) else track_of q h v)
+track-heard q h w moment v = let t = track_of q h v in told t.lease t.since t.has_died (w == v) moment
+
+ended : (lease since : Option ℕ) (has_died dies : Bool)
+    → ◌≡◌ {A = LeaseTrack}
+    (record { lease = lease; since = if dies then None else or_else None since; has_died = dies || has_died })
+    (if dies then buried (record { lease = lease; since = since; has_died = has_died })
+    else record { lease = lease; since = since; has_died = has_died })
+ended lease since has_died true = refl
+ended lease since has_died false = refl
+
+pub track-died : (q : ReaderQos) (h : List Happening) (w moment v : ℕ)
+    → track_of q (Died w moment ∷ h) v ≡ (if w == v then buried (track_of q h v) else track_of q h v)
+track-died q h w moment v = let t = track_of q h v in ended t.lease t.since t.has_died (w == v)
+
+-- ---- the tracks of all, where that of one writer alone changes
+
+same-from : (f g : ℕ → LeaseTrack) (change : LeaseTrack → LeaseTrack) (w k : ℕ) (ws : List MatchedWriter)
+    → ((v : ℕ) → g v ≡ (if w == v then change (f v) else f v)) → w < k
+    → map g (numbers_from k ws) ≡ map f (numbers_from k ws)
+same-from f g change w k [] is below = refl
+same-from f g change w k (x ∷ ws) is below =
+    let other : (w == k) ≡ false = ⊎_elim
+    (λ same. let e = eqb-true w k same in absurd (omega (arith, e, below)))
+    (λ differ. differ)
+    (cases_Bool (w == k)) in
+    ap (λ (t : LeaseTrack). t ∷ map g (numbers_from (k + 1) ws))
+    (is k ∙ ap (λ (b : Bool). if b then change (f k) else f k) other)
+    ∙ ap (λ (ts : List LeaseTrack). f k ∷ ts) (same-from f g change w (k + 1) ws is (omega (arith, below)))
+
+itself : (k : ℕ) → (k == k) ≡ true
+itself k = ⊎_elim (λ same. same) (λ differ. absurd (eqb-false k k differ refl)) (cases_Bool (k == k))
+
+pub changed-at : (f g : ℕ → LeaseTrack) (change : LeaseTrack → LeaseTrack) (w k at : ℕ) (d : LeaseTrack)
+    (ws : List MatchedWriter) → ((v : ℕ) → g v ≡ (if w == v then change (f v) else f v)) → k + at ≡ w
+    → at < length ws
+    → map g (numbers_from k ws)
+    ≡ set (map f (numbers_from k ws)) at (change (get_or (map f (numbers_from k ws)) at d))
+changed-at f g change w k at d [] is here within = absurd (omega (arith, within))
+changed-at f g change w k zero d (x ∷ ws) is here within =
+    let same : k ≡ w = omega (arith, here) in
+    let one : (w == k) ≡ true = ap (λ (v : ℕ). w == v) same ∙ itself w in
+    ap (λ (t : LeaseTrack). t ∷ map g (numbers_from (k + 1) ws))
+    (is k ∙ ap (λ (b : Bool). if b then change (f k) else f k) one)
+    ∙ ap (λ (ts : List LeaseTrack). change (f k) ∷ ts)
+    (same-from f g change w (k + 1) ws is (omega (arith, same)))
+changed-at f g change w k (suc at) d (x ∷ ws) is here within =
+    let other : (w == k) ≡ false = ⊎_elim
+    (λ same. let e = eqb-true w k same in absurd (omega (arith, e, here)))
+    (λ differ. differ)
+    (cases_Bool (w == k)) in
+    ap (λ (t : LeaseTrack). t ∷ map g (numbers_from (k + 1) ws))
+    (is k ∙ ap (λ (b : Bool). if b then change (f k) else f k) other)
+    ∙ ap (λ (ts : List LeaseTrack). f k ∷ ts)
+    (changed-at f g change w (k + 1) at d ws is (omega (arith, here)) (omega (arith, within)))
+
+-- what is known of one of them
+pub track-at : (f : ℕ → LeaseTrack) (w k at : ℕ) (d : LeaseTrack) (ws : List MatchedWriter) → k + at ≡ w
+    → at < length ws → get_or (map f (numbers_from k ws)) at d ≡ f w
+track-at f w k at d [] here within = absurd (omega (arith, within))
+track-at f w k zero d (x ∷ ws) here within = ap f (omega (arith, here))
+track-at f w k (suc at) d (x ∷ ws) here within =
+    track-at f w (k + 1) at d ws (omega (arith, here)) (omega (arith, within))
+
+-- how many they are
+pub track-count : (f : ℕ → LeaseTrack) (k : ℕ) (ws : List MatchedWriter)
+    → length (map f (numbers_from k ws)) ≡ length ws
+track-count f k [] = refl
+track-count f k (x ∷ ws) = ap suc (track-count f (k + 1) ws)
+
+-- of writers of which nothing was heard none is alive, and none died
+pub fresh-counts : (ws : List MatchedWriter)
+    → (0 ≡ count_by is_live_track (map fresh ws)) × (0 ≡ count_by is_dead_track (map fresh ws))
+fresh-counts ws = (
+  none is_live_track (λ w. refl) ws ∙ length-filter is_live_track (map fresh ws),
+  none is_dead_track (λ w. refl) ws ∙ length-filter is_dead_track (map fresh ws),
+)
+  where
+    none : (p : LeaseTrack → Bool) → ((w : MatchedWriter) → p (fresh w) ≡ false) → (vs : List MatchedWriter)
+        → 0 ≡ length (filter p (map fresh vs))
+    none p not_one [] = refl
+    none p not_one (v ∷ vs) = none p not_one vs
+        ∙ ap (λ (b : Bool). length (cond b (fresh v ∷ filter p (map fresh vs)) (filter p (map fresh vs)))) (sym (not_one v))

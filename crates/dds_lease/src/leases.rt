@@ -1,0 +1,210 @@
+//! The leases of a reader's matched writers.
+
+ghost use Rattle.std.specs.Prelude.{◌≡◌, ◌≤◌, ◌<◌, ℕ, List, [], ◌∷◌, length, find, nat_lt, IfOk, IfErr, IfNone, IfSome, MatchOption, false};
+ghost use Rattle.dds_base.specs.declared.code.Code.TheVariants.{Memory};
+ghost use Rattle.dds_base.specs.declared.happening.Arrival.{Arrival};
+ghost use Rattle.dds_base.specs.declared.happening.Happening.{Happening};
+ghost use Rattle.dds_base.specs.declared.happening.Happening.TheVariants.{Came, Heard, Died};
+ghost use Rattle.dds_base.specs.declared.qos.ReaderQos.{ReaderQos};
+ghost use Rattle.dds_base.specs.Liveliness.{alive_count, dead_at, is_alive, last_turned, not_alive_count};
+ghost use Rattle.dds_base.specs.Ownership.{IsMatched};
+ghost use Rattle.dds_lease.specs.Standing.{Kept, StandsFor, after_deaths_above, writer_count};
+
+use crate::track::{LeaseTrack, count_over, find_over, fresh_tracks};
+use dds_base::{Code, Handle, Moment, ReaderQos};
+use std::alloc::Global;
+use std::marker::Model;
+
+/// Which matched writers of a reader are alive, and since when, kept up with what happens there.
+///
+/// A writer is alive from its first assertion there. It dies once the lease that it has passed since its last one.
+///
+/// DDS 1.4, 2.2.3 (LIVELINESS), 2.2.4.1 (LIVELINESS_CHANGED).
+#[derive(Drop)]
+pub struct Leases {
+    /// By publication handle.
+    tracks: Vec<LeaseTrack>,
+    /// How many of them are alive.
+    alive: usize,
+    /// How many of them died and are not alive.
+    not_alive: usize,
+    last_turned: Handle,
+}
+
+impl Model for Leases {
+    ghost use Rattle.std.specs.Prelude.{◌≡◌, count_by};
+    ghost use Rattle.dds_lease.specs.Track.{is_dead_track, is_live_track};
+    ghost use Rattle.dds_lease.specs.Standing.{Kept};
+
+    ghost Value = { Kept };
+
+    ghost view = { λ l. record {
+      tracks = l.tracks.items;
+      last_turned = l.last_turned;
+    } };
+
+    ghost invariant = { λ l. (l.alive ≡ count_by is_live_track l.tracks.items)
+        × (l.not_alive ≡ count_by is_dead_track l.tracks.items) };
+}
+
+impl Leases {
+    /// Of a reader at which nothing has happened. None of its matched writers is alive, and none has died.
+    ///
+    /// # Errors
+    ///
+    /// `Memory` where a growth was refused.
+    pub fn open(alloc: Global, qos: &ReaderQos) -> Result<Leases, Code>
+        // Nothing has happened.
+        ensures ok { IfOk result (λ leases. StandsFor leases qos.now []) }
+        // The only refusal is for want of memory.
+        ensures memory { IfErr result (λ code. code ≡ Memory) }
+    {
+        let tracks = fresh_tracks(alloc, qos.writers.as_slice())?;
+        Ok(Leases {
+            tracks,
+            alive: 0,
+            not_alive: 0,
+            last_turned: Handle::NIL,
+        })
+    }
+
+    /// How many writers are matched: their handles are the numbers from 1 to this one.
+    pub fn writers(&self) -> usize
+        // A handle up to it names a writer.
+        ensures writers { result ≡ writer_count self.now }
+        // It is the number of the reader's matched writers.
+        ensures matched { (q : ReaderQos) (h : List Happening) → StandsFor self.now q h
+            → result ≡ length q.writers }
+    {
+        self.tracks.len()
+    }
+
+    /// A writer is asserted at this moment: a change of it came, or it was heard.
+    ///
+    /// DDS 1.4, 2.2.3 (LIVELINESS).
+    pub fn assert_at(&mut self, writer: Handle, now: Moment)
+        // It is matched.
+        requires matched { (0 < writer) × (writer ≤ writer_count self.old) }
+        // A change of it came.
+        ensures came { (q : ReaderQos) (h : List Happening) (a : Arrival) → StandsFor self.old q h
+            → a.writer ≡ writer → a.moment ≡ now → StandsFor self.new q (Came a ∷ h) }
+        // It was heard.
+        ensures heard { (q : ReaderQos) (h : List Happening) → StandsFor self.old q h
+            → StandsFor self.new q (Heard writer now ∷ h) }
+        // The writers stay the same ones.
+        ensures writers { writer_count self.new ≡ writer_count self.old }
+    {
+        let at = writer.number() as usize - 1;
+        let track = self.tracks[at];
+        self.tracks[at] = LeaseTrack {
+            since: Some(now),
+            ..track
+        };
+        if track.since.is_some() {
+            return;
+        }
+        self.alive += 1;
+        if track.has_died {
+            self.not_alive -= 1;
+        }
+        self.last_turned = writer;
+    }
+
+    /// The first writer above this handle whose lease is over at this moment: it dies now. `None` where there is none.
+    ///
+    /// A tick begins with `Handle::NIL`, and goes on with each handle that it is given until there is none. The writers
+    /// then die in the order of their handles.
+    ///
+    /// DDS 1.4, 2.2.3 (LIVELINESS: lease_duration).
+    pub fn expire(&mut self, after: Handle, now: Moment) -> Option<Handle>
+        // It is the first above this handle of those that die at this moment.
+        ensures first { (q : ReaderQos) (h : List Happening) → StandsFor self.old q h
+            → result ≡ find (λ w. nat_lt after w) (dead_at q now h) }
+        // It died.
+        ensures died { (q : ReaderQos) (h : List Happening) → StandsFor self.old q h
+            → IfSome result (λ w. StandsFor self.new q (Died w now ∷ h)) }
+        // The deaths that are left to this moment go on above it; where there was none, none is left.
+        ensures turn { (q : ReaderQos) (h : List Happening) → StandsFor self.old q h
+            → MatchOption result (after_deaths_above q now after h ≡ h)
+            (λ w. after_deaths_above q now after h ≡ after_deaths_above q now w (Died w now ∷ h)) }
+        // It is a matched writer above this handle.
+        ensures above { IfSome result (λ w. (after < w) × (w ≤ writer_count self.new)) }
+        // Where there is none nothing has changed.
+        ensures none { IfNone result (self.new ≡ self.old) }
+        // The writers stay the same ones.
+        ensures writers { writer_count self.new ≡ writer_count self.old }
+    {
+        let writer = find_over(&self.tracks, after, now)?;
+        let at = writer.number() as usize - 1;
+        let track = self.tracks[at];
+        self.tracks[at] = LeaseTrack {
+            since: None,
+            has_died: true,
+            ..track
+        };
+        self.alive -= 1;
+        self.not_alive += 1;
+        self.last_turned = writer;
+        Some(writer)
+    }
+
+    /// How many writers die at this moment.
+    ///
+    /// DDS 1.4, 2.2.3 (LIVELINESS: lease_duration).
+    pub fn overdue(&self, now: Moment) -> usize
+        ensures { (q : ReaderQos) (h : List Happening) → StandsFor self.now q h → result ≡ length (dead_at q now h) }
+    {
+        count_over(&self.tracks, now)
+    }
+
+    /// Whether a writer is alive; of a handle that names none, `false`.
+    ///
+    /// DDS 1.4, 2.2.3 (LIVELINESS).
+    pub fn is_alive(&self, writer: Handle) -> bool
+        // It is so by the definitions.
+        ensures matched { (q : ReaderQos) (h : List Happening) → StandsFor self.now q h → IsMatched q writer
+            → result ≡ is_alive writer h }
+        // A handle that names no writer names none that is alive.
+        ensures unmatched { (q : ReaderQos) (h : List Happening) → StandsFor self.now q h → (IsMatched q writer → ⊥)
+            → result ≡ false }
+    {
+        let at = writer.number();
+        if at == 0 || self.tracks.len() < at as usize {
+            return false;
+        }
+        self.tracks[at as usize - 1].since.is_some()
+    }
+
+    /// How many writers are alive.
+    ///
+    /// DDS 1.4, 2.2.4.1 (LivelinessChangedStatus: alive_count).
+    pub fn alive_count(&self) -> usize
+        // It is the number of the definitions.
+        ensures alive { (q : ReaderQos) (h : List Happening) → StandsFor self.now q h → result ≡ alive_count q h }
+        // It is at most the number of the matched writers.
+        ensures few { result ≤ writer_count self.now }
+    {
+        self.alive
+    }
+
+    /// How many writers died and are not alive.
+    ///
+    /// DDS 1.4, 2.2.4.1 (LivelinessChangedStatus: not_alive_count).
+    pub fn not_alive_count(&self) -> usize
+        // It is the number of the definitions.
+        ensures dead { (q : ReaderQos) (h : List Happening) → StandsFor self.now q h → result ≡ not_alive_count q h }
+        // It is at most the number of the matched writers.
+        ensures few { result ≤ writer_count self.now }
+    {
+        self.not_alive
+    }
+
+    /// The writer that last changed one of the two counts, `NIL` for none.
+    ///
+    /// DDS 1.4, 2.2.4.1 (LivelinessChangedStatus: last_publication_handle).
+    pub fn last_turned(&self) -> Handle
+        ensures { (q : ReaderQos) (h : List Happening) → StandsFor self.now q h → result ≡ last_turned h }
+    {
+        self.last_turned
+    }
+}

@@ -1,0 +1,12 @@
+//! The leases of a reader's matched writers: which of them are alive, and which of them die.
+//!
+//! DDS 1.4, 2.2.3 (LIVELINESS), 2.2.4.1 (LIVELINESS_CHANGED).
+//! Not here: when a writer is asserted or a moment has come, and what a death does to instances.
+#![tactic(auto)]
+
+mod laws;
+mod leases;
+mod track;
+
+pub use laws::{deaths_go_in_turn, other_entries_change_nothing};
+pub use leases::Leases;

@@ -1,0 +1,68 @@
+//! What is known of the liveliness of one matched writer.
+
+ghost use Rattle.std.specs.Prelude.{◌≡◌, ◌-◌, ◌<◌, ◌≤◌, length, get_or, map, IfOk, IfSome, count_by, true};
+ghost use Rattle.dds_lease.specs.declared.track.LeaseTrack.{LeaseTrack};
+ghost use Rattle.dds_lease.specs.Track.{first_over, fresh, is_over_at};
+
+use dds_base::{Handle, MatchedWriter, Moment};
+use std::alloc::{AllocError, Global};
+
+/// A matched writer's lease, and what was heard of it.
+#[derive(Clone, Copy)]
+pub struct LeaseTrack {
+    /// In units of 2^-32 second; `None` never ends.
+    pub lease: Option<u64>,
+    /// The moment of its last assertion, `None` while it is not alive.
+    pub since: Option<Moment>,
+    pub has_died: bool,
+}
+
+/// Whether its lease is over at this moment.
+pub fn is_over(track: &LeaseTrack, now: Moment) -> bool
+    ensures { result ≡ is_over_at now track.now }
+{
+    match (track.lease, track.since) {
+        (Some(lease), Some(since)) => match now.units().checked_sub(since.units()) {
+            Some(passed) => lease <= passed,
+            None => false,
+        },
+        _ => false,
+    }
+}
+
+/// Those of writers of which nothing was heard.
+pub fn fresh_tracks(alloc: Global, writers: &[MatchedWriter]) -> Result<Vec<LeaseTrack>, AllocError>
+    ensures { IfOk result (λ tracks. tracks.items ≡ map fresh writers.now) }
+{
+    let mut tracks = Vec::with_capacity(alloc, writers.len())?;
+    for writer in writers {
+        tracks.push(LeaseTrack {
+            lease: writer.lease,
+            since: None,
+            has_died: false,
+        })?;
+    }
+    Ok(tracks)
+}
+
+/// The first writer above this one whose lease is over at this moment.
+pub fn find_over(tracks: &[LeaseTrack], after: Handle, now: Moment) -> Option<Handle>
+    ensures first { result ≡ first_over after now 1 tracks.now }
+    ensures above { IfSome result (λ w. (after < w) × (w ≤ length tracks.now)) }
+    ensures over { IfSome result (λ w. (d : LeaseTrack) → is_over_at now (get_or tracks.now (w - 1) d) ≡ true) }
+{
+    let from = after.number() as usize;
+    for at in from..tracks.len() {
+        if is_over(&tracks[at], now) {
+            return Some(Handle::new(at as u64 + 1));
+        }
+    }
+    None
+}
+
+/// How many leases are over at this moment.
+pub fn count_over(tracks: &[LeaseTrack], now: Moment) -> usize
+    ensures { result ≡ count_by (is_over_at now) tracks.now }
+{
+    tracks.iter().filter(|track| is_over(track, now)).count()
+}
