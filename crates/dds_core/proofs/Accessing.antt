@@ -25,11 +25,12 @@ use Rattle.dds_model.specs.declared.reply.Reply.{Reply}
 use Rattle.dds_model.specs.declared.reply.Reply.TheVariants.{Samples, Refused}
 use Rattle.dds_model.specs.Calls.{Answers as CallAnswers, AnswersAccess, CallStep, Effect, nothing, effect, effect_of, access_refusal, picked_at, has_number, with_happening}
 use Rattle.dds_model.specs.Machine.{no_filters}
-use Rattle.dds_model.specs.Part.{Part, Dds, Reader, WriterProxy, own_reader, own_proxies}
+use Rattle.dds_model.specs.Part.{Part, Dds, Reader, WriterProxy, own_reader, own_proxies, Seen}
 use Rattle.dds_model.specs.Peer.{Peer}
 use Rattle.dds_core.specs.declared.matching.WriterName.{WriterName}
 use Rattle.rtps_reader.specs.Reader.{Proxies, Tracks}
 use Rattle.rtps_reader.specs.Tracked.{Tracked}
+use Rattle.dds_lease.specs.Standing.{Kept as Leased, StandsFor as LeasesStandFor}
 use Rattle.dds_core.specs.Stored.{StoreKept, Holds}
 use Rattle.dds_model.specs.declared.endpoint.Endpoint.{Endpoint}
 use Rattle.dds_core.proofs.Rows.{writers_of}
@@ -41,9 +42,10 @@ use Rattle.dds_core.proofs.Ends.{with_reader, own_reader_changed}
 use Rattle.dds_core.proofs.Taking.{silent}
 use Rattle.dds_core.proofs.Identities.{same_identity}
 
--- what happens at a reader where an access was entered: nothing was passed over
-abbrev pub IsQuiet : (List SamplePosition → Happening) → Type 0
-IsQuiet entry = (samples : List SamplePosition) (h : List Happening) → lost_count (entry samples ∷ h) ≡ lost_count h
+-- what happens at a reader where an access was entered: nothing was passed over, and no writer asserted or died
+pub record IsQuiet (entry : List SamplePosition → Happening) : Type 0 where
+  pub lost : (samples : List SamplePosition) (h : List Happening) → lost_count (entry samples ∷ h) ≡ lost_count h
+  pub leases : (kept : Leased) (q : ReaderQos) (samples : List SamplePosition) (h : List Happening) → LeasesStandFor kept q h → LeasesStandFor kept q (entry samples ∷ h)
 
 -- the call is an access that enters so: it is answered as one, and does nothing at a writer
 pub record IsAccess (c : Call) (entry : List SamplePosition → Happening) (reader : ℕ) (selection : Selection) : Type 0 where
@@ -52,10 +54,10 @@ pub record IsAccess (c : Call) (entry : List SamplePosition → Happening) (read
   pub effect : (part : Part) (reply : Reply) → effect_of part c reply ≡ nothing
 
 pub read_is_access : (reader : ℕ) (selection : Selection) → IsAccess (call.Read reader selection) HasRead reader selection
-read_is_access reader selection = record { quiet = λ samples h. refl; answers = λ part reply dds a. a; effect = λ part reply. refl }
+read_is_access reader selection = record { quiet = record { lost = λ samples h. refl; leases = λ kept q samples h s. record { tracks = s.tracks; last_turned = s.last_turned } }; answers = λ part reply dds a. a; effect = λ part reply. refl }
 
 pub take_is_access : (reader : ℕ) (selection : Selection) → IsAccess (call.Take reader selection) Took reader selection
-take_is_access reader selection = record { quiet = λ samples h. refl; answers = λ part reply dds a. a; effect = λ part reply. refl }
+take_is_access reader selection = record { quiet = record { lost = λ samples h. refl; leases = λ kept q samples h s. record { tracks = s.tracks; last_turned = s.last_turned } }; answers = λ part reply dds a. a; effect = λ part reply. refl }
 
 -- the reader with one more entry, an access
 one_entered : (entry : List SamplePosition → Happening) → IsQuiet entry → (k k' : ReaderKept) (proxies : List WriterProxy) (r : Reader) (tracked : Endpoint → Tracked) (samples : List SamplePosition) → TakesOnly k k' → ReaderStands k proxies r tracked
@@ -67,9 +69,11 @@ one_entered entry quiet k k' proxies r tracked samples same s stands = record {
   qos_is = s.qos_is ∙ sym same.qos;
   holds = record {
     cache = stands;
-    lost_is = same.lost ∙ (s.holds.lost_is ∙ sym (quiet samples r.happened));
+    leases = subst (λ (l : Leased). LeasesStandFor l (qos_of k'.store.cache) (entry samples ∷ r.happened)) (sym same.leases)
+        (subst (λ (q : ReaderQos). LeasesStandFor k.store.leases q (entry samples ∷ r.happened)) (sym same.qos) (quiet.leases k.store.leases (qos_of k.store.cache) samples r.happened s.holds.leases));
+    lost_is = same.lost ∙ (s.holds.lost_is ∙ sym (quiet.lost samples r.happened));
   };
-  seen_is = s.seen_is ∙ sym same.lost_seen;
+  seen_is = s.seen_is ∙ sym same.seen;
 }
 
 -- the part after an access
@@ -99,14 +103,14 @@ not_entered c kept i k k' config peer code s at same is =
 
 kept_same : (k k' : ReaderKept) → TakesOnly k k' → k'.store.cache ≡ k.store.cache → k' ≡ k
 kept_same k k' same cache =
-    reader_as k'.entity k.entity k'.writers k.writers k'.reader k.reader k'.store k.store k'.lost_seen k.lost_seen same.entity same.writers same.reader
-    (store_as k'.store.lost k.store.lost k'.store.cache k.store.cache same.lost cache) same.lost_seen
+    reader_as k'.entity k.entity k'.writers k.writers k'.reader k.reader k'.store k.store k'.seen k.seen same.entity same.writers same.reader
+    (store_as k'.store.lost k.store.lost k'.store.leases k.store.leases k'.store.cache k.store.cache same.lost same.leases cache) same.seen
   where
-    store_as : (i j : ℕ) (c d : Stored) → i ≡ j → c ≡ d → ◌≡◌ {A = StoreKept} (record { lost = i; cache = c }) (record { lost = j; cache = d })
-    store_as i j c d e f = cc
+    store_as : (i j : ℕ) (l m : Leased) (c d : Stored) → i ≡ j → l ≡ m → c ≡ d → ◌≡◌ {A = StoreKept} (record { lost = i; leases = l; cache = c }) (record { lost = j; leases = m; cache = d })
+    store_as i j l m c d e f g = cc
 
-    reader_as : (a b : EntityId) (x y : List WriterName) (p q : Proxies) (s t : StoreKept) (i j : ℕ) → a ≡ b → x ≡ y → p ≡ q → s ≡ t → i ≡ j
-        → ◌≡◌ {A = ReaderKept} (record { entity = a; writers = x; reader = p; store = s; lost_seen = i }) (record { entity = b; writers = y; reader = q; store = t; lost_seen = j })
+    reader_as : (a b : EntityId) (x y : List WriterName) (p q : Proxies) (s t : StoreKept) (i j : Seen) → a ≡ b → x ≡ y → p ≡ q → s ≡ t → i ≡ j
+        → ◌≡◌ {A = ReaderKept} (record { entity = a; writers = x; reader = p; store = s; seen = i }) (record { entity = b; writers = y; reader = q; store = t; seen = j })
     reader_as a b x y p q s t i j e f g h l = cc
 
 -- what a cache answers is what the machine answers

@@ -56,6 +56,7 @@ refused_nothing part (call.Take r selection) x = refl
 refused_nothing part (call.GetKeyValue r instance) x = refl
 refused_nothing part (call.LookupInstance r key) x = refl
 refused_nothing part (call.GetSampleLost r) x = refl
+refused_nothing part (call.GetLivelinessChanged r) x = refl
 
 -- a call that changes nothing
 pub unchanging_call : (kept : CoreKept) (config : Config) (peer : Peer) → StandsFor kept config peer → (c : Call) (reply : Reply) → effect_of peer.part c reply ≡ nothing → Answers no_filters peer.part c reply peer.part.dds

@@ -1,65 +1,106 @@
 -- A look at a status of one of the peer's readers.
-use Rattle.std.proofs.Common.{◌≡◌, ℕ, suc, ◌+◌, ◌<◌, Bool, not, Some, None, length, slice_get, refl, ap, sym, ◌∙◌, subst, arith}
+use Rattle.std.proofs.Common.{◌≡◌, ℕ, suc, ◌+◌, ◌<◌, Bool, not, List, Some, None, length, slice_get, refl, ap, sym, ◌∙◌, subst, arith}
 use Rattle.std.specs.Prelude.{if◌then◌else◌}
 use Rattle.dds_base.specs.declared.code.Code.TheVariants.{BadParameter}
 use Rattle.dds_base.specs.declared.config.Config.{Config}
+use Rattle.dds_base.specs.declared.happening.Happening.{Happening}
+use Rattle.dds_base.specs.declared.qos.ReaderQos.{ReaderQos}
+use Rattle.dds_base.specs.declared.status.LivelinessChangedStatus.{LivelinessChangedStatus}
 use Rattle.dds_base.specs.declared.status.SampleLostStatus.{SampleLostStatus}
+use Rattle.dds_base.specs.Liveliness.{alive_count, not_alive_count, liveliness_changed_status}
 use Rattle.dds_base.specs.Statuses.{lost_count, sample_lost_status}
+use Rattle.dds_model.specs.declared.call.Call.{Call}
 use Rattle.dds_model.specs.declared.call.Call.TheVariants as call
 use Rattle.dds_model.specs.declared.event.Event.TheVariants as event
-use Rattle.dds_model.specs.declared.reply.Reply.TheVariants.{SampleLost}
-use Rattle.dds_model.specs.Calls.{look_refusal, after_look}
-use Rattle.dds_model.specs.Part.{Reader, own_reader}
+use Rattle.dds_model.specs.declared.reply.Reply.{Reply}
+use Rattle.dds_model.specs.declared.reply.Reply.TheVariants.{SampleLost, LivelinessChanged}
+use Rattle.dds_model.specs.Calls.{Answers, look_refusal, after_look, effect, effect_of, nothing, seen_lost, seen_liveliness}
+use Rattle.dds_model.specs.Machine.{no_filters}
+use Rattle.dds_model.specs.Part.{Part, Reader, Seen, own_reader}
 use Rattle.dds_model.specs.Peer.{Peer}
 use Rattle.dds_core.specs.Kept.{ReaderKept, CoreKept}
-use Rattle.dds_core.specs.Receiving.{TellsLost}
-use Rattle.dds_core.specs.Standing.{StandsFor}
+use Rattle.dds_core.specs.Receiving.{TellsLost, TellsLiveliness}
+use Rattle.dds_core.specs.Standing.{ReaderStands, StandsFor}
 use Rattle.dds_core.proofs.CallSteps.{Follows, there_is}
 use Rattle.dds_core.proofs.Ends.{with_reader, own_reader_changed}
 use Rattle.dds_core.proofs.Taking.{silent}
 
-looked : (kept : CoreKept) (i : ℕ) (k : ReaderKept) (status : SampleLostStatus) (config : Config) (peer : Peer)
-    → StandsFor kept config peer → slice_get kept.readers i ≡ Some k → i < length kept.readers → TellsLost k status
-    → Follows (with_reader kept i (record k { lost_seen = status.total_count })) config peer
-    (event.Call (call.GetSampleLost (suc i))) (silent (SampleLost status))
-looked kept i k status config peer s at lt tells =
-    let r : Reader = own_reader peer.part (suc i) in
-    let rs = s.readers.each i k at in
+-- the call is a look at the statuses of the reader of this index, which is seen so, with this reply
+record IsLook (c : Call) (kept : CoreKept) (peer : Peer) (i : ℕ) (reply : Reply) (seen : Seen) : Type 0 where
+  answers : Answers no_filters peer.part c reply (after_look peer.part (suc i) seen)
+  effect : effect_of peer.part c reply ≡ nothing
+
+known_reader : (kept : CoreKept) (i : ℕ) (config : Config) (peer : Peer) → StandsFor kept config peer → i < length kept.readers → look_refusal peer.part (suc i) ≡ None
+known_reader kept i config peer s lt =
     let count = s.readers.count in
-    let known : look_refusal peer.part (suc i) ≡ None =
-    ap (λ (b : Bool). if not b then Some BadParameter else None)
-    (there_is peer.part.dds.readers i (omega (arith, lt, count))) in
-    let total : lost_count r.happened ≡ status.total_count =
-    sym (ap (λ (x : SampleLostStatus). x.total_count) (tells r.happened rs.holds)) in
-    let answer : status ≡ sample_lost_status r.happened r.lost_seen =
-    tells r.happened rs.holds ∙ ap (λ (seen : ℕ). sample_lost_status r.happened seen) (sym rs.seen_is) in
-    let seen : Reader = record r { lost_seen = lost_count r.happened } in (
-      record peer { part = record peer.part { dds = after_look peer.part (suc i) } },
+    ap (λ (b : Bool). if not b then Some BadParameter else None) (there_is peer.part.dds.readers i (omega (arith, lt, count)))
+
+-- what stands after a look
+looked : (c : Call) (kept : CoreKept) (i : ℕ) (k : ReaderKept) (reply : Reply) (seen : Seen) (config : Config) (peer : Peer)
+    → StandsFor kept config peer → slice_get kept.readers i ≡ Some k → IsLook c kept peer i reply seen
+    → Follows (with_reader kept i (record k { seen = seen })) config peer (event.Call c) (silent reply)
+looked c kept i k reply seen config peer s at is =
+    let r : Reader = own_reader peer.part (suc i) in
+    let rs = s.readers.each i k at in (
+      record peer { part = record peer.part { dds = after_look peer.part (suc i) seen } },
       record {
         same_number = refl;
         knows = refl;
-        step = (record { answers = (known, answer, refl); rtps = refl }, refl);
+        step = (record { answers = is.answers; rtps = ap (λ e. effect peer.part.rtps e) (sym is.effect) }, refl);
         sent = λ p x m h. absurd (omega (arith, m.1));
       },
-      own_reader_changed kept i k (record k { lost_seen = status.total_count }) seen config peer s at refl (record {
+      own_reader_changed kept i k (record k { seen = seen }) (record r { seen = seen }) config peer s at refl (record {
         writers_are = rs.writers_are;
         places = rs.places;
         knows = rs.knows;
         qos_is = rs.qos_is;
         holds = rs.holds;
-        seen_is = total;
+        seen_is = refl;
       }),
     )
 
--- the same of the reader of a number
-pub looked_at : (kept : CoreKept) (reader i : ℕ) (k k' : ReaderKept) (status : SampleLostStatus) (config : Config)
+number_of : (reader i : ℕ) → reader ≡ i + 1 → suc i ≡ reader
+number_of reader i is = let index : i + 1 ≡ suc i = omega arith in sym (is ∙ index)
+
+-- a look at SAMPLE_LOST
+pub looked_at_lost : (kept : CoreKept) (reader i : ℕ) (k k' : ReaderKept) (status : SampleLostStatus) (config : Config)
     (peer : Peer) → StandsFor kept config peer → reader ≡ i + 1 → i < length kept.readers
-    → slice_get kept.readers i ≡ Some k → TellsLost k status → k' ≡ record k { lost_seen = status.total_count }
+    → slice_get kept.readers i ≡ Some k → TellsLost k status → k' ≡ record k { seen = record k.seen { lost = status.total_count } }
     → Follows (with_reader kept i k') config peer (event.Call (call.GetSampleLost reader)) (silent (SampleLost status))
-looked_at kept reader i k k' status config peer s is lt at tells after =
-    let seen : ReaderKept = record k { lost_seen = status.total_count } in
-    let number : suc i ≡ reader = let index : i + 1 ≡ suc i = omega arith in sym (is ∙ index) in
-    let of : ReaderKept → ℕ → Type 0 =
-    λ x n. Follows (with_reader kept i x) config peer (event.Call (call.GetSampleLost n)) (silent (SampleLost status)) in
-    subst (λ (x : ReaderKept). of x reader) (sym after)
-    (subst (λ (n : ℕ). of seen n) number (looked kept i k status config peer s at lt tells))
+looked_at_lost kept reader i k k' status config peer s is lt at tells after =
+    let r : Reader = own_reader peer.part (suc i) in
+    let rs = s.readers.each i k at in
+    let told : status ≡ sample_lost_status r.happened k.seen.lost = tells r.happened rs.holds in
+    let answer : status ≡ sample_lost_status r.happened r.seen.lost =
+    told ∙ ap (λ (x : Seen). sample_lost_status r.happened x.lost) (sym rs.seen_is) in
+    let seen : record k.seen { lost = status.total_count } ≡ seen_lost r =
+    ap (λ (x : SampleLostStatus). record k.seen { lost = x.total_count }) told
+    ∙ ap (λ (x : Seen). record x { lost = lost_count r.happened }) (sym rs.seen_is) in
+    let look : Follows (with_reader kept i (record k { seen = seen_lost r })) config peer (event.Call (call.GetSampleLost (suc i))) (silent (SampleLost status)) =
+    looked (call.GetSampleLost (suc i)) kept i k (SampleLost status) (seen_lost r) config peer s at
+    (record { answers = (known_reader kept i config peer s lt, answer, refl); effect = refl }) in
+    let now : record k { seen = seen_lost r } ≡ k' = sym (after ∙ ap (λ (x : Seen). record k { seen = x }) seen) in
+    subst (λ (x : ReaderKept). Follows (with_reader kept i x) config peer (event.Call (call.GetSampleLost reader)) (silent (SampleLost status))) now
+    (subst (λ (n : ℕ). Follows (with_reader kept i (record k { seen = seen_lost r })) config peer (event.Call (call.GetSampleLost n)) (silent (SampleLost status))) (number_of reader i is) look)
+
+-- a look at LIVELINESS_CHANGED
+pub looked_at_liveliness : (kept : CoreKept) (reader i : ℕ) (k k' : ReaderKept) (status : LivelinessChangedStatus) (seen : Seen) (config : Config)
+    (peer : Peer) → StandsFor kept config peer → reader ≡ i + 1 → i < length kept.readers
+    → slice_get kept.readers i ≡ Some k → TellsLiveliness k status seen → k' ≡ record k { seen = seen }
+    → Follows (with_reader kept i k') config peer (event.Call (call.GetLivelinessChanged reader)) (silent (LivelinessChanged status))
+looked_at_liveliness kept reader i k k' status seen config peer s is lt at tells after =
+    let r : Reader = own_reader peer.part (suc i) in
+    let rs = s.readers.each i k at in
+    let told = tells r.happened rs.holds in
+    let answer : status ≡ liveliness_changed_status r.qos r.happened r.seen.alive r.seen.not_alive =
+    told.0 ∙ (ap (λ (q : ReaderQos). liveliness_changed_status q r.happened k.seen.alive k.seen.not_alive) (sym rs.qos_is)
+    ∙ ap (λ (x : Seen). liveliness_changed_status r.qos r.happened x.alive x.not_alive) (sym rs.seen_is)) in
+    let same : seen ≡ seen_liveliness r =
+    told.1 ∙ (ap (λ (q : ReaderQos). record k.seen { alive = alive_count q r.happened; not_alive = not_alive_count q r.happened }) (sym rs.qos_is)
+    ∙ ap (λ (x : Seen). record x { alive = alive_count r.qos r.happened; not_alive = not_alive_count r.qos r.happened }) (sym rs.seen_is)) in
+    let look : Follows (with_reader kept i (record k { seen = seen_liveliness r })) config peer (event.Call (call.GetLivelinessChanged (suc i))) (silent (LivelinessChanged status)) =
+    looked (call.GetLivelinessChanged (suc i)) kept i k (LivelinessChanged status) (seen_liveliness r) config peer s at
+    (record { answers = (known_reader kept i config peer s lt, answer, refl); effect = refl }) in
+    let now : record k { seen = seen_liveliness r } ≡ k' = sym (after ∙ ap (λ (x : Seen). record k { seen = x }) same) in
+    subst (λ (x : ReaderKept). Follows (with_reader kept i x) config peer (event.Call (call.GetLivelinessChanged reader)) (silent (LivelinessChanged status))) now
+    (subst (λ (n : ℕ). Follows (with_reader kept i (record k { seen = seen_liveliness r })) config peer (event.Call (call.GetLivelinessChanged n)) (silent (LivelinessChanged status))) (number_of reader i is) look)

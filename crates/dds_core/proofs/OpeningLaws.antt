@@ -7,7 +7,7 @@ use Rattle.dds_base.specs.declared.config.WriterConfig.{WriterConfig}
 use Rattle.dds_base.specs.declared.config.ReaderConfig.{ReaderConfig}
 use Rattle.dds_base.specs.Checked.{check_refusal}
 use Rattle.dds_model.specs.Opening.{opening_writer, matched_writers, reader_qos, opening_part, opening_peers}
-use Rattle.dds_model.specs.Part.{Writer, Reader, WriterProxy, no_writer, no_reader}
+use Rattle.dds_model.specs.Part.{Writer, Reader, WriterProxy, no_writer, no_reader, nothing_seen}
 use Rattle.rtps_reader.specs.Tracked.{fresh}
 use Rattle.dds_model.specs.Protocol.{knows_nothing}
 use Rattle.dds_model.specs.Peer.{Peer, no_peer}
@@ -94,10 +94,10 @@ writers_stand peers ws kept opened = record {
 }
 
 readers_stand : (peers : List PeerConfig) (rs : List ReaderConfig) (kept : List ReaderKept) → OpenReaders peers rs kept
-    → ReadersStand kept (map (λ (r : ReaderConfig). matched_writers r.topic 1 peers) rs) (map (λ (r : ReaderConfig). record { qos = reader_qos peers r; happened = []; lost_seen = 0 }) rs) knows_nothing
+    → ReadersStand kept (map (λ (r : ReaderConfig). matched_writers r.topic 1 peers) rs) (map (λ (r : ReaderConfig). record { qos = reader_qos peers r; happened = []; seen = nothing_seen }) rs) knows_nothing
 readers_stand peers rs kept opens =
     let proxies : ReaderConfig → List WriterProxy = λ r. matched_writers r.topic 1 peers in
-    let opened : ReaderConfig → Reader = λ r. record { qos = reader_qos peers r; happened = []; lost_seen = 0 } in
+    let opened : ReaderConfig → Reader = λ r. record { qos = reader_qos peers r; happened = []; seen = nothing_seen } in
     record {
       rows = length-map rs proxies ∙ sym opens.count;
       count = length-map rs opened ∙ sym opens.count;

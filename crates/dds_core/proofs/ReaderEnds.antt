@@ -1,5 +1,5 @@
 -- A reader at its opening.
-use Rattle.std.proofs.Common.{◌≡◌, ℕ, ◌+◌, ◌<◌, true, not, cond, Bool, false, List, [], ◌∷◌, ◌++◌, Option, None, Some, map, length, refl, ap, sym, ◌∙◌, arith}
+use Rattle.std.proofs.Common.{◌≡◌, ℕ, ◌+◌, ◌<◌, ◌≤◌, true, not, cond, Bool, false, List, [], ◌∷◌, ◌++◌, Option, None, Some, map, length, refl, ap, sym, ◌∙◌, arith}
 use Rattle.std.specs.Prelude.{is_some}
 use Rattle.std.specs.Option.{option_map}
 use Rattle.dds_base.specs.declared.config.PeerConfig.{PeerConfig}
@@ -16,7 +16,7 @@ use Rattle.rtps_reader.specs.Tracked.{fresh}
 use Rattle.dds_model.specs.declared.endpoint.Endpoint.{Endpoint}
 use Rattle.dds_base.specs.Checked.{limit_of}
 use Rattle.dds_model.specs.Opening.{writer_qos, writers_in, matched_writers}
-use Rattle.dds_model.specs.Part.{WriterProxy, same_endpoint, row_of, place_of}
+use Rattle.dds_model.specs.Part.{WriterProxy, same_endpoint, row_of, place_of, nothing_seen}
 use Rattle.dds_model.proofs.OwnGuids.{as_many}
 use Rattle.dds_core.specs.declared.matching.WriterName.{WriterName}
 use Rattle.dds_core.specs.Kept.{FitsWriters}
@@ -74,7 +74,7 @@ are_ones topic peer (p ∷ ps) = ones_both (writers_in topic peer 1 p.writers) (
 
 pub opens_reader : (peers : List PeerConfig) (r : ReaderConfig) (names : List WriterName) (writers : List MatchedWriter) (reader : Proxies) (store : StoreKept)
     → names ≡ of_matched_writers writer_name r.topic 1 peers → writers ≡ of_matched_writers matched_writer r.topic 1 peers → ((index : ℕ) → index < length names → Tracks reader index fresh)
-    → qos_of store.cache ≡ qos_with r writers → Holds store [] → OpensReader peers r (record { entity = r.entity; writers = names; reader = reader; store = store; lost_seen = 0 })
+    → qos_of store.cache ≡ qos_with r writers → Holds store [] → OpensReader peers r (record { entity = r.entity; writers = names; reader = reader; store = store; seen = nothing_seen })
 opens_reader peers r names writers reader store matched told nothing qos stands =
     record {
       identity = identity_as r.entity r.entity names _ refl matched;
@@ -91,9 +91,10 @@ opens_reader peers r names writers reader store matched told nothing qos stands 
 
 -- there are as many rows as writers in the policies
 pub rows_fit : (peers : List PeerConfig) (r : ReaderConfig) (names : List WriterName) (writers : List MatchedWriter) (reader : Proxies) (store : StoreKept) → names ≡ of_matched_writers writer_name r.topic 1 peers
-    → writers ≡ of_matched_writers matched_writer r.topic 1 peers → count_of reader ≡ length names → qos_of store.cache ≡ qos_with r writers → FitsWriters names reader store
-rows_fit peers r names writers reader store matched told count qos =
+    → writers ≡ of_matched_writers matched_writer r.topic 1 peers → count_of reader ≡ length names → qos_of store.cache ≡ qos_with r writers → length writers ≤ 256 → FitsWriters names reader store
+rows_fit peers r names writers reader store matched told count qos many =
     let same = as_many writer_name matched_writer r.topic 1 peers in
     let a : length names ≡ length (of_matched_writers writer_name r.topic 1 peers) = ap (λ (ns : List WriterName). length ns) matched in
     let b : length (qos_of store.cache).writers ≡ length (of_matched_writers matched_writer r.topic 1 peers) = ap (λ (q : ReaderQos). length q.writers) qos ∙ ap (λ (ws : List MatchedWriter). length ws) told in
-    record { count = count; fits = omega (arith, same, a, b) }
+    let c : length (qos_of store.cache).writers ≡ length writers = ap (λ (q : ReaderQos). length q.writers) qos in
+    record { count = count; fits = omega (arith, same, a, b); many = omega (arith, c, many) }

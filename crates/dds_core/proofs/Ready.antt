@@ -44,13 +44,13 @@ last-cases (a ∷ xs) x zero y at = inr (omega arith, at)
 last-cases (a ∷ xs) x (suc j) y at = ⊎_elim (λ s. inl (ap suc s.0, s.1)) (λ o. let lt = o.0 in inr (omega (arith, lt), o.1)) (last-cases xs x j y at)
 
 pub alike_self : (k : ReaderKept) → IsAlike k k
-alike_self k = record { entity = refl; writers = refl; reader = λ i t h. h; qos = refl; lost_seen = refl; holds = λ h s. s }
+alike_self k = record { entity = refl; writers = refl; reader = λ i t h. h; qos = refl; seen = refl; holds = λ h s. s }
 
 pub all_alike_self : (ks : List ReaderKept) → AreAlike ks ks
 all_alike_self ks = record { count = refl; each = λ i a b at_a at_b. subst (λ (x : ReaderKept). IsAlike a x) (same_Some a b (sym at_a ∙ at_b)) (alike_self a) }
 
 alike_on : (a b c : ReaderKept) → IsAlike a b → IsAlike b c → IsAlike a c
-alike_on a b c x y = record { entity = y.entity ∙ x.entity; writers = y.writers ∙ x.writers; reader = λ i t h. y.reader i t (x.reader i t h); qos = y.qos ∙ x.qos; lost_seen = y.lost_seen ∙ x.lost_seen; holds = λ h s. y.holds h (x.holds h s) }
+alike_on a b c x y = record { entity = y.entity ∙ x.entity; writers = y.writers ∙ x.writers; reader = λ i t h. y.reader i t (x.reader i t h); qos = y.qos ∙ x.qos; seen = y.seen ∙ x.seen; holds = λ h s. y.holds h (x.holds h s) }
 
 -- one more was made ready
 pub alike_more : (old now : List ReaderKept) (i : ℕ) (k k' : ReaderKept) → AreAlike old now → i < length now → get_or now i k ≡ k → IsAlike k k' → AreAlike old (set now i k')
@@ -121,7 +121,7 @@ alike_stands a b proxies r tracked h s = record {
   knows = λ w k f. h.reader k (tracked w) (s.knows w k (subst (λ (ns : List WriterName). IsFirstRow ns w k) h.writers f));
   qos_is = s.qos_is ∙ sym h.qos;
   holds = h.holds r.happened s.holds;
-  seen_is = s.seen_is ∙ sym h.lost_seen;
+  seen_is = s.seen_is ∙ sym h.seen;
 }
 
 same_identities : (old new : List ReaderKept) → AreAlike old new → map reader_identity new ≡ map reader_identity old

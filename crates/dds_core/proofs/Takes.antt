@@ -101,7 +101,7 @@ stands_after c k' t happened proxies known counts a writers here elsewhere is ot
       knows = λ w j f. by_row w j f (pair_or_not w (suc c.i) c.writer (suc c.i));
       qos_is = (stood c).qos_is ∙ sym a.same.qos;
       holds = a.holds;
-      seen_is = (stood c).seen_is ∙ sym a.same.lost_seen;
+      seen_is = (stood c).seen_is ∙ sym a.same.seen;
     })
   where
     identity : reader_identity k' ≡ reader_identity c.k

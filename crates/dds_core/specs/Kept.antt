@@ -12,6 +12,7 @@ use Rattle.rtps_reader.specs.Reader.{Proxies, count_of}
 use Rattle.rtps_writer.specs.Standing.{Kept}
 use Rattle.dds_core.specs.Stored.{StoreKept}
 use Rattle.dds_model.specs.Claims.{IsNumbered}
+use Rattle.dds_model.specs.Part.{Seen}
 use Rattle.dds_core.specs.declared.matching.Destination.{Destination}
 use Rattle.dds_core.specs.declared.matching.ReaderName.{ReaderName}
 use Rattle.dds_core.specs.declared.matching.WriterName.{WriterName}
@@ -25,18 +26,19 @@ pub record WriterKept : Type 0 where
   pub readers : List ReaderName
   pub writer : Kept
 
--- a reader: its matched writers, what it knows of them, what it stores, and the total of SAMPLE_LOST at the last look
+-- a reader: its matched writers, what it knows of them, what it stores, and what was seen of its statuses
 pub record ReaderKept : Type 0 where
   pub entity : EntityId
   pub writers : List WriterName
   pub reader : Proxies
   pub store : StoreKept
-  pub lost_seen : ℕ
+  pub seen : Seen
 
--- each matched writer is known, and is among those of the policies
+-- each matched writer is known, and is among those of the policies, of which there are 256 at most
 pub record FitsWriters (names : List WriterName) (reader : Proxies) (store : StoreKept) : Type 0 where
   pub count : count_of reader ≡ length names
   pub fits : length names ≤ length (qos_of store.cache).writers
+  pub many : length (qos_of store.cache).writers ≤ 256
 
 pub record CoreKept : Type 0 where
   pub prefix : GuidPrefix

@@ -11,6 +11,7 @@ use Rattle.dds_base.specs.Checked.{check_refusal}
 use Rattle.rtps_reader.specs.Tracked.{fresh}
 use Rattle.dds_model.specs.Calls.{has_number}
 use Rattle.dds_model.specs.Opening.{opening_writer, matched_writers, reader_qos, opening_world}
+use Rattle.dds_model.specs.Part.{nothing_seen}
 use Rattle.dds_model.specs.Peer.{Peer}
 use Rattle.dds_model.specs.World.{peer_at}
 use Rattle.dds_core.specs.Kept.{WriterKept, ReaderKept, CoreKept, writer_identity, reader_identity, configured_writer, configured_reader}
@@ -50,7 +51,7 @@ pub record OpensWriter (peers : List PeerConfig) (config : WriterConfig) (kept :
 -- a reader that stands for the one of its configuration, at the opening
 pub record OpensReader (peers : List PeerConfig) (config : ReaderConfig) (kept : ReaderKept) : Type 0 where
   pub identity : reader_identity kept ≡ configured_reader peers config
-  pub stands : ReaderStands kept (matched_writers config.topic 1 peers) (record { qos = reader_qos peers config; happened = []; lost_seen = 0 }) (λ w. fresh)
+  pub stands : ReaderStands kept (matched_writers config.topic 1 peers) (record { qos = reader_qos peers config; happened = []; seen = nothing_seen }) (λ w. fresh)
 
 pub record OpenWriters (peers : List PeerConfig) (configs : List WriterConfig) (kept : List WriterKept) : Type 0 where
   pub count : length kept ≡ length configs

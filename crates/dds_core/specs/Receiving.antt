@@ -10,9 +10,11 @@ use Rattle.dds_base.specs.declared.guid.Guid.{Guid}
 use Rattle.dds_base.specs.declared.guid.GuidPrefix.{GuidPrefix}
 use Rattle.dds_base.specs.declared.happening.Happening.{Happening}
 use Rattle.dds_base.specs.declared.sample.Sample.{Sample}
+use Rattle.dds_base.specs.declared.status.LivelinessChangedStatus.{LivelinessChangedStatus}
 use Rattle.dds_base.specs.declared.status.SampleLostStatus.{SampleLostStatus}
 use Rattle.dds_base.specs.Kept.{numbers_from}
 use Rattle.dds_base.specs.Places.{Match}
+use Rattle.dds_base.specs.Liveliness.{alive_count, not_alive_count, liveliness_changed_status}
 use Rattle.dds_base.specs.Statuses.{sample_lost_status}
 use Rattle.dds_cache.specs.Standing.{qos_of, room_of}
 use Rattle.rtps_reader.specs.declared.step.Step.{Step}
@@ -31,6 +33,7 @@ use Rattle.dds_model.specs.declared.reply.Report.{Report}
 use Rattle.dds_model.specs.declared.reply.Reply.TheVariants.{Samples, Refused}
 use Rattle.dds_model.specs.Claims.{Receiver, receiver_of, is_for, Names}
 use Rattle.dds_model.specs.Peer.{Peer, state_of}
+use Rattle.dds_model.specs.Part.{Seen}
 use Rattle.dds_model.specs.Protocol.{Due, State, InTurn, ReaderTakes, Takes, Follows, TakesPacket, AreSent, acknacks_due}
 use Rattle.dds_core.specs.declared.matching.WriterName.{WriterName}
 use Rattle.dds_core.specs.declared.reader_end.Ready.{Ready}
@@ -130,7 +133,7 @@ pub record IsAlike (old new : ReaderKept) : Type 0 where
   pub writers : new.writers ≡ old.writers
   pub reader : AllStay old.reader new.reader
   pub qos : qos_of new.store.cache ≡ qos_of old.store.cache
-  pub lost_seen : new.lost_seen ≡ old.lost_seen
+  pub seen : new.seen ≡ old.seen
   pub holds : (h : List Happening) → Holds old.store h → Holds new.store h
 
 pub record AreAlike (old new : List ReaderKept) : Type 0 where
@@ -158,7 +161,7 @@ pub record SameReader (old new : ReaderKept) : Type 0 where
   pub entity : new.entity ≡ old.entity
   pub writers : new.writers ≡ old.writers
   pub qos : qos_of new.store.cache ≡ qos_of old.store.cache
-  pub lost_seen : new.lost_seen ≡ old.lost_seen
+  pub seen : new.seen ≡ old.seen
 
 -- the reader was told, at this moment
 pub record TakesTold (old : ReaderKept) (ready : Ready) (moment : ℕ) (step : Step) (new : ReaderKept) : Type 0 where
@@ -300,9 +303,16 @@ pub record TakesOnly (old new : ReaderKept) : Type 0 where
   pub writers : new.writers ≡ old.writers
   pub reader : new.reader ≡ old.reader
   pub lost : new.store.lost ≡ old.store.lost
+  pub leases : new.store.leases ≡ old.store.leases
   pub qos : qos_of new.store.cache ≡ qos_of old.store.cache
-  pub lost_seen : new.lost_seen ≡ old.lost_seen
+  pub seen : new.seen ≡ old.seen
 
 -- the answer to a look at SAMPLE_LOST
 abbrev pub TellsLost : ReaderKept → SampleLostStatus → Type 0
-TellsLost kept status = (h : List Happening) → Holds kept.store h → status ≡ sample_lost_status h kept.lost_seen
+TellsLost kept status = (h : List Happening) → Holds kept.store h → status ≡ sample_lost_status h kept.seen.lost
+
+-- the answer to a look at LIVELINESS_CHANGED, and what is seen then
+abbrev pub TellsLiveliness : ReaderKept → LivelinessChangedStatus → Seen → Type 0
+TellsLiveliness kept status seen = (h : List Happening) → Holds kept.store h
+    → (status ≡ liveliness_changed_status (qos_of kept.store.cache) h kept.seen.alive kept.seen.not_alive)
+    × (seen ≡ record kept.seen { alive = alive_count (qos_of kept.store.cache) h; not_alive = not_alive_count (qos_of kept.store.cache) h })

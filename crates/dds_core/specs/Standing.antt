@@ -83,7 +83,7 @@ pub record ReaderStands (kept : ReaderKept) (proxies : List WriterProxy) (r : Re
   pub knows : (w : Endpoint) (k : ℕ) → IsFirstRow kept.writers w k → Tracks kept.reader k (tracked w)
   pub qos_is : r.qos ≡ qos_of kept.store.cache
   pub holds : Holds kept.store r.happened
-  pub seen_is : r.lost_seen ≡ kept.lost_seen
+  pub seen_is : r.seen ≡ kept.seen
 
 -- each of a peer's writers stands for the one of its number, with the counts of the last ACKNACKs that it took
 pub record WritersStand (kept : List WriterKept) (ws : List Writer) (answered : ℕ → Endpoint → Option ℤ) : Type 0 where

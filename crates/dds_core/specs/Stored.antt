@@ -2,16 +2,19 @@
 use Rattle.std.specs.Prelude.{◌≡◌, ℕ, ◌+◌, ◌-◌, ◌^◌, min, List}
 use Rattle.dds_base.specs.declared.happening.Happening.{Happening}
 use Rattle.dds_base.specs.Statuses.{lost_count}
-use Rattle.dds_cache.specs.Standing.{Stored, StandsFor as CacheStandsFor}
+use Rattle.dds_cache.specs.Standing.{Stored, StandsFor as CacheStandsFor, qos_of}
+use Rattle.dds_lease.specs.Standing.{Kept as Leased, StandsFor as LeasesStandFor}
 
--- how many changes were passed over, up to a bound, and the cache
+-- how many changes were passed over, up to a bound, the leases of the matched writers, and the cache
 pub record StoreKept : Type 0 where
   pub lost : ℕ
+  pub leases : Leased
   pub cache : Stored
 
 -- this happened at the reader
 pub record Holds (s : StoreKept) (h : List Happening) : Type 0 where
   pub cache : CacheStandsFor s.cache h
+  pub leases : LeasesStandFor s.leases (qos_of s.cache) h
   pub lost_is : s.lost ≡ lost_count h
 
 -- the changes from the first to the last were passed over besides, up to the bound

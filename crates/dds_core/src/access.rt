@@ -71,4 +71,15 @@ impl Core {
         let status = self.readers[index].get_sample_lost();
         answered(self.alloc, Reply::SampleLost(status))
     }
+
+    pub(crate) fn get_liveliness_changed(&mut self, reader: u8) -> Output
+        ensures step { Steps self.old (event.Call (call.GetLivelinessChanged reader)) result self.new }
+        ensures sends { SendsNothing result }
+    {
+        let Some(index) = index_of(reader, self.readers.len()) else {
+            return self.refused(Code::BadParameter);
+        };
+        let status = self.readers[index].get_liveliness_changed();
+        answered(self.alloc, Reply::LivelinessChanged(status))
+    }
 }

@@ -47,6 +47,7 @@ impl Core {
             Call::GetKeyValue { reader, instance } => self.get_key_value(reader, instance),
             Call::LookupInstance { reader, key } => self.lookup_instance(reader, key),
             Call::GetSampleLost { reader } => self.get_sample_lost(reader),
+            Call::GetLivelinessChanged { reader } => self.get_liveliness_changed(reader),
         }
     }
 

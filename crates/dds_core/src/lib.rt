@@ -19,6 +19,7 @@ mod peer;
 mod reader_end;
 mod receiver;
 mod requests;
+mod seen;
 mod sending;
 mod store;
 mod writer_end;

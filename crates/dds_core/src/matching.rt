@@ -123,6 +123,7 @@ fn push_writers(
     requires few { length peer.now.writers ≤ 16 }
     ensures names { OnOk result (all.new.names.items ≡ all.old.names.items ++ of_writers_in (writer_name number peer.now) topic 1 peer.now.writers) }
     ensures qos { OnOk result (all.new.qos.items ≡ all.old.qos.items ++ of_writers_in (matched_writer number peer.now) topic 1 peer.now.writers) }
+    ensures few { OnOk result (length all.new.qos.items ≤ length all.old.qos.items + 16) }
 {
     for (index, writer) in peer.writers.as_slice().iter().enumerate() {
         if writer.topic == topic {
@@ -157,6 +158,7 @@ pub fn matched_writers(
     requires checked { check_refusal peers.now ≡ None }
     ensures names { IfOk result (λ all. all.names.items ≡ of_matched_writers writer_name topic 1 peers.now) }
     ensures qos { IfOk result (λ all. all.qos.items ≡ of_matched_writers matched_writer topic 1 peers.now) }
+    ensures many { IfOk result (λ all. length all.qos.items ≤ 256) }
 {
     let mut all = MatchedWriters {
         names: Vec::new(alloc),

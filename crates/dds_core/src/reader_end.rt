@@ -12,7 +12,7 @@ ghost use Rattle.rtps_wire.specs.declared.submessage.Submessage.TheVariants as s
 ghost use Rattle.rtps_reader.specs.Answer.{IsSayable};
 ghost use Rattle.rtps_reader.specs.Tracked.{Tracked};
 ghost use Rattle.dds_core.specs.Opening.{OpensReader};
-ghost use Rattle.dds_core.specs.Receiving.{receiver_at, IsFirstName, IsNamedFor, NamedBy, NamesNobody, IsToldBy, HasMemory, IsReadyFor, IsAlike, CanTake, TakesTold, SameReader, TakesOnly, TellsLost, IsPlaceAt};
+ghost use Rattle.dds_core.specs.Receiving.{receiver_at, IsFirstName, IsNamedFor, NamedBy, NamesNobody, IsToldBy, HasMemory, IsReadyFor, IsAlike, CanTake, TakesTold, SameReader, TakesOnly, TellsLost, TellsLiveliness, IsPlaceAt};
 ghost use Rattle.dds_core.specs.Stored.{Holds};
 ghost use Rattle.dds_cache.specs.Standing.{qos_of, Answers, AfterAccess};
 ghost use Rattle.dds_model.specs.Claims.{is_for, Names};
@@ -20,10 +20,11 @@ ghost use Rattle.dds_model.specs.Claims.{is_for, Names};
 use crate::limits::limit_of;
 use crate::matching::{MatchedWriters, WriterName, matched_writers};
 use crate::receiver::{MessageReceiver, is_for};
+use crate::seen::Seen;
 use crate::store::Store;
 use dds_base::{
-    Change, Code, EntityId, Guid, GuidPrefix, Handle, Key, Moment, PeerConfig, ReaderConfig,
-    ReaderQos, Sample, SampleLostStatus, Selection, Sequence, Sn,
+    Change, Code, EntityId, Guid, GuidPrefix, Handle, Key, LivelinessChangedStatus, Moment,
+    PeerConfig, ReaderConfig, ReaderQos, Sample, SampleLostStatus, Selection, Sequence, Sn,
 };
 use rtps_reader::{HeartbeatSeen, StatefulReader, Step};
 use rtps_sets::SnSet;
@@ -54,8 +55,7 @@ pub struct ReaderEnd {
     writers: Vec<WriterName>,
     reader: StatefulReader,
     store: Store,
-    /// The total of SAMPLE_LOST when it was looked at last, at first 0.
-    lost_seen: u64,
+    seen: Seen,
 }
 
 impl Model for ReaderEnd {
@@ -68,7 +68,7 @@ impl Model for ReaderEnd {
       writers = r.writers.items;
       reader = r.reader;
       store = r.store;
-      lost_seen = r.lost_seen;
+      seen = r.seen;
     } };
 
     ghost invariant = { λ r. FitsWriters r.writers.items r.reader r.store };
@@ -116,13 +116,17 @@ impl ReaderEnd {
             max_instances: limit_of(config.max_instances),
             writers: Sequence::from_vec(qos),
         };
+        // So is this one's.
+        let Ok(store) = Store::open(alloc, qos) else {
+            return Err(AllocError);
+        };
         Ok(ReaderEnd {
             alloc,
             entity: config.entity,
             writers: names,
             reader,
-            store: Store::open(alloc, qos),
-            lost_seen: 0,
+            store,
+            seen: Seen::NOTHING,
         })
     }
 
@@ -390,14 +394,36 @@ impl ReaderEnd {
     /// DDS 1.4, 2.2.2.5 (get_sample_lost_status).
     pub fn get_sample_lost(&mut self) -> SampleLostStatus
         ensures status { TellsLost self.old result }
-        ensures seen { self.new ≡ record self.old { lost_seen = result.total_count } }
+        ensures seen { self.new ≡ record self.old { seen = record self.old.seen { lost = result.total_count } } }
     {
         let total_count = self.store.lost();
-        let total_count_change = total_count.saturating_sub(self.lost_seen);
-        self.lost_seen = total_count;
+        let total_count_change = total_count.saturating_sub(self.seen.lost);
+        self.seen.lost = total_count;
         SampleLostStatus {
             total_count,
             total_count_change,
         }
+    }
+
+    /// Looks at how many matched writers are alive, and how many are not alive, now and against the last look.
+    ///
+    /// DDS 1.4, 2.2.2.5 (get_liveliness_changed_status), 2.2.4.1 (LivelinessChangedStatus).
+    pub fn get_liveliness_changed(&mut self) -> LivelinessChangedStatus
+        ensures status { TellsLiveliness self.old result self.new.seen }
+        ensures seen { self.new ≡ record self.old { seen = self.new.seen } }
+    {
+        let leases = self.store.leases();
+        let alive = leases.alive_count() as u16;
+        let not_alive = leases.not_alive_count() as u16;
+        let status = LivelinessChangedStatus {
+            alive_count: i32::from(alive),
+            not_alive_count: i32::from(not_alive),
+            alive_count_change: i32::from(alive) - i32::from(self.seen.alive),
+            not_alive_count_change: i32::from(not_alive) - i32::from(self.seen.not_alive),
+            last_publication_handle: leases.last_turned(),
+        };
+        self.seen.alive = alive;
+        self.seen.not_alive = not_alive;
+        status
     }
 }

@@ -2,54 +2,62 @@
 //!
 //! RTPS 2.5, 8.2 (HistoryCache of a reader); DDS 1.4, 2.2.3 (RESOURCE_LIMITS).
 
-ghost use Rattle.std.specs.Prelude.{◌≡◌, ℕ, List, []};
+ghost use Rattle.std.specs.Prelude.{◌≡◌, ℕ, List, [], IfOk, length};
 ghost use Rattle.dds_base.specs.declared.happening.Happening.{Happening};
 ghost use Rattle.dds_base.specs.declared.happening.Happening.TheVariants.{Read, Took};
 ghost use Rattle.dds_base.specs.Access.{instance_of, handle_of};
 ghost use Rattle.dds_base.specs.Statuses.{lost_count};
 ghost use Rattle.dds_cache.specs.Standing.{qos_of, Answers, AfterAccess};
+ghost use Rattle.dds_lease.specs.Standing.{writer_count};
 ghost use Rattle.dds_core.specs.Stored.{StoreKept, Holds, Loses};
 
 use dds_base::{Arrival, Code, Handle, Key, Moment, ReaderQos, Sample, Selection, Sequence, Sn};
 use dds_cache::ReaderCache;
+use dds_lease::Leases;
 use rtps_reader::Sink;
 use std::alloc::Global;
 use std::marker::Model;
 
-/// What a reader stores, and how many changes were passed over.
+/// What a reader stores, which of its matched writers are alive, and how many changes were passed over.
 #[derive(Drop)]
 pub struct Store {
     /// At most 2^64 - 1, where it stays.
     lost: u64,
+    leases: Leases,
     cache: ReaderCache,
 }
 
 impl Model for Store {
-    ghost use Rattle.std.specs.Prelude.{◌<◌, ◌^◌};
+    ghost use Rattle.std.specs.Prelude.{◌≡◌, ◌<◌, ◌^◌, length};
+    ghost use Rattle.dds_cache.specs.Standing.{qos_of};
+    ghost use Rattle.dds_lease.specs.Standing.{writer_count};
     ghost use Rattle.dds_core.specs.Stored.{StoreKept};
 
     ghost Value = { StoreKept };
 
-    ghost view = { λ s. record { lost = s.lost; cache = s.cache } };
+    ghost view = { λ s. record { lost = s.lost; leases = s.leases; cache = s.cache } };
 
-    ghost invariant = { λ s. s.lost < 2 ^ 64 };
+    ghost invariant = { λ s. (s.lost < 2 ^ 64) × (writer_count s.leases ≡ length (qos_of s.cache).writers) };
 }
 
 impl Store {
     /// Of a reader at which nothing has happened.
-    pub fn open(alloc: Global, qos: ReaderQos) -> Store
-        ensures opening { Holds result [] }
-        ensures qos { qos_of result.cache ≡ qos }
+    pub fn open(alloc: Global, qos: ReaderQos) -> Result<Store, Code>
+        ensures opening { IfOk result (λ store. Holds store []) }
+        ensures qos { IfOk result (λ store. qos_of store.cache ≡ qos) }
     {
-        Store {
+        let leases = Leases::open(alloc, &qos)?;
+        Ok(Store {
             lost: 0,
+            leases,
             cache: ReaderCache::open(alloc, qos),
-        }
+        })
     }
 
     /// The changes from `first` to `last` were passed over.
     fn lose(&mut self, first: Sn, last: Sn)
         ensures lost { Loses self.old.lost first last self.new.lost }
+        ensures leases { self.new.leases ≡ self.old.leases }
         ensures cache { self.new.cache ≡ self.old.cache }
     {
         if first.number() <= last.number() {
@@ -68,11 +76,20 @@ impl Store {
         self.lost
     }
 
+    /// Which matched writers are alive.
+    pub fn leases(&self) -> &Leases
+        ensures leases { result.now ≡ self.now.leases }
+        ensures writers { writer_count result.now ≡ length (qos_of self.now.cache).writers }
+    {
+        &self.leases
+    }
+
     /// Reads samples, as the cache does.
     pub fn read(&mut self, selection: Selection) -> Result<Sequence<Sample>, Code>
         ensures answer { (h : List Happening) → Holds self.old h → Answers self.old.cache h selection result }
         ensures after { (h : List Happening) → Holds self.old h → AfterAccess Read self.old.cache h selection result self.new.cache }
         ensures qos { qos_of self.new.cache ≡ qos_of self.old.cache }
+        ensures leases { self.new.leases ≡ self.old.leases }
         ensures lost { self.new.lost ≡ self.old.lost }
     {
         self.cache.read(selection)
@@ -83,6 +100,7 @@ impl Store {
         ensures answer { (h : List Happening) → Holds self.old h → Answers self.old.cache h selection result }
         ensures after { (h : List Happening) → Holds self.old h → AfterAccess Took self.old.cache h selection result self.new.cache }
         ensures qos { qos_of self.new.cache ≡ qos_of self.old.cache }
+        ensures leases { self.new.leases ≡ self.old.leases }
         ensures lost { self.new.lost ≡ self.old.lost }
     {
         self.cache.take(selection)
@@ -122,7 +140,10 @@ impl Sink for Store {
     }
 
     fn come(&mut self, arrival: Arrival) -> Result<(), Code> {
-        self.cache.come(arrival)
+        let (writer, moment) = (arrival.writer, arrival.moment);
+        self.cache.come(arrival)?;
+        self.leases.assert_at(writer, moment);
+        Ok(())
     }
 
     fn pass(&mut self, writer: Handle, first: Sn, last: Sn) -> Result<(), Code> {
@@ -132,6 +153,8 @@ impl Sink for Store {
     }
 
     fn hear(&mut self, writer: Handle, moment: Moment) -> Result<(), Code> {
-        self.cache.hear(writer, moment)
+        self.cache.hear(writer, moment)?;
+        self.leases.assert_at(writer, moment);
+        Ok(())
     }
 }

@@ -18,7 +18,7 @@ use Rattle.dds_base.specs.declared.selection.Selection.{Selection}
 use Rattle.dds_base.specs.declared.qos.HistoryQos.TheVariants.{KeepAll}
 use Rattle.dds_base.specs.Statuses.{lost_count}
 use Rattle.dds_model.specs.declared.call.Call.{Call}
-use Rattle.dds_model.specs.declared.call.Call.TheVariants.{Register, Write, Dispose, Unregister, Read, Take, GetKeyValue, LookupInstance, GetSampleLost}
+use Rattle.dds_model.specs.declared.call.Call.TheVariants.{Register, Write, Dispose, Unregister, Read, Take, GetKeyValue, LookupInstance, GetSampleLost, GetLivelinessChanged}
 use Rattle.dds_model.specs.declared.endpoint.Endpoint.{Endpoint}
 use Rattle.dds_model.specs.declared.event.WorldEvent.{WorldEvent}
 use Rattle.dds_model.specs.declared.event.WorldEvent.TheVariants as world
@@ -26,11 +26,11 @@ use Rattle.dds_model.specs.declared.reply.Move.{Move}
 use Rattle.dds_model.specs.declared.reply.Move.TheVariants.{Place, Acknowledged, Heard}
 use Rattle.dds_base.specs.declared.happening.PassedRun.{PassedRun}
 use Rattle.dds_model.specs.declared.reply.Reply.{Reply}
-use Rattle.dds_model.specs.declared.reply.Reply.TheVariants.{Done, Samples, KeyValue, InstanceHandle, SampleLost, Reported, Refused}
+use Rattle.dds_model.specs.declared.reply.Reply.TheVariants.{Done, Samples, KeyValue, InstanceHandle, SampleLost, LivelinessChanged, Reported, Refused}
 use Rattle.dds_model.specs.Numbered.{numbered, with_numbered, HasNumber}
-use Rattle.dds_model.specs.Part.{same_endpoint, WriterProxy, Reader, Dds, Part, no_reader, no_part, own_writer, own_proxies, own_reader, at_reader, at_writer, row_of, place_of, with_place, with_heard, with_acknowledged, publication_of, writer_changes}
+use Rattle.dds_model.specs.Part.{same_endpoint, WriterProxy, Reader, Dds, Part, no_reader, no_part, own_writer, own_proxies, own_reader, at_reader, at_writer, row_of, place_of, with_place, with_heard, with_acknowledged, publication_of, writer_changes, nothing_seen, Seen}
 use Rattle.dds_model.specs.Moves.{Grounds, as_to, match_of, IsMatched, position_of, AreMoves, Places, Hears, DeliveryStep}
-use Rattle.dds_model.specs.Calls.{Effect, nothing, writes, effect, effect_of, after_look, with_happening, register_refusal, write_refusal, dispose_refusal, unregister_refusal, IsDoneUnless, Tests, AnswersAccess, Answers, CallStep, TickStep}
+use Rattle.dds_model.specs.Calls.{Effect, nothing, writes, effect, effect_of, after_look, seen_lost, seen_liveliness, with_happening, register_refusal, write_refusal, dispose_refusal, unregister_refusal, IsDoneUnless, Tests, AnswersAccess, Answers, CallStep, TickStep}
 use Rattle.dds_model.specs.Machine.{Machine, AllTests, part_at, writer_at, place_at, grounds_of, Step}
 use Rattle.dds_model.specs.Runs.{Traffic, Run}
 use Rattle.dds_model.specs.InOrder.{came_from, CameInOrder, no_traffic}
@@ -195,8 +195,8 @@ EntersNothingThatCame entry = (samples : List SamplePosition) (p : ℕ) (h : Lis
 entered : (entry : List SamplePosition → Happening) → EntersNothingThatCame entry → (old : Part) (new : Dds) (k : ℕ) (samples : List SamplePosition) (r : ℕ) → HasNumber old.dds.readers r → new ≡ with_happening old k (entry samples) → SameCame old.dds new r
 entered entry same old new k samples r h e = changed_reader old new k (record (own_reader old k) { happened = entry samples ∷ (own_reader old k).happened }) r h (λ p. same samples p (own_reader old k).happened) e
 
-looked : (old : Part) (new : Dds) (k r : ℕ) → HasNumber old.dds.readers r → new ≡ after_look old k → SameCame old.dds new r
-looked old new k r h e = changed_reader old new k (record (own_reader old k) { lost_seen = lost_count (own_reader old k).happened }) r h (λ p. refl) e
+looked : (old : Part) (new : Dds) (k : ℕ) (seen : Seen) (r : ℕ) → HasNumber old.dds.readers r → new ≡ after_look old k seen → SameCame old.dds new r
+looked old new k seen r h e = changed_reader old new k (record (own_reader old k) { seen = seen }) r h (λ p. refl) e
 
 accessed : (entry : List SamplePosition → Happening) → EntersNothingThatCame entry → (old : Part) (k : ℕ) (selection : Selection) (reply : Reply) (new : Dds) (r : ℕ) → HasNumber old.dds.readers r → AnswersAccess entry old k selection reply new → SameCame old.dds new r
 accessed entry same old k selection (Samples samples) new r h a = entered entry same old new k _ r h a.3
@@ -222,9 +222,12 @@ answers_came tests old (GetKeyValue v instance) reply new r h a = absurd a
 answers_came tests old (LookupInstance v key) (InstanceHandle handle) new r h a = same_came old.dds new r h a.2
 answers_came tests old (LookupInstance v key) (Refused code) new r h a = same_came old.dds new r h a.1
 answers_came tests old (LookupInstance v key) reply new r h a = absurd a
-answers_came tests old (GetSampleLost v) (SampleLost status) new r h a = looked old new v r h a.2
+answers_came tests old (GetSampleLost v) (SampleLost status) new r h a = looked old new v (seen_lost (own_reader old v)) r h a.2
 answers_came tests old (GetSampleLost v) (Refused code) new r h a = same_came old.dds new r h a.1
 answers_came tests old (GetSampleLost v) reply new r h a = absurd a
+answers_came tests old (GetLivelinessChanged v) (LivelinessChanged status) new r h a = looked old new v (seen_liveliness (own_reader old v)) r h a.2
+answers_came tests old (GetLivelinessChanged v) (Refused code) new r h a = same_came old.dds new r h a.1
+answers_came tests old (GetLivelinessChanged v) reply new r h a = absurd a
 
 effect_rows : (old : Part) (new : Part) (e : Effect) → new.rtps ≡ effect old.rtps e → new.rtps.readers ≡ old.rtps.readers
 effect_rows old new nothing h = ap (λ x. x.readers) h
@@ -347,7 +350,7 @@ own_first peers [] k w = inl refl
 own_first peers (r ∷ rs) zero w = matched_first r.topic 1 peers w
 own_first peers (r ∷ rs) (suc k) w = own_first peers rs k w
 
-own_quiet : (peers : List PeerConfig) (rs : List ReaderConfig) (k : ℕ) → (get_or (map (λ (r : ReaderConfig). record { qos = reader_qos peers r; happened = []; lost_seen = 0 }) rs) k no_reader).happened ≡ []
+own_quiet : (peers : List PeerConfig) (rs : List ReaderConfig) (k : ℕ) → (get_or (map (λ (r : ReaderConfig). record { qos = reader_qos peers r; happened = []; seen = nothing_seen }) rs) k no_reader).happened ≡ []
 own_quiet peers [] k = refl
 own_quiet peers (r ∷ rs) zero = refl
 own_quiet peers (r ∷ rs) (suc k) = own_quiet peers rs k
@@ -362,7 +365,7 @@ begins_part : (peers : List PeerConfig) (p : PeerConfig) (k : ℕ) (w : Endpoint
 begins_part peers p k w = record {
   first = own_first peers p.readers k w;
   quiet = own_quiet peers p.readers k;
-  alike = length-map p.readers (λ (r : ReaderConfig). record { qos = reader_qos peers r; happened = []; lost_seen = 0 }) ∙ sym (length-map p.readers (λ (r : ReaderConfig). matched_writers r.topic 1 peers));
+  alike = length-map p.readers (λ (r : ReaderConfig). record { qos = reader_qos peers r; happened = []; seen = nothing_seen }) ∙ sym (length-map p.readers (λ (r : ReaderConfig). matched_writers r.topic 1 peers));
 }
 
 begins : (peers : List PeerConfig) (n : ℕ) (ps : List PeerConfig) (i k : ℕ) (w : Endpoint) → Begins (get_or (map (λ (p : Peer). p.part) (opening_peers peers n ps)) i no_part) k w

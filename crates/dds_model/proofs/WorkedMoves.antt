@@ -17,7 +17,7 @@ use Rattle.dds_base.specs.Places.{WriterGrounds, Match, Position, Comes, AllCome
 use Rattle.dds_model.specs.declared.reply.Move.{Move}
 use Rattle.dds_model.specs.declared.reply.Move.TheVariants.{Place}
 use Rattle.dds_model.specs.declared.reply.Reply.TheVariants.{Reported}
-use Rattle.dds_model.specs.Part.{Part, Writer, history_of}
+use Rattle.dds_model.specs.Part.{Part, Writer, history_of, nothing_seen}
 use Rattle.dds_model.specs.Moves.{Grounds, as_to, AreMoves, match_of, Places, DeliveryStep}
 use Rattle.dds_model.specs.Machine.{Machine, grounds_of}
 use Rattle.dds_model.specs.Opening.{opening, reader_qos}
@@ -45,7 +45,7 @@ part_1 w = record { rtps = record { writers = w ∷ []; readers = [] }; dds = re
 abbrev pub part_2 : ℕ → Option ℤ → List Happening → Part
 part_2 place heard happened = record {
   rtps = record { writers = []; readers = (record { writer = w1; place = place; heard = heard } ∷ []) ∷ [] };
-  dds = record { moment = 0; readers = record { qos = reader_qos (pair KeepAll).peers (reader r1_id 0); happened = happened; lost_seen = 0 } ∷ [] };
+  dds = record { moment = 0; readers = record { qos = reader_qos (pair KeepAll).peers (reader r1_id 0); happened = happened; seen = nothing_seen } ∷ [] };
 }
 
 abbrev pub machine : Writer → Part → Machine

@@ -19,7 +19,7 @@ use Rattle.rtps_wire.specs.declared.submessage.Submessage.TheVariants.{InfoDst, 
 use Rattle.dds_model.specs.declared.endpoint.Endpoint.{Endpoint}
 use Rattle.dds_model.specs.declared.reply.Move.{Move}
 use Rattle.dds_model.specs.declared.reply.Move.TheVariants.{Place, Acknowledged}
-use Rattle.dds_model.specs.Part.{Part, Writer, own_reader}
+use Rattle.dds_model.specs.Part.{Part, Writer, own_reader, nothing_seen}
 use Rattle.dds_base.specs.Places.{coming}
 use Rattle.dds_model.specs.Moves.{Grounds, match_of, position_of, AreMoves}
 use Rattle.dds_model.specs.Claims.{Receiver, receiver_of, after_submessage, IsNumbered, IsWriter, IsReader, IsToReader}
@@ -240,7 +240,7 @@ taken_up-not_excused_by_3 new h = taken_up-must_move (Some 3) new (λ e. omega (
 -- a reader that takes up to one sample has no room for the second change while the first is present, so the place need not move
 abbrev limited : List Happening → Part
 limited happened = record (part_2 2 None []) {
-  dds = record { moment = 0; readers = record { qos = record (own_reader begun 1).qos { max_samples = Some 1 }; happened = happened; lost_seen = 0 } ∷ [] };
+  dds = record { moment = 0; readers = record { qos = record (own_reader begun 1).qos { max_samples = Some 1 }; happened = happened; seen = nothing_seen } ∷ [] };
 }
 
 abbrev full : Part

@@ -2,7 +2,7 @@
 -- a growth was refused.
 --
 -- DDS 1.4, 2.2.2.4 (register_instance, write, dispose, unregister_instance), 2.2.2.5 (the forms of read
--- and take, get_key_value, lookup_instance, get_sample_lost_status), 2.2.1.1 (return codes).
+-- and take, get_key_value, lookup_instance, get_sample_lost_status, get_liveliness_changed_status), 2.2.1.1 (return codes).
 use Rattle.std.specs.Prelude.{◌≡◌, ◌≢◌, ℕ, ◌^◌, ◌&&◌, ◌||◌, not, Bool, List, [], ◌∷◌, map, length, Option, Some, None, is_some, nat_le, nat_lt, if◌then◌else◌}
 use Rattle.dds_base.specs.declared.key.Key.{Key}
 use Rattle.dds_base.specs.declared.change.Change.{Change}
@@ -16,16 +16,17 @@ use Rattle.dds_base.specs.declared.happening.SamplePosition.{SamplePosition}
 use Rattle.dds_base.specs.declared.selection.Selection.{Selection}
 use Rattle.dds_base.specs.Access.{no_filter, collection_of, instance_of, handle_of}
 use Rattle.dds_base.specs.Kept.{append_refusal}
+use Rattle.dds_base.specs.Liveliness.{alive_count, not_alive_count, liveliness_changed_status}
 use Rattle.dds_base.specs.Refusal.{Refuses}
 use Rattle.dds_base.specs.Selection.{picked_by, selection_refusal}
 use Rattle.dds_base.specs.Statuses.{lost_count, sample_lost_status}
 use Rattle.dds_base.specs.Written.{Written, Registered, Changed, Ticked, is_key_registered}
 use Rattle.dds_model.specs.declared.call.Call.{Call}
-use Rattle.dds_model.specs.declared.call.Call.TheVariants.{Register, Write, Dispose, Unregister, Read, Take, GetKeyValue, LookupInstance, GetSampleLost}
+use Rattle.dds_model.specs.declared.call.Call.TheVariants.{Register, Write, Dispose, Unregister, Read, Take, GetKeyValue, LookupInstance, GetSampleLost, GetLivelinessChanged}
 use Rattle.dds_model.specs.declared.reply.Reply.{Reply}
-use Rattle.dds_model.specs.declared.reply.Reply.TheVariants.{Done, Samples, KeyValue, InstanceHandle, SampleLost, Refused}
+use Rattle.dds_model.specs.declared.reply.Reply.TheVariants.{Done, Samples, KeyValue, InstanceHandle, SampleLost, LivelinessChanged, Refused}
 use Rattle.dds_model.specs.Numbered.{numbered, with_numbered}
-use Rattle.dds_model.specs.Part.{Part, Rtps, Dds, Writer, no_writer, own_writer, own_reader, history_of, is_behind}
+use Rattle.dds_model.specs.Part.{Part, Rtps, Dds, Seen, Reader, Writer, no_writer, own_writer, own_reader, history_of, is_behind}
 
 -- there is an element of this number, counted from 1
 abbrev pub has_number : {X : Type 0} → List X → ℕ → Bool
@@ -89,10 +90,18 @@ key_refusal part reader instance = if not (has_number part.dds.readers reader) |
 abbrev pub look_refusal : Part → ℕ → Option Code
 look_refusal part reader = if not (has_number part.dds.readers reader) then Some BadParameter else None
 
--- a peer's reader, after its SAMPLE_LOST was looked at
-abbrev pub after_look : Part → ℕ → Dds
-after_look part reader =
-    record part.dds { readers = with_numbered part.dds.readers reader (record (own_reader part reader) { lost_seen = lost_count (own_reader part reader).happened }) }
+-- a peer's reader, of whose statuses this was seen
+abbrev pub after_look : Part → ℕ → Seen → Dds
+after_look part reader seen =
+    record part.dds { readers = with_numbered part.dds.readers reader (record (own_reader part reader) { seen = seen }) }
+
+-- what is seen of a reader's statuses once its SAMPLE_LOST was looked at
+abbrev pub seen_lost : Reader → Seen
+seen_lost r = record r.seen { lost = lost_count r.happened }
+
+-- what is seen of them once its LIVELINESS_CHANGED was looked at
+abbrev pub seen_liveliness : Reader → Seen
+seen_liveliness r = record r.seen { alive = alive_count r.qos r.happened; not_alive = not_alive_count r.qos r.happened }
 
 -- a peer's reader, after one more thing happened there
 abbrev pub with_happening : Part → ℕ → Happening → Dds
@@ -157,9 +166,18 @@ Answers tests old (LookupInstance reader key) (InstanceHandle handle) dds =
 Answers tests old (LookupInstance reader key) (Refused code) dds = (look_refusal old reader ≡ Some code) × (dds ≡ old.dds)
 Answers tests old (LookupInstance reader key) reply dds = ⊥
 Answers tests old (GetSampleLost reader) (SampleLost status) dds =
-    (look_refusal old reader ≡ None) × (status ≡ sample_lost_status (own_reader old reader).happened (own_reader old reader).lost_seen) × (dds ≡ after_look old reader)
+    (look_refusal old reader ≡ None)
+    × (status ≡ sample_lost_status (own_reader old reader).happened (own_reader old reader).seen.lost)
+    × (dds ≡ after_look old reader (seen_lost (own_reader old reader)))
 Answers tests old (GetSampleLost reader) (Refused code) dds = (look_refusal old reader ≡ Some code) × (dds ≡ old.dds)
 Answers tests old (GetSampleLost reader) reply dds = ⊥
+Answers tests old (GetLivelinessChanged reader) (LivelinessChanged status) dds =
+    (look_refusal old reader ≡ None)
+    × (status ≡ liveliness_changed_status (own_reader old reader).qos (own_reader old reader).happened
+    (own_reader old reader).seen.alive (own_reader old reader).seen.not_alive)
+    × (dds ≡ after_look old reader (seen_liveliness (own_reader old reader)))
+Answers tests old (GetLivelinessChanged reader) (Refused code) dds = (look_refusal old reader ≡ Some code) × (dds ≡ old.dds)
+Answers tests old (GetLivelinessChanged reader) reply dds = ⊥
 
 -- one call at a peer
 pub record CallStep (tests : Tests) (old : Part) (call : Call) (reply : Reply) (new : Part) : Type 0 where

@@ -46,12 +46,22 @@ pub record Rtps : Type 0 where
   pub writers : List Writer
   pub readers : List (List WriterProxy)
 
--- a reader as its own calls see it: its QoS, what happened there, the newest first, and the total of its SAMPLE_LOST when
--- that was looked at last, at first 0 (DDS 1.4, 2.2.4.1)
+-- what a reader's statuses said when each was looked at last: the total of SAMPLE_LOST, and how many matched writers were
+-- alive and not alive by LIVELINESS_CHANGED (DDS 1.4, 2.2.4.1)
+pub record Seen : Type 0 where
+  pub lost : ℕ
+  pub alive : ℕ
+  pub not_alive : ℕ
+
+-- before the first looks
+abbrev pub nothing_seen : Seen
+nothing_seen = record { lost = 0; alive = 0; not_alive = 0 }
+
+-- a reader as its own calls see it: its QoS, what happened there, the newest first, and what was seen of its statuses
 pub record Reader : Type 0 where
   pub qos : ReaderQos
   pub happened : List Happening
-  pub lost_seen : ℕ
+  pub seen : Seen
 
 -- a peer's moment and its readers
 pub record Dds : Type 0 where
@@ -66,7 +76,7 @@ abbrev pub no_writer : Writer
 no_writer = record { policy = KeepAll; max_samples = None; autodispose = false; written = []; readers = [] }
 
 abbrev pub no_reader : Reader
-no_reader = record { qos = record { ownership = Shared; history = KeepAll; max_samples = None; max_instances = None; writers = [] }; happened = []; lost_seen = 0 }
+no_reader = record { qos = record { ownership = Shared; history = KeepAll; max_samples = None; max_instances = None; writers = [] }; happened = []; seen = nothing_seen }
 
 abbrev pub no_part : Part
 no_part = record { rtps = record { writers = []; readers = [] }; dds = record { moment = 0; readers = [] } }

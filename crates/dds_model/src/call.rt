@@ -39,6 +39,9 @@ pub enum Call {
     /// Looks at how many changes a reader passed over, in all and since the last look (DDS 1.4, 2.2.2.5,
     /// get_sample_lost_status). It is never refused for want of memory.
     GetSampleLost { reader: u8 },
+    /// Looks at how many matched writers of a reader are alive, and how many are not alive, now and against the last look
+    /// (DDS 1.4, 2.2.2.5, get_liveliness_changed_status). It is never refused for want of memory.
+    GetLivelinessChanged { reader: u8 },
 }
 
 impl Clone for Call {
@@ -80,6 +83,9 @@ impl Clone for Call {
                 key: *key,
             },
             Call::GetSampleLost { reader } => Call::GetSampleLost { reader: *reader },
+            Call::GetLivelinessChanged { reader } => {
+                Call::GetLivelinessChanged { reader: *reader }
+            }
         })
     }
 }

@@ -3,7 +3,9 @@
 ghost use Rattle.std.specs.Prelude.{◌≡◌};
 
 use crate::endpoint::Endpoint;
-use dds_base::{Code, Handle, Key, PassedRun, Sample, SampleLostStatus, Sequence, Sn};
+use dds_base::{
+    Code, Handle, Key, LivelinessChangedStatus, PassedRun, Sample, SampleLostStatus, Sequence, Sn,
+};
 use std::alloc::AllocError;
 
 /// What a delivery moved.
@@ -46,6 +48,7 @@ pub enum Reply {
     KeyValue(Key),
     InstanceHandle(Handle),
     SampleLost(SampleLostStatus),
+    LivelinessChanged(LivelinessChangedStatus),
     Reported(Report),
     Refused(Code),
 }
@@ -101,6 +104,7 @@ impl Clone for Reply {
             Reply::KeyValue(key) => Reply::KeyValue(*key),
             Reply::InstanceHandle(handle) => Reply::InstanceHandle(*handle),
             Reply::SampleLost(status) => Reply::SampleLost(*status),
+            Reply::LivelinessChanged(status) => Reply::LivelinessChanged(*status),
             Reply::Reported(report) => Reply::Reported(report.clone()?),
             Reply::Refused(code) => Reply::Refused(*code),
         })

@@ -4,7 +4,7 @@ use Rattle.std.specs.Bool.{Decides}
 use Rattle.std.specs.Cmp.{booleans_Decides}
 use Rattle.std.specs.Cmp.Lexicographic.{pointwise}
 use Rattle.std.specs.Option.{option_eq}
-use Rattle.std.proofs.lemmas.Bool.Decides.{Decides-and, Decides-at, Decides-eqb, Decides-like}
+use Rattle.std.proofs.lemmas.Bool.Decides.{Decides-and, Decides-at, Decides-eqb, Decides-int_eq, Decides-like}
 use Rattle.std.proofs.lemmas.Slice.Eq.{slice_eq-Decides}
 use Rattle.dds_base.specs.declared.happening.PassedRun.{PassedRun}
 use Rattle.dds_base.specs.declared.sample.Sample.{Sample}
@@ -13,6 +13,7 @@ use Rattle.dds_base.specs.declared.sample.SampleState.{SampleState}
 use Rattle.dds_base.specs.declared.sample.ViewState.{ViewState}
 use Rattle.dds_base.specs.declared.sample.InstanceState.{InstanceState}
 use Rattle.dds_base.specs.declared.key.Key.{Key}
+use Rattle.dds_base.specs.declared.status.LivelinessChangedStatus.{LivelinessChangedStatus}
 use Rattle.dds_base.specs.contracts.happening.PassedRunPartialEq.TheImpl as of_runs
 use Rattle.dds_base.specs.contracts.key.KeyPartialEq.TheImpl as of_keys
 use Rattle.dds_base.specs.contracts.sample.SamplePartialEq.TheImpl as of_samples
@@ -20,6 +21,7 @@ use Rattle.dds_base.specs.contracts.sample.SampleInfoPartialEq.TheImpl as of_inf
 use Rattle.dds_base.specs.contracts.sample.SampleStatePartialEq.TheImpl as of_sample_states
 use Rattle.dds_base.specs.contracts.sample.ViewStatePartialEq.TheImpl as of_view_states
 use Rattle.dds_base.specs.contracts.sample.InstanceStatePartialEq.TheImpl as of_instance_states
+use Rattle.dds_base.specs.contracts.status.LivelinessChangedStatusPartialEq.TheImpl as of_statuses
 use Rattle.dds_model.specs.declared.endpoint.Endpoint.{Endpoint}
 use Rattle.dds_model.specs.declared.event.Output.{Output}
 use Rattle.dds_model.specs.declared.event.Packet.{Packet}
@@ -27,7 +29,7 @@ use Rattle.dds_model.specs.declared.reply.Move.{Move}
 use Rattle.dds_model.specs.declared.reply.Move.TheVariants.{Place, Heard, Acknowledged}
 use Rattle.dds_model.specs.declared.reply.Report.{Report}
 use Rattle.dds_model.specs.declared.reply.Reply.{Reply}
-use Rattle.dds_model.specs.declared.reply.Reply.TheVariants.{Done, Samples, KeyValue, InstanceHandle, SampleLost, Reported, Refused}
+use Rattle.dds_model.specs.declared.reply.Reply.TheVariants.{Done, Samples, KeyValue, InstanceHandle, SampleLost, LivelinessChanged, Reported, Refused}
 use Rattle.dds_model.specs.contracts.endpoint.EndpointPartialEq.TheImpl as of_endpoints
 use Rattle.dds_model.specs.contracts.event.OutputPartialEq.TheImpl as of_outputs
 use Rattle.dds_model.specs.contracts.event.PacketPartialEq.TheImpl as of_packets
@@ -99,12 +101,23 @@ reports a b =
 
 -- ---- outputs
 
+liveliness_statuses : (a b : LivelinessChangedStatus) → Decides (of_statuses.ghosts.eq a b) (a ≡ b)
+liveliness_statuses a b =
+    let all = Decides-and _ _ (Decides-int_eq a.alive_count b.alive_count) (Decides-and _ _ (Decides-int_eq a.not_alive_count b.not_alive_count)
+    (Decides-and _ _ (Decides-int_eq a.alive_count_change b.alive_count_change) (Decides-and _ _ (Decides-int_eq a.not_alive_count_change b.not_alive_count_change)
+    (Decides-eqb a.last_publication_handle b.last_publication_handle)))) in
+    Decides-like (of_statuses.ghosts.eq a b)
+    (λ h i. record { alive_count = h.0 i; not_alive_count = h.1.0 i; alive_count_change = h.1.1.0 i; not_alive_count_change = h.1.1.1.0 i; last_publication_handle = h.1.1.1.1 i })
+    (λ e. (cc, (cc, (cc, (cc, cc))))) all
+
 replies : (a b : Reply) → Decides (of_replies.ghosts.eq a b) (a ≡ b)
 replies (Samples xs) (Samples ys) = Decides-like (pointwise of_samples.ghosts.eq xs ys) (ap Samples) (λ e. cc) (lists of_samples.ghosts.eq samples xs ys)
 replies (Reported x) (Reported y) = Decides-like (of_reports.ghosts.eq x y) (ap Reported) (λ e. cc) (reports x y)
 replies (KeyValue x) (KeyValue y) = search rules
 replies (InstanceHandle x) (InstanceHandle y) = search rules
 replies (SampleLost x) (SampleLost y) = search rules
+replies (LivelinessChanged x) (LivelinessChanged y) =
+    Decides-like (of_statuses.ghosts.eq x y) (ap LivelinessChanged) (λ e. cc) (liveliness_statuses x y)
 replies (Refused x) (Refused y) = search rules
 replies Done Done = (λ _. refl, λ _. refl)
 replies _ _ = (λ e. cc, λ e. cc)

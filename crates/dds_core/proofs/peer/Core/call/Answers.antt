@@ -31,3 +31,7 @@ returns-in-LookupInstance-clause-step c = subst (λ (x : Call). Steps c.args.sel
 pub returns-in-GetSampleLost-clause-step : goal.returns-in-GetSampleLost-clause-step
 returns-in-GetSampleLost-clause-step c =
     subst (λ (x : Call). Steps c.args.self.now (event.Call x) c.get_sample_lost.result c.get_sample_lost.new.self) (sym c.in-GetSampleLost.is) c.get_sample_lost.ensures.step
+
+pub returns-in-GetLivelinessChanged-clause-step : goal.returns-in-GetLivelinessChanged-clause-step
+returns-in-GetLivelinessChanged-clause-step c =
+    subst (λ (x : Call). Steps c.args.self.now (event.Call x) c.get_liveliness_changed.result c.get_liveliness_changed.new.self) (sym c.in-GetLivelinessChanged.is) c.get_liveliness_changed.ensures.step

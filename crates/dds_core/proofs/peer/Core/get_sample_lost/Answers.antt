@@ -3,7 +3,7 @@ use Rattle.std.proofs.lemmas.Option.{slice_get-get_or}
 use Rattle.dds_core.specs.Kept.{ReaderKept, CoreKept}
 use Rattle.dds_core.specs.Standing.{StandsFor}
 use Rattle.dds_core.proofs.CallSteps.{follows_as}
-use Rattle.dds_core.proofs.Looked.{looked_at}
+use Rattle.dds_core.proofs.Looked.{looked_at_lost}
 use Rattle.dds_core.proofs.peer.Core.get_sample_lost.Goals as goal
 
 pub returns-clause-step : goal.returns-clause-step
@@ -13,4 +13,4 @@ returns-clause-step c = λ config peer given.
     let within : i < length c.self.inside.readers.items = search rules in
     let at : slice_get c.self.inside.readers.items i ≡ Some c.index_mut.result.now = slice_get-get_or c.self.inside.readers.items i _ within ∙ ap (λ (x : ReaderKept). Some x) (sym c.index_mut.ensures.value) in
     follows_as _ config peer _ _ _ c.answered.ensures
-    (looked_at _ c.args.reader i c.index_mut.result.now c.get_sample_lost-status.new.self c.get_sample_lost-status.result config peer s c.in-Some.ensures.0 within at c.get_sample_lost-status.ensures.status c.get_sample_lost-status.ensures.seen)
+    (looked_at_lost _ c.args.reader i c.index_mut.result.now c.get_sample_lost-status.new.self c.get_sample_lost-status.result config peer s c.in-Some.ensures.0 within at c.get_sample_lost-status.ensures.status c.get_sample_lost-status.ensures.seen)

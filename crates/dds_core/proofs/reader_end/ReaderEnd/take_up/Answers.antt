@@ -15,21 +15,21 @@ done-requires-in-Heartbeat c = c.on_heartbeat.ensures.succeeds (subst (λ (k : R
 
 pub returns-in-Change-clause-told : goal.returns-in-Change-clause-told
 returns-in-Change-clause-told c =
-    let new : ReaderKept = record { entity = c.self.inside.entity; writers = c.self.inside.writers.items; reader = c.on_data.new.self; store = c.on_data.new.sink; lost_seen = c.self.inside.lost_seen } in
+    let new : ReaderKept = record { entity = c.self.inside.entity; writers = c.self.inside.writers.items; reader = c.on_data.new.self; store = c.on_data.new.sink; seen = c.self.inside.seen } in
     subst (λ (k : ReaderKept). TakesTold k c.args.ready c.args.moment c.done.result new) c.self.view_is
-    (change_told (record { entity = c.self.inside.entity; writers = c.self.inside.writers.items; reader = c.self.inside.reader; store = c.self.inside.store; lost_seen = c.self.inside.lost_seen }) new c.args.ready c.args.moment c.on_data.result c.done.result
+    (change_told (record { entity = c.self.inside.entity; writers = c.self.inside.writers.items; reader = c.self.inside.reader; store = c.self.inside.store; seen = c.self.inside.seen }) new c.args.ready c.args.moment c.on_data.result c.done.result
     c.in-Change.number c.in-Change.change c.in-Change.is c.done.ensures c.on_data.ensures.moves c.on_data.ensures.others)
 
 pub returns-in-Gap-clause-told : goal.returns-in-Gap-clause-told
 returns-in-Gap-clause-told c =
-    let new : ReaderKept = record { entity = c.self.inside.entity; writers = c.self.inside.writers.items; reader = c.on_gap.new.self; store = c.on_gap.new.sink; lost_seen = c.self.inside.lost_seen } in
+    let new : ReaderKept = record { entity = c.self.inside.entity; writers = c.self.inside.writers.items; reader = c.on_gap.new.self; store = c.on_gap.new.sink; seen = c.self.inside.seen } in
     subst (λ (k : ReaderKept). TakesTold k c.args.ready c.args.moment c.done-in-Gap.result new) c.self.view_is
-    (gap_told (record { entity = c.self.inside.entity; writers = c.self.inside.writers.items; reader = c.self.inside.reader; store = c.self.inside.store; lost_seen = c.self.inside.lost_seen }) new c.args.ready c.args.moment c.on_gap.result c.done-in-Gap.result
+    (gap_told (record { entity = c.self.inside.entity; writers = c.self.inside.writers.items; reader = c.self.inside.reader; store = c.self.inside.store; seen = c.self.inside.seen }) new c.args.ready c.args.moment c.on_gap.result c.done-in-Gap.result
     c.in-Gap.start c.in-Gap.list c.in-Gap.is c.done-in-Gap.ensures c.on_gap.ensures.moves c.on_gap.ensures.others)
 
 pub returns-in-Heartbeat-clause-told : goal.returns-in-Heartbeat-clause-told
 returns-in-Heartbeat-clause-told c =
-    let new : ReaderKept = record { entity = c.self.inside.entity; writers = c.self.inside.writers.items; reader = c.on_heartbeat.new.self; store = c.on_heartbeat.new.sink; lost_seen = c.self.inside.lost_seen } in
+    let new : ReaderKept = record { entity = c.self.inside.entity; writers = c.self.inside.writers.items; reader = c.on_heartbeat.new.self; store = c.on_heartbeat.new.sink; seen = c.self.inside.seen } in
     subst (λ (k : ReaderKept). TakesTold k c.args.ready c.args.moment c.done-in-Heartbeat.result new) c.self.view_is
-    (heartbeat_told (record { entity = c.self.inside.entity; writers = c.self.inside.writers.items; reader = c.self.inside.reader; store = c.self.inside.store; lost_seen = c.self.inside.lost_seen }) new c.args.ready c.args.moment c.on_heartbeat.result
+    (heartbeat_told (record { entity = c.self.inside.entity; writers = c.self.inside.writers.items; reader = c.self.inside.reader; store = c.self.inside.store; seen = c.self.inside.seen }) new c.args.ready c.args.moment c.on_heartbeat.result
     c.done-in-Heartbeat.result c.in-Heartbeat.heartbeat c.in-Heartbeat.is c.done-in-Heartbeat.ensures c.on_heartbeat.ensures.accepted c.on_heartbeat.ensures.repeated c.on_heartbeat.ensures.others)

@@ -1,0 +1,14 @@
+use Rattle.std.proofs.Common.{◌≡◌, ◌∙◌, ap, subst, sym}
+use Rattle.dds_base.specs.declared.happening.Happening.TheVariants.{Came}
+use Rattle.dds_base.specs.Presence.{has_room}
+use Rattle.dds_cache.specs.Standing.{qos_of}
+use Rattle.dds_core.specs.Stored.{StoreKept, Holds}
+use Rattle.dds_core.proofs.store.StoreSink.room.Goals as goal
+
+-- the cache answers it
+pub returns : goal.returns
+returns c = record {
+  room = λ h given.
+      let s = subst (λ (k : StoreKept). Holds k h) (sym c.self.view_is) given in
+      c.has_room.ensures.room h s.cache ∙ ap (λ (k : StoreKept). has_room (qos_of k.cache) h (Came c.args.arrival.now)) c.self.view_is;
+}
