@@ -40,6 +40,7 @@ acknack-stands kept s reader base count held counts given history put =
       registered = given.registered;
       counts = put ∙ ap (λ (cs : List (Option ℤ)). set cs reader (Some count)) given.counts;
       counts_used = given.counts_used ∙ ap (λ (n : ℕ). min n (2 ^ 31 - 1)) (sym due);
+      liveliness = given.liveliness;
     }
 
 -- one that is applied, by what came of it

@@ -1,5 +1,5 @@
 -- The parts of what a writer keeps, and what they stand for.
-use Rattle.std.proofs.Common.{◌≡◌, Bool, not, List, sym, ap, ◌∙◌, subst}
+use Rattle.std.proofs.Common.{◌≡◌, Bool, not, List, ◌∷◌, sym, ap, ◌∙◌, subst}
 use Rattle.std.specs.Prelude.{if◌then◌else◌}
 use Rattle.dds_base.specs.declared.change.Change.{Change}
 use Rattle.dds_base.specs.declared.key.Key.{Key}
@@ -7,6 +7,8 @@ use Rattle.dds_base.specs.Happening.{same_key, is_unregister}
 use Rattle.dds_base.specs.Kept.{appended}
 use Rattle.dds_base.specs.Written.{Changed}
 use Rattle.dds_history.specs.Standing.{Held, StandsFor as HistoryStandsFor}
+use Rattle.rtps_writer.specs.declared.liveliness.Liveliness.{Liveliness}
+use Rattle.rtps_writer.specs.Liveliness.{IsLiveliness}
 use Rattle.rtps_writer.specs.Registered.{is_among}
 use Rattle.rtps_writer.specs.Standing.{Kept, StandsFor}
 use Rattle.rtps_writer.specs.WriterState.{WriterState, entering, history_of}
@@ -25,8 +27,10 @@ pub changes : (kept now : Kept) (s : WriterState) → kept ≡ now → StandsFor
     → ((k : Key) → is_among keys k
     ≡ (if same_key change.key k then not (is_unregister change.kind) else is_among before k))
     → HistoryStandsFor held (appended (history_of s) change)
-    → StandsFor (record kept { history = held; registered = keys }) (entering s (Changed change))
-changes kept now s same given before keys held change reserved noted more =
+    → (live : Liveliness)
+    → (IsLiveliness kept.liveliness s.lease s.written → IsLiveliness live s.lease (Changed change ∷ s.written))
+    → StandsFor (record kept { history = held; registered = keys; liveliness = live }) (entering s (Changed change))
+changes kept now s same given before keys held change reserved noted more live asserts =
     let here = stands_as now kept s (sym same) given in
     record {
       history = more;
@@ -37,4 +41,5 @@ changes kept now s same given before keys held change reserved noted more =
           (here.registered k));
       counts = here.counts;
       counts_used = here.counts_used;
+      liveliness = asserts here.liveliness;
     }

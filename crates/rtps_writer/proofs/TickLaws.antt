@@ -1,10 +1,13 @@
--- What a tick does to a writer, and the HEARTBEAT that it asks for.
-use Rattle.std.proofs.Common.{◌≡◌, ℕ, ◌+◌, ◌-◌, ◌^◌, ◌<◌, ◌≤◌, min, Bool, true, false, ◌&&◌, ◌⊎◌, inl, inr, cond, List, [], ◌∷◌, ◌++◌, length, Option, Some, None, ℤ, pos, refl, ap, ◌∙◌, arith, length-append}
-use Rattle.std.specs.Prelude.{if◌then◌else◌, nat_lt}
+-- What a tick or an assertion does to a writer, and the HEARTBEAT that it asks for.
+use Rattle.std.proofs.Common.{◌≡◌, ℕ, ◌+◌, ◌-◌, ◌^◌, ◌<◌, ◌≤◌, min, Bool, true, false, ◌&&◌, ◌⊎◌, inl, inr, cond, List, [], ◌∷◌, ◌++◌, length, Option, Some, None, ℤ, pos, refl, ap, sym, ◌∙◌, arith, length-append}
+use Rattle.std.specs.Prelude.{if◌then◌else◌, nat_le, nat_lt}
 use Rattle.std.proofs.lemmas.Bool.Decides.{nat_tests}
+use Rattle.dds_base.specs.declared.code.Code.TheVariants.{OutOfResources}
 use Rattle.dds_base.specs.Kept.{first_kept}
-use Rattle.dds_base.specs.Written.{counts_of}
+use Rattle.dds_base.specs.Written.{Ticked, counts_of}
 use Rattle.rtps_writer.specs.declared.heartbeat.HeartbeatDue.{HeartbeatDue}
+use Rattle.rtps_writer.specs.declared.liveliness.Liveliness.{Liveliness}
+use Rattle.rtps_writer.specs.Liveliness.{IsLiveliness, assert_refusal, asserted, heartbeat_asserted}
 use Rattle.rtps_writer.specs.Standing.{Kept, StandsFor}
 use Rattle.rtps_writer.specs.WriterState.{WriterState, counts_due, heartbeat_due, history_of, is_behind, last_of, ticked}
 
@@ -16,22 +19,27 @@ length_if false xs = omega arith
 counts-ticked : (s : WriterState) (now : ℕ) → counts_due (ticked s now) ≡ counts_due s + cond (is_behind s) 1 0
 counts-ticked s now = length_if (is_behind s) (counts_of (nat_lt 0 (length s.acknowledged)) s.written)
 
-stands-ticked : (kept : Kept) (s : WriterState) (now used : ℕ) → StandsFor kept s → used
-    ≡ min (counts_due (ticked s now)) (2 ^ 31 - 1)
-    → StandsFor (record kept { counts_used = used }) (ticked s now)
-stands-ticked kept s now used given is = record {
+-- what is kept of the liveliness has taken the tick up
+abbrev pub LivesOn : Liveliness → WriterState → ℕ → Type 0
+LivesOn live s now = IsLiveliness live s.lease (Ticked now (is_behind s) ∷ s.written)
+
+stands-ticked : (kept : Kept) (live : Liveliness) (s : WriterState) (now used : ℕ) → StandsFor kept s
+    → LivesOn live s now → used ≡ min (counts_due (ticked s now)) (2 ^ 31 - 1)
+    → StandsFor (record kept { counts_used = used; liveliness = live }) (ticked s now)
+stands-ticked kept live s now used given lives is = record {
   history = given.history;
   registered = given.registered;
   counts = given.counts;
   counts_used = is;
+  liveliness = lives;
 }
 
 none_due : (b c : Bool) (h : HeartbeatDue) → (b && c) ≡ false → (if b && c then Some h else None) ≡ None
 none_due b c h is = ap (λ (v : Bool). if v then Some h else None) is
 
 -- a tick at which nothing is due
-abbrev pub Idle : Kept → WriterState → ℕ → Type 0
-Idle kept s now = StandsFor kept (ticked s now) × (heartbeat_due s now ≡ None)
+abbrev pub Idle : Kept → Liveliness → WriterState → ℕ → Type 0
+Idle kept live s now = StandsFor (record kept { liveliness = live }) (ticked s now) × (heartbeat_due s now ≡ None)
 
 none_left : (b : Bool) (more due : ℕ) → more ≡ due + cond b 1 0 → 2 ^ 31 - 1 ≤ due → (b && nat_lt more (2 ^ 31)) ≡ false
 none_left true more due is most = grind (arith, nat_tests, is, most)
@@ -43,12 +51,12 @@ still_used true more due is most = omega arith
 still_used false more due is most = omega arith
 
 -- where nobody is behind, or the counts are used up, nothing is due
-pub idle : (kept : Kept) (s : WriterState) (now : ℕ) → StandsFor kept s
-    → (is_behind s ≡ false) ⊎ (2 ^ 31 - 1 ≤ kept.counts_used) → Idle kept s now
-idle kept s now given (inl nobody) =
+pub idle : (kept : Kept) (live : Liveliness) (s : WriterState) (now : ℕ) → StandsFor kept s → LivesOn live s now
+    → (is_behind s ≡ false) ⊎ (2 ^ 31 - 1 ≤ kept.counts_used) → Idle kept live s now
+idle kept live s now given lives (inl nobody) =
     let more = counts-ticked s now ∙ ap (λ (b : Bool). counts_due s + cond b 1 0) nobody in
     let used = given.counts_used in (
-      stands-ticked kept s now kept.counts_used given (omega (arith, more, used)),
+      stands-ticked kept live s now kept.counts_used given lives (omega (arith, more, used)),
       ap (λ (b : Bool). if b && nat_lt (counts_due (ticked s now)) (2 ^ 31)
           then Some (record {
             first = first_kept (history_of s);
@@ -56,11 +64,11 @@ idle kept s now given (inl nobody) =
             count = pos (counts_due (ticked s now));
           }) else None) nobody,
     )
-idle kept s now given (inr out) =
+idle kept live s now given lives (inr out) =
     let more = counts-ticked s now in
     let used = given.counts_used in
     let most : 2 ^ 31 - 1 ≤ counts_due s = omega (arith, used, out) in (
-      stands-ticked kept s now kept.counts_used given
+      stands-ticked kept live s now kept.counts_used given lives
           (used ∙ still_used (is_behind s) (counts_due (ticked s now)) (counts_due s) more most),
       none_due (is_behind s) (nat_lt (counts_due (ticked s now)) (2 ^ 31)) _
           (none_left (is_behind s) (counts_due (ticked s now)) (counts_due s) more most),
@@ -74,12 +82,12 @@ counts-used kept s now given behind few =
     omega (arith, more, used, few)
 
 -- where some reader is behind and a count is left, the tick takes it
-pub stands-due : (kept : Kept) (s : WriterState) (now : ℕ) → StandsFor kept s → is_behind s ≡ true
-    → kept.counts_used < 2 ^ 31 - 1
-    → StandsFor (record kept { counts_used = kept.counts_used + 1 }) (ticked s now)
-stands-due kept s now given behind few =
+pub stands-due : (kept : Kept) (live : Liveliness) (s : WriterState) (now : ℕ) → StandsFor kept s
+    → LivesOn live s now → is_behind s ≡ true → kept.counts_used < 2 ^ 31 - 1
+    → StandsFor (record kept { counts_used = kept.counts_used + 1; liveliness = live }) (ticked s now)
+stands-due kept live s now given lives behind few =
     let count = counts-used kept s now given behind few in
-    stands-ticked kept s now (kept.counts_used + 1) given (omega (arith, count, few))
+    stands-ticked kept live s now (kept.counts_used + 1) given lives (omega (arith, count, few))
 
 pub due_as : (f l : ℕ) (g m : ℕ) (c d : ℤ) → f ≡ g → l ≡ m → c ≡ d
     → ◌≡◌ {A = Option HeartbeatDue} (Some (record { first = f; last = l; count = c }))
@@ -100,3 +108,30 @@ due kept s now given behind few =
     then Some (heartbeat (counts_due (ticked s now))) else None) behind
     ∙ (ap (λ (b : Bool). if b then Some (heartbeat (counts_due (ticked s now))) else None) left
     ∙ ap (λ (n : ℕ). Some (heartbeat n)) count)
+
+counts-asserted : (s : WriterState) (now : ℕ) → nat_lt 0 (length s.acknowledged) ≡ true
+    → counts_due (asserted s now) ≡ counts_due s + 1
+counts-asserted s now matched =
+    one_more (nat_lt 0 (length s.acknowledged)) (counts_of (nat_lt 0 (length s.acknowledged)) s.written) matched
+  where
+    one_more : (b : Bool) (xs : List Bool) → b ≡ true → length (if b then xs ++ true ∷ [] else xs) ≡ length xs + 1
+    one_more true xs is = let n = length-append xs (true ∷ []) in omega (arith, n)
+    one_more false xs is = absurd (cc)
+
+-- where a reader is matched and a count is left, an assertion is not refused, and its HEARTBEAT is due
+pub due-asserted : (kept : Kept) (s : WriterState) (now : ℕ) (heartbeat : HeartbeatDue) → StandsFor kept s
+    → nat_lt 0 (length s.acknowledged) ≡ true → kept.counts_used < 2 ^ 31 - 1
+    → heartbeat ≡ record { first = first_kept (history_of s); last = last_of s; count = pos (kept.counts_used + 1) }
+    → (assert_refusal s ≡ None) × (Some heartbeat ≡ heartbeat_asserted s now)
+due-asserted kept s now heartbeat given matched few is =
+    let used = given.counts_used in
+    let left : nat_le (2 ^ 31 - 1) (counts_due s) ≡ false = grind (arith, nat_tests, used, few) in
+    let more = counts-asserted s now matched in
+    let count : kept.counts_used + 1 ≡ counts_due (asserted s now) = omega (arith, used, few, more) in
+    let due : ℕ → HeartbeatDue =
+    λ n. record { first = first_kept (history_of s); last = last_of s; count = pos n } in (
+      ap (λ (b : Bool). if b then Some OutOfResources else None) left,
+      ap (λ (h : HeartbeatDue). Some h) is
+          ∙ (ap (λ (n : ℕ). Some (due n)) count
+          ∙ ap (λ (b : Bool). if b then Some (due (counts_due (asserted s now))) else None) (sym matched)),
+    )

@@ -3,6 +3,8 @@ use Rattle.std.specs.Prelude.{◌≡◌, ℕ, ◌-◌, ◌^◌, List, length, mi
 use Rattle.dds_base.specs.declared.key.Key.{Key}
 use Rattle.dds_base.specs.Written.{is_key_registered}
 use Rattle.dds_history.specs.Standing.{Held, StandsFor as HistoryStandsFor}
+use Rattle.rtps_writer.specs.declared.liveliness.Liveliness.{Liveliness}
+use Rattle.rtps_writer.specs.Liveliness.{IsLiveliness}
 use Rattle.rtps_writer.specs.Registered.{is_among}
 use Rattle.rtps_writer.specs.WriterState.{WriterState, counts_due, history_of}
 
@@ -12,6 +14,7 @@ pub record Kept : Type 0 where
   pub registered : List Key
   pub counts : List (Option ℤ)
   pub counts_used : ℕ
+  pub liveliness : Liveliness
 
 -- how many matched reliable readers there are
 abbrev pub reader_count : Kept → ℕ
@@ -23,3 +26,4 @@ pub record StandsFor (kept : Kept) (s : WriterState) : Type 0 where
   pub registered : (key : Key) → is_among kept.registered key ≡ is_key_registered key s.written
   pub counts : kept.counts ≡ s.counts
   pub counts_used : kept.counts_used ≡ min (counts_due s) (2 ^ 31 - 1)
+  pub liveliness : IsLiveliness kept.liveliness s.lease s.written

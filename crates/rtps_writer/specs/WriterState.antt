@@ -6,21 +6,23 @@ use Rattle.dds_base.specs.Kept.{WriterHistory, first_kept, is_awaited}
 use Rattle.dds_base.specs.Written.{Written, Ticked, changes_of, counts_of}
 use Rattle.rtps_writer.specs.declared.heartbeat.HeartbeatDue.{HeartbeatDue}
 
--- a writer: its policy and limit, what happened there, the newest first, and of each matched reliable reader the number
--- below which it has acknowledged all, and the count of the last ACKNACK that was applied
+-- a writer: its policy, limit and lease, what happened there, the newest first, and of each matched reliable reader the
+-- number below which it has acknowledged all, and the count of the last ACKNACK that was applied
 pub record WriterState : Type 0 where
   pub policy : HistoryQos
   pub max_samples : Option ℕ
+  pub lease : Option ℕ
   pub written : List Written
   pub acknowledged : List ℕ
   pub counts : List (Option ℤ)
 
--- a writer of so many readers, at which nothing has happened
-abbrev pub opening : HistoryQos → Option ℕ → ℕ → WriterState
-opening policy max_samples readers =
+-- a writer of this policy, limit and lease, and of so many readers, at which nothing has happened
+abbrev pub opening : HistoryQos → Option ℕ → Option ℕ → ℕ → WriterState
+opening policy max_samples lease readers =
     record {
       policy = policy;
       max_samples = max_samples;
+      lease = lease;
       written = [];
       acknowledged = replicate readers 1;
       counts = replicate readers None;

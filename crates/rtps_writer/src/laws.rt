@@ -32,8 +32,8 @@ pub fn answers_are_right()
 /// RTPS 2.5, 8.4.9 (ReaderProxy, acked_changes_set).
 pub fn acknowledgements_count_from_1()
     // At the opening each is 1.
-    ensures opening { (policy : HistoryQos) (max_samples : Option ℕ) (readers : ℕ)
-        → All (λ n. 0 < n) (opening policy max_samples readers).acknowledged }
+    ensures opening { (policy : HistoryQos) (max_samples lease : Option ℕ) (readers : ℕ)
+        → All (λ n. 0 < n) (opening policy max_samples lease readers).acknowledged }
     // No ACKNACK takes one below 1.
     ensures acknack { (s : WriterState) (reader base : ℕ) (count : ℤ) → All (λ n. 0 < n) s.acknowledged
         → All (λ n. 0 < n) (after_acknack s reader base count).acknowledged }

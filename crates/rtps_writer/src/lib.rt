@@ -7,6 +7,7 @@
 mod answer;
 mod heartbeat;
 mod laws;
+mod liveliness;
 mod registration;
 mod stateful_writer;
 

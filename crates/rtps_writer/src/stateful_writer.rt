@@ -1,20 +1,23 @@
 //! A writer with its matched reliable readers.
 
-ghost use Rattle.std.specs.Prelude.{◌≡◌, ◌≤◌, ◌<◌, ◌+◌, ◌^◌, [], length, vec_capacity, None, IfOk, IfErr, OnOk, OnErr};
+ghost use Rattle.std.specs.Prelude.{◌≡◌, ◌≤◌, ◌<◌, ◌+◌, ◌-◌, ◌^◌, pos, [], length, vec_capacity, None, Some, IfOk, IfErr, OnOk, OnErr};
 ghost use Rattle.std.specs.Option.{option_copied};
 ghost use Rattle.dds_base.specs.declared.code.Code.TheVariants.{Memory};
-ghost use Rattle.dds_base.specs.Kept.{append_refusal, first_kept, kept_change};
+ghost use Rattle.dds_base.specs.Kept.{WriterHistory, append_refusal, first_kept, kept_change};
 ghost use Rattle.dds_base.specs.Refusal.{Refuses};
-ghost use Rattle.dds_base.specs.Written.{Registered, Changed, is_key_registered};
+ghost use Rattle.dds_base.specs.Written.{Registered, Changed, LookedAt, is_key_registered, liveliness_lost_status};
+ghost use Rattle.dds_history.specs.Standing.{StandsFor as HistoryStandsFor};
 ghost use Rattle.rtps_sets.specs.NumberSet.{span};
 ghost use Rattle.rtps_writer.specs.Acknack.{acknack_answers, after_acknack, answers_after, applied, if_later, is_applied, is_new_count, newly_acknowledged};
+ghost use Rattle.rtps_writer.specs.Liveliness.{assert_refusal, asserted, heartbeat_asserted};
 ghost use Rattle.rtps_writer.specs.Standing.{StandsFor, reader_count};
 ghost use Rattle.rtps_writer.specs.WriterState.{WriterState, acknowledged_by, entering, heartbeat_due, history_of, is_reader_behind, last_of, opening, ticked};
 
 use crate::answer::{Answer, Answered, put_answers};
 use crate::heartbeat::HeartbeatDue;
+use crate::liveliness::Liveliness;
 use crate::registration::{is_registered, note, register, reserve};
-use dds_base::{Change, Code, HistoryQos, Key, Moment, Sn};
+use dds_base::{Change, Code, HistoryQos, Key, LivelinessLostStatus, Moment, Sn};
 use dds_history::History;
 use rtps_sets::SnSet;
 use std::alloc::Global;
@@ -57,6 +60,7 @@ pub struct StatefulWriter {
     counts: Vec<Option<i32>>,
     /// How many HEARTBEAT counts were used.
     counts_used: u32,
+    liveliness: Liveliness,
 }
 
 impl Model for StatefulWriter {
@@ -71,14 +75,16 @@ impl Model for StatefulWriter {
       registered = w.registered.items;
       counts = w.counts.items;
       counts_used = w.counts_used;
+      liveliness = w.liveliness;
     } };
 
     ghost invariant = { λ w. length w.counts.items ≡ history_readers w.history };
 }
 
 impl StatefulWriter {
-    /// A writer at which nothing has happened. `max_samples` is how many numbers it may keep, `None` any; `readers` is
-    /// how many matched reliable readers it has, which have acknowledged nothing.
+    /// A writer at which nothing has happened. `max_samples` is how many numbers it may keep, `None` any; `lease` is in
+    /// units of 2^-32 second, `None` never ends (DDS 1.4, 2.2.3, LIVELINESS); `readers` is how many matched reliable
+    /// readers it has, which have acknowledged nothing.
     ///
     /// # Errors
     ///
@@ -87,10 +93,11 @@ impl StatefulWriter {
         alloc: Global,
         policy: HistoryQos,
         max_samples: Option<u32>,
+        lease: Option<u64>,
         readers: usize,
     ) -> Result<StatefulWriter, Code>
         // It stands for a writer at which nothing has happened.
-        ensures ok { IfOk result (λ writer. StandsFor writer (opening policy max_samples readers)) }
+        ensures ok { IfOk result (λ writer. StandsFor writer (opening policy max_samples lease readers)) }
         // It has this many readers.
         ensures readers { IfOk result (λ writer. reader_count writer ≡ readers) }
         // The only refusal is for want of memory.
@@ -104,6 +111,7 @@ impl StatefulWriter {
             registered: Vec::new(alloc),
             counts,
             counts_used: 0,
+            liveliness: Liveliness::new(lease),
         })
     }
 
@@ -149,7 +157,7 @@ impl StatefulWriter {
     }
 
     /// Makes a change, and gives its number, counted from 1. A write or a dispose registers its instance, the others
-    /// end its registration.
+    /// end its registration. The change asserts the writer's liveliness, at its source timestamp.
     ///
     /// # Errors
     ///
@@ -177,13 +185,14 @@ impl StatefulWriter {
         if let Some(code) = self.history.refusal(&change) {
             return Err(code);
         }
-        let (key, kind) = (change.key, change.kind);
+        let (key, kind, moment) = (change.key, change.kind, change.source_timestamp);
         if reserve(&mut self.registered, kind).is_err() {
             return Err(Code::Memory);
         }
         match self.history.append(change) {
             Ok(number) => {
                 note(&mut self.registered, key, kind);
+                self.liveliness.assert_at(moment);
                 Ok(number)
             }
             Err(code) => Err(code),
@@ -243,8 +252,73 @@ impl StatefulWriter {
         self.history.acknowledged(reader).number() <= self.history.last().number()
     }
 
+    /// The HEARTBEAT of the next count. One is left.
+    fn next_heartbeat(&mut self) -> HeartbeatDue
+        requires { self.old.counts_used < 2 ^ 31 - 1 }
+        ensures used { self.new ≡ record self.old { counts_used = self.old.counts_used + 1 } }
+        ensures due { (w : WriterHistory) → HistoryStandsFor self.old.history w → result ≡ record {
+          first = first_kept w;
+          last = length w.changes;
+          count = pos (self.old.counts_used + 1);
+        } }
+    {
+        self.counts_used += 1;
+        HeartbeatDue {
+            first: self.history.first(),
+            last: self.history.last(),
+            count: self.counts_used as i32,
+        }
+    }
+
+    /// Asserts the writer's liveliness at this moment, and gives the HEARTBEAT that tells the readers of it, with the next
+    /// count; `None` where no reader is matched.
+    ///
+    /// # Errors
+    ///
+    /// `OutOfResources` where 2^31 - 1 counts were used; the writer is then as it was.
+    ///
+    /// DDS 1.4, 2.2.2.4 (assert_liveliness); RTPS 2.5, 8.3.8 (Heartbeat: LivelinessFlag).
+    pub fn assert(&mut self, now: Moment) -> Result<Option<HeartbeatDue>, Code>
+        // The assertion is entered.
+        ensures ok { (s : WriterState) → StandsFor self.old s → OnOk result (StandsFor self.new (asserted s now)) }
+        // There was a count left, and a HEARTBEAT with it is due exactly where a reader is matched.
+        ensures accepted { (s : WriterState) → StandsFor self.old s
+            → IfOk result (λ due. (assert_refusal s ≡ None) × (due ≡ heartbeat_asserted s now)) }
+        // It is refused where no count was left.
+        ensures refused { (s : WriterState) → StandsFor self.old s → IfErr result (λ code. assert_refusal s ≡ Some code) }
+        // The readers stay the same ones.
+        ensures readers { reader_count self.new ≡ reader_count self.old }
+        // A refusal leaves the writer as it was.
+        ensures err { OnErr result (self.new ≡ self.old) }
+    {
+        if MAX_COUNT <= self.counts_used {
+            return Err(Code::OutOfResources);
+        }
+        self.liveliness.assert_at(now);
+        if self.history.readers() == 0 {
+            return Ok(None);
+        }
+        Ok(Some(self.next_heartbeat()))
+    }
+
+    /// What LIVELINESS_LOST says of the writer; it is looked at by this, so the next change is told against it.
+    ///
+    /// DDS 1.4, 2.2.4.1 (LIVELINESS_LOST, LivelinessLostStatus).
+    pub fn liveliness_lost(&mut self) -> LivelinessLostStatus
+        // It is the status of the definitions.
+        ensures status { (s : WriterState) → StandsFor self.old s → result ≡ liveliness_lost_status s.lease s.written }
+        // The look is entered.
+        ensures stands { (s : WriterState) → StandsFor self.old s → StandsFor self.new (entering s LookedAt) }
+        // The readers stay the same ones.
+        ensures readers { reader_count self.new ≡ reader_count self.old }
+    {
+        self.liveliness.look()
+    }
+
     /// The time of its peer has gone on: the HEARTBEAT that this asks for, if some reader has not acknowledged all
-    /// changes. Each HEARTBEAT of the writer has the next count from 1 on; after 2^31 - 1 there are no more.
+    /// changes. Where its lease is over, the writer's liveliness is lost (DDS 1.4, 2.2.3, LIVELINESS).
+    ///
+    /// Each HEARTBEAT of the writer has the next count from 1 on; after 2^31 - 1 there are no more.
     ///
     /// RTPS 2.5, 8.4.9 (reliable StatefulWriter: heartbeatPeriod).
     pub fn tick(&mut self, now: Moment) -> Option<HeartbeatDue>
@@ -255,16 +329,12 @@ impl StatefulWriter {
         // The readers stay the same ones.
         ensures readers { reader_count self.new ≡ reader_count self.old }
     {
+        self.liveliness.tick(now);
         let last = self.history.last();
         if !self.history.is_awaited(last) || MAX_COUNT <= self.counts_used {
             return None;
         }
-        self.counts_used += 1;
-        Some(HeartbeatDue {
-            first: self.history.first(),
-            last,
-            count: self.counts_used as i32,
-        })
+        Some(self.next_heartbeat())
     }
 
     /// Whether an ACKNACK of this reader is applied.

@@ -1,4 +1,4 @@
-use Rattle.std.proofs.Common.{◌≡◌, ℕ, ℤ, Some, set, ap, sym, ◌∙◌, w32}
+use Rattle.std.proofs.Common.{ℕ, ℤ, Some, set, ap, sym, ◌∙◌, w32}
 use Rattle.std.proofs.lemmas.Int.{to_z-of_z}
 use Rattle.dds_base.specs.Kept.{acknowledge, is_kept}
 use Rattle.rtps_writer.specs.Acknack.{if_later}

@@ -1,4 +1,4 @@
-use Rattle.std.proofs.Common.{ℤ, true, false, ap, sym, ◌∙◌, subst, w32}
+use Rattle.std.proofs.Common.{ℤ, ap, sym, ◌∙◌, subst, w32}
 use Rattle.std.proofs.lemmas.Int.{to_z-of_z}
 use Rattle.rtps_writer.specs.Acknack.{acknack_answers, after_acknack, is_applied, newly_acknowledged}
 use Rattle.rtps_writer.specs.Standing.{StandsFor}
