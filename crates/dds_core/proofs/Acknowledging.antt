@@ -130,8 +130,8 @@ still_begun rows e to low h =
 -- ---- the state
 
 state_as : (w : Writer) (a b : List ℕ) (c d : List (Option ℤ)) → a ≡ b → c ≡ d
-    → ◌≡◌ {A = WriterState} (record { policy = w.policy; max_samples = w.max_samples; written = w.written; acknowledged = a; counts = c })
-    (record { policy = w.policy; max_samples = w.max_samples; written = w.written; acknowledged = b; counts = d })
+    → ◌≡◌ {A = WriterState} (record { policy = w.policy; max_samples = w.max_samples; lease = w.lease; written = w.written; acknowledged = a; counts = c })
+    (record { policy = w.policy; max_samples = w.max_samples; lease = w.lease; written = w.written; acknowledged = b; counts = d })
 state_as w a b c d e f = cc
 
 -- what the writer knows of a reader of which this ACKNACK is taken

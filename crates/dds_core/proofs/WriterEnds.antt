@@ -41,8 +41,8 @@ both_parts a b h = (and_left a b h, and_right a b h)
 -- a writer at its opening
 
 state_as : (w : WriterConfig) (a b : List ℕ) (c d : List (Option ℤ)) → a ≡ b → c ≡ d
-    → ◌≡◌ {A = WriterState} (record { policy = w.history; max_samples = limit_of w.max_samples; written = []; acknowledged = a; counts = c })
-    (record { policy = w.history; max_samples = limit_of w.max_samples; written = []; acknowledged = b; counts = d })
+    → ◌≡◌ {A = WriterState} (record { policy = w.history; max_samples = limit_of w.max_samples; lease = w.lease; written = []; acknowledged = a; counts = c })
+    (record { policy = w.history; max_samples = limit_of w.max_samples; lease = w.lease; written = []; acknowledged = b; counts = d })
 state_as w a b c d e f = cc
 
 identity_as : (entity : EntityId) (autodispose : Bool) (a b : List Destination) (c d : List ReaderName) → a ≡ b → c ≡ d
@@ -63,7 +63,7 @@ rows_begun (p ∷ ps) (suc count) same = (first p.acknowledged (map (λ (q : Rea
 
 pub opens_writer : (peers : List PeerConfig) (w : WriterConfig) (ds : List Destination) (names : List ReaderName) (limit : Option ℕ) (kept : Kept) (count : ℕ) → count ≡ length names
     → ds ≡ destinations w.topic 1 peers → names ≡ reader_names w.topic peers → limit ≡ limit_of w.max_samples
-    → RtpsStandsFor kept (opening w.history limit count)
+    → RtpsStandsFor kept (opening w.history limit w.lease count)
     → OpensWriter peers w (record { entity = w.entity; autodispose = w.autodispose; destinations = ds; readers = names; writer = kept })
 opens_writer peers w ds names limit kept count counted sent matched limited stands =
     let rows : List ReaderProxy = matched_readers w.topic 1 peers in
@@ -80,7 +80,7 @@ opens_writer peers w ds names limit kept count counted sent matched limited stan
         readers = map-matched_readers (λ (p : ReaderProxy). p.reader) _ w.topic 1 peers
             ∙ sym (ap (λ (ns : List ReaderName). map (λ (n : ReaderName). n.reader) ns) matched ∙ map-matched_readers (λ (n : ReaderName). n.reader) reader_name w.topic 1 peers);
         writer = subst (λ (s : WriterState). RtpsStandsFor kept s) (state_as w (replicate count 1) _ (replicate count none) _ (sym acknowledged) (sym counts))
-            (subst (λ (o : Option ℕ). RtpsStandsFor kept (opening w.history o count)) limited stands);
+            (subst (λ (o : Option ℕ). RtpsStandsFor kept (opening w.history o w.lease count)) limited stands);
         begun = All-from_recursion (λ (p : ReaderProxy). 1 ≤ p.acknowledged) rows (rows_begun rows count acknowledged);
       };
     }

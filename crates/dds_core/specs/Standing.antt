@@ -35,6 +35,7 @@ abbrev pub state_of : Writer → (Endpoint → Option ℤ) → WriterState
 state_of w answered = record {
   policy = w.policy;
   max_samples = w.max_samples;
+  lease = w.lease;
   written = w.written;
   acknowledged = map (λ (p : ReaderProxy). p.acknowledged) w.readers;
   counts = map (λ (p : ReaderProxy). answered p.reader) w.readers;

@@ -78,7 +78,8 @@ impl WriterEnd {
         let destinations = destinations(alloc, peers, config.topic)?;
         let readers = matched_readers(alloc, peers, config.topic)?;
         let limit = limit_of(config.max_samples);
-        let Ok(writer) = StatefulWriter::open(alloc, config.history, limit, readers.len()) else {
+        let (history, lease) = (config.history, config.lease);
+        let Ok(writer) = StatefulWriter::open(alloc, history, limit, lease, readers.len()) else {
             return Err(AllocError);
         };
         Ok(WriterEnd {

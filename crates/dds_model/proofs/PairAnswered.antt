@@ -115,7 +115,7 @@ pub all_answered : (w : Writer) (r : Endpoint) (from : ℕ) (set : NumberSet) �
     → list_any (is_answer_to n) (answers_to (is_kept (history_of w)) (requested set from (length (writer_changes w)))) ≡ true
 all_answered w r from set is places n has low high =
     let row = row_index w.readers r from is in
-    let state : WriterState = record { policy = w.policy; max_samples = w.max_samples; written = w.written; acknowledged = map (λ (p : ReaderProxy). p.acknowledged) w.readers; counts = [] } in
+    let state : WriterState = record { policy = w.policy; max_samples = w.max_samples; lease = w.lease; written = w.written; acknowledged = map (λ (p : ReaderProxy). p.acknowledged) w.readers; counts = [] } in
     let complete = answers_after-complete state row.0 set n (omega (arith, places)) in
     subst (λ (f : ℕ). list_any (is_answer_to n) (answers_to (is_kept (history_of w)) (requested set f (length (writer_changes w)))) ≡ is_requested set f (length (writer_changes w)) n) row.2 complete
     ∙ requested_true set from (length (writer_changes w)) n has low high

@@ -36,7 +36,7 @@ pair history = record { peers = peer_1 history ∷ peer_2 ∷ [] }
 -- w1, with its limit, what happened there and what r1 has acknowledged
 abbrev pub writing : HistoryQos → Option ℕ → List Written → ℕ → Writer
 writing policy max_samples happened acknowledged =
-    record { policy = policy; max_samples = max_samples; autodispose = true; written = happened; readers = record { reader = r1; acknowledged = acknowledged } ∷ [] }
+    record { policy = policy; max_samples = max_samples; lease = None; autodispose = true; written = happened; readers = record { reader = r1; acknowledged = acknowledged } ∷ [] }
 
 abbrev pub part_1 : Writer → Part
 part_1 w = record { rtps = record { writers = w ∷ []; readers = [] }; dds = record { moment = 0; readers = [] } }

@@ -40,7 +40,7 @@ abbrev pub reader_qos : List PeerConfig → ReaderConfig → ReaderQos
 reader_qos peers r = record { ownership = r.ownership; history = r.history; max_samples = limit_of r.max_samples; max_instances = limit_of r.max_instances; writers = writer_qos r.topic peers }
 
 abbrev pub opening_writer : List PeerConfig → WriterConfig → Writer
-opening_writer peers w = record { policy = w.history; max_samples = limit_of w.max_samples; autodispose = w.autodispose; written = []; readers = matched_readers w.topic 1 peers }
+opening_writer peers w = record { policy = w.history; max_samples = limit_of w.max_samples; lease = w.lease; autodispose = w.autodispose; written = []; readers = matched_readers w.topic 1 peers }
 
 abbrev pub opening_part : List PeerConfig → PeerConfig → Part
 opening_part peers p = record {

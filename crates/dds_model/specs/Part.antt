@@ -32,11 +32,12 @@ pub record WriterProxy : Type 0 where
   pub place : ℕ
   pub heard : Option ℤ
 
--- a writer: its policy and limit, whether an unregister disposes too, what happened there, the newest first, and its
--- matched reliable readers
+-- a writer: its policy, limit and lease, whether an unregister disposes too, what happened there, the newest first, and
+-- its matched reliable readers
 pub record Writer : Type 0 where
   pub policy : HistoryQos
   pub max_samples : Option ℕ
+  pub lease : Option ℕ
   pub autodispose : Bool
   pub written : List Written
   pub readers : List ReaderProxy
@@ -73,7 +74,7 @@ pub record Part : Type 0 where
   pub dds : Dds
 
 abbrev pub no_writer : Writer
-no_writer = record { policy = KeepAll; max_samples = None; autodispose = false; written = []; readers = [] }
+no_writer = record { policy = KeepAll; max_samples = None; lease = None; autodispose = false; written = []; readers = [] }
 
 abbrev pub no_reader : Reader
 no_reader = record { qos = record { ownership = Shared; history = KeepAll; max_samples = None; max_instances = None; writers = [] }; happened = []; seen = nothing_seen }

@@ -66,7 +66,7 @@ fn open(alloc: Global, words: Words<'_>) -> Result<StatefulWriter, Code> {
         Ok(depth) => HistoryQos::KeepLast(depth),
         Err(_) => HistoryQos::KeepAll,
     };
-    StatefulWriter::open(alloc, policy, words.second.parse().ok(), 2)
+    StatefulWriter::open(alloc, policy, words.second.parse().ok(), None, 2)
 }
 
 fn key_of(word: &str) -> Key {
