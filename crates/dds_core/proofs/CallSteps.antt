@@ -9,17 +9,18 @@ use Rattle.dds_base.specs.declared.code.Code.{Code}
 use Rattle.dds_base.specs.declared.code.Code.TheVariants.{BadParameter, PreconditionNotMet, Memory}
 use Rattle.dds_base.specs.declared.config.Config.{Config}
 use Rattle.dds_base.specs.declared.key.Key.{Key}
+use Rattle.dds_base.specs.declared.status.LivelinessLostStatus.{LivelinessLostStatus}
 use Rattle.dds_base.specs.Refusal.{Refuses}
-use Rattle.dds_base.specs.Written.{Registered, Changed, is_key_registered}
+use Rattle.dds_base.specs.Written.{Registered, Changed, LookedAt, is_key_registered, liveliness_lost_status}
 use Rattle.dds_model.specs.declared.call.Call.{Call}
 use Rattle.dds_model.specs.declared.call.Call.TheVariants as call
 use Rattle.dds_model.specs.declared.event.Event.{Event}
 use Rattle.dds_model.specs.declared.event.Event.TheVariants as event
 use Rattle.dds_model.specs.declared.event.Output.{Output}
 use Rattle.dds_model.specs.declared.reply.Reply.{Reply}
-use Rattle.dds_model.specs.declared.reply.Reply.TheVariants.{Done, Refused}
+use Rattle.dds_model.specs.declared.reply.Reply.TheVariants.{Done, LivelinessLost, Refused}
 use Rattle.dds_model.specs.declared.endpoint.Endpoint.{Endpoint}
-use Rattle.dds_model.specs.Calls.{Effect, nothing, writes, effect, effect_of, IsDoneUnless, Answers, CallStep, has_number, register_refusal, write_refusal, dispose_refusal, unregister_refusal, change_refusal, change_made, unregister_kind, tick_refusal, after_tick, TickStep}
+use Rattle.dds_model.specs.Calls.{Effect, nothing, writes, effect, effect_of, IsDoneUnless, Answers, CallStep, has_number, register_refusal, write_refusal, dispose_refusal, unregister_refusal, change_refusal, change_made, unregister_kind, tick_refusal, after_tick, TickStep, writer_look_refusal}
 use Rattle.dds_model.specs.Machine.{no_filters}
 use Rattle.dds_model.specs.Part.{Part, Dds, Writer, own_writer}
 use Rattle.dds_model.specs.Peer.{Peer, PeerStep}
@@ -57,6 +58,7 @@ refused_nothing part (call.GetKeyValue r instance) x = refl
 refused_nothing part (call.LookupInstance r key) x = refl
 refused_nothing part (call.GetSampleLost r) x = refl
 refused_nothing part (call.GetLivelinessChanged r) x = refl
+refused_nothing part (call.GetLivelinessLost w) x = refl
 
 -- a call that changes nothing
 pub unchanging_call : (kept : CoreKept) (config : Config) (peer : Peer) → StandsFor kept config peer → (c : Call) (reply : Reply) → effect_of peer.part c reply ≡ nothing → Answers no_filters peer.part c reply peer.part.dds
@@ -136,6 +138,21 @@ registers kept i k k' key config peer s at lt enters =
       entered_at peer (suc i) (Registered key),
       record { same_number = refl; knows = refl; step = (record { answers = (good_register peer.part (suc i) known, refl); rtps = refl }, refl); sent = λ p x m h. absurd (omega (arith, m.1)) },
       own_writer_stepped kept i k k' (Registered key) config peer s at enters (tellable_entered peer (suc i) (Registered key) s.tellable tt),
+    )
+
+-- a look at LIVELINESS_LOST
+looks : (kept : CoreKept) (i : ℕ) (k k' : WriterKept) (status : LivelinessLostStatus) (config : Config) (peer : Peer) → StandsFor kept config peer → slice_get kept.writers i ≡ Some k → i < length kept.writers
+    → ((w : Writer) (answered : Endpoint → Option ℤ) → WriterStands k w answered → status ≡ liveliness_lost_status w.lease w.written) → Enters k LookedAt k'
+    → Follows (with_writer kept i k') config peer (event.Call (call.GetLivelinessLost (suc i))) (silent (LivelinessLost status))
+looks kept i k k' status config peer s at lt tells enters =
+    let count = s.writers.count in
+    let known : writer_look_refusal peer.part (suc i) ≡ None =
+    ap (λ (b : Bool). if not b then Some BadParameter else None) (there_is peer.part.rtps.writers i (omega (arith, lt, count))) in
+    let told : status ≡ liveliness_lost_status (own_writer peer.part (suc i)).lease (own_writer peer.part (suc i)).written =
+    tells (own_writer peer.part (suc i)) (peer.known.answered (suc i)) (s.writers.each i k at) in (
+      entered_at peer (suc i) LookedAt,
+      record { same_number = refl; knows = refl; step = (record { answers = (known, told, refl); rtps = refl }, refl); sent = λ p x m h. absurd (omega (arith, m.1)) },
+      own_writer_stepped kept i k k' LookedAt config peer s at enters (tellable_entered peer (suc i) LookedAt s.tellable tt),
     )
 
 -- the answer to a call is that to a change of the writer, which the call makes
@@ -267,6 +284,14 @@ pub register_at : (kept : CoreKept) (writer i : ℕ) (k k' : WriterKept) (key : 
     → Follows (with_writer kept i k') config peer (event.Call (call.Register writer key)) (silent Done)
 register_at kept writer i k k' key config peer s is at lt enters =
     subst (λ (n : ℕ). Follows (with_writer kept i k') config peer (event.Call (call.Register n key)) (silent Done)) (number_is writer i is) (registers kept i k k' key config peer s at lt enters)
+
+-- so it is of the writer of a number
+pub looks_at : (kept : CoreKept) (writer i : ℕ) (k k' : WriterKept) (status : LivelinessLostStatus) (config : Config) (peer : Peer) → StandsFor kept config peer → writer ≡ i + 1 → slice_get kept.writers i ≡ Some k → i < length kept.writers
+    → ((w : Writer) (answered : Endpoint → Option ℤ) → WriterStands k w answered → status ≡ liveliness_lost_status w.lease w.written) → Enters k LookedAt k'
+    → Follows (with_writer kept i k') config peer (event.Call (call.GetLivelinessLost writer)) (silent (LivelinessLost status))
+looks_at kept writer i k k' status config peer s is at lt tells enters =
+    subst (λ (n : ℕ). Follows (with_writer kept i k') config peer (event.Call (call.GetLivelinessLost n)) (silent (LivelinessLost status))) (number_is writer i is)
+    (looks kept i k k' status config peer s at lt tells enters)
 
 -- an instance that the writer of this index has not registered
 pub unregistered_at : (kept : CoreKept) (writer i : ℕ) (k : WriterKept) (key : Key) (config : Config) (peer : Peer) → StandsFor kept config peer → writer ≡ i + 1 → i < length kept.writers → slice_get kept.writers i ≡ Some k

@@ -48,6 +48,7 @@ impl Core {
             Call::LookupInstance { reader, key } => self.lookup_instance(reader, key),
             Call::GetSampleLost { reader } => self.get_sample_lost(reader),
             Call::GetLivelinessChanged { reader } => self.get_liveliness_changed(reader),
+            Call::GetLivelinessLost { writer } => self.get_liveliness_lost(writer),
         }
     }
 
@@ -68,6 +69,17 @@ impl Core {
             Ok(()) => answered(self.alloc, Reply::Done),
             Err(code) => self.refused(code),
         }
+    }
+
+    fn get_liveliness_lost(&mut self, writer: u8) -> Output
+        ensures step { Steps self.old (event.Call (call.GetLivelinessLost writer)) result self.new }
+        ensures sends { SendsNothing result }
+    {
+        let Some(index) = index_of(writer, self.writers.len()) else {
+            return self.refused(Code::BadParameter);
+        };
+        let status = self.writers[index].get_liveliness_lost();
+        answered(self.alloc, Reply::LivelinessLost(status))
     }
 
     fn write(&mut self, writer: u8, key: Key, value: Octets) -> Output

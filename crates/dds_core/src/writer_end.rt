@@ -7,7 +7,7 @@ ghost use Rattle.dds_base.specs.Checked.{check_refusal};
 ghost use Rattle.dds_base.specs.declared.code.Code.TheVariants.{Memory};
 ghost use Rattle.dds_base.specs.Kept.{append_refusal};
 ghost use Rattle.dds_base.specs.Refusal.{Refuses};
-ghost use Rattle.dds_base.specs.Written.{Registered, Changed, is_key_registered};
+ghost use Rattle.dds_base.specs.Written.{Registered, Changed, LookedAt, is_key_registered, liveliness_lost_status};
 ghost use Rattle.dds_model.specs.declared.endpoint.Endpoint.{Endpoint as EndpointOf};
 ghost use Rattle.dds_model.specs.Calls.{unregister_kind};
 ghost use Rattle.dds_model.specs.Part.{ReaderProxy, Writer, history_of, writer_changes};
@@ -27,7 +27,8 @@ use crate::matching::{Destination, ReaderName, destinations, matched_readers};
 use crate::receiver::MessageReceiver;
 use crate::sending::Announced;
 use dds_base::{
-    Change, ChangeKind, Code, EntityId, GuidPrefix, Key, Moment, PeerConfig, Sn, WriterConfig,
+    Change, ChangeKind, Code, EntityId, GuidPrefix, Key, LivelinessLostStatus, Moment, PeerConfig,
+    Sn, WriterConfig,
 };
 use dds_model::Endpoint;
 use rtps_wire::AckNack;
@@ -137,6 +138,17 @@ impl WriterEnd {
         } else {
             ChangeKind::Unregister
         }
+    }
+
+    /// Looks at how often its liveliness was lost, in all and since the last look.
+    ///
+    /// DDS 1.4, 2.2.2.4 (get_liveliness_lost_status).
+    pub fn get_liveliness_lost(&mut self) -> LivelinessLostStatus
+        ensures status { (w : Writer) (answered : EndpointOf → Option ℤ) → WriterStands self.old w answered
+            → result ≡ liveliness_lost_status w.lease w.written }
+        ensures enters { Enters self.old LookedAt self.new }
+    {
+        self.writer.liveliness_lost()
     }
 
     /// Registers an instance.

@@ -18,7 +18,7 @@ use Rattle.dds_base.specs.declared.selection.Selection.{Selection}
 use Rattle.dds_base.specs.declared.qos.HistoryQos.TheVariants.{KeepAll}
 use Rattle.dds_base.specs.Statuses.{lost_count}
 use Rattle.dds_model.specs.declared.call.Call.{Call}
-use Rattle.dds_model.specs.declared.call.Call.TheVariants.{Register, Write, Dispose, Unregister, Read, Take, GetKeyValue, LookupInstance, GetSampleLost, GetLivelinessChanged}
+use Rattle.dds_model.specs.declared.call.Call.TheVariants.{Register, Write, Dispose, Unregister, Read, Take, GetKeyValue, LookupInstance, GetSampleLost, GetLivelinessChanged, GetLivelinessLost}
 use Rattle.dds_model.specs.declared.endpoint.Endpoint.{Endpoint}
 use Rattle.dds_model.specs.declared.event.WorldEvent.{WorldEvent}
 use Rattle.dds_model.specs.declared.event.WorldEvent.TheVariants as world
@@ -26,7 +26,7 @@ use Rattle.dds_model.specs.declared.reply.Move.{Move}
 use Rattle.dds_model.specs.declared.reply.Move.TheVariants.{Place, Acknowledged, Heard}
 use Rattle.dds_base.specs.declared.happening.PassedRun.{PassedRun}
 use Rattle.dds_model.specs.declared.reply.Reply.{Reply}
-use Rattle.dds_model.specs.declared.reply.Reply.TheVariants.{Done, Samples, KeyValue, InstanceHandle, SampleLost, LivelinessChanged, Reported, Refused}
+use Rattle.dds_model.specs.declared.reply.Reply.TheVariants.{Done, Samples, KeyValue, InstanceHandle, SampleLost, LivelinessChanged, LivelinessLost, Reported, Refused}
 use Rattle.dds_model.specs.Numbered.{numbered, with_numbered, HasNumber}
 use Rattle.dds_model.specs.Part.{same_endpoint, WriterProxy, Reader, Dds, Part, no_reader, no_part, own_writer, own_proxies, own_reader, at_reader, at_writer, row_of, place_of, with_place, with_heard, with_acknowledged, publication_of, writer_changes, nothing_seen, Seen}
 use Rattle.dds_model.specs.Moves.{Grounds, as_to, match_of, IsMatched, position_of, AreMoves, Places, Hears, DeliveryStep}
@@ -228,6 +228,9 @@ answers_came tests old (GetSampleLost v) reply new r h a = absurd a
 answers_came tests old (GetLivelinessChanged v) (LivelinessChanged status) new r h a = looked old new v (seen_liveliness (own_reader old v)) r h a.2
 answers_came tests old (GetLivelinessChanged v) (Refused code) new r h a = same_came old.dds new r h a.1
 answers_came tests old (GetLivelinessChanged v) reply new r h a = absurd a
+answers_came tests old (GetLivelinessLost v) (LivelinessLost status) new r h a = same_came old.dds new r h a.2
+answers_came tests old (GetLivelinessLost v) (Refused code) new r h a = same_came old.dds new r h a.1
+answers_came tests old (GetLivelinessLost v) reply new r h a = absurd a
 
 effect_rows : (old : Part) (new : Part) (e : Effect) → new.rtps ≡ effect old.rtps e → new.rtps.readers ≡ old.rtps.readers
 effect_rows old new nothing h = ap (λ x. x.readers) h

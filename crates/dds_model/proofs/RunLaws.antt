@@ -5,14 +5,14 @@ use Rattle.dds_base.specs.declared.qos.HistoryQos.{HistoryQos}
 use Rattle.dds_base.specs.declared.qos.HistoryQos.TheVariants.{KeepAll}
 use Rattle.dds_base.specs.Kept.{is_dropped, is_dropped_by}
 use Rattle.dds_model.specs.declared.call.Call.{Call}
-use Rattle.dds_model.specs.declared.call.Call.TheVariants.{Register, Write, Dispose, Unregister, Read, Take, GetKeyValue, LookupInstance, GetSampleLost, GetLivelinessChanged}
+use Rattle.dds_model.specs.declared.call.Call.TheVariants.{Register, Write, Dispose, Unregister, Read, Take, GetKeyValue, LookupInstance, GetSampleLost, GetLivelinessChanged, GetLivelinessLost}
 use Rattle.dds_model.specs.declared.endpoint.Endpoint.{Endpoint}
 use Rattle.dds_model.specs.declared.event.WorldEvent.{WorldEvent}
 use Rattle.dds_model.specs.declared.event.WorldEvent.TheVariants as world
 use Rattle.dds_model.specs.declared.reply.Move.{Move}
 use Rattle.dds_model.specs.declared.reply.Move.TheVariants.{Place, Acknowledged, Heard}
 use Rattle.dds_model.specs.declared.reply.Reply.{Reply}
-use Rattle.dds_model.specs.declared.reply.Reply.TheVariants.{Done, Samples, KeyValue, InstanceHandle, SampleLost, LivelinessChanged, Reported, Refused}
+use Rattle.dds_model.specs.declared.reply.Reply.TheVariants.{Done, Samples, KeyValue, InstanceHandle, SampleLost, LivelinessChanged, LivelinessLost, Reported, Refused}
 use Rattle.dds_model.specs.Part.{Part, writer_changes, history_of}
 use Rattle.dds_base.specs.Places.{GoesTo}
 use Rattle.dds_model.specs.Moves.{as_to, match_of, position_of, AreMoves, DeliveryStep}
@@ -74,6 +74,7 @@ loses_call w tests old call (KeyValue key) new replies h rest = rest
 loses_call w tests old call (InstanceHandle handle) new replies h rest = rest
 loses_call w tests old call (SampleLost status) new replies h rest = rest
 loses_call w tests old call (LivelinessChanged status) new replies h rest = rest
+loses_call w tests old call (LivelinessLost status) new replies h rest = rest
 loses_call w tests old call (Refused code) new replies h rest = rest
 loses_call w tests old (Register v k) (Reported report) new replies h rest = absurd h.answers
 loses_call w tests old (Write v k c) (Reported report) new replies h rest = absurd h.answers
@@ -85,6 +86,7 @@ loses_call w tests old (GetKeyValue r n) (Reported report) new replies h rest = 
 loses_call w tests old (LookupInstance r k) (Reported report) new replies h rest = absurd h.answers
 loses_call w tests old (GetSampleLost r) (Reported report) new replies h rest = absurd h.answers
 loses_call w tests old (GetLivelinessChanged r) (Reported report) new replies h rest = absurd h.answers
+loses_call w tests old (GetLivelinessLost v) (Reported report) new replies h rest = absurd h.answers
 
 loses_tick : (w : Endpoint) (old : Part) (now : ℕ) (reply : Reply) (new : Part) (replies : List Reply) → TickStep old now reply new → LosesNone w replies → LosesNone w (reply ∷ replies)
 loses_tick w old now Done new replies h rest = rest

@@ -1,7 +1,7 @@
 -- What a peer answers to a call, and what the call does: the first cause that holds refuses it, else it is done, unless
 -- a growth was refused.
 --
--- DDS 1.4, 2.2.2.4 (register_instance, write, dispose, unregister_instance), 2.2.2.5 (the forms of read
+-- DDS 1.4, 2.2.2.4 (register_instance, write, dispose, unregister_instance, get_liveliness_lost_status), 2.2.2.5 (the forms of read
 -- and take, get_key_value, lookup_instance, get_sample_lost_status, get_liveliness_changed_status), 2.2.1.1 (return codes).
 use Rattle.std.specs.Prelude.{◌≡◌, ◌≢◌, ℕ, ◌^◌, ◌&&◌, ◌||◌, not, Bool, List, [], ◌∷◌, map, length, Option, Some, None, is_some, nat_le, nat_lt, if◌then◌else◌}
 use Rattle.dds_base.specs.declared.key.Key.{Key}
@@ -20,11 +20,11 @@ use Rattle.dds_base.specs.Liveliness.{alive_count, not_alive_count, liveliness_c
 use Rattle.dds_base.specs.Refusal.{Refuses}
 use Rattle.dds_base.specs.Selection.{picked_by, selection_refusal}
 use Rattle.dds_base.specs.Statuses.{lost_count, sample_lost_status}
-use Rattle.dds_base.specs.Written.{Written, Registered, Changed, Ticked, is_key_registered}
+use Rattle.dds_base.specs.Written.{Written, Registered, Changed, LookedAt, Ticked, is_key_registered, liveliness_lost_status}
 use Rattle.dds_model.specs.declared.call.Call.{Call}
-use Rattle.dds_model.specs.declared.call.Call.TheVariants.{Register, Write, Dispose, Unregister, Read, Take, GetKeyValue, LookupInstance, GetSampleLost, GetLivelinessChanged}
+use Rattle.dds_model.specs.declared.call.Call.TheVariants.{Register, Write, Dispose, Unregister, Read, Take, GetKeyValue, LookupInstance, GetSampleLost, GetLivelinessChanged, GetLivelinessLost}
 use Rattle.dds_model.specs.declared.reply.Reply.{Reply}
-use Rattle.dds_model.specs.declared.reply.Reply.TheVariants.{Done, Samples, KeyValue, InstanceHandle, SampleLost, LivelinessChanged, Refused}
+use Rattle.dds_model.specs.declared.reply.Reply.TheVariants.{Done, Samples, KeyValue, InstanceHandle, SampleLost, LivelinessChanged, LivelinessLost, Refused}
 use Rattle.dds_model.specs.Numbered.{numbered, with_numbered}
 use Rattle.dds_model.specs.Part.{Part, Rtps, Dds, Seen, Reader, Writer, no_writer, own_writer, own_reader, history_of, is_behind}
 
@@ -90,6 +90,10 @@ key_refusal part reader instance = if not (has_number part.dds.readers reader) |
 abbrev pub look_refusal : Part → ℕ → Option Code
 look_refusal part reader = if not (has_number part.dds.readers reader) then Some BadParameter else None
 
+-- why a look at a status of the peer's writer is refused: no such writer
+abbrev pub writer_look_refusal : Part → ℕ → Option Code
+writer_look_refusal part writer = if not (has_number part.rtps.writers writer) then Some BadParameter else None
+
 -- a peer's reader, of whose statuses this was seen
 abbrev pub after_look : Part → ℕ → Seen → Dds
 after_look part reader seen =
@@ -127,6 +131,7 @@ effect_of part (Register writer key) Done = writes writer (Registered key)
 effect_of part (Write writer key value) Done = writes writer (Changed (change_made part kind.Write key value))
 effect_of part (Dispose writer key) Done = writes writer (Changed (change_made part kind.Dispose key []))
 effect_of part (Unregister writer key) Done = writes writer (Changed (change_made part (unregister_kind (own_writer part writer).autodispose) key []))
+effect_of part (GetLivelinessLost writer) (LivelinessLost status) = writes writer LookedAt
 effect_of part call reply = nothing
 
 -- A call that the first cause refuses, if there is one, or want of memory: else it is done. What was `old` is then
@@ -178,6 +183,11 @@ Answers tests old (GetLivelinessChanged reader) (LivelinessChanged status) dds =
     × (dds ≡ after_look old reader (seen_liveliness (own_reader old reader)))
 Answers tests old (GetLivelinessChanged reader) (Refused code) dds = (look_refusal old reader ≡ Some code) × (dds ≡ old.dds)
 Answers tests old (GetLivelinessChanged reader) reply dds = ⊥
+Answers tests old (GetLivelinessLost writer) (LivelinessLost status) dds =
+    (writer_look_refusal old writer ≡ None)
+    × (status ≡ liveliness_lost_status (own_writer old writer).lease (own_writer old writer).written) × (dds ≡ old.dds)
+Answers tests old (GetLivelinessLost writer) (Refused code) dds = (writer_look_refusal old writer ≡ Some code) × (dds ≡ old.dds)
+Answers tests old (GetLivelinessLost writer) reply dds = ⊥
 
 -- one call at a peer
 pub record CallStep (tests : Tests) (old : Part) (call : Call) (reply : Reply) (new : Part) : Type 0 where

@@ -42,6 +42,9 @@ pub enum Call {
     /// Looks at how many matched writers of a reader are alive, and how many are not alive, now and against the last look
     /// (DDS 1.4, 2.2.2.5, get_liveliness_changed_status). It is never refused for want of memory.
     GetLivelinessChanged { reader: u8 },
+    /// Looks at how often a writer's liveliness was lost, in all and since the last look (DDS 1.4, 2.2.2.4,
+    /// get_liveliness_lost_status). It is never refused for want of memory.
+    GetLivelinessLost { writer: u8 },
 }
 
 impl Clone for Call {
@@ -86,6 +89,7 @@ impl Clone for Call {
             Call::GetLivelinessChanged { reader } => {
                 Call::GetLivelinessChanged { reader: *reader }
             }
+            Call::GetLivelinessLost { writer } => Call::GetLivelinessLost { writer: *writer },
         })
     }
 }

@@ -12,7 +12,7 @@ pub mod laws;
 mod reply;
 
 pub use call::Call;
-pub use dds_base::{LivelinessChangedStatus, PassedRun, SampleLostStatus};
+pub use dds_base::{LivelinessChangedStatus, LivelinessLostStatus, PassedRun, SampleLostStatus};
 pub use endpoint::Endpoint;
 pub use event::{Event, Output, Packet, WorldEvent};
 pub use reply::{Move, Reply, Report};

@@ -4,7 +4,8 @@ ghost use Rattle.std.specs.Prelude.{◌≡◌};
 
 use crate::endpoint::Endpoint;
 use dds_base::{
-    Code, Handle, Key, LivelinessChangedStatus, PassedRun, Sample, SampleLostStatus, Sequence, Sn,
+    Code, Handle, Key, LivelinessChangedStatus, LivelinessLostStatus, PassedRun, Sample,
+    SampleLostStatus, Sequence, Sn,
 };
 use std::alloc::AllocError;
 
@@ -49,6 +50,7 @@ pub enum Reply {
     InstanceHandle(Handle),
     SampleLost(SampleLostStatus),
     LivelinessChanged(LivelinessChangedStatus),
+    LivelinessLost(LivelinessLostStatus),
     Reported(Report),
     Refused(Code),
 }
@@ -105,6 +107,7 @@ impl Clone for Reply {
             Reply::InstanceHandle(handle) => Reply::InstanceHandle(*handle),
             Reply::SampleLost(status) => Reply::SampleLost(*status),
             Reply::LivelinessChanged(status) => Reply::LivelinessChanged(*status),
+            Reply::LivelinessLost(status) => Reply::LivelinessLost(*status),
             Reply::Reported(report) => Reply::Reported(report.clone()?),
             Reply::Refused(code) => Reply::Refused(*code),
         })

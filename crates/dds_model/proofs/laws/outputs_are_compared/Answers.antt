@@ -29,7 +29,7 @@ use Rattle.dds_model.specs.declared.reply.Move.{Move}
 use Rattle.dds_model.specs.declared.reply.Move.TheVariants.{Place, Heard, Acknowledged}
 use Rattle.dds_model.specs.declared.reply.Report.{Report}
 use Rattle.dds_model.specs.declared.reply.Reply.{Reply}
-use Rattle.dds_model.specs.declared.reply.Reply.TheVariants.{Done, Samples, KeyValue, InstanceHandle, SampleLost, LivelinessChanged, Reported, Refused}
+use Rattle.dds_model.specs.declared.reply.Reply.TheVariants.{Done, Samples, KeyValue, InstanceHandle, SampleLost, LivelinessChanged, LivelinessLost, Reported, Refused}
 use Rattle.dds_model.specs.contracts.endpoint.EndpointPartialEq.TheImpl as of_endpoints
 use Rattle.dds_model.specs.contracts.event.OutputPartialEq.TheImpl as of_outputs
 use Rattle.dds_model.specs.contracts.event.PacketPartialEq.TheImpl as of_packets
@@ -118,6 +118,7 @@ replies (InstanceHandle x) (InstanceHandle y) = search rules
 replies (SampleLost x) (SampleLost y) = search rules
 replies (LivelinessChanged x) (LivelinessChanged y) =
     Decides-like (of_statuses.ghosts.eq x y) (ap LivelinessChanged) (λ e. cc) (liveliness_statuses x y)
+replies (LivelinessLost x) (LivelinessLost y) = search rules
 replies (Refused x) (Refused y) = search rules
 replies Done Done = (λ _. refl, λ _. refl)
 replies _ _ = (λ e. cc, λ e. cc)

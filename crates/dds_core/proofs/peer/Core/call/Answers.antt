@@ -35,3 +35,7 @@ returns-in-GetSampleLost-clause-step c =
 pub returns-in-GetLivelinessChanged-clause-step : goal.returns-in-GetLivelinessChanged-clause-step
 returns-in-GetLivelinessChanged-clause-step c =
     subst (λ (x : Call). Steps c.args.self.now (event.Call x) c.get_liveliness_changed.result c.get_liveliness_changed.new.self) (sym c.in-GetLivelinessChanged.is) c.get_liveliness_changed.ensures.step
+
+pub returns-in-GetLivelinessLost-clause-step : goal.returns-in-GetLivelinessLost-clause-step
+returns-in-GetLivelinessLost-clause-step c =
+    subst (λ (x : Call). Steps c.args.self.now (event.Call x) c.get_liveliness_lost.result c.get_liveliness_lost.new.self) (sym c.in-GetLivelinessLost.is) c.get_liveliness_lost.ensures.step
