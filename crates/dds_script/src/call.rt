@@ -128,13 +128,31 @@ fn lookup(words: &[&str]) -> Option<Call> {
     Some(Call::LookupInstance { reader, key })
 }
 
-/// A look at a status of a reader.
-fn look(words: &[&str]) -> Option<Call> {
+/// A look at SAMPLE_LOST of a reader.
+fn sample_lost(words: &[&str]) -> Option<Call> {
     let [reader] = words else {
         return None;
     };
     let reader = reader_number(reader)?;
     Some(Call::GetSampleLost { reader })
+}
+
+/// A look at LIVELINESS_CHANGED of a reader.
+fn liveliness_changed(words: &[&str]) -> Option<Call> {
+    let [reader] = words else {
+        return None;
+    };
+    let reader = reader_number(reader)?;
+    Some(Call::GetLivelinessChanged { reader })
+}
+
+/// A look at LIVELINESS_LOST of a writer.
+fn liveliness_lost(words: &[&str]) -> Option<Call> {
+    let [writer] = words else {
+        return None;
+    };
+    let writer = writer_number(writer)?;
+    Some(Call::GetLivelinessLost { writer })
 }
 
 /// A writer and an instance.
@@ -185,7 +203,9 @@ fn other_call(operation: &str, words: &[&str]) -> Option<Call> {
 pub fn call_of(alloc: Global, words: &[&str]) -> Result<Option<Call>, AllocError> {
     match words {
         ["write", operands @ ..] => write(alloc, operands),
-        ["lost", operands @ ..] => Ok(look(operands)),
+        ["lost", operands @ ..] => Ok(sample_lost(operands)),
+        ["changed", operands @ ..] => Ok(liveliness_changed(operands)),
+        ["livelost", operands @ ..] => Ok(liveliness_lost(operands)),
         ["key", operands @ ..] => Ok(key_value(operands)),
         ["lookup", operands @ ..] => Ok(lookup(operands)),
         [operation, operands @ ..] => Ok(other_call(operation, operands)),

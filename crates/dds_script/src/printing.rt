@@ -2,7 +2,10 @@
 
 use crate::fault::Fault;
 use dds_base::{Code, Handle, InstanceState, Key, Sample, SampleInfo, SampleState, ViewState};
-use dds_model::{Endpoint, Move, PassedRun, Reply, Report, SampleLostStatus};
+use dds_model::{
+    Endpoint, LivelinessChangedStatus, LivelinessLostStatus, Move, PassedRun, Reply, Report,
+    SampleLostStatus,
+};
 use std::alloc::{AllocError, Global};
 use std::fmt::Display;
 use std::io::Write;
@@ -154,6 +157,28 @@ impl TranscriptLine {
         self.push(format_args!("lost {total_count} {total_count_change}"));
     }
 
+    fn push_liveliness_changed(&mut self, status: LivelinessChangedStatus) {
+        let LivelinessChangedStatus {
+            alive_count,
+            not_alive_count,
+            alive_count_change,
+            not_alive_count_change,
+            last_publication_handle,
+        } = status;
+        self.push(format_args!("changed {alive_count} {not_alive_count}"));
+        self.push(format_args!(" {alive_count_change} {not_alive_count_change}"));
+        let writer = last_publication_handle.number();
+        self.push(format_args!(" {writer}"));
+    }
+
+    fn push_liveliness_lost(&mut self, status: LivelinessLostStatus) {
+        let LivelinessLostStatus {
+            total_count,
+            total_count_change,
+        } = status;
+        self.push(format_args!("livelost {total_count} {total_count_change}"));
+    }
+
     fn push_code(&mut self, code: Code) {
         let number = code.number();
         self.push(format_args!("code {number}"));
@@ -225,6 +250,8 @@ impl TranscriptLine {
             Reply::KeyValue(key) => self.push_key_value(*key),
             Reply::InstanceHandle(handle) => self.push_handle(*handle),
             Reply::SampleLost(status) => self.push_sample_lost(*status),
+            Reply::LivelinessChanged(status) => self.push_liveliness_changed(*status),
+            Reply::LivelinessLost(status) => self.push_liveliness_lost(*status),
             Reply::Reported(report) => self.push_report(report),
             Reply::Refused(code) => self.push_code(*code),
         }

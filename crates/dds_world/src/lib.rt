@@ -7,8 +7,8 @@ mod round;
 mod world;
 
 pub use dds_model::{
-    Call, Endpoint, Event, Move, Output, Packet, PassedRun, Reply, Report, SampleLostStatus,
-    WorldEvent,
+    Call, Endpoint, Event, LivelinessChangedStatus, LivelinessLostStatus, Move, Output, Packet,
+    PassedRun, Reply, Report, SampleLostStatus, WorldEvent,
 };
 pub use round::{Round, RoundReply};
 pub use world::World;
