@@ -258,6 +258,8 @@ impl ReaderCache {
         ensures ok { OnOk result ((h : List Happening) → StandsFor self.old h → StandsFor self.new (Died writer moment ∷ h)) }
         // The policies stay.
         ensures qos { qos_of self.new ≡ qos_of self.old }
+        // It takes the room of one entry at most.
+        ensures room { room_of self.old ≤ room_of self.new + 1 }
         // A refusal leaves the cache as it was.
         ensures err { OnErr result (self.new ≡ self.old) }
         // It is refused for want of memory alone.
@@ -324,6 +326,7 @@ impl ReaderCache {
             → All (IsReturnable (qos_of self.old) h) access.now.positions.items
             → StandsFor self.new (Read access.now.positions.items ∷ h)) }
         ensures qos { qos_of self.new ≡ qos_of self.old }
+        ensures room { room_of self.old ≤ room_of self.new + 1 }
         ensures err { OnErr result (self.new ≡ self.old) }
         ensures memory { IfErr result (λ e. e ≡ Memory) }
     {
@@ -340,6 +343,7 @@ impl ReaderCache {
             → All (IsReturnable (qos_of self.old) h) access.now.positions.items
             → StandsFor self.new (Took access.now.positions.items ∷ h)) }
         ensures qos { qos_of self.new ≡ qos_of self.old }
+        ensures room { room_of self.old ≤ room_of self.new + 1 }
         ensures err { OnErr result (self.new ≡ self.old) }
         ensures memory { IfErr result (λ e. e ≡ Memory) }
     {
@@ -366,6 +370,8 @@ impl ReaderCache {
         ensures after { (h : List Happening) → StandsFor self.old h → AfterAccess Read self.old h selection result self.new }
         // The policies stay.
         ensures qos { qos_of self.new ≡ qos_of self.old }
+        // It takes the room of one entry at most.
+        ensures room { room_of self.old ≤ room_of self.new + 1 }
     {
         let access = self.access(selection)?;
         self.enter_read(&access)?;
@@ -394,6 +400,8 @@ impl ReaderCache {
         ensures after { (h : List Happening) → StandsFor self.old h → AfterAccess Took self.old h selection result self.new }
         // The policies stay.
         ensures qos { qos_of self.new ≡ qos_of self.old }
+        // It takes the room of one entry at most.
+        ensures room { room_of self.old ≤ room_of self.new + 1 }
     {
         let access = self.access(selection)?;
         self.enter_take(&access)?;
