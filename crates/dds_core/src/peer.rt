@@ -17,9 +17,10 @@ use std::marker::Model;
 
 /// A peer: its writers and its readers, each numbered from 1, and its moment.
 ///
-/// It asks for memory where a call, a change or a sample needs it, and never gives back what its writers keep and what
-/// happened at its readers. A call costs what its writer or reader does; a delivery looks at each of the peer's readers
-/// once for each DATA.
+/// It asks for memory where a call, a change or a sample needs it, and keeps it for what comes later. A writer lets the
+/// changes go that its history need not keep, a reader the samples that were taken and, now and then, those that are no
+/// longer present; what a reader knows of an instance stays. A call costs what its writer or reader does; a delivery
+/// looks at each of the peer's readers once for each DATA.
 #[derive(Drop)]
 pub struct Core {
     pub(crate) alloc: Global,
