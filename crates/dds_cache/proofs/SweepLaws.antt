@@ -1,5 +1,5 @@
 -- A sweep leaves each sample that is present.
-use Rattle.std.proofs.Common.{◌≡◌, ℕ, ◌-◌, List, [], ◌∷◌, subst, Bool, true, false, not, ◌&&◌, ◌||◌, sym, ap, ◌∙◌, refl, Option, Some, None, filter}
+use Rattle.std.proofs.Common.{◌≡◌, ℕ, ◌-◌, List, [], ◌∷◌, subst, Bool, true, false, not, ◌&&◌, ◌||◌, sym, ap, ◌∙◌, refl, Option, Some, filter}
 use Rattle.std.specs.List.{All, items_where_true}
 use Rattle.std.specs.List.Retain.{IsFiltered}
 use Rattle.std.proofs.lemmas.Bool.{and_parts}
@@ -14,7 +14,7 @@ use Rattle.dds_base.proofs.KeyLaws.{key-same}
 use Rattle.dds_instances.specs.declared.known.KnownInstance.{KnownInstance}
 use Rattle.dds_instances.specs.Known.{IsKnown}
 use Rattle.dds_cache.specs.declared.kept.Kept.{Kept}
-use Rattle.dds_cache.specs.Kept.{IsKept, is_here, is_live}
+use Rattle.dds_cache.specs.Kept.{IsKept, is_here, is_live, is_live_by}
 use Rattle.dds_cache.specs.Sweeping.{stays, stays_of}
 use Rattle.dds_cache.specs.Standing.{Stored, StandsFor}
 use Rattle.dds_cache.proofs.FindingLaws.{key-of-handle}
@@ -23,8 +23,8 @@ use Rattle.dds_cache.proofs.StandingLaws.{stands-swept}
 -- by what is known of its instance
 pub live-stays : (q : ReaderQos) (h : List Happening) (known : KnownInstance) (k : Kept) → IsKnown q h known → is_live q known k ≡ stays_of q h (Some known.key) k
 live-stays q h known k is_known =
-    ap (λ (n : ℕ). (k.valid_data && keeps q.history (n - k.number)) || is_at known.last_marker k.sample.position) is_known.writes_are
-    ∙ ap (λ (m : Option ℕ). (k.valid_data && keeps q.history (accepted_writes q known.key h - k.number)) || is_at m k.sample.position) is_known.marker_is
+    ap (λ (n : ℕ). is_live_by q n known.last_marker k) is_known.writes_are
+    ∙ ap (λ (m : Option ℕ). is_live_by q (accepted_writes q known.key h) m k) is_known.marker_is
 
 -- what is kept stays exactly where it is present
 stays-present : (q : ReaderQos) (h : List Happening) (k : Kept) → IsKept q h k → stays q h k ≡ is_present q h k.sample.key k.sample.position

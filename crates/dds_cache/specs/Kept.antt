@@ -1,5 +1,6 @@
--- What is kept of a sample. Inner functions alone cite this: nothing here has to be believed.
-use Rattle.std.specs.Prelude.{◌≡◌, ℕ, ◌+◌, ◌-◌, ◌≤◌, List, [], ◌∷◌, ◌++◌, All, if◌then◌else◌, length, Bool, true, false, ◌&&◌, ◌||◌, map, filter, IsTrue}
+-- What is kept of a sample. Inner functions cite this, and what a cache stands for, which nobody looks into: nothing
+-- here has to be believed.
+use Rattle.std.specs.Prelude.{◌≡◌, ℕ, ◌+◌, ◌-◌, ◌≤◌, List, [], ◌∷◌, ◌++◌, All, if◌then◌else◌, length, Bool, true, false, ◌&&◌, ◌||◌, map, filter, IsTrue, Option}
 use Rattle.std.specs.List.{list_any}
 use Rattle.dds_base.specs.declared.key.Key.{Key}
 use Rattle.dds_base.specs.declared.happening.SamplePosition.{SamplePosition}
@@ -47,9 +48,15 @@ position_of k = k.sample.position
 abbrev pub positions_in : ReaderQos → List Happening → Key → List Kept → List ℕ
 positions_in q h i ks = map position_of (filter (is_here q h i) ks)
 
--- by the counts of its instance a kept sample is a write that the history keeps, or the last marker
+-- by how many writes of its instance were accepted, and its last marker, a kept sample is a write that the history
+-- keeps, or that marker
+abbrev pub is_live_by : ReaderQos → ℕ → Option ℕ → Kept → Bool
+is_live_by q accepted marker k =
+    (k.valid_data && keeps q.history (accepted - k.number)) || is_at marker k.sample.position
+
+-- the same by what is known of its instance
 abbrev pub is_live : ReaderQos → KnownInstance → Kept → Bool
-is_live q known k = (k.valid_data && keeps q.history (known.accepted_writes - k.number)) || is_at known.last_marker k.sample.position
+is_live q known k = is_live_by q known.accepted_writes known.last_marker k
 
 -- no access returned what i has next
 pub record IsFresh (h : List Happening) (i : Key) : Type 0 where

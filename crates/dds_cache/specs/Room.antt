@@ -1,6 +1,6 @@
 -- The present writes of a reader, as they are counted among the kept samples. Inner functions alone cite this: nothing
 -- here has to be believed.
-use Rattle.std.specs.Prelude.{ℕ, ◌+◌, ◌-◌, List, Bool, ◌&&◌, ◌||◌, not}
+use Rattle.std.specs.Prelude.{◌+◌, ◌-◌, List, Bool, ◌&&◌, ◌||◌, not}
 use Rattle.dds_base.specs.declared.happening.Happening.{Happening}
 use Rattle.dds_base.specs.declared.qos.ReaderQos.{ReaderQos}
 use Rattle.dds_base.specs.Happening.{as_of}

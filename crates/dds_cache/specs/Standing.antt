@@ -1,4 +1,5 @@
--- What the samples of a reader, as they are kept, stand for.
+-- What contracts see of a reader's cache: what happened as it stands for it, and what an access answers and leaves.
+-- Nobody looks into `StandsFor`: what it has to say is in the clauses of each call.
 use Rattle.std.specs.Prelude.{◌≡◌, ◌≢◌, ℕ, ◌<◌, ◌-◌, ◌^◌, min, List, [], ◌∷◌, length, filter, All, false, Option, None, Result, Ok, Err}
 use Rattle.dds_base.specs.declared.code.Code.{Code}
 use Rattle.dds_base.specs.declared.code.Code.TheVariants.{NoData}

@@ -28,17 +28,7 @@ pub struct Kept {
     pub value: Octets,
 }
 
-/// Whether the history keeps a write that so many accepted ones have followed.
-fn is_kept(history: HistoryQos, later: u64) -> bool
-    ensures { result ≡ keeps history later }
-{
-    match history {
-        HistoryQos::KeepAll => true,
-        HistoryQos::KeepLast(depth) => later < u64::from(depth),
-    }
-}
-
-/// The same once one more has followed, if it has.
+/// Whether the history keeps a write that so many accepted ones have followed, and one more, if it has.
 pub fn is_kept_after(history: HistoryQos, later: u64, one_more: bool) -> bool
     ensures { result ≡ keeps history (later + one_if one_more) }
 {
@@ -70,9 +60,10 @@ impl Kept {
         ensures { result ≡ is_live qos.now known.now self.now }
     {
         self.valid_data
-            && is_kept(
+            && is_kept_after(
                 qos.history,
                 known.accepted_writes.saturating_sub(self.number),
+                false,
             )
             || is_position(known.last_marker, self.sample.position)
     }

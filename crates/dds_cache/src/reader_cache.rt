@@ -1,6 +1,6 @@
 //! The samples of a reader and its instances, kept up with what happens.
 
-ghost use Rattle.std.specs.Prelude.{◌≡◌, ℕ, ◌+◌, ◌≤◌, ◌∷◌, [], if◌then◌else◌, List, All, IsOk, OnOk, OnErr, IfOk, IfErr};
+ghost use Rattle.std.specs.Prelude.{◌≡◌, ◌==◌, ℕ, ◌+◌, ◌≤◌, ◌∷◌, [], if◌then◌else◌, List, length, All, IsOk, OnOk, OnErr, IfOk, IfErr};
 ghost use Rattle.dds_base.specs.declared.happening.Happening.{Happening};
 ghost use Rattle.dds_base.specs.declared.happening.Happening.TheVariants.{Came, Passed, Heard, Died, Read, Took};
 ghost use Rattle.dds_base.specs.declared.code.Code.TheVariants.{Memory, NoData};
@@ -375,12 +375,7 @@ impl ReaderCache {
     {
         let access = self.access(selection)?;
         self.enter_read(&access)?;
-        let Access {
-            positions,
-            samples,
-            ..
-        } = access;
-        answer_of(positions.is_empty(), samples)
+        answer_of(access)
     }
 
     /// Takes the present samples that the selection asks for. They are gone from then on.
@@ -405,12 +400,7 @@ impl ReaderCache {
     {
         let access = self.access(selection)?;
         self.enter_take(&access)?;
-        let Access {
-            positions,
-            samples,
-            ..
-        } = access;
-        answer_of(positions.is_empty(), samples)
+        answer_of(access)
     }
 
     /// The key of a known instance, by its handle; `None` where no known instance has it. It needs no memory.
@@ -437,10 +427,15 @@ impl ReaderCache {
 }
 
 /// The samples of an access, or that there is none.
-fn answer_of(is_empty: bool, samples: Vec<Sample>) -> Result<Sequence<Sample>, Code>
-    ensures { result ≡ (if is_empty then Err NoData else Ok samples.items) }
+fn answer_of(access: Access) -> Result<Sequence<Sample>, Code>
+    ensures { result ≡ (if length access.positions.items == 0 then Err NoData else Ok access.samples.items) }
 {
-    if is_empty {
+    let Access {
+        positions,
+        samples,
+        ..
+    } = access;
+    if positions.is_empty() {
         Err(Code::NoData)
     } else {
         Ok(Sequence::from_vec(samples))

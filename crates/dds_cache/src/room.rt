@@ -2,17 +2,17 @@
 //!
 //! DDS 1.4, 2.2.3 (RESOURCE_LIMITS).
 
-ghost use Rattle.std.specs.Prelude.{◌≡◌, ◌+◌, ◌-◌, ◌^◌, ◌∷◌, min, ℕ, List, length, filter, All, true};
+ghost use Rattle.std.specs.Prelude.{◌≡◌, ◌+◌, ◌-◌, ◌^◌, ◌∷◌, min, List, length, All, true};
 ghost use Rattle.std.specs.List.{count_by};
 ghost use Rattle.dds_base.specs.declared.happening.Happening.{Happening};
 ghost use Rattle.dds_base.specs.declared.happening.Happening.TheVariants.{Came};
-ghost use Rattle.dds_base.specs.declared.key.Key.{Key};
 ghost use Rattle.dds_base.specs.Happening.{arrivals as arrivals_of};
 ghost use Rattle.dds_base.specs.Instance.{known_instances};
-ghost use Rattle.dds_base.specs.Presence.{ends_with_write, has_room, is_accepted, is_present, is_within, marks, present_writes, up_to};
+ghost use Rattle.dds_base.specs.Presence.{ends_with_write, has_room, is_accepted, is_within, marks, present_writes};
 ghost use Rattle.dds_instances.specs.Table.{Stands};
 ghost use Rattle.dds_instances.specs.Track.{one_if};
-ghost use Rattle.dds_cache.specs.Kept.{IsFresh, IsKept, positions_in};
+ghost use Rattle.dds_cache.specs.Finding.{Holds};
+ghost use Rattle.dds_cache.specs.Kept.{IsFresh, IsKept};
 ghost use Rattle.dds_cache.specs.Room.{is_present_write};
 
 use crate::arriving::is_accepted_write;
@@ -100,7 +100,7 @@ fn count_writes(
 
 /// Whether there may be so many present writes after an accepted change.
 fn samples_fit(instances: &Instances, qos: &ReaderQos, arrival: &Arrival, samples: &[Kept]) -> bool
-    ensures { (h : List Happening) → Stands qos.now instances.now h → All (IsKept qos.now h) samples.now → ((i : Key) → filter (is_present qos.now h i) (up_to (length h)) ≡ positions_in qos.now h i samples.now) → IsFresh h arrival.now.change.key → is_accepted qos.now h (Came arrival.now) ≡ true → result ≡ is_within qos.now.max_samples (present_writes qos.now (Came arrival.now ∷ h)) }
+    ensures { (h : List Happening) → Holds qos.now instances.now samples.now h → IsFresh h arrival.now.change.key → is_accepted qos.now h (Came arrival.now) ≡ true → result ≡ is_within qos.now.max_samples (present_writes qos.now (Came arrival.now ∷ h)) }
 {
     if qos.max_samples.is_none() {
         return true;
@@ -120,7 +120,7 @@ pub fn is_room(
     arrivals: u32,
     arrival: &Arrival,
 ) -> bool
-    ensures { (h : List Happening) → Stands qos.now instances.now h → All (IsKept qos.now h) samples.now → ((i : Key) → filter (is_present qos.now h i) (up_to (length h)) ≡ positions_in qos.now h i samples.now) → IsFresh h arrival.now.change.key → arrivals ≡ min (arrivals_of h) (2 ^ 31 - 1) → result ≡ has_room qos.now h (Came arrival.now) }
+    ensures { (h : List Happening) → Holds qos.now instances.now samples.now h → IsFresh h arrival.now.change.key → arrivals ≡ min (arrivals_of h) (2 ^ 31 - 1) → result ≡ has_room qos.now h (Came arrival.now) }
 {
     arrivals < MAX_ARRIVALS - 1
         && (!instances.accepts(qos, arrival)
