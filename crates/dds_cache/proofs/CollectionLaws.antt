@@ -35,11 +35,6 @@ described q h ks (c ∷ cs) each =
     ap (λ (p : Picked). p ∷ map picked_in cs) (All-head (IsCandidate q h ks) c cs each).picked_is
     ∙ ap (λ (ps : List Picked). picked_of q h c.sample ∷ ps) (described q h ks cs (All-tail (IsCandidate q h ks) c cs each))
 
-map-drop : (cs : List Candidate) (at : ℕ) → drop at (map sample_in cs) ≡ map sample_in (drop at cs)
-map-drop cs zero = refl
-map-drop [] (suc at) = refl
-map-drop (c ∷ cs) (suc at) = map-drop cs at
-
 all-drop : (P : Candidate → Type 0) (cs : List Candidate) (at : ℕ) → All P cs → All P (drop at cs)
 all-drop P cs zero all = all
 all-drop P [] (suc at) all = all

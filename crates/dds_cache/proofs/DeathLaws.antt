@@ -1,7 +1,7 @@
 -- A death adds the samples that it leaves, one instance after another.
-use Rattle.std.proofs.Common.{◌≡◌, ℕ, ◌+◌, ◌<◌, List, [], ◌∷◌, ◌++◌, length, map, filter, take, Bool, true, false, ◌&&◌, ◌||◌, sym, ap, ◌∙◌, refl, subst, cond, Option, Some, None, arith, zero, suc, ⊎_elim, append_assoc}
+use Rattle.std.proofs.Common.{◌≡◌, ℕ, ◌+◌, List, [], ◌∷◌, ◌++◌, length, take, Bool, true, false, ◌&&◌, ◌||◌, sym, ap, ◌∙◌, refl, cond, Option, Some, None, zero, suc, ⊎_elim, append_assoc}
 use Rattle.std.specs.Prelude.{slice_get, is_some}
-use Rattle.std.specs.List.{list_any, All, IsDistinct, AllByRecursion}
+use Rattle.std.specs.List.{list_any, IsDistinct, AllByRecursion}
 use Rattle.std.proofs.lemmas.Bool.{cases_Bool}
 use Rattle.std.proofs.lemmas.List.{append-nil, take_more}
 use Rattle.std.proofs.lemmas.Option.{get_or_from_slice_get, slice_get_within}
@@ -10,7 +10,6 @@ use Rattle.std.proofs.lemmas.List.Elements.{All-append, All-nil, All-cons}
 use Rattle.std.proofs.lemmas.Map.Keys.{IsDistinct-head, IsDistinct-tail}
 use Rattle.dds_base.specs.declared.key.Key.{Key}
 use Rattle.dds_base.specs.declared.change.ChangeKind.{ChangeKind}
-use Rattle.dds_base.specs.declared.happening.SamplePosition.{SamplePosition}
 use Rattle.dds_base.specs.declared.happening.Happening.{Happening}
 use Rattle.dds_base.specs.declared.happening.Happening.TheVariants.{Died}
 use Rattle.dds_base.specs.declared.qos.ReaderQos.{ReaderQos}
@@ -18,16 +17,16 @@ use Rattle.dds_base.specs.Happening.{same_key}
 use Rattle.dds_base.specs.Ownership.{registered_writers}
 use Rattle.dds_base.specs.Instance.{known_instances, last_accepted, state_after, is_nobody, instance_state_of, disposed_generations, no_writers_generations}
 use Rattle.dds_base.specs.Presence.{accepted_writes, is_present}
-use Rattle.dds_base.specs.Access.{handle_of, instance_of}
+use Rattle.dds_base.specs.Access.{handle_of}
 use Rattle.dds_base.proofs.KeyLaws.{key-same}
 use Rattle.dds_instances.specs.declared.known.KnownInstance.{KnownInstance}
 use Rattle.dds_instances.specs.Known.{IsKnown}
 use Rattle.dds_instances.proofs.KnownLaws.{known}
 use Rattle.dds_cache.specs.declared.kept.Kept.{Kept}
-use Rattle.dds_cache.specs.Kept.{Adds, IsFresh, IsKept, IsKeptAt, is_live, positions_in, sample_at}
+use Rattle.dds_cache.specs.Kept.{Adds, IsKept, IsKeptAt, positions_in}
 use Rattle.dds_cache.specs.Dying.{AddsOf}
 use Rattle.dds_cache.proofs.PresenceLaws.{here-append, unknown-absent}
-use Rattle.dds_cache.proofs.KeptLaws.{IsNewest, kept-newest, live-at}
+use Rattle.dds_cache.proofs.KeptLaws.{IsNewest}
 use Rattle.dds_cache.proofs.StandingLaws.{one-position}
 use Rattle.dds_cache.proofs.FindingLaws.{known-distinct}
 
@@ -77,9 +76,6 @@ adds-of-nothing q g n x ks absent = record {
 }
 
 -- ---- one instance after another
-
-pub adds-of-none : (q : ReaderQos) (g : List Happening) (n : ℕ) (ks : List Kept) → AddsOf q g n [] ks ks
-adds-of-none q g n ks = record { added = []; are = sym (append-nil ks); each = All-nil (IsKept q g); present = λ i. refl }
 
 apart-later : (k x : Key) (ks : List Key) (at : ℕ) → AllByRecursion (λ y. same_key x y ≡ false) ks → slice_get ks at ≡ Some k → same_key x k ≡ false
 apart-later k x [] at apart there = absurd cc

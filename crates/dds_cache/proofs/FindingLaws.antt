@@ -1,5 +1,5 @@
 -- The samples that an access finds are those that the definitions say.
-use Rattle.std.proofs.Common.{◌≡◌, ℕ, ◌+◌, ◌≤◌, ◌<◌, ◌^◌, List, [], ◌∷◌, ◌++◌, length, get_or, take, map, filter, Bool, true, false, not, ◌==◌, ◌&&◌, ◌||◌, sym, ap, ◌∙◌, refl, subst, cond, arith, zero, suc, ⊎_elim, ◌⊎◌, Option, Some, None}
+use Rattle.std.proofs.Common.{◌≡◌, ℕ, ◌+◌, ◌≤◌, ◌<◌, ◌^◌, List, [], ◌∷◌, ◌++◌, length, get_or, take, map, filter, Bool, true, false, not, ◌==◌, ◌&&◌, ◌||◌, sym, ap, ◌∙◌, refl, subst, cond, arith, zero, suc, ⊎_elim, Option, Some}
 use Rattle.std.specs.Prelude.{if◌then◌else◌, nat_le, is_some, slice_get}
 use Rattle.std.specs.List.{list_any, All, flat_map, range_with_len, IsDistinct, AllByRecursion}
 use Rattle.std.specs.List.Sorted.{IsNonDecreasingBy, IsPermutation, IsStableByKey, ties}
@@ -9,26 +9,25 @@ use Rattle.std.proofs.lemmas.Bool.Decides.{nat_tests}
 use Rattle.dds_base.specs.declared.happening.Happening.TheVariants.{Came, Passed, Heard, Died, Read, Took, Looked}
 use Rattle.dds_base.specs.Ownership.{accepted_kind}
 use Rattle.dds_instances.proofs.KnownLaws.{known}
-use Rattle.std.proofs.lemmas.List.{map-append, append-nil, take_more, take_all, get_or_default}
-use Rattle.std.proofs.lemmas.List.Elements.{filter-append, All-head, All-tail, All-push, All-nil, All-weaker}
+use Rattle.std.proofs.lemmas.List.{map-append, append-nil, take_more, get_or_default}
+use Rattle.std.proofs.lemmas.List.Elements.{filter-append, All-head, All-tail, All-push, All-weaker}
 use Rattle.std.proofs.lemmas.List.Sorted.{All-permutation}
 use Rattle.std.proofs.lemmas.List.Concat.{flat_map-cons}
 use Rattle.dds_base.specs.declared.key.Key.{Key}
 use Rattle.dds_base.specs.declared.happening.SamplePosition.{SamplePosition}
 use Rattle.dds_base.specs.declared.happening.Happening.{Happening}
 use Rattle.dds_base.specs.declared.mask.Masks.{Masks}
-use Rattle.dds_base.specs.declared.sample.SampleState.{SampleState}
 use Rattle.dds_base.specs.declared.sample.SampleState.TheVariants.{Read as HasBeenRead, NotRead}
 use Rattle.dds_base.specs.declared.sample.ViewState.{ViewState}
 use Rattle.dds_base.specs.declared.sample.InstanceState.{InstanceState}
 use Rattle.dds_base.specs.declared.sample.Picked.{Picked}
 use Rattle.dds_base.specs.declared.qos.ReaderQos.{ReaderQos}
-use Rattle.dds_base.specs.Happening.{same_key, as_of, is_read}
-use Rattle.dds_base.specs.Instance.{known_instances, introduces, last_accepted, instance_state_of, view_state_of, disposed_generations, no_writers_generations, generations_of, is_write, is_disposed, is_without_writers, revives_disposed, revives_abandoned}
+use Rattle.dds_base.specs.Happening.{same_key, as_of}
+use Rattle.dds_base.specs.Instance.{known_instances, introduces, last_accepted, instance_state_of, view_state_of, disposed_generations, no_writers_generations, generations_of}
 use Rattle.dds_base.specs.Presence.{is_present, ends_with_write, present_of}
 use Rattle.dds_base.specs.Access.{sample_state_of, picked_of, own_generations, handle_of, instance_of, state_of_known, timestamp_of, publication_of, meets, matching_samples, no_filter}
-use Rattle.dds_base.specs.declared.sample.ViewState.TheVariants.{New, NotNew}
-use Rattle.dds_base.specs.declared.sample.InstanceState.TheVariants.{Alive, NotAliveDisposed, NotAliveNoWriters}
+use Rattle.dds_base.specs.declared.sample.ViewState.TheVariants.{New}
+use Rattle.dds_base.specs.declared.sample.InstanceState.TheVariants.{Alive}
 use Rattle.dds_instances.specs.Table.{Table}
 use Rattle.dds_instances.specs.declared.known.KnownInstance.{KnownInstance}
 use Rattle.dds_instances.specs.Known.{IsKnown}

@@ -1,7 +1,7 @@
 -- What is kept of a sample stays true of it, and says whether it is present.
-use Rattle.std.proofs.Common.{◌≡◌, ℕ, ◌+◌, ◌-◌, ◌≤◌, ◌<◌, List, [], ◌∷◌, ◌++◌, length, map, filter, Bool, true, false, not, ◌==◌, ◌&&◌, ◌||◌, sym, ap, ◌∙◌, refl, subst, cond, Option, Some, None, arith, zero, suc, ⊎_elim}
+use Rattle.std.proofs.Common.{◌≡◌, ℕ, ◌+◌, ◌-◌, List, [], ◌∷◌, ◌++◌, length, Bool, true, false, not, ◌&&◌, ◌||◌, sym, ap, ◌∙◌, refl, subst, Option, Some, None, arith, zero, suc, ⊎_elim}
 use Rattle.std.specs.Prelude.{if◌then◌else◌, slice_get, is_some}
-use Rattle.std.specs.List.{list_any, All}
+use Rattle.std.specs.List.{list_any}
 use Rattle.std.proofs.lemmas.Bool.{cases_Bool}
 use Rattle.std.proofs.lemmas.List.Folds.{list_any-append}
 use Rattle.dds_base.specs.declared.key.Key.{Key}
@@ -15,9 +15,9 @@ use Rattle.dds_base.specs.declared.change.ChangeKind.{ChangeKind}
 use Rattle.dds_base.specs.declared.sample.InstanceState.{InstanceState}
 use Rattle.dds_base.specs.Ownership.{registered_writers}
 use Rattle.dds_base.specs.Instance.{known_instances, introduced_by, instance_state_of, state_after, is_nobody, last_accepted, disposed_generations, no_writers_generations}
-use Rattle.dds_base.specs.Presence.{is_present, is_kept_write, keeps, later_writes, is_at, last_marker, accepted_writes, ends_with_write}
+use Rattle.dds_base.specs.Presence.{is_present, is_kept_write, keeps, is_at, last_marker, accepted_writes, ends_with_write}
 use Rattle.dds_base.specs.Access.{handle_of, instance_of, number_from, newest_value}
-use Rattle.dds_base.proofs.KeyLaws.{key-same, same_key-refl}
+use Rattle.dds_base.proofs.KeyLaws.{key-same}
 use Rattle.dds_instances.specs.declared.known.KnownInstance.{KnownInstance}
 use Rattle.dds_instances.specs.Known.{IsKnown}
 use Rattle.dds_cache.specs.declared.kept.Kept.{Kept}
@@ -101,9 +101,6 @@ pub record IsNewest (q : ReaderQos) (g : List Happening) (k : Kept) : Type 0 whe
   pub handle_is : k.handle ≡ handle_of q g k.sample.key
   pub read_is : k.is_read ≡ false
   pub is_of : IsOf q g k
-
-or-false : (a b : Bool) → a ≡ false → b ≡ false → (a || b) ≡ false
-or-false a b x y = ap (λ (c : Bool). c || b) x ∙ y
 
 state-some : (last : Option ChangeKind) (nobody : Bool) (s : InstanceState) → state_after last nobody ≡ Some s → is_some last ≡ true
 state-some None nobody s e = absurd cc

@@ -1,11 +1,11 @@
 -- How many writes are present after a change.
-use Rattle.std.proofs.Common.{◌≡◌, ℕ, ◌+◌, ◌-◌, ◌≤◌, ◌<◌, List, [], ◌∷◌, ◌++◌, length, filter, Bool, true, false, not, ◌==◌, ◌&&◌, ◌||◌, sym, ap, ◌∙◌, refl, subst, cond, Option, Some, None, arith, suc, ⊎_elim}
-use Rattle.std.specs.Prelude.{if◌then◌else◌, nat_le, is_some}
+use Rattle.std.proofs.Common.{◌≡◌, ℕ, ◌+◌, ◌-◌, ◌≤◌, List, [], ◌∷◌, ◌++◌, length, filter, Bool, true, false, not, ◌==◌, ◌&&◌, ◌||◌, sym, ap, ◌∙◌, refl, subst, cond, Option, Some, arith, ⊎_elim}
+use Rattle.std.specs.Prelude.{if◌then◌else◌, nat_le}
 use Rattle.std.specs.List.{list_any, All, count_by}
 use Rattle.std.proofs.lemmas.Bool.{cases_Bool}
 use Rattle.std.proofs.lemmas.Bool.Decides.{nat_tests}
 use Rattle.std.proofs.lemmas.List.Sums.{sum_by-append, sum_by-cons}
-use Rattle.std.proofs.lemmas.List.Elements.{All-append, All-weaker, All-nil, All-cons}
+use Rattle.std.proofs.lemmas.List.Elements.{All-append, All-weaker}
 use Rattle.dds_base.specs.declared.key.Key.{Key}
 use Rattle.dds_base.specs.declared.change.ChangeKind.{ChangeKind}
 use Rattle.dds_base.specs.declared.happening.Arrival.{Arrival}
@@ -13,10 +13,10 @@ use Rattle.dds_base.specs.declared.happening.SamplePosition.{SamplePosition}
 use Rattle.dds_base.specs.declared.happening.Happening.{Happening}
 use Rattle.dds_base.specs.declared.happening.Happening.TheVariants.{Came}
 use Rattle.dds_base.specs.declared.qos.ReaderQos.{ReaderQos}
-use Rattle.dds_base.specs.Happening.{same_key, as_of, is_read, is_taken}
+use Rattle.dds_base.specs.Happening.{same_key, as_of}
 use Rattle.dds_base.specs.Ownership.{accepted_kind}
-use Rattle.dds_base.specs.Instance.{is_write, known_instances, introduces, last_accepted, disposed_generations, no_writers_generations}
-use Rattle.dds_base.specs.Presence.{accepted_writes, ends_with_write, is_at, is_kept_write, is_present, keeps, last_marker, later_writes, marks, present_samples, present_writes, up_to}
+use Rattle.dds_base.specs.Instance.{is_write, known_instances, disposed_generations, no_writers_generations}
+use Rattle.dds_base.specs.Presence.{accepted_writes, ends_with_write, is_at, is_kept_write, is_present, keeps, last_marker, later_writes, marks, present_writes, up_to}
 use Rattle.dds_base.specs.Access.{handle_of, timestamp_of, publication_of, newest_value}
 use Rattle.dds_base.proofs.KeyLaws.{key-same, same_key-comm}
 use Rattle.dds_instances.specs.declared.known.KnownInstance.{KnownInstance}

@@ -1,5 +1,4 @@
-use Rattle.std.proofs.Common.{◌≡◌, ℕ, ◌<◌, ◌^◌, List, sym, ap, ◌∙◌, subst, refl, Option, Some, None}
-use Rattle.dds_base.specs.declared.key.Key.{Key}
+use Rattle.std.proofs.Common.{◌≡◌, ◌<◌, ◌^◌, sym, ◌∙◌, subst, refl, Some, None}
 use Rattle.dds_base.specs.declared.sample.Picked.{Picked}
 use Rattle.dds_base.specs.Access.{own_generations}
 use Rattle.dds_instances.specs.Known.{IsKnown}

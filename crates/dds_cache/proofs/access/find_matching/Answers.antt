@@ -1,4 +1,4 @@
-use Rattle.std.proofs.Common.{List, length}
+use Rattle.std.proofs.Common.{length}
 use Rattle.std.proofs.lemmas.List.Sorted.{All-permutation}
 use Rattle.dds_cache.specs.Finding.{IsPlaced}
 use Rattle.dds_cache.proofs.FindingLaws.{matched, candidates-after}

@@ -1,6 +1,5 @@
-use Rattle.std.proofs.Common.{◌≡◌, ℕ, List, Bool, ◌&&◌, sym, ap, ◌∙◌, Option, Some, None}
+use Rattle.std.proofs.Common.{◌≡◌, Bool, ◌&&◌, sym, ap, ◌∙◌, Some, None}
 use Rattle.dds_base.specs.Happening.{same_key}
-use Rattle.dds_base.specs.declared.key.Key.{Key}
 use Rattle.dds_instances.specs.Known.{IsKnown}
 use Rattle.dds_cache.specs.Room.{is_write_after}
 use Rattle.dds_cache.proofs.FindingLaws.{key-of-handle, some-same}

@@ -1,4 +1,4 @@
-use Rattle.std.proofs.Common.{◌≡◌, List, sym, ap, ◌∙◌, Option, Some, None}
+use Rattle.std.proofs.Common.{ap, ◌∙◌, Option}
 use Rattle.dds_base.specs.declared.key.Key.{Key}
 use Rattle.dds_cache.specs.Sweeping.{stays_of}
 use Rattle.dds_cache.proofs.SweepLaws.{live-stays}

@@ -1,8 +1,3 @@
-use Rattle.std.proofs.Common.{List, ◌≡◌, ℕ, ◌+◌, ◌∷◌, [], sym, subst, refl, length, false, ◌∙◌, ap}
-use Rattle.dds_base.specs.declared.happening.Happening.{Happening}
-use Rattle.dds_base.specs.declared.happening.Happening.TheVariants.{Came, Passed, Heard}
-use Rattle.dds_cache.specs.Standing.{Stored, StandsFor}
-use Rattle.dds_cache.specs.Sound.{stored_of}
 use Rattle.dds_cache.proofs.reader_cache.ReaderCache.hear.Goals as goal
 
 pub returns-clause-ok : goal.returns-clause-ok

@@ -1,6 +1,5 @@
-use Rattle.std.proofs.Common.{List, ◌≡◌, ℕ, ◌+◌, ◌∷◌, [], sym, subst, refl, length, false, ◌∙◌, ap}
-use Rattle.dds_base.specs.declared.happening.Happening.{Happening}
-use Rattle.dds_base.specs.declared.happening.Happening.TheVariants.{Came, Passed, Heard}
+use Rattle.std.proofs.Common.{sym, subst, refl}
+use Rattle.dds_base.specs.declared.happening.Happening.TheVariants.{Passed, Heard}
 use Rattle.dds_cache.specs.Standing.{Stored, StandsFor}
 use Rattle.dds_cache.specs.Sound.{stored_of}
 use Rattle.dds_cache.proofs.PresenceLaws.{quiet-absent}

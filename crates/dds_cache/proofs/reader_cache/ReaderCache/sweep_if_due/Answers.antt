@@ -1,4 +1,4 @@
-use Rattle.std.proofs.Common.{◌≡◌, sym, subst, refl}
+use Rattle.std.proofs.Common.{sym, subst, refl}
 use Rattle.dds_cache.specs.Standing.{Stored, StandsFor}
 use Rattle.dds_cache.specs.Sound.{stored_of}
 use Rattle.dds_cache.proofs.SweepLaws.{stands-stays}

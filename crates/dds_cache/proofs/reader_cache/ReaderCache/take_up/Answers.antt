@@ -1,13 +1,12 @@
-use Rattle.std.proofs.Common.{List, ◌≡◌, ℕ, ◌+◌, ◌-◌, ◌∷◌, [], sym, subst, refl, length, false, ◌∙◌, ap}
+use Rattle.std.proofs.Common.{List, ◌-◌, ◌∷◌, sym, subst, refl, ◌∙◌}
 use Rattle.dds_base.specs.declared.happening.Happening.{Happening}
-use Rattle.dds_base.specs.declared.happening.Happening.TheVariants.{Came, Passed, Heard}
+use Rattle.dds_base.specs.declared.happening.Happening.TheVariants.{Came}
 use Rattle.dds_cache.specs.Standing.{Stored, StandsFor}
 use Rattle.dds_cache.specs.Sound.{stored_of}
 use Rattle.std.specs.Prelude.{OnOk, Result}
 use Rattle.dds_base.specs.declared.code.Code.{Code}
 use Rattle.dds_instances.specs.Table.{Stands}
 use Rattle.dds_base.specs.Happening.{arrivals}
-use Rattle.dds_base.specs.Presence.{ends_with_write}
 use Rattle.dds_cache.proofs.StandingLaws.{stands-added, fresh, counts-more}
 use Rattle.dds_cache.proofs.reader_cache.ReaderCache.take_up.Goals as goal
 
