@@ -2,6 +2,7 @@ mod base;
 mod cache;
 mod history;
 mod info;
+mod lease;
 mod readme;
 mod rows;
 mod sets;

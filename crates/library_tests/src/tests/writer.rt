@@ -6,9 +6,9 @@ use rtps_sets::SnSet;
 use rtps_writer::StatefulWriter;
 use std::alloc::Global;
 
-/// `open` begins anew, for two matched readers, with a depth or `all`, and with the most that may be kept or `any`. `write`,
+/// `open` begins anew, for two matched readers, with a depth or `all`, with the most that may be kept or `any`, and perhaps with a lease. `write`,
 /// `unregister` and `refusal` have the key and the value of a change, `registered` and `register` a key. `get` has a number: whether it is
-/// kept. `behind` and `acknowledged` have a reader. `tick` gives the HEARTBEAT that is due. `acknack` has a reader, the base and the count,
+/// kept. `behind` and `acknowledged` have a reader. `tick` and `assert` may have a moment: the HEARTBEAT that is due. `lost` is LIVELINESS_LOST. `acknack` has a reader, the base and the count,
 /// and perhaps the number of a member and one of those after it.
 const WRITERS: &str = "\
 # A change is awaited by both readers, until each has acknowledged it.
@@ -59,6 +59,21 @@ acknack 0 1 1 1 2 => Ok(Answered { acknowledged: None, answers: [Gap { first: Sn
 acknack 0 1 2 1 4 => Ok(Answered { acknowledged: None, answers: [Gap { first: Sn { number: 1 }, last: Sn { number: 1 } }, Data(Sn { number: 4 })] })
 first => 3
 last => 4
+
+# A writer is lost once its lease has passed since it was asserted, and each loss is told once. A write asserts it at moment 0.
+open all any 10 => 0
+tick 100 => None
+lost => LivelinessLostStatus { total_count: 0, total_count_change: 0 }
+assert 2 => Ok(Some(HeartbeatDue { first: Sn { number: 1 }, last: Sn { number: 0 }, count: 1 }))
+tick 11 => None
+lost => LivelinessLostStatus { total_count: 0, total_count_change: 0 }
+tick 12 => None
+tick 13 => None
+lost => LivelinessLostStatus { total_count: 1, total_count_change: 1 }
+lost => LivelinessLostStatus { total_count: 1, total_count_change: 0 }
+write 1 01 => Ok(Sn { number: 1 })
+tick 10 => Some(HeartbeatDue { first: Sn { number: 1 }, last: Sn { number: 1 }, count: 2 })
+lost => LivelinessLostStatus { total_count: 2, total_count_change: 1 }
 ";
 
 fn open(alloc: Global, words: Words<'_>) -> Result<StatefulWriter, Code> {
@@ -66,7 +81,13 @@ fn open(alloc: Global, words: Words<'_>) -> Result<StatefulWriter, Code> {
         Ok(depth) => HistoryQos::KeepLast(depth),
         Err(_) => HistoryQos::KeepAll,
     };
-    StatefulWriter::open(alloc, policy, words.second.parse().ok(), None, 2)
+    StatefulWriter::open(
+        alloc,
+        policy,
+        words.second.parse().ok(),
+        words.third.parse().ok(),
+        2,
+    )
 }
 
 fn key_of(word: &str) -> Key {
@@ -98,9 +119,19 @@ fn push_register(text: &mut String, writer: &mut StatefulWriter, key: Key) {
     let _ = write!(text, "{answer:?}");
 }
 
-fn push_tick(text: &mut String, writer: &mut StatefulWriter) {
-    let due = writer.tick(Moment::new(0));
+fn push_tick(text: &mut String, writer: &mut StatefulWriter, now: Moment) {
+    let due = writer.tick(now);
     let _ = write!(text, "{due:?}");
+}
+
+fn push_assert(text: &mut String, writer: &mut StatefulWriter, now: Moment) {
+    let answer = writer.assert(now);
+    let _ = write!(text, "{answer:?}");
+}
+
+fn push_lost(text: &mut String, writer: &mut StatefulWriter) {
+    let status = writer.liveliness_lost();
+    let _ = write!(text, "{status:?}");
 }
 
 fn push_number(text: &mut String, number: Sn) {
@@ -166,7 +197,9 @@ impl Subject for StatefulWriter {
             "get" => push_flag(text, self.get(Sn::new(number_of(words.first))).is_some()),
             "acknowledged" => push_acknowledged(text, self, words.first.parse().unwrap_or(0)),
             "behind" => push_behind(text, self, words.first.parse().unwrap_or(0)),
-            "tick" => push_tick(text, self),
+            "tick" => push_tick(text, self, Moment::new(number_of(words.first))),
+            "assert" => push_assert(text, self, Moment::new(number_of(words.first))),
+            "lost" => push_lost(text, self),
             "acknack" => push_acknack(text, self, operands),
             _ => {}
         }
@@ -175,7 +208,7 @@ impl Subject for StatefulWriter {
 
 #[test]
 fn writers_answer(rt: HostRuntime) {
-    let opened = StatefulWriter::open(rt.alloc(), HistoryQos::KeepAll, None, 2);
+    let opened = StatefulWriter::open(rt.alloc(), HistoryQos::KeepAll, None, None, 2);
     assert!(rt; opened.is_ok(), "no memory");
     if let Ok(mut writer) = opened {
         expect_rows(&rt, rt.alloc(), &mut writer, WRITERS);
