@@ -1,5 +1,5 @@
 -- A writer at its opening, and after what happens there.
-use Rattle.std.proofs.Common.{◌≡◌, ℕ, zero, suc, ◌≤◌, Bool, true, false, ◌&&◌, List, [], ◌∷◌, Option, None, map, replicate, length, get_or, refl, ap, sym, ◌∙◌, subst, arith}
+use Rattle.std.proofs.Common.{◌≡◌, ℕ, zero, suc, ◌≤◌, Bool, List, [], ◌∷◌, Option, None, map, replicate, length, get_or, refl, ap, sym, ◌∙◌, subst, arith}
 use Rattle.std.specs.Prelude.{◌+◌, ◌||◌, nat_le, ℤ, pos, negsuc, Result, Ok, Err, IfOk, IfErr, OnOk}
 use Rattle.std.specs.List.{AllByRecursion, list_any}
 use Rattle.std.proofs.lemmas.List.Elements.{All-from_recursion}
@@ -24,19 +24,6 @@ use Rattle.dds_core.specs.Matching.{destinations, reader_name, reader_names}
 use Rattle.dds_core.specs.Opening.{OpensWriter}
 use Rattle.dds_core.specs.Standing.{Enters, Ticks, WriterStands, state_of}
 use Rattle.dds_core.proofs.Tables.{map-matched_readers, told_alike}
-
--- what is plain has no limit
-
-and_left : (a b : Bool) → (a && b) ≡ true → a ≡ true
-and_left true b h = refl
-and_left false b h = absurd cc
-
-and_right : (a b : Bool) → (a && b) ≡ true → b ≡ true
-and_right true b h = h
-and_right false b h = absurd cc
-
-pub both_parts : (a b : Bool) → (a && b) ≡ true → (a ≡ true) × (b ≡ true)
-both_parts a b h = (and_left a b h, and_right a b h)
 
 -- a writer at its opening
 

@@ -63,7 +63,6 @@ fn open_writers(
     writers: &[WriterConfig],
 ) -> Result<Vec<WriterEnd>, AllocError>
     requires checked { check_refusal peers.now ≡ None }
-    requires plain { list_all is_plain_writer writers.now ≡ true }
     ensures { IfOk result (λ all. OpenWriters peers.now writers.now all.items) }
 {
     let mut all = Vec::new(alloc);
@@ -80,7 +79,6 @@ fn open_readers(
     readers: &[ReaderConfig],
 ) -> Result<Vec<ReaderEnd>, AllocError>
     requires checked { check_refusal peers.now ≡ None }
-    requires plain { list_all is_plain_reader readers.now ≡ true }
     ensures { IfOk result (λ all. OpenReaders peers.now readers.now all.items) }
 {
     let mut all = Vec::new(alloc);
@@ -94,7 +92,6 @@ fn open_readers(
 fn open(alloc: Global, peers: &[PeerConfig], index: usize) -> Result<Core, AllocError>
     requires within { index < length peers.now }
     requires checked { check_refusal peers.now ≡ None }
-    requires plain { are_plain peers.now ≡ true }
     ensures { IfOk result (OpensCore peers.now index) }
 {
     let own = &peers[index];

@@ -15,7 +15,7 @@ ghost use Rattle.dds_core.specs.declared.matching.ReaderName.{ReaderName as Name
 ghost use Rattle.dds_core.specs.Answering.{HasRoom, AreRooms, TakesAckNack};
 ghost use Rattle.dds_core.specs.Beating.{BeatsOf, BeatsOfAll};
 ghost use Rattle.dds_core.specs.Kept.{writer_identity};
-ghost use Rattle.dds_core.specs.Opening.{is_plain_writer, OpensWriter};
+ghost use Rattle.dds_core.specs.Opening.{OpensWriter};
 ghost use Rattle.dds_core.specs.Receiving.{receiver_at};
 ghost use Rattle.dds_core.specs.Sending.{AreMessages};
 ghost use Rattle.dds_core.specs.Standing.{WriterStands, Enters, Ticks, AllTick};
@@ -66,14 +66,13 @@ impl Model for WriterEnd {
 }
 
 impl WriterEnd {
-    /// A plain writer of a peer, which has written nothing.
+    /// A writer of a peer, which has written nothing.
     pub fn open(
         alloc: Global,
         peers: &[PeerConfig],
         config: &WriterConfig,
     ) -> Result<WriterEnd, AllocError>
         requires checked { check_refusal peers.now ≡ None }
-        requires plain { is_plain_writer config.now ≡ true }
         ensures { IfOk result (OpensWriter peers.now config.now) }
     {
         let destinations = destinations(alloc, peers, config.topic)?;
