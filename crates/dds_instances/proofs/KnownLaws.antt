@@ -17,9 +17,9 @@ use Rattle.dds_base.specs.Happening.{same_key, is_write_or_dispose, is_unregiste
 use Rattle.dds_base.specs.Ownership.{accepted_kind, publication_handles, is_registered, registered_writers, admits, outranks_all}
 use Rattle.dds_base.specs.Instance.{or_else, is_write, is_disposed, is_without_writers, state_after, is_nobody, last_accepted, instance_state_of, disposed_generations, no_writers_generations, latest_rebirth, known_instances, introduces, introduced_by, accesses}
 use Rattle.dds_base.specs.Presence.{becomes_not_alive, last_marker, accepted_writes}
-use Rattle.dds_base.proofs.KeyLaws.{key-same, same_key-refl}
+use Rattle.dds_base.proofs.KeyLaws.{key-same}
 use Rattle.dds_instances.specs.declared.registration.Registration.{Registration}
-use Rattle.dds_instances.specs.Registration.{registration_of, unregistered}
+use Rattle.dds_instances.specs.Registration.{unregistered}
 use Rattle.dds_instances.specs.Track.{Tracks, fresh}
 use Rattle.dds_instances.proofs.RegistrationLaws.{nobody-filtered, nobody-registrations}
 use Rattle.dds_instances.proofs.TrackLaws.{accepted-other}

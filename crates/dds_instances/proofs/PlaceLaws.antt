@@ -1,5 +1,5 @@
 -- Where a key stands among distinct ones.
-use Rattle.std.proofs.Common.{◌≡◌, ℕ, ◌<◌, ◌≤◌, List, [], ◌∷◌, length, get_or, Bool, true, false, ◌||◌, sym, ap, ◌∙◌, refl, Option, Some, None, arith, ⊎_elim, zero, suc, ◌+◌}
+use Rattle.std.proofs.Common.{◌≡◌, ℕ, ◌<◌, List, [], ◌∷◌, length, get_or, Bool, true, false, ◌||◌, sym, ap, ◌∙◌, refl, Some, arith, ⊎_elim, zero, suc, ◌+◌}
 use Rattle.std.specs.Prelude.{if◌then◌else◌}
 use Rattle.std.proofs.lemmas.Bool.{cases_lt}
 use Rattle.std.specs.List.{list_any, position, IsDistinct}

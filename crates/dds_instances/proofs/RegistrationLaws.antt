@@ -1,5 +1,5 @@
 -- The registrations of an instance answer for the writers that are registered for it.
-use Rattle.std.proofs.Common.{◌≡◌, ℕ, ◌+◌, ◌-◌, ◌<◌, List, [], ◌∷◌, ◌++◌, length, map, Bool, true, false, not, ◌==◌, ◌&&◌, ◌||◌, sym, ap, ◌∙◌, refl, cond, Some, None, arith, append_assoc, zero, suc, ◌≤◌, ⊎_elim}
+use Rattle.std.proofs.Common.{◌≡◌, ℕ, ◌+◌, ◌-◌, ◌<◌, List, [], ◌∷◌, ◌++◌, length, map, Bool, true, false, not, ◌==◌, ◌&&◌, ◌||◌, sym, ap, ◌∙◌, refl, cond, Some, None, arith, append_assoc, suc, ◌≤◌, ⊎_elim}
 use Rattle.std.proofs.lemmas.Bool.{cases_Bool, eqb-true, eqb-false}
 use Rattle.std.specs.Prelude.{if◌then◌else◌}
 use Rattle.std.specs.List.{filter, list_any, list_all}
@@ -9,7 +9,7 @@ use Rattle.dds_base.specs.declared.happening.Happening.{Happening}
 use Rattle.dds_base.specs.declared.happening.Happening.TheVariants.{Came, Died}
 use Rattle.dds_base.specs.declared.qos.MatchedWriter.{MatchedWriter}
 use Rattle.dds_base.specs.declared.qos.ReaderQos.{ReaderQos}
-use Rattle.dds_base.specs.Happening.{same_key, is_write_or_dispose, is_unregister}
+use Rattle.dds_base.specs.Happening.{is_write_or_dispose, is_unregister}
 use Rattle.dds_base.specs.Ownership.{IsMatched, numbers_from, publication_handles, is_registered, registered_writers, outranks, outranks_all, admits, accepted_kind}
 use Rattle.dds_base.specs.Instance.{is_nobody}
 use Rattle.dds_base.proofs.KeyLaws.{same_key-refl}

@@ -20,13 +20,13 @@ use Rattle.dds_base.specs.Happening.{same_key, is_write_or_dispose}
 use Rattle.dds_base.specs.Ownership.{publication_handles, accepted_kind, registered_writers}
 use Rattle.dds_base.specs.Presence.{is_accepted}
 use Rattle.dds_base.specs.Access.{handle_of, instance_of, number_from, state_of_known}
-use Rattle.dds_base.specs.Instance.{known_instances, last_accepted, introduces, introduced_by, accesses, is_since, or_else, is_write, is_disposed, is_without_writers, state_after, is_nobody}
+use Rattle.dds_base.specs.Instance.{known_instances, last_accepted, introduced_by, accesses, is_since, or_else, is_write, is_disposed, is_without_writers, state_after, is_nobody}
 use Rattle.dds_base.proofs.KeyLaws.{key-same, same_key-refl, same_key-comm}
 use Rattle.dds_instances.specs.declared.registration.Registration.{Registration}
 use Rattle.dds_instances.specs.declared.track.InstanceTrack.{InstanceTrack}
 use Rattle.dds_instances.specs.declared.known.KnownInstance.{KnownInstance}
 use Rattle.dds_instances.specs.Registration.{accepted_among, noted, noted_death, unregistered}
-use Rattle.dds_instances.specs.Track.{Tracks, Advances, Fits, fresh, one_if, is_revival, seen_at, state_of_track}
+use Rattle.dds_instances.specs.Track.{Tracks, Advances, Fits, fresh, one_if, seen_at, state_of_track}
 use Rattle.dds_instances.specs.Table.{Table, Stands, key_of, Each, Follows, IsLawful, IsPlaceOf, track_with}
 use Rattle.dds_instances.specs.Known.{IsKnown, IsReturnable}
 use Rattle.dds_instances.proofs.RegistrationLaws.{accepted-among, noted-registrations, buried-registrations}

@@ -1,6 +1,6 @@
 -- A track that takes up one more entry has followed its instance through it.
 use Rattle.std.proofs.Common.{◌≡◌, ℕ, ◌+◌, ◌≤◌, List, [], ◌∷◌, ◌++◌, length, map, Bool, true, false, not, ◌&&◌, ◌||◌, sym, ap, ◌∙◌, refl, Option, Some, None, arith}
-use Rattle.std.specs.Prelude.{if◌then◌else◌, nat_le}
+use Rattle.std.specs.Prelude.{if◌then◌else◌}
 use Rattle.std.specs.List.{list_any}
 use Rattle.std.proofs.lemmas.List.Folds.{list_any-append}
 use Rattle.dds_base.specs.declared.key.Key.{Key}
@@ -19,7 +19,7 @@ use Rattle.dds_base.specs.Presence.{becomes_not_alive, accepted_writes}
 use Rattle.dds_instances.specs.declared.registration.Registration.{Registration}
 use Rattle.dds_instances.specs.declared.track.InstanceTrack.{InstanceTrack}
 use Rattle.dds_instances.specs.Registration.{registration_of, is_there}
-use Rattle.dds_instances.specs.Track.{Tracks, Advances, state_of_track, one_if, is_revival, seen_at}
+use Rattle.dds_instances.specs.Track.{Tracks, Advances, state_of_track, one_if, is_revival}
 use Rattle.dds_instances.proofs.RegistrationLaws.{nobody-there, same-registrations}
 
 -- the state of a track is that of its instance

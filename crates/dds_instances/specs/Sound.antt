@@ -1,5 +1,5 @@
 -- What is true of the instances as they are kept. Inner functions alone cite this: nothing here has to be believed.
-use Rattle.std.specs.Prelude.{◌≡◌, ℕ, ◌+◌, ◌<◌, ◌≤◌, ◌^◌, map, All, vec_len, vec_capacity}
+use Rattle.std.specs.Prelude.{◌≡◌, ◌+◌, ◌<◌, ◌≤◌, ◌^◌, map, All, vec_len, vec_capacity}
 use Rattle.indexmap.specs.IndexSet.{spare}
 use Rattle.dds_instances.specs.declared.instances.Instances.TheInside.{Inside}
 use Rattle.dds_instances.specs.Track.{Fits}

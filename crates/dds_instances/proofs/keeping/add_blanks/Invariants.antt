@@ -1,5 +1,5 @@
 -- so many blanks were added as the loop went round
-use Rattle.std.proofs.Common.{◌≡◌, ◌≤◌}
+use Rattle.std.proofs.Common.{◌≤◌}
 use Rattle.std.specs.Prelude.{vec_len}
 use Rattle.dds_instances.specs.Table.{AreBlank}
 use Rattle.dds_instances.proofs.keeping.add_blanks.Given as goal

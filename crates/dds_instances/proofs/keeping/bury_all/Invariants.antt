@@ -1,5 +1,5 @@
 -- the tracks so far have taken the death up, the others are as they were
-use Rattle.std.proofs.Common.{◌≡◌, ℕ, ◌+◌, ◌<◌, ◌≤◌, length, get_or, map}
+use Rattle.std.proofs.Common.{◌≡◌, ℕ, ◌<◌, ◌≤◌, length, get_or, map}
 use Rattle.dds_instances.specs.declared.track.InstanceTrack.{InstanceTrack}
 use Rattle.dds_instances.specs.Table.{key_of}
 use Rattle.dds_instances.proofs.StandingLaws.{Buries}

@@ -1,12 +1,11 @@
-use Rattle.std.proofs.Common.{◌≡◌, List, ◌∷◌, ◌++◌, [], map, subst, sym, ap, ◌∙◌, false, Option, Some, length}
+use Rattle.std.proofs.Common.{◌≡◌, List, map, subst, sym, ap, ◌∙◌, false, Option, length}
 use Rattle.std.specs.Prelude.{IfSome}
 use Rattle.std.specs.List.{list_any}
 use Rattle.std.proofs.lemmas.List.Elements.{All-pop}
 use Rattle.dds_base.specs.declared.key.Key.{Key}
-use Rattle.dds_base.specs.Happening.{same_key, is_write_or_dispose}
-use Rattle.dds_base.specs.Ownership.{publication_handles}
+use Rattle.dds_base.specs.Happening.{same_key}
 use Rattle.dds_instances.specs.declared.registration.Registration.{Registration}
-use Rattle.dds_instances.specs.Registration.{unregistered, blank_registrations}
+use Rattle.dds_instances.specs.Registration.{blank_registrations}
 use Rattle.dds_instances.specs.Table.{key_of}
 use Rattle.dds_instances.proofs.RegistrationLaws.{blank-unregistered}
 use Rattle.dds_instances.proofs.StandingLaws.{follows-nothing}

@@ -1,4 +1,4 @@
-use Rattle.std.proofs.Common.{◌≡◌, ℕ, List, Bool, true, false, Option, Some, None, MatchOption, sym, ◌∙◌}
+use Rattle.std.proofs.Common.{◌≡◌, ℕ, List, false, Option, Some, None, MatchOption, sym}
 use Rattle.std.specs.Prelude.{is_some}
 use Rattle.std.specs.List.{list_any, position, IsDistinct}
 use Rattle.dds_base.specs.declared.key.Key.{Key}

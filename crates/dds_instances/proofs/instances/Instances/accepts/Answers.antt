@@ -1,6 +1,5 @@
-use Rattle.std.proofs.Common.{◌≡◌, ℕ, ◌+◌, ◌<◌, List, map, sym, ap, ◌∙◌, arith, Option, Some, None, subst, ◌∷◌}
-use Rattle.dds_instances.specs.declared.track.InstanceTrack.{InstanceTrack}
-use Rattle.dds_instances.specs.Table.{Table, Stands, key_of}
+use Rattle.std.proofs.Common.{ap, ◌∙◌, Option}
+use Rattle.dds_instances.specs.Table.{Table}
 use Rattle.std.specs.Prelude.{is_some}
 use Rattle.dds_base.specs.declared.change.ChangeKind.{ChangeKind}
 use Rattle.dds_instances.proofs.StandingLaws.{follows-of, accepts-tracked, accepts-first}

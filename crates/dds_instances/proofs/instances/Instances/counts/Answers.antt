@@ -1,6 +1,5 @@
-use Rattle.std.proofs.Common.{◌≡◌, ℕ, ◌+◌, ◌<◌, List, map, sym, ap, ◌∙◌, arith, Option, Some, None, subst, ◌∷◌}
-use Rattle.dds_instances.specs.declared.track.InstanceTrack.{InstanceTrack}
-use Rattle.dds_instances.specs.Table.{Table, Stands, key_of}
+use Rattle.std.proofs.Common.{sym, ap, ◌∙◌}
+use Rattle.dds_instances.specs.Table.{Table}
 use Rattle.dds_instances.proofs.StandingLaws.{follows-of}
 use Rattle.dds_instances.proofs.KnownLaws.{unknown}
 use Rattle.dds_instances.proofs.instances.Instances.counts.Goals as goal

@@ -1,4 +1,4 @@
-use Rattle.std.proofs.Common.{◌≡◌, ℕ, ◌+◌, length, refl, subst, sym, arith, ◌∷◌}
+use Rattle.std.proofs.Common.{refl, subst, sym, arith}
 use Rattle.dds_base.specs.declared.happening.Happening.TheVariants.{Died}
 use Rattle.dds_instances.specs.Table.{Table, Stands}
 use Rattle.dds_instances.specs.Sound.{table_of}

@@ -1,6 +1,5 @@
-use Rattle.std.proofs.Common.{◌≡◌, ℕ, ◌+◌, ◌<◌, List, map, sym, ap, ◌∙◌, arith, Option, Some, None, subst, ◌∷◌}
-use Rattle.dds_instances.specs.declared.track.InstanceTrack.{InstanceTrack}
-use Rattle.dds_instances.specs.Table.{Table, Stands, key_of}
+use Rattle.std.proofs.Common.{ap, ◌∙◌}
+use Rattle.dds_instances.specs.Table.{Table}
 use Rattle.dds_instances.proofs.StandingLaws.{follows-of, handle-at, handle-none}
 use Rattle.dds_instances.proofs.instances.Instances.handle.Goals as goal
 

@@ -1,4 +1,4 @@
-use Rattle.std.proofs.Common.{◌≡◌, ◌+◌, arith, List, sym, ap, ◌∙◌, subst, Option, None, true}
+use Rattle.std.proofs.Common.{◌≡◌, ◌+◌, arith, List, sym, ap, ◌∙◌, subst, Option, true}
 use Rattle.std.specs.Prelude.{is_some}
 use Rattle.dds_base.specs.declared.key.Key.{Key}
 use Rattle.dds_base.specs.declared.change.ChangeKind.{ChangeKind}
@@ -7,7 +7,7 @@ use Rattle.dds_base.specs.Instance.{last_accepted, state_after, is_nobody}
 use Rattle.dds_instances.specs.declared.track.InstanceTrack.{InstanceTrack}
 use Rattle.std.specs.List.{All}
 use Rattle.dds_instances.specs.Track.{Tracks, Fits}
-use Rattle.dds_instances.specs.Table.{Table, Stands, Follows}
+use Rattle.dds_instances.specs.Table.{Table}
 use Rattle.dds_instances.proofs.StandingLaws.{follows-of, told-tracked}
 use Rattle.dds_instances.proofs.instances.Instances.known.Goals as goal
 

@@ -1,7 +1,5 @@
-use Rattle.std.proofs.Common.{◌≡◌, ℕ, ◌+◌, ◌<◌, List, map, sym, ap, ◌∙◌, arith, Option, Some, None, subst, ◌∷◌, refl}
-use Rattle.dds_instances.specs.declared.track.InstanceTrack.{InstanceTrack}
-use Rattle.dds_instances.specs.Table.{Table, Stands, key_of}
-use Rattle.dds_base.specs.declared.happening.Happening.TheVariants.{Read, Took}
+use Rattle.std.proofs.Common.{◌+◌, sym, ◌∙◌, arith, subst, refl}
+use Rattle.dds_instances.specs.Table.{Table, Stands}
 use Rattle.dds_instances.specs.Sound.{table_of}
 use Rattle.dds_instances.proofs.StandingLaws.{fits-more, stands-read, stands-took}
 use Rattle.dds_instances.proofs.instances.Instances.returned.Goals as goal
