@@ -1,5 +1,5 @@
--- What is known of the liveliness of one matched writer. Inner functions alone cite this: nothing here has to be
--- believed.
+-- What is known of the liveliness of one matched writer. Inner functions alone cite this: nothing here has to
+-- be believed.
 use Rattle.std.specs.Prelude.{ℕ, ◌+◌, Bool, true, false, ◌&&◌, not, nat_lt, List, [], ◌∷◌, Option, Some, None, is_some, if◌then◌else◌}
 use Rattle.std.specs.List.{list_any}
 use Rattle.dds_base.specs.declared.happening.Happening.{Happening}
@@ -45,4 +45,5 @@ buried t = record t { since = None; has_died = true }
 -- the number of the first above this one whose lease is over, where these have the numbers from k on
 abbrev pub first_over : ℕ → ℕ → ℕ → List LeaseTrack → Option ℕ
 first_over after now k [] = None
-first_over after now k (t ∷ ts) = if nat_lt after k && is_over_at now t then Some k else first_over after now (k + 1) ts
+first_over after now k (t ∷ ts) =
+    if nat_lt after k && is_over_at now t then Some k else first_over after now (k + 1) ts

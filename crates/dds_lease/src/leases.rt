@@ -152,7 +152,8 @@ impl Leases {
     ///
     /// DDS 1.4, 2.2.3 (LIVELINESS: lease_duration).
     pub fn overdue(&self, now: Moment) -> usize
-        ensures { (q : ReaderQos) (h : List Happening) → StandsFor self.now q h → result ≡ length (dead_at q now h) }
+        ensures { (q : ReaderQos) (h : List Happening) → StandsFor self.now q h
+            → result ≡ length (dead_at q now h) }
     {
         count_over(&self.tracks, now)
     }
@@ -165,8 +166,8 @@ impl Leases {
         ensures matched { (q : ReaderQos) (h : List Happening) → StandsFor self.now q h → IsMatched q writer
             → result ≡ is_alive writer h }
         // A handle that names no writer names none that is alive.
-        ensures unmatched { (q : ReaderQos) (h : List Happening) → StandsFor self.now q h → (IsMatched q writer → ⊥)
-            → result ≡ false }
+        ensures unmatched { (q : ReaderQos) (h : List Happening) → StandsFor self.now q h
+            → (IsMatched q writer → ⊥) → result ≡ false }
     {
         let at = writer.number();
         if at == 0 || self.tracks.len() < at as usize {
@@ -180,7 +181,8 @@ impl Leases {
     /// DDS 1.4, 2.2.4.1 (LivelinessChangedStatus: alive_count).
     pub fn alive_count(&self) -> usize
         // It is the number of the definitions.
-        ensures alive { (q : ReaderQos) (h : List Happening) → StandsFor self.now q h → result ≡ alive_count q h }
+        ensures alive { (q : ReaderQos) (h : List Happening) → StandsFor self.now q h
+            → result ≡ alive_count q h }
         // It is at most the number of the matched writers.
         ensures few { result ≤ writer_count self.now }
     {
@@ -192,7 +194,8 @@ impl Leases {
     /// DDS 1.4, 2.2.4.1 (LivelinessChangedStatus: not_alive_count).
     pub fn not_alive_count(&self) -> usize
         // It is the number of the definitions.
-        ensures dead { (q : ReaderQos) (h : List Happening) → StandsFor self.now q h → result ≡ not_alive_count q h }
+        ensures dead { (q : ReaderQos) (h : List Happening) → StandsFor self.now q h
+            → result ≡ not_alive_count q h }
         // It is at most the number of the matched writers.
         ensures few { result ≤ writer_count self.now }
     {

@@ -1,4 +1,4 @@
--- A writer's assertion and its HEARTBEAT, and when what is kept of its liveliness stands for what happened at it
+-- A writer's assertion and its HEARTBEAT, and when what is kept of its liveliness stands for what happened
 -- (DDS 1.4, 2.2.2.4: assert_liveliness; 2.2.3: LIVELINESS; 2.2.4.1: LIVELINESS_LOST).
 use Rattle.std.specs.Prelude.{◌≡◌, ℕ, ◌-◌, ◌^◌, List, length, nat_le, nat_lt, Option, None, Some, pos, if◌then◌else◌}
 use Rattle.dds_base.specs.declared.code.Code.{Code}
@@ -28,5 +28,9 @@ assert_refusal s = if nat_le (2 ^ 31 - 1) (counts_due s) then Some OutOfResource
 abbrev pub heartbeat_asserted : WriterState → ℕ → Option HeartbeatDue
 heartbeat_asserted s now =
     if nat_lt 0 (length s.acknowledged)
-    then Some (record { first = first_kept (history_of s); last = last_of s; count = pos (counts_due (asserted s now)) })
+    then Some (record {
+      first = first_kept (history_of s);
+      last = last_of s;
+      count = pos (counts_due (asserted s now));
+    })
     else None

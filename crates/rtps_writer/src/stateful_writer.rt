@@ -280,12 +280,14 @@ impl StatefulWriter {
     /// DDS 1.4, 2.2.2.4 (assert_liveliness); RTPS 2.5, 8.3.8 (Heartbeat: LivelinessFlag).
     pub fn assert(&mut self, now: Moment) -> Result<Option<HeartbeatDue>, Code>
         // The assertion is entered.
-        ensures ok { (s : WriterState) → StandsFor self.old s → OnOk result (StandsFor self.new (asserted s now)) }
+        ensures ok { (s : WriterState) → StandsFor self.old s
+            → OnOk result (StandsFor self.new (asserted s now)) }
         // There was a count left, and a HEARTBEAT with it is due exactly where a reader is matched.
         ensures accepted { (s : WriterState) → StandsFor self.old s
             → IfOk result (λ due. (assert_refusal s ≡ None) × (due ≡ heartbeat_asserted s now)) }
         // It is refused where no count was left.
-        ensures refused { (s : WriterState) → StandsFor self.old s → IfErr result (λ code. assert_refusal s ≡ Some code) }
+        ensures refused { (s : WriterState) → StandsFor self.old s
+            → IfErr result (λ code. assert_refusal s ≡ Some code) }
         // The readers stay the same ones.
         ensures readers { reader_count self.new ≡ reader_count self.old }
         // A refusal leaves the writer as it was.
@@ -306,7 +308,8 @@ impl StatefulWriter {
     /// DDS 1.4, 2.2.4.1 (LIVELINESS_LOST, LivelinessLostStatus).
     pub fn liveliness_lost(&mut self) -> LivelinessLostStatus
         // It is the status of the definitions.
-        ensures status { (s : WriterState) → StandsFor self.old s → result ≡ liveliness_lost_status s.lease s.written }
+        ensures status { (s : WriterState) → StandsFor self.old s
+            → result ≡ liveliness_lost_status s.lease s.written }
         // The look is entered.
         ensures stands { (s : WriterState) → StandsFor self.old s → StandsFor self.new (entering s LookedAt) }
         // The readers stay the same ones.
