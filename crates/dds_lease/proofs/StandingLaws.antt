@@ -12,7 +12,7 @@ use Rattle.dds_base.specs.Ownership.{publication_handles}
 use Rattle.dds_lease.specs.declared.track.LeaseTrack.{LeaseTrack}
 use Rattle.dds_lease.specs.Standing.{Kept, StandsFor}
 use Rattle.dds_base.specs.Written.{is_over}
-use Rattle.dds_lease.specs.Track.{asserted, buried, first_over, is_dead_track, is_live_track, track_of}
+use Rattle.dds_lease.specs.Track.{asserted, buried, first_over, is_dead_track, is_live_track, is_over_at, track_of}
 use Rattle.dds_lease.proofs.FindingLaws.{first-dead}
 use Rattle.dds_lease.proofs.TrackLaws.{changed-at, track-at, track-came, track-count, track-died, track-heard}
 
@@ -147,3 +147,19 @@ buried-counts ts at track within is alive =
     none : (died live : Bool) → live ≡ true → ◌≡◌ {A = ℕ} (cond (died && not live) 1 0) 0
     none true live e = ap (λ (b : Bool). cond (not b) 1 0) e
     none false live e = refl
+
+-- how many leases are over, once the writer of one of them died
+pub buried-overdue : (ts : List LeaseTrack) (at now : ℕ) (track : LeaseTrack) → at < length ts
+    → track ≡ get_or ts at track → is_over_at now track ≡ true
+    → count_by (is_over_at now) (set ts at (buried track)) + 1 ≡ count_by (is_over_at now) ts
+buried-overdue ts at now track within is over =
+    let count = sum_by-set (λ (t : LeaseTrack). cond (is_over_at now t) 1 0) ts at (buried track) track within in
+    let was : ◌≡◌ {A = ℕ} (cond (is_over_at now (get_or ts at track)) 1 0) 1 =
+    ap (λ (t : LeaseTrack). cond (is_over_at now t) 1 0) (sym is) ∙ ap (λ (b : Bool). cond b 1 0) over in
+    let no_longer : ◌≡◌ {A = ℕ} (cond (is_over_at now (buried track)) 1 0) 0 =
+    ap (λ (b : Bool). cond b 1 0) (never track.lease) in
+    omega (arith, count, was, no_longer)
+  where
+    never : (lease : Option ℕ) → is_over lease None now ≡ false
+    never (Some lease) = refl
+    never None = refl

@@ -1,13 +1,13 @@
 -- When what is kept of the leases of a reader's matched writers stands for what happened at that reader.
-use Rattle.std.specs.Prelude.{◌≡◌, ℕ, List, length, map, filter, nat_lt}
+use Rattle.std.specs.Prelude.{◌≡◌, ℕ, List, count_by, length, map, filter, nat_lt}
 use Rattle.dds_base.specs.declared.happening.Happening.{Happening}
 use Rattle.dds_base.specs.declared.qos.ReaderQos.{ReaderQos}
 use Rattle.dds_base.specs.Ownership.{publication_handles}
 use Rattle.dds_base.specs.Liveliness.{dead_at, last_turned, with_deaths}
 use Rattle.dds_lease.specs.declared.track.LeaseTrack.{LeaseTrack}
-use Rattle.dds_lease.specs.Track.{track_of}
+use Rattle.dds_lease.specs.Track.{is_over_at, track_of}
 
--- what is kept; callers see it through writer_count and StandsFor
+-- what is kept; callers see it through writer_count, overdue_of and StandsFor
 pub record Kept : Type 0 where
   pub tracks : List LeaseTrack
   pub last_turned : ℕ
@@ -15,6 +15,10 @@ pub record Kept : Type 0 where
 -- how many writers are matched
 abbrev pub writer_count : Kept → ℕ
 writer_count kept = length kept.tracks
+
+-- how many leases are over at this moment
+abbrev pub overdue_of : Kept → ℕ → ℕ
+overdue_of kept now = count_by (is_over_at now) kept.tracks
 
 -- what happened at a reader of these policies that this stands for
 pub record StandsFor (kept : Kept) (q : ReaderQos) (h : List Happening) : Type 0 where

@@ -1,6 +1,6 @@
 //! The leases of a reader's matched writers.
 
-ghost use Rattle.std.specs.Prelude.{◌≡◌, ◌≤◌, ◌<◌, ℕ, List, [], ◌∷◌, length, find, nat_lt, IfOk, IfErr, IfNone, IfSome, MatchOption, false};
+ghost use Rattle.std.specs.Prelude.{◌≡◌, ◌+◌, ◌≤◌, ◌<◌, ℕ, List, [], ◌∷◌, length, find, nat_lt, IfOk, IfErr, IfNone, IfSome, MatchOption, false};
 ghost use Rattle.dds_base.specs.declared.code.Code.TheVariants.{Memory};
 ghost use Rattle.dds_base.specs.declared.happening.Arrival.{Arrival};
 ghost use Rattle.dds_base.specs.declared.happening.Happening.{Happening};
@@ -8,7 +8,7 @@ ghost use Rattle.dds_base.specs.declared.happening.Happening.TheVariants.{Came, 
 ghost use Rattle.dds_base.specs.declared.qos.ReaderQos.{ReaderQos};
 ghost use Rattle.dds_base.specs.Liveliness.{alive_count, dead_at, is_alive, last_turned, not_alive_count};
 ghost use Rattle.dds_base.specs.Ownership.{IsMatched};
-ghost use Rattle.dds_lease.specs.Standing.{Kept, StandsFor, after_deaths_above, writer_count};
+ghost use Rattle.dds_lease.specs.Standing.{Kept, StandsFor, after_deaths_above, overdue_of, writer_count};
 
 use crate::track::{LeaseTrack, count_over, find_over, fresh_tracks};
 use dds_base::{Code, Handle, Moment, ReaderQos};
@@ -17,7 +17,7 @@ use std::marker::Model;
 
 /// Which matched writers of a reader are alive, and since when, kept up with what happens there.
 ///
-/// A writer is alive from its first assertion there. It dies once the lease that it has passed since its last one.
+/// A writer is alive from its first assertion there. It dies once its lease has passed since the last one.
 ///
 /// DDS 1.4, 2.2.3 (LIVELINESS), 2.2.4.1 (LIVELINESS_CHANGED).
 #[derive(Drop)]
@@ -129,6 +129,8 @@ impl Leases {
             (λ w. after_deaths_above q now after h ≡ after_deaths_above q now w (Died w now ∷ h)) }
         // It is a matched writer above this handle.
         ensures above { IfSome result (λ w. (after < w) × (w ≤ writer_count self.new)) }
+        // One lease fewer is over at this moment, if a writer died.
+        ensures overdue { IfSome result (λ w. overdue_of self.new now + 1 ≡ overdue_of self.old now) }
         // Where there is none nothing has changed.
         ensures none { IfNone result (self.new ≡ self.old) }
         // The writers stay the same ones.
@@ -152,7 +154,10 @@ impl Leases {
     ///
     /// DDS 1.4, 2.2.3 (LIVELINESS: lease_duration).
     pub fn overdue(&self, now: Moment) -> usize
-        ensures { (q : ReaderQos) (h : List Happening) → StandsFor self.now q h
+        // It is the number of the leases that are over.
+        ensures overdue { result ≡ overdue_of self.now now }
+        // It is the number of the writers that die by the definitions.
+        ensures deaths { (q : ReaderQos) (h : List Happening) → StandsFor self.now q h
             → result ≡ length (dead_at q now h) }
     {
         count_over(&self.tracks, now)

@@ -5,10 +5,10 @@ use Rattle.dds_base.specs.declared.happening.Happening.TheVariants.{Died}
 use Rattle.dds_base.specs.declared.qos.ReaderQos.{ReaderQos}
 use Rattle.dds_base.specs.Liveliness.{dead_at}
 use Rattle.dds_lease.specs.declared.track.LeaseTrack.{LeaseTrack}
-use Rattle.dds_lease.specs.Standing.{StandsFor, after_deaths_above}
+use Rattle.dds_lease.specs.Standing.{Kept, StandsFor, after_deaths_above, overdue_of}
 use Rattle.dds_lease.specs.Track.{first_over, is_over_at}
 use Rattle.dds_lease.proofs.DeathLaws.{deaths_end, deaths_go_on}
-use Rattle.dds_lease.proofs.StandingLaws.{buried-counts, died-stands, found-first, over-live, stands-as}
+use Rattle.dds_lease.proofs.StandingLaws.{buried-counts, buried-overdue, died-stands, found-first, over-live, stands-as}
 use Rattle.dds_lease.proofs.leases.Leases.expire.Goals as goal
 
 -- nobody dies
@@ -31,23 +31,27 @@ returns-in_err-writer-clause-turn c = λ q h given.
     (deaths_end q c.args.now c.args.after h (none c q h given))
 
 -- the one that dies
-pub record Dies (ts : List LeaseTrack) (at : ℕ) (track : LeaseTrack) : Type 0 where
+pub record Dies (ts : List LeaseTrack) (at now : ℕ) (track : LeaseTrack) : Type 0 where
   within : at < length ts
   is : track ≡ get_or ts at track
+  over : is_over_at now track ≡ true
   alive : is_some track.since ≡ true
 
 dies : (tracks kept : List LeaseTrack) (w n now after : ℕ) (track : LeaseTrack) → tracks ≡ kept → n ≡ w
     → (after < w) × (w ≤ length tracks) → ((d : LeaseTrack) → is_over_at now (get_or tracks (w - 1) d) ≡ true)
-    → track ≡ get_or kept (n - 1) track → Dies kept (n - 1) track
+    → track ≡ get_or kept (n - 1) track → Dies kept (n - 1) now track
 dies tracks kept w n now after track same number above over is =
-    let count = ap (λ (ts : List LeaseTrack). length ts) same in record {
+    let count = ap (λ (ts : List LeaseTrack). length ts) same in
+    let over_here : is_over_at now track ≡ true =
+    ap (λ (t : LeaseTrack). is_over_at now t)
+    (is ∙ (ap (λ (m : ℕ). get_or kept (m - 1) track) number
+    ∙ ap (λ (ts : List LeaseTrack). get_or ts (w - 1) track) (sym same)))
+    ∙ over track in
+    record {
       within = omega (arith, count, number, above.0, above.1);
       is = is;
-      alive = over-live track.lease track.since now
-          (ap (λ (t : LeaseTrack). is_over_at now t)
-          (is ∙ (ap (λ (m : ℕ). get_or kept (m - 1) track) number
-          ∙ ap (λ (ts : List LeaseTrack). get_or ts (w - 1) track) (sym same)))
-          ∙ over track);
+      over = over_here;
+      alive = over-live track.lease track.since now over_here;
     }
 
 pub overflow_sub-self : goal.overflow_sub-self
@@ -87,3 +91,11 @@ returns-clause-died c = λ q h given.
 pub returns-clause-turn : goal.returns-clause-turn
 returns-clause-turn c = λ q h given.
     deaths_go_on q c.args.now c.args.after c.in_ok-writer.writer h (first c q h given)
+
+pub returns-clause-overdue : goal.returns-clause-overdue
+returns-clause-overdue c =
+    let one = dies _ _ _ _ _ _ c.index-track.result.now c.deref.ensures.value c.number.ensures
+    c.in_ok-writer.ensures.above c.in_ok-writer.ensures.over c.index-track.ensures in
+    let fewer = buried-overdue _ _ c.args.now c.index-track.result.now one.within one.is one.over in
+    let kept = ap (λ (k : Kept). overdue_of k c.args.now) c.self.view_is in
+    omega (arith, fewer, kept)

@@ -6,8 +6,8 @@ use Rattle.dds_lease.specs.Track.{is_over_at}
 use Rattle.dds_lease.proofs.FindingLaws.{count-dead}
 use Rattle.dds_lease.proofs.leases.Leases.overdue.Goals as goal
 
-pub returns : goal.returns
-returns c = λ q h given.
+pub returns-clause-deaths : goal.returns-clause-deaths
+returns-clause-deaths c = λ q h given.
     c.count_over.ensures
     ∙ (ap (λ (ts : List LeaseTrack). count_by (is_over_at c.args.now) ts)
     (c.deref.ensures.value ∙ (ap (λ (k : Kept). k.tracks) c.self.view_is ∙ given.tracks))
