@@ -1,6 +1,6 @@
 -- What is kept of the instances follows one more entry.
 use Rattle.std.proofs.Common.{◌≡◌, ◌≢◌, ℕ, ◌+◌, ◌<◌, ◌≤◌, List, [], ◌∷◌, ◌++◌, length, get_or, set, map, Bool, true, false, not, ◌&&◌, ◌||◌, sym, ap, ◌∙◌, refl, subst, Option, Some, None, cond, arith, ⊎_elim, zero, suc}
-use Rattle.std.specs.Prelude.{is_some, if◌then◌else◌, nat_le, slice_get}
+use Rattle.std.specs.Prelude.{is_some, if◌then◌else◌, nat_le, slice_get, IfSome}
 use Rattle.std.specs.Option.{option_map}
 use Rattle.std.specs.List.{All, list_any}
 use Rattle.std.proofs.lemmas.Bool.{cases_eq, cases_Bool, lt-leb}
@@ -18,7 +18,7 @@ use Rattle.dds_base.specs.declared.sample.ViewState.TheVariants.{New, NotNew}
 use Rattle.dds_base.specs.declared.qos.ReaderQos.{ReaderQos}
 use Rattle.dds_base.specs.Happening.{same_key, is_write_or_dispose}
 use Rattle.dds_base.specs.Ownership.{publication_handles, accepted_kind, registered_writers}
-use Rattle.dds_base.specs.Presence.{is_accepted}
+use Rattle.dds_base.specs.Presence.{becomes_not_alive, is_accepted}
 use Rattle.dds_base.specs.Access.{handle_of, instance_of, number_from, state_of_known}
 use Rattle.dds_base.specs.Instance.{known_instances, last_accepted, introduced_by, accesses, is_since, or_else, is_write, is_disposed, is_without_writers, state_after, is_nobody}
 use Rattle.dds_base.proofs.KeyLaws.{key-same, same_key-refl, same_key-comm}
@@ -36,6 +36,10 @@ use Rattle.dds_instances.proofs.KnownLaws.{known, unknown, rejected, tracks-fres
 
 -- ---- the counts fit
 
+earlier-more : (n : ℕ) (m : Option ℕ) → IfSome m (λ k. k < n) → IfSome m (λ k. k < n + 1)
+earlier-more n None below = below
+earlier-more n (Some k) below = omega (arith, below)
+
 pub fits-advanced : (kind : Option ChangeKind) (rs : List Registration) (n : ℕ) (old new : InstanceTrack) → Fits n old → Advances kind rs n old new → Fits (n + 1) new
 fits-advanced kind rs n old new fits step =
     let one : one_if (is_write kind) ≤ 1 = one_if-bound (is_write kind) in
@@ -43,10 +47,16 @@ fits-advanced kind rs n old new fits step =
     record {
       writes = omega (arith, fits.writes, step.writes, one);
       generations = omega (arith, fits.generations, step.disposed, step.no_writers, two);
+      marker = subst (λ (m : Option ℕ). IfSome m (λ k. k < n + 1)) (sym step.marker)
+          (latest (becomes_not_alive (state_of_track old) (state_of_track new)) old.last_marker fits.marker);
     }
+  where
+    latest : (b : Bool) (m : Option ℕ) → IfSome m (λ k. k < n) → IfSome (if b then Some n else m) (λ k. k < n + 1)
+    latest true m below = omega arith
+    latest false m below = earlier-more n m below
 
 pub fits-more : (n : ℕ) (ts : List InstanceTrack) → All (Fits n) ts → All (Fits (n + 1)) ts
-fits-more n ts fits = All-weaker (Fits n) (Fits (n + 1)) (λ t f. record { writes = omega (arith, f.writes); generations = omega (arith, f.generations) }) ts fits
+fits-more n ts fits = All-weaker (Fits n) (Fits (n + 1)) (λ t f. record { writes = omega (arith, f.writes); generations = omega (arith, f.generations); marker = earlier-more n t.last_marker f.marker }) ts fits
 
 pub fits-set : (n : ℕ) (ts : List InstanceTrack) (at : ℕ) (t : InstanceTrack) → All (Fits n) ts → Fits (n + 1) t → All (Fits (n + 1)) (set ts at t)
 fits-set n ts at t fits fit = All-set (Fits (n + 1)) ts at t fit (fits-more n ts fits)
@@ -220,7 +230,7 @@ each-passed q h ss s ts absent each = λ k d within. read-stranger q h ss s (get
 pub fits-saw : (n : ℕ) (ts : List InstanceTrack) (at position : ℕ) (t x : InstanceTrack) → at < length ts → t ≡ get_or ts at t → x ≡ seen_at position t → All (Fits n) ts → All (Fits n) (set ts at x)
 fits-saw n ts at position t x inside is sees fits =
     let before : Fits n t = subst (λ (y : InstanceTrack). Fits n y) (sym is) (fits at t inside) in
-    let after : Fits n (seen_at position t) = record { writes = before.writes; generations = before.generations } in
+    let after : Fits n (seen_at position t) = record { writes = before.writes; generations = before.generations; marker = before.marker } in
     All-set (Fits n) ts at x (subst (λ (y : InstanceTrack). Fits n y) (sym sees) after) fits
 
 -- ---- what is kept of a key

@@ -1,16 +1,17 @@
 -- When what is kept of the instances stands for what happened. Nobody outside looks into it: nothing here has to be
 -- believed.
-use Rattle.std.specs.Prelude.{◌≡◌, ◌≢◌, ℕ, zero, suc, slice_get, ◌<◌, List, length, map, All, false, Option, None, slice_index_or}
+use Rattle.std.specs.Prelude.{◌≡◌, ◌≢◌, ℕ, zero, suc, slice_get, ◌<◌, List, length, map, count_by, All, Bool, false, Option, Some, None, slice_index_or}
 use Rattle.std.specs.List.{list_any}
 use Rattle.dds_base.specs.declared.key.Key.{Key}
 use Rattle.dds_base.specs.declared.happening.Happening.{Happening}
 use Rattle.dds_base.specs.declared.qos.ReaderQos.{ReaderQos}
 use Rattle.dds_base.specs.Happening.{same_key}
 use Rattle.dds_base.specs.Instance.{known_instances, last_accepted, accesses}
+use Rattle.dds_base.specs.Presence.{is_at}
 use Rattle.dds_instances.specs.declared.registration.Registration.{Registration}
 use Rattle.dds_instances.specs.declared.track.InstanceTrack.{InstanceTrack}
 use Rattle.dds_instances.specs.Registration.{blank_registrations}
-use Rattle.dds_instances.specs.Track.{Tracks}
+use Rattle.dds_instances.specs.Track.{Tracks, is_alive_track}
 
 -- what is kept of the instances of a reader: of how many writers, the instances by handle, how much happened, and for
 -- how many more entries there is memory
@@ -23,6 +24,22 @@ pub record Table : Type 0 where
 -- how many more entries find memory
 abbrev pub room_of : Table → ℕ
 room_of table = table.room
+
+-- how many entries were taken up
+abbrev pub happened_of : Table → ℕ
+happened_of table = table.happened
+
+-- how many instances are alive
+abbrev pub alive_of : Table → ℕ
+alive_of table = count_by is_alive_track table.tracks
+
+-- the entry of position n left the last marker of the instance of a track
+abbrev pub is_marked : ℕ → InstanceTrack → Bool
+is_marked n t = is_at t.last_marker n
+
+-- of how many instances the newest entry left a marker
+abbrev pub marked_of : Table → ℕ
+marked_of table = count_by (is_marked table.happened) table.tracks
 
 -- the instance of a track
 abbrev pub key_of : InstanceTrack → Key
@@ -63,3 +80,11 @@ pub record IsPlaceOf (ks : List Key) (i : Key) (at : ℕ) : Type 0 where
 abbrev pub track_with : List InstanceTrack → ℕ → Option InstanceTrack
 track_with ts zero = None
 track_with ts (suc at) = slice_get ts at
+
+-- the newest entry left a marker of the instance of a handle
+abbrev pub has_marked : Table → ℕ → Bool
+has_marked table handle = is_marked_in table.happened (track_with table.tracks handle)
+  where
+    is_marked_in : ℕ → Option InstanceTrack → Bool
+    is_marked_in n None = false
+    is_marked_in n (Some t) = is_marked n t

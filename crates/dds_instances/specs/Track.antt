@@ -1,12 +1,13 @@
 -- What is known of one instance when it was followed through what happened so far. Inner functions
 -- alone cite this: nothing here has to be believed.
-use Rattle.std.specs.Prelude.{◌≡◌, ℕ, ◌+◌, ◌<◌, List, map, Bool, true, false, ◌&&◌, ◌||◌, not, Option, Some, None, if◌then◌else◌, nat_le, nat_lt}
+use Rattle.std.specs.Prelude.{◌≡◌, ℕ, ◌+◌, ◌<◌, List, map, Bool, true, false, ◌&&◌, ◌||◌, not, Option, Some, None, IfSome, if◌then◌else◌, nat_le, nat_lt}
 use Rattle.std.specs.List.{list_any}
 use Rattle.dds_base.specs.declared.key.Key.{Key}
 use Rattle.dds_base.specs.declared.change.ChangeKind.{ChangeKind}
 use Rattle.dds_base.specs.declared.change.ChangeKind.TheVariants.{Write, Unregister}
 use Rattle.dds_base.specs.declared.happening.Happening.{Happening}
 use Rattle.dds_base.specs.declared.sample.InstanceState.{InstanceState}
+use Rattle.dds_base.specs.declared.sample.InstanceState.TheVariants.{Alive}
 use Rattle.dds_base.specs.declared.qos.ReaderQos.{ReaderQos}
 use Rattle.dds_base.specs.Ownership.{publication_handles}
 use Rattle.dds_base.specs.Instance.{or_else, is_write, is_disposed, is_without_writers, last_accepted, state_after, disposed_generations, no_writers_generations, latest_rebirth, accesses}
@@ -41,14 +42,24 @@ fresh key registrations = record {
   is_seen = false;
 }
 
--- the counts are below a position
+-- the counts and the position of the last marker are below a position
 pub record Fits (n : ℕ) (t : InstanceTrack) : Type 0 where
   pub writes : t.accepted_writes < n
   pub generations : t.disposed_generations + t.no_writers_generations < n
+  pub marker : IfSome t.last_marker (λ m. m < n)
 
 -- the state of the instance that a track has followed
 abbrev pub state_of_track : InstanceTrack → Option InstanceState
 state_of_track t = state_after t.last_accepted (not (list_any is_there t.registrations))
+
+-- the state is ALIVE
+abbrev pub is_alive_state : Option InstanceState → Bool
+is_alive_state (Some Alive) = true
+is_alive_state _ = false
+
+-- the instance that a track has followed is alive
+abbrev pub is_alive_track : InstanceTrack → Bool
+is_alive_track t = is_alive_state (state_of_track t)
 
 -- 1 where the test holds
 abbrev pub one_if : Bool → ℕ

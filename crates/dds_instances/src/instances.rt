@@ -56,6 +56,7 @@ fn room_after(happened: u64, room: usize) -> Result<usize, Code>
     ensures less { IfOk result (λ left. left ≤ room) }
     ensures one { IfOk result (λ left. room ≤ left + 1) }
     ensures succeeds { 1 ≤ room → IsOk result }
+    ensures counted { happened + 1 < 2 ^ 64 → IsOk result }
     ensures memory { IfErr result (λ e. e ≡ Memory) }
 {
     if (room as u64) < u64::MAX - happened {
@@ -67,11 +68,11 @@ fn room_after(happened: u64, room: usize) -> Result<usize, Code>
 
 impl Instances {
     ghost use Rattle.dds_base.specs.Ownership.{IsMatched, is_registered};
-    ghost use Rattle.dds_base.specs.Presence.{is_accepted, marks};
+    ghost use Rattle.dds_base.specs.Presence.{is_accepted, is_at, marks};
     ghost use Rattle.dds_instances.specs.Known.{IsKnown, IsReturnable};
     ghost use Rattle.dds_base.specs.Access.{handle_of, instance_of};
     ghost use Rattle.dds_base.specs.Instance.{instance_state_of, view_state_of, disposed_generations, no_writers_generations, known_instances};
-    ghost use Rattle.dds_instances.specs.Table.{Stands, room_of};
+    ghost use Rattle.dds_instances.specs.Table.{Stands, alive_of, happened_of, has_marked, marked_of, room_of};
 
     /// Of a reader at which nothing has happened.
     pub fn open(alloc: Global, qos: &ReaderQos) -> Self
@@ -174,8 +175,14 @@ impl Instances {
     pub fn died(&mut self, writer: Handle) -> Result<(), Code>
         // The writer died.
         ensures ok { OnOk result ((q : ReaderQos) (h : List Happening) (moment : ℕ) → Stands q self.old h → Stands q self.new (Died writer moment ∷ h)) }
+        // It is one entry more.
+        ensures happened { OnOk result (happened_of self.new ≡ happened_of self.old + 1) }
+        // It leaves a marker of no more instances than those that were alive and are not any more.
+        ensures marked { OnOk result (alive_of self.new + marked_of self.new ≤ alive_of self.old) }
         // Where there is room it is taken up.
         ensures reserved { 1 ≤ room_of self.old → IsOk result }
+        // It is taken up before 2^64 - 1 entries were.
+        ensures counted { happened_of self.old + 1 < 2 ^ 64 → IsOk result }
         // It takes the room of one entry at most.
         ensures room { room_of self.old ≤ room_of self.new + 1 }
         // A refusal leaves it as it was.
@@ -247,6 +254,8 @@ impl Instances {
 
     /// How many entries were taken up: the number of the newest.
     pub fn happened(&self) -> u64
+        // It is the number of those that were taken up.
+        ensures entries { result ≡ happened_of self.now }
         // It is the number of all that happened.
         ensures happened { (q : ReaderQos) (h : List Happening) → Stands q self.now h → result ≡ length h }
     {
@@ -255,6 +264,8 @@ impl Instances {
 
     /// How many instances are known.
     pub fn len(&self) -> usize
+        // No more are alive.
+        ensures alive { alive_of self.now ≤ result }
         // It is the number of the known instances.
         ensures len { (q : ReaderQos) (h : List Happening) → Stands q self.now h → result ≡ length (known_instances q h) }
     {
@@ -334,6 +345,8 @@ impl Instances {
         ensures key { (q : ReaderQos) (h : List Happening) → Stands q self.now h → option_map (λ known. known.key) result ≡ instance_of q h handle }
         // What is told is what the definitions say.
         ensures known { (q : ReaderQos) (h : List Happening) → Stands q self.now h → IfSome result (IsKnown q h) }
+        // Its last marker is of the newest entry, if that left one.
+        ensures marker { IfSome result (λ known. is_at known.last_marker (happened_of self.now) ≡ has_marked self.now handle) }
         // The two generation counts can be added.
         ensures small { IfSome result (λ known. known.disposed_generations + known.no_writers_generations < 2 ^ 64) }
     {

@@ -3,6 +3,7 @@ use Rattle.std.proofs.lemmas.Bool.{cases_eq}
 use Rattle.std.proofs.lemmas.List.{length-set, get_or-set_same, get_or-set_other, get_or_default}
 use Rattle.dds_instances.specs.declared.track.InstanceTrack.{InstanceTrack}
 use Rattle.dds_instances.proofs.StandingLaws.{Buries, fits-advanced, keys-set, follows-died}
+use Rattle.dds_instances.proofs.MarkerLaws.{marked-buried}
 use Rattle.dds_instances.proofs.keeping.bury_all.Goals as goal
 
 pub loop-at-preserved : goal.loop-at-preserved
@@ -32,6 +33,13 @@ returns-clause-fits c = λ k d within.
     let inside : k < length c.args.tracks.now.items = omega (arith, within, c.loop-at.invariant.len) in
     let below : k < c.loop-at.at = omega (arith, inside, c.loop-at-test.false, c.len-at-end.ensures, c.args.tracks.now.ok.0) in
     fits-advanced _ _ c.args.position (get_or c.args.tracks.now.items k d) (get_or c.loop-at.tracks.items k d) (c.requires.fits k d inside) (c.loop-at.invariant.done k d below)
+
+pub returns-clause-marked : goal.returns-clause-marked
+returns-clause-marked c =
+    marked-buried c.args.position c.args.writer c.args.tracks.now.items c.loop-at.tracks.items c.loop-at.invariant.len
+    c.requires.fits
+    (λ k d inside. c.loop-at.invariant.done k d
+    (omega (arith, inside, c.loop-at-test.false, c.len-at-end.ensures, c.args.tracks.now.ok.0)))
 
 pub returns-clause-follows : goal.returns-clause-follows
 returns-clause-follows c = λ q h now len lawful follows.

@@ -1,0 +1,88 @@
+-- Of how many instances a death leaves a marker.
+use Rattle.std.proofs.Common.{◌≡◌, ℕ, zero, suc, ◌+◌, ◌<◌, ◌≤◌, List, [], ◌∷◌, length, get_or, map, Bool, true, false, not, ◌&&◌, ◌||◌, ◌==◌, sym, subst, ap, ◌∙◌, refl, cond, Option, Some, None, arith, ⊎_elim}
+use Rattle.std.specs.Prelude.{if◌then◌else◌, count_by, IfSome}
+use Rattle.std.specs.List.{All, list_any}
+use Rattle.std.proofs.lemmas.Bool.{cases_Bool, eqb-true}
+use Rattle.std.proofs.lemmas.List.Elements.{All-head, All-tail}
+use Rattle.std.proofs.lemmas.List.Sums.{sum_by-cons}
+use Rattle.dds_base.specs.declared.change.ChangeKind.{ChangeKind}
+use Rattle.dds_base.specs.declared.change.ChangeKind.TheVariants.{Write}
+use Rattle.dds_base.specs.Instance.{or_else, state_after}
+use Rattle.dds_base.specs.Presence.{becomes_not_alive, is_at}
+use Rattle.dds_instances.specs.declared.registration.Registration.{Registration}
+use Rattle.dds_instances.specs.declared.track.InstanceTrack.{InstanceTrack}
+use Rattle.dds_instances.specs.Registration.{is_there, noted_death}
+use Rattle.dds_instances.specs.Track.{Fits, is_alive_state, is_alive_track, state_of_track}
+use Rattle.dds_instances.specs.Table.{is_marked}
+use Rattle.dds_instances.proofs.StandingLaws.{Buries}
+use Rattle.dds_instances.proofs.TrackLaws.{one_if-bound}
+
+-- ---- one instance
+
+-- a marker from before an entry is not of it
+not-yet : (n : ℕ) (m : Option ℕ) → IfSome m (λ k. k < n) → ◌≡◌ {A = ℕ} (cond (is_at m n) 1 0) 0
+not-yet n None below = refl
+not-yet n (Some k) below = ⊎_elim
+    (λ same. let e = eqb-true k n same in absurd (omega (arith, e, below)))
+    (λ differ. ap (λ (b : Bool). cond b 1 0) differ)
+    (cases_Bool (k == n))
+
+-- whom a death leaves registered was so before
+left-before : (w : ℕ) (rs : List Registration) → list_any is_there (map (noted_death w) rs) ≡ true
+    → list_any is_there rs ≡ true
+left-before w (r ∷ rs) left = one (not (w == r.writer)) r.is_registered (list_any is_there (map (noted_death w) rs))
+    (list_any is_there rs) (left-before w rs) left
+  where
+    one : (a b c d : Bool) → (c ≡ true → d ≡ true) → ((a && b) || c) ≡ true → (b || d) ≡ true
+    one a true c d rest e = refl
+    one true false c d rest e = rest e
+    one false false c d rest e = rest e
+left-before w [] left = absurd (cc)
+
+-- an instance that is not alive leaves none, and one that is alive leaves one as it ends
+marker-table : (n : ℕ) (last : Option ChangeKind) (there left : Bool) (m : Option ℕ) → (left ≡ true → there ≡ true)
+    → ◌≡◌ {A = ℕ} (cond (is_at m n) 1 0) 0
+    → cond (is_alive_state (state_after last (not left))) 1 0
+    + cond (is_at (if becomes_not_alive (state_after last (not there)) (state_after last (not left)) then Some n else m) n) 1 0
+    ≤ cond (is_alive_state (state_after last (not there))) 1 0
+marker-table n None there left m fewer none = omega (arith, none)
+marker-table n (Some Write) true true m fewer none = omega (arith, none)
+marker-table n (Some Write) true false m fewer none = omega (arith, one_if-bound (n == n))
+marker-table n (Some Write) false true m fewer none = absurd (let clash : false ≡ true = fewer refl in cc)
+marker-table n (Some Write) false false m fewer none = omega (arith, none)
+marker-table n (Some _) there left m fewer none = omega (arith, none)
+
+-- one that takes a death up
+marker-one : (n w : ℕ) (t x : InstanceTrack) → Fits n t → Buries n w t x
+    → cond (is_alive_track x) 1 0 + cond (is_marked n x) 1 0 ≤ cond (is_alive_track t) 1 0
+marker-one n w t x fits step =
+    let there : Bool = list_any is_there t.registrations in
+    let left : Bool = list_any is_there x.registrations in
+    let fewer : left ≡ true → there ≡ true = λ e. left-before w t.registrations
+    (ap (λ (rs : List Registration). list_any is_there rs) (sym step.notes) ∙ e) in
+    let alive : ◌≡◌ {A = ℕ} (cond (is_alive_track x) 1 0) (cond (is_alive_state (state_after t.last_accepted (not left))) 1 0) =
+    ap (λ (k : Option ChangeKind). cond (is_alive_state (state_after k (not left))) 1 0) step.accepts in
+    let marked : ◌≡◌ {A = ℕ} (cond (is_marked n x) 1 0)
+    (cond (is_at (if becomes_not_alive (state_of_track t) (state_after t.last_accepted (not left)) then Some n else t.last_marker) n) 1 0) =
+    ap (λ (m : Option ℕ). cond (is_at m n) 1 0) step.marker
+    ∙ ap (λ (k : Option ChangeKind). cond (is_at (if becomes_not_alive (state_of_track t) (state_after k (not left)) then Some n else t.last_marker) n) 1 0) step.accepts in
+    let both = marker-table n t.last_accepted there left t.last_marker fewer (not-yet n t.last_marker fits.marker) in
+    omega (arith, alive, marked, both)
+
+-- ---- all of them
+
+-- how many instances are alive or were marked by a death, one after another
+pub marked-buried : (n w : ℕ) (ts xs : List InstanceTrack) → length xs ≡ length ts → All (Fits n) ts
+    → ((k : ℕ) (d : InstanceTrack) → k < length ts → Buries n w (get_or ts k d) (get_or xs k d))
+    → count_by is_alive_track xs + count_by (is_marked n) xs ≤ count_by is_alive_track ts
+marked-buried n w [] [] same fits steps = omega arith
+marked-buried n w [] (x ∷ xs) same fits steps = absurd (omega (arith, same))
+marked-buried n w (t ∷ ts) [] same fits steps = absurd (omega (arith, same))
+marked-buried n w (t ∷ ts) (x ∷ xs) same fits steps =
+    let one = marker-one n w t x (All-head (Fits n) t ts fits) (steps 0 t (omega arith)) in
+    let rest = marked-buried n w ts xs (omega (arith, same)) (All-tail (Fits n) t ts fits)
+    (λ k d within. steps (suc k) d (omega (arith, within))) in
+    let alive_now = sum_by-cons (λ (y : InstanceTrack). cond (is_alive_track y) 1 0) x xs in
+    let marked_now = sum_by-cons (λ (y : InstanceTrack). cond (is_marked n y) 1 0) x xs in
+    let alive_before = sum_by-cons (λ (y : InstanceTrack). cond (is_alive_track y) 1 0) t ts in
+    omega (arith, one, rest, alive_now, marked_now, alive_before)
