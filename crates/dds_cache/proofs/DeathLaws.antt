@@ -1,12 +1,13 @@
 -- A death adds the samples that it leaves, one instance after another.
-use Rattle.std.proofs.Common.{◌≡◌, ℕ, ◌+◌, List, [], ◌∷◌, ◌++◌, length, take, Bool, true, false, ◌&&◌, ◌||◌, sym, ap, ◌∙◌, refl, cond, Option, Some, None, zero, suc, ⊎_elim, append_assoc}
-use Rattle.std.specs.Prelude.{slice_get, is_some}
+use Rattle.std.proofs.Common.{◌≡◌, ℕ, ◌+◌, ◌≤◌, List, [], ◌∷◌, ◌++◌, length, take, Bool, true, false, ◌&&◌, ◌||◌, sym, ap, ◌∙◌, refl, cond, Option, Some, None, zero, suc, ⊎_elim, append_assoc, arith}
+use Rattle.std.specs.Prelude.{slice_get, is_some, count_by}
 use Rattle.std.specs.List.{list_any, IsDistinct, AllByRecursion}
 use Rattle.std.proofs.lemmas.Bool.{cases_Bool}
 use Rattle.std.proofs.lemmas.List.{append-nil, take_more}
 use Rattle.std.proofs.lemmas.Option.{get_or_from_slice_get, slice_get_within}
 use Rattle.std.proofs.lemmas.List.Folds.{list_any-append}
 use Rattle.std.proofs.lemmas.List.Elements.{All-append, All-nil, All-cons}
+use Rattle.std.proofs.lemmas.List.Sums.{sum_by-cons, sum_by-take-le}
 use Rattle.std.proofs.lemmas.Map.Keys.{IsDistinct-head, IsDistinct-tail}
 use Rattle.dds_base.specs.declared.key.Key.{Key}
 use Rattle.dds_base.specs.declared.change.ChangeKind.{ChangeKind}
@@ -20,7 +21,10 @@ use Rattle.dds_base.specs.Presence.{accepted_writes, is_present}
 use Rattle.dds_base.specs.Access.{handle_of}
 use Rattle.dds_base.proofs.KeyLaws.{key-same}
 use Rattle.dds_instances.specs.declared.known.KnownInstance.{KnownInstance}
+use Rattle.dds_instances.specs.declared.track.InstanceTrack.{InstanceTrack}
 use Rattle.dds_instances.specs.Known.{IsKnown}
+use Rattle.dds_instances.specs.Table.{Table, has_marked, is_marked, marked_of}
+use Rattle.dds_instances.specs.Track.{one_if}
 use Rattle.dds_instances.proofs.KnownLaws.{known}
 use Rattle.dds_cache.specs.declared.kept.Kept.{Kept}
 use Rattle.dds_cache.specs.Kept.{Adds, IsKept, IsKeptAt, positions_in}
@@ -142,3 +146,33 @@ adds-died q e h count old new all adds =
     take_whole : (ks : List Key) → take (length ks) ks ≡ ks
     take_whole [] = refl
     take_whole (k ∷ ks) = ap (λ (xs : List Key). k ∷ xs) (take_whole ks)
+
+-- ---- how many of them it leaves
+
+-- of one more instance the newest entry left a marker, or not
+pub marked-more : (table : Table) (at w : ℕ) → w ≡ at + 1
+    → count_by (is_marked table.happened) (take (at + 1) table.tracks)
+    ≡ count_by (is_marked table.happened) (take at table.tracks) + one_if (has_marked table w)
+marked-more table at w is =
+    let next : at + 1 ≡ suc at = omega arith in
+    ap (λ (m : ℕ). count_by test (take m table.tracks)) next
+    ∙ (one_more at table.tracks
+    ∙ ap (λ (m : ℕ). count_by test (take at table.tracks) + one_if (has_marked table m)) (sym (is ∙ next)))
+  where
+    test : InstanceTrack → Bool
+    test t = is_marked table.happened t
+
+    one_more : (k : ℕ) (ts : List InstanceTrack)
+        → count_by test (take (suc k) ts) ≡ count_by test (take k ts) + one_if (has_marked (record table { tracks = ts }) (suc k))
+    one_more zero [] = omega arith
+    one_more (suc k) [] = omega arith
+    one_more zero (t ∷ ts) = omega arith
+    one_more (suc k) (t ∷ ts) =
+        let more = sum_by-cons (λ (x : InstanceTrack). cond (test x) 1 0) t (take (suc k) ts) in
+        let fewer = sum_by-cons (λ (x : InstanceTrack). cond (test x) 1 0) t (take k ts) in
+        let rest = one_more k ts in
+        omega (arith, more, fewer, rest)
+
+-- of some of them it left no more than of all
+pub marked-some : (table : Table) (n : ℕ) → count_by (is_marked table.happened) (take n table.tracks) ≤ marked_of table
+marked-some table n = sum_by-take-le (λ (t : InstanceTrack). cond (is_marked table.happened t) 1 0) table.tracks n

@@ -1,16 +1,19 @@
 -- What is true of a cache as it is kept. Inner functions alone cite this: nothing here has to be believed.
-use Rattle.std.specs.Prelude.{◌≤◌, ◌+◌, All, vec_len, vec_capacity}
+use Rattle.std.specs.Prelude.{◌≤◌, ◌<◌, ◌+◌, ◌^◌, All, vec_len, vec_capacity}
 use Rattle.dds_cache.specs.declared.reader_cache.ReaderCache.TheInside.{Inside}
 use Rattle.dds_cache.specs.Standing.{Stored}
 use Rattle.dds_cache.specs.Finding.{IsSmall}
-use Rattle.dds_instances.specs.Table.{room_of}
+use Rattle.dds_instances.specs.Table.{alive_of, happened_of, room_of}
 
 -- what a contract sees of a cache
 abbrev pub stored_of : Inside → Stored
-stored_of a = record { qos = a.qos; instances = a.instances; samples = a.samples.items; arrivals = a.arrivals; room = a.room }
+stored_of a = record { qos = a.qos; instances = a.instances; samples = a.samples.items; arrivals = a.arrivals; room = a.room; deaths = a.deaths }
 
--- there is memory for so many more changes, and the counts of each kept sample can be added
+-- there is memory for so many more entries, and the counts of each kept sample can be added; where there is room for
+-- deaths they can be counted, and each instance that is alive may leave a sample
 pub record IsSound (a : Inside) : Type 0 where
   pub instances : a.room ≤ room_of a.instances
   pub samples : vec_len a.samples + a.room ≤ vec_capacity a.samples
   pub small : All IsSmall a.samples.items
+  pub counted : 1 ≤ a.deaths → a.deaths + happened_of a.instances < 2 ^ 64
+  pub places : 1 ≤ a.deaths → vec_len a.samples + a.room + alive_of a.instances ≤ vec_capacity a.samples

@@ -19,21 +19,26 @@ use Rattle.dds_cache.specs.Kept.{IsKept, positions_in, sample_at}
 use Rattle.dds_instances.specs.Table.{Table, Stands}
 
 -- what is kept: the instances, the samples in the order in which they came, how many changes came, and for how
--- many more entries it has memory
+-- many more entries, and how many deaths in a row, it has memory
 pub record Stored : Type 0 where
   pub qos : ReaderQos
   pub instances : Table
   pub samples : List Kept
   pub arrivals : ℕ
   pub room : ℕ
+  pub deaths : ℕ
 
 -- the policies and the matched writers that it was opened with
 abbrev pub qos_of : Stored → ReaderQos
 qos_of stored = stored.qos
 
--- how many more changes find memory
+-- how many more entries find memory
 abbrev pub room_of : Stored → ℕ
 room_of stored = stored.room
+
+-- how many deaths find memory that follow with nothing between
+abbrev pub deaths_of : Stored → ℕ
+deaths_of stored = stored.deaths
 
 -- what is kept stands for what happened: so do its instances; each kept sample is what it was; the present samples of
 -- each instance are kept in their order; no access returned what had not happened; and the changes are counted, up to a

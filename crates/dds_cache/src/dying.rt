@@ -1,6 +1,6 @@
 //! The samples without data that a death leaves.
 
-ghost use Rattle.std.specs.Prelude.{◌≡◌, ◌+◌, ◌∷◌, [], ℕ, List, Some, false, length, All, MatchOption, IfSome, ◌<◌, ◌≤◌, vec_len, vec_capacity};
+ghost use Rattle.std.specs.Prelude.{◌≡◌, ◌+◌, ◌∷◌, [], ℕ, List, Some, true, false, length, All, MatchOption, IfSome, ◌<◌, ◌≤◌, vec_len, vec_capacity};
 ghost use Rattle.dds_base.specs.declared.happening.Happening.{Happening};
 ghost use Rattle.dds_base.specs.declared.happening.Happening.TheVariants.{Died};
 ghost use Rattle.dds_base.specs.declared.key.Key.{Key};
@@ -8,7 +8,8 @@ ghost use Rattle.dds_base.specs.declared.qos.ReaderQos.{ReaderQos};
 ghost use Rattle.dds_base.specs.Access.{instance_of};
 ghost use Rattle.dds_base.specs.Instance.{known_instances};
 ghost use Rattle.dds_base.specs.Presence.{is_present};
-ghost use Rattle.dds_instances.specs.Table.{Stands};
+ghost use Rattle.dds_instances.specs.Table.{Stands, has_marked, marked_of};
+ghost use Rattle.dds_instances.specs.Track.{one_if};
 ghost use Rattle.dds_cache.specs.Kept.{Adds, IsFresh, IsKeptAt};
 ghost use Rattle.dds_cache.specs.Dying.{AddsOf};
 ghost use Rattle.dds_cache.specs.Finding.{IsSmall};
@@ -27,6 +28,7 @@ fn marker_of(
     moment: Moment,
 ) -> Option<Kept>
     ensures left { (q : ReaderQos) (h : List Happening) (i : Key) → Stands q instances.now (Died writer moment ∷ h) → instance_of q (Died writer moment ∷ h) handle ≡ Some i → IsFresh h i → MatchOption result (is_present q (Died writer moment ∷ h) i (length h + 1) ≡ false) (IsKeptAt q (Died writer moment ∷ h) i (length h + 1)) }
+    ensures marked { IfSome result (λ _. has_marked instances.now handle ≡ true) }
     ensures small { IfSome result IsSmall }
 {
     let known = instances.at(handle)?;
@@ -60,8 +62,8 @@ fn add_marker(
     writer: Handle,
     moment: Moment,
 )
-    requires room { vec_len samples.old < vec_capacity samples.old }
-    ensures len { vec_len samples.new ≤ vec_len samples.old + 1 }
+    requires room { vec_len samples.old + one_if (has_marked instances.now handle) ≤ vec_capacity samples.old }
+    ensures len { vec_len samples.new ≤ vec_len samples.old + one_if (has_marked instances.now handle) }
     ensures capacity { vec_capacity samples.old ≤ vec_capacity samples.new }
     ensures samples { (q : ReaderQos) (h : List Happening) (i : Key) → Stands q instances.now (Died writer moment ∷ h) → instance_of q (Died writer moment ∷ h) handle ≡ Some i → IsFresh h i → AddsOf q (Died writer moment ∷ h) (length h + 1) (i ∷ []) samples.old.items samples.new.items }
     ensures small { All IsSmall samples.old.items → All IsSmall samples.new.items }
@@ -82,8 +84,8 @@ pub fn add_markers(
     writer: Handle,
     moment: Moment,
 )
-    requires room { vec_len samples.old + count ≤ vec_capacity samples.old }
-    ensures len { vec_len samples.new ≤ vec_len samples.old + count }
+    requires room { vec_len samples.old + marked_of instances.now ≤ vec_capacity samples.old }
+    ensures len { vec_len samples.new ≤ vec_len samples.old + marked_of instances.now }
     ensures capacity { vec_capacity samples.old ≤ vec_capacity samples.new }
     ensures samples { (q : ReaderQos) (h : List Happening) → Stands q instances.now (Died writer moment ∷ h) → count ≡ length (known_instances q (Died writer moment ∷ h)) → ((i : Key) → IsFresh h i) → Adds q (Died writer moment) h samples.old.items samples.new.items }
     ensures small { All IsSmall samples.old.items → All IsSmall samples.new.items }

@@ -12,7 +12,7 @@ ghost use Rattle.dds_base.specs.Selection.{selection_refusal};
 ghost use Rattle.dds_instances.specs.Known.{IsReturnable};
 ghost use Rattle.dds_cache.specs.Kept.{HaveSame};
 ghost use Rattle.dds_cache.specs.Picking.{IsAccess};
-ghost use Rattle.dds_cache.specs.Standing.{qos_of, room_of, StandsFor, Answers, AfterAccess};
+ghost use Rattle.dds_cache.specs.Standing.{deaths_of, qos_of, room_of, StandsFor, Answers, AfterAccess};
 
 use crate::arriving::{add_left, is_accepted_write};
 use crate::collection::{Access, gather};
@@ -44,8 +44,10 @@ pub struct ReaderCache {
     arrivals: u32,
     /// How many samples there are when they are swept next.
     sweep_at: usize,
-    /// For how many more changes there is memory.
+    /// For how many more entries there is memory.
     room: usize,
+    /// For how many deaths there is memory, where nothing comes between.
+    deaths: usize,
 }
 
 impl Model for ReaderCache {
@@ -77,10 +79,11 @@ impl ReaderCache {
             arrivals: 0,
             sweep_at: next_sweep(0),
             room: 0,
+            deaths: 0,
         }
     }
 
-    /// Makes room for so many more entries: as many changes that come then find it.
+    /// Makes room for so many more entries: as many as follow find it, but for deaths, which `reserve_deaths` makes room for.
     ///
     /// # Errors
     ///
@@ -107,7 +110,71 @@ impl ReaderCache {
         self.samples.reserve(additional)?;
         self.instances.reserve(additional)?;
         self.room = additional;
+        self.deaths = 0;
         Ok(())
+    }
+
+    /// Makes room for so many deaths: as many find it that follow with nothing between.
+    ///
+    /// All of them together leave one sample at most of each instance, as one that is not alive any more leaves none.
+    ///
+    /// # Errors
+    ///
+    /// `Memory` where a growth was refused, or where more than 2^64 - 1 entries would be counted; the cache is then as it
+    /// was.
+    ///
+    /// DDS 1.4, 2.2.3 (LIVELINESS).
+    pub fn reserve_deaths(&mut self, count: usize) -> Result<(), Code>
+        // Nothing happens.
+        ensures same { (h : List Happening) → StandsFor self.old h → StandsFor self.new h }
+        // The policies stay.
+        ensures qos { qos_of self.new ≡ qos_of self.old }
+        // There is no less room than before.
+        ensures room { room_of self.old ≤ room_of self.new }
+        // There is room for so many deaths.
+        ensures deaths { OnOk result (count ≤ deaths_of self.new) }
+        // There is no less room for deaths than before.
+        ensures more { deaths_of self.old ≤ deaths_of self.new }
+        // Where there is room enough it succeeds.
+        ensures succeeds { count ≤ deaths_of self.old → IsOk result }
+        // A refusal leaves the cache as it was.
+        ensures err { OnErr result (self.new ≡ self.old) }
+        // It is refused for want of memory alone.
+        ensures memory { IfErr result (λ e. e ≡ Memory) }
+    {
+        if count <= self.deaths {
+            return Ok(());
+        }
+        if u64::MAX - self.instances.happened() < count as u64 {
+            return Err(Code::Memory);
+        }
+        let instances = self.instances.len();
+        let additional = instances.checked_add(self.room).ok_or(Code::Memory)?;
+        self.samples.reserve(additional)?;
+        self.deaths = count;
+        Ok(())
+    }
+
+    /// Takes up a death, in the room that there is for it.
+    fn bury(&mut self, writer: Handle, moment: Moment)
+        requires reserved { 1 ≤ deaths_of self.old }
+        ensures stands { (h : List Happening) → StandsFor self.old h → StandsFor self.new (Died writer moment ∷ h) }
+        ensures qos { qos_of self.new ≡ qos_of self.old }
+        ensures room { room_of self.old ≤ room_of self.new + 1 }
+        ensures deaths { deaths_of self.new + 1 ≡ deaths_of self.old }
+    {
+        let count = self.instances.len();
+        self.instances.died(writer).unwrap();
+        add_markers(
+            self.alloc,
+            &self.instances,
+            &mut self.samples,
+            count,
+            writer,
+            moment,
+        );
+        self.room = self.room.saturating_sub(1);
+        self.deaths -= 1;
     }
 
     /// Takes up a change, in the room that there is.
@@ -129,6 +196,7 @@ impl ReaderCache {
         );
         self.arrivals = count_arrival(self.arrivals);
         self.room -= 1;
+        self.deaths = 0;
     }
 
     /// Lets the samples go that are no longer present, where there are twice as many as the sweep before left.
@@ -155,6 +223,7 @@ impl ReaderCache {
     {
         self.instances.skip()?;
         self.room = self.room.saturating_sub(1);
+        self.deaths = 0;
         Ok(())
     }
 
@@ -248,7 +317,7 @@ impl ReaderCache {
     ///
     /// # Errors
     ///
-    /// `Memory` where a growth was refused; the cache is then as it was.
+    /// `Memory` as `reserve_deaths` answers it, and never where room for a death was reserved; the cache is then as it was.
     ///
     /// DDS 1.4, 2.2.3 (LIVELINESS).
     pub fn died(&mut self, writer: Handle, moment: Moment) -> Result<(), Code>
@@ -258,6 +327,10 @@ impl ReaderCache {
         ensures ok { OnOk result ((h : List Happening) → StandsFor self.old h → StandsFor self.new (Died writer moment ∷ h)) }
         // The policies stay.
         ensures qos { qos_of self.new ≡ qos_of self.old }
+        // Where there is room for a death it is taken up.
+        ensures reserved { 1 ≤ deaths_of self.old → IsOk result }
+        // It takes the room of one death at most.
+        ensures deaths { deaths_of self.old ≤ deaths_of self.new + 1 }
         // It takes the room of one entry at most.
         ensures room { room_of self.old ≤ room_of self.new + 1 }
         // A refusal leaves the cache as it was.
@@ -265,19 +338,8 @@ impl ReaderCache {
         // It is refused for want of memory alone.
         ensures memory { IfErr result (λ e. e ≡ Memory) }
     {
-        let count = self.instances.len();
-        let additional = count.checked_add(self.room).ok_or(Code::Memory)?;
-        self.samples.reserve(additional)?;
-        self.instances.died(writer)?;
-        add_markers(
-            self.alloc,
-            &self.instances,
-            &mut self.samples,
-            count,
-            writer,
-            moment,
-        );
-        self.room = self.room.saturating_sub(1);
+        self.reserve_deaths(1)?;
+        self.bury(writer, moment);
         Ok(())
     }
 
@@ -333,6 +395,7 @@ impl ReaderCache {
         self.instances.returned(&access.positions)?;
         mark_all(&mut self.samples, &access.returned);
         self.room = self.room.saturating_sub(1);
+        self.deaths = 0;
         Ok(())
     }
 
@@ -350,6 +413,7 @@ impl ReaderCache {
         self.instances.returned(&access.positions)?;
         remove_all(&mut self.samples, &access.returned);
         self.room = self.room.saturating_sub(1);
+        self.deaths = 0;
         Ok(())
     }
 
