@@ -83,7 +83,8 @@ impl ReaderCache {
         }
     }
 
-    /// Makes room for so many more entries: as many as follow find it, but for deaths, which `reserve_deaths` makes room for.
+    /// Makes room for so many more entries: as many that follow find it, but for deaths, for which `reserve_deaths` makes
+    /// room. Room for deaths may be given up.
     ///
     /// # Errors
     ///
@@ -129,7 +130,7 @@ impl ReaderCache {
         ensures same { (h : List Happening) → StandsFor self.old h → StandsFor self.new h }
         // The policies stay.
         ensures qos { qos_of self.new ≡ qos_of self.old }
-        // There is no less room than before.
+        // There is no less room for entries than before.
         ensures room { room_of self.old ≤ room_of self.new }
         // There is room for so many deaths.
         ensures deaths { OnOk result (count ≤ deaths_of self.new) }
@@ -149,8 +150,8 @@ impl ReaderCache {
             return Err(Code::Memory);
         }
         let instances = self.instances.len();
-        let additional = instances.checked_add(self.room).ok_or(Code::Memory)?;
-        self.samples.reserve(additional)?;
+        let places = instances.checked_add(self.room).ok_or(Code::Memory)?;
+        self.samples.reserve(places)?;
         self.deaths = count;
         Ok(())
     }

@@ -78,14 +78,17 @@ put-track : (kept : Kept) (at : ℕ) (track : LeaseTrack) (change : LeaseTrack �
 put-track kept at track change tracks is put =
     put ∙ ap (λ (t : LeaseTrack). set kept.tracks at (change t)) is
 
-pub came-stands : (kept new : Kept) (q : ReaderQos) (h : List Happening) (a : Arrival) (at : ℕ) (track : LeaseTrack)
-    → StandsFor kept q h → Asserts kept new at a.moment track → 1 + at ≡ a.writer → StandsFor new q (Came a ∷ h)
-came-stands kept new q h a at track given put here = record {
-  tracks = one-changed kept q h (Came a) (asserted a.moment) a.writer at track new.tracks
-      (λ v. track-came q h a v) given here put.within
-      (put-track kept at track (asserted a.moment) new.tracks put.is put.tracks);
-  last_turned = asserts-last kept new q h at a.writer a.moment track given put here;
-}
+pub came-stands : (kept new : Kept) (q : ReaderQos) (h : List Happening) (a : Arrival) (moment at : ℕ) (track : LeaseTrack)
+    → StandsFor kept q h → Asserts kept new at moment track → 1 + at ≡ a.writer → a.moment ≡ moment
+    → StandsFor new q (Came a ∷ h)
+came-stands kept new q h a moment at track given put here same =
+    let asserts : Asserts kept new at a.moment track = subst (λ (m : ℕ). Asserts kept new at m track) (sym same) put in
+    record {
+      tracks = one-changed kept q h (Came a) (asserted a.moment) a.writer at track new.tracks
+          (λ v. track-came q h a v) given here put.within
+          (put-track kept at track (asserted a.moment) new.tracks put.is asserts.tracks);
+      last_turned = asserts-last kept new q h at a.writer moment track given put here;
+    }
 
 pub heard-stands : (kept new : Kept) (q : ReaderQos) (h : List Happening) (w moment at : ℕ) (track : LeaseTrack)
     → StandsFor kept q h → Asserts kept new at moment track → 1 + at ≡ w → StandsFor new q (Heard w moment ∷ h)

@@ -66,17 +66,23 @@ track-died q h w moment v = let t = track_of q h v in ended t.lease t.since t.ha
 
 -- ---- the tracks of all, where that of one writer alone changes
 
+-- that of another writer stays
+unchanged : (f g : ℕ → LeaseTrack) (change : LeaseTrack → LeaseTrack) (w k : ℕ)
+    → ((v : ℕ) → g v ≡ (if w == v then change (f v) else f v)) → (w ≡ k → ⊥) → g k ≡ f k
+unchanged f g change w k is differ =
+    let other : (w == k) ≡ false = ⊎_elim
+    (λ same. absurd (differ (eqb-true w k same)))
+    (λ apart. apart)
+    (cases_Bool (w == k)) in
+    is k ∙ ap (λ (b : Bool). if b then change (f k) else f k) other
+
 same-from : (f g : ℕ → LeaseTrack) (change : LeaseTrack → LeaseTrack) (w k : ℕ) (ws : List MatchedWriter)
     → ((v : ℕ) → g v ≡ (if w == v then change (f v) else f v)) → w < k
     → map g (numbers_from k ws) ≡ map f (numbers_from k ws)
 same-from f g change w k [] is below = refl
 same-from f g change w k (x ∷ ws) is below =
-    let other : (w == k) ≡ false = ⊎_elim
-    (λ same. let e = eqb-true w k same in absurd (omega (arith, e, below)))
-    (λ differ. differ)
-    (cases_Bool (w == k)) in
     ap (λ (t : LeaseTrack). t ∷ map g (numbers_from (k + 1) ws))
-    (is k ∙ ap (λ (b : Bool). if b then change (f k) else f k) other)
+    (unchanged f g change w k is (λ same. omega (arith, same, below)))
     ∙ ap (λ (ts : List LeaseTrack). f k ∷ ts) (same-from f g change w (k + 1) ws is (omega (arith, below)))
 
 itself : (k : ℕ) → (k == k) ≡ true
@@ -96,12 +102,8 @@ changed-at f g change w k zero d (x ∷ ws) is here within =
     ∙ ap (λ (ts : List LeaseTrack). change (f k) ∷ ts)
     (same-from f g change w (k + 1) ws is (omega (arith, same)))
 changed-at f g change w k (suc at) d (x ∷ ws) is here within =
-    let other : (w == k) ≡ false = ⊎_elim
-    (λ same. let e = eqb-true w k same in absurd (omega (arith, e, here)))
-    (λ differ. differ)
-    (cases_Bool (w == k)) in
     ap (λ (t : LeaseTrack). t ∷ map g (numbers_from (k + 1) ws))
-    (is k ∙ ap (λ (b : Bool). if b then change (f k) else f k) other)
+    (unchanged f g change w k is (λ same. omega (arith, same, here)))
     ∙ ap (λ (ts : List LeaseTrack). f k ∷ ts)
     (changed-at f g change w (k + 1) at d ws is (omega (arith, here)) (omega (arith, within)))
 

@@ -11,8 +11,12 @@ use Rattle.dds_cache.proofs.dying.add_markers.Goals as goal
 
 pub loop-at-preserved : goal.loop-at-preserved
 loop-at-preserved c = record {
-  len = omega (arith, c.add_marker.ensures.len, c.loop-at.invariant.len,
-      marked-more c.args.instances.now c.loop-at.at c.new-handle.result c.new-handle.ensures);
+  len = omega (
+    arith,
+    c.add_marker.ensures.len,
+    c.loop-at.invariant.len,
+    marked-more c.args.instances.now c.loop-at.at c.new-handle.result c.new-handle.ensures,
+  );
   capacity = omega (arith, c.add_marker.ensures.capacity, c.loop-at.invariant.capacity);
   small = λ small. c.add_marker.ensures.small (c.loop-at.invariant.small small);
   added = λ q h stands counted fresh.

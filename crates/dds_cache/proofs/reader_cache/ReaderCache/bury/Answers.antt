@@ -19,14 +19,6 @@ returns-clause-stands c = λ h stands.
     let q : ReaderQos = c.self.inside.qos in
     let g : List Happening = Died c.args.writer c.args.moment ∷ h in
     let old : StandsFor (stored_of c.self.inside) h = subst (λ (t : Stored). StandsFor t h) (sym c.self.view_is) stands in
-    let new : Stored = record {
-      qos = q;
-      instances = c.died.new.self;
-      samples = c.add_markers.new.samples.items;
-      arrivals = c.self.inside.arrivals;
-      room = c.saturating_sub-self-inside.result;
-      deaths = c.self.inside.deaths - 1;
-    } in
     let died : Stands q c.died.new.self g =
     subst (λ (r : Result (Unit {0}) Code). OnOk r ((r' : ReaderQos) (l : List Happening) (moment : ℕ)
     → Stands r' c.self.inside.instances l → Stands r' c.died.new.self (Died c.args.writer moment ∷ l)))
@@ -36,5 +28,5 @@ returns-clause-stands c = λ h stands.
     ∙ ap (λ (ks : List Key). length ks) (sym (append-nil (known_instances q h))) in
     let adds : Adds q (Died c.args.writer c.args.moment) h c.self.inside.samples.items c.add_markers.new.samples.items =
     c.add_markers.ensures.samples q h died count (λ i. fresh (stored_of c.self.inside) h i old) in
-    stands-added q (Died c.args.writer c.args.moment) h (stored_of c.self.inside) new refl refl refl refl
+    stands-added q (Died c.args.writer c.args.moment) h (stored_of c.self.inside) _ refl refl refl refl
     old.arrivals_are died adds old

@@ -9,11 +9,9 @@ use Rattle.dds_cache.proofs.reader_cache.ReaderCache.skip.Goals as goal
 pub returns-clause-passed : goal.returns-clause-passed
 returns-clause-passed c = λ h w first last stands.
     let old : StandsFor (stored_of c.self.inside) h = subst (λ (t : Stored). StandsFor t h) (sym c.self.view_is) stands in
-    let new : Stored = record { qos = c.self.inside.qos; instances = c.skip.new.self; samples = c.self.inside.samples.items; arrivals = c.self.inside.arrivals; room = c.saturating_sub-self-inside.result; deaths = 0 } in
-    stands-added c.self.inside.qos (Passed w first last) h (stored_of c.self.inside) new refl refl refl refl old.arrivals_are (c.in_ok-skip.ensures.passed c.self.inside.qos h w first last old.instances) (adds-none c.self.inside.qos (Passed w first last) h c.self.inside.samples.items (λ i. quiet-absent c.self.inside.qos (Passed w first last) h i refl refl)) old
+    stands-added c.self.inside.qos (Passed w first last) h (stored_of c.self.inside) _ refl refl refl refl old.arrivals_are (c.in_ok-skip.ensures.passed c.self.inside.qos h w first last old.instances) (adds-none c.self.inside.qos (Passed w first last) h c.self.inside.samples.items (λ i. quiet-absent c.self.inside.qos (Passed w first last) h i refl refl)) old
 
 pub returns-clause-heard : goal.returns-clause-heard
 returns-clause-heard c = λ h w moment stands.
     let old : StandsFor (stored_of c.self.inside) h = subst (λ (t : Stored). StandsFor t h) (sym c.self.view_is) stands in
-    let new : Stored = record { qos = c.self.inside.qos; instances = c.skip.new.self; samples = c.self.inside.samples.items; arrivals = c.self.inside.arrivals; room = c.saturating_sub-self-inside.result; deaths = 0 } in
-    stands-added c.self.inside.qos (Heard w moment) h (stored_of c.self.inside) new refl refl refl refl old.arrivals_are (c.in_ok-skip.ensures.heard c.self.inside.qos h w moment old.instances) (adds-none c.self.inside.qos (Heard w moment) h c.self.inside.samples.items (λ i. quiet-absent c.self.inside.qos (Heard w moment) h i refl refl)) old
+    stands-added c.self.inside.qos (Heard w moment) h (stored_of c.self.inside) _ refl refl refl refl old.arrivals_are (c.in_ok-skip.ensures.heard c.self.inside.qos h w moment old.instances) (adds-none c.self.inside.qos (Heard w moment) h c.self.inside.samples.items (λ i. quiet-absent c.self.inside.qos (Heard w moment) h i refl refl)) old

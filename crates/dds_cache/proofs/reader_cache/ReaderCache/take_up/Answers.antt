@@ -13,6 +13,5 @@ use Rattle.dds_cache.proofs.reader_cache.ReaderCache.take_up.Goals as goal
 pub returns-clause-stands : goal.returns-clause-stands
 returns-clause-stands c = λ h stands.
     let old : StandsFor (stored_of c.self.inside) h = subst (λ (t : Stored). StandsFor t h) (sym c.self.view_is) stands in
-    let new : Stored = record { qos = c.self.inside.qos; instances = c.come.new.self; samples = c.add_left.new.samples.items; arrivals = c.count_arrival-self-inside.result; room = c.self.inside.room - 1; deaths = 0 } in
     let came : Stands c.self.inside.qos c.come.new.self (Came c.args.arrival ∷ h) = subst (λ (r : Result (Unit {0}) Code). OnOk r ((g : List Happening) → Stands c.self.inside.qos c.self.inside.instances g → Stands c.self.inside.qos c.come.new.self (Came c.args.arrival ∷ g))) c.unwrap.ensures c.come.ensures.ok h old.instances in
-    stands-added c.self.inside.qos (Came c.args.arrival) h (stored_of c.self.inside) new refl refl refl refl (c.count_arrival-self-inside.ensures ∙ counts-more c.self.inside.arrivals (arrivals h) old.arrivals_are) came (c.add_left.ensures.samples h came (c.is_accepted_write-is_write.ensures h old.instances) (fresh (stored_of c.self.inside) h c.args.arrival.change.key old)) old
+    stands-added c.self.inside.qos (Came c.args.arrival) h (stored_of c.self.inside) _ refl refl refl refl (c.count_arrival-self-inside.ensures ∙ counts-more c.self.inside.arrivals (arrivals h) old.arrivals_are) came (c.add_left.ensures.samples h came (c.is_accepted_write-is_write.ensures h old.instances) (fresh (stored_of c.self.inside) h c.args.arrival.change.key old)) old

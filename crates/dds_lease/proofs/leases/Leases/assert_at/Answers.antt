@@ -1,38 +1,45 @@
-use Rattle.std.proofs.Common.{◌≡◌, ℕ, ◌+◌, ◌-◌, ◌<◌, length, set, Bool, sym, ap, ◌∙◌, refl, arith}
-use Rattle.std.specs.Prelude.{if◌then◌else◌, is_some}
+use Rattle.std.proofs.Common.{◌≡◌, ℕ, ◌+◌, ◌-◌, ◌<◌, ◌≤◌, length, set, Bool, sym, ap, ◌∙◌, refl, arith}
+use Rattle.std.specs.Prelude.{if◌then◌else◌}
 use Rattle.dds_lease.specs.declared.leases.Leases.TheInside.{Inside}
 use Rattle.dds_lease.specs.Standing.{Kept}
 use Rattle.dds_lease.specs.Track.{asserted}
-use Rattle.dds_lease.proofs.StandingLaws.{came-stands, heard-stands, stands-as}
+use Rattle.dds_lease.proofs.StandingLaws.{Asserts, came-stands, heard-stands, stands-as}
 use Rattle.dds_lease.proofs.leases.Leases.assert_at.Goals as goal
 use Rattle.dds_lease.proofs.leases.Leases.assert_at.Goals.{then-track, else-track}
 
+-- what is kept of the writers before
+abbrev before : Inside → Kept
+before inside = record { tracks = inside.tracks.items; last_turned = inside.last_turned }
+
+within : (kept seen : Kept) (w n : ℕ) → seen ≡ kept → (0 < w) × (w ≤ length kept.tracks) → n ≡ w
+    → n - 1 < length seen.tracks
+within kept seen w n same matched number =
+    let count = ap (λ (k : Kept). length k.tracks) same in omega (arith, count, matched.0, matched.1, number)
+
+-- an assertion of a writer that was alive
+stays : (c : goal.Then-is_some)
+    → Asserts (before c.self.inside)
+    (record {
+      tracks = set c.self.inside.tracks.items (c.number.result - 1) (asserted c.args.now c.index.result.now);
+      last_turned = c.self.inside.last_turned;
+    })
+    (c.number.result - 1) c.args.now c.index.result.now
+stays c = record {
+  within = within _ _ c.args.writer c.number.result c.self.view_is c.requires.matched c.number.ensures;
+  is = c.index.ensures;
+  tracks = refl;
+  last = ap (λ (b : Bool). if b then c.self.inside.last_turned else 1 + (c.number.result - 1))
+      (sym c.if-is_some.true ∙ c.is_some.ensures);
+}
+
 pub returns-then-is_some-clause-came : goal.returns-then-is_some-clause-came
 returns-then-is_some-clause-came c = λ q h a given writer moment.
-    let count = ap (λ (k : Kept). length k.tracks) c.self.view_is in
-    came-stands _ _ q h a (c.number.result - 1) c.index.result.now (stands-as _ _ q h c.self.view_is given)
-    (record {
-      within = omega (arith, count, c.requires.matched.0, c.requires.matched.1, c.number.ensures);
-      is = c.index.ensures;
-      tracks = ap (λ (m : ℕ). set c.self.inside.tracks.items (c.number.result - 1) (asserted m c.index.result.now))
-          (sym moment);
-      last = ap (λ (b : Bool). if b then c.self.inside.last_turned else 1 + (c.number.result - 1))
-          (sym c.if-is_some.true ∙ c.is_some.ensures);
-    })
-    (omega (arith, c.requires.matched.0, c.number.ensures, writer))
+    came-stands _ _ q h a c.args.now _ _ (stands-as _ _ q h c.self.view_is given) (stays c)
+    (omega (arith, c.requires.matched.0, c.number.ensures, writer)) moment
 
 pub returns-then-is_some-clause-heard : goal.returns-then-is_some-clause-heard
 returns-then-is_some-clause-heard c = λ q h given.
-    let count = ap (λ (k : Kept). length k.tracks) c.self.view_is in
-    heard-stands _ _ q h c.args.writer c.args.now (c.number.result - 1) c.index.result.now
-    (stands-as _ _ q h c.self.view_is given)
-    (record {
-      within = omega (arith, count, c.requires.matched.0, c.requires.matched.1, c.number.ensures);
-      is = c.index.ensures;
-      tracks = refl;
-      last = ap (λ (b : Bool). if b then c.self.inside.last_turned else 1 + (c.number.result - 1))
-          (sym c.if-is_some.true ∙ c.is_some.ensures);
-    })
+    heard-stands _ _ q h c.args.writer c.args.now _ _ (stands-as _ _ q h c.self.view_is given) (stays c)
     (omega (arith, c.requires.matched.0, c.number.ensures))
 
 -- the tracks after both branches
@@ -44,37 +51,27 @@ joined c = elim c.if-track.branch [
   | else-track w ↦ ap (λ (i : Inside). i.tracks.items) w.self-inside-is
 ]
 
-last : (c : goal.After-writer-1) → 0 < c.args.writer
-    → c.args.writer ≡ (if is_some c.index.result.now.since then c.self.inside.last_turned
-    else 1 + (c.number.result - 1))
-last c positive =
-    let here : c.args.writer ≡ 1 + (c.number.result - 1) = omega (arith, positive, c.number.ensures) in
-    here ∙ ap (λ (b : Bool). if b then c.self.inside.last_turned else 1 + (c.number.result - 1))
-    (sym c.if-is_some.false ∙ c.is_some.ensures)
+-- an assertion of one that was not
+turns : (c : goal.After-writer-1)
+    → Asserts (before c.self.inside)
+    (record { tracks = c.if-track.self-inside.tracks.items; last_turned = c.args.writer })
+    (c.number.result - 1) c.args.now c.index.result.now
+turns c =
+    let here : c.args.writer ≡ 1 + (c.number.result - 1) = omega (arith, c.requires.matched.0, c.number.ensures) in
+    record {
+      within = within _ _ c.args.writer c.number.result c.self.view_is c.requires.matched c.number.ensures;
+      is = c.index.ensures;
+      tracks = joined c;
+      last = here ∙ ap (λ (b : Bool). if b then c.self.inside.last_turned else 1 + (c.number.result - 1))
+          (sym c.if-is_some.false ∙ c.is_some.ensures);
+    }
 
 pub returns-clause-came : goal.returns-clause-came
 returns-clause-came c = λ q h a given writer moment.
-    let count = ap (λ (k : Kept). length k.tracks) c.self.view_is in
-    came-stands _ _ q h a (c.number.result - 1) c.index.result.now (stands-as _ _ q h c.self.view_is given)
-    (record {
-      within = omega (arith, count, c.requires.matched.0, c.requires.matched.1, c.number.ensures);
-      is = c.index.ensures;
-      tracks = joined c
-          ∙ ap (λ (m : ℕ). set c.self.inside.tracks.items (c.number.result - 1) (asserted m c.index.result.now))
-          (sym moment);
-      last = last c c.requires.matched.0;
-    })
-    (omega (arith, c.requires.matched.0, c.number.ensures, writer))
+    came-stands _ _ q h a c.args.now _ _ (stands-as _ _ q h c.self.view_is given) (turns c)
+    (omega (arith, c.requires.matched.0, c.number.ensures, writer)) moment
 
 pub returns-clause-heard : goal.returns-clause-heard
 returns-clause-heard c = λ q h given.
-    let count = ap (λ (k : Kept). length k.tracks) c.self.view_is in
-    heard-stands _ _ q h c.args.writer c.args.now (c.number.result - 1) c.index.result.now
-    (stands-as _ _ q h c.self.view_is given)
-    (record {
-      within = omega (arith, count, c.requires.matched.0, c.requires.matched.1, c.number.ensures);
-      is = c.index.ensures;
-      tracks = joined c;
-      last = last c c.requires.matched.0;
-    })
+    heard-stands _ _ q h c.args.writer c.args.now _ _ (stands-as _ _ q h c.self.view_is given) (turns c)
     (omega (arith, c.requires.matched.0, c.number.ensures))
