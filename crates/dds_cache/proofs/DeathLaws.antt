@@ -17,13 +17,13 @@ use Rattle.dds_base.specs.declared.qos.ReaderQos.{ReaderQos}
 use Rattle.dds_base.specs.Happening.{same_key}
 use Rattle.dds_base.specs.Ownership.{registered_writers}
 use Rattle.dds_base.specs.Instance.{known_instances, last_accepted, state_after, is_nobody, instance_state_of, disposed_generations, no_writers_generations}
-use Rattle.dds_base.specs.Presence.{accepted_writes, is_present}
+use Rattle.dds_base.specs.Presence.{accepted_writes, is_at, is_present}
 use Rattle.dds_base.specs.Access.{handle_of}
 use Rattle.dds_base.proofs.KeyLaws.{key-same}
 use Rattle.dds_instances.specs.declared.known.KnownInstance.{KnownInstance}
 use Rattle.dds_instances.specs.declared.track.InstanceTrack.{InstanceTrack}
 use Rattle.dds_instances.specs.Known.{IsKnown}
-use Rattle.dds_instances.specs.Table.{Table, has_marked, is_marked, marked_of}
+use Rattle.dds_instances.specs.Table.{Table, has_marked, marked_of}
 use Rattle.dds_instances.specs.Track.{one_if}
 use Rattle.dds_instances.proofs.KnownLaws.{known}
 use Rattle.dds_cache.specs.declared.kept.Kept.{Kept}
@@ -149,10 +149,13 @@ adds-died q e h count old new all adds =
 
 -- ---- how many of them it leaves
 
--- of one more instance the newest entry left a marker, or not
+-- of how many of the first instances the newest entry left a marker
+abbrev pub marked_among : Table → ℕ → ℕ
+marked_among table n = count_by (λ (t : InstanceTrack). is_at t.last_marker table.happened) (take n table.tracks)
+
+-- of one more it left one, or not
 pub marked-more : (table : Table) (at w : ℕ) → w ≡ at + 1
-    → count_by (is_marked table.happened) (take (at + 1) table.tracks)
-    ≡ count_by (is_marked table.happened) (take at table.tracks) + one_if (has_marked table w)
+    → marked_among table (at + 1) ≡ marked_among table at + one_if (has_marked table w)
 marked-more table at w is =
     let next : at + 1 ≡ suc at = omega arith in
     ap (λ (m : ℕ). count_by test (take m table.tracks)) next
@@ -160,10 +163,11 @@ marked-more table at w is =
     ∙ ap (λ (m : ℕ). count_by test (take at table.tracks) + one_if (has_marked table m)) (sym (is ∙ next)))
   where
     test : InstanceTrack → Bool
-    test t = is_marked table.happened t
+    test t = is_at t.last_marker table.happened
 
     one_more : (k : ℕ) (ts : List InstanceTrack)
-        → count_by test (take (suc k) ts) ≡ count_by test (take k ts) + one_if (has_marked (record table { tracks = ts }) (suc k))
+        → count_by test (take (suc k) ts)
+        ≡ count_by test (take k ts) + one_if (has_marked (record table { tracks = ts }) (suc k))
     one_more zero [] = omega arith
     one_more (suc k) [] = omega arith
     one_more zero (t ∷ ts) = omega arith
@@ -174,5 +178,5 @@ marked-more table at w is =
         omega (arith, more, fewer, rest)
 
 -- of some of them it left no more than of all
-pub marked-some : (table : Table) (n : ℕ) → count_by (is_marked table.happened) (take n table.tracks) ≤ marked_of table
-marked-some table n = sum_by-take-le (λ (t : InstanceTrack). cond (is_marked table.happened t) 1 0) table.tracks n
+pub marked-some : (table : Table) (n : ℕ) → marked_among table n ≤ marked_of table
+marked-some table n = sum_by-take-le (λ (t : InstanceTrack). cond (is_at t.last_marker table.happened) 1 0) table.tracks n

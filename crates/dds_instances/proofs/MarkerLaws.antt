@@ -13,7 +13,6 @@ use Rattle.dds_instances.specs.declared.registration.Registration.{Registration}
 use Rattle.dds_instances.specs.declared.track.InstanceTrack.{InstanceTrack}
 use Rattle.dds_instances.specs.Registration.{is_there, noted_death}
 use Rattle.dds_instances.specs.Track.{Fits, is_alive_state, is_alive_track, state_of_track}
-use Rattle.dds_instances.specs.Table.{is_marked}
 use Rattle.dds_instances.proofs.StandingLaws.{Buries}
 use Rattle.dds_instances.proofs.TrackLaws.{one_if-bound}
 
@@ -54,7 +53,7 @@ marker-table n (Some _) there left m fewer none = omega (arith, none)
 
 -- one that takes a death up
 marker-one : (n w : ℕ) (t x : InstanceTrack) → Fits n t → Buries n w t x
-    → cond (is_alive_track x) 1 0 + cond (is_marked n x) 1 0 ≤ cond (is_alive_track t) 1 0
+    → cond (is_alive_track x) 1 0 + cond (is_at x.last_marker n) 1 0 ≤ cond (is_alive_track t) 1 0
 marker-one n w t x fits step =
     let there : Bool = list_any is_there t.registrations in
     let left : Bool = list_any is_there x.registrations in
@@ -62,7 +61,7 @@ marker-one n w t x fits step =
     (ap (λ (rs : List Registration). list_any is_there rs) (sym step.notes) ∙ e) in
     let alive : ◌≡◌ {A = ℕ} (cond (is_alive_track x) 1 0) (cond (is_alive_state (state_after t.last_accepted (not left))) 1 0) =
     ap (λ (k : Option ChangeKind). cond (is_alive_state (state_after k (not left))) 1 0) step.accepts in
-    let marked : ◌≡◌ {A = ℕ} (cond (is_marked n x) 1 0)
+    let marked : ◌≡◌ {A = ℕ} (cond (is_at x.last_marker n) 1 0)
     (cond (is_at (if becomes_not_alive (state_of_track t) (state_after t.last_accepted (not left)) then Some n else t.last_marker) n) 1 0) =
     ap (λ (m : Option ℕ). cond (is_at m n) 1 0) step.marker
     ∙ ap (λ (k : Option ChangeKind). cond (is_at (if becomes_not_alive (state_of_track t) (state_after k (not left)) then Some n else t.last_marker) n) 1 0) step.accepts in
@@ -74,7 +73,7 @@ marker-one n w t x fits step =
 -- how many instances are alive or were marked by a death, one after another
 pub marked-buried : (n w : ℕ) (ts xs : List InstanceTrack) → length xs ≡ length ts → All (Fits n) ts
     → ((k : ℕ) (d : InstanceTrack) → k < length ts → Buries n w (get_or ts k d) (get_or xs k d))
-    → count_by is_alive_track xs + count_by (is_marked n) xs ≤ count_by is_alive_track ts
+    → count_by is_alive_track xs + count_by (λ (t : InstanceTrack). is_at t.last_marker n) xs ≤ count_by is_alive_track ts
 marked-buried n w [] [] same fits steps = omega arith
 marked-buried n w [] (x ∷ xs) same fits steps = absurd (omega (arith, same))
 marked-buried n w (t ∷ ts) [] same fits steps = absurd (omega (arith, same))
@@ -83,6 +82,6 @@ marked-buried n w (t ∷ ts) (x ∷ xs) same fits steps =
     let rest = marked-buried n w ts xs (omega (arith, same)) (All-tail (Fits n) t ts fits)
     (λ k d within. steps (suc k) d (omega (arith, within))) in
     let alive_now = sum_by-cons (λ (y : InstanceTrack). cond (is_alive_track y) 1 0) x xs in
-    let marked_now = sum_by-cons (λ (y : InstanceTrack). cond (is_marked n y) 1 0) x xs in
+    let marked_now = sum_by-cons (λ (y : InstanceTrack). cond (is_at y.last_marker n) 1 0) x xs in
     let alive_before = sum_by-cons (λ (y : InstanceTrack). cond (is_alive_track y) 1 0) t ts in
     omega (arith, one, rest, alive_now, marked_now, alive_before)

@@ -1,13 +1,19 @@
 -- What is true of the instances as they are kept. Inner functions alone cite this: nothing here has to be believed.
-use Rattle.std.specs.Prelude.{◌≡◌, ◌+◌, ◌<◌, ◌≤◌, ◌^◌, map, All, vec_len, vec_capacity}
+use Rattle.std.specs.Prelude.{◌≡◌, ◌+◌, ◌<◌, ◌≤◌, ◌^◌, map, count_by, All, vec_len, vec_capacity}
 use Rattle.indexmap.specs.IndexSet.{spare}
 use Rattle.dds_instances.specs.declared.instances.Instances.TheInside.{Inside}
-use Rattle.dds_instances.specs.Track.{Fits}
+use Rattle.dds_instances.specs.Track.{Fits, is_alive_track}
 use Rattle.dds_instances.specs.Table.{Table, key_of, AreBlank}
 
 -- what a contract sees of the instances
 abbrev pub table_of : Inside → Table
-table_of a = record { writers = a.writers; tracks = a.tracks.items; happened = a.happened; room = a.room }
+table_of a = record {
+  writers = a.writers;
+  tracks = a.tracks.items;
+  alive = count_by is_alive_track a.tracks.items;
+  happened = a.happened;
+  room = a.room;
+}
 
 -- the index has the keys of the instances, the counts fit, and so many more entries find memory
 pub record IsSound (a : Inside) : Type 0 where

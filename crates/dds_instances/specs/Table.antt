@@ -1,7 +1,8 @@
 -- When what is kept of the instances stands for what happened. Nobody outside looks into it: nothing here has to be
 -- believed.
-use Rattle.std.specs.Prelude.{◌≡◌, ◌≢◌, ℕ, zero, suc, slice_get, ◌<◌, List, length, map, count_by, All, Bool, false, Option, Some, None, slice_index_or}
+use Rattle.std.specs.Prelude.{◌≡◌, ◌≢◌, ℕ, zero, suc, slice_get, ◌<◌, List, length, map, count_by, All, Bool, false, Option, None, slice_index_or}
 use Rattle.std.specs.List.{list_any}
+use Rattle.std.specs.Option.{option_and_then}
 use Rattle.dds_base.specs.declared.key.Key.{Key}
 use Rattle.dds_base.specs.declared.happening.Happening.{Happening}
 use Rattle.dds_base.specs.declared.qos.ReaderQos.{ReaderQos}
@@ -11,13 +12,14 @@ use Rattle.dds_base.specs.Presence.{is_at}
 use Rattle.dds_instances.specs.declared.registration.Registration.{Registration}
 use Rattle.dds_instances.specs.declared.track.InstanceTrack.{InstanceTrack}
 use Rattle.dds_instances.specs.Registration.{blank_registrations}
-use Rattle.dds_instances.specs.Track.{Tracks, is_alive_track}
+use Rattle.dds_instances.specs.Track.{Tracks}
 
--- what is kept of the instances of a reader: of how many writers, the instances by handle, how much happened, and for
--- how many more entries there is memory
+-- what is kept of the instances of a reader: of how many writers, the instances by handle, how many of these are alive,
+-- how much happened, and for how many more entries there is memory
 pub record Table : Type 0 where
   pub writers : ℕ
   pub tracks : List InstanceTrack
+  pub alive : ℕ
   pub happened : ℕ
   pub room : ℕ
 
@@ -31,15 +33,11 @@ happened_of table = table.happened
 
 -- how many instances are alive
 abbrev pub alive_of : Table → ℕ
-alive_of table = count_by is_alive_track table.tracks
-
--- the entry of position n left the last marker of the instance of a track
-abbrev pub is_marked : ℕ → InstanceTrack → Bool
-is_marked n t = is_at t.last_marker n
+alive_of table = table.alive
 
 -- of how many instances the newest entry left a marker
 abbrev pub marked_of : Table → ℕ
-marked_of table = count_by (is_marked table.happened) table.tracks
+marked_of table = count_by (λ (t : InstanceTrack). is_at t.last_marker table.happened) table.tracks
 
 -- the instance of a track
 abbrev pub key_of : InstanceTrack → Key
@@ -83,8 +81,5 @@ track_with ts (suc at) = slice_get ts at
 
 -- the newest entry left a marker of the instance of a handle
 abbrev pub has_marked : Table → ℕ → Bool
-has_marked table handle = is_marked_in table.happened (track_with table.tracks handle)
-  where
-    is_marked_in : ℕ → Option InstanceTrack → Bool
-    is_marked_in n None = false
-    is_marked_in n (Some t) = is_marked n t
+has_marked table handle =
+    is_at (option_and_then (λ (t : InstanceTrack). t.last_marker) (track_with table.tracks handle)) table.happened

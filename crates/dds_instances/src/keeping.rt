@@ -8,10 +8,11 @@ ghost use Rattle.dds_base.specs.declared.happening.Happening.TheVariants.{Came, 
 ghost use Rattle.dds_base.specs.declared.qos.ReaderQos.{ReaderQos};
 ghost use Rattle.dds_base.specs.Happening.{same_key, is_write_or_dispose};
 ghost use Rattle.dds_base.specs.Ownership.{publication_handles};
+ghost use Rattle.dds_base.specs.Presence.{is_at};
 ghost use Rattle.dds_instances.specs.Registration.{unregistered};
 ghost use Rattle.dds_base.specs.Instance.{last_accepted};
 ghost use Rattle.dds_instances.specs.Track.{Fits, Tracks, is_alive_track};
-ghost use Rattle.dds_instances.specs.Table.{key_of, Each, Follows, IsLawful, IsPlaceOf, AreBlank, is_marked, track_with};
+ghost use Rattle.dds_instances.specs.Table.{key_of, Each, Follows, IsLawful, IsPlaceOf, AreBlank, track_with};
 
 use crate::place::{find, put_last};
 use crate::registration::{Registrations, is_data};
@@ -76,7 +77,7 @@ pub fn bury_all(tracks: &mut Vec<InstanceTrack>, writer: Handle, position: u64)
     ensures keys { map key_of tracks.new.items ≡ map key_of tracks.old.items }
     ensures len { vec_len tracks.new ≡ vec_len tracks.old }
     ensures capacity { vec_capacity tracks.new ≡ vec_capacity tracks.old }
-    ensures marked { count_by is_alive_track tracks.new.items + count_by (is_marked position) tracks.new.items ≤ count_by is_alive_track tracks.old.items }
+    ensures marked { count_by is_alive_track tracks.new.items + count_by (λ t. is_at t.last_marker position) tracks.new.items ≤ count_by is_alive_track tracks.old.items }
     ensures follows { (q : ReaderQos) (h : List Happening) (now : ℕ) → length h + 1 ≡ position → IsLawful q h → Follows q h tracks.old.items → Follows q (Died writer now ∷ h) tracks.new.items }
 {
     for at in 0..tracks.len() {

@@ -1,21 +1,22 @@
 -- the samples of the instances so far are added
 use Rattle.std.proofs.Common.{◌≡◌, ◌+◌, ◌≤◌, ◌∷◌, List, length, take}
-use Rattle.std.specs.Prelude.{count_by, vec_len, vec_capacity}
+use Rattle.std.specs.Prelude.{vec_len, vec_capacity}
 use Rattle.dds_base.specs.declared.key.Key.{Key}
 use Rattle.dds_base.specs.declared.happening.Happening.{Happening}
 use Rattle.dds_base.specs.declared.happening.Happening.TheVariants.{Died}
 use Rattle.dds_base.specs.declared.qos.ReaderQos.{ReaderQos}
 use Rattle.dds_base.specs.Instance.{known_instances}
-use Rattle.dds_instances.specs.Table.{Stands, is_marked}
+use Rattle.dds_instances.specs.Table.{Stands}
 use Rattle.dds_cache.specs.Kept.{IsFresh}
 use Rattle.std.specs.List.{All}
 use Rattle.dds_cache.specs.Finding.{IsSmall}
 use Rattle.dds_cache.specs.Dying.{AddsOf}
+use Rattle.dds_cache.proofs.DeathLaws.{marked_among}
 use Rattle.dds_cache.proofs.dying.add_markers.Given as goal
 
 abbrev pub invariant-loop-at : goal.invariant-loop-at
 invariant-loop-at l = record {
-  len : vec_len l.samples ≤ vec_len l.fn.samples + count_by (is_marked l.instances.happened) (take l.at l.instances.tracks);
+  len : vec_len l.samples ≤ vec_len l.fn.samples + marked_among l.instances l.at;
   capacity : vec_capacity l.fn.samples ≤ vec_capacity l.samples;
   small : All IsSmall l.fn.samples.items → All IsSmall l.samples.items;
   added : (q : ReaderQos) (h : List Happening) → Stands q l.instances (Died l.writer l.moment ∷ h) → l.count ≡ length (known_instances q (Died l.writer l.moment ∷ h)) → ((i : Key) → IsFresh h i) → AddsOf q (Died l.writer l.moment ∷ h) (length h + 1) (take l.at (known_instances q (Died l.writer l.moment ∷ h))) l.fn.samples.items l.samples.items;

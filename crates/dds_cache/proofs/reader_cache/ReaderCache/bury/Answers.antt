@@ -1,4 +1,4 @@
-use Rattle.std.proofs.Common.{List, ℕ, ◌-◌, ◌≡◌, ◌∷◌, length, sym, subst, refl, ◌∙◌, ap}
+use Rattle.std.proofs.Common.{List, ℕ, ◌≡◌, ◌∷◌, length, sym, subst, refl, ◌∙◌, ap}
 use Rattle.std.proofs.lemmas.List.{append-nil}
 use Rattle.std.specs.Prelude.{OnOk, Result}
 use Rattle.dds_base.specs.declared.happening.Happening.TheVariants.{Died}

@@ -1,4 +1,4 @@
-use Rattle.std.proofs.Common.{List, ◌-◌, ◌∷◌, sym, subst, refl, ◌∙◌}
+use Rattle.std.proofs.Common.{List, ◌∷◌, sym, subst, refl, ◌∙◌}
 use Rattle.dds_base.specs.declared.happening.Happening.{Happening}
 use Rattle.dds_base.specs.declared.happening.Happening.TheVariants.{Came}
 use Rattle.dds_cache.specs.Standing.{Stored, StandsFor}

@@ -18,11 +18,9 @@ invariant_of-self c = record {
 pub returns-clause-read : goal.returns-clause-read
 returns-clause-read c = λ q h stands fits.
     let old : Stands q (table_of c.self.inside) h = subst (λ (t : Table). Stands q t h) (sym c.self.view_is) stands in
-    let new : Table = record { writers = c.self.inside.writers; tracks = c.see_all.new.tracks.items; happened = c.self.inside.happened + 1; room = c.in_ok-self-inside.field-0 } in
-    stands-read q h c.args.samples.now (table_of c.self.inside) new refl refl c.see_all.ensures.keys (c.see_all.ensures.sees q h) fits old
+    stands-read q h c.args.samples.now (table_of c.self.inside) _ refl refl c.see_all.ensures.keys (c.see_all.ensures.sees q h) fits old
 
 pub returns-clause-took : goal.returns-clause-took
 returns-clause-took c = λ q h stands fits.
     let old : Stands q (table_of c.self.inside) h = subst (λ (t : Table). Stands q t h) (sym c.self.view_is) stands in
-    let new : Table = record { writers = c.self.inside.writers; tracks = c.see_all.new.tracks.items; happened = c.self.inside.happened + 1; room = c.in_ok-self-inside.field-0 } in
-    stands-took q h c.args.samples.now new (stands-read q h c.args.samples.now (table_of c.self.inside) new refl refl c.see_all.ensures.keys (c.see_all.ensures.sees q h) fits old)
+    stands-took q h c.args.samples.now _ (stands-read q h c.args.samples.now (table_of c.self.inside) _ refl refl c.see_all.ensures.keys (c.see_all.ensures.sees q h) fits old)
