@@ -23,7 +23,7 @@ use Rattle.dds_base.specs.Ownership.{numbers_from, IsMatched, is_registered, reg
 guid_total : IsTotalOrder guid_cmp
 guid_total = then_total (on_total (λ (g : Guid). g.prefix.0) nat_list_cmp_total) (on_total (λ (g : Guid). g.entity.0) nat_list_cmp_total)
 
-writer_total : IsTotalOrder writer_cmp
+pub writer_total : IsTotalOrder writer_cmp
 writer_total = then_total (on_total (λ (w : MatchedWriter). w.strength) int_cmp_total) (back_total (on_total (λ (w : MatchedWriter). w.guid) guid_total))
 
 greater : (o : Ordering) → is_gt o ≡ true → o ≡ Greater
@@ -72,13 +72,13 @@ above-either a b Equal e differ =
 
 -- ---- the order of publication handles
 
-outranks-trans : (x y z : Option MatchedWriter) → is_above x y ≡ true → is_above y z ≡ true → is_above x z ≡ true
+pub outranks-trans : (x y z : Option MatchedWriter) → is_above x y ≡ true → is_above y z ≡ true → is_above x z ≡ true
 outranks-trans (Some a) (Some b) (Some c) xy yz = above-trans a b c xy yz
 outranks-trans (Some a) (Some b) None xy yz = cc
 outranks-trans (Some a) None z xy yz = cc
 outranks-trans None y z xy yz = cc
 
-outranks-one_way : (x y : Option MatchedWriter) → is_above x y ≡ true → is_above y x ≡ true → ⊥
+pub outranks-one_way : (x y : Option MatchedWriter) → is_above x y ≡ true → is_above y x ≡ true → ⊥
 outranks-one_way (Some a) (Some b) xy yx = above-one_way a b xy yx
 outranks-one_way (Some a) None xy yx = cc
 outranks-one_way None y xy yx = cc
@@ -88,7 +88,7 @@ slice_get-within [] at within = absurd (omega arith)
 slice_get-within (w ∷ ws) zero within = (w, refl)
 slice_get-within (w ∷ ws) (suc at) within = slice_get-within ws at (omega arith)
 
-matched-writer : (q : ReaderQos) (v : ℕ) → IsMatched q v → (w : MatchedWriter) × (writer_of q.writers v ≡ Some w)
+pub matched-writer : (q : ReaderQos) (v : ℕ) → IsMatched q v → (w : MatchedWriter) × (writer_of q.writers v ≡ Some w)
 matched-writer q zero matched = absurd (omega (arith, matched.0))
 matched-writer q (suc at) matched = slice_get-within q.writers at (omega (arith, matched.1))
 
@@ -104,7 +104,7 @@ outranks-either q v w own matched_v matched_w differ =
 
 -- ---- the greatest of a list
 
-abbrev is_one_of : List ℕ → ℕ → Bool
+abbrev pub is_one_of : List ℕ → ℕ → Bool
 is_one_of ws w = list_any (λ v. v == w) ws
 
 abbrev AllMatched : ReaderQos → List ℕ → Type 0
@@ -123,7 +123,7 @@ outranks_all-above q (x ∷ ws) v w above all =
     (or_cases (x == v) (outranks q v x) parts.0) in
     and_from ((x == w) || outranks q w x) (outranks_all q ws w) here (outranks_all-above q ws v w above parts.1)
 
-eqb-refl : (n : ℕ) → (n == n) ≡ true
+pub eqb-refl : (n : ℕ) → (n == n) ≡ true
 eqb-refl n = grind (arith, nat_tests)
 
 pub record Greatest (q : ReaderQos) (ws : List ℕ) : Type 0 where
@@ -204,7 +204,7 @@ contains-at [] w k within is = absurd (omega arith)
 contains-at (v ∷ ws) w zero within is = or_left (v == w) (is_one_of ws w) (ap (λ (n : ℕ). n == w) is ∙ eqb-refl w)
 contains-at (v ∷ ws) w (suc k) within is = or_right (v == w) (is_one_of ws w) (contains-at ws w k (omega arith) is)
 
-all-at : (p : ℕ → Bool) (ws : List ℕ) (w : ℕ) → list_all p ws ≡ true → is_one_of ws w ≡ true → p w ≡ true
+pub all-at : (p : ℕ → Bool) (ws : List ℕ) (w : ℕ) → list_all p ws ≡ true → is_one_of ws w ≡ true → p w ≡ true
 all-at p [] w all among = absurd cc
 all-at p (v ∷ ws) w all among =
     let parts = and_parts (p v) (list_all p ws) all in

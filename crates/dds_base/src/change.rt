@@ -1,7 +1,7 @@
 //! What a writer does to an instance.
 
 ghost use Rattle.std.specs.Prelude.{◌≡◌};
-ghost use Rattle.dds_base.specs.Happening.{is_unregister};
+ghost use Rattle.dds_base.specs.Happening.{is_unregister, is_write_or_dispose};
 
 use crate::key::Key;
 use crate::moment::Moment;
@@ -23,6 +23,18 @@ pub enum ChangeKind {
 }
 
 impl ChangeKind {
+    /// Whether it is a write or a dispose, and not only an unregister: such a change may be accepted.
+    ///
+    /// DDS 1.4, 2.2.2.4 (register_instance).
+    pub fn is_write_or_dispose(self) -> bool
+        ensures { result ≡ is_write_or_dispose self }
+    {
+        match self {
+            ChangeKind::Unregister => false,
+            ChangeKind::Write | ChangeKind::Dispose | ChangeKind::DisposeUnregister => true,
+        }
+    }
+
     /// Whether it ends its writer's registration of the instance.
     ///
     /// DDS 1.4, 2.2.2.4 (unregister_instance).

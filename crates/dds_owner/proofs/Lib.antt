@@ -1,0 +1,2 @@
+pub mod RegistrationLaws
+pub mod RankingLaws

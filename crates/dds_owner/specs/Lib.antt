@@ -1,0 +1,3 @@
+pub mod Registration
+pub mod Ranking
+pub mod Standing

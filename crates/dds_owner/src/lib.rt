@@ -1,0 +1,13 @@
+//! Which of a reader's matched writers are registered for an instance, and who owns it.
+//!
+//! DDS 1.4, 2.2.3 (OWNERSHIP, OWNERSHIP_STRENGTH, LIVELINESS), 2.2.2.4 (register_instance, unregister_instance).
+//! Not here: which instances are known, and what an accepted change does to one.
+#![tactic(auto)]
+
+mod laws;
+mod owners;
+mod ranking;
+mod registration;
+
+pub use laws::{nobody_is_registered_anew, other_entries_change_nothing};
+pub use owners::Owners;

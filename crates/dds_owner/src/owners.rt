@@ -1,0 +1,171 @@
+//! The registered writers of an instance, and its owner.
+
+ghost use Rattle.std.specs.Prelude.{◌≡◌, ◌∷◌, [], ℕ, List, length, not, true, false, IfOk, IfErr};
+ghost use Rattle.dds_base.specs.declared.code.Code.TheVariants.{Memory};
+ghost use Rattle.dds_base.specs.declared.happening.Arrival.{Arrival};
+ghost use Rattle.dds_base.specs.declared.happening.Happening.{Happening};
+ghost use Rattle.dds_base.specs.declared.happening.Happening.TheVariants.{Came, Died};
+ghost use Rattle.dds_base.specs.declared.key.Key.{Key};
+ghost use Rattle.dds_base.specs.declared.qos.ReaderQos.{ReaderQos};
+ghost use Rattle.dds_base.specs.Happening.{is_unregister};
+ghost use Rattle.dds_base.specs.Instance.{is_nobody};
+ghost use Rattle.dds_base.specs.Ownership.{IsMatched, accepted_kind, is_registered, owner_of, registered_writers};
+ghost use Rattle.dds_owner.specs.Standing.{StandsFor, has_writers};
+
+use crate::ranking::{accepted_by, leader_of};
+use crate::registration::{
+    Registration, blank_items, enter, is_anybody_there, is_writer_there, would_anybody_be_there,
+};
+use dds_base::{Arrival, ChangeKind, Code, Handle, ReaderQos};
+use std::alloc::Global;
+use std::marker::Model;
+
+/// Which of a reader's matched writers are registered for one instance, kept up with what happens there.
+///
+/// A writer is registered from a write or a dispose of the instance, accepted or not, until its unregister or its death.
+///
+/// DDS 1.4, 2.2.3 (OWNERSHIP, OWNERSHIP_STRENGTH), 2.2.2.4 (register_instance, unregister_instance).
+#[derive(Drop)]
+pub struct Owners {
+    /// By publication handle.
+    registrations: Vec<Registration>,
+}
+
+impl Model for Owners {
+    ghost use Rattle.dds_owner.specs.Standing.{Kept};
+
+    ghost Value = { Kept };
+
+    ghost view = { λ o. record { registrations = o.registrations.items } };
+}
+
+impl Owners {
+    /// Of an instance of which nothing has come, where so many writers are matched. It has all the memory that it will
+    /// ever need.
+    ///
+    /// # Errors
+    ///
+    /// `Memory` where a growth was refused.
+    pub fn open(alloc: Global, writers: usize) -> Result<Owners, Code>
+        // Nothing has happened.
+        ensures ok { IfOk result (λ owners. (q : ReaderQos) (i : Key) → length q.writers ≡ writers
+            → StandsFor owners q i []) }
+        // The only refusal is for want of memory.
+        ensures memory { IfErr result (λ code. code ≡ Memory) }
+    {
+        let registrations = blank_items(alloc, writers)?;
+        Ok(Owners { registrations })
+    }
+
+    /// A write or a dispose of the instance came, accepted or not: its writer is registered.
+    ///
+    /// DDS 1.4, 2.2.2.4 (register_instance).
+    pub fn register(&mut self, writer: Handle)
+        // A change of it came that does not unregister.
+        ensures came { (q : ReaderQos) (h : List Happening) (a : Arrival) → StandsFor self.old q a.change.key h
+            → a.writer ≡ writer → is_unregister a.change.kind ≡ false → StandsFor self.new q a.change.key (Came a ∷ h) }
+    {
+        enter(&mut self.registrations, writer, true);
+    }
+
+    /// An unregister of the instance came, with a dispose or without: its writer is not registered any more.
+    ///
+    /// DDS 1.4, 2.2.2.4 (unregister_instance).
+    pub fn unregister(&mut self, writer: Handle)
+        // A change of it came that unregisters.
+        ensures came { (q : ReaderQos) (h : List Happening) (a : Arrival) → StandsFor self.old q a.change.key h
+            → a.writer ≡ writer → is_unregister a.change.kind ≡ true → StandsFor self.new q a.change.key (Came a ∷ h) }
+    {
+        enter(&mut self.registrations, writer, false);
+    }
+
+    /// A writer died, at whichever moment: it is not registered any more.
+    ///
+    /// DDS 1.4, 2.2.3 (LIVELINESS).
+    pub fn drop_writer(&mut self, writer: Handle)
+        // It died.
+        ensures died { (q : ReaderQos) (i : Key) (h : List Happening) (moment : ℕ) → StandsFor self.old q i h
+            → StandsFor self.new q i (Died writer moment ∷ h) }
+        // Nobody is registered by it.
+        ensures fewer { has_writers self.new ≡ true → has_writers self.old ≡ true }
+    {
+        enter(&mut self.registrations, writer, false);
+    }
+
+    /// The owner under EXCLUSIVE ownership, none where nobody is registered.
+    ///
+    /// It is the registered writer of the greatest strength, and of equals the one whose sixteen GUID octets are the
+    /// smaller. Where two matched writers share a GUID, and both come first, there is none.
+    ///
+    /// DDS 1.4, 2.2.3 (OWNERSHIP, OWNERSHIP_STRENGTH).
+    pub fn owner(&self, qos: &ReaderQos) -> Option<Handle>
+        // It is the owner among the registered writers.
+        ensures owner { (i : Key) (h : List Happening) → StandsFor self.now qos.now i h
+            → result ≡ owner_of qos.now (registered_writers qos.now i h) }
+    {
+        let leader = leader_of(qos, &self.registrations)?;
+        if leader.is_sole {
+            Some(leader.writer)
+        } else {
+            None
+        }
+    }
+
+    /// Whether a writer is registered; of a handle that names none, `false`.
+    ///
+    /// DDS 1.4, 2.2.2.4 (register_instance, unregister_instance).
+    pub fn is_registered(&self, writer: Handle) -> bool
+        // It is so by the definitions.
+        ensures matched { (q : ReaderQos) (i : Key) (h : List Happening) → StandsFor self.now q i h → IsMatched q writer
+            → result ≡ is_registered i writer h }
+        // A handle that names no writer names none that is registered.
+        ensures unmatched { (q : ReaderQos) (i : Key) (h : List Happening) → StandsFor self.now q i h
+            → (IsMatched q writer → ⊥) → result ≡ false }
+    {
+        is_writer_there(&self.registrations, writer)
+    }
+
+    /// Whether anybody is registered.
+    ///
+    /// DDS 1.4, 2.2.2.5 (instance_state).
+    pub fn has_writers(&self) -> bool
+        // It is told of what is kept.
+        ensures kept { result ≡ has_writers self.now }
+        // It is so by the definitions.
+        ensures anybody { (q : ReaderQos) (i : Key) (h : List Happening) → StandsFor self.now q i h
+            → result ≡ not (is_nobody (registered_writers q i h)) }
+    {
+        is_anybody_there(&self.registrations)
+    }
+
+    /// Whether anybody would be registered once a change of the instance came.
+    ///
+    /// DDS 1.4, 2.2.2.5 (instance_state).
+    pub fn would_have_writers(&self, arrival: &Arrival) -> bool
+        // It is so by the definitions.
+        ensures anybody { (q : ReaderQos) (h : List Happening) → StandsFor self.now q arrival.now.change.key h
+            → result ≡ not (is_nobody (registered_writers q arrival.now.change.key (Came arrival.now ∷ h))) }
+    {
+        let is_entered = !arrival.change.kind.is_unregister();
+        would_anybody_be_there(&self.registrations, arrival.writer, is_entered)
+    }
+
+    /// The kind of a change of the instance, if it is accepted where it comes now.
+    ///
+    /// Under SHARED ownership each write and each dispose is. Under EXCLUSIVE it is if its writer is the owner among
+    /// those that are registered and itself.
+    ///
+    /// DDS 1.4, 2.2.3 (OWNERSHIP).
+    pub fn accepted(&self, qos: &ReaderQos, arrival: &Arrival) -> Option<ChangeKind>
+        // It is that of the definitions.
+        ensures accepted { (h : List Happening) → StandsFor self.now qos.now arrival.now.change.key h
+            → result ≡ accepted_kind qos.now arrival.now.change.key h (Came arrival.now) }
+    {
+        accepted_by(
+            qos,
+            &self.registrations,
+            arrival.writer,
+            arrival.change.kind,
+        )
+    }
+}
