@@ -1,7 +1,7 @@
 -- Whether a change that comes turns its instance to a state that is not alive.
-use Rattle.std.proofs.Common.{◌≡◌, ℕ, ◌+◌, List, [], ◌∷◌, suc, length, map, Bool, true, false, not, ◌==◌, ◌&&◌, ◌||◌, sym, ap, ◌∙◌, refl, Option, Some, None, cond, arith, ⊎_elim}
+use Rattle.std.proofs.Common.{◌≡◌, ℕ, ◌+◌, List, [], ◌∷◌, suc, length, Bool, true, false, not, ◌==◌, ◌&&◌, ◌||◌, sym, ap, ◌∙◌, refl, Option, Some, None, cond, arith, ⊎_elim}
 use Rattle.std.specs.Prelude.{if◌then◌else◌, nat_le, nat_lt}
-use Rattle.std.specs.List.{list_any, filter}
+use Rattle.std.specs.List.{filter}
 use Rattle.std.proofs.lemmas.Bool.{cases_Bool, eqb-true, eqb-false}
 use Rattle.std.proofs.lemmas.Bool.Decides.{nat_tests}
 use Rattle.dds_base.specs.declared.key.Key.{Key}
@@ -19,29 +19,21 @@ use Rattle.dds_base.specs.Ownership.{accepted_kind, numbers_from, is_registered,
 use Rattle.dds_base.specs.Instance.{or_else, state_after, is_nobody, last_accepted, instance_state_of}
 use Rattle.dds_base.specs.Presence.{becomes_not_alive, marks}
 use Rattle.dds_base.proofs.KeyLaws.{same_key-refl}
-use Rattle.dds_instances.specs.declared.registration.Registration.{Registration}
 use Rattle.dds_instances.specs.declared.track.InstanceTrack.{InstanceTrack}
-use Rattle.dds_instances.specs.Registration.{accepted_among, noted, is_there}
-use Rattle.dds_instances.specs.Track.{Tracks, would_end, is_born_dead}
-use Rattle.dds_instances.proofs.RegistrationLaws.{accepted-among, noted-registrations, nobody-there}
+use Rattle.dds_instances.specs.Track.{Tracks, is_born_dead, state_of_track}
+use Rattle.dds_owner.proofs.RegistrationLaws.{not-not}
 use Rattle.dds_instances.proofs.TrackLaws.{state-tracked}
 use Rattle.dds_instances.proofs.KnownLaws.{unknown}
 use Rattle.dds_instances.proofs.StandingLaws.{first-accepted}
 
-any-map : (p : Registration → Bool) (f : Registration → Registration) (rs : List Registration) → list_any p (map f rs) ≡ list_any (λ r. p (f r)) rs
-any-map p f [] = refl
-any-map p f (r ∷ rs) = ap (λ (b : Bool). p (f r) || b) (any-map p f rs)
-
--- of an instance that is kept
-pub marks-tracked : (q : ReaderQos) (h : List Happening) (a : Arrival) (t : InstanceTrack) → Tracks q a.change.key h t → would_end q a.writer a.change.kind t ≡ marks q a.change.key h (Came a)
-marks-tracked q h a t tracks =
+-- of an instance that is kept, by the accepted kind and whether anybody is registered then
+pub marks-tracked : (q : ReaderQos) (h : List Happening) (a : Arrival) (t : InstanceTrack) (kind : Option ChangeKind) (left : Bool) → Tracks q a.change.key h t → kind ≡ accepted_kind q a.change.key h (Came a) → left ≡ not (is_nobody (registered_writers q a.change.key (Came a ∷ h))) → becomes_not_alive (state_of_track t) (state_after (or_else kind t.last_accepted) (not left)) ≡ marks q a.change.key h (Came a)
+marks-tracked q h a t kind left tracks kind_is left_is =
     let i : Key = a.change.key in
-    let n : Bool = not (list_any (λ r. is_there (noted a.writer a.change.kind r)) t.registrations) in
-    let nobody : n ≡ is_nobody (registered_writers q i (Came a ∷ h)) = ap (λ (b : Bool). not b) (sym (any-map is_there (noted a.writer a.change.kind) t.registrations)) ∙ sym (nobody-there q i (Came a ∷ h) (map (noted a.writer a.change.kind) t.registrations) (noted-registrations q h a t.registrations tracks.registrations_are)) in
-    ap (λ (s : Option InstanceState). becomes_not_alive s (state_after (or_else (accepted_among q t.registrations a.writer a.change.kind) t.last_accepted) n)) (state-tracked q i h t tracks)
-    ∙ (ap (λ (k : Option ChangeKind). becomes_not_alive (instance_state_of q i h) (state_after (or_else k t.last_accepted) n)) (accepted-among q h a t.registrations tracks.registrations_are)
-    ∙ (ap (λ (l : Option ChangeKind). becomes_not_alive (instance_state_of q i h) (state_after (or_else (accepted_kind q i h (Came a)) l) n)) tracks.last_is
-    ∙ ap (λ (b : Bool). becomes_not_alive (instance_state_of q i h) (state_after (last_accepted q i (Came a ∷ h)) b)) nobody))
+    ap (λ (s : Option InstanceState). becomes_not_alive s (state_after (or_else kind t.last_accepted) (not left))) (state-tracked q i h t tracks)
+    ∙ (ap (λ (k : Option ChangeKind). becomes_not_alive (instance_state_of q i h) (state_after (or_else k t.last_accepted) (not left))) kind_is
+    ∙ (ap (λ (l : Option ChangeKind). becomes_not_alive (instance_state_of q i h) (state_after (or_else (accepted_kind q i h (Came a)) l) (not left))) tracks.last_is
+    ∙ ap (λ (b : Bool). becomes_not_alive (instance_state_of q i h) (state_after (last_accepted q i (Came a ∷ h)) b)) (sym (not-not _ _ left_is))))
 
 -- ---- of an instance that is unknown
 

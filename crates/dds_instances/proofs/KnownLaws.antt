@@ -1,7 +1,7 @@
 -- An instance is among the known ones exactly where a change of it was accepted, and of an unknown one nothing counts.
-use Rattle.std.proofs.Common.{◌≡◌, ℕ, ◌+◌, List, [], ◌∷◌, ◌++◌, length, map, Bool, true, false, not, ◌&&◌, ◌||◌, ◌==◌, sym, ap, ◌∙◌, refl, Option, Some, None, subst, ⊎_elim, cond, arith}
+use Rattle.std.proofs.Common.{◌≡◌, ℕ, ◌+◌, List, [], ◌∷◌, ◌++◌, length, Bool, true, false, not, ◌&&◌, ◌||◌, ◌==◌, sym, ap, ◌∙◌, refl, Option, Some, None, subst, ⊎_elim, cond, arith}
 use Rattle.std.specs.Prelude.{is_some, if◌then◌else◌}
-use Rattle.std.specs.List.{list_any}
+use Rattle.std.specs.List.{filter, list_any}
 use Rattle.std.proofs.lemmas.Bool.{cases_Bool}
 use Rattle.std.proofs.lemmas.List.Folds.{list_any-append}
 use Rattle.dds_base.specs.declared.key.Key.{Key}
@@ -18,10 +18,9 @@ use Rattle.dds_base.specs.Ownership.{accepted_kind, publication_handles, is_regi
 use Rattle.dds_base.specs.Instance.{or_else, is_write, is_disposed, is_without_writers, state_after, is_nobody, last_accepted, instance_state_of, disposed_generations, no_writers_generations, latest_rebirth, known_instances, introduces, introduced_by, accesses}
 use Rattle.dds_base.specs.Presence.{becomes_not_alive, last_marker, accepted_writes}
 use Rattle.dds_base.proofs.KeyLaws.{key-same}
-use Rattle.dds_instances.specs.declared.registration.Registration.{Registration}
-use Rattle.dds_instances.specs.Registration.{unregistered}
+use Rattle.dds_owner.specs.Standing.{Kept, StandsFor}
+use Rattle.dds_owner.proofs.RegistrationLaws.{other-stands}
 use Rattle.dds_instances.specs.Track.{Tracks, fresh}
-use Rattle.dds_instances.proofs.RegistrationLaws.{nobody-filtered, nobody-registrations}
 use Rattle.dds_instances.proofs.TrackLaws.{accepted-other}
 
 or-none : (b : Bool) → (b || false) ≡ b
@@ -93,6 +92,12 @@ and-true true true = refl
 and-true true false = refl
 and-true false b = refl
 
+-- where nobody is registered, no writer is
+nobody-filtered : (i : Key) (h : List Happening) (ws : List ℕ) → ((w : ℕ) → is_registered i w h ≡ false) → filter (λ w. is_registered i w h) ws ≡ []
+nobody-filtered i h [] none = refl
+nobody-filtered i h (w ∷ ws) none =
+    ap (λ (b : Bool). cond b (w ∷ filter (λ v. is_registered i v h) ws) (filter (λ v. is_registered i v h) ws)) (none w) ∙ nobody-filtered i h ws none
+
 -- a change that is not accepted where nobody is registered is no write or dispose of the instance
 pub rejected : (q : ReaderQos) (i : Key) (h : List Happening) (a : Arrival) → ((w : ℕ) → is_registered i w h ≡ false) → accepted_kind q i h (Came a) ≡ (if same_key a.change.key i && is_write_or_dispose a.change.kind then Some a.change.kind else None)
 rejected q i h a none =
@@ -135,12 +140,12 @@ unknown q i (e ∷ h) last =
     }
 
 -- a fresh track has followed an unknown instance
-pub tracks-fresh : (q : ReaderQos) (i : Key) (h : List Happening) (rs : List Registration) → rs ≡ map unregistered (publication_handles q) → last_accepted q i h ≡ None → list_any (accesses i 0) h ≡ false → Tracks q i h (fresh i rs)
-tracks-fresh q i h rs blank last unseen =
+pub tracks-fresh : (q : ReaderQos) (i : Key) (h : List Happening) (kept : Kept) → StandsFor kept q i [] → last_accepted q i h ≡ None → list_any (accesses i 0) h ≡ false → Tracks q i h (fresh i kept)
+tracks-fresh q i h kept blank last unseen =
     let none : IsUnknown q i h = unknown q i h last in
     record {
       key_is = refl;
-      registrations_are = blank ∙ nobody-registrations i h (publication_handles q) none.registered;
+      owners_are = other-stands kept q i [] h none.registered blank;
       last_is = sym last;
       disposed_is = sym none.disposed;
       no_writers_is = sym none.no_writers;

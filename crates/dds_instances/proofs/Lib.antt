@@ -1,4 +1,3 @@
-pub mod RegistrationLaws
 pub mod TrackLaws
 pub mod KnownLaws
 pub mod PlaceLaws

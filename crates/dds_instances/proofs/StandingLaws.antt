@@ -17,19 +17,17 @@ use Rattle.dds_base.specs.declared.sample.InstanceState.{InstanceState}
 use Rattle.dds_base.specs.declared.sample.ViewState.TheVariants.{New, NotNew}
 use Rattle.dds_base.specs.declared.qos.ReaderQos.{ReaderQos}
 use Rattle.dds_base.specs.Happening.{same_key, is_write_or_dispose}
-use Rattle.dds_base.specs.Ownership.{publication_handles, accepted_kind, registered_writers}
+use Rattle.dds_base.specs.Ownership.{accepted_kind, registered_writers}
 use Rattle.dds_base.specs.Presence.{becomes_not_alive, is_accepted}
 use Rattle.dds_base.specs.Access.{handle_of, instance_of, number_from, state_of_known}
 use Rattle.dds_base.specs.Instance.{known_instances, last_accepted, introduced_by, accesses, is_since, or_else, is_write, is_disposed, is_without_writers, state_after, is_nobody}
 use Rattle.dds_base.proofs.KeyLaws.{key-same, same_key-refl, same_key-comm}
-use Rattle.dds_instances.specs.declared.registration.Registration.{Registration}
 use Rattle.dds_instances.specs.declared.track.InstanceTrack.{InstanceTrack}
 use Rattle.dds_instances.specs.declared.known.KnownInstance.{KnownInstance}
-use Rattle.dds_instances.specs.Registration.{accepted_among, noted, noted_death, unregistered}
+use Rattle.dds_owner.specs.Standing.{Kept, StandsFor, has_writers}
 use Rattle.dds_instances.specs.Track.{Tracks, Advances, Fits, fresh, one_if, seen_at, state_of_track}
 use Rattle.dds_instances.specs.Table.{Table, Stands, key_of, Each, Follows, IsLawful, IsPlaceOf, track_with}
 use Rattle.dds_instances.specs.Known.{IsKnown, IsReturnable}
-use Rattle.dds_instances.proofs.RegistrationLaws.{accepted-among, noted-registrations, buried-registrations}
 use Rattle.dds_instances.proofs.TrackLaws.{state-tracked, tracks-next, tracks-other, tracks-stranger, tracks-read, tracks-took, one-rebirth, one_if-bound}
 use Rattle.dds_instances.proofs.PlaceLaws.{number-at, number-none}
 use Rattle.dds_instances.proofs.KnownLaws.{known, unknown, rejected, tracks-fresh}
@@ -40,8 +38,8 @@ earlier-more : (n : ℕ) (m : Option ℕ) → IfSome m (λ k. k < n) → IfSome 
 earlier-more n None below = below
 earlier-more n (Some k) below = omega (arith, below)
 
-pub fits-advanced : (kind : Option ChangeKind) (rs : List Registration) (n : ℕ) (old new : InstanceTrack) → Fits n old → Advances kind rs n old new → Fits (n + 1) new
-fits-advanced kind rs n old new fits step =
+pub fits-advanced : (kind : Option ChangeKind) (n : ℕ) (old new : InstanceTrack) → Fits n old → Advances kind n old new → Fits (n + 1) new
+fits-advanced kind n old new fits step =
     let one : one_if (is_write kind) ≤ 1 = one_if-bound (is_write kind) in
     let two : one_if (is_write kind && is_disposed (state_of_track old)) + one_if (is_write kind && is_without_writers (state_of_track old)) ≤ 1 = one-rebirth (is_write kind) (state_of_track old) in
     record {
@@ -110,18 +108,30 @@ any-at (k ∷ ks) i (suc at) within is = ap (λ (b : Bool). same_key i k || b) (
 pub known-at : (q : ReaderQos) (h : List Happening) (ts : List InstanceTrack) (i : Key) (at : ℕ) → IsPlaceOf (map key_of ts) i at → Follows q h ts → is_some (last_accepted q i h) ≡ true
 known-at q h ts i at place follows = known-kept q h ts i true follows (any-at (map key_of ts) i at place.within (place.is i))
 
-pub follows-known : (q : ReaderQos) (h : List Happening) (a : Arrival) (ts : List InstanceTrack) (at n : ℕ) (t x : InstanceTrack) → length h + 1 ≡ n → IsPlaceOf (map key_of ts) a.change.key at → t ≡ get_or ts at t → Advances (accepted_among q t.registrations a.writer a.change.kind) (map (noted a.writer a.change.kind) t.registrations) n t x → IsLawful q h → Follows q h ts → Follows q (Came a ∷ h) (set ts at x)
-follows-known q h a ts at n t x len place is step lawful follows =
+-- a track takes up a change of its instance, of this accepted kind
+pub record Changes (q : ReaderQos) (a : Arrival) (kind : Option ChangeKind) (n : ℕ) (old new : InstanceTrack) : Type 0 where
+  pub advances : Advances kind n old new
+  pub accepted : (h : List Happening) → StandsFor old.owners q a.change.key h → kind ≡ accepted_kind q a.change.key h (Came a)
+  pub came : (h : List Happening) → StandsFor old.owners q a.change.key h → StandsFor new.owners q a.change.key (Came a ∷ h)
+
+-- one that has followed the instance until then
+tracks-changed : (q : ReaderQos) (h : List Happening) (a : Arrival) (kind : Option ChangeKind) (n : ℕ) (t x : InstanceTrack) → length h + 1 ≡ n → Changes q a kind n t x → IsLawful q h → Tracks q a.change.key h t → Tracks q a.change.key (Came a ∷ h) x
+tracks-changed q h a kind n t x len step lawful before =
+    let i : Key = a.change.key in
+    let advances : Advances kind (length h + 1) t x = subst (λ (m : ℕ). Advances kind m t x) (sym len) step.advances in
+    tracks-next q i h (Came a) kind t x (step.accepted h before.owners_are) (step.came h before.owners_are) (λ j. refl) (lawful.past i (length h + 1) (omega arith)) before advances
+
+pub follows-known : (q : ReaderQos) (h : List Happening) (a : Arrival) (ts : List InstanceTrack) (at n : ℕ) (t x : InstanceTrack) (kind : Option ChangeKind) → length h + 1 ≡ n → IsPlaceOf (map key_of ts) a.change.key at → t ≡ get_or ts at t → Changes q a kind n t x → IsLawful q h → Follows q h ts → Follows q (Came a ∷ h) (set ts at x)
+follows-known q h a ts at n t x kind len place is step lawful follows =
     let i : Key = a.change.key in
     let inside : at < length ts = omega (arith, place.within, length-map ts key_of) in
     let key : t.key ≡ i = ap (λ (y : InstanceTrack). y.key) is ∙ itself-at ts i at t place inside in
     let before : Tracks q i h t = subst (λ (k : Key). Tracks q k h t) key (subst (λ (y : InstanceTrack). Tracks q y.key h y) (sym is) (follows.each at t inside)) in
-    let step' : Advances (accepted_among q t.registrations a.writer a.change.kind) (map (noted a.writer a.change.kind) t.registrations) (length h + 1) t x = subst (λ (m : ℕ). Advances (accepted_among q t.registrations a.writer a.change.kind) (map (noted a.writer a.change.kind) t.registrations) m t x) (sym len) step in
-    let after : Tracks q i (Came a ∷ h) x = tracks-next q i h (Came a) _ _ t x (accepted-among q h a t.registrations before.registrations_are) (noted-registrations q h a t.registrations before.registrations_are) (λ j. refl) (lawful.past i (length h + 1) (omega arith)) before step' in
+    let after : Tracks q i (Came a ∷ h) x = tracks-changed q h a kind n t x len step lawful before in
     let here : Tracks q x.key (Came a ∷ h) x = subst (λ (k : Key). Tracks q k (Came a ∷ h) x) (sym after.key_is) after in
     let old : is_some (last_accepted q i h) ≡ true = known-at q h ts i at place follows in
     record {
-      keys_are = keys-set ts at x inside (step.key ∙ ap (λ (y : InstanceTrack). y.key) (is ∙ get_or_default ts at t x inside))
+      keys_are = keys-set ts at x inside (step.advances.key ∙ ap (λ (y : InstanceTrack). y.key) (is ∙ get_or_default ts at t x inside))
           ∙ (follows.keys_are ∙ (sym (append-nil (known_instances q h)) ∙ ap (λ (b : Bool). known_instances q h ++ cond (not b && is_some (accepted_kind q i h (Came a))) (i ∷ []) []) (sym old)));
       each = each-set q h (Came a ∷ h) ts at x inside here (λ k d within differ. tracks-stranger q (get_or ts k d).key h a (get_or ts k d) (stranger-at ts i at k d place within differ) (follows.each k d within));
     }
@@ -162,13 +172,12 @@ first-introduced q h a b last data_is =
     ∙ (ap (λ (k : Option ChangeKind). cond (is_some k) (a.change.key ∷ []) []) (first-accepted q h a last)
     ∙ (ap (λ (x : Bool). cond (is_some (cond x (Some a.change.kind) None)) (a.change.key ∷ []) []) data_is ∙ some-cond b a.change.kind (a.change.key ∷ [])))
 
-pub follows-new : (q : ReaderQos) (h : List Happening) (a : Arrival) (ts : List InstanceTrack) (n : ℕ) (blank : List Registration) (x : InstanceTrack) → length h + 1 ≡ n → blank ≡ map unregistered (publication_handles q) → list_any (same_key a.change.key) (map key_of ts) ≡ false → is_write_or_dispose a.change.kind ≡ true → Advances (accepted_among q blank a.writer a.change.kind) (map (noted a.writer a.change.kind) blank) n (fresh a.change.key blank) x → IsLawful q h → Follows q h ts → Follows q (Came a ∷ h) (ts ++ x ∷ [])
-follows-new q h a ts n blank x len blank_is absent data_is step lawful follows =
+pub follows-new : (q : ReaderQos) (h : List Happening) (a : Arrival) (ts : List InstanceTrack) (n : ℕ) (blank : Kept) (x : InstanceTrack) (kind : Option ChangeKind) → length h + 1 ≡ n → ((i : Key) → StandsFor blank q i []) → list_any (same_key a.change.key) (map key_of ts) ≡ false → is_write_or_dispose a.change.kind ≡ true → Changes q a kind n (fresh a.change.key blank) x → IsLawful q h → Follows q h ts → Follows q (Came a ∷ h) (ts ++ x ∷ [])
+follows-new q h a ts n blank x kind len blank_is absent data_is step lawful follows =
     let i : Key = a.change.key in
     let last : last_accepted q i h ≡ None = unknown-kept q h ts i absent follows in
-    let before : Tracks q i h (fresh i blank) = tracks-fresh q i h blank blank_is last (lawful.strangers i 0 last) in
-    let step' : Advances (accepted_among q blank a.writer a.change.kind) (map (noted a.writer a.change.kind) blank) (length h + 1) (fresh i blank) x = subst (λ (m : ℕ). Advances (accepted_among q blank a.writer a.change.kind) (map (noted a.writer a.change.kind) blank) m (fresh i blank) x) (sym len) step in
-    let after : Tracks q i (Came a ∷ h) x = tracks-next q i h (Came a) _ _ (fresh i blank) x (accepted-among q h a blank before.registrations_are) (noted-registrations q h a blank before.registrations_are) (λ j. refl) (lawful.past i (length h + 1) (omega arith)) before step' in
+    let before : Tracks q i h (fresh i blank) = tracks-fresh q i h blank (blank_is i) last (lawful.strangers i 0 last) in
+    let after : Tracks q i (Came a ∷ h) x = tracks-changed q h a kind n (fresh i blank) x len step lawful before in
     let here : Tracks q x.key (Came a ∷ h) x = subst (λ (k : Key). Tracks q k (Came a ∷ h) x) (sym after.key_is) after in
     record {
       keys_are = map-append key_of ts (x ∷ []) ∙ (ap (λ (ks : List Key). ks ++ x.key ∷ []) follows.keys_are ∙ (ap (λ (k : Key). known_instances q h ++ k ∷ []) after.key_is ∙ ap (λ (ks : List Key). known_instances q h ++ ks) (sym (first-introduced q h a true last data_is))));
@@ -188,8 +197,10 @@ follows-nothing q h a ts absent data_is follows =
 -- ---- a death
 
 -- a track that takes a death up
-abbrev pub Buries : ℕ → ℕ → InstanceTrack → InstanceTrack → Type 0
-Buries n w old new = Advances None (map (noted_death w) old.registrations) n old new
+pub record Buries (n w : ℕ) (old new : InstanceTrack) : Type 0 where
+  pub advances : Advances None n old new
+  pub died : (q : ReaderQos) (i : Key) (h : List Happening) (moment : ℕ) → StandsFor old.owners q i h → StandsFor new.owners q i (Died w moment ∷ h)
+  pub fewer : has_writers new.owners ≡ true → has_writers old.owners ≡ true
 
 pub follows-died : (q : ReaderQos) (h : List Happening) (w now n : ℕ) (ts xs : List InstanceTrack) → length h + 1 ≡ n → length xs ≡ length ts → map key_of xs ≡ map key_of ts → ((k : ℕ) (d : InstanceTrack) → k < length ts → Buries n w (get_or ts k d) (get_or xs k d)) → IsLawful q h → Follows q h ts → Follows q (Died w now ∷ h) xs
 follows-died q h w now n ts xs len same keys steps lawful follows = record {
@@ -200,7 +211,7 @@ follows-died q h w now n ts xs len same keys steps lawful follows = record {
       let x : InstanceTrack = get_or xs k d in
       let before : Tracks q t.key h t = follows.each k d within' in
       let step : Buries (length h + 1) w t x = subst (λ (m : ℕ). Buries m w t x) (sym len) (steps k d within') in
-      let after : Tracks q t.key (Died w now ∷ h) x = tracks-next q t.key h (Died w now) None _ t x refl (buried-registrations q t.key h w now t.registrations before.registrations_are) (λ j. refl) (lawful.past t.key (length h + 1) (omega arith)) before step in
+      let after : Tracks q t.key (Died w now ∷ h) x = tracks-next q t.key h (Died w now) None t x refl (step.died q t.key h now before.owners_are) (λ j. refl) (lawful.past t.key (length h + 1) (omega arith)) before step.advances in
       subst (λ (i : Key). Tracks q i (Died w now ∷ h) x) (sym after.key_is) after;
 }
 
@@ -322,9 +333,6 @@ known-with q h ts handle t there follows =
     sym (known q h t.key) ∙ (sym (ap (λ (ks : List Key). list_any (λ i. same_key i t.key) ks) follows.keys_are) ∙ in_keys)
 
 -- ---- whether a change is accepted
-
-pub accepts-tracked : (q : ReaderQos) (h : List Happening) (a : Arrival) (t : InstanceTrack) → Tracks q a.change.key h t → is_some (accepted_among q t.registrations a.writer a.change.kind) ≡ is_accepted q h (Came a)
-accepts-tracked q h a t tracks = ap (λ (k : Option ChangeKind). is_some k) (accepted-among q h a t.registrations tracks.registrations_are)
 
 some-test : (b : Bool) (k : ChangeKind) → b ≡ is_some (cond b (Some k) None)
 some-test true k = refl

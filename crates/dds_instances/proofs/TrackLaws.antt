@@ -1,5 +1,5 @@
 -- A track that takes up one more entry has followed its instance through it.
-use Rattle.std.proofs.Common.{◌≡◌, ℕ, ◌+◌, ◌≤◌, List, [], ◌∷◌, ◌++◌, length, map, Bool, true, false, not, ◌&&◌, ◌||◌, sym, ap, ◌∙◌, refl, Option, Some, None, arith}
+use Rattle.std.proofs.Common.{◌≡◌, ℕ, ◌+◌, ◌≤◌, List, [], ◌∷◌, ◌++◌, length, Bool, true, false, not, ◌&&◌, ◌||◌, sym, ap, ◌∙◌, refl, Option, Some, None, arith}
 use Rattle.std.specs.Prelude.{if◌then◌else◌}
 use Rattle.std.specs.List.{list_any}
 use Rattle.std.proofs.lemmas.List.Folds.{list_any-append}
@@ -13,20 +13,19 @@ use Rattle.dds_base.specs.declared.sample.InstanceState.{InstanceState}
 use Rattle.dds_base.specs.declared.sample.InstanceState.TheVariants.{Alive, NotAliveDisposed, NotAliveNoWriters}
 use Rattle.dds_base.specs.declared.qos.ReaderQos.{ReaderQos}
 use Rattle.dds_base.specs.Happening.{same_key}
-use Rattle.dds_base.specs.Ownership.{publication_handles, is_registered, accepted_kind}
+use Rattle.dds_base.specs.Ownership.{is_registered, accepted_kind}
 use Rattle.dds_base.specs.Instance.{or_else, is_write, is_disposed, is_without_writers, last_accepted, state_after, instance_state_of, disposed_generations, no_writers_generations, latest_rebirth, accesses, is_since}
 use Rattle.dds_base.specs.Presence.{becomes_not_alive, accepted_writes}
-use Rattle.dds_instances.specs.declared.registration.Registration.{Registration}
 use Rattle.dds_instances.specs.declared.track.InstanceTrack.{InstanceTrack}
-use Rattle.dds_instances.specs.Registration.{registration_of, is_there}
+use Rattle.dds_owner.specs.Standing.{StandsFor, has_writers}
+use Rattle.dds_owner.proofs.RegistrationLaws.{nobody-kept, other-stands}
 use Rattle.dds_instances.specs.Track.{Tracks, Advances, state_of_track, one_if, is_revival}
-use Rattle.dds_instances.proofs.RegistrationLaws.{nobody-there, same-registrations}
 
 -- the state of a track is that of its instance
 pub state-tracked : (q : ReaderQos) (i : Key) (h : List Happening) (t : InstanceTrack) → Tracks q i h t → state_of_track t ≡ instance_state_of q i h
 state-tracked q i h t tracks =
-    ap (λ (k : Option ChangeKind). state_after k (not (list_any is_there t.registrations))) tracks.last_is
-    ∙ ap (λ (b : Bool). state_after (last_accepted q i h) b) (sym (nobody-there q i h t.registrations tracks.registrations_are))
+    ap (λ (k : Option ChangeKind). state_after k (not (has_writers t.owners))) tracks.last_is
+    ∙ ap (λ (b : Bool). state_after (last_accepted q i h) b) (sym (nobody-kept t.owners q i h tracks.owners_are))
 
 -- a sum that counts an accepted write upon a state
 abbrev counted : ℕ → Option ChangeKind → (Option InstanceState → Bool) → Option InstanceState → ℕ
@@ -50,18 +49,17 @@ seen-next true old since now n latest quiet past is = sym (ap (λ (x : Bool). x 
 seen-next false old since now n latest quiet past is = is ∙ sym (ap (λ (x : Bool). x || since latest) (quiet latest))
 
 -- a track that takes up an entry that is no access has followed its instance through it
-pub tracks-next : (q : ReaderQos) (i : Key) (h : List Happening) (e : Happening) (kind : Option ChangeKind) (rs : List Registration) (old new : InstanceTrack) → kind ≡ accepted_kind q i h e → rs ≡ map (registration_of i (e ∷ h)) (publication_handles q) → ((j : ℕ) → accesses i j e ≡ false) → list_any (accesses i (length h + 1)) h ≡ false → Tracks q i h old → Advances kind rs (length h + 1) old new → Tracks q i (e ∷ h) new
-tracks-next q i h e kind rs old new kind_is rs_are quiet past tracks step =
+pub tracks-next : (q : ReaderQos) (i : Key) (h : List Happening) (e : Happening) (kind : Option ChangeKind) (old new : InstanceTrack) → kind ≡ accepted_kind q i h e → StandsFor new.owners q i (e ∷ h) → ((j : ℕ) → accesses i j e ≡ false) → list_any (accesses i (length h + 1)) h ≡ false → Tracks q i h old → Advances kind (length h + 1) old new → Tracks q i (e ∷ h) new
+tracks-next q i h e kind old new kind_is owners quiet past tracks step =
     let before : state_of_track old ≡ instance_state_of q i h = state-tracked q i h old tracks in
-    let registrations : new.registrations ≡ map (registration_of i (e ∷ h)) (publication_handles q) = step.notes ∙ rs_are in
     let last : new.last_accepted ≡ last_accepted q i (e ∷ h) = step.accepts ∙ (ap (λ (k : Option ChangeKind). or_else k old.last_accepted) kind_is ∙ ap (λ (k : Option ChangeKind). or_else (accepted_kind q i h e) k) tracks.last_is) in
     let after : state_of_track new ≡ instance_state_of q i (e ∷ h) =
-    ap (λ (k : Option ChangeKind). state_after k (not (list_any is_there new.registrations))) last
-    ∙ ap (λ (b : Bool). state_after (last_accepted q i (e ∷ h)) b) (sym (nobody-there q i (e ∷ h) new.registrations registrations)) in
+    ap (λ (k : Option ChangeKind). state_after k (not (has_writers new.owners))) last
+    ∙ ap (λ (b : Bool). state_after (last_accepted q i (e ∷ h)) b) (sym (nobody-kept new.owners q i (e ∷ h) owners)) in
     let revives : is_revival kind (state_of_track old) ≡ is_revival (accepted_kind q i h e) (instance_state_of q i h) = ap (λ (k : Option ChangeKind). is_revival k (state_of_track old)) kind_is ∙ ap (λ (s : Option InstanceState). is_revival (accepted_kind q i h e) s) before in
     record {
       key_is = step.key ∙ tracks.key_is;
-      registrations_are = registrations;
+      owners_are = owners;
       last_is = last;
       disposed_is = step.disposed ∙ counted-same old.disposed_generations (disposed_generations q i h) _ _ is_disposed _ _ tracks.disposed_is kind_is before;
       no_writers_is = step.no_writers ∙ counted-same old.no_writers_generations (no_writers_generations q i h) _ _ is_without_writers _ _ tracks.no_writers_is kind_is before;
@@ -95,16 +93,16 @@ nothing-counted n test s = omega arith
 pub tracks-other : (q : ReaderQos) (i : Key) (h : List Happening) (e : Happening) (t : InstanceTrack) → accepted_kind q i h e ≡ None → ((w : ℕ) → is_registered i w (e ∷ h) ≡ is_registered i w h) → ((j : ℕ) → accesses i j e ≡ false) → Tracks q i h t → Tracks q i (e ∷ h) t
 tracks-other q i h e t accepts_none same quiet tracks =
     let none : None ≡ accepted_kind q i h e = sym accepts_none in
-    let registrations : t.registrations ≡ map (registration_of i (e ∷ h)) (publication_handles q) = tracks.registrations_are ∙ sym (same-registrations i h (e ∷ h) (publication_handles q) same) in
+    let owners : StandsFor t.owners q i (e ∷ h) = other-stands t.owners q i h (e ∷ h) same tracks.owners_are in
     let last : t.last_accepted ≡ last_accepted q i (e ∷ h) = tracks.last_is ∙ ap (λ (k : Option ChangeKind). or_else k (last_accepted q i h)) none in
     let before : state_of_track t ≡ instance_state_of q i h = state-tracked q i h t tracks in
     let after : state_of_track t ≡ instance_state_of q i (e ∷ h) =
-    ap (λ (k : Option ChangeKind). state_after k (not (list_any is_there t.registrations))) last
-    ∙ ap (λ (b : Bool). state_after (last_accepted q i (e ∷ h)) b) (sym (nobody-there q i (e ∷ h) t.registrations registrations)) in
+    ap (λ (k : Option ChangeKind). state_after k (not (has_writers t.owners))) last
+    ∙ ap (λ (b : Bool). state_after (last_accepted q i (e ∷ h)) b) (sym (nobody-kept t.owners q i (e ∷ h) owners)) in
     let alive : is_revival (accepted_kind q i h e) (instance_state_of q i h) ≡ false = ap (λ (k : Option ChangeKind). is_revival k (instance_state_of q i h)) accepts_none in
     record {
       key_is = tracks.key_is;
-      registrations_are = registrations;
+      owners_are = owners;
       last_is = last;
       disposed_is = nothing-counted t.disposed_generations is_disposed (state_of_track t) ∙ counted-same t.disposed_generations (disposed_generations q i h) _ _ is_disposed _ _ tracks.disposed_is none before;
       no_writers_is = nothing-counted t.no_writers_generations is_without_writers (state_of_track t) ∙ counted-same t.no_writers_generations (no_writers_generations q i h) _ _ is_without_writers _ _ tracks.no_writers_is none before;
@@ -140,7 +138,7 @@ tracks-read q i h ss s t x x_is tracks =
     let latest : ℕ = latest_rebirth q i (Read ss ∷ h) in
     record {
       key_is = tracks.key_is;
-      registrations_are = tracks.registrations_are;
+      owners_are = tracks.owners_are;
       last_is = tracks.last_is;
       disposed_is = tracks.disposed_is;
       no_writers_is = tracks.no_writers_is;
@@ -161,7 +159,7 @@ or-none false = refl
 pub tracks-took : (q : ReaderQos) (i : Key) (h : List Happening) (ss : List SamplePosition) (t : InstanceTrack) → Tracks q i (Read ss ∷ h) t → Tracks q i (Took ss ∷ h) t
 tracks-took q i h ss t tracks = record {
   key_is = tracks.key_is;
-  registrations_are = tracks.registrations_are;
+  owners_are = tracks.owners_are;
   last_is = tracks.last_is;
   disposed_is = tracks.disposed_is;
   no_writers_is = tracks.no_writers_is;

@@ -1,4 +1,3 @@
-pub mod Registration
 pub mod Track
 pub mod Table
 pub mod Known

@@ -1,6 +1,6 @@
 -- When what is kept of the instances stands for what happened. Nobody outside looks into it: nothing here has to be
 -- believed.
-use Rattle.std.specs.Prelude.{◌≡◌, ◌≢◌, ℕ, zero, suc, slice_get, ◌<◌, List, length, map, count_by, All, Bool, false, Option, None, slice_index_or}
+use Rattle.std.specs.Prelude.{◌≡◌, ◌≢◌, ℕ, zero, suc, slice_get, ◌<◌, List, [], length, map, count_by, All, Bool, false, Option, None, slice_index_or}
 use Rattle.std.specs.List.{list_any}
 use Rattle.std.specs.Option.{option_and_then}
 use Rattle.dds_base.specs.declared.key.Key.{Key}
@@ -9,9 +9,8 @@ use Rattle.dds_base.specs.declared.qos.ReaderQos.{ReaderQos}
 use Rattle.dds_base.specs.Happening.{same_key}
 use Rattle.dds_base.specs.Instance.{known_instances, last_accepted, accesses}
 use Rattle.dds_base.specs.Presence.{is_at}
-use Rattle.dds_instances.specs.declared.registration.Registration.{Registration}
 use Rattle.dds_instances.specs.declared.track.InstanceTrack.{InstanceTrack}
-use Rattle.dds_instances.specs.Registration.{blank_registrations}
+use Rattle.dds_owner.specs.Standing.{Kept, StandsFor}
 use Rattle.dds_instances.specs.Track.{Tracks}
 
 -- what is kept of the instances of a reader: of how many writers, the instances by handle, how many of these are alive,
@@ -64,9 +63,13 @@ pub record Stands (q : ReaderQos) (table : Table) (h : List Happening) : Type 0 
   pub follows : Follows q h table.tracks
   pub lawful : IsLawful q h
 
--- registrations of n writers of which nothing has come, for instances that become known
-abbrev pub AreBlank : ℕ → List (List Registration) → Type 0
-AreBlank n blanks = All (λ (rs : List Registration). rs ≡ blank_registrations 1 n) blanks
+-- owners among n matched writers, of instances of which nothing has come
+abbrev pub IsBlank : ℕ → Kept → Type 0
+IsBlank n kept = (q : ReaderQos) (i : Key) → length q.writers ≡ n → StandsFor kept q i []
+
+-- owners for the instances that become known
+abbrev pub AreBlank : ℕ → List Kept → Type 0
+AreBlank n blanks = All (IsBlank n) blanks
 
 -- the key stands at this index, and at no other
 pub record IsPlaceOf (ks : List Key) (i : Key) (at : ℕ) : Type 0 where

@@ -1,6 +1,6 @@
 -- What is known of one instance when it was followed through what happened so far. Inner functions
 -- alone cite this: nothing here has to be believed.
-use Rattle.std.specs.Prelude.{◌≡◌, ℕ, ◌+◌, ◌<◌, List, map, Bool, true, false, ◌&&◌, ◌||◌, not, Option, Some, None, IfSome, if◌then◌else◌, nat_le, nat_lt}
+use Rattle.std.specs.Prelude.{◌≡◌, ℕ, ◌+◌, ◌<◌, List, Bool, true, false, ◌&&◌, ◌||◌, not, Option, Some, None, IfSome, if◌then◌else◌, nat_le, nat_lt}
 use Rattle.std.specs.List.{list_any}
 use Rattle.dds_base.specs.declared.key.Key.{Key}
 use Rattle.dds_base.specs.declared.change.ChangeKind.{ChangeKind}
@@ -9,17 +9,15 @@ use Rattle.dds_base.specs.declared.happening.Happening.{Happening}
 use Rattle.dds_base.specs.declared.sample.InstanceState.{InstanceState}
 use Rattle.dds_base.specs.declared.sample.InstanceState.TheVariants.{Alive}
 use Rattle.dds_base.specs.declared.qos.ReaderQos.{ReaderQos}
-use Rattle.dds_base.specs.Ownership.{publication_handles}
 use Rattle.dds_base.specs.Instance.{or_else, is_write, is_disposed, is_without_writers, last_accepted, state_after, disposed_generations, no_writers_generations, latest_rebirth, accesses}
 use Rattle.dds_base.specs.Presence.{becomes_not_alive, last_marker, accepted_writes}
-use Rattle.dds_instances.specs.declared.registration.Registration.{Registration}
 use Rattle.dds_instances.specs.declared.track.InstanceTrack.{InstanceTrack}
-use Rattle.dds_instances.specs.Registration.{registration_of, is_there, noted, accepted_among}
+use Rattle.dds_owner.specs.Standing.{Kept, StandsFor, has_writers}
 
 -- the track has followed instance i through what happened
 pub record Tracks (q : ReaderQos) (i : Key) (h : List Happening) (t : InstanceTrack) : Type 0 where
   pub key_is : t.key ≡ i
-  pub registrations_are : t.registrations ≡ map (registration_of i h) (publication_handles q)
+  pub owners_are : StandsFor t.owners q i h
   pub last_is : t.last_accepted ≡ last_accepted q i h
   pub disposed_is : t.disposed_generations ≡ disposed_generations q i h
   pub no_writers_is : t.no_writers_generations ≡ no_writers_generations q i h
@@ -29,10 +27,10 @@ pub record Tracks (q : ReaderQos) (i : Key) (h : List Happening) (t : InstanceTr
   pub seen_is : t.is_seen ≡ list_any (accesses i (latest_rebirth q i h)) h
 
 -- an instance of which nothing has come
-abbrev pub fresh : Key → List Registration → InstanceTrack
-fresh key registrations = record {
+abbrev pub fresh : Key → Kept → InstanceTrack
+fresh key owners = record {
   key = key;
-  registrations = registrations;
+  owners = owners;
   last_accepted = None;
   disposed_generations = 0;
   no_writers_generations = 0;
@@ -50,7 +48,7 @@ pub record Fits (n : ℕ) (t : InstanceTrack) : Type 0 where
 
 -- the state of the instance that a track has followed
 abbrev pub state_of_track : InstanceTrack → Option InstanceState
-state_of_track t = state_after t.last_accepted (not (list_any is_there t.registrations))
+state_of_track t = state_after t.last_accepted (not (has_writers t.owners))
 
 -- the state is ALIVE
 abbrev pub is_alive_state : Option InstanceState → Bool
@@ -69,10 +67,10 @@ one_if b = if b then 1 else 0
 abbrev pub is_revival : Option ChangeKind → Option InstanceState → Bool
 is_revival kind before = (is_write kind && is_disposed before) || (is_write kind && is_without_writers before)
 
--- a track counts the entry of position n, its registrations noted: its state before, and the accepted kind
+-- a track counts the entry of position n, which its owners have taken up: its state before, and the accepted kind
 pub record Counts (before : Option InstanceState) (kind : Option ChangeKind) (n : ℕ) (old new : InstanceTrack) : Type 0 where
   pub key : new.key ≡ old.key
-  pub registrations : new.registrations ≡ old.registrations
+  pub owners : new.owners ≡ old.owners
   pub accepts : new.last_accepted ≡ or_else kind old.last_accepted
   pub disposed : new.disposed_generations ≡ old.disposed_generations + one_if (is_write kind && is_disposed before)
   pub no_writers : new.no_writers_generations ≡ old.no_writers_generations + one_if (is_write kind && is_without_writers before)
@@ -81,10 +79,9 @@ pub record Counts (before : Option InstanceState) (kind : Option ChangeKind) (n 
   pub marker : new.last_marker ≡ (if becomes_not_alive before (state_of_track new) then Some n else old.last_marker)
   pub writes : new.accepted_writes ≡ old.accepted_writes + one_if (is_write kind)
 
--- a track takes up the entry of position n: the accepted kind, and who is registered after it
-pub record Advances (kind : Option ChangeKind) (registrations : List Registration) (n : ℕ) (old new : InstanceTrack) : Type 0 where
+-- a track takes up the entry of position n, of this accepted kind, whoever is registered after it
+pub record Advances (kind : Option ChangeKind) (n : ℕ) (old new : InstanceTrack) : Type 0 where
   pub key : new.key ≡ old.key
-  pub notes : new.registrations ≡ registrations
   pub accepts : new.last_accepted ≡ or_else kind old.last_accepted
   pub disposed : new.disposed_generations ≡ old.disposed_generations + one_if (is_write kind && is_disposed (state_of_track old))
   pub no_writers : new.no_writers_generations ≡ old.no_writers_generations + one_if (is_write kind && is_without_writers (state_of_track old))
@@ -92,10 +89,6 @@ pub record Advances (kind : Option ChangeKind) (registrations : List Registratio
   pub seen : new.is_seen ≡ (not (is_revival kind (state_of_track old)) && old.is_seen)
   pub marker : new.last_marker ≡ (if becomes_not_alive (state_of_track old) (state_of_track new) then Some n else old.last_marker)
   pub writes : new.accepted_writes ≡ old.accepted_writes + one_if (is_write kind)
-
--- a change by writer w would turn the instance to a state that is not alive, from another one
-abbrev pub would_end : ReaderQos → ℕ → ChangeKind → InstanceTrack → Bool
-would_end q w kind t = becomes_not_alive (state_of_track t) (state_after (or_else (accepted_among q t.registrations w kind) t.last_accepted) (not (list_any (λ r. is_there (noted w kind r)) t.registrations)))
 
 -- the first change of an instance turns it to such a state: a dispose, or a write of a writer that is not matched
 abbrev pub is_born_dead : ℕ → ℕ → ChangeKind → Bool

@@ -12,9 +12,9 @@ ghost use Rattle.dds_base.specs.declared.code.Code.TheVariants.{Memory};
 use crate::keeping::{add_blanks, bury_all, look_up, see_all, take_up, track_of};
 use crate::known::{KnownInstance, told, view_of};
 use crate::place::find;
-use crate::registration::{Registrations, is_data};
 use crate::track::{InstanceTrack, begins_dead};
 use dds_base::{Arrival, Code, Handle, InstanceState, Key, ReaderQos, SamplePosition, ViewState};
+use dds_owner::Owners;
 use indexmap::IndexSet;
 use std::alloc::Global;
 use std::marker::Model;
@@ -33,8 +33,8 @@ pub struct Instances {
     room: usize,
     index: IndexSet<Key>,
     tracks: Vec<InstanceTrack>,
-    /// Registrations for the instances to come.
-    blanks: Vec<Registrations>,
+    /// Owners of the instances to come.
+    blanks: Vec<Owners>,
 }
 
 impl Model for Instances {
@@ -379,7 +379,7 @@ impl Instances {
         ensures registered { (q : ReaderQos) (h : List Happening) → Stands q self.now h → IsMatched q writer → result ≡ is_registered key writer h }
     {
         match look_up(&self.index, &self.tracks, key) {
-            Some(track) => track.registrations.has(writer),
+            Some(track) => track.owners.is_registered(writer),
             None => false,
         }
     }
@@ -393,11 +393,8 @@ impl Instances {
     {
         let change = &arrival.change;
         match look_up(&self.index, &self.tracks, change.key) {
-            Some(track) => track
-                .registrations
-                .accepted(qos, arrival.writer, change.kind)
-                .is_some(),
-            None => is_data(change.kind),
+            Some(track) => track.owners.accepted(qos, arrival).is_some(),
+            None => change.kind.is_write_or_dispose(),
         }
     }
 
@@ -410,7 +407,7 @@ impl Instances {
     {
         let change = &arrival.change;
         match look_up(&self.index, &self.tracks, change.key) {
-            Some(track) => track.would_mark(qos, arrival.writer, change.kind),
+            Some(track) => track.would_mark(qos, arrival),
             None => begins_dead(change.kind, arrival.writer, self.writers),
         }
     }

@@ -1,25 +1,26 @@
 //! What an entry changes at the instances that are kept.
 
-ghost use Rattle.std.specs.Prelude.{◌≡◌, ◌+◌, ◌<◌, ◌≤◌, ◌++◌, ◌∷◌, [], List, ℕ, true, false, None, option_copied, is_some, IsTrue, MatchOption, IfSome, OnOk, map, count_by, length, All, vec_len, vec_capacity, take};
+ghost use Rattle.std.specs.Prelude.{◌≡◌, ◌+◌, ◌<◌, ◌≤◌, ◌++◌, ◌∷◌, [], List, ℕ, true, false, None, option_copied, is_some, IsTrue, MatchOption, IfSome, IfErr, OnOk, map, count_by, length, All, vec_len, vec_capacity, take};
 ghost use Rattle.std.specs.List.{list_any};
 ghost use Rattle.indexmap.specs.IndexSet.{spare};
 ghost use Rattle.dds_base.specs.declared.happening.Happening.{Happening};
 ghost use Rattle.dds_base.specs.declared.happening.Happening.TheVariants.{Came, Died, Read};
 ghost use Rattle.dds_base.specs.declared.qos.ReaderQos.{ReaderQos};
 ghost use Rattle.dds_base.specs.Happening.{same_key, is_write_or_dispose};
-ghost use Rattle.dds_base.specs.Ownership.{publication_handles};
+ghost use Rattle.dds_base.specs.declared.code.Code.TheVariants.{Memory};
+ghost use Rattle.dds_base.specs.declared.key.Key.{Key};
 ghost use Rattle.dds_base.specs.Presence.{is_at};
-ghost use Rattle.dds_instances.specs.Registration.{unregistered};
+ghost use Rattle.dds_owner.specs.Standing.{StandsFor};
 ghost use Rattle.dds_base.specs.Instance.{last_accepted};
 ghost use Rattle.dds_instances.specs.Track.{Fits, Tracks, is_alive_track};
 ghost use Rattle.dds_instances.specs.Table.{key_of, Each, Follows, IsLawful, IsPlaceOf, AreBlank, track_with};
 
 use crate::place::{find, put_last};
-use crate::registration::{Registrations, is_data};
 use crate::track::InstanceTrack;
-use dds_base::{Arrival, Handle, Key, ReaderQos, SamplePosition};
+use dds_base::{Arrival, Code, Handle, Key, ReaderQos, SamplePosition};
+use dds_owner::Owners;
 use indexmap::IndexSet;
-use std::alloc::{AllocError, Global};
+use std::alloc::Global;
 
 /// A known instance takes up a change of it, the entry of this position.
 pub fn change_known(
@@ -37,15 +38,14 @@ pub fn change_known(
     ensures capacity { vec_capacity tracks.new ≡ vec_capacity tracks.old }
     ensures follows { (h : List Happening) → length h + 1 ≡ position → IsLawful qos.now h → Follows qos.now h tracks.old.items → Follows qos.now (Came arrival.now ∷ h) tracks.new.items }
 {
-    let change = &arrival.change;
-    tracks[at].change(qos, arrival.writer, change.kind, position);
+    tracks[at].change(qos, arrival, position);
 }
 
 /// An instance becomes known by its first write or dispose, the entry of this position.
 pub fn introduce(
     index: &mut IndexSet<Key>,
     tracks: &mut Vec<InstanceTrack>,
-    blank: Registrations,
+    blank: Owners,
     qos: &ReaderQos,
     arrival: &Arrival,
     position: u64,
@@ -62,11 +62,10 @@ pub fn introduce(
     ensures spare { spare index.old ≤ spare index.new + 1 }
     ensures len { vec_len tracks.new ≡ vec_len tracks.old + 1 }
     ensures capacity { vec_capacity tracks.old ≤ vec_capacity tracks.new }
-    ensures follows { (h : List Happening) → length h + 1 ≡ position → blank ≡ map unregistered (publication_handles qos.now) → IsLawful qos.now h → Follows qos.now h tracks.old.items → Follows qos.now (Came arrival.now ∷ h) tracks.new.items }
+    ensures follows { (h : List Happening) → length h + 1 ≡ position → ((i : Key) → StandsFor blank qos.now i []) → IsLawful qos.now h → Follows qos.now h tracks.old.items → Follows qos.now (Came arrival.now ∷ h) tracks.new.items }
 {
-    let change = &arrival.change;
-    let mut track = InstanceTrack::new(change.key, blank);
-    track.change(qos, arrival.writer, change.kind, position);
+    let mut track = InstanceTrack::new(arrival.change.key, blank);
+    track.change(qos, arrival, position);
     put_last(index, tracks, track);
 }
 
@@ -117,7 +116,7 @@ pub fn see_all(index: &IndexSet<Key>, tracks: &mut Vec<InstanceTrack>, samples: 
 pub fn take_up(
     index: &mut IndexSet<Key>,
     tracks: &mut Vec<InstanceTrack>,
-    blanks: &mut Vec<Registrations>,
+    blanks: &mut Vec<Owners>,
     qos: &ReaderQos,
     arrival: &Arrival,
     position: u64,
@@ -140,7 +139,7 @@ pub fn take_up(
     match find(index, arrival.change.key) {
         Some(at) => change_known(tracks, at, qos, arrival, position),
         None => {
-            if is_data(arrival.change.kind) {
+            if arrival.change.kind.is_write_or_dispose() {
                 let blank = blanks.pop().unwrap();
                 introduce(index, tracks, blank, qos, arrival, position);
             }
@@ -148,20 +147,21 @@ pub fn take_up(
     }
 }
 
-/// So many blank registrations at least.
+/// Owners of so many instances at least, of which nothing has come.
 pub fn add_blanks(
-    blanks: &mut Vec<Registrations>,
+    blanks: &mut Vec<Owners>,
     alloc: Global,
     writers: usize,
     wanted: usize,
-) -> Result<(), AllocError>
+) -> Result<(), Code>
     requires blank { AreBlank writers blanks.old.items }
     ensures blank { AreBlank writers blanks.new.items }
     ensures more { vec_len blanks.old ≤ vec_len blanks.new }
     ensures ok { OnOk result (wanted ≤ vec_len blanks.new) }
+    ensures memory { IfErr result (λ e. e ≡ Memory) }
 {
     for _ in blanks.len()..wanted {
-        let blank = Registrations::blank(alloc, writers)?;
+        let blank = Owners::open(alloc, writers)?;
         blanks.push(blank)?;
     }
     Ok(())

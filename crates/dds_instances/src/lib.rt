@@ -1,14 +1,13 @@
-//! The instances of a reader: who is registered for each, its state, its counts and its view, kept up with what happens.
+//! The instances of a reader: who owns each, its state, its counts and its view, kept up with what happens.
 //!
 //! DDS 1.4, 2.2.2.5 (SampleInfo), 2.2.3 (OWNERSHIP, LIVELINESS). `docs/MODEL.md`, "Instances".
-//! Not here: the samples of an instance, and what a read or a take returns.
+//! Not here: who is registered for an instance, its samples, and what a read or a take returns.
 #![tactic(auto)]
 
 mod instances;
 mod keeping;
 mod known;
 mod place;
-mod registration;
 mod track;
 
 pub use instances::Instances;

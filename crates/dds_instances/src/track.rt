@@ -2,20 +2,25 @@
 //!
 //! DDS 1.4, 2.2.2.5 (SampleInfo: instance_state, view_state, the two generation counts).
 
-ghost use Rattle.std.specs.Prelude.{◌≡◌, ◌+◌, ◌<◌, ◌≤◌, ◌^◌, if◌then◌else◌, map, None};
+ghost use Rattle.std.specs.Prelude.{◌≡◌, ◌+◌, ◌∷◌, ◌<◌, ◌≤◌, ◌^◌, if◌then◌else◌, List, None, not, true, ℕ};
+ghost use Rattle.dds_base.specs.declared.happening.Happening.{Happening};
+ghost use Rattle.dds_base.specs.declared.happening.Happening.TheVariants.{Came, Died};
+ghost use Rattle.dds_base.specs.declared.key.Key.{Key};
+ghost use Rattle.dds_base.specs.declared.qos.ReaderQos.{ReaderQos};
 ghost use Rattle.dds_base.specs.Instance.{or_else, state_after, is_write, is_disposed, is_without_writers};
-ghost use Rattle.dds_base.specs.Presence.{becomes_not_alive};
-ghost use Rattle.dds_instances.specs.Registration.{accepted_among, noted, noted_death};
-ghost use Rattle.dds_instances.specs.Track.{state_of_track, one_if, fresh, seen_at, would_end, is_born_dead, Counts, Advances, Fits};
+ghost use Rattle.dds_base.specs.Ownership.{accepted_kind};
+ghost use Rattle.dds_base.specs.Presence.{becomes_not_alive, marks};
+ghost use Rattle.dds_owner.specs.Standing.{Kept, StandsFor, has_writers};
+ghost use Rattle.dds_instances.specs.Track.{state_of_track, one_if, fresh, seen_at, is_born_dead, Counts, Advances, Fits, Tracks};
 
-use crate::registration::Registrations;
-use dds_base::{ChangeKind, Handle, InstanceState, Key, ReaderQos};
+use dds_base::{Arrival, ChangeKind, Handle, InstanceState, Key, ReaderQos};
+use dds_owner::Owners;
 
 /// What is known of an instance after what has happened.
 #[derive(Drop)]
 pub struct InstanceTrack {
     pub key: Key,
-    pub registrations: Registrations,
+    pub owners: Owners,
     /// The kind of the last accepted write or dispose.
     pub last_accepted: Option<ChangeKind>,
     pub disposed_generations: u64,
@@ -121,14 +126,25 @@ fn first_there(first: Option<ChangeKind>, second: Option<ChangeKind>) -> Option<
     }
 }
 
+/// A change of the instance came, accepted or not.
+fn note(owners: &mut Owners, arrival: &Arrival)
+    ensures { (q : ReaderQos) (h : List Happening) → StandsFor owners.old q arrival.now.change.key h → StandsFor owners.new q arrival.now.change.key (Came arrival.now ∷ h) }
+{
+    if arrival.change.kind.is_unregister() {
+        owners.unregister(arrival.writer);
+    } else {
+        owners.register(arrival.writer);
+    }
+}
+
 impl InstanceTrack {
     /// Of an instance of which nothing has come.
-    pub fn new(key: Key, registrations: Registrations) -> Self
-        ensures { result ≡ fresh key registrations }
+    pub fn new(key: Key, owners: Owners) -> Self
+        ensures { result ≡ fresh key owners }
     {
         InstanceTrack {
             key,
-            registrations,
+            owners,
             last_accepted: None,
             disposed_generations: 0,
             no_writers_generations: 0,
@@ -143,20 +159,20 @@ impl InstanceTrack {
     pub fn state(&self) -> Option<InstanceState>
         ensures { result ≡ state_of_track self.now }
     {
-        state_by(self.last_accepted, self.registrations.is_abandoned())
+        state_by(self.last_accepted, !self.owners.has_writers())
     }
 
     /// Whether a change of the instance would turn it to a state that is not alive, from another one.
-    pub fn would_mark(&self, qos: &ReaderQos, writer: Handle, kind: ChangeKind) -> bool
-        ensures { result ≡ would_end qos.now writer kind self.now }
+    pub fn would_mark(&self, qos: &ReaderQos, arrival: &Arrival) -> bool
+        ensures { (h : List Happening) → Tracks qos.now arrival.now.change.key h self.now → result ≡ marks qos.now arrival.now.change.key h (Came arrival.now) }
     {
-        let accepted = self.registrations.accepted(qos, writer, kind);
+        let accepted = self.owners.accepted(qos, arrival);
         let last = first_there(accepted, self.last_accepted);
-        let nobody = self.registrations.would_be_abandoned(writer, kind);
+        let nobody = !self.owners.would_have_writers(arrival);
         is_new_end(self.state(), state_by(last, nobody))
     }
 
-    /// Counts an entry, once its registrations are noted.
+    /// Counts an entry, once its owners have taken it up.
     fn count(&mut self, before: Option<InstanceState>, kind: Option<ChangeKind>, position: u64)
         requires writes { self.old.accepted_writes < position }
         requires generations { self.old.disposed_generations + self.old.no_writers_generations < position }
@@ -176,24 +192,34 @@ impl InstanceTrack {
         self.accepted_writes += count_if(is_write);
     }
 
-    /// Takes up a change of the instance, the entry of this position.
-    pub fn change(&mut self, qos: &ReaderQos, writer: Handle, kind: ChangeKind, position: u64)
+    /// Takes up a change of the instance, the entry of this position. It is the kind of the change, if that is accepted.
+    pub fn change(
+        &mut self,
+        qos: &ReaderQos,
+        arrival: &Arrival,
+        position: u64,
+    ) -> Option<ChangeKind>
         requires fits { Fits position self.old }
-        ensures { Advances (accepted_among qos.now self.old.registrations writer kind) (map (noted writer kind) self.old.registrations) position self.old self.new }
+        ensures advances { Advances result position self.old self.new }
+        ensures accepted { (h : List Happening) → StandsFor self.old.owners qos.now arrival.now.change.key h → result ≡ accepted_kind qos.now arrival.now.change.key h (Came arrival.now) }
+        ensures came { (h : List Happening) → StandsFor self.old.owners qos.now arrival.now.change.key h → StandsFor self.new.owners qos.now arrival.now.change.key (Came arrival.now ∷ h) }
     {
         let before = self.state();
-        let accepted = self.registrations.accepted(qos, writer, kind);
-        self.registrations.note(writer, kind);
+        let accepted = self.owners.accepted(qos, arrival);
+        note(&mut self.owners, arrival);
         self.count(before, accepted, position);
+        accepted
     }
 
     /// Takes up the death of a writer, the entry of this position.
     pub fn bury(&mut self, writer: Handle, position: u64)
         requires fits { Fits position self.old }
-        ensures { Advances None (map (noted_death writer) self.old.registrations) position self.old self.new }
+        ensures advances { Advances None position self.old self.new }
+        ensures died { (q : ReaderQos) (i : Key) (h : List Happening) (moment : ℕ) → StandsFor self.old.owners q i h → StandsFor self.new.owners q i (Died writer moment ∷ h) }
+        ensures fewer { has_writers self.new.owners ≡ true → has_writers self.old.owners ≡ true }
     {
         let before = self.state();
-        self.registrations.bury(writer);
+        self.owners.drop_writer(writer);
         self.count(before, None, position);
     }
 

@@ -17,7 +17,7 @@ use Rattle.dds_base.specs.Instance.{is_nobody}
 use Rattle.dds_base.proofs.KeyLaws.{same_key-refl}
 use Rattle.dds_owner.specs.declared.registration.Registration.{Registration}
 use Rattle.dds_owner.specs.Registration.{registration_of, is_there, has_writer, entered, unregistered, blank_registrations}
-use Rattle.dds_owner.specs.Standing.{Kept, StandsFor}
+use Rattle.dds_owner.specs.Standing.{Kept, StandsFor, has_writers}
 
 -- ---- where nothing has come
 
@@ -49,10 +49,6 @@ same-registrations i h g (w ∷ ws) same =
 pub other-stands : (kept : Kept) (q : ReaderQos) (i : Key) (h g : List Happening)
     → ((w : ℕ) → is_registered i w g ≡ is_registered i w h) → StandsFor kept q i h → StandsFor kept q i g
 other-stands kept q i h g same given = given ∙ sym (same-registrations i h g (publication_handles q) same)
-
-pub registered-other : (i : Key) (w : ℕ) (h : List Happening) (a : Arrival) → same_key a.change.key i ≡ false
-    → is_registered i w (Came a ∷ h) ≡ is_registered i w h
-registered-other i w h a other = rw other refl
 
 -- what does not unregister is a write or a dispose
 writes-or-ends : (kind : ChangeKind) → is_unregister kind ≡ false → is_write_or_dispose kind ≡ true
@@ -150,6 +146,15 @@ pub somebody-there : (q : ReaderQos) (i : Key) (h : List Happening) (rs : List R
     → list_any is_there rs ≡ not (is_nobody (registered_writers q i h))
 somebody-there q i h rs is =
     ap (λ (xs : List Registration). list_any is_there xs) is ∙ somebody-each i h (publication_handles q)
+
+pub not-not : (b c : Bool) → b ≡ not c → c ≡ not b
+not-not b true e = ap not (sym e)
+not-not b false e = ap not (sym e)
+
+-- nobody is registered where nobody is kept as registered
+pub nobody-kept : (kept : Kept) (q : ReaderQos) (i : Key) (h : List Happening) → StandsFor kept q i h
+    → is_nobody (registered_writers q i h) ≡ not (has_writers kept)
+nobody-kept kept q i h given = not-not _ _ (somebody-there q i h kept.registrations given)
 
 any-map : (f : Registration → Registration) (rs : List Registration)
     → list_any (λ r. is_there (f r)) rs ≡ list_any is_there (map f rs)

@@ -82,14 +82,14 @@ impl Owners {
     /// A writer died, at whichever moment: it is not registered any more.
     ///
     /// DDS 1.4, 2.2.3 (LIVELINESS).
-    pub fn drop_writer(&mut self, writer: Handle)
+    pub fn drop_writer(&mut self, dead: Handle)
         // It died.
         ensures died { (q : ReaderQos) (i : Key) (h : List Happening) (moment : ℕ) → StandsFor self.old q i h
-            → StandsFor self.new q i (Died writer moment ∷ h) }
+            → StandsFor self.new q i (Died dead moment ∷ h) }
         // Nobody is registered by it.
         ensures fewer { has_writers self.new ≡ true → has_writers self.old ≡ true }
     {
-        enter(&mut self.registrations, writer, false);
+        enter(&mut self.registrations, dead, false);
     }
 
     /// The owner under EXCLUSIVE ownership, none where nobody is registered.

@@ -4,15 +4,16 @@ use Rattle.dds_base.specs.declared.key.Key.{Key}
 use Rattle.dds_base.specs.declared.happening.Happening.TheVariants.{Came}
 use Rattle.dds_base.specs.Happening.{same_key}
 use Rattle.dds_instances.specs.declared.track.InstanceTrack.{InstanceTrack}
-use Rattle.dds_instances.specs.Registration.{accepted_among, noted}
-use Rattle.dds_instances.specs.Track.{Advances, fresh}
+use Rattle.dds_instances.specs.Track.{fresh}
 use Rattle.dds_instances.specs.Table.{key_of, Follows}
-use Rattle.dds_instances.proofs.StandingLaws.{follows-new}
+use Rattle.dds_instances.proofs.StandingLaws.{Changes, follows-new}
 use Rattle.dds_instances.proofs.keeping.introduce.Goals as goal
 
 pub returns-clause-follows : goal.returns-clause-follows
 returns-clause-follows c = λ h len blank lawful follows.
     let absent : list_any (same_key c.args.arrival.now.change.key) (map key_of c.args.tracks.now.items) ≡ false = ap (λ (ks : List Key). list_any (same_key c.args.arrival.now.change.key) ks) (sym c.requires.indexed) ∙ c.requires.absent in
-    let step : Advances (accepted_among c.args.qos.now c.args.blank c.args.arrival.now.writer c.args.arrival.now.change.kind) (map (noted c.args.arrival.now.writer c.args.arrival.now.change.kind) c.args.blank) c.args.position (fresh c.args.arrival.now.change.key c.args.blank) c.change.new.self =
-    subst (λ (t : InstanceTrack). Advances (accepted_among c.args.qos.now t.registrations c.args.arrival.now.writer c.args.arrival.now.change.kind) (map (noted c.args.arrival.now.writer c.args.arrival.now.change.kind) t.registrations) c.args.position t c.change.new.self) c.new-track.ensures c.change.ensures in
-    subst (λ (ts : List InstanceTrack). Follows c.args.qos.now (Came c.args.arrival.now ∷ h) ts) (sym c.put_last.ensures.tracks) (follows-new c.args.qos.now h c.args.arrival.now c.args.tracks.now.items c.args.position c.args.blank c.change.new.self len blank absent c.requires.kind step lawful follows)
+    let step : Changes c.args.qos.now c.args.arrival.now c.change.result c.args.position (fresh c.args.arrival.now.change.key c.args.blank) c.change.new.self =
+    subst (λ (t : InstanceTrack). Changes c.args.qos.now c.args.arrival.now c.change.result c.args.position t c.change.new.self) c.new-track.ensures
+    (record { advances = c.change.ensures.advances; accepted = c.change.ensures.accepted; came = c.change.ensures.came }) in
+    subst (λ (ts : List InstanceTrack). Follows c.args.qos.now (Came c.args.arrival.now ∷ h) ts) (sym c.put_last.ensures.tracks)
+    (follows-new c.args.qos.now h c.args.arrival.now c.args.tracks.now.items c.args.position c.args.blank c.change.new.self c.change.result len blank absent c.requires.kind step lawful follows)

@@ -1,24 +1,22 @@
-use Rattle.std.proofs.Common.{◌≡◌, List, map, subst, sym, ap, ◌∙◌, false, Option, length}
+use Rattle.std.proofs.Common.{◌≡◌, List, map, subst, sym, ap, refl, ◌∙◌, false, Option, length}
 use Rattle.std.specs.Prelude.{IfSome}
 use Rattle.std.specs.List.{list_any}
 use Rattle.std.proofs.lemmas.List.Elements.{All-pop}
 use Rattle.dds_base.specs.declared.key.Key.{Key}
 use Rattle.dds_base.specs.Happening.{same_key}
-use Rattle.dds_instances.specs.declared.registration.Registration.{Registration}
-use Rattle.dds_instances.specs.Registration.{blank_registrations}
-use Rattle.dds_instances.specs.Table.{key_of}
-use Rattle.dds_instances.proofs.RegistrationLaws.{blank-unregistered}
+use Rattle.dds_owner.specs.Standing.{Kept}
+use Rattle.dds_instances.specs.Table.{IsBlank, key_of}
 use Rattle.dds_instances.proofs.StandingLaws.{follows-nothing}
 use Rattle.dds_instances.proofs.keeping.take_up.Goals as goal
 
-pub returns-then-is_data-clause-follows : goal.returns-then-is_data-clause-follows
-returns-then-is_data-clause-follows c = λ h len blanks lawful follows.
-    let B : List Registration → Type 0 = λ rs. rs ≡ blank_registrations 1 (length c.args.qos.now.writers) in
+pub returns-then-is_write_or_dispose-clause-follows : goal.returns-then-is_write_or_dispose-clause-follows
+returns-then-is_write_or_dispose-clause-follows c = λ h len blanks lawful follows.
+    let B : Kept → Type 0 = IsBlank (length c.args.qos.now.writers) in
     let parts = All-pop B c.args.blanks.now.items c.pop.new.self.items c.pop.result c.pop.ensures.items blanks in
-    let first : B c.unwrap-blank.result = subst (λ (r : Option (List Registration)). IfSome r B) c.unwrap-blank.ensures parts.1 in
-    c.introduce.ensures.follows h len (first ∙ blank-unregistered 1 c.args.qos.now.writers) lawful follows
+    let first : B c.unwrap-blank.result = subst (λ (r : Option Kept). IfSome r B) c.unwrap-blank.ensures parts.1 in
+    c.introduce.ensures.follows h len (λ i. first c.args.qos.now i refl) lawful follows
 
-pub returns-else-is_data-clause-follows : goal.returns-else-is_data-clause-follows
-returns-else-is_data-clause-follows c = λ h len blanks lawful follows.
+pub returns-else-is_write_or_dispose-clause-follows : goal.returns-else-is_write_or_dispose-clause-follows
+returns-else-is_write_or_dispose-clause-follows c = λ h len blanks lawful follows.
     let absent : list_any (same_key c.args.arrival.now.change.key) (map key_of c.args.tracks.now.items) ≡ false = ap (λ (ks : List Key). list_any (same_key c.args.arrival.now.change.key) ks) (sym c.requires.indexed) ∙ c.in-None.ensures in
-    follows-nothing c.args.qos.now h c.args.arrival.now c.args.tracks.now.items absent (sym c.is_data.ensures ∙ c.if-is_data.false) follows
+    follows-nothing c.args.qos.now h c.args.arrival.now c.args.tracks.now.items absent (sym c.is_write_or_dispose.ensures ∙ c.if-is_write_or_dispose.false) follows

@@ -2,11 +2,11 @@ use Rattle.std.proofs.Common.{ℕ, ap, ◌∙◌}
 use Rattle.dds_instances.specs.Table.{Table}
 use Rattle.dds_instances.specs.Track.{is_born_dead}
 use Rattle.dds_instances.proofs.StandingLaws.{follows-of}
-use Rattle.dds_instances.proofs.ForesightLaws.{marks-tracked, marks-first}
+use Rattle.dds_instances.proofs.ForesightLaws.{marks-first}
 use Rattle.dds_instances.proofs.instances.Instances.would_mark.Goals as goal
 
 pub returns-in-Some : goal.returns-in-Some
-returns-in-Some c = record { marks = λ h stands. c.would_mark.ensures ∙ marks-tracked c.args.qos.now h c.args.arrival.now c.in-Some.track.now ((c.in-Some.ensures.kept c.args.qos.now h (follows-of c.args.qos.now h c.args.self.now c.deref.result.now (c.deref.ensures.value ∙ ap (λ (t : Table). t.tracks) c.self.view_is) stands)).0) }
+returns-in-Some c = record { marks = λ h stands. c.would_mark.ensures h ((c.in-Some.ensures.kept c.args.qos.now h (follows-of c.args.qos.now h c.args.self.now c.deref.result.now (c.deref.ensures.value ∙ ap (λ (t : Table). t.tracks) c.self.view_is) stands)).0) }
 
 pub returns-in-None : goal.returns-in-None
 returns-in-None c = record {

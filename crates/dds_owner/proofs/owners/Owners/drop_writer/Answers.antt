@@ -8,11 +8,11 @@ use Rattle.dds_owner.proofs.owners.Owners.drop_writer.Goals as goal
 
 pub returns-clause-died : goal.returns-clause-died
 returns-clause-died c = λ q i h moment given.
-    c.enter.ensures ∙ died-stands q i h c.args.writer moment c.self.inside.registrations.items
+    c.enter.ensures ∙ died-stands q i h c.args.dead moment c.self.inside.registrations.items
     (ap (λ (k : Kept). k.registrations) c.self.view_is ∙ given)
 
 pub returns-clause-fewer : goal.returns-clause-fewer
 returns-clause-fewer c = λ after.
     sym (ap (λ (k : Kept). has_writers k) c.self.view_is)
-    ∙ left-before c.args.writer c.self.inside.registrations.items
+    ∙ left-before c.args.dead c.self.inside.registrations.items
     (sym (ap (λ (rs : List Registration). list_any is_there rs) c.enter.ensures) ∙ after)
