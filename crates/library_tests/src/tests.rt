@@ -3,6 +3,7 @@ mod cache;
 mod history;
 mod info;
 mod lease;
+mod owner;
 mod readme;
 mod rows;
 mod sets;

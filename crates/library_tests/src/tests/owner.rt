@@ -1,0 +1,190 @@
+//! Who is registered for an instance, and who owns it.
+
+use crate::tests::rows::{Subject, expect_rows, number_of, words_of};
+use dds_base::{
+    Arrival, Change, ChangeKind, EntityId, Guid, GuidPrefix, Handle, HistoryQos, Key,
+    MatchedWriter, Moment, Octets, OwnershipQos, ReaderQos, Sequence, Sn,
+};
+use dds_owner::Owners;
+use std::alloc::Global;
+
+/// `open` begins anew, with the strength of each matched writer, and after a dot the last octet of its GUID. `register`,
+/// `unregister` and `drop` have a writer: who owns then, which `owner` tells too; 0 is nobody. `registered` has a writer,
+/// `accepts` and `leaves` a writer and a kind: whether its change would be accepted, and whether anybody would be
+/// registered then.
+const OWNERS: &str = "\
+# Nobody is registered before anything came, and nobody owns.
+open 5.2 9.3 5.1 5.1 => 0
+anybody => false
+registered 1 => false
+
+# The strongest of the registered writers owns, until its unregister or its death.
+register 1 => 1
+register 2 => 2
+register 2 => 2
+registered 2 => true
+anybody => true
+drop 2 => 1
+registered 2 => false
+register 2 => 2
+unregister 2 => 1
+unregister 2 => 1
+
+# Of equals the one with the smaller GUID owns, whichever handle is the lower.
+register 3 => 3
+unregister 1 => 3
+register 1 => 3
+
+# Two writers of one GUID and one strength don't own; a stronger one does.
+register 4 => 0
+register 2 => 2
+drop 2 => 0
+drop 4 => 3
+
+# A handle that names no matched writer changes nothing.
+register 0 => 3
+register 5 => 3
+registered 0 => false
+registered 5 => false
+
+# A change is accepted if its writer would own. An unregister is not.
+accepts 1 write => false
+accepts 1 dispose => false
+accepts 2 write => true
+accepts 3 write => true
+accepts 3 both => true
+accepts 3 unregister => false
+
+# The last one that unregisters leaves nobody; another one leaves it.
+unregister 1 => 3
+leaves 3 dispose => true
+leaves 3 both => false
+leaves 3 unregister => false
+leaves 1 unregister => true
+leaves 1 write => true
+unregister 3 => 0
+anybody => false
+accepts 1 dispose => true
+leaves 1 unregister => false
+";
+
+/// Owners of one instance, at a reader of EXCLUSIVE ownership.
+#[derive(Drop)]
+struct OwnedInstance {
+    owners: Owners,
+    qos: ReaderQos,
+}
+
+fn matched(alloc: Global, operands: &str) -> Vec<MatchedWriter> {
+    let mut writers = Vec::new(alloc);
+    for word in operands.split(' ') {
+        let (strength, octet) = word.split_once('.').unwrap_or((word, ""));
+        let _ = writers.push(MatchedWriter {
+            guid: Guid {
+                prefix: GuidPrefix([1; 12]),
+                entity: EntityId::writer([0, 0, octet.parse().unwrap_or(0)]),
+            },
+            strength: strength.parse().unwrap_or(0),
+            lease: None,
+        });
+    }
+    writers
+}
+
+fn qos_of(alloc: Global, operands: &str) -> ReaderQos {
+    ReaderQos {
+        ownership: OwnershipQos::Exclusive,
+        history: HistoryQos::KeepAll,
+        max_samples: None,
+        max_instances: None,
+        writers: Sequence::from_vec(matched(alloc, operands)),
+    }
+}
+
+fn kind_of(word: &str) -> ChangeKind {
+    match word {
+        "write" => ChangeKind::Write,
+        "dispose" => ChangeKind::Dispose,
+        "both" => ChangeKind::DisposeUnregister,
+        _ => ChangeKind::Unregister,
+    }
+}
+
+fn change_by(alloc: Global, writer: Handle, kind: ChangeKind) -> Arrival {
+    Arrival {
+        writer,
+        number: Sn::new(1),
+        change: Change {
+            kind,
+            key: Key([0; 16]),
+            value: Octets::from_vec(Vec::new(alloc)),
+            source_timestamp: Moment::new(0),
+        },
+        moment: Moment::new(0),
+    }
+}
+
+impl OwnedInstance {
+    fn open(alloc: Global, operands: &str) -> Option<OwnedInstance> {
+        let qos = qos_of(alloc, operands);
+        let owners = Owners::open(alloc, qos.writers.as_slice().len()).ok()?;
+        Some(OwnedInstance { owners, qos })
+    }
+
+    fn push_owner(&self, text: &mut String) {
+        let number = match self.owners.owner(&self.qos) {
+            Some(writer) => writer.number(),
+            None => 0,
+        };
+        let _ = write!(text, "{number}");
+    }
+
+    fn enter(&mut self, name: &str, writer: Handle) {
+        match name {
+            "register" => self.owners.register(writer),
+            "unregister" => self.owners.unregister(writer),
+            _ => self.owners.drop_writer(writer),
+        }
+    }
+
+    fn is_so(&self, name: &str, arrival: &Arrival) -> bool {
+        match name {
+            "registered" => self.owners.is_registered(arrival.writer),
+            "anybody" => self.owners.has_writers(),
+            "accepts" => self.owners.accepted(&self.qos, arrival).is_some(),
+            _ => self.owners.would_have_writers(arrival),
+        }
+    }
+}
+
+impl Subject for OwnedInstance {
+    fn answer(&mut self, alloc: Global, text: &mut String, name: &str, operands: &str) {
+        let words = words_of(operands);
+        let writer = Handle::new(number_of(words.first));
+        match name {
+            "open" => {
+                if let Some(opened) = OwnedInstance::open(alloc, operands) {
+                    *self = opened;
+                    self.push_owner(text);
+                }
+            }
+            "register" | "unregister" | "drop" => {
+                self.enter(name, writer);
+                self.push_owner(text);
+            }
+            _ => {
+                let is_so = self.is_so(name, &change_by(alloc, writer, kind_of(words.second)));
+                let _ = write!(text, "{is_so}");
+            }
+        }
+    }
+}
+
+#[test]
+fn instances_are_owned(rt: HostRuntime) {
+    let opened = OwnedInstance::open(rt.alloc(), "");
+    assert!(rt; opened.is_some(), "no memory");
+    if let Some(mut owned) = opened {
+        expect_rows(&rt, rt.alloc(), &mut owned, OWNERS);
+    }
+}
