@@ -26,8 +26,8 @@ use Rattle.dds_owner.proofs.RegistrationLaws.{other-than}
 
 -- ---- what is accepted
 
-all-one : (b good : Bool) (w : ℕ) (ws : List ℕ) (g : ℕ → Bool) (rest : Bool) → g w ≡ good → list_all g ws ≡ rest
-    → list_all g (cond b (w ∷ ws) ws) ≡ ((not b || good) && rest)
+all-one : (b good : Bool) (w : ℕ) (ws : List ℕ) (g : ℕ → Bool) (rest : Bool) → g w ≡ good
+    → list_all g ws ≡ rest → list_all g (cond b (w ∷ ws) ws) ≡ ((not b || good) && rest)
 all-one true good w ws g rest is e = ap (λ (x : Bool). x && list_all g ws) is ∙ ap (λ (x : Bool). good && x) e
 all-one false good w ws g rest is e = e
 
@@ -45,11 +45,13 @@ pub accepted-among : (q : ReaderQos) (h : List Happening) (a : Arrival) (rs : Li
     → rs ≡ map (registration_of a.change.key h) (publication_handles q)
     → accepted_among q rs a.writer a.change.kind ≡ accepted_kind q a.change.key h (Came a)
 accepted-among q h a rs is =
-    ap (λ (b : Bool). if is_write_or_dispose a.change.kind && admits q.ownership b then Some a.change.kind else None)
+    ap (λ (b : Bool). if is_write_or_dispose a.change.kind && admits q.ownership b
+    then Some a.change.kind else None)
     (ap (λ (xs : List Registration). list_all (gives_way q a.writer) xs) is
     ∙ sym (all-each q a.change.key h a.writer (publication_handles q)))
     ∙ ap (λ (b : Bool). if b && (is_write_or_dispose a.change.kind
-    && admits q.ownership (outranks_all q (registered_writers q a.change.key h) a.writer)) then Some a.change.kind else None)
+    && admits q.ownership (outranks_all q (registered_writers q a.change.key h) a.writer))
+    then Some a.change.kind else None)
     (sym (same_key-refl a.change.key))
 
 -- ---- the order of writers
@@ -57,7 +59,9 @@ accepted-among q h a rs is =
 -- no writer outranks itself
 above-itself : (q : ReaderQos) (w : ℕ) → outranks q w w ≡ false
 above-itself q w =
-    ⊎_elim (λ above. absurd (outranks-one_way (writer_of q.writers w) (writer_of q.writers w) above above)) (λ no. no)
+    ⊎_elim
+    (λ above. absurd (outranks-one_way (writer_of q.writers w) (writer_of q.writers w) above above))
+    (λ no. no)
     (cases_Bool (outranks q w w))
 
 -- of two writers the one that is above a third, as the other is not, is above that one too
@@ -67,7 +71,8 @@ below-chain u v w Greater is above not_w not_v = ap is_gt is
 below-chain u v w Equal is above not_w not_v =
     absurd (let clash : true ≡ false = sym above ∙ (ap is_gt (writer_total.congr v u w is) ∙ not_w) in cc)
 below-chain u v w Less is above not_w not_v =
-    absurd (let clash : true ≡ false = sym (ap is_gt (writer_total.antisymm u v ∙ ap ordering_reverse is)) ∙ not_v in cc)
+    absurd (let clash : true ≡ false =
+    sym (ap is_gt (writer_total.antisymm u v ∙ ap ordering_reverse is)) ∙ not_v in cc)
 
 outranks-as : (q : ReaderQos) (v w : ℕ) (a b : MatchedWriter) → writer_of q.writers v ≡ Some a
     → writer_of q.writers w ≡ Some b → outranks q v w ≡ is_gt (writer_cmp a b)
@@ -76,8 +81,8 @@ outranks-as q v w a b is_a is_b =
     ∙ ap (λ (x : Option MatchedWriter). is_above (Some a) x) is_b
 
 -- who outranks a writer that nobody of some outranks, outranks each of these
-above-others : (q : ReaderQos) (v w u : ℕ) → IsMatched q v → IsMatched q w → IsMatched q u → outranks q v w ≡ true
-    → outranks q u w ≡ false → outranks q v u ≡ true
+above-others : (q : ReaderQos) (v w u : ℕ) → IsMatched q v → IsMatched q w → IsMatched q u
+    → outranks q v w ≡ true → outranks q u w ≡ false → outranks q v u ≡ true
 above-others q v w u matched_v matched_w matched_u above not_above =
     let a = matched-writer q v matched_v in
     let b = matched-writer q w matched_w in
@@ -153,10 +158,12 @@ seen-itself : (q : ReaderQos) (k : ℕ) → IsMatched q k → Seen q (k + 1) k k
 seen-itself q k matched = record { below = omega arith; matched = matched; not_above = above-itself q k }
 
 -- the first that is looked at
-leads-first : (q : ReaderQos) (k : ℕ) → IsMatched q k → LeadsBy q (k + 1) (k ∷ []) (record { writer = k; is_sole = true })
+leads-first : (q : ReaderQos) (k : ℕ) → IsMatched q k
+    → LeadsBy q (k + 1) (k ∷ []) (record { writer = k; is_sole = true })
 leads-first q k matched = record {
   among = or_left (k == k) false (eqb-refl k);
-  sole_is = sym (and_from ((k == k) || outranks q k k) true (or_left (k == k) (outranks q k k) (eqb-refl k)) refl);
+  sole_is = sym
+      (and_from ((k == k) || outranks q k k) true (or_left (k == k) (outranks q k k) (eqb-refl k)) refl);
   each = λ u there. ⊎_elim
       (λ same. subst (λ (x : ℕ). Seen q (k + 1) k x) (eqb-true k u same) (seen-itself q k matched))
       (λ none. absurd (let clash : false ≡ true = none in cc))
@@ -172,8 +179,8 @@ takes-over q k seen l leads matched above = record {
   sole_is = sym (list_all-append (λ v. (v == k) || outranks q k v) seen (k ∷ [])
       ∙ and_from (outranks_all q seen k) (((k == k) || outranks q k k) && true)
       (all-from (λ v. (v == k) || outranks q k v) seen (λ u there. or_right (u == k) (outranks q k u)
-      (above-others q k l.writer u matched (leads.each l.writer leads.among).matched (leads.each u there).matched above
-      (leads.each u there).not_above)))
+      (above-others q k l.writer u matched (leads.each l.writer leads.among).matched
+      (leads.each u there).matched above (leads.each u there).not_above)))
       (and_from ((k == k) || outranks q k k) true (or_left (k == k) (outranks q k k) (eqb-refl k)) refl));
   each = λ u there. ⊎_elim
       (λ before. let s = leads.each u before in
@@ -182,7 +189,8 @@ takes-over q k seen l leads matched above = record {
         matched = s.matched;
         not_above = ⊎_elim
             (λ back. absurd (let clash : true ≡ false =
-            sym (outranks-trans (writer_of q.writers u) (writer_of q.writers k) (writer_of q.writers l.writer) back above)
+            sym (outranks-trans (writer_of q.writers u) (writer_of q.writers k) (writer_of q.writers l.writer)
+            back above)
             ∙ s.not_above in cc))
             (λ no. no)
             (cases_Bool (outranks q u k));
@@ -199,7 +207,8 @@ last-only false x = refl
 -- one that does not leaves it there
 stays : (q : ReaderQos) (k : ℕ) (seen : List ℕ) (l : Leader) → LeadsBy q k seen l → IsMatched q k
     → outranks q k l.writer ≡ false
-    → LeadsBy q (k + 1) (seen ++ k ∷ []) (record { writer = l.writer; is_sole = l.is_sole && outranks q l.writer k })
+    → LeadsBy q (k + 1) (seen ++ k ∷ [])
+    (record { writer = l.writer; is_sole = l.is_sole && outranks q l.writer k })
 stays q k seen l leads matched not_above =
     let w : ℕ = l.writer in
     let own = leads.each w leads.among in
@@ -219,11 +228,11 @@ stays q k seen l leads matched not_above =
           (one-more seen k u there);
     }
 
-leads-next : (q : ReaderQos) (k : ℕ) (seen : List ℕ) (leader : Option Leader) → Leads q k seen leader → IsMatched q k
-    → LeadsBy q (k + 1) (seen ++ k ∷ []) (leader_after q leader k)
+leads-next : (q : ReaderQos) (k : ℕ) (seen : List ℕ) (leader : Option Leader) → Leads q k seen leader
+    → IsMatched q k → LeadsBy q (k + 1) (seen ++ k ∷ []) (leader_after q leader k)
 leads-next q k seen None none matched =
-    subst (λ (ws : List ℕ). LeadsBy q (k + 1) (ws ++ k ∷ []) (record { writer = k; is_sole = true })) (sym none)
-    (leads-first q k matched)
+    subst (λ (ws : List ℕ). LeadsBy q (k + 1) (ws ++ k ∷ []) (record { writer = k; is_sole = true }))
+    (sym none) (leads-first q k matched)
 leads-next q k seen (Some l) leads matched =
     let after : Bool → Leader = λ b. if b then record { writer = k; is_sole = true }
     else record { writer = l.writer; is_sole = l.is_sole && outranks q l.writer k } in
@@ -257,7 +266,8 @@ sole-owns q k seen (Some l) leads =
     (λ is. let all : outranks_all q seen w ≡ true = sym leads.sole_is ∙ is in
     ap (λ (b : Bool). if b then Some w else None) is
     ∙ sym (find-only (outranks_all q seen) seen w leads.among all
-    (λ u there holds. owner-one q seen u w (owner-is q seen u there holds) (owner-is q seen w leads.among all))))
+    (λ u there holds. owner-one q seen u w (owner-is q seen u there holds)
+    (owner-is q seen w leads.among all))))
     (λ tied. ap (λ (b : Bool). if b then Some w else None) tied
     ∙ sym (find-none (outranks_all q seen) seen (λ u there. ⊎_elim
     (λ holds. ⊎_elim
@@ -284,11 +294,13 @@ leader-owns q i h k (x ∷ xs) seen leader low high leads =
     let owner : Bool → Option ℕ = λ b. owner_of q (seen ++ cond b (k ∷ ws) ws) in
     ⊎_elim
     (λ there. ap next there
-    ∙ (leader-owns q i h (k + 1) xs (seen ++ k ∷ []) (Some (leader_after q leader k)) (omega arith) (omega (arith, high))
+    ∙ (leader-owns q i h (k + 1) xs (seen ++ k ∷ []) (Some (leader_after q leader k)) (omega arith)
+    (omega (arith, high))
     (leads-next q k seen leader leads (low, omega (arith, high)))
     ∙ (ap (λ (vs : List ℕ). owner_of q vs) (append_assoc seen (k ∷ []) ws) ∙ ap owner (sym there))))
     (λ gone. ap next gone
-    ∙ (leader-owns q i h (k + 1) xs seen leader (omega arith) (omega (arith, high)) (leads-still q k seen leader leads)
+    ∙ (leader-owns q i h (k + 1) xs seen leader (omega arith) (omega (arith, high))
+    (leads-still q k seen leader leads)
     ∙ ap owner (sym gone)))
     (cases_Bool (is_registered i k h))
 

@@ -22,7 +22,8 @@ use Rattle.dds_owner.specs.Standing.{Kept, StandsFor, has_writers}
 -- ---- where nothing has come
 
 -- one more writer of which nothing has come
-pub blank-step : (k at n : ℕ) (done whole : List Registration) → at < n → done ++ blank_registrations k (n - at) ≡ whole
+pub blank-step : (k at n : ℕ) (done whole : List Registration) → at < n
+    → done ++ blank_registrations k (n - at) ≡ whole
     → (done ++ unregistered k ∷ []) ++ blank_registrations (k + 1) (n - (at + 1)) ≡ whole
 blank-step k at n done whole within is =
     let more : n - at ≡ suc (n - (at + 1)) = omega arith in
@@ -33,13 +34,15 @@ blank-step k at n done whole within is =
 pub blank-stands : (i : Key) (k : ℕ) (writers : List MatchedWriter)
     → blank_registrations k (length writers) ≡ map (registration_of i []) (numbers_from k writers)
 blank-stands i k [] = refl
-blank-stands i k (w ∷ writers) = ap (λ (rs : List Registration). unregistered k ∷ rs) (blank-stands i (k + 1) writers)
+blank-stands i k (w ∷ writers) =
+    ap (λ (rs : List Registration). unregistered k ∷ rs) (blank-stands i (k + 1) writers)
 
 -- ---- one more entry
 
 -- the registrations are the same where no registration changes
 pub same-registrations : (i : Key) (h g : List Happening) (ws : List ℕ)
-    → ((w : ℕ) → is_registered i w g ≡ is_registered i w h) → map (registration_of i g) ws ≡ map (registration_of i h) ws
+    → ((w : ℕ) → is_registered i w g ≡ is_registered i w h)
+    → map (registration_of i g) ws ≡ map (registration_of i h) ws
 same-registrations i h g [] same = refl
 same-registrations i h g (w ∷ ws) same =
     ap (λ (b : Bool). (record { writer = w; is_registered = b }) ∷ map (registration_of i g) ws) (same w)
@@ -73,7 +76,8 @@ came-each h a (v ∷ ws) =
     let kind : ChangeKind = a.change.kind in
     ap (λ (b : Bool). (record { writer = v; is_registered = b })
     ∷ map (entered (not (is_unregister kind)) a.writer) (map (registration_of k h) ws))
-    (entered-one (same_key k k) (a.writer == v) (is_unregister kind) (is_write_or_dispose kind) (is_registered k v h)
+    (entered-one (same_key k k) (a.writer == v) (is_unregister kind) (is_write_or_dispose kind)
+    (is_registered k v h)
     (same_key-refl k) (writes-or-ends kind))
     ∙ ap (λ (rs : List Registration). registration_of k (Came a ∷ h) v ∷ rs) (came-each h a ws)
 
@@ -87,9 +91,10 @@ came-registrations q h a rs is =
     ∙ came-each h a (publication_handles q)
 
 -- a change was entered of a writer that is registered after it, or is not
-pub came-stands : (q : ReaderQos) (h : List Happening) (a : Arrival) (w : ℕ) (ends : Bool) (rs xs : List Registration)
-    → rs ≡ map (registration_of a.change.key h) (publication_handles q) → a.writer ≡ w → is_unregister a.change.kind ≡ ends
-    → xs ≡ map (entered (not ends) w) rs → xs ≡ map (registration_of a.change.key (Came a ∷ h)) (publication_handles q)
+pub came-stands : (q : ReaderQos) (h : List Happening) (a : Arrival) (w : ℕ) (ends : Bool)
+    (rs xs : List Registration) → rs ≡ map (registration_of a.change.key h) (publication_handles q)
+    → a.writer ≡ w → is_unregister a.change.kind ≡ ends → xs ≡ map (entered (not ends) w) rs
+    → xs ≡ map (registration_of a.change.key (Came a ∷ h)) (publication_handles q)
 came-stands q h a w ends rs xs is writer kind put =
     put
     ∙ (ap (λ (v : ℕ). map (entered (not ends) v) rs) (sym writer)
@@ -103,7 +108,8 @@ died-each : (i : Key) (h : List Happening) (w now : ℕ) (ws : List ℕ)
     → map (entered false w) (map (registration_of i h) ws) ≡ map (registration_of i (Died w now ∷ h)) ws
 died-each i h w now [] = refl
 died-each i h w now (v ∷ ws) =
-    ap (λ (b : Bool). (record { writer = v; is_registered = b }) ∷ map (entered false w) (map (registration_of i h) ws))
+    ap (λ (b : Bool). (record { writer = v; is_registered = b })
+    ∷ map (entered false w) (map (registration_of i h) ws))
     (died-one (w == v) (is_registered i v h))
     ∙ ap (λ (rs : List Registration). registration_of i (Died w now ∷ h) v ∷ rs) (died-each i h w now ws)
 
@@ -117,7 +123,8 @@ died-stands q i h w now rs is =
 -- whom a death leaves registered was so before
 pub left-before : (w : ℕ) (rs : List Registration) → list_any is_there (map (entered false w) rs) ≡ true
     → list_any is_there rs ≡ true
-left-before w (r ∷ rs) left = one (w == r.writer) r.is_registered (list_any is_there (map (entered false w) rs))
+left-before w (r ∷ rs) left =
+    one (w == r.writer) r.is_registered (list_any is_there (map (entered false w) rs))
     (list_any is_there rs) (left-before w rs) left
   where
     one : (a b c d : Bool) → (c ≡ true → d ≡ true) → ((if a then false else b) || c) ≡ true → (b || d) ≡ true
@@ -185,8 +192,9 @@ has-none i h w (v ∷ ws) none =
     one-none true is e = e refl
     one-none false is e = refl
 
-has-some : (i : Key) (h : List Happening) (w k : ℕ) (writers : List MatchedWriter) → k ≤ w → w < k + length writers
-    → is_registered i w h ≡ true → has_writer w (map (registration_of i h) (numbers_from k writers)) ≡ true
+has-some : (i : Key) (h : List Happening) (w k : ℕ) (writers : List MatchedWriter) → k ≤ w
+    → w < k + length writers → is_registered i w h ≡ true
+    → has_writer w (map (registration_of i h) (numbers_from k writers)) ≡ true
 has-some i h w k [] low high is = absurd (omega (arith, low, high))
 has-some i h w k (x ∷ writers) low high is =
     ⊎_elim
@@ -204,17 +212,20 @@ has-some i h w k (x ∷ writers) low high is =
     or-true false = refl
 
 -- a matched writer has a registration, which says whether it is registered
-pub has-matched : (q : ReaderQos) (i : Key) (h : List Happening) (w : ℕ) (rs : List Registration) → IsMatched q w
-    → rs ≡ map (registration_of i h) (publication_handles q) → has_writer w rs ≡ is_registered i w h
+pub has-matched : (q : ReaderQos) (i : Key) (h : List Happening) (w : ℕ) (rs : List Registration)
+    → IsMatched q w → rs ≡ map (registration_of i h) (publication_handles q)
+    → has_writer w rs ≡ is_registered i w h
 has-matched q i h w rs matched is =
     ap (λ (xs : List Registration). has_writer w xs) is
     ∙ ⊎_elim
-    (λ there. has-some i h w 1 q.writers (omega (arith, matched.0)) (omega (arith, matched.1)) there ∙ sym there)
+    (λ there. has-some i h w 1 q.writers (omega (arith, matched.0)) (omega (arith, matched.1)) there
+    ∙ sym there)
     (λ gone. has-none i h w (publication_handles q) gone ∙ sym gone)
     (cases_Bool (is_registered i w h))
 
 pub other-than : (v w : ℕ) → (v ≡ w → ⊥) → (v == w) ≡ false
-other-than v w differ = ⊎_elim (λ same. absurd (differ (eqb-true v w same))) (λ other. other) (cases_Bool (v == w))
+other-than v w differ =
+    ⊎_elim (λ same. absurd (differ (eqb-true v w same))) (λ other. other) (cases_Bool (v == w))
 
 has-stranger : (i : Key) (h : List Happening) (w k : ℕ) (writers : List MatchedWriter)
     → ((k ≤ w) × (w < k + length writers) → ⊥)
@@ -222,7 +233,10 @@ has-stranger : (i : Key) (h : List Happening) (w k : ℕ) (writers : List Matche
 has-stranger i h w k [] out = refl
 has-stranger i h w k (x ∷ writers) out =
     let other : (k == w) ≡ false = other-than k w (λ same. out (omega (arith, same), omega (arith, same))) in
-    ap (λ (b : Bool). (b && is_registered i k h) || has_writer w (map (registration_of i h) (numbers_from (k + 1) writers))) other
+    ap
+    (λ (b : Bool). (b && is_registered i k h)
+    || has_writer w (map (registration_of i h) (numbers_from (k + 1) writers)))
+    other
     ∙ has-stranger i h w (k + 1) writers (λ both. out (omega (arith, both.0), omega (arith, both.1)))
 
 -- of one that is not matched there is none

@@ -1,4 +1,5 @@
--- Which of the registered writers comes first. Inner functions alone cite this: nothing here has to be believed.
+-- Which of the registered writers comes first. Inner functions alone cite this: nothing here has to be
+-- believed.
 use Rattle.std.specs.Prelude.{ℕ, List, [], ◌∷◌, Bool, true, ◌&&◌, ◌||◌, ◌==◌, not, Option, Some, None, if◌then◌else◌}
 use Rattle.std.specs.List.{list_all}
 use Rattle.dds_base.specs.declared.change.ChangeKind.{ChangeKind}

@@ -1,5 +1,5 @@
--- Who is registered for an instance, as a list with an entry for each matched writer. Inner functions alone cite
--- this: nothing here has to be believed.
+-- Who is registered for an instance, as a list with an entry for each matched writer. Inner functions alone
+-- cite this: nothing here has to be believed.
 use Rattle.std.specs.Prelude.{ℕ, zero, suc, ◌+◌, List, [], ◌∷◌, Bool, false, ◌&&◌, ◌==◌, if◌then◌else◌}
 use Rattle.std.specs.List.{list_any}
 use Rattle.dds_base.specs.declared.key.Key.{Key}
@@ -21,7 +21,10 @@ has_writer w rs = list_any (λ (r : Registration). (r.writer == w) && r.is_regis
 
 -- whether a writer is registered once it was entered that writer w is, or is not
 abbrev pub entered : Bool → ℕ → Registration → Registration
-entered is_in w r = record { writer = r.writer; is_registered = if w == r.writer then is_in else r.is_registered }
+entered is_in w r = record {
+  writer = r.writer;
+  is_registered = if w == r.writer then is_in else r.is_registered;
+}
 
 -- a writer of which nothing has come
 abbrev pub unregistered : ℕ → Registration

@@ -6,7 +6,7 @@ use Rattle.dds_base.specs.declared.happening.Happening.{Happening}
 use Rattle.dds_base.specs.declared.qos.ReaderQos.{ReaderQos}
 use Rattle.dds_base.specs.Ownership.{publication_handles}
 use Rattle.dds_owner.specs.declared.registration.Registration.{Registration}
-use Rattle.dds_owner.specs.Registration.{is_there, registration_of}
+use Rattle.dds_owner.specs.Registration.{registration_of}
 
 -- what is kept; callers see it through has_writers and StandsFor
 pub record Kept : Type 0 where
@@ -14,7 +14,7 @@ pub record Kept : Type 0 where
 
 -- somebody is registered
 abbrev pub has_writers : Kept → Bool
-has_writers kept = list_any is_there kept.registrations
+has_writers kept = list_any (λ (r : Registration). r.is_registered) kept.registrations
 
 -- what happened to instance i at a reader of these policies that this stands for
 abbrev pub StandsFor : Kept → ReaderQos → Key → List Happening → Type 0

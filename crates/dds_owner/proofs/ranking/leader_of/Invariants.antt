@@ -4,4 +4,5 @@ use Rattle.dds_owner.specs.Ranking.{leader_among}
 use Rattle.dds_owner.proofs.ranking.leader_of.Given as goal
 
 abbrev pub invariant-loop-r : goal.invariant-loop-r
-invariant-loop-r l = leader_among l.qos None l.registrations ≡ leader_among l.qos l.leader (drop l.r-index l.registrations)
+invariant-loop-r l =
+    leader_among l.qos None l.registrations ≡ leader_among l.qos l.leader (drop l.r-index l.registrations)

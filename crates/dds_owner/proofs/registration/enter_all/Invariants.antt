@@ -6,4 +6,5 @@ use Rattle.dds_owner.proofs.registration.enter_all.Given as goal
 abbrev pub invariant-loop-r : goal.invariant-loop-r
 invariant-loop-r l =
     l.registrations
-    ≡ map (entered l.is_registered l.writer) (take l.r-index l.fn.registrations) ++ drop l.r-index l.fn.registrations
+    ≡ map (entered l.is_registered l.writer) (take l.r-index l.fn.registrations)
+    ++ drop l.r-index l.fn.registrations

@@ -9,7 +9,8 @@ use Rattle.dds_owner.proofs.owners.Owners.owner.Goals as goal
 pub returns-in_err-leader : goal.returns-in_err-leader
 returns-in_err-leader c = record {
   owner = λ i h given.
-      c.from_residual.ensures ∙ (ap (λ (l : Option Leader). sole l) (sym c.in_err-leader.was ∙ c.leader_of.ensures)
+      c.from_residual.ensures
+      ∙ (ap (λ (l : Option Leader). sole l) (sym c.in_err-leader.was ∙ c.leader_of.ensures)
       ∙ owner-found c.args.qos.now i h c.deref.result.now
       (c.deref.ensures.value ∙ (ap (λ (k : Kept). k.registrations) c.self.view_is ∙ given)));
 }
