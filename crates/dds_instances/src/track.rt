@@ -128,7 +128,8 @@ fn first_there(first: Option<ChangeKind>, second: Option<ChangeKind>) -> Option<
 
 /// A change of the instance came, accepted or not.
 fn note(owners: &mut Owners, arrival: &Arrival)
-    ensures { (q : ReaderQos) (h : List Happening) → StandsFor owners.old q arrival.now.change.key h → StandsFor owners.new q arrival.now.change.key (Came arrival.now ∷ h) }
+    ensures { (q : ReaderQos) (h : List Happening) → StandsFor owners.old q arrival.now.change.key h
+        → StandsFor owners.new q arrival.now.change.key (Came arrival.now ∷ h) }
 {
     if arrival.change.kind.is_unregister() {
         owners.unregister(arrival.writer);
@@ -164,7 +165,8 @@ impl InstanceTrack {
 
     /// Whether a change of the instance would turn it to a state that is not alive, from another one.
     pub fn would_mark(&self, qos: &ReaderQos, arrival: &Arrival) -> bool
-        ensures { (h : List Happening) → Tracks qos.now arrival.now.change.key h self.now → result ≡ marks qos.now arrival.now.change.key h (Came arrival.now) }
+        ensures { (h : List Happening) → Tracks qos.now arrival.now.change.key h self.now
+            → result ≡ marks qos.now arrival.now.change.key h (Came arrival.now) }
     {
         let accepted = self.owners.accepted(qos, arrival);
         let last = first_there(accepted, self.last_accepted);
@@ -192,7 +194,7 @@ impl InstanceTrack {
         self.accepted_writes += count_if(is_write);
     }
 
-    /// Takes up a change of the instance, the entry of this position. It is the kind of the change, if that is accepted.
+    /// Takes up a change of the instance, the entry of this position, and gives its kind if it is accepted.
     pub fn change(
         &mut self,
         qos: &ReaderQos,
@@ -201,8 +203,10 @@ impl InstanceTrack {
     ) -> Option<ChangeKind>
         requires fits { Fits position self.old }
         ensures advances { Advances result position self.old self.new }
-        ensures accepted { (h : List Happening) → StandsFor self.old.owners qos.now arrival.now.change.key h → result ≡ accepted_kind qos.now arrival.now.change.key h (Came arrival.now) }
-        ensures came { (h : List Happening) → StandsFor self.old.owners qos.now arrival.now.change.key h → StandsFor self.new.owners qos.now arrival.now.change.key (Came arrival.now ∷ h) }
+        ensures accepted { (h : List Happening) → StandsFor self.old.owners qos.now arrival.now.change.key h
+            → result ≡ accepted_kind qos.now arrival.now.change.key h (Came arrival.now) }
+        ensures came { (h : List Happening) → StandsFor self.old.owners qos.now arrival.now.change.key h
+            → StandsFor self.new.owners qos.now arrival.now.change.key (Came arrival.now ∷ h) }
     {
         let before = self.state();
         let accepted = self.owners.accepted(qos, arrival);
@@ -215,7 +219,8 @@ impl InstanceTrack {
     pub fn bury(&mut self, writer: Handle, position: u64)
         requires fits { Fits position self.old }
         ensures advances { Advances None position self.old self.new }
-        ensures died { (q : ReaderQos) (i : Key) (h : List Happening) (moment : ℕ) → StandsFor self.old.owners q i h → StandsFor self.new.owners q i (Died writer moment ∷ h) }
+        ensures died { (q : ReaderQos) (i : Key) (h : List Happening) (moment : ℕ)
+            → StandsFor self.old.owners q i h → StandsFor self.new.owners q i (Died writer moment ∷ h) }
         ensures fewer { has_writers self.new.owners ≡ true → has_writers self.old.owners ≡ true }
     {
         let before = self.state();

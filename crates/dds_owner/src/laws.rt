@@ -12,24 +12,25 @@ ghost use Rattle.dds_base.specs.Happening.{same_key};
 ghost use Rattle.dds_base.specs.Ownership.{is_registered};
 ghost use Rattle.dds_owner.specs.Standing.{Kept, StandsFor};
 
-/// What stands for an instance of which nothing has come stands too for one of which nobody is registered, whatever happened.
+/// What stands for an instance of which nothing has come stands too for one of which nobody is registered,
+/// whatever happened.
 pub fn nobody_is_registered_anew()
     ensures { (kept : Kept) (q : ReaderQos) (i : Key) (h : List Happening) → StandsFor kept q i []
         → ((w : ℕ) → is_registered i w h ≡ false) → StandsFor kept q i h }
 {}
 
-/// What is neither a change of the instance nor a death says nothing of who is registered: what stood for all before stands
-/// for it too.
+/// What is neither a change of the instance nor a death says nothing of who is registered: what stood for all
+/// before stands for it too.
 pub fn other_entries_change_nothing()
     // A change of another instance came.
-    ensures came { (kept : Kept) (q : ReaderQos) (i : Key) (h : List Happening) (a : Arrival) → StandsFor kept q i h
-        → same_key a.change.key i ≡ false → StandsFor kept q i (Came a ∷ h) }
+    ensures came { (kept : Kept) (q : ReaderQos) (i : Key) (h : List Happening) (a : Arrival)
+        → StandsFor kept q i h → same_key a.change.key i ≡ false → StandsFor kept q i (Came a ∷ h) }
     // Changes were passed over.
     ensures passed { (kept : Kept) (q : ReaderQos) (i : Key) (h : List Happening) (w first last : ℕ)
         → StandsFor kept q i h → StandsFor kept q i (Passed w first last ∷ h) }
     // A writer was heard.
-    ensures heard { (kept : Kept) (q : ReaderQos) (i : Key) (h : List Happening) (w moment : ℕ) → StandsFor kept q i h
-        → StandsFor kept q i (Heard w moment ∷ h) }
+    ensures heard { (kept : Kept) (q : ReaderQos) (i : Key) (h : List Happening) (w moment : ℕ)
+        → StandsFor kept q i h → StandsFor kept q i (Heard w moment ∷ h) }
     // A read returned samples.
     ensures read { (kept : Kept) (q : ReaderQos) (i : Key) (h : List Happening) (samples : List SamplePosition)
         → StandsFor kept q i h → StandsFor kept q i (Read samples ∷ h) }

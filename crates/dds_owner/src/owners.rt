@@ -22,7 +22,8 @@ use std::marker::Model;
 
 /// Which of a reader's matched writers are registered for one instance, kept up with what happens there.
 ///
-/// A writer is registered from a write or a dispose of the instance, accepted or not, until its unregister or its death.
+/// A writer is registered from a write or a dispose of the instance, accepted or not, until its unregister or its
+/// death.
 ///
 /// DDS 1.4, 2.2.3 (OWNERSHIP, OWNERSHIP_STRENGTH), 2.2.2.4 (register_instance, unregister_instance).
 #[derive(Drop)]
@@ -40,8 +41,8 @@ impl Model for Owners {
 }
 
 impl Owners {
-    /// Of an instance of which nothing has come, where so many writers are matched. It has all the memory that it will
-    /// ever need.
+    /// Of an instance of which nothing has come, where so many writers are matched. It has all the memory that it
+    /// will ever need.
     ///
     /// # Errors
     ///
@@ -63,7 +64,8 @@ impl Owners {
     pub fn register(&mut self, writer: Handle)
         // A change of it came that does not unregister.
         ensures came { (q : ReaderQos) (h : List Happening) (a : Arrival) → StandsFor self.old q a.change.key h
-            → a.writer ≡ writer → is_unregister a.change.kind ≡ false → StandsFor self.new q a.change.key (Came a ∷ h) }
+            → a.writer ≡ writer → is_unregister a.change.kind ≡ false
+            → StandsFor self.new q a.change.key (Came a ∷ h) }
     {
         enter(&mut self.registrations, writer, true);
     }
@@ -74,7 +76,8 @@ impl Owners {
     pub fn unregister(&mut self, writer: Handle)
         // A change of it came that unregisters.
         ensures came { (q : ReaderQos) (h : List Happening) (a : Arrival) → StandsFor self.old q a.change.key h
-            → a.writer ≡ writer → is_unregister a.change.kind ≡ true → StandsFor self.new q a.change.key (Came a ∷ h) }
+            → a.writer ≡ writer → is_unregister a.change.kind ≡ true
+            → StandsFor self.new q a.change.key (Came a ∷ h) }
     {
         enter(&mut self.registrations, writer, false);
     }
@@ -94,8 +97,8 @@ impl Owners {
 
     /// The owner under EXCLUSIVE ownership, none where nobody is registered.
     ///
-    /// It is the registered writer of the greatest strength, and of equals the one whose sixteen GUID octets are the
-    /// smaller. Where two matched writers share a GUID, and both come first, there is none.
+    /// It is the registered writer of the greatest strength, and of equals the one whose sixteen GUID octets are
+    /// the smaller. Where two matched writers share a GUID, and both come first, there is none.
     ///
     /// DDS 1.4, 2.2.3 (OWNERSHIP, OWNERSHIP_STRENGTH).
     pub fn owner(&self, qos: &ReaderQos) -> Option<Handle>
@@ -116,8 +119,8 @@ impl Owners {
     /// DDS 1.4, 2.2.2.4 (register_instance, unregister_instance).
     pub fn is_registered(&self, writer: Handle) -> bool
         // It is so by the definitions.
-        ensures matched { (q : ReaderQos) (i : Key) (h : List Happening) → StandsFor self.now q i h → IsMatched q writer
-            → result ≡ is_registered i writer h }
+        ensures matched { (q : ReaderQos) (i : Key) (h : List Happening) → StandsFor self.now q i h
+            → IsMatched q writer → result ≡ is_registered i writer h }
         // A handle that names no writer names none that is registered.
         ensures unmatched { (q : ReaderQos) (i : Key) (h : List Happening) → StandsFor self.now q i h
             → (IsMatched q writer → ⊥) → result ≡ false }
@@ -152,8 +155,8 @@ impl Owners {
 
     /// The kind of a change of the instance, if it is accepted where it comes now.
     ///
-    /// Under SHARED ownership each write and each dispose is. Under EXCLUSIVE it is if its writer is the owner among
-    /// those that are registered and itself.
+    /// Under SHARED ownership each write and each dispose is. Under EXCLUSIVE it is if its writer is the owner
+    /// among those that are registered and itself.
     ///
     /// DDS 1.4, 2.2.3 (OWNERSHIP).
     pub fn accepted(&self, qos: &ReaderQos, arrival: &Arrival) -> Option<ChangeKind>

@@ -8,10 +8,10 @@ use dds_base::{
 use dds_owner::Owners;
 use std::alloc::Global;
 
-/// `open` begins anew, with the strength of each matched writer, and after a dot the last octet of its GUID. `register`,
-/// `unregister` and `drop` have a writer: who owns then, which `owner` tells too; 0 is nobody. `registered` has a writer,
-/// `accepts` and `leaves` a writer and a kind: whether its change would be accepted, and whether anybody would be
-/// registered then.
+/// `open` begins anew, with the strength of each matched writer, and after a dot the octet by which its GUID differs.
+/// `register`, `unregister` and `drop` have a writer: who owns then, 0 for nobody. `registered` has a writer, `anybody`
+/// nothing, `accepts` and `leaves` a writer and a kind: whether its change would be accepted, and whether anybody would
+/// be registered then.
 const OWNERS: &str = "\
 # Nobody is registered before anything came, and nobody owns.
 open 5.2 9.3 5.1 5.1 => 0
