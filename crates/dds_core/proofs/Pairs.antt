@@ -1,4 +1,4 @@
--- A writer and a reader that it is matched with, by what a peer keeps.
+-- A writer and a reader that it is matched with, and the place of a reader, by what a peer keeps.
 use Rattle.std.proofs.Common.{◌≡◌, ℕ, ℤ, zero, suc, ◌+◌, ◌-◌, ◌<◌, ◌≤◌, ◌==◌, Bool, true, false, cond, List, [], ◌∷◌, Option, Some, None, map, length, get_or, slice_get, refl, ap, sym, ◌∙◌, subst, arith, eq-eqb}
 use Rattle.std.specs.Prelude.{◌&&◌, nat_lt, nat_le, IsSome, slice_index}
 use Rattle.std.specs.Option.{option_map, option_map_or}
@@ -8,37 +8,30 @@ use Rattle.dds_base.specs.declared.config.Config.{Config}
 use Rattle.dds_base.specs.declared.config.PeerConfig.{PeerConfig}
 use Rattle.dds_base.specs.declared.config.ReaderConfig.{ReaderConfig}
 use Rattle.dds_base.specs.declared.guid.EntityId.{EntityId}
+use Rattle.rtps_reader.specs.Tracked.{Tracked}
 use Rattle.dds_model.specs.declared.endpoint.Endpoint.{Endpoint}
 use Rattle.dds_model.specs.Claims.{every_reader}
-use Rattle.dds_model.specs.Part.{ReaderProxy, Writer, no_writer, same_endpoint, row_of, acknowledged_of, is_reader_behind, writer_changes}
+use Rattle.dds_model.specs.Part.{ReaderProxy, Writer, WriterProxy, no_writer, own_proxies, same_endpoint, row_of, acknowledged_of, is_reader_behind, place_of, writer_changes}
 use Rattle.dds_model.specs.Peer.{Peer}
 use Rattle.dds_model.specs.Protocol.{writer_entity}
 use Rattle.dds_model.proofs.Tables.{same_is}
 use Rattle.dds_core.specs.declared.matching.ReaderName.{ReaderName}
+use Rattle.dds_core.specs.declared.matching.WriterName.{WriterName}
 use Rattle.dds_core.specs.declared.pairing.Pair.{Pair}
-use Rattle.dds_core.specs.Kept.{CoreKept, WriterKept}
+use Rattle.dds_core.specs.Kept.{CoreKept, ReaderKept, WriterKept}
 use Rattle.dds_core.specs.Matching.{reader_name, reader_names}
 use Rattle.dds_core.specs.Pairs.{IsPair, reader_entity}
-use Rattle.dds_core.specs.Standing.{StandsFor, WriterStands, IsFirstReader}
+use Rattle.dds_core.specs.Receiving.{IsPlaceAt}
+use Rattle.dds_core.specs.Standing.{StandsFor, WriterStands, IsFirstReader, IsFirstRow}
 use Rattle.dds_core.proofs.BeatsDue.{writer_named, readers_named}
 use Rattle.dds_core.proofs.Lists.{get-map, map-get}
 use Rattle.dds_core.proofs.Numbered.{is_told}
+use Rattle.dds_core.proofs.Rows.{IsFirstOf, is_first_of, no_row, place_there, proxied}
 
 -- rows of matched readers
 
 abbrev reader_of : ReaderProxy → Endpoint
 reader_of p = p.reader
-
--- a reader that no row is of
-not_first : (b : Bool) (r : ReaderProxy) (rs : List ReaderProxy) (reader : Endpoint) → same_endpoint r.reader reader ≡ b → (r.reader ≡ reader → ⊥) → acknowledged_of rs reader ≡ None
-    → option_map (λ (p : ReaderProxy). p.acknowledged) (cond b (Some r) (row_of reader_of rs reader)) ≡ None
-not_first true r rs reader is other rest = absurd (other (same_is r.reader reader is))
-not_first false r rs reader is other rest = rest
-
-no_row : (rows : List ReaderProxy) (reader : Endpoint) → ((j : ℕ) → slice_get (map reader_of rows) j ≡ Some reader → ⊥) → acknowledged_of rows reader ≡ None
-no_row [] reader none = refl
-no_row (r ∷ rs) reader none =
-    not_first (same_endpoint r.reader reader) r rs reader refl (λ same. none zero (ap (λ (e : Endpoint). Some e) same)) (no_row rs reader (λ j at. none (suc j) at))
 
 -- a reader that a row is of
 same_itself : (e : Endpoint) → same_endpoint e e ≡ true
@@ -72,12 +65,12 @@ behind_at (r ∷ rs) reader (suc k) last at first =
     (λ same. first zero (omega arith) (ap (λ (e : Endpoint). Some e) same))
     (behind_at rs reader k last at (λ j low there. first (suc j) (omega (arith, low)) there))
 
--- no writer has this number
+-- no writer has this number, or no reader
 
-past_end : (ws : List Writer) (n : ℕ) → length ws ≤ n → get_or ws n no_writer ≡ no_writer
-past_end [] n past = refl
-past_end (w ∷ ws) zero past = absurd (omega (arith, past))
-past_end (w ∷ ws) (suc n) past = past_end ws n (omega (arith, past))
+past_end : {X : Type 0} (xs : List X) (n : ℕ) (none : X) → length xs ≤ n → get_or xs n none ≡ none
+past_end [] n none past = refl
+past_end (x ∷ xs) zero none past = absurd (omega (arith, past))
+past_end (x ∷ xs) (suc n) none past = past_end xs n none (omega (arith, past))
 
 past_last : (n count : ℕ) → (nat_lt 0 (suc n) && nat_le (suc n) count) ≡ false → count ≤ n
 past_last n count none = grind (arith, nat_tests, none)
@@ -87,7 +80,15 @@ no_writer_pair kept zero reader none config peer s = refl
 no_writer_pair kept (suc n) reader none config peer s =
     let count = s.writers.count in
     let past = past_last n (length kept.writers) none in
-    ap (λ (w : Writer). acknowledged_of w.readers reader) (past_end peer.part.rtps.writers n (omega (arith, count, past)))
+    ap (λ (w : Writer). acknowledged_of w.readers reader) (past_end peer.part.rtps.writers n no_writer (omega (arith, count, past)))
+
+pub no_reader_place : (kept : CoreKept) (number : ℕ) (writer : Endpoint) → (nat_lt 0 number && nat_le number (length kept.readers)) ≡ false
+    → (config : Config) (peer : Peer) → StandsFor kept config peer → None ≡ place_of (own_proxies peer.part number) writer
+no_reader_place kept zero writer none config peer s = refl
+no_reader_place kept (suc n) writer none config peer s =
+    let rows = s.readers.rows in
+    let past = past_last n (length kept.readers) none in
+    sym (ap (λ (ps : List WriterProxy). place_of ps writer) (past_end peer.part.rtps.readers n [] (omega (arith, rows, past))))
 
 -- a writer has this number, and the reader is one of its matched readers, or is not
 
@@ -97,10 +98,11 @@ not_among kept i number k reader is at none config peer s =
     let w : Writer = get_or peer.part.rtps.writers i no_writer in
     let rows = (s.writers.each i k at).readers in
     let nobody : acknowledged_of w.readers reader ≡ None =
-    no_row w.readers reader
+    ap (λ (o : Option ReaderProxy). option_map (λ (p : ReaderProxy). p.acknowledged) o)
+    (no_row reader_of w.readers reader
     (λ j there.
     let f = get-map (λ (r : ReaderName). r.reader) k.readers j reader (subst (λ (es : List Endpoint). slice_get es j ≡ Some reader) rows there) in
-    none j f.0 f.1 f.2) in
+    none j f.0 f.1 f.2)) in
     let next : suc i ≡ number = omega (arith, is) in
     subst (λ (m : ℕ). IsPair config peer m reader None) next nobody
 
@@ -113,14 +115,17 @@ named_reader config topic j n at =
     subst (λ (x : ReaderName). x.guid.entity ≡ reader_entity config x.reader.peer x.reader.number) t.told (sym configured)
 
 -- a pair, by what the peer keeps of the writer
-abbrev pair_of : WriterKept → EntityId → Bool → Pair
-pair_of k entity behind = record { writer = k.entity; reader = entity; is_behind = behind }
+abbrev pair_of : WriterKept → EntityId → Bool → ℕ → Pair
+pair_of k entity behind last = record { writer = k.entity; reader = entity; is_behind = behind; last = last }
 
-pub is_among : (kept : CoreKept) (i number : ℕ) (k : WriterKept) (reader : Endpoint) (row : ℕ) (behind : Bool) → number ≡ i + 1 → slice_get kept.writers i ≡ Some k
+pub is_among : (kept : CoreKept) (i number : ℕ) (k : WriterKept) (reader : Endpoint) (row : ℕ) (behind : Bool) (last : ℕ)
+    → number ≡ i + 1 → slice_get kept.writers i ≡ Some k
     → (f : IsFirstReader k.readers reader row)
     → ((w : Writer) (answered : Endpoint → Option ℤ) → WriterStands k w answered → behind ≡ nat_le (slice_index (map (λ (p : ReaderProxy). p.acknowledged) w.readers) row) (length (writer_changes w)))
-    → (config : Config) (peer : Peer) → StandsFor kept config peer → IsPair config peer number reader (Some (pair_of k f.name.guid.entity behind))
-is_among kept i number k reader row behind is at f is_behind config peer s =
+    → ((w : Writer) (answered : Endpoint → Option ℤ) → WriterStands k w answered → last ≡ length (writer_changes w))
+    → (config : Config) (peer : Peer) → StandsFor kept config peer
+    → IsPair config peer number reader (Some (pair_of k f.name.guid.entity behind last))
+is_among kept i number k reader row behind last is at f is_behind is_last config peer s =
     let w : Writer = get_or peer.part.rtps.writers i no_writer in
     let stands = s.writers.each i k at in
     let rows = stands.readers in
@@ -137,5 +142,38 @@ is_among kept i number k reader row behind is at f is_behind config peer s =
     let far : f.name.guid.entity ≡ reader_entity config reader.peer reader.number =
     subst (λ (e : Endpoint). f.name.guid.entity ≡ reader_entity config e.peer e.number) f.is (named_reader config names.0 row f.name (subst (λ (ns : List ReaderName). slice_get ns row ≡ Some f.name) names.1 f.at)) in
     let still : behind ≡ is_reader_behind w reader = is_behind w (peer.known.answered (suc i)) stands ∙ sym (behind_at w.readers reader row (length (writer_changes w)) there none) in
-    let pair : IsPair config peer (suc i) reader (Some (pair_of k f.name.guid.entity behind)) = (some_row w.readers reader row there, own, far, still) in
-    subst (λ (m : ℕ). IsPair config peer m reader (Some (pair_of k f.name.guid.entity behind))) next pair
+    let made : last ≡ length (writer_changes w) = is_last w (peer.known.answered (suc i)) stands in
+    let pair : IsPair config peer (suc i) reader (Some (pair_of k f.name.guid.entity behind last)) = (some_row w.readers reader row there, own, far, still, made) in
+    subst (λ (m : ℕ). IsPair config peer m reader (Some (pair_of k f.name.guid.entity behind last))) next pair
+
+-- a reader has this number, and the writer is one of its matched writers, or is not
+
+pub no_place : (kept : CoreKept) (i number : ℕ) (k : ReaderKept) (writer : Endpoint) → number ≡ i + 1 → slice_get kept.readers i ≡ Some k
+    → ((j : ℕ) (n : WriterName) → slice_get k.writers j ≡ Some n → n.writer ≡ writer → ⊥)
+    → (config : Config) (peer : Peer) → StandsFor kept config peer → None ≡ place_of (own_proxies peer.part number) writer
+no_place kept i number k writer is at none config peer s =
+    let proxies : List WriterProxy = get_or peer.part.rtps.readers i [] in
+    let names = (s.readers.each i k at).writers_are in
+    let nobody : place_of proxies writer ≡ None =
+    ap (λ (o : Option WriterProxy). option_map (λ (p : WriterProxy). p.place) o)
+    (no_row (λ (p : WriterProxy). p.writer) proxies writer
+    (λ j there.
+    let same = subst (λ (es : List Endpoint). slice_get es j ≡ Some writer) names there in
+    let f = get-map (λ (n : WriterName). n.writer) k.writers j writer same in
+    none j f.0 f.1 f.2)) in
+    let next : suc i ≡ number = omega (arith, is) in
+    subst (λ (m : ℕ). None ≡ place_of (own_proxies peer.part m) writer) next (sym nobody)
+
+pub place_found : (kept : CoreKept) (i number : ℕ) (k : ReaderKept) (writer : Endpoint) (row place : ℕ) → number ≡ i + 1
+    → slice_get kept.readers i ≡ Some k → IsFirstRow k.writers writer row → ((t : Tracked) → IsPlaceAt k row t place)
+    → (config : Config) (peer : Peer) → StandsFor kept config peer → Some place ≡ place_of (own_proxies peer.part number) writer
+place_found kept i number k writer row place is at first is_place config peer s =
+    let proxies : List WriterProxy = get_or peer.part.rtps.readers i [] in
+    let stands = s.readers.each i k at in
+    let here : IsFirstOf (proxied proxies) writer row =
+    subst (λ (es : List Endpoint). IsFirstOf es writer row) (sym stands.writers_are) (is_first_of k.writers writer row first) in
+    let there = place_there proxies writer row here in
+    let known : place ≡ there.0 =
+    is_place (peer.known.tracked writer (suc i)) (stands.knows writer row first) ∙ stands.places writer there.0 there.1 in
+    let next : suc i ≡ number = omega (arith, is) in
+    subst (λ (m : ℕ). Some place ≡ place_of (own_proxies peer.part m) writer) next (ap (λ (n : ℕ). Some n) known ∙ sym there.1)

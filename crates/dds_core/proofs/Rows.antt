@@ -1,5 +1,5 @@
 -- A reader's matched writers, of which the first of an endpoint is looked for.
-use Rattle.std.proofs.Common.{◌≡◌, ℕ, zero, suc, ◌+◌, ◌<◌, Bool, true, false, cond, List, [], ◌∷◌, Option, Some, map, slice_get, refl, ap, sym, ◌∙◌, arith}
+use Rattle.std.proofs.Common.{◌≡◌, ℕ, zero, suc, ◌+◌, ◌<◌, Bool, true, false, cond, List, [], ◌∷◌, Option, Some, None, map, slice_get, refl, ap, sym, ◌∙◌, arith}
 use Rattle.std.specs.Option.{option_map}
 use Rattle.std.proofs.lemmas.Option.{same_Some}
 use Rattle.dds_model.specs.declared.endpoint.Endpoint.{Endpoint}
@@ -45,6 +45,19 @@ hit false x y h = absurd cc
 miss : {X : Type 0} (b : Bool) (x y : X) → b ≡ false → cond b x y ≡ y
 miss true x y h = absurd cc
 miss false x y h = refl
+
+-- an end that no row is of
+not_first : {X : Type 0} (name : X → Endpoint) (b : Bool) (x : X) (xs : List X) (e : Endpoint) → same_endpoint (name x) e ≡ b → (name x ≡ e → ⊥)
+    → row_of name xs e ≡ None → cond b (Some x) (row_of name xs e) ≡ None
+not_first name true x xs e is other rest = absurd (other (same_is (name x) e is))
+not_first name false x xs e is other rest = rest
+
+pub no_row : {X : Type 0} (name : X → Endpoint) (rows : List X) (e : Endpoint) → ((j : ℕ) → slice_get (map name rows) j ≡ Some e → ⊥)
+    → row_of name rows e ≡ None
+no_row name [] e none = refl
+no_row name (x ∷ xs) e none =
+    not_first name (same_endpoint (name x) e) x xs e refl (λ same. none zero (ap (λ (d : Endpoint). Some d) same))
+    (no_row name xs e (λ j at. none (suc j) at))
 
 -- its publication handle
 handle_from : (proxies : List WriterProxy) (e : Endpoint) (k n : ℕ) → IsFirstOf (proxied proxies) e k → publication_from n proxies e ≡ Some (n + k)

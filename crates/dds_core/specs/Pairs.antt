@@ -1,5 +1,5 @@
 -- A writer of a peer and a reader that it is matched with, by their entity ids (RTPS 2.5, 8.2.4, 8.4.7).
-use Rattle.std.specs.Prelude.{◌≡◌, ℕ, ◌-◌, slice_get, IsSome, Option, Some, None}
+use Rattle.std.specs.Prelude.{◌≡◌, ℕ, ◌-◌, length, slice_get, IsSome, Option, Some, None}
 use Rattle.std.specs.Option.{option_map_or}
 use Rattle.dds_base.specs.declared.config.Config.{Config}
 use Rattle.dds_base.specs.declared.config.PeerConfig.{PeerConfig}
@@ -7,7 +7,7 @@ use Rattle.dds_base.specs.declared.config.ReaderConfig.{ReaderConfig}
 use Rattle.dds_base.specs.declared.guid.EntityId.{EntityId}
 use Rattle.dds_model.specs.declared.endpoint.Endpoint.{Endpoint}
 use Rattle.dds_model.specs.Claims.{every_reader}
-use Rattle.dds_model.specs.Part.{own_writer, acknowledged_of, is_reader_behind}
+use Rattle.dds_model.specs.Part.{own_writer, acknowledged_of, is_reader_behind, writer_changes}
 use Rattle.dds_model.specs.Peer.{Peer}
 use Rattle.dds_model.specs.Protocol.{writer_entity}
 use Rattle.dds_core.specs.declared.pairing.Pair.{Pair}
@@ -16,11 +16,12 @@ use Rattle.dds_core.specs.declared.pairing.Pair.{Pair}
 abbrev pub reader_entity : Config → ℕ → ℕ → EntityId
 reader_entity config peer number = option_map_or (λ (p : PeerConfig). option_map_or (λ (r : ReaderConfig). r.entity) (slice_get p.readers (number - 1)) every_reader) (slice_get config.peers (peer - 1)) every_reader
 
--- the peer's writer is matched with the reader, these are their entity ids, and the reader is behind exactly so; or they are
--- not matched
+-- the peer's writer is matched with the reader, these are their entity ids, the reader is behind exactly so, and the writer has
+-- made so many changes; or they are not matched
 abbrev pub IsPair : Config → Peer → ℕ → Endpoint → Option Pair → Type 0
 IsPair config peer writer reader None = acknowledged_of (own_writer peer.part writer).readers reader ≡ None
 IsPair config peer writer reader (Some pair) =
     IsSome (acknowledged_of (own_writer peer.part writer).readers reader)
     × (pair.writer ≡ writer_entity config peer.number writer) × (pair.reader ≡ reader_entity config reader.peer reader.number)
     × (pair.is_behind ≡ is_reader_behind (own_writer peer.part writer) reader)
+    × (pair.last ≡ length (writer_changes (own_writer peer.part writer)))

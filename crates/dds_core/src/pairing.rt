@@ -1,16 +1,19 @@
-//! What a network may ask of a peer: its moment, and by which entity ids a writer of it and a matched reader go.
+//! What a network may ask of a peer: its moment, by which entity ids a writer of it and a matched reader go, and the place
+//! of a reader of it.
 
 ghost use Rattle.std.specs.Prelude.{◌≡◌, ℕ, slice_get, Some, MatchOption};
 ghost use Rattle.dds_base.specs.declared.config.Config.{Config};
+ghost use Rattle.dds_model.specs.Part.{own_proxies, place_of};
 ghost use Rattle.dds_model.specs.Peer.{Peer};
 ghost use Rattle.dds_core.specs.declared.matching.ReaderName.{ReaderName as NameOf};
+ghost use Rattle.dds_core.specs.declared.matching.WriterName.{WriterName as WriterNameOf};
 ghost use Rattle.dds_core.specs.Pairs.{IsPair};
-ghost use Rattle.dds_core.specs.Standing.{StandsFor, IsFirstReader};
+ghost use Rattle.dds_core.specs.Standing.{StandsFor, IsFirstReader, IsFirstRow};
 
 use crate::calls::index_of;
-use crate::matching::ReaderName;
+use crate::matching::{ReaderName, WriterName};
 use crate::peer::Core;
-use dds_base::{EntityId, Moment};
+use dds_base::{EntityId, Moment, Sn};
 use dds_model::Endpoint;
 
 /// A writer and a reader that it is matched with, by their entity ids.
@@ -20,6 +23,8 @@ pub struct Pair {
     pub reader: EntityId,
     /// Whether the reader has not acknowledged all changes of the writer.
     pub is_behind: bool,
+    /// The number of the writer's last change; 0 before the first.
+    pub last: Sn,
 }
 
 /// The first row of this reader, if it is among these.
@@ -36,6 +41,20 @@ fn row_among(names: &[ReaderName], reader: Endpoint) -> Option<usize>
     None
 }
 
+/// The first row of this writer, if it is among these.
+fn writer_row_among(names: &[WriterName], writer: Endpoint) -> Option<usize>
+    ensures { MatchOption result
+        ((k : ℕ) (n : WriterNameOf) → slice_get names.now k ≡ Some n → n.writer ≡ writer → ⊥)
+        (IsFirstRow names.now writer) }
+{
+    for (row, name) in names.iter().enumerate() {
+        if name.writer == writer {
+            return Some(row);
+        }
+    }
+    None
+}
+
 impl Core {
     /// The peer's moment: 0, or that of the last tick that was done.
     pub fn moment(&self) -> Moment
@@ -46,13 +65,13 @@ impl Core {
         self.moment
     }
 
-    /// The writer of this number and a reader, by their entity ids, and whether the reader is behind; `None` where they are
-    /// not matched, or where there are no such ends.
+    /// The writer of this number and a reader, by their entity ids, whether the reader is behind, and the number of the
+    /// writer's last change; `None` where they are not matched, or where there are no such ends.
     ///
     /// RTPS 2.5, 8.4.7 (StatefulWriter, matched_readers), 8.4.9 (ReaderProxy, unacked_changes).
     pub fn pair(&self, writer: u8, reader: Endpoint) -> Option<Pair>
         // They are matched exactly if a pair is found, and the ids are those of the configuration; the reader is behind
-        // exactly where it has not acknowledged some change.
+        // exactly where it has not acknowledged some change, and the last number is how many changes the writer has made.
         ensures pair { (config : Config) (peer : Peer) → StandsFor self.now config peer
             → IsPair config peer writer reader result }
     {
@@ -67,6 +86,26 @@ impl Core {
             writer: end.entity(),
             reader: end.readers()[row].guid.entity,
             is_behind: end.is_behind(row),
+            last: end.last(),
         })
+    }
+
+    /// The place of the reader of this number at a writer: the number of the change that it has next, from 1; `None` where
+    /// they are not matched, or where there are no such ends.
+    ///
+    /// RTPS 2.5, 8.4.10 (StatefulReader, WriterProxy).
+    pub fn place(&self, reader: u8, writer: Endpoint) -> Option<Sn>
+        // It is the place in each state that the peer stands for, and there is one exactly if they are matched.
+        ensures place { (config : Config) (peer : Peer) → StandsFor self.now config peer
+            → result ≡ place_of (own_proxies peer.part reader) writer }
+    {
+        let Some(index) = index_of(reader, self.readers.len()) else {
+            return None;
+        };
+        let end = &self.readers[index];
+        let Some(row) = writer_row_among(end.writers(), writer) else {
+            return None;
+        };
+        Some(end.place(row))
     }
 }

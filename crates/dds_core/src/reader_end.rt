@@ -137,6 +137,13 @@ impl ReaderEnd {
         self.entity
     }
 
+    /// The writers that it is matched with, by their names.
+    pub fn writers(&self) -> &[WriterName]
+        ensures { result.now ≡ self.now.writers }
+    {
+        self.writers.as_slice()
+    }
+
     /// The writer of this row.
     pub fn writer(&self, row: usize) -> WriterName
         requires { row < length self.now.writers }

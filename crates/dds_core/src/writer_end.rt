@@ -121,6 +121,14 @@ impl WriterEnd {
         self.writer.is_behind(row)
     }
 
+    /// The number of its last change; 0 before the first.
+    pub fn last(&self) -> Sn
+        ensures { (w : Writer) (answered : EndpointOf → Option ℤ) → WriterStands self.now w answered
+            → result ≡ length (writer_changes w) }
+    {
+        self.writer.last()
+    }
+
     /// Whether it has registered the instance.
     pub fn is_registered(&self, key: Key) -> bool
         ensures { (w : Writer) (answered : EndpointOf → Option ℤ) → WriterStands self.now w answered → result ≡ is_key_registered key w.written }

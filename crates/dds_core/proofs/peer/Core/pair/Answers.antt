@@ -1,16 +1,8 @@
-use Rattle.std.proofs.Common.{◌≡◌, ◌<◌, ℕ, ℤ, Bool, List, [], Option, Some, length, map, slice_get, get_or, sym, ◌∙◌, ap, subst, rules}
-use Rattle.std.specs.Prelude.{nat_le, slice_index}
+use Rattle.std.proofs.Common.{◌≡◌, ◌<◌, List, [], Some, length, slice_get, get_or, sym, ◌∙◌, ap, subst, rules}
 use Rattle.std.proofs.lemmas.Option.{same_Some, slice_get-get_or}
-use Rattle.dds_base.specs.declared.config.Config.{Config}
-use Rattle.dds_base.specs.declared.guid.EntityId.{EntityId}
-use Rattle.dds_model.specs.declared.endpoint.Endpoint.{Endpoint}
-use Rattle.dds_model.specs.Part.{ReaderProxy, Writer, writer_changes}
-use Rattle.dds_model.specs.Peer.{Peer}
 use Rattle.dds_core.specs.declared.matching.ReaderName.{ReaderName}
-use Rattle.dds_core.specs.declared.pairing.Pair.{Pair}
 use Rattle.dds_core.specs.Kept.{WriterKept, CoreKept}
-use Rattle.dds_core.specs.Pairs.{IsPair}
-use Rattle.dds_core.specs.Standing.{StandsFor, IsFirstReader, WriterStands}
+use Rattle.dds_core.specs.Standing.{StandsFor, IsFirstReader}
 use Rattle.dds_core.proofs.Pairs.{not_among, is_among}
 use Rattle.dds_core.proofs.peer.Core.pair.Goals as goal
 
@@ -42,6 +34,6 @@ returns c = record {
       let name : get_or c.readers-2.result.now row no_name ≡ first.name =
       ap (λ (ns : List ReaderName). get_or ns row no_name) c.readers-2.ensures
       ∙ same_Some (get_or k.readers row no_name) first.name (sym (slice_get-get_or k.readers row no_name first.within) ∙ first.at) in
-      let pair = is_among _ i c.args.writer k c.args.reader row c.is_behind.result c.in-Some.ensures.0 at first c.is_behind.ensures.behind config peer s in
-      (pair.0, c.entity.ensures ∙ pair.1, ap (λ (n : ReaderName). n.guid.entity) name ∙ pair.2, pair.3);
+      let pair = is_among _ i c.args.writer k c.args.reader row c.is_behind.result c.last.result c.in-Some.ensures.0 at first c.is_behind.ensures.behind c.last.ensures config peer s in
+      (pair.0, c.entity.ensures ∙ pair.1, ap (λ (n : ReaderName). n.guid.entity) name ∙ pair.2, pair.3, pair.4);
 }
