@@ -1,6 +1,6 @@
 -- A round by its stages: after it the reader has caught up, unless something hindered it.
-use Rattle.std.proofs.Common.{◌≡◌, ◌⊎◌, ℕ, ℤ, zero, suc, ◌+◌, ◌-◌, ◌^◌, ◌<◌, ◌≤◌, min, Bool, true, false, List, [], ◌∷◌, ◌++◌}
-use Rattle.std.proofs.Common.{Option, Some, None, Contains, map, length, slice_get, is_some}
+use Rattle.std.proofs.Common.{◌≡◌, ◌⊎◌, ℕ, ℤ, ◌+◌, ◌-◌, ◌^◌, ◌<◌, ◌≤◌, min, Bool, true, false, List, [], ◌∷◌, ◌++◌}
+use Rattle.std.proofs.Common.{Option, Some, None, Contains, map, length, slice_get}
 use Rattle.std.proofs.Common.{refl, subst, ap, sym, ◌∙◌, inl, inr, ⊎_elim, arith, length-append}
 use Rattle.std.specs.Prelude.{IsSome, nat_le}
 use Rattle.std.proofs.lemmas.Bool.{cases_lt}
@@ -11,7 +11,7 @@ use Rattle.dds_base.specs.declared.config.ReaderConfig.{ReaderConfig}
 use Rattle.dds_base.specs.declared.guid.EntityId.{EntityId}
 use Rattle.dds_base.specs.declared.guid.GuidPrefix.{GuidPrefix}
 use Rattle.dds_base.specs.Kept.{numbers_from}
-use Rattle.std.specs.Option.{option_map_or}
+use Rattle.std.specs.Option.{option_map_or, unwrap_or}
 use Rattle.rtps_wire.specs.declared.seek.Sought.{Sought}
 use Rattle.rtps_wire.specs.declared.seek.Sought.TheVariants as sought
 use Rattle.rtps_wire.specs.Sought.{Has}
@@ -26,11 +26,11 @@ use Rattle.dds_model.specs.Dues.{IsPartOf}
 use Rattle.dds_model.specs.Fresh.{HasHeartbeat, HasAckNack, heartbeats_used_at, acknacks_used_at}
 use Rattle.dds_model.specs.Machine.{no_tests, place_at, writer_at}
 use Rattle.dds_model.specs.Numbered.{numbered, HasNumber}
-use Rattle.dds_model.specs.Part.{Part, Reader, ReaderProxy, Writer, WriterProxy, NoLess, IsAtMost, own_writer, own_proxies, acknowledged_of, place_of, writer_changes}
+use Rattle.dds_model.specs.Part.{Part, Reader, ReaderProxy, Writer, WriterProxy, NoLess, IsAtMost, own_writer, acknowledged_of, place_of, writer_changes}
 use Rattle.dds_model.specs.Protocol.{Known, writer_entity}
 use Rattle.dds_model.specs.Repair.{AsksInRound, BeginsRound, Delivers, DeliversAll, HasCaughtUp, IsRepairRound, StandsAt}
 use Rattle.dds_model.specs.Rules.{RuledStep, RuledRun}
-use Rattle.dds_model.specs.World.{WorldState, WorldStep, peer_at, machine_of}
+use Rattle.dds_model.specs.World.{WorldState, peer_at, machine_of}
 use Rattle.dds_model.proofs.PairAsked.{has_writer}
 use Rattle.dds_model.proofs.PairAsks.{asks_found}
 use Rattle.dds_model.proofs.PairBeats.{beats_are_sent}
@@ -45,10 +45,10 @@ use Rattle.dds_world.specs.declared.round.Matched.{Matched}
 use Rattle.dds_world.specs.declared.round.Round.{Round}
 use Rattle.dds_world.specs.declared.round.RoundReply.{RoundReply}
 use Rattle.dds_world.specs.Repairing.{Knows, IsKnown, Answering, Acknowledging, Beating}
-use Rattle.dds_world.specs.Round.{IsHindered, IsStep, AreSteps, IsTo, HasNone, IsFirst, Rounds, answers_at, is_whole, are_whole, replies_of}
+use Rattle.dds_world.specs.Round.{IsHindered, has_unsent, IsStep, AreSteps, IsTo, HasNone, IsFirst, Rounds, answers_at, is_whole, are_whole, replies_of}
 use Rattle.dds_world.specs.WorldStanding.{WorldKept, StandsFor}
-use Rattle.dds_world.proofs.Caught.{CoreAt, core_at, place_known, few_changes, went, sent_by, whole_tick, delivers, both_are, Ran, ran, unsent_on, none_lost, deliver_all, later_packet, among_none, get_later}
-use Rattle.dds_world.proofs.Rounds.{acks_steps, beats_steps, round_is}
+use Rattle.dds_world.proofs.Caught.{CoreAt, core_at, place_known, few_changes, places_after, unsent_shown, went, sent_by, whole_tick, delivers, both_are, Ran, ran, unsent_on, none_lost, deliver_all, later_packet, among_none, get_later}
+use Rattle.dds_world.proofs.Rounds.{IsPlace, acks_steps, beats_steps, round_is}
 use Rattle.dds_world.proofs.RunSteps.{Went, runs_so}
 
 -- ---- what is known at the beginning
@@ -140,13 +140,22 @@ few t =
 -- ---- what a round ends with
 
 -- what the round answers
-abbrev pub answer_of : Matched → List RoundReply → Round
-answer_of m replies = record { replies = replies; was_behind = m.pair.is_behind }
+abbrev pub answer_of : WorldKept → Matched → ℕ → ℕ → List RoundReply → Round
+answer_of old m from to replies = record {
+  replies = replies;
+  was_behind = m.pair.is_behind;
+  unsent_before = old.unsent;
+  last = m.pair.last;
+  from = from;
+  to = to;
+}
 
+-- what hindered it is shown without the place after it
 abbrev EndsSo : Config → WorldState → WorldKept → Matched → ℕ → List WorldEvent → List RoundReply → WorldKept → Type 0
 EndsSo config network old m place events replies new =
     (after : WorldState) × RuledRun config no_tests network old.unsent events (replies_of replies) after new.unsent × StandsFor new config after
-    × (IsHindered network m.writer m.reader old (answer_of m replies) new ⊎ HasCaughtUp after m.writer m.reader place (length (writer_changes (writer_at (machine_of network) m.writer))))
+    × (IsHindered network m.writer m.reader (answer_of old m place place replies)
+    ⊎ HasCaughtUp after m.writer m.reader place (length (writer_changes (writer_at (machine_of network) m.writer))))
 
 abbrev Ends : Tick → List WorldEvent → List RoundReply → WorldKept → Type 0
 Ends t events replies new = EndsSo t.config t.network t.old t.m t.place events replies new
@@ -484,17 +493,6 @@ after_ticking t events replies new whole same more next =
 
 -- ---- the round
 
--- the place of a matched reader is known
-place_of_matched : (old : WorldKept) (config : Config) (network : WorldState) (m : Matched) → StandsFor old config network → Knows config network m → (place : ℕ) × (place_at (machine_of network) m.reader m.writer ≡ Some place)
-place_of_matched old config network m s known =
-    let a = some_is (acknowledged_of (writer_at (machine_of network) m.writer).readers m.reader) known.matched in
-    known_of (place_at (machine_of network) m.reader m.writer) a.0
-    (subst (λ (o : Option ℕ). NoLess o (place_at (machine_of network) m.reader m.writer)) a.1 (s.sound.acknowledged m.writer m.reader))
-  where
-    known_of : (o : Option ℕ) (a : ℕ) → IsAtMost a o → (place : ℕ) × (o ≡ Some place)
-    known_of (Some place) a h = (place, refl)
-    known_of None a h = absurd h
-
 ends : (old : WorldKept) (m : Matched) (ticked : RoundReply) (mid : WorldKept) (events : List WorldEvent) (replies : List RoundReply) (new : WorldKept) → IsKnown old m
     → IsStep old (world.Tick m.writer.peer m.moment) ticked mid → Beating m (length old.sent) mid events replies new
     → (config : Config) (network : WorldState) (place : ℕ) → StandsFor old config network → place_at (machine_of network) m.reader m.writer ≡ Some place
@@ -507,7 +505,7 @@ ends old m ticked mid events replies new known tick beats config network place s
     w : Went config network old (world.Tick m.writer.peer m.moment) ticked.reply mid
     w = went config network old (world.Tick m.writer.peer m.moment) ticked mid tick s
 
-    hindered : IsHindered network m.writer m.reader old (answer_of m (ticked ∷ replies)) new
+    hindered : IsHindered network m.writer m.reader (answer_of old m place place (ticked ∷ replies))
         → EndsSo config network old m place (world.Tick m.writer.peer m.moment ∷ events) (ticked ∷ replies) new
     hindered why =
         let r = ran config network old (world.Tick m.writer.peer m.moment ∷ events) (ticked ∷ replies) new (mid, tick, steps) s in
@@ -537,38 +535,64 @@ ends old m ticked mid events replies new known tick beats config network place s
         } in
         after_ticking t events replies new all.1 same one beats
 
+    all_sent : are_whole (ticked ∷ replies) ≡ true → (b : Bool) → has_unsent old.unsent (ticked ∷ replies) ≡ b
+        → EndsSo config network old m place (world.Tick m.writer.peer m.moment ∷ events) (ticked ∷ replies) new
+    all_sent whole true e = hindered (inr (inl e))
+    all_sent whole false e =
+        let all : List WorldEvent = world.Tick m.writer.peer m.moment ∷ events in
+        let same = unsent_shown old.unsent old all (ticked ∷ replies) new (mid, tick, steps) (omega arith) e in
+        ⊎_elim (λ below. good whole same below) (λ full. hindered (inr (inr (inl full)))) (cases_lt old.unsent (2 ^ 64 - 1))
+
     by : (b : Bool) → are_whole (ticked ∷ replies) ≡ b → EndsSo config network old m place (world.Tick m.writer.peer m.moment ∷ events) (ticked ∷ replies) new
     by false e = hindered (inl e)
-    by true e =
-        ⊎_elim (λ grew. hindered (inr (inl grew)))
-        (λ same. ⊎_elim (λ below. good e same below) (λ full. hindered (inr (inr (inl full)))) (cases_lt old.unsent (2 ^ 64 - 1)))
-        (cases_lt old.unsent new.unsent)
+    by true e = all_sent e (has_unsent old.unsent (ticked ∷ replies)) refl
 
-rounds_of : (old : WorldKept) (m : Matched) (ticked : RoundReply) (mid : WorldKept) (events : List WorldEvent) (replies : List RoundReply) (new : WorldKept) → IsKnown old m
-    → IsStep old (world.Tick m.writer.peer m.moment) ticked mid → Beating m (length old.sent) mid events replies new → Rounds old m.writer m.reader (answer_of m (ticked ∷ replies)) new
-rounds_of old m ticked mid events replies new known tick beats = record {
+-- a reader that has a place keeps one
+still_there : (o : Option ℕ) (from : ℕ) → IsAtMost from o → o ≡ Some (unwrap_or o from)
+still_there (Some to) from h = refl
+still_there None from h = absurd h
+
+rounds_of : (old : WorldKept) (m : Matched) (ticked : RoundReply) (mid : WorldKept) (events : List WorldEvent) (replies : List RoundReply) (new : WorldKept)
+    (from : ℕ) (to : Option ℕ) → IsKnown old m → IsStep old (world.Tick m.writer.peer m.moment) ticked mid → Beating m (length old.sent) mid events replies new
+    → IsPlace old m.reader m.writer (Some from) → IsPlace new m.reader m.writer to
+    → Rounds old m.writer m.reader (answer_of old m from (unwrap_or to from) (ticked ∷ replies)) new
+rounds_of old m ticked mid events replies new from to known tick beats from_is to_is = record {
   events = world.Tick m.writer.peer m.moment ∷ events;
   steps = (mid, tick, beats_steps m (length old.sent) mid events replies new beats);
   round = λ config network s.
       let k = known config network s in
-      let place = place_of_matched old config network m s k in
-      let end = ends old m ticked mid events replies new known tick beats config network place.0 s place.1 in
+      let before : place_at (machine_of network) m.reader m.writer ≡ Some from = sym (from_is config network s) in
+      let end = ends old m ticked mid events replies new known tick beats config network from s before in
+      let all : List WorldEvent = world.Tick m.writer.peer m.moment ∷ events in
+      let no_less = places_after config no_tests network old.unsent all (replies_of (ticked ∷ replies)) end.0 new.unsent end.1 m.reader m.writer in
+      let at_most = subst (λ (o : Option ℕ). NoLess o (place_at (machine_of end.0) m.reader m.writer)) before no_less in
+      let after : to ≡ place_at (machine_of end.0) m.reader m.writer = to_is config end.0 end.2 in
+      let there : to ≡ Some (unwrap_or to from) = still_there to from (subst (λ (o : Option ℕ). IsAtMost from o) (sym after) at_most) in
       record {
         is_round = round_is old m ticked mid events replies new known tick beats config network s;
         after = end.0;
         run = end.1;
-        machine = runs_so old new (world.Tick m.writer.peer m.moment ∷ events) (replies_of (ticked ∷ replies)) config network end.0 s end.2 end.1;
+        machine = runs_so old new all (replies_of (ticked ∷ replies)) config network end.0 s end.2 end.1;
         stands = end.2;
         was_behind = k.behind;
-        place = place.0;
-        at = place.1;
-        caught_up = end.3;
+        unsent_before = refl;
+        last = k.last;
+        from = before;
+        to = sym after ∙ there;
+        caught_up = subst (λ (n : ℕ). IsHindered network m.writer m.reader (answer_of old m from from (ticked ∷ replies)) ⊎ HasCaughtUp end.0 m.writer m.reader from n)
+            (sym k.last) end.3;
       };
 }
 
-pub rounds_are : (old : WorldKept) (writer reader : Endpoint) (m : Matched) (ticked : RoundReply) (mid : WorldKept) (replies all : List RoundReply) (new : WorldKept) (events : List WorldEvent) → m.writer ≡ writer → m.reader ≡ reader
-    → all ≡ ticked ∷ replies → IsKnown old m → IsStep old (world.Tick m.writer.peer m.moment) ticked mid → Beating m (length old.sent) mid events replies new → Rounds old writer reader (answer_of m all) new
-rounds_are old writer reader m ticked mid replies all new events w r is known tick beats =
-    subst (λ (e : Endpoint). Rounds old e reader (answer_of m all) new) w
-    (subst (λ (e : Endpoint). Rounds old m.writer e (answer_of m all) new) r
-    (subst (λ (rs : List RoundReply). Rounds old m.writer m.reader (answer_of m rs) new) (sym is) (rounds_of old m ticked mid events replies new known tick beats)))
+pub rounds_are : (old : WorldKept) (writer reader : Endpoint) (m : Matched) (ticked : RoundReply) (mid : WorldKept) (replies all : List RoundReply) (new : WorldKept)
+    (events : List WorldEvent) (from : ℕ) (to : Option ℕ) → m.writer ≡ writer → m.reader ≡ reader → all ≡ ticked ∷ replies → IsKnown old m
+    → IsStep old (world.Tick m.writer.peer m.moment) ticked mid → Beating m (length old.sent) mid events replies new
+    → IsPlace old reader writer (Some from) → IsPlace new reader writer to → Rounds old writer reader (answer_of old m from (unwrap_or to from) all) new
+rounds_are old writer reader m ticked mid replies all new events from to w r is known tick beats =
+    subst (λ (e : Endpoint). IsPlace old reader e (Some from) → IsPlace new reader e to → Rounds old e reader (answer all) new) w
+    (subst (λ (e : Endpoint). IsPlace old e m.writer (Some from) → IsPlace new e m.writer to → Rounds old m.writer e (answer all) new) r
+    (subst (λ (rs : List RoundReply). IsPlace old m.reader m.writer (Some from) → IsPlace new m.reader m.writer to → Rounds old m.writer m.reader (answer rs) new) (sym is)
+    (λ from_is to_is. rounds_of old m ticked mid events replies new from to known tick beats from_is to_is)))
+  where
+    answer : List RoundReply → Round
+    answer rs = answer_of old m from (unwrap_or to from) rs

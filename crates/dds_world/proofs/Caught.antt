@@ -1,9 +1,10 @@
 -- What a network of a round knows of the pair, and the steps of a round by the rules.
-use Rattle.std.proofs.Common.{◌≡◌, ◌⊎◌, ℕ, zero, suc, ◌+◌, ◌-◌, ◌^◌, ◌<◌, ◌≤◌, ◌&&◌, min, Bool, true, false, not, List, [], ◌∷◌, ◌++◌}
+use Rattle.std.proofs.Common.{◌≡◌, ℕ, zero, suc, ◌+◌, ◌-◌, ◌^◌, ◌<◌, ◌≤◌, ◌&&◌, ◌||◌, min, Bool, true, false, not, List, [], ◌∷◌, ◌++◌}
 use Rattle.std.proofs.Common.{Option, Some, None, Contains, map, length, get_or, slice_get, is_some}
-use Rattle.std.proofs.Common.{refl, subst, ap, sym, ◌∙◌, inl, inr, ⊎_elim, arith, length-append}
+use Rattle.std.proofs.Common.{refl, subst, ap, sym, ◌∙◌, inl, inr, ⊎_elim, arith}
+use Rattle.std.specs.Prelude.{nat_lt}
+use Rattle.std.proofs.lemmas.Bool.Decides.{nat_tests}
 use Rattle.dds_base.specs.declared.config.Config.{Config}
-use Rattle.dds_base.specs.Checked.{check_refusal}
 use Rattle.dds_base.specs.Kept.{numbers_from}
 use Rattle.dds_model.specs.declared.endpoint.Endpoint.{Endpoint}
 use Rattle.dds_model.specs.declared.event.Event.TheVariants as event
@@ -14,8 +15,8 @@ use Rattle.dds_model.specs.declared.reply.Reply.{Reply}
 use Rattle.dds_model.specs.declared.reply.Reply.TheVariants.{Done, Reported}
 use Rattle.dds_model.specs.declared.reply.Report.{Report}
 use Rattle.dds_model.specs.Numbered.{numbered, HasNumber}
-use Rattle.dds_model.specs.Machine.{no_tests, place_at}
-use Rattle.dds_model.specs.Part.{Part, WriterProxy, own_writer, own_proxies, place_of, writer_changes}
+use Rattle.dds_model.specs.Machine.{AllTests, no_tests, place_at}
+use Rattle.dds_model.specs.Part.{NoLess, own_writer, own_proxies, place_of, writer_changes}
 use Rattle.dds_model.specs.Calls.{TickStep}
 use Rattle.dds_model.specs.Peer.{Peer, EventStep, no_peer}
 use Rattle.dds_model.specs.Repair.{Delivers, DeliversAll}
@@ -24,13 +25,14 @@ use Rattle.dds_model.specs.World.{WorldState, WorldStep, peer_at, machine_of}
 use Rattle.dds_model.specs.Fresh.{tracked_at}
 use Rattle.dds_model.proofs.Composed.{contains_at, front_or_rest}
 use Rattle.dds_model.proofs.Framing.{has_reader}
+use Rattle.dds_model.proofs.FreshCounts.{stays_same, steps_stays}
 use Rattle.dds_model.proofs.PairBegun.{place_is}
-use Rattle.dds_model.proofs.Tables.{slice_get-append}
+use Rattle.dds_model.proofs.Tables.{no_less_on, no_less_same, slice_get-append}
 use Rattle.dds_core.specs.Kept.{CoreKept}
 use Rattle.dds_core.specs.Standing.{StandsFor as CoreStandsFor, IsSound}
-use Rattle.dds_core.proofs.Lists.{element, get-within}
+use Rattle.dds_core.proofs.Lists.{element}
 use Rattle.dds_world.specs.declared.round.RoundReply.{RoundReply}
-use Rattle.dds_world.specs.Round.{IsStep, AreSteps, HasNone, is_whole, are_whole, replies_of}
+use Rattle.dds_world.specs.Round.{IsStep, AreSteps, HasNone, has_unsent, is_whole, are_whole, replies_of}
 use Rattle.dds_world.specs.WorldStanding.{WorldKept, StandsFor}
 use Rattle.dds_world.proofs.RunSteps.{Went, went_by}
 
@@ -176,6 +178,22 @@ unsent_on config network old (e ∷ es) (r ∷ rs) new h s =
 unsent_on config network old [] (r ∷ rs) new h s = absurd h
 unsent_on config network old (e ∷ es) [] new h s = absurd h
 
+-- where no reply counts more, no more are counted in the end
+none_of : (a b : Bool) → (a || b) ≡ false → (a ≡ false) × (b ≡ false)
+none_of true b h = absurd cc
+none_of false b h = (refl, h)
+
+pub unsent_shown : (before : ℕ) (old : WorldKept) (events : List WorldEvent) (replies : List RoundReply) (new : WorldKept)
+    → AreSteps old events replies new → old.unsent ≤ before → has_unsent before replies ≡ false → new.unsent ≤ before
+unsent_shown before old [] [] new same low none = let e = ap (λ (k : WorldKept). k.unsent) same in omega (arith, e, low)
+unsent_shown before old (e ∷ es) (r ∷ rs) new h low none =
+    let parts = none_of (nat_lt before r.unsent) (has_unsent before rs) none in
+    let here = parts.0 in
+    let counted = h.1.unsent in
+    unsent_shown before h.0 es rs new h.2 (grind (arith, nat_tests, here, counted)) parts.1
+unsent_shown before old [] (r ∷ rs) new h low none = absurd h
+unsent_shown before old (e ∷ es) [] new h low none = absurd h
+
 -- where it stays below its greatest value nothing is lost
 pub none_lost : (old lost new : ℕ) → new ≡ min (old + lost) (2 ^ 64 - 1) → new ≤ old → old < 2 ^ 64 - 1 → lost ≡ 0
 none_lost old lost new is same few = omega (arith, is, same, few)
@@ -206,6 +224,32 @@ deliver_all config peer first (p ∷ ps) network old (r ∷ rs) new low there wh
       stands = rest.stands;
       then = (w.after, w.step.lost, delivers config network old peer first p r.reply h.0 s at all.0 w, rest.then);
     }
+
+-- ---- no place goes back
+
+places_on : (config : Config) (tests : AllTests) (old : WorldState) (ev : WorldEvent) (reply : Reply) (new : WorldState)
+    → WorldStep config tests old ev reply new → (r w : Endpoint) → NoLess (place_at (machine_of old) r w) (place_at (machine_of new) r w)
+places_on config tests old (world.Call peer call) reply new step r w =
+    ⊎_elim (λ p. (steps_stays config (tests peer) old peer (event.Call call) reply new p).grows.places r w)
+    (λ x. (stays_same config old peer new x.1.after).grows.places r w) step
+places_on config tests old (world.Tick peer now) reply new step r w =
+    ⊎_elim (λ p. (steps_stays config (tests peer) old peer (event.Tick now) reply new p).grows.places r w)
+    (λ x. (stays_same config old peer new x.1.after).grows.places r w) step
+places_on config tests old (world.Deliver peer k) reply new step r w =
+    ⊎_elim (λ p. (steps_stays config (tests peer) old peer (event.Deliver p.0.bytes) reply new p.3).grows.places r w)
+    (λ x. (stays_same config old peer new x.1.after).grows.places r w) step
+
+pub places_after : (config : Config) (tests : AllTests) (old : WorldState) (first : ℕ) (events : List WorldEvent) (replies : List Reply) (new : WorldState) (last : ℕ)
+    → RuledRun config tests old first events replies new last → (r w : Endpoint) → NoLess (place_at (machine_of old) r w) (place_at (machine_of new) r w)
+places_after config tests old first [] [] new last run r w =
+    subst (λ (x : WorldState). NoLess (place_at (machine_of old) r w) (place_at (machine_of x) r w)) (sym run.0)
+    (no_less_same (place_at (machine_of old) r w))
+places_after config tests old first (e ∷ es) (reply ∷ replies) new last run r w =
+    no_less_on (place_at (machine_of old) r w) (place_at (machine_of run.0) r w) (place_at (machine_of new) r w)
+    (places_on config tests old e reply run.0 run.2.ruled.step r w)
+    (places_after config tests run.0 run.1 es replies new last run.3 r w)
+places_after config tests old first [] (reply ∷ replies) new last run r w = absurd run
+places_after config tests old first (e ∷ es) [] new last run r w = absurd run
 
 -- ---- packets that were sent at a step
 

@@ -1,5 +1,5 @@
 -- The stages of a round, and the round that they make.
-use Rattle.std.proofs.Common.{◌≡◌, ◌⊎◌, ℕ, zero, suc, ◌+◌, ◌-◌, ◌<◌, ◌≤◌, List, [], ◌∷◌, ◌++◌, Some, None, map, length, get_or, slice_get, refl, ap, sym, ◌∙◌, subst, inl, inr, ⊎_elim, append_assoc, arith}
+use Rattle.std.proofs.Common.{◌≡◌, ◌⊎◌, ℕ, zero, suc, ◌+◌, ◌-◌, ◌<◌, ◌≤◌, List, [], ◌∷◌, ◌++◌, Option, Some, None, map, length, get_or, slice_get, refl, ap, sym, ◌∙◌, subst, inl, inr, ⊎_elim, append_assoc, arith}
 use Rattle.std.specs.Prelude.{IsSome}
 use Rattle.std.proofs.lemmas.List.{append-nil}
 use Rattle.std.proofs.lemmas.Option.{same_Some, slice_get-get_or}
@@ -12,8 +12,8 @@ use Rattle.dds_model.specs.declared.event.Packet.{Packet}
 use Rattle.dds_model.specs.declared.event.WorldEvent.{WorldEvent}
 use Rattle.dds_model.specs.declared.event.WorldEvent.TheVariants as world
 use Rattle.dds_model.specs.declared.reply.Reply.{Reply}
-use Rattle.dds_model.specs.Machine.{AllTests, no_tests, part_at}
-use Rattle.dds_model.specs.Part.{Part, own_writer, acknowledged_of, is_reader_behind}
+use Rattle.dds_model.specs.Machine.{AllTests, no_tests, part_at, place_at}
+use Rattle.dds_model.specs.Part.{Part, own_proxies, own_writer, acknowledged_of, is_reader_behind, place_of, writer_changes}
 use Rattle.dds_model.specs.Peer.{Peer, no_peer}
 use Rattle.dds_model.specs.Protocol.{writer_entity}
 use Rattle.dds_model.specs.World.{WorldState, WorldStep, machine_of}
@@ -231,6 +231,14 @@ peer_is kept i number core config network s is at =
     } in
     subst (λ (n : ℕ). IsPeerAt config network core n) next here
 
+-- a peer that is kept at this index
+pub peer_kept : (inside peers : List CoreKept) (i count : ℕ) (core : CoreKept) → inside ≡ peers → core ≡ get_or inside i core
+    → count ≡ length peers → i < count → slice_get peers i ≡ Some core
+peer_kept inside peers i count core same is counted low =
+    let within : i < length peers = omega (arith, counted, low) in
+    let here = subst (λ (ps : List CoreKept). core ≡ get_or ps i core) same is in
+    slice_get-get_or peers i core within ∙ ap (λ (x : CoreKept). Some x) (sym here)
+
 pub no_pair_matched : (kept : WorldKept) (i : ℕ) (core : CoreKept) (writer reader : Endpoint) → writer.peer ≡ i + 1 → slice_get kept.peers i ≡ Some core
     → ((config : Config) (peer : Peer) → CoreStandsFor core config peer → IsPair config peer writer.number reader None) → NotMatched kept writer reader
 no_pair_matched kept i core writer reader is at none = λ config network s.
@@ -248,8 +256,24 @@ pair_matched kept i core writer reader pair now is at found moment = λ config n
       writer = subst (λ (n : ℕ). pair.writer ≡ writer_entity config n writer.number) p.numbered f.1;
       reader = f.2;
       behind = f.3 ∙ ap (λ (part : Part). is_reader_behind (own_writer part writer.number) reader) (sym p.part);
+      last = f.4 ∙ ap (λ (part : Part). length (writer_changes (own_writer part writer.number))) (sym p.part);
       moment = moment config p.peer p.stands ∙ ap (λ (part : Part). part.dds.moment) (sym p.part);
     }
+
+-- ---- the place of a reader
+
+-- the place, in each state that the network stands for
+abbrev pub IsPlace : WorldKept → Endpoint → Endpoint → Option ℕ → Type 0
+IsPlace kept reader writer place =
+    (config : Config) (network : WorldState) → StandsFor kept config network → place ≡ place_at (machine_of network) reader writer
+
+pub place_kept : (kept : WorldKept) (i : ℕ) (core : CoreKept) (reader writer : Endpoint) (place : Option ℕ) → reader.peer ≡ i + 1
+    → slice_get kept.peers i ≡ Some core
+    → ((config : Config) (peer : Peer) → CoreStandsFor core config peer → place ≡ place_of (own_proxies peer.part reader.number) writer)
+    → IsPlace kept reader writer place
+place_kept kept i core reader writer place is at of_core = λ config network s.
+    let p = peer_is kept i reader.peer core config network s is at in
+    of_core config p.peer p.stands ∙ ap (λ (part : Part). place_of (own_proxies part reader.number) writer) (sym p.part)
 
 -- ---- the first such packet
 

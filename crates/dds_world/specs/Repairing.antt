@@ -7,7 +7,7 @@ use Rattle.dds_model.specs.declared.event.Packet.{Packet}
 use Rattle.dds_model.specs.declared.event.WorldEvent.{WorldEvent}
 use Rattle.dds_model.specs.declared.event.WorldEvent.TheVariants.{Deliver}
 use Rattle.dds_model.specs.Machine.{part_at, writer_at}
-use Rattle.dds_model.specs.Part.{acknowledged_of, is_reader_behind}
+use Rattle.dds_model.specs.Part.{acknowledged_of, is_reader_behind, writer_changes}
 use Rattle.dds_model.specs.Protocol.{writer_entity}
 use Rattle.dds_model.specs.World.{WorldState, machine_of}
 use Rattle.dds_core.specs.Pairs.{reader_entity}
@@ -16,12 +16,14 @@ use Rattle.dds_world.specs.declared.round.RoundReply.{RoundReply}
 use Rattle.dds_world.specs.Round.{IsStep, AreSteps, IsTo, HasNone, IsFirst, answers_at}
 use Rattle.dds_world.specs.WorldStanding.{WorldKept, StandsFor}
 
--- the two are matched, by these entity ids, the reader is behind exactly so, and the moment is that of the writer's peer
+-- the two are matched, by these entity ids, the reader is behind exactly so, the writer has made so many changes, and the
+-- moment is that of its peer
 pub record Knows (config : Config) (network : WorldState) (m : Matched) : Type 0 where
   pub matched : IsSome (acknowledged_of (writer_at (machine_of network) m.writer).readers m.reader)
   pub writer : m.pair.writer ≡ writer_entity config m.writer.peer m.writer.number
   pub reader : m.pair.reader ≡ reader_entity config m.reader.peer m.reader.number
   pub behind : m.pair.is_behind ≡ is_reader_behind (writer_at (machine_of network) m.writer) m.reader
+  pub last : m.pair.last ≡ length (writer_changes (writer_at (machine_of network) m.writer))
   pub moment : m.moment ≡ (part_at (machine_of network) m.writer.peer).dds.moment
 
 -- so it is for each state that the network stands for

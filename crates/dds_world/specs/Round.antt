@@ -2,8 +2,8 @@
 -- HEARTBEAT, the reader's ACKNACK, and its answers, each delivered once.
 --
 -- RTPS 2.5, 8.4.9 (reliable StatefulWriter), 8.4.12 (reliable StatefulReader).
-use Rattle.std.specs.Prelude.{◌≡◌, ◌⊎◌, ℕ, ◌+◌, ◌-◌, ◌^◌, ◌<◌, ◌≤◌, min, if◌then◌else◌, Bool, true, false, not, List, [], ◌∷◌, length, map, is_some, Option, Some, None}
-use Rattle.std.specs.List.{list_all}
+use Rattle.std.specs.Prelude.{◌≡◌, ◌⊎◌, ℕ, ◌+◌, ◌-◌, ◌^◌, ◌<◌, ◌≤◌, min, nat_lt, if◌then◌else◌, Bool, true, false, not, List, [], ◌∷◌, length, map, is_some, Option, Some, None}
+use Rattle.std.specs.List.{list_all, list_any}
 use Rattle.dds_base.specs.declared.code.Code.{Code}
 use Rattle.dds_base.specs.declared.code.Code.TheVariants.{BadParameter}
 use Rattle.dds_base.specs.declared.config.Config.{Config}
@@ -119,13 +119,17 @@ is_whole other = false
 abbrev pub are_whole : List RoundReply → Bool
 are_whole replies = list_all (λ (r : RoundReply). is_whole r.reply) replies
 
--- What may keep a round from its end, which its answer and the counts of unsent packets show: a reply that lacked memory;
--- packets that were not sent, or a count of those that stood at its greatest value; a reader that is behind and hears
--- nothing, as its writer has no count left for a HEARTBEAT; or one that answers nothing, as it has none for an ACKNACK.
-abbrev pub IsHindered : WorldState → Endpoint → Endpoint → WorldKept → Round → WorldKept → Type 0
-IsHindered network writer reader old answer new =
+-- one of these counts more packets as unsent than so many
+abbrev pub has_unsent : ℕ → List RoundReply → Bool
+has_unsent before replies = list_any (λ (r : RoundReply). nat_lt before r.unsent) replies
+
+-- What may keep a round from its end, each shown by its answer: a reply that lacked memory; packets that were not sent, or a
+-- count of those that stood at its greatest value; one reply though the reader was behind, which hears nothing, as its writer
+-- has no count left for a HEARTBEAT; or two, as the reader has none for an ACKNACK.
+abbrev pub IsHindered : WorldState → Endpoint → Endpoint → Round → Type 0
+IsHindered network writer reader answer =
     (are_whole answer.replies ≡ false)
-    ⊎ (old.unsent < new.unsent) ⊎ (2 ^ 64 - 1 ≤ old.unsent)
+    ⊎ (has_unsent answer.unsent_before answer.replies ≡ true) ⊎ (2 ^ 64 - 1 ≤ answer.unsent_before)
     ⊎ ((length answer.replies ≡ 1) × (answer.was_behind ≡ true) × (2 ^ 31 - 1 ≤ heartbeats_used_at network writer))
     ⊎ ((length answer.replies ≡ 2) × (2 ^ 31 - 1 ≤ acknacks_used_at network writer reader))
 
@@ -133,9 +137,10 @@ abbrev pub replies_of : List RoundReply → List Reply
 replies_of replies = map (λ (r : RoundReply). r.reply) replies
 
 -- A round, from one state that the old network stands for: the events are those of a round, and the replies a run over them
--- by the rules of the protocol, and of the machine, to a state that the new network stands for. There the reader has gone on
--- by 256 numbers, or to the end of the writer's list, or to a change that has no room, and the writer knows of all that the
--- reader had before, unless something hindered the round.
+-- by the rules of the protocol, and of the machine, to a state that the new network stands for. The answer says how the pair
+-- stood before it, and the reader's place after it. There the reader has gone on by 256 numbers, or to the end of the writer's
+-- list, or to a change that has no room, and the writer knows of all that the reader had before, unless something hindered
+-- the round.
 pub record RoundFrom (config : Config) (network : WorldState) (old : WorldKept) (writer reader : Endpoint)
     (events : List WorldEvent) (answer : Round) (new : WorldKept) : Type 0 where
   pub is_round : IsRound config network writer reader new.sent events answer.replies
@@ -145,10 +150,11 @@ pub record RoundFrom (config : Config) (network : WorldState) (old : WorldKept) 
       (machine_of after)
   pub stands : StandsFor new config after
   pub was_behind : answer.was_behind ≡ is_reader_behind (writer_at (machine_of network) writer) reader
-  pub place : ℕ
-  pub at : place_at (machine_of network) reader writer ≡ Some place
-  pub caught_up : IsHindered network writer reader old answer new
-      ⊎ HasCaughtUp after writer reader place (length (writer_changes (writer_at (machine_of network) writer)))
+  pub unsent_before : answer.unsent_before ≡ old.unsent
+  pub last : answer.last ≡ length (writer_changes (writer_at (machine_of network) writer))
+  pub from : place_at (machine_of network) reader writer ≡ Some answer.from
+  pub to : place_at (machine_of after) reader writer ≡ Some answer.to
+  pub caught_up : IsHindered network writer reader answer ⊎ HasCaughtUp after writer reader answer.from answer.last
 
 -- One round: each reply is that of a step of the network, with the counts as they stood after it; and from each state that the
 -- old network stands for it is a round.

@@ -2,13 +2,13 @@
 //!
 //! RTPS 2.5, 8.4.9 (reliable StatefulWriter), 8.4.12 (reliable StatefulReader).
 
-ghost use Rattle.std.specs.Prelude.{◌≡◌, ◌++◌, ◌+◌, ◌<◌, ◌≤◌, ◌↔◌, List, [], ◌∷◌, length, vec_len, vec_capacity, IsTrue, IfOk, IfErr, OnErr, MatchOption};
+ghost use Rattle.std.specs.Prelude.{◌≡◌, ◌++◌, ◌+◌, ◌<◌, ◌≤◌, ◌↔◌, min, List, [], ◌∷◌, length, vec_len, vec_capacity, IsTrue, IfOk, IfErr, OnErr, MatchOption};
 ghost use Rattle.dds_world.specs.declared.round.RoundReply.{RoundReply as ReplyOf};
 ghost use Rattle.dds_world.specs.Round.{answers_at, AreMatched, AreSteps, HasNone, IsFirst, IsStep, IsTo, RefusesRound, Rounds};
 ghost use Rattle.dds_world.specs.Repairing.{Acknowledging, Adds, Beating, IsKnown, NotMatched};
 
 use crate::world::{World, index_of};
-use dds_base::{Code, Moment, Sequence};
+use dds_base::{Code, Moment, Sequence, Sn};
 use dds_core::Pair;
 use dds_model::{Endpoint, Packet, Reply, WorldEvent};
 use rtps_wire::{Sought, has_submessage};
@@ -23,18 +23,43 @@ pub struct RoundReply {
     pub unsent: u64,
 }
 
-/// What a round of repair answers.
+/// What a round of repair answers, and how the reader and the writer stood when it began, and the reader after it.
 ///
-/// The reader has caught up where each reply has found its memory, no packet was counted as unsent (nor did the count stand
-/// at its greatest value), and there are three replies or more, or one, of a reader that was not behind. A reader that was
-/// behind and hears of it no more is one whose writer has used up its HEARTBEAT counts, 2^31 - 1; two replies are those of a
-/// reader that has used up its ACKNACK counts for the writer.
+/// The reader has caught up where `to` is at least the smaller one of `from` + 256 and `last` + 1, as `has_caught_up` says.
+/// Where it has not, one of these is so, and the answer shows which:
+///
+/// - memory lacked: a reply is a refusal, or a report whose `refused` names a submessage;
+/// - a packet was not sent: the `unsent` of a reply is greater than `unsent_before`; or that was 2^64 - 1, where the count
+///   stays;
+/// - the writer has used up its HEARTBEAT counts, 2^31 - 1: there is one reply, though the reader was behind;
+/// - the reader has used up its ACKNACK counts to the writer, as many: there are two replies;
+/// - none of these: the reader holds the change of number `to`, and has no room for it.
+///
+/// Where none of the first four is so, the writer knows that the reader had all changes below `from`.
 #[derive(Debug, Drop)]
 pub struct Round {
     /// The replies to its events, 1 to 35.
     pub replies: Sequence<RoundReply>,
     /// Whether there were changes of the writer that the reader had not acknowledged, when the round began.
     pub was_behind: bool,
+    /// How many packets had found no memory when the round began, as `World::unsent` counts them.
+    pub unsent_before: u64,
+    /// The number of the writer's last change; 0 before the first.
+    pub last: Sn,
+    /// The reader's place at the writer when the round began, as `World::place` gives it.
+    pub from: Sn,
+    /// The reader's place at the writer after the round.
+    pub to: Sn,
+}
+
+impl Round {
+    /// Whether the reader has come to the next 256 changes of the writer, or to all.
+    pub fn has_caught_up(&self) -> bool
+        // It is so where the place is at least the smaller one of 256 more than before and one more than the last number.
+        ensures caught_up { IsTrue result ↔ (min (self.now.from + 256) (self.now.last + 1) ≤ self.now.to) }
+    {
+        self.last < self.to || self.to.number().saturating_sub(self.from.number()) >= 256
+    }
 }
 
 /// A writer and a reader that it is matched with, their entity ids, and the moment of the writer's peer.
@@ -63,9 +88,9 @@ impl World {
     /// reader's peer is delivered there, the reader's ACKNACK to the writer that this sent is delivered at the writer's
     /// peer, and each packet that this sent, up to 32, at the reader's. Where one of them was not sent, the round ends.
     ///
-    /// Each packet is delivered once, and no other one is. There are 1 to 35 replies; one of them may lack memory, as those
-    /// of `World::step`. Afterwards the reader has come to the next 256 changes, or to all, or to one for which it has no
-    /// room, unless the answer shows why not (see `Round`).
+    /// Each packet is delivered once, and no other one is. There are 1 to 35 replies; each of them may lack memory, as one of
+    /// `World::step`. Afterwards the reader has come to the next 256 changes, or to all, or to one for which it has no room,
+    /// unless the answer shows why not (see `Round`).
     ///
     /// # Errors
     ///
@@ -74,8 +99,9 @@ impl World {
     ///
     /// RTPS 2.5, 8.4.9 and 8.4.12.
     pub fn round(&mut self, writer: Endpoint, reader: Endpoint) -> Result<Round, Code>
-        // The replies are a run over the events of a round, with the counts as they stood after each. After them the reader
-        // has caught up, unless a reply, the count of unsent packets or used counts say why not.
+        // The replies are a run over the events of a round, with the counts as they stood after each, and the answer says how
+        // the two stood before it, and the reader's place after it. The reader has then caught up, unless the answer shows
+        // what hindered it.
         ensures round { IfOk result (λ answer. Rounds self.old writer reader answer self.new) }
         // There is a round only where the two are matched.
         ensures matched { IfOk result (λ answer. AreMatched self.old writer reader) }
@@ -84,22 +110,28 @@ impl World {
         // A refusal leaves the network as it was.
         ensures err { OnErr result (self.new ≡ self.old) }
     {
-        let Some(m) = self.matched(writer, reader) else {
+        let known = (self.matched(writer, reader), self.place(reader, writer));
+        let (Some(m), Some(from)) = known else {
             return Err(Code::BadParameter);
         };
-        let was_behind = m.pair.is_behind;
         let mut replies = Vec::with_capacity(self.alloc, MAX_REPLIES)?;
-        let sent = self.sent();
+        let (sent, unsent_before) = (self.sent(), self.unsent());
         let tick = WorldEvent::Tick {
             peer: m.writer.peer,
             now: m.moment,
         };
         self.add_step(tick, &mut replies);
-        self.deliver_heartbeat(m, sent, &mut replies);
+        self.deliver_heartbeat(&m, sent, &mut replies);
+        // There is a place, as they are matched still.
+        let to = self.place(reader, writer).unwrap_or(from);
         let replies = Sequence::from_vec(replies);
         Ok(Round {
             replies,
-            was_behind,
+            was_behind: m.pair.is_behind,
+            unsent_before,
+            last: m.pair.last,
+            from,
+            to,
         })
     }
 
@@ -155,9 +187,9 @@ impl World {
     }
 
     /// Delivers the writer's HEARTBEAT to the reader, if it is among the packets after so many, and what follows.
-    fn deliver_heartbeat(&mut self, m: Matched, from: u64, replies: &mut Vec<RoundReply>)
+    fn deliver_heartbeat(&mut self, m: &Matched, from: u64, replies: &mut Vec<RoundReply>)
         requires room { vec_len replies.old + 34 ≤ vec_capacity replies.old }
-        ensures { Adds (Beating m from) self.old replies.old.items self.new replies.new.items }
+        ensures { Adds (Beating m.now from) self.old replies.old.items self.new replies.new.items }
     {
         let wanted = Sought::Heartbeat {
             writer: m.pair.writer,
@@ -172,9 +204,9 @@ impl World {
     }
 
     /// Delivers the reader's ACKNACK to the writer, if it is among the packets after so many, and its answers.
-    fn deliver_acknack(&mut self, m: Matched, from: u64, replies: &mut Vec<RoundReply>)
+    fn deliver_acknack(&mut self, m: &Matched, from: u64, replies: &mut Vec<RoundReply>)
         requires room { vec_len replies.old + 33 ≤ vec_capacity replies.old }
-        ensures { Adds (Acknowledging m from) self.old replies.old.items self.new replies.new.items }
+        ensures { Adds (Acknowledging m.now from) self.old replies.old.items self.new replies.new.items }
     {
         let wanted = Sought::AckNack {
             reader: m.pair.reader,

@@ -3,19 +3,22 @@
 ghost use Rattle.std.specs.Prelude.{◌≡◌, ◌&&◌, ◌+◌, ◌-◌, ◌^◌, ◌<◌, ◌≤◌, false, nat_lt, nat_le, IfOk, IfErr, OnErr, MatchOption, length, slice_get, None, Some, []};
 ghost use Rattle.std.specs.Option.{option_copied};
 ghost use Rattle.dds_base.specs.Checked.{check_refusal};
+ghost use Rattle.dds_base.specs.declared.config.Config.{Config as ConfigOf};
 ghost use Rattle.dds_base.specs.Refusal.{Refuses};
 ghost use Rattle.dds_base.specs.declared.code.Code.TheVariants.{Memory};
 ghost use Rattle.dds_model.specs.declared.event.WorldEvent.TheVariants as event;
 ghost use Rattle.dds_model.specs.InOrder.{no_traffic};
+ghost use Rattle.dds_model.specs.Machine.{place_at};
 ghost use Rattle.dds_model.specs.Opening.{opening_world};
+ghost use Rattle.dds_model.specs.World.{WorldState, machine_of};
 ghost use Rattle.dds_core.specs.Opening.{opening_peer, opening_refusal};
 ghost use Rattle.dds_core.specs.Standing.{StandsFor as CoreStandsFor};
 ghost use Rattle.dds_world.specs.WorldStanding.{traffic, Announces, KeepsRules, MovesOn, Posts, Runs, StandsFor, Steps};
 ghost use Rattle.dds_world.specs.Acting.{Acts, Counts, IsCopy, IsQuiet, OpensFirst, RuledSteps};
 
-use dds_base::{Code, Config, Moment, Octets, Sequence};
+use dds_base::{Code, Config, Moment, Octets, Sequence, Sn};
 use dds_core::Core;
-use dds_model::{Call, Event, Output, Packet, Reply, Report, WorldEvent};
+use dds_model::{Call, Endpoint, Event, Output, Packet, Reply, Report, WorldEvent};
 use std::alloc::{AllocError, Global};
 use std::marker::Model;
 
@@ -307,5 +310,20 @@ impl World {
         ensures { result ≡ self.now.unsent }
     {
         self.unsent
+    }
+
+    /// The place of a reader at a writer: the number of the change that it has next, from 1; `None` where they are not
+    /// matched, or where there are no such ends.
+    ///
+    /// RTPS 2.5, 8.4.10 (StatefulReader, WriterProxy).
+    pub fn place(&self, reader: Endpoint, writer: Endpoint) -> Option<Sn>
+        // It is the place in each state that the network stands for, and there is one exactly if they are matched.
+        ensures place { (config : ConfigOf) (network : WorldState) → StandsFor self.now config network
+            → result ≡ place_at (machine_of network) reader writer }
+    {
+        let Some(index) = index_of(reader.peer, self.count()) else {
+            return None;
+        };
+        self.peers[index].place(reader.number, writer)
     }
 }

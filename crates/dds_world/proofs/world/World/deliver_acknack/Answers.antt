@@ -10,9 +10,9 @@ pub returns : goal.returns
 returns c =
     let a = c.add_step.ensures.step in
     let d = c.deliver_answers.ensures in
-    let later : List WorldEvent = answers_at c.args.m.reader.peer c.sent-sent.result (length c.add_step.new.self.sent) in
-    let counted = ap (λ (n : ℕ). answers_at c.args.m.reader.peer n (length c.add_step.new.self.sent)) c.sent-sent.ensures in (
-      world.Deliver c.args.m.writer.peer c.in-Some.packet ∷ later,
+    let later : List WorldEvent = answers_at c.args.m.now.reader.peer c.sent-sent.result (length c.add_step.new.self.sent) in
+    let counted = ap (λ (n : ℕ). answers_at c.args.m.now.reader.peer n (length c.add_step.new.self.sent)) c.sent-sent.ensures in (
+      world.Deliver c.args.m.now.writer.peer c.in-Some.packet ∷ later,
       a.0 ∷ d.0,
       d.1 ∙ (ap (λ (rs : List RoundReply). rs ++ d.0) a.1 ∙ append_assoc c.args.replies.now.items (a.0 ∷ []) d.0),
       inr (c.in-Some.packet, a.0, c.add_step.new.self, later, d.0, c.in-Some.ensures, a.2, refl, refl, (counted, d.2)),
