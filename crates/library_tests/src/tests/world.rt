@@ -7,7 +7,7 @@ use dds_base::{
     Code, Config, EntityId, GuidPrefix, HistoryQos, Key, Masks, Moment, Octets, OwnershipQos,
     PeerConfig, ReaderConfig, Selection, Sequence, WriterConfig,
 };
-use dds_world::{Call, World, WorldEvent};
+use dds_world::{Call, Endpoint, Round, World, WorldEvent};
 use scripts::SCRIPTS;
 use std::alloc::Global;
 
@@ -44,9 +44,11 @@ fn first(alloc: Global) -> PeerConfig {
     }
 }
 
-fn second(alloc: Global) -> PeerConfig {
+fn second(alloc: Global, max_samples: i32) -> PeerConfig {
+    let mut reader = READER;
+    reader.max_samples = max_samples;
     let mut readers = Vec::new(alloc);
-    let _ = readers.push(READER);
+    let _ = readers.push(reader);
     PeerConfig {
         prefix: GuidPrefix([0, 0, 0, 0, 0, 0, 0, 0, 0, 0, 0, 2]),
         writers: Sequence::from_vec(Vec::new(alloc)),
@@ -54,18 +56,19 @@ fn second(alloc: Global) -> PeerConfig {
     }
 }
 
-fn config(alloc: Global) -> Config {
+fn config(alloc: Global, max_samples: i32) -> Config {
     let mut peers = Vec::new(alloc);
     let _ = peers.push(first(alloc));
-    let _ = peers.push(second(alloc));
+    let _ = peers.push(second(alloc, max_samples));
     Config {
         peers: Sequence::from_vec(peers),
     }
 }
 
-/// A first peer with a writer and a second one with a reader, at their opening.
-fn open(alloc: Global) -> Result<World, Code> {
-    let config = config(alloc);
+/// A first peer with a writer and a second one with a reader that may hold so many samples, or any number if -1, at their
+/// opening.
+fn open(alloc: Global, max_samples: i32) -> Result<World, Code> {
+    let config = config(alloc, max_samples);
     World::open(alloc, &config)
 }
 
@@ -135,6 +138,42 @@ fn push_packet(text: &mut String, world: &World, number: u64) {
     let _ = write!(text, "{packet:?}");
 }
 
+fn endpoint_of(peer: &str, number: &str) -> Endpoint {
+    Endpoint {
+        peer: peer.parse().unwrap_or(0),
+        number: number.parse().unwrap_or(0),
+    }
+}
+
+fn push_place(text: &mut String, world: &World, words: Words<'_>) {
+    let reader = endpoint_of(words.first, words.second);
+    let writer = endpoint_of(words.third, words.fourth);
+    let place = world.place(reader, writer);
+    let _ = write!(text, "{place:?}");
+}
+
+fn push_answer(text: &mut String, round: &Round) {
+    let replies = round.replies.as_slice().len();
+    let (was_behind, unsent) = (round.was_behind, round.unsent_before);
+    let (from, to) = (round.from.number(), round.to.number());
+    let last = round.last.number();
+    let has_caught_up = round.has_caught_up();
+    let _ = write!(text, "replies {replies}, was_behind {was_behind}, ");
+    let _ = write!(text, "unsent_before {unsent}, last {last}, ");
+    let _ = write!(text, "from {from} to {to}, has_caught_up {has_caught_up}");
+}
+
+fn push_round(text: &mut String, world: &mut World, words: Words<'_>) {
+    let writer = endpoint_of(words.first, words.second);
+    let reader = endpoint_of(words.third, words.fourth);
+    match world.round(writer, reader) {
+        Ok(round) => push_answer(text, &round),
+        Err(code) => {
+            let _ = write!(text, "{code:?}");
+        }
+    }
+}
+
 /// Appends how many packets were sent and not sent, and the first of them.
 fn push_end(text: &mut String, world: &World) {
     let (sent, unsent, packet) = (world.sent(), world.unsent(), world.packet(1));
@@ -151,7 +190,7 @@ fn push_replies(text: &mut String, world: &mut World, events: Vec<WorldEvent>) {
 
 /// Appends the replies of a run of these events, and what was sent.
 fn push_run(alloc: Global, text: &mut String, events: &str) {
-    if let Ok(mut world) = open(alloc) {
+    if let Ok(mut world) = open(alloc, -1) {
         push_replies(text, &mut world, events_of(alloc, events));
         push_end(text, &world);
     }
@@ -166,8 +205,8 @@ struct Network {
 }
 
 impl Network {
-    fn begin(&mut self, alloc: Global, text: &mut String) {
-        if let Ok(world) = open(alloc) {
+    fn begin(&mut self, alloc: Global, text: &mut String, max_samples: i32) {
+        if let Ok(world) = open(alloc, max_samples) {
             self.world = world;
             self.events.clear();
             self.replies.clear();
@@ -198,8 +237,10 @@ impl Network {
 impl Subject for Network {
     fn answer(&mut self, alloc: Global, text: &mut String, name: &str, operands: &str) {
         match name {
-            "open" => self.begin(alloc, text),
+            "open" => self.begin(alloc, text, operands.parse().unwrap_or(-1)),
             "packet" => push_packet(text, &self.world, number_of(operands)),
+            "place" => push_place(text, &self.world, words_of(operands)),
+            "round" => push_round(text, &mut self.world, words_of(operands)),
             "run" => self.run(alloc, text),
             _ => self.step(alloc, text, name, operands),
         }
@@ -209,7 +250,7 @@ impl Subject for Network {
 #[test]
 fn networks_answer(rt: HostRuntime) {
     let alloc = rt.alloc();
-    let Ok(world) = open(alloc) else {
+    let Ok(world) = open(alloc, -1) else {
         panic!(rt; "no network");
     };
     let mut network = Network {

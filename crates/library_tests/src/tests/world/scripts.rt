@@ -4,7 +4,10 @@
 /// call names its peer and its writer or reader there, and is of key 1; a write has its value in hex digits; a tick is at a peer
 /// and names its moment; a delivery is at a peer and names the packet.
 ///
-/// `open` begins anew, and `run` does all events since then once more, in one run.
+/// `place` names a reader and a writer, each by its peer and its number, and `round` a writer and a reader, for a round of repair.
+///
+/// `open` begins anew, with a reader that may hold any number of samples, or so many, and `run` does all events since then once
+/// more, in one run.
 pub const SCRIPTS: &str = "\
 # A write goes from the writer to the reader, once: a packet that comes again moves nothing, and what was taken is gone.
 open => opened
@@ -102,4 +105,26 @@ deliver 2 2 => Reported(Report { moves: Sequence { items: [Place { writer: Endpo
 deliver 2 3 => Reported(Report { moves: Sequence { items: [Place { writer: Endpoint { peer: 1, number: 1 }, reader: 1, to: Sn { number: 4 }, passed: Sequence { items: [] } }] }, refused: None }) 3 0
 take 2 1 => Samples(Sequence { items: [Sample { key: Key([0, 0, 0, 0, 0, 0, 0, 0, 0, 0, 0, 0, 0, 0, 0, 1]), value: Octets { items: [1] }, info: SampleInfo { sample_state: NotRead, view_state: New, instance_state: Alive, disposed_generation_count: 0, no_writers_generation_count: 0, sample_rank: 2, generation_rank: 1, absolute_generation_rank: 1, source_timestamp: Moment { units: 0 }, instance_handle: Handle { number: 1 }, publication_handle: Handle { number: 1 }, valid_data: true } }, Sample { key: Key([0, 0, 0, 0, 0, 0, 0, 0, 0, 0, 0, 0, 0, 0, 0, 1]), value: Octets { items: [] }, info: SampleInfo { sample_state: NotRead, view_state: New, instance_state: Alive, disposed_generation_count: 0, no_writers_generation_count: 0, sample_rank: 1, generation_rank: 1, absolute_generation_rank: 1, source_timestamp: Moment { units: 0 }, instance_handle: Handle { number: 1 }, publication_handle: Handle { number: 1 }, valid_data: false } }, Sample { key: Key([0, 0, 0, 0, 0, 0, 0, 0, 0, 0, 0, 0, 0, 0, 0, 1]), value: Octets { items: [2] }, info: SampleInfo { sample_state: NotRead, view_state: New, instance_state: Alive, disposed_generation_count: 1, no_writers_generation_count: 0, sample_rank: 0, generation_rank: 0, absolute_generation_rank: 0, source_timestamp: Moment { units: 0 }, instance_handle: Handle { number: 1 }, publication_handle: Handle { number: 1 }, valid_data: true } }] }) 3 0
 run => as its steps
+
+# A round brings what there is, and the next one tells the writer of it, whose reader then is not behind. There is a place where
+# a reader is matched.
+open => opened
+place 2 1 1 1 => Some(Sn { number: 1 })
+place 1 1 1 1 => None
+place 2 1 2 1 => None
+place 2 2 1 1 => None
+write 1 1 31 => Done 1 0
+write 1 1 32 => Done 2 0
+round 1 1 2 1 => replies 4, was_behind true, unsent_before 0, last 2, from 1 to 3, has_caught_up true
+place 2 1 1 1 => Some(Sn { number: 3 })
+round 1 1 2 1 => replies 3, was_behind true, unsent_before 0, last 2, from 3 to 3, has_caught_up true
+round 1 1 2 1 => replies 1, was_behind false, unsent_before 0, last 2, from 3 to 3, has_caught_up true
+round 2 1 1 1 => BadParameter
+
+# A reader without room for the second change: nothing else kept the round from its end.
+open 1 => opened
+write 1 1 31 => Done 1 0
+write 1 1 32 => Done 2 0
+round 1 1 2 1 => replies 4, was_behind true, unsent_before 0, last 2, from 1 to 2, has_caught_up false
+place 2 1 1 1 => Some(Sn { number: 2 })
 ";
