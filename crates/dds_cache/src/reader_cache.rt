@@ -292,7 +292,7 @@ impl ReaderCache {
     ///
     /// `Memory` where a growth was refused, and never where room was reserved; the cache is then as it was.
     ///
-    /// RTPS 2.5, 8.4.13 (writer liveliness protocol).
+    /// RTPS 2.5, 8.7.2.2 (LIVELINESS).
     pub fn hear(&mut self, writer: Handle, moment: Moment) -> Result<(), Code>
         // The writer is a matched one.
         requires matched { IsMatched (qos_of self.old) writer }

@@ -1,8 +1,6 @@
 -- An access of one of the peer's readers: a read or a take, in any of its forms.
-use Rattle.std.proofs.Common.{◌≡◌, ◌≢◌, ℕ, suc, ◌+◌, ◌-◌, ◌^◌, ◌<◌, Bool, true, not, List, [], ◌∷◌, Option, Some, set, length, slice_get, refl, ap, sym, ◌∙◌, subst, arith}
-use Rattle.std.specs.Prelude.{if◌then◌else◌, min, Result, Ok, Err}
-use Rattle.std.proofs.lemmas.List.{set-get_or}
-use Rattle.std.proofs.lemmas.Option.{get_or_from_slice_get}
+use Rattle.std.proofs.Common.{◌≡◌, ◌≢◌, ℕ, suc, ◌+◌, ◌<◌, Bool, true, not, List, [], ◌∷◌, Option, Some, set, length, slice_get, refl, ap, sym, ◌∙◌, subst, arith}
+use Rattle.std.specs.Prelude.{if◌then◌else◌, Result, Ok, Err}
 use Rattle.dds_base.specs.declared.code.Code.{Code}
 use Rattle.dds_base.specs.declared.code.Code.TheVariants.{BadParameter, NoData}
 use Rattle.dds_base.specs.declared.config.Config.{Config}
@@ -41,6 +39,7 @@ use Rattle.dds_core.proofs.CallSteps.{Follows, refused_call, there_is}
 use Rattle.dds_core.proofs.Ends.{with_reader, own_reader_changed}
 use Rattle.dds_core.proofs.Taking.{silent}
 use Rattle.dds_core.proofs.Identities.{same_identity}
+use Rattle.dds_core.proofs.Lists.{set_back}
 
 -- what happens at a reader where an access was entered: nothing was passed over, and no writer asserted or died
 pub record IsQuiet (entry : List SamplePosition → Happening) : Type 0 where
@@ -98,7 +97,7 @@ entered entry quiet c kept i k k' config peer s at same reply samples stands ste
 not_entered : (c : Call) (kept : CoreKept) (i : ℕ) (k k' : ReaderKept) (config : Config) (peer : Peer) (code : Code) → StandsFor kept config peer → slice_get kept.readers i ≡ Some k → k' ≡ k → CallAnswers no_filters peer.part c (Refused code) peer.part.dds
     → Follows (with_reader kept i k') config peer (event.Call c) (silent (Refused code))
 not_entered c kept i k k' config peer code s at same is =
-    let unchanged : set kept.readers i k' ≡ kept.readers = ap (λ (x : ReaderKept). set kept.readers i x) (same ∙ sym (get_or_from_slice_get kept.readers i k k at)) ∙ set-get_or kept.readers i k in
+    let unchanged : set kept.readers i k' ≡ kept.readers = set_back kept.readers i k k' at same in
     subst (λ (rs : List ReaderKept). Follows (record kept { readers = rs }) config peer (event.Call c) (silent (Refused code))) (sym unchanged) (refused_call kept config peer s c code is)
 
 kept_same : (k k' : ReaderKept) → TakesOnly k k' → k'.store.cache ≡ k.store.cache → k' ≡ k

@@ -202,10 +202,10 @@ due_is w answered now due is =
 
 -- so the HEARTBEATs to its peers are those of the writer
 pub beats_are : (prefix : GuidPrefix) (kept : WriterKept) (w : Writer) (answered : Endpoint → Option ℤ) (now : ℕ) (due : HeartbeatDue) → heartbeat_due (state_of w answered) now ≡ Some due
-    → beats_to (record { prefix = prefix; entity = kept.entity; due = due }) w kept.destinations ≡ beats_of prefix kept w
+    → beats_to (record { prefix = prefix; entity = kept.entity; due = due; asserts = false }) w kept.destinations ≡ beats_of prefix kept w
 beats_are prefix kept w answered now due is =
     let d = due_is w answered now due is in
-    ap (λ (x : HeartbeatDue). beats_to (record { prefix = prefix; entity = kept.entity; due = x }) w kept.destinations) d.1
+    ap (λ (x : HeartbeatDue). beats_to (record { prefix = prefix; entity = kept.entity; due = x; asserts = false }) w kept.destinations) d.1
     ∙ sym (ap (λ (b : Bool). if b then map (λ (e : Destination). due_to e.peer (heartbeat_message prefix e.prefix kept.entity w)) (peers_behind w kept.destinations) else []) d.0)
 
 -- where nobody is behind, no peer is
@@ -265,18 +265,26 @@ first_within h =
     subst (λ (m : ℕ). (1 ≤ unwrap_or (find (λ k. is_kept h k) (numbers_from 1 (length h.changes))) m) × (unwrap_or (find (λ k. is_kept h k) (numbers_from 1 (length h.changes))) m ≤ m)) past
     (first_found (λ k. is_kept h k) 1 (length h.changes))
 
-pub valid_due : (kept : Kept) (s : WriterState) (now : ℕ) (due : HeartbeatDue) → RtpsStandsFor kept s → heartbeat_due s now ≡ Some due → IsValid due
-valid_due kept s now due stands is =
+-- what a writer would send next is such, whatever its count
+pub valid_next : (kept : Kept) (s : WriterState) (count : ℤ) → RtpsStandsFor kept s
+    → IsValid (record { first = first_kept (rtps_history_of s); last = last_of s; count = count })
+valid_next kept s count stands =
     let first = first_within (rtps_history_of s) in
     let last = stands.history.last in
     let few = stands.history.few in
+    record { first = first.0; not_past = first.1; last = omega (arith, last, few) }
+
+-- what is made only so is that
+pub made_is : (b : Bool) (d due : HeartbeatDue) → (if b then Some d else None) ≡ Some due → d ≡ due
+made_is true d due h = same_Some d due h
+made_is false d due h = absurd cc
+
+pub valid_due : (kept : Kept) (s : WriterState) (now : ℕ) (due : HeartbeatDue) → RtpsStandsFor kept s → heartbeat_due s now ≡ Some due → IsValid due
+valid_due kept s now due stands is =
+    let counts = counts_due (rtps_ticked s now) in
     subst (λ (d : HeartbeatDue). IsValid d)
-    (made (is_behind s && nat_lt (counts_due (rtps_ticked s now)) (2 ^ 31)) (record { first = first_kept (rtps_history_of s); last = last_of s; count = pos (counts_due (rtps_ticked s now)) }) is)
-    (record { first = first.0; not_past = first.1; last = omega (arith, last, few) })
-  where
-    made : (b : Bool) (d : HeartbeatDue) → (if b then Some d else None) ≡ Some due → d ≡ due
-    made true d h = same_Some d due h
-    made false d h = absurd cc
+    (made_is (is_behind s && nat_lt counts (2 ^ 31)) (record { first = first_kept (rtps_history_of s); last = last_of s; count = pos counts }) due is)
+    (valid_next kept s (pos counts) stands)
 
 -- ---- the writers of a peer, one after the other
 

@@ -197,7 +197,7 @@ own_readers config peer kept s (suc n) w at =
     let same : c.end ≡ w = same_Some c.end w (sym c.at ∙ there) in
     readers_configured config found.0 (get_or peer.part.rtps.writers n no_writer) (peer.known.answered (suc n)) c.end (s.writers.each n found.0 found.1) c.is ∙ ap (λ (x : WriterConfig). reader_ends x.topic config.peers) same
 
-part_of : (config : Config) (peer : Peer) (kept : CoreKept) → StandsFor kept config peer → IsPartOf config peer.number peer.part
+pub part_of : (config : Config) (peer : Peer) (kept : CoreKept) → StandsFor kept config peer → IsPartOf config peer.number peer.part
 part_of config peer kept s = record {
   here = s.is_peer.own;
   at = s.is_peer.at;

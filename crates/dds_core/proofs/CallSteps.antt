@@ -20,16 +20,21 @@ use Rattle.dds_model.specs.declared.event.Output.{Output}
 use Rattle.dds_model.specs.declared.reply.Reply.{Reply}
 use Rattle.dds_model.specs.declared.reply.Reply.TheVariants.{Done, LivelinessLost, Refused}
 use Rattle.dds_model.specs.declared.endpoint.Endpoint.{Endpoint}
-use Rattle.dds_model.specs.Calls.{Effect, nothing, writes, effect, effect_of, IsDoneUnless, Answers, CallStep, has_number, register_refusal, write_refusal, dispose_refusal, unregister_refusal, change_refusal, change_made, unregister_kind, tick_refusal, after_tick, TickStep, writer_look_refusal}
+use Rattle.dds_model.specs.Calls.{Effect, nothing, writes, effect, effect_of, IsDoneUnless, Answers, CallStep, has_number, register_refusal, write_refusal, dispose_refusal, unregister_refusal, change_refusal, change_made, unregister_kind, tick_refusal, after_tick, is_deadly, RefusesTick, TickStep, writer_look_refusal}
 use Rattle.dds_model.specs.Machine.{no_filters}
 use Rattle.dds_model.specs.Part.{Part, Dds, Writer, own_writer}
 use Rattle.dds_model.specs.Peer.{Peer, PeerStep}
-use Rattle.dds_core.specs.Kept.{WriterKept, CoreKept, WriterIdentity, reader_identity, IsPeerOf}
+use Rattle.dds_core.specs.Kept.{WriterKept, ReaderKept, CoreKept, WriterIdentity, ReaderIdentity, identity_of, reader_identity, writer_identity, IsPeerOf}
+use Rattle.dds_core.specs.Expiring.{AllExpire, HasDeadly}
+use Rattle.dds_core.specs.Receiving.{AreAlike}
 use Rattle.dds_core.specs.Making.{IsMade, IsNotMade, entered}
 use Rattle.dds_core.specs.Sending.{SendsFor, SendsNothing}
 use Rattle.dds_core.specs.Standing.{WriterStands, StandsFor, Enters, AllTick}
 use Rattle.dds_core.specs.Beating.{BeatsOfAll}
 use Rattle.dds_core.proofs.BeatsDue.{due_true}
+use Rattle.dds_core.proofs.Dying.{expired_names, peer_deadly, readers_expired}
+use Rattle.dds_core.proofs.Lists.{get-within}
+use Rattle.dds_core.proofs.Ready.{alike_core}
 use Rattle.dds_core.proofs.Ends.{with_writer, entered_at, own_writer_stepped}
 use Rattle.dds_core.proofs.Taking.{silent}
 use Rattle.dds_core.proofs.Tellable.{tellable_entered, tellable_ticked}
@@ -52,6 +57,7 @@ refused_nothing part (call.Register w key) x = refl
 refused_nothing part (call.Write w key value) x = refl
 refused_nothing part (call.Dispose w key) x = refl
 refused_nothing part (call.Unregister w key) x = refl
+refused_nothing part (call.AssertLiveliness w) x = refl
 refused_nothing part (call.Read r selection) x = refl
 refused_nothing part (call.Take r selection) x = refl
 refused_nothing part (call.GetKeyValue r instance) x = refl
@@ -227,12 +233,28 @@ refused_sends config peer c code = subst (λ (e : Effect). SendsFor config peer 
 
 -- a tick
 
-pub ticks : (kept : CoreKept) (writers : List WriterKept) (config : Config) (peer : Peer) → StandsFor kept config peer → (now : ℕ) → kept.moment ≤ now → now < 2 ^ 63 → AllTick kept.writers now writers
-    → (output : Output) → output.reply ≡ Done → BeatsOfAll kept.prefix kept.writers output.packets output.unsent → Follows (record kept { moment = now; writers = writers }) config peer (event.Tick now) output
-ticks kept writers config peer s now on early all output done beats =
+-- a moment that is neither before the peer's nor too late
+good_moment : (kept : CoreKept) (config : Config) (peer : Peer) → StandsFor kept config peer → (now : ℕ) → kept.moment ≤ now → now < 2 ^ 63 → tick_refusal peer.part now ≡ None
+good_moment kept config peer s now on early =
     let moment = s.moment in
-    let good : (nat_lt now peer.part.dds.moment || nat_le (2 ^ 63) now) ≡ false = neither (nat_lt now peer.part.dds.moment) (nat_le (2 ^ 63) now) (grind (arith, nat_tests)) (grind (arith, nat_tests)) in
-    let accepted : tick_refusal peer.part now ≡ None = ap (λ (b : Bool). if b then Some BadParameter else None) good in (
+    ap (λ (b : Bool). if b then Some BadParameter else None) (neither (nat_lt now peer.part.dds.moment) (nat_le (2 ^ 63) now) (grind (arith, nat_tests)) (grind (arith, nat_tests)))
+  where
+    neither : (a b : Bool) → a ≡ false → b ≡ false → (a || b) ≡ false
+    neither false b h k = k
+    neither true b h k = absurd cc
+
+-- the names stay, where those of writers and of readers do
+same_peer : (kept : CoreKept) (config : Config) (number : ℕ) (writers : List WriterKept) (readers : List ReaderKept) → map writer_identity writers ≡ map writer_identity kept.writers → map reader_identity readers ≡ map reader_identity kept.readers
+    → IsPeerOf config number (identity_of kept) → IsPeerOf config number (record { prefix = kept.prefix; writers = map writer_identity writers; readers = map reader_identity readers })
+same_peer kept config number writers readers ws rs h =
+    subst (λ (is : List ReaderIdentity). IsPeerOf config number (record { prefix = kept.prefix; writers = map writer_identity writers; readers = is })) (sym rs)
+    (subst (λ (is : List WriterIdentity). IsPeerOf config number (record { prefix = kept.prefix; writers = is; readers = map reader_identity kept.readers })) (sym ws) h)
+
+pub ticks : (kept : CoreKept) (writers : List WriterKept) (readers : List ReaderKept) (config : Config) (peer : Peer) → StandsFor kept config peer → (now : ℕ) → kept.moment ≤ now → now < 2 ^ 63 → AllTick kept.writers now writers
+    → AllExpire kept.readers now readers → (output : Output) → output.reply ≡ Done → BeatsOfAll kept.prefix kept.writers output.packets output.unsent
+    → Follows (record kept { moment = now; writers = writers; readers = readers }) config peer (event.Tick now) output
+ticks kept writers readers config peer s now on early all expired output done beats =
+    let accepted : tick_refusal peer.part now ≡ None = good_moment kept config peer s now on early in (
       record peer { part = after_tick peer.part now },
       record {
         same_number = refl;
@@ -241,18 +263,26 @@ ticks kept writers config peer s now on early all output done beats =
         sent = due_true config peer kept now output.packets output.unsent s accepted beats;
       },
       record {
-        is_peer = subst (λ (is : List WriterIdentity). IsPeerOf config peer.number (record { prefix = kept.prefix; writers = is; readers = map reader_identity kept.readers })) (sym (same_names now kept.writers writers all)) s.is_peer;
+        is_peer = same_peer kept config peer.number writers readers (same_names now kept.writers writers all) (expired_names now kept.readers readers expired) s.is_peer;
         moment = refl;
         early = early;
         writers = writers_ticked now kept.writers writers peer.part.rtps.writers peer.known.answered all s.writers;
-        readers = s.readers;
+        readers = readers_expired now kept.readers readers peer.part.rtps.readers peer.part.dds.readers peer.known expired s.readers;
         tellable = tellable_ticked peer.part now s.tellable;
       },
     )
-  where
-    neither : (a b : Bool) → a ≡ false → b ≡ false → (a || b) ≡ false
-    neither false b h k = k
-    neither true b h k = absurd cc
+
+-- one whose deaths find no memory
+pub tick_without_memory : (kept : CoreKept) (readers : List ReaderKept) (code : Code) (config : Config) (peer : Peer) → StandsFor kept config peer → (now : ℕ) → kept.moment ≤ now → now < 2 ^ 63 → AreAlike kept.readers readers
+    → (code ≡ Memory) × HasDeadly kept.readers now → Follows (record kept { readers = readers }) config peer (event.Tick now) (silent (Refused code))
+tick_without_memory kept readers code config peer s now on early alike dies =
+    let accepted : tick_refusal peer.part now ≡ None = good_moment kept config peer s now on early in
+    let d = dies.1 in
+    let within = get-within kept.readers d.index d.reader d.at in
+    let count = s.readers.count in
+    let deadly : is_deadly peer.part now ≡ true = peer_deadly peer.part now d.index (omega (arith, within, count)) (d.deadly _ _ _ (s.readers.each d.index d.reader d.at)) in
+    let refused : RefusesTick peer.part now code = (subst (λ (o : Option Code). Refuses o code) (sym accepted) dies.0, λ memory. deadly) in
+    (peer, record { same_number = refl; knows = refl; step = ((refused, refl), refl); sent = λ p x m h. absurd (omega (arith, m.1)) }, alike_core kept readers alike config peer s)
 
 pub refused_tick : (kept : CoreKept) (config : Config) (peer : Peer) → StandsFor kept config peer → (now : ℕ) → (now < kept.moment) ⊎ (2 ^ 63 ≤ now) → Follows kept config peer (event.Tick now) (silent (Refused BadParameter))
 refused_tick kept config peer s now bad =
@@ -260,7 +290,7 @@ refused_tick kept config peer s now bad =
     let is_bad : (nat_lt now peer.part.dds.moment || nat_le (2 ^ 63) now) ≡ true =
     ⊎_elim (λ back. first (nat_lt now peer.part.dds.moment) (nat_le (2 ^ 63) now) (grind (arith, nat_tests))) (λ late. second (nat_lt now peer.part.dds.moment) (nat_le (2 ^ 63) now) (grind (arith, nat_tests))) bad in
     let is : tick_refusal peer.part now ≡ Some BadParameter = ap (λ (b : Bool). if b then Some BadParameter else None) is_bad in
-    (peer, record { same_number = refl; knows = refl; step = ((is, refl), refl); sent = λ p x m h. absurd (omega (arith, m.1)) }, s)
+    (peer, record { same_number = refl; knows = refl; step = (((subst (λ (o : Option Code). Refuses o BadParameter) (sym is) refl, λ memory. absurd cc), refl), refl); sent = λ p x m h. absurd (omega (arith, m.1)) }, s)
   where
     first : (a b : Bool) → a ≡ true → (a || b) ≡ true
     first true b h = refl
@@ -272,7 +302,7 @@ refused_tick kept config peer s now bad =
 
 -- the calls, by the index of their writer
 
-number_is : (writer i : ℕ) → writer ≡ i + 1 → suc i ≡ writer
+pub number_is : (writer i : ℕ) → writer ≡ i + 1 → suc i ≡ writer
 number_is writer i is = let index : i + 1 ≡ suc i = omega arith in sym (is ∙ index)
 
 known_writer : (kept : CoreKept) (config : Config) (peer : Peer) → StandsFor kept config peer → (writer i : ℕ) → writer ≡ i + 1 → i < length kept.writers → has_number peer.part.rtps.writers writer ≡ true

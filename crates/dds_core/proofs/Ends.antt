@@ -15,7 +15,7 @@ use Rattle.rtps_reader.specs.Tracked.{Tracked}
 use Rattle.rtps_reader.specs.Reader.{Tracks}
 use Rattle.dds_core.specs.Kept.{WriterKept, ReaderKept, CoreKept, Identity, WriterIdentity, ReaderIdentity, writer_identity, reader_identity, identity_of, IsPeerOf}
 use Rattle.dds_core.specs.Standing.{WriterStands, WritersStand, ReaderStands, StandsFor, Enters}
-use Rattle.dds_core.proofs.Lists.{each_set_at, map-set_same}
+use Rattle.dds_core.proofs.Lists.{each_set_at, map-set_same, set_back}
 
 -- what is kept, with another writer or reader of this index
 
@@ -39,6 +39,13 @@ same_with_reader kept i k k' at same =
 -- the peer with another thing that happened at its writer of this number
 abbrev pub entered_at : Peer → ℕ → Written → Peer
 entered_at peer writer entry = record peer { part = record peer.part { rtps = effect peer.part.rtps (writes writer entry) } }
+
+-- a writer that was put back as it was changes nothing
+pub unchanged_with : (kept : CoreKept) (i : ℕ) (k k' : WriterKept) → slice_get kept.writers i ≡ Some k → k' ≡ k → with_writer kept i k' ≡ kept
+unchanged_with kept i k k' at same = ap (λ (ws : List WriterKept). changed kept ws) (set_back kept.writers i k k' at same)
+  where
+    changed : CoreKept → List WriterKept → CoreKept
+    changed x ws = record x { writers = ws }
 
 -- each writer stands, also where one stepped
 writers_set : (ks : List WriterKept) (ws : List Writer) (i : ℕ) (k : WriterKept) (w : Writer) (answered : ℕ → Endpoint → Option ℤ) → length ws ≡ length ks

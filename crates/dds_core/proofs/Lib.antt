@@ -1,7 +1,10 @@
 pub mod Announcing
 pub mod Beating
+pub mod Asserting
 pub mod BeatsDue
 pub mod CallSteps
+pub mod AssertSteps
+pub mod Dying
 pub mod ChangesDue
 pub mod Destinations
 pub mod Ends

@@ -1,6 +1,8 @@
 -- Lists with one element changed, by what is read of them.
 use Rattle.std.proofs.Common.{◌≡◌, ℕ, zero, suc, ◌+◌, ◌<◌, List, [], ◌∷◌, ◌++◌, Some, None, map, set, take, drop, length, get_or, slice_get, refl, subst, ap, sym, ◌∙◌, arith}
 use Rattle.std.proofs.lemmas.Option.{same_Some}
+use Rattle.std.proofs.lemmas.List.{set-get_or}
+use Rattle.std.proofs.lemmas.Option.{get_or_from_slice_get}
 
 -- what holds of each element and of its partner holds after both were changed
 pub each_set : {X Y : Type 0} (R : X → Y → Type 0) (xs : List X) (ys : List Y) (i : ℕ) (x : X) (y d : Y) → length ys ≡ length xs → ((j : ℕ) (k : X) → slice_get xs j ≡ Some k → R k (get_or ys j d)) → R x y
@@ -98,3 +100,7 @@ written_back new old len count is =
     take_first : {X : Type 0} (xs : List X) → take (length xs) (xs ++ []) ≡ xs
     take_first [] = refl
     take_first (x ∷ xs) = ap (λ zs. x ∷ zs) (take_first xs)
+
+-- what was put back as it was changes nothing
+pub set_back : {X : Type 0} (xs : List X) (i : ℕ) (x y : X) → slice_get xs i ≡ Some x → y ≡ x → set xs i y ≡ xs
+set_back {X = X} xs i x y at same = ap (λ (z : X). set xs i z) (same ∙ sym (get_or_from_slice_get xs i x x at)) ∙ set-get_or xs i x

@@ -1,9 +1,8 @@
 -- A look at a status of one of the peer's readers.
-use Rattle.std.proofs.Common.{◌≡◌, ℕ, suc, ◌+◌, ◌<◌, Bool, not, List, Some, None, length, slice_get, refl, ap, sym, ◌∙◌, subst, arith}
+use Rattle.std.proofs.Common.{◌≡◌, ℕ, suc, ◌+◌, ◌<◌, Bool, not, Some, None, length, slice_get, refl, ap, sym, ◌∙◌, subst, arith}
 use Rattle.std.specs.Prelude.{if◌then◌else◌}
 use Rattle.dds_base.specs.declared.code.Code.TheVariants.{BadParameter}
 use Rattle.dds_base.specs.declared.config.Config.{Config}
-use Rattle.dds_base.specs.declared.happening.Happening.{Happening}
 use Rattle.dds_base.specs.declared.qos.ReaderQos.{ReaderQos}
 use Rattle.dds_base.specs.declared.status.LivelinessChangedStatus.{LivelinessChangedStatus}
 use Rattle.dds_base.specs.declared.status.SampleLostStatus.{SampleLostStatus}
@@ -16,11 +15,11 @@ use Rattle.dds_model.specs.declared.reply.Reply.{Reply}
 use Rattle.dds_model.specs.declared.reply.Reply.TheVariants.{SampleLost, LivelinessChanged}
 use Rattle.dds_model.specs.Calls.{Answers, look_refusal, after_look, effect, effect_of, nothing, seen_lost, seen_liveliness}
 use Rattle.dds_model.specs.Machine.{no_filters}
-use Rattle.dds_model.specs.Part.{Part, Reader, Seen, own_reader}
+use Rattle.dds_model.specs.Part.{Reader, Seen, own_reader}
 use Rattle.dds_model.specs.Peer.{Peer}
 use Rattle.dds_core.specs.Kept.{ReaderKept, CoreKept}
 use Rattle.dds_core.specs.Receiving.{TellsLost, TellsLiveliness}
-use Rattle.dds_core.specs.Standing.{ReaderStands, StandsFor}
+use Rattle.dds_core.specs.Standing.{StandsFor}
 use Rattle.dds_core.proofs.CallSteps.{Follows, there_is}
 use Rattle.dds_core.proofs.Ends.{with_reader, own_reader_changed}
 use Rattle.dds_core.proofs.Taking.{silent}

@@ -3,8 +3,7 @@ use Rattle.std.proofs.Common.{◌≡◌, ℕ, zero, suc, ◌+◌, ◌-◌, ◌<�
 use Rattle.std.specs.Prelude.{nat_lt, if◌then◌else◌, Option, ℤ, Result, Ok, Err, IfOk}
 use Rattle.std.specs.declared.alloc.AllocError.{AllocError}
 use Rattle.std.proofs.lemmas.Bool.Decides.{nat_tests}
-use Rattle.std.proofs.lemmas.List.{set-get_or}
-use Rattle.std.proofs.lemmas.Option.{same_Some, get_or_from_slice_get}
+use Rattle.std.proofs.lemmas.Option.{same_Some}
 use Rattle.dds_base.specs.declared.change.Change.{Change}
 use Rattle.dds_base.specs.declared.change.ChangeKind.{ChangeKind}
 use Rattle.dds_base.specs.declared.code.Code.{Code}
@@ -37,7 +36,7 @@ use Rattle.dds_core.specs.declared.matching.ReaderName.{ReaderName}
 use Rattle.dds_core.proofs.BeatsDue.{IsNamed, named, named_again}
 use Rattle.dds_core.proofs.ChangesDue.{change_sent}
 use Rattle.dds_core.proofs.Destinations.{ends_of_names, reader_ends}
-use Rattle.dds_core.proofs.Ends.{with_writer, own_writer_stepped}
+use Rattle.dds_core.proofs.Ends.{with_writer, own_writer_stepped, unchanged_with}
 use Rattle.dds_core.proofs.Tellable.{tellable_entered}
 use Rattle.dds_core.proofs.Lists.{get-map, map-get, get-within}
 use Rattle.dds_core.proofs.Sent.{IsOnly, IsThere, IsMatched, sends_change, sent_true}
@@ -161,11 +160,10 @@ pub not_made : (old : CoreKept) (i : ℕ) (k k' : WriterKept) (kind : ChangeKind
     → IsNotMade config peer (i + 1) (change_made peer.part kind key value) output (with_writer old i k')
 not_made old i k k' kind key value code output config peer s at same refuses is =
     let index : i + 1 ≡ suc i = omega arith in
-    let unchanged : set old.writers i k' ≡ old.writers = ap (λ (x : WriterKept). set old.writers i x) (same ∙ sym (get_or_from_slice_get old.writers i k k at)) ∙ set-get_or old.writers i k in
     record {
       code = code;
       cause = subst (λ (n : ℕ). Refuses (change_refusal peer.part n (change_made peer.part kind key value)) code) (sym index)
           (subst (λ (m : ℕ). Refuses (append_refusal (history_of (own_writer peer.part (suc i))) (made_by kind key value m)) code) (sym s.moment) (refuses (own_writer peer.part (suc i)) (peer.known.answered (suc i)) (s.writers.each i k at)));
       output_is = is;
-      stands = subst (λ (ws : List WriterKept). StandsFor (record old { writers = ws }) config peer) (sym unchanged) s;
+      stands = subst (λ (x : CoreKept). StandsFor x config peer) (sym (unchanged_with old i k k' at same)) s;
     }

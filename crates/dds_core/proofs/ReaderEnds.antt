@@ -1,13 +1,10 @@
 -- A reader at its opening.
-use Rattle.std.proofs.Common.{◌≡◌, ℕ, ◌+◌, ◌<◌, ◌≤◌, true, not, cond, Bool, false, List, [], ◌∷◌, ◌++◌, Option, None, Some, map, length, refl, ap, sym, ◌∙◌, arith}
-use Rattle.std.specs.Prelude.{is_some}
+use Rattle.std.proofs.Common.{◌≡◌, ℕ, ◌+◌, ◌<◌, ◌≤◌, true, cond, Bool, false, List, [], ◌∷◌, ◌++◌, Option, None, Some, map, length, refl, ap, sym, ◌∙◌, arith}
 use Rattle.std.specs.Option.{option_map}
 use Rattle.dds_base.specs.declared.config.PeerConfig.{PeerConfig}
 use Rattle.dds_base.specs.declared.config.ReaderConfig.{ReaderConfig}
 use Rattle.dds_base.specs.declared.config.WriterConfig.{WriterConfig}
-use Rattle.dds_base.specs.declared.qos.HistoryQos.{HistoryQos}
 use Rattle.dds_base.specs.declared.qos.MatchedWriter.{MatchedWriter}
-use Rattle.dds_base.specs.declared.qos.OwnershipQos.{OwnershipQos}
 use Rattle.dds_base.specs.declared.qos.ReaderQos.{ReaderQos}
 use Rattle.dds_base.specs.Matched.{same_topic, of_matched_writers}
 use Rattle.dds_cache.specs.Standing.{qos_of}
@@ -15,7 +12,7 @@ use Rattle.rtps_reader.specs.Reader.{Proxies, Tracks, count_of}
 use Rattle.rtps_reader.specs.Tracked.{fresh}
 use Rattle.dds_model.specs.declared.endpoint.Endpoint.{Endpoint}
 use Rattle.dds_base.specs.Checked.{limit_of}
-use Rattle.dds_model.specs.Opening.{writer_qos, writers_in, matched_writers}
+use Rattle.dds_model.specs.Opening.{writers_in, matched_writers}
 use Rattle.dds_model.specs.Part.{WriterProxy, same_endpoint, row_of, place_of, nothing_seen}
 use Rattle.dds_model.proofs.OwnGuids.{as_many}
 use Rattle.dds_core.specs.declared.matching.WriterName.{WriterName}

@@ -114,7 +114,7 @@ rest_more ready now i x left =
 
 -- readers with more room stand for what they stood for
 
-alike_stands : (a b : ReaderKept) (proxies : List WriterProxy) (r : Reader) (tracked : Endpoint → Tracked) → IsAlike a b → ReaderStands a proxies r tracked → ReaderStands b proxies r tracked
+pub alike_stands : (a b : ReaderKept) (proxies : List WriterProxy) (r : Reader) (tracked : Endpoint → Tracked) → IsAlike a b → ReaderStands a proxies r tracked → ReaderStands b proxies r tracked
 alike_stands a b proxies r tracked h s = record {
   writers_are = s.writers_are ∙ ap (λ (ns : List WriterName). writers_of ns) (sym h.writers);
   places = s.places;

@@ -1,6 +1,6 @@
 -- A writer at its opening, and after what happens there.
 use Rattle.std.proofs.Common.{◌≡◌, ℕ, zero, suc, ◌≤◌, Bool, List, [], ◌∷◌, Option, None, map, replicate, length, get_or, refl, ap, sym, ◌∙◌, subst, arith}
-use Rattle.std.specs.Prelude.{◌+◌, ◌||◌, nat_le, ℤ, pos, negsuc, Result, Ok, Err, IfOk, IfErr, OnOk}
+use Rattle.std.specs.Prelude.{◌+◌, ◌||◌, nat_le, ℤ, Result, Ok, Err, IfOk, IfErr, OnOk}
 use Rattle.std.specs.List.{AllByRecursion, list_any}
 use Rattle.std.proofs.lemmas.List.Elements.{All-from_recursion}
 use Rattle.dds_base.specs.declared.change.Change.{Change}

@@ -1,21 +1,19 @@
--- The HEARTBEATs of a peer's writers at a tick, by what the peer keeps. Inner functions alone cite this: nothing here has to
+-- The HEARTBEATs of a peer's writers, at a tick and for an assertion, by what the peer keeps. Inner functions alone cite this: nothing here has to
 -- be believed.
 --
 -- RTPS 2.5, 8.4.9 (reliable StatefulWriter: heartbeatPeriod), 8.3.8 (Heartbeat).
-use Rattle.std.specs.Prelude.{◌≡◌, ◌⊎◌, ℕ, ◌+◌, ◌-◌, ◌^◌, ◌≤◌, ◌==◌, ◌&&◌, Bool, if◌then◌else◌, nat_lt, nat_le, false, List, [], ◌∷◌, ◌++◌, length, map, filter, Option, ℤ}
+use Rattle.std.specs.Prelude.{◌≡◌, ℕ, ◌+◌, ◌-◌, ◌^◌, ◌≤◌, ◌==◌, ◌&&◌, Bool, if◌then◌else◌, nat_lt, nat_le, true, false, List, [], ◌∷◌, ◌++◌, length, map, filter, Option, ℤ}
 use Rattle.std.specs.List.{list_any}
 use Rattle.dds_base.specs.declared.guid.GuidPrefix.{GuidPrefix}
-use Rattle.dds_base.specs.Written.{counts_of}
 use Rattle.rtps_wire.specs.declared.message.Message.{Message}
 use Rattle.rtps_wire.specs.declared.submessage.Submessage.TheVariants.{InfoDst, Heartbeat}
-use Rattle.rtps_wire.specs.Messages.{IsWritable, spelling_of}
 use Rattle.rtps_writer.specs.declared.heartbeat.HeartbeatDue.{HeartbeatDue}
 use Rattle.rtps_writer.specs.Standing.{Kept, StandsFor as RtpsStandsFor}
 use Rattle.dds_model.specs.declared.endpoint.Endpoint.{Endpoint}
 use Rattle.dds_model.specs.declared.event.Packet.{Packet}
-use Rattle.dds_model.specs.Part.{ReaderProxy, Writer, writer_changes, has_readers}
+use Rattle.dds_model.specs.Part.{ReaderProxy, Writer, writer_changes, has_readers, heartbeats_used}
 use Rattle.dds_model.specs.Claims.{every_reader}
-use Rattle.dds_model.specs.Protocol.{Due, AreSent, heartbeat_message}
+use Rattle.dds_model.specs.Protocol.{Due, AreSent, assertion_message, heartbeat_message}
 use Rattle.dds_core.specs.declared.heartbeat.Beat.{Beat}
 use Rattle.dds_core.specs.declared.matching.Destination.{Destination}
 use Rattle.dds_core.specs.declared.matching.ReaderName.{ReaderName}
@@ -39,14 +37,18 @@ message_to beat to = record {
     first_sn = beat.due.first;
     last_sn = beat.due.last;
     count = beat.due.count;
-    final_flag = false;
-    liveliness_flag = false;
+    final_flag = beat.asserts;
+    liveliness_flag = beat.asserts;
   }) ∷ [];
 }
 
 -- a message that is due to a peer
 abbrev pub due_to : ℕ → Message → Due
 due_to to message = record { to = to; message = message }
+
+-- the HEARTBEAT to each of these peers
+abbrev pub told_to : Beat → List Destination → List Due
+told_to beat ds = map (λ (d : Destination). due_to d.peer (message_to beat d.prefix)) ds
 
 -- some matched reader of this peer has not acknowledged all changes of the writer
 abbrev pub is_peer_behind : Writer → ℕ → Bool
@@ -56,14 +58,19 @@ is_peer_behind w peer = list_any (λ (p : ReaderProxy). (p.reader.peer == peer) 
 abbrev pub peers_behind : Writer → List Destination → List Destination
 peers_behind w ds = filter (λ (d : Destination). is_peer_behind w d.peer) ds
 
--- the HEARTBEAT to each of those peers
+-- the HEARTBEAT to each of those
 abbrev pub beats_to : Beat → Writer → List Destination → List Due
-beats_to beat w ds = map (λ (d : Destination). due_to d.peer (message_to beat d.prefix)) (peers_behind w ds)
+beats_to beat w ds = told_to beat (peers_behind w ds)
+
+-- what tells an assertion of a writer, from a peer of this prefix
+abbrev pub assertions_of : GuidPrefix → WriterKept → Writer → List Due
+assertions_of prefix kept w =
+    if has_readers w then map (λ (d : Destination). due_to d.peer (assertion_message prefix d.prefix kept.entity w)) kept.destinations else []
 
 -- what is due at a tick of a writer, from a peer of this prefix
 abbrev pub beats_of : GuidPrefix → WriterKept → Writer → List Due
 beats_of prefix kept w =
-    if nat_lt (length (counts_of (has_readers w) w.written)) (2 ^ 31 - 1)
+    if nat_lt (heartbeats_used w) (2 ^ 31 - 1)
     then map (λ (d : Destination). due_to d.peer (heartbeat_message prefix d.prefix kept.entity w)) (peers_behind w kept.destinations)
     else []
 
@@ -98,3 +105,13 @@ BeatsOf prefix kept old before new after = (w : Writer) (answered : Endpoint →
 -- the same of a peer's writers, from the first
 abbrev pub BeatsOfAll : GuidPrefix → List WriterKept → List Packet → ℕ → Type 0
 BeatsOfAll prefix kept packets unsent = (ws : List Writer) (answered : ℕ → Endpoint → Option ℤ) → WritersStand kept ws answered → AreSent (beats_of_all prefix kept ws) packets unsent
+
+-- for each writer that is stood for, there was a count left for an assertion, and what tells of it is sent
+abbrev pub TellsOf : GuidPrefix → WriterKept → List Packet → ℕ → Type 0
+TellsOf prefix kept packets unsent = (w : Writer) (answered : Endpoint → Option ℤ) → WriterStands kept w answered
+    → (nat_le (2 ^ 31 - 1) (heartbeats_used w) ≡ false) × AreSent (assertions_of prefix kept w) packets unsent
+
+-- for each writer that is stood for, no count is left
+abbrev pub HasNoCount : WriterKept → Type 0
+HasNoCount kept = (w : Writer) (answered : Endpoint → Option ℤ) → WriterStands kept w answered
+    → nat_le (2 ^ 31 - 1) (heartbeats_used w) ≡ true

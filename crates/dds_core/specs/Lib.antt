@@ -9,3 +9,4 @@ pub mod Stored
 pub mod Beating
 pub mod Answering
 pub mod Pairs
+pub mod Expiring

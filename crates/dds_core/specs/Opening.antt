@@ -1,6 +1,5 @@
--- How a peer begins, and which configurations are taken so far.
-use Rattle.std.specs.Prelude.{◌≡◌, ℕ, ◌+◌, ◌&&◌, not, Bool, true, false, List, [], length, slice_get, is_some, Option, Some, None, if◌then◌else◌}
-use Rattle.std.specs.List.{list_all}
+-- How a peer begins.
+use Rattle.std.specs.Prelude.{◌≡◌, ℕ, ◌+◌, List, [], length, slice_get, is_some, Option, Some, None, if◌then◌else◌}
 use Rattle.dds_base.specs.declared.code.Code.{Code}
 use Rattle.dds_base.specs.declared.code.Code.TheVariants.{BadParameter}
 use Rattle.dds_base.specs.declared.config.Config.{Config}
@@ -17,27 +16,9 @@ use Rattle.dds_model.specs.World.{peer_at}
 use Rattle.dds_core.specs.Kept.{WriterKept, ReaderKept, CoreKept, writer_identity, reader_identity, configured_writer, configured_reader}
 use Rattle.dds_core.specs.Standing.{WriterStands, ReaderStands, StandsFor}
 
--- a writer without a lease
-abbrev pub is_plain_writer : WriterConfig → Bool
-is_plain_writer w = not (is_some w.lease)
-
--- a reader without a lease
-abbrev pub is_plain_reader : ReaderConfig → Bool
-is_plain_reader r = not (is_some r.lease)
-
-abbrev pub is_plain_peer : PeerConfig → Bool
-is_plain_peer p = list_all is_plain_writer p.writers && list_all is_plain_reader p.readers
-
-abbrev pub are_plain : List PeerConfig → Bool
-are_plain peers = list_all is_plain_peer peers
-
--- why a configuration is not taken: it is refused, or some writer or reader is not plain
-abbrev pub opening_refusal : List PeerConfig → Option Code
-opening_refusal peers = if is_some (check_refusal peers) then check_refusal peers else (if are_plain peers then None else Some BadParameter)
-
--- why there is no peer of this number: the configuration has none, or is not taken
+-- why there is no peer of this number: the configuration is refused, or has none
 abbrev pub core_refusal : List PeerConfig → ℕ → Option Code
-core_refusal peers peer = if is_some (check_refusal peers) then check_refusal peers else (if has_number peers peer && are_plain peers then None else Some BadParameter)
+core_refusal peers peer = if is_some (check_refusal peers) then check_refusal peers else (if has_number peers peer then None else Some BadParameter)
 
 -- the peer of this number, at the opening
 abbrev pub opening_peer : Config → ℕ → Peer

@@ -6,7 +6,7 @@ use Rattle.std.specs.declared.alloc.AllocError.{AllocError}
 use Rattle.dds_base.specs.declared.change.Change.{Change}
 use Rattle.dds_base.specs.declared.config.Config.{Config}
 use Rattle.dds_base.specs.declared.guid.GuidPrefix.{GuidPrefix}
-use Rattle.dds_base.specs.Written.{Changed}
+use Rattle.dds_base.specs.Written.{Changed, Asserted}
 use Rattle.rtps_wire.specs.declared.data.DataContent.{DataContent}
 use Rattle.rtps_wire.specs.declared.message.Message.{Message}
 use Rattle.rtps_wire.specs.declared.submessage.Submessage.TheVariants.{InfoDst, InfoTs, Data}
@@ -23,7 +23,7 @@ use Rattle.dds_model.specs.Peer.{Peer}
 use Rattle.dds_model.specs.Part.{peers_of}
 use Rattle.dds_model.specs.declared.reply.Reply.{Reply}
 use Rattle.dds_model.specs.declared.reply.Reply.TheVariants.{Done}
-use Rattle.dds_model.specs.Protocol.{Due, AreSent, changes_due, heartbeats_due}
+use Rattle.dds_model.specs.Protocol.{Due, AreSent, changes_due, heartbeats_due, assertions_due}
 use Rattle.dds_core.specs.declared.matching.Destination.{Destination}
 use Rattle.dds_core.specs.declared.sending.Sender.{Sender}
 use Rattle.dds_core.specs.Kept.{CoreKept, WriterKept}
@@ -47,6 +47,8 @@ pub record SendsChange (config : Config) (writer : Endpoint) (readers : List Rea
 abbrev pub SendsFor : Config → Peer → Effect → Output → Type 0
 SendsFor config peer (writes writer (Changed change)) output =
     SendsChange config (record { peer = peer.number; number = writer }) (own_writer peer.part writer).readers (length (writer_changes (own_writer peer.part writer)) + 1) change output
+SendsFor config peer (writes writer (Asserted moment)) output =
+    AreSent (assertions_due config (record { peer = peer.number; number = writer }) (own_writer peer.part writer)) output.packets output.unsent
 SendsFor config peer other output = SendsNothing output
 
 -- each packet is a message

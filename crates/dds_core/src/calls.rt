@@ -42,6 +42,7 @@ impl Core {
             Call::Write { writer, key, value } => self.write(writer, key, value),
             Call::Dispose { writer, key } => self.dispose(writer, key),
             Call::Unregister { writer, key } => self.unregister(writer, key),
+            Call::AssertLiveliness { writer } => self.assert_liveliness(writer),
             Call::Read { reader, selection } => self.read(reader, selection),
             Call::Take { reader, selection } => self.take(reader, selection),
             Call::GetKeyValue { reader, instance } => self.get_key_value(reader, instance),
@@ -67,6 +68,25 @@ impl Core {
         };
         match self.writers[index].register(key) {
             Ok(()) => answered(self.alloc, Reply::Done),
+            Err(code) => self.refused(code),
+        }
+    }
+
+    fn assert_liveliness(&mut self, writer: u8) -> Output
+        ensures step { Steps self.old (event.Call (call.AssertLiveliness writer)) result self.new }
+        ensures sends { Sends self.old (event.Call (call.AssertLiveliness writer)) result }
+        ensures messages { AreMessages result.packets }
+    {
+        let Some(index) = index_of(writer, self.writers.len()) else {
+            return self.refused(Code::BadParameter);
+        };
+        let (alloc, prefix, now) = (self.alloc, self.prefix, self.moment);
+        match self.writers[index].assert(alloc, prefix, now) {
+            Ok(Announced { packets, unsent }) => Output {
+                reply: Reply::Done,
+                packets: Sequence::from_vec(packets),
+                unsent,
+            },
             Err(code) => self.refused(code),
         }
     }

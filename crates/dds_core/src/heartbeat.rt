@@ -1,14 +1,16 @@
-//! The HEARTBEATs of a writer at a tick: one to each peer with a matched reader that is behind.
+//! The HEARTBEATs of a writer: at a tick one to each peer with a matched reader that is behind, for an assertion one to
+//! each peer with a matched reader.
 //!
-//! RTPS 2.5, 8.4.9 (reliable StatefulWriter: heartbeatPeriod), 8.3.8 (Heartbeat).
+//! RTPS 2.5, 8.4.9 (reliable StatefulWriter: heartbeatPeriod), 8.3.8 (Heartbeat), 8.7.2.2 (LIVELINESS).
 
 ghost use Rattle.std.specs.Prelude.{◌≡◌, ◌+◌, ◌≤◌, ℤ, Option, length, map, IfOk};
 ghost use Rattle.rtps_wire.specs.Messages.{IsWritable};
 ghost use Rattle.rtps_writer.specs.Standing.{reader_count, StandsFor as RtpsStandsFor};
 ghost use Rattle.dds_model.specs.declared.endpoint.Endpoint.{Endpoint};
 ghost use Rattle.dds_model.specs.Part.{ReaderProxy, Writer};
+ghost use Rattle.dds_model.specs.Protocol.{AreSent};
 ghost use Rattle.dds_core.specs.declared.matching.ReaderName.{ReaderName as NameOf};
-ghost use Rattle.dds_core.specs.Beating.{IsValid, message_to, is_peer_behind, Beats};
+ghost use Rattle.dds_core.specs.Beating.{IsValid, message_to, told_to, is_peer_behind, Beats};
 ghost use Rattle.dds_core.specs.Sending.{AreMessages};
 ghost use Rattle.dds_core.specs.Standing.{state_of};
 
@@ -26,6 +28,8 @@ pub struct Beat {
     /// The writer.
     pub entity: EntityId,
     pub due: HeartbeatDue,
+    /// Whether it asserts the writer's liveliness; then it asks for no answer.
+    pub asserts: bool,
 }
 
 /// The HEARTBEAT, as a message to the peer of this prefix.
@@ -47,8 +51,8 @@ fn message(alloc: Global, beat: &Beat, to: GuidPrefix) -> Result<Message, AllocE
         first_sn: beat.due.first,
         last_sn: beat.due.last,
         count: beat.due.count,
-        final_flag: false,
-        liveliness_flag: false,
+        final_flag: beat.asserts,
+        liveliness_flag: beat.asserts,
     };
     let submessages = vec![in alloc; Submessage::InfoDst(to), Submessage::Heartbeat(heartbeat)]?;
     Ok(Message {
@@ -97,4 +101,22 @@ pub fn send_beats(
             send(alloc, sent, message, destination.peer);
         }
     }
+}
+
+/// Sends a HEARTBEAT to each of these peers.
+pub fn send_to_all(alloc: Global, beat: &Beat, destinations: &[Destination]) -> Announced
+    requires valid { IsValid beat.now.due }
+    requires few { length destinations.now ≤ 16 }
+    ensures sent { AreSent (told_to beat.now destinations.now) result.packets.items result.unsent }
+    ensures messages { AreMessages result.packets.items }
+{
+    let mut sent = Announced {
+        packets: Vec::new(alloc),
+        unsent: 0,
+    };
+    for destination in destinations {
+        let message = message(alloc, beat, destination.prefix);
+        send(alloc, &mut sent, message, destination.peer);
+    }
+    sent
 }

@@ -1,7 +1,7 @@
 //! One peer: its writers and readers, and what its calls, its time and the packets that come to it do to them.
 //!
 //! Not here: the network between peers (`dds_world`), the bytes of messages (`rtps_wire`), a writer and what it
-//! keeps (`rtps_writer`) and what a reader holds (`dds_cache`).
+//! keeps (`rtps_writer`), what a reader holds (`dds_cache`) and whose leases are over (`dds_lease`).
 #![tactic(auto)]
 
 mod access;
@@ -9,6 +9,7 @@ mod acknack;
 mod answering;
 mod calls;
 mod delivery;
+mod expiring;
 mod heartbeat;
 mod limits;
 mod matching;

@@ -1,10 +1,9 @@
 //! How a peer is opened.
 
-ghost use Rattle.std.specs.Prelude.{◌≡◌, ◌<◌, length, None, true, IfOk, IfErr};
-ghost use Rattle.std.specs.List.{list_all};
+ghost use Rattle.std.specs.Prelude.{◌≡◌, ◌<◌, length, None, IfOk, IfErr};
 ghost use Rattle.dds_base.specs.Checked.{check_refusal};
 ghost use Rattle.dds_base.specs.Refusal.{Refuses};
-ghost use Rattle.dds_core.specs.Opening.{is_plain_writer, is_plain_reader, is_plain_peer, are_plain, core_refusal, opening_peer, OpenWriters, OpenReaders, OpensCore};
+ghost use Rattle.dds_core.specs.Opening.{core_refusal, opening_peer, OpenWriters, OpenReaders, OpensCore};
 ghost use Rattle.dds_core.specs.Standing.{StandsFor};
 
 use crate::calls::index_of;
@@ -13,48 +12,6 @@ use crate::reader_end::ReaderEnd;
 use crate::writer_end::WriterEnd;
 use dds_base::{Code, Config, Moment, PeerConfig, ReaderConfig, WriterConfig};
 use std::alloc::{AllocError, Global};
-
-/// Whether a writer has no lease.
-fn is_plain_writer(writer: &WriterConfig) -> bool
-    ensures { result ≡ is_plain_writer writer.now }
-{
-    writer.lease.is_none()
-}
-
-/// Whether a reader has no lease.
-fn is_plain_reader(reader: &ReaderConfig) -> bool
-    ensures { result ≡ is_plain_reader reader.now }
-{
-    reader.lease.is_none()
-}
-
-/// Whether all of these writers are plain.
-fn are_plain_writers(writers: &[WriterConfig]) -> bool
-    ensures { result ≡ list_all is_plain_writer writers.now }
-{
-    writers.iter().all(|w| is_plain_writer(w))
-}
-
-/// Whether all of these readers are plain.
-fn are_plain_readers(readers: &[ReaderConfig]) -> bool
-    ensures { result ≡ list_all is_plain_reader readers.now }
-{
-    readers.iter().all(|r| is_plain_reader(r))
-}
-
-/// Whether all writers and readers of a peer are plain.
-fn is_plain_peer(peer: &PeerConfig) -> bool
-    ensures { result ≡ is_plain_peer peer.now }
-{
-    are_plain_writers(peer.writers.as_slice()) && are_plain_readers(peer.readers.as_slice())
-}
-
-/// Whether all writers and readers of all peers are plain.
-fn are_plain(peers: &[PeerConfig]) -> bool
-    ensures { result ≡ are_plain peers.now }
-{
-    peers.iter().all(|p| is_plain_peer(p))
-}
 
 /// A peer's writers, which have written nothing.
 fn open_writers(
@@ -112,7 +69,7 @@ impl Core {
     /// # Errors
     ///
     /// The first of these: what `Config::check` answers; `BadParameter` where the configuration has no peer of this
-    /// number, or has a writer or a reader with a lease; `Memory` where a growth was refused.
+    /// number; `Memory` where a growth was refused.
     pub fn open(alloc: Global, config: &Config, peer: u8) -> Result<Core, Code>
         // The peer stands for its opening in the configuration.
         ensures opening { IfOk result (λ core. StandsFor core config.now (opening_peer config.now peer)) }
@@ -126,9 +83,6 @@ impl Core {
         let Some(index) = index_of(peer, peers.len()) else {
             return Err(Code::BadParameter);
         };
-        if !are_plain(peers) {
-            return Err(Code::BadParameter);
-        }
         Ok(open(alloc, peers, index)?)
     }
 }

@@ -5,6 +5,7 @@ ghost use Rattle.dds_model.specs.declared.event.Event.TheVariants as event;
 ghost use Rattle.dds_core.specs.Standing.{Steps, SoundSteps};
 ghost use Rattle.dds_core.specs.Sending.{Sends, AreMessages};
 
+use crate::expiring::expire_all;
 use crate::output::answered;
 use crate::reader_end::ReaderEnd;
 use crate::receiver::NO_MOMENT;
@@ -49,10 +50,12 @@ impl Model for Core {
 impl Core {
     /// One event: a call, the peer's time that goes on, or the bytes of a packet that come.
     ///
-    /// A call is answered as `Call` says; a tick `Done`, or `BadParameter` where the time would go back, or to 2^63 units
-    /// of 2^-32 second and beyond; a packet by a report of what it moved, whatever its bytes are. What is refused changes
-    /// nothing. Packets go out for a change that was made, one for each peer with a matched reader, and at a tick for each
-    /// writer, a HEARTBEAT for each peer with a reader that is behind; or they are counted in `unsent` for want of memory.
+    /// A call is answered as `Call` says, a tick as `Event::Tick`, and a packet by a report of what it moved, whatever its
+    /// bytes are. At a tick those whose lease is over die at the peer's readers, then its writers lose their liveliness
+    /// whose own lease is over, and then HEARTBEATs are sent. What is refused changes nothing, but for `NoData`: an access that found nothing is entered.
+    /// Packets go out for a change that was made and for an assertion, one for each peer with a matched reader, and at a tick
+    /// for each writer, a HEARTBEAT for each peer with a reader that is behind; or they are counted in `unsent` for want of
+    /// memory.
     ///
     /// DDS 1.4, 2.2.2.4 and 2.2.2.5 (DataWriter, DataReader); RTPS 2.5, 8.4 (behaviour).
     pub fn step(&mut self, event: Event) -> Output
@@ -71,7 +74,8 @@ impl Core {
         }
     }
 
-    /// The time of the peer goes on: not back, and not to 2^63 or beyond. The HEARTBEATs that are then due are sent.
+    /// The time of the peer goes on: not back, and not to 2^63 or beyond. Those whose lease is over die at its readers, if there
+    /// is memory for that; then the HEARTBEATs that are due are sent.
     fn tick(&mut self, now: Moment) -> Output
         ensures step { Steps self.old (event.Tick now) result self.new }
         ensures sends { Sends self.old (event.Tick now) result }
@@ -79,6 +83,9 @@ impl Core {
     {
         if now.units() < self.moment.units() || NO_MOMENT <= now.units() {
             return answered(self.alloc, Reply::Refused(Code::BadParameter));
+        }
+        if let Err(code) = expire_all(self.readers.as_mut_slice(), now) {
+            return answered(self.alloc, Reply::Refused(code));
         }
         let Announced { packets, unsent } = tick_all(
             self.alloc,

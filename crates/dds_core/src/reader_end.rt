@@ -11,6 +11,7 @@ ghost use Rattle.dds_base.specs.declared.happening.Happening.TheVariants.{Read, 
 ghost use Rattle.rtps_wire.specs.declared.submessage.Submessage.TheVariants as submessage;
 ghost use Rattle.rtps_reader.specs.Answer.{IsSayable};
 ghost use Rattle.rtps_reader.specs.Tracked.{Tracked};
+ghost use Rattle.dds_core.specs.Expiring.{Expires, HasRoomForDeaths, IsDeadly};
 ghost use Rattle.dds_core.specs.Opening.{OpensReader};
 ghost use Rattle.dds_core.specs.Receiving.{receiver_at, IsFirstName, IsNamedFor, NamedBy, NamesNobody, IsToldBy, HasMemory, IsReadyFor, IsAlike, CanTake, TakesTold, SameReader, TakesOnly, TellsLost, TellsLiveliness, IsPlaceAt};
 ghost use Rattle.dds_core.specs.Stored.{Holds};
@@ -344,6 +345,29 @@ impl ReaderEnd {
                 )
             }
         }
+    }
+
+    /// Makes room for all that die at this moment.
+    ///
+    /// # Errors
+    ///
+    /// `Memory` where a growth was refused, and only where somebody dies.
+    pub fn reserve_deaths(&mut self, now: Moment) -> Result<(), Code>
+        ensures alike { IsAlike self.old self.new }
+        ensures room { OnOk result (HasRoomForDeaths now self.new.store) }
+        ensures refused { IfErr result (λ code. (code ≡ Memory) × IsDeadly self.old now) }
+    {
+        self.store.reserve_deaths(now)
+    }
+
+    /// Those whose lease is over at this moment die.
+    ///
+    /// DDS 1.4, 2.2.3 (LIVELINESS: lease_duration).
+    pub fn expire(&mut self, now: Moment)
+        requires room { HasRoomForDeaths now self.old.store }
+        ensures expires { Expires self.old now self.new }
+    {
+        self.store.expire(now);
     }
 
     /// Reads samples, as the reader's cache does.

@@ -1,14 +1,17 @@
-//! Where a reader's changes go: its cache, with its room.
+//! Where a reader's changes go: its cache, with its room, and the leases of its matched writers.
 //!
-//! RTPS 2.5, 8.2 (HistoryCache of a reader); DDS 1.4, 2.2.3 (RESOURCE_LIMITS).
+//! RTPS 2.5, 8.2 (HistoryCache of a reader); DDS 1.4, 2.2.3 (RESOURCE_LIMITS, LIVELINESS).
 
-ghost use Rattle.std.specs.Prelude.{◌≡◌, ℕ, List, [], IfOk, length};
+ghost use Rattle.std.specs.Prelude.{◌≡◌, ◌≤◌, ℕ, List, [], IfOk, IfErr, OnOk, length};
+ghost use Rattle.dds_base.specs.declared.code.Code.TheVariants.{Memory};
 ghost use Rattle.dds_base.specs.declared.happening.Happening.{Happening};
 ghost use Rattle.dds_base.specs.declared.happening.Happening.TheVariants.{Read, Took};
 ghost use Rattle.dds_base.specs.Access.{instance_of, handle_of};
+ghost use Rattle.dds_base.specs.Liveliness.{after_deaths, dead_at};
 ghost use Rattle.dds_base.specs.Statuses.{lost_count};
 ghost use Rattle.dds_cache.specs.Standing.{qos_of, Answers, AfterAccess};
 ghost use Rattle.dds_lease.specs.Standing.{writer_count};
+ghost use Rattle.dds_core.specs.Expiring.{HasRoomForDeaths};
 ghost use Rattle.dds_core.specs.Stored.{StoreKept, Holds, Loses};
 
 use dds_base::{Arrival, Code, Handle, Key, Moment, ReaderQos, Sample, Selection, Sequence, Sn};
@@ -82,6 +85,41 @@ impl Store {
         ensures writers { writer_count result.now ≡ length (qos_of self.now.cache).writers }
     {
         &self.leases
+    }
+
+    /// Makes room for all that die at this moment.
+    ///
+    /// # Errors
+    ///
+    /// `Memory` where a growth was refused, and only where somebody dies; the store is then as it was.
+    pub fn reserve_deaths(&mut self, now: Moment) -> Result<(), Code>
+        ensures same { (h : List Happening) → Holds self.old h → Holds self.new h }
+        ensures qos { qos_of self.new.cache ≡ qos_of self.old.cache }
+        ensures room { OnOk result (HasRoomForDeaths now self.new) }
+        ensures refused { IfErr result (λ code. (code ≡ Memory)
+            × ((h : List Happening) → Holds self.old h → 1 ≤ length (dead_at (qos_of self.old.cache) now h))) }
+    {
+        let count = self.leases.overdue(now);
+        if count == 0 {
+            return Ok(());
+        }
+        self.cache.reserve_deaths(count)
+    }
+
+    /// Those whose lease is over at this moment die, in the order of their handles.
+    ///
+    /// DDS 1.4, 2.2.3 (LIVELINESS: lease_duration).
+    pub fn expire(&mut self, now: Moment)
+        requires room { HasRoomForDeaths now self.old }
+        ensures died { (h : List Happening) → Holds self.old h
+            → Holds self.new (after_deaths (qos_of self.old.cache) now h) }
+        ensures qos { qos_of self.new.cache ≡ qos_of self.old.cache }
+    {
+        let mut after = Handle::NIL;
+        while let Some(writer) = self.leases.expire(after, now) {
+            self.cache.died(writer, now).unwrap();
+            after = writer;
+        }
     }
 
     /// Reads samples, as the cache does.

@@ -4,16 +4,16 @@
 
 ghost use Rattle.std.specs.Prelude.{◌≡◌, ◌+◌, ◌^◌, ◌<◌, ◌≤◌, ℤ, Option, length, map, nat_le, slice_get, slice_index, Some, None, true, IfOk, IfErr, OnOk, OnErr};
 ghost use Rattle.dds_base.specs.Checked.{check_refusal};
-ghost use Rattle.dds_base.specs.declared.code.Code.TheVariants.{Memory};
+ghost use Rattle.dds_base.specs.declared.code.Code.TheVariants.{Memory, OutOfResources};
 ghost use Rattle.dds_base.specs.Kept.{append_refusal};
 ghost use Rattle.dds_base.specs.Refusal.{Refuses};
-ghost use Rattle.dds_base.specs.Written.{Registered, Changed, LookedAt, is_key_registered, liveliness_lost_status};
+ghost use Rattle.dds_base.specs.Written.{Asserted, Registered, Changed, LookedAt, is_key_registered, liveliness_lost_status};
 ghost use Rattle.dds_model.specs.declared.endpoint.Endpoint.{Endpoint as EndpointOf};
 ghost use Rattle.dds_model.specs.Calls.{unregister_kind};
 ghost use Rattle.dds_model.specs.Part.{ReaderProxy, Writer, history_of, writer_changes};
 ghost use Rattle.dds_core.specs.declared.matching.ReaderName.{ReaderName as NameOf};
 ghost use Rattle.dds_core.specs.Answering.{HasRoom, AreRooms, TakesAckNack};
-ghost use Rattle.dds_core.specs.Beating.{BeatsOf, BeatsOfAll};
+ghost use Rattle.dds_core.specs.Beating.{BeatsOf, BeatsOfAll, HasNoCount, TellsOf};
 ghost use Rattle.dds_core.specs.Kept.{writer_identity};
 ghost use Rattle.dds_core.specs.Opening.{OpensWriter};
 ghost use Rattle.dds_core.specs.Receiving.{receiver_at};
@@ -21,7 +21,7 @@ ghost use Rattle.dds_core.specs.Sending.{AreMessages};
 ghost use Rattle.dds_core.specs.Standing.{WriterStands, Enters, Ticks, AllTick};
 
 use crate::answering::{Answering, Room, rooms, send_answers};
-use crate::heartbeat::{Beat, send_beats};
+use crate::heartbeat::{Beat, send_beats, send_to_all};
 use crate::limits::limit_of;
 use crate::matching::{Destination, ReaderName, destinations, matched_readers};
 use crate::receiver::MessageReceiver;
@@ -257,6 +257,40 @@ impl WriterEnd {
         acknowledged
     }
 
+    /// Asserts its liveliness, at the moment of its peer, of this prefix, and tells each peer with a matched reader.
+    ///
+    /// # Errors
+    ///
+    /// `OutOfResources` where its HEARTBEAT counts are used up; the writer is then as it was.
+    ///
+    /// DDS 1.4, 2.2.2.4 (assert_liveliness); RTPS 2.5, 8.7.2.2 (LIVELINESS).
+    pub fn assert(
+        &mut self,
+        alloc: Global,
+        prefix: GuidPrefix,
+        now: Moment,
+    ) -> Result<Announced, Code>
+        ensures ok { OnOk result (Enters self.old (Asserted now) self.new) }
+        ensures tells { IfOk result (λ sent. TellsOf prefix self.old sent.packets.items sent.unsent) }
+        ensures refused { IfErr result (λ code. (code ≡ OutOfResources) × HasNoCount self.old) }
+        ensures messages { IfOk result (λ sent. AreMessages sent.packets.items) }
+        ensures err { OnErr result (self.new ≡ self.old) }
+    {
+        let Some(due) = self.writer.assert(now)? else {
+            return Ok(Announced {
+                packets: Vec::new(alloc),
+                unsent: 0,
+            });
+        };
+        let beat = Beat {
+            prefix,
+            entity: self.entity,
+            due,
+            asserts: true,
+        };
+        Ok(send_to_all(alloc, &beat, self.destinations.as_slice()))
+    }
+
     /// The time of its peer, of this prefix, has gone on to this moment: sends the HEARTBEATs that are then due.
     ///
     /// RTPS 2.5, 8.4.9 (reliable StatefulWriter: heartbeatPeriod).
@@ -274,6 +308,7 @@ impl WriterEnd {
             prefix,
             entity: self.entity,
             due,
+            asserts: false,
         };
         let (readers, destinations) = (self.readers.as_slice(), self.destinations.as_slice());
         send_beats(alloc, &beat, &self.writer, readers, destinations, sent);

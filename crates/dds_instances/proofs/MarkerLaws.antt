@@ -7,6 +7,7 @@ use Rattle.std.proofs.lemmas.List.Elements.{All-head, All-tail}
 use Rattle.std.proofs.lemmas.List.Sums.{sum_by-cons}
 use Rattle.dds_base.specs.declared.change.ChangeKind.{ChangeKind}
 use Rattle.dds_base.specs.declared.change.ChangeKind.TheVariants.{Write}
+use Rattle.dds_base.specs.declared.sample.InstanceState.{InstanceState}
 use Rattle.dds_base.specs.Instance.{state_after}
 use Rattle.dds_base.specs.Presence.{becomes_not_alive, is_at}
 use Rattle.dds_instances.specs.declared.track.InstanceTrack.{InstanceTrack}
@@ -25,12 +26,24 @@ not-yet n (Some k) below = ⊎_elim
     (λ differ. ap (λ (b : Bool). cond b 1 0) differ)
     (cases_Bool (k == n))
 
+-- 1 where the state is ALIVE
+abbrev alive_one : Option InstanceState → ℕ
+alive_one state = cond (is_alive_state state) 1 0
+
+-- 1 where the marker is of the entry of position n
+abbrev marked_one : ℕ → Option ℕ → ℕ
+marked_one n marker = cond (is_at marker n) 1 0
+
+-- the last marker after that entry
+abbrev marker_next : ℕ → Option InstanceState → Option InstanceState → Option ℕ → Option ℕ
+marker_next n before after marker = if becomes_not_alive before after then Some n else marker
+
 -- an instance that is not alive leaves none, and one that is alive leaves one as it ends
-marker-table : (n : ℕ) (last : Option ChangeKind) (there left : Bool) (m : Option ℕ) → (left ≡ true → there ≡ true)
-    → ◌≡◌ {A = ℕ} (cond (is_at m n) 1 0) 0
-    → cond (is_alive_state (state_after last (not left))) 1 0
-    + cond (is_at (if becomes_not_alive (state_after last (not there)) (state_after last (not left)) then Some n else m) n) 1 0
-    ≤ cond (is_alive_state (state_after last (not there))) 1 0
+marker-table : (n : ℕ) (last : Option ChangeKind) (there left : Bool) (m : Option ℕ)
+    → (left ≡ true → there ≡ true) → marked_one n m ≡ 0
+    → alive_one (state_after last (not left))
+    + marked_one n (marker_next n (state_after last (not there)) (state_after last (not left)) m)
+    ≤ alive_one (state_after last (not there))
 marker-table n None there left m fewer none = omega (arith, none)
 marker-table n (Some Write) true true m fewer none = omega (arith, none)
 marker-table n (Some Write) true false m fewer none = omega (arith, one_if-bound (n == n))
@@ -40,17 +53,17 @@ marker-table n (Some _) there left m fewer none = omega (arith, none)
 
 -- one that takes a death up
 marker-one : (n w : ℕ) (t x : InstanceTrack) → Fits n t → Buries n w t x
-    → cond (is_alive_track x) 1 0 + cond (is_at x.last_marker n) 1 0 ≤ cond (is_alive_track t) 1 0
+    → alive_one (state_of_track x) + marked_one n x.last_marker ≤ alive_one (state_of_track t)
 marker-one n w t x fits step =
     let there : Bool = has_writers t.owners in
     let left : Bool = has_writers x.owners in
-    let alive : ◌≡◌ {A = ℕ} (cond (is_alive_track x) 1 0) (cond (is_alive_state (state_after t.last_accepted (not left))) 1 0) =
-    ap (λ (k : Option ChangeKind). cond (is_alive_state (state_after k (not left))) 1 0) step.advances.accepts in
-    let marked : ◌≡◌ {A = ℕ} (cond (is_at x.last_marker n) 1 0)
-    (cond (is_at (if becomes_not_alive (state_of_track t) (state_after t.last_accepted (not left)) then Some n else t.last_marker) n) 1 0) =
-    ap (λ (m : Option ℕ). cond (is_at m n) 1 0) step.advances.marker
-    ∙ ap (λ (k : Option ChangeKind). cond (is_at (if becomes_not_alive (state_of_track t) (state_after k (not left)) then Some n else t.last_marker) n) 1 0) step.advances.accepts in
-    let both = marker-table n t.last_accepted there left t.last_marker step.fewer (not-yet n t.last_marker fits.marker) in
+    let after : state_of_track x ≡ state_after t.last_accepted (not left) =
+    ap (λ (k : Option ChangeKind). state_after k (not left)) step.advances.accepts in
+    let alive = ap (λ (s : Option InstanceState). alive_one s) after in
+    let marked = ap (λ (m : Option ℕ). marked_one n m) step.advances.marker
+    ∙ ap (λ (s : Option InstanceState). marked_one n (marker_next n (state_of_track t) s t.last_marker)) after in
+    let before = not-yet n t.last_marker fits.marker in
+    let both = marker-table n t.last_accepted there left t.last_marker step.fewer before in
     omega (arith, alive, marked, both)
 
 -- ---- all of them
@@ -58,7 +71,8 @@ marker-one n w t x fits step =
 -- how many instances are alive or were marked by a death, one after another
 pub marked-buried : (n w : ℕ) (ts xs : List InstanceTrack) → length xs ≡ length ts → All (Fits n) ts
     → ((k : ℕ) (d : InstanceTrack) → k < length ts → Buries n w (get_or ts k d) (get_or xs k d))
-    → count_by is_alive_track xs + count_by (λ (t : InstanceTrack). is_at t.last_marker n) xs ≤ count_by is_alive_track ts
+    → count_by is_alive_track xs + count_by (λ (x : InstanceTrack). is_at x.last_marker n) xs
+    ≤ count_by is_alive_track ts
 marked-buried n w [] [] same fits steps = omega arith
 marked-buried n w [] (x ∷ xs) same fits steps = absurd (omega (arith, same))
 marked-buried n w (t ∷ ts) [] same fits steps = absurd (omega (arith, same))

@@ -11,12 +11,11 @@ use Rattle.dds_base.specs.declared.guid.GuidPrefix.{GuidPrefix}
 use Rattle.dds_base.specs.Checked.{check_refusal, unknown_prefix}
 use Rattle.dds_base.specs.declared.config.PeerConfig.{PeerConfig}
 use Rattle.dds_base.specs.Kept.{first_kept}
-use Rattle.dds_base.specs.Written.{counts_of}
 use Rattle.rtps_wire.specs.declared.heartbeat.Heartbeat.{Heartbeat as HeartbeatBody}
 use Rattle.rtps_wire.specs.declared.submessage.Submessage.TheVariants.{Heartbeat}
 use Rattle.dds_model.specs.declared.endpoint.Endpoint.{Endpoint}
 use Rattle.dds_model.specs.Numbered.{HasNumber}
-use Rattle.dds_model.specs.Part.{Part, ReaderProxy, Writer, is_behind, no_writer, own_writer, writer_changes, history_of, has_readers, peers_of}
+use Rattle.dds_model.specs.Part.{Part, ReaderProxy, Writer, is_behind, no_writer, own_writer, writer_changes, heartbeats_used, history_of, peers_of}
 use Rattle.dds_model.specs.Claims.{every_reader, Claim, ChangeIs, MayPass, PlaceReached, Asserts, Says}
 use Rattle.dds_model.specs.Receipt.{prefix_of}
 use Rattle.dds_model.specs.Peer.{IsTrueAt}
@@ -39,26 +38,23 @@ pub record Beating : Type 0 where
   pub number : ℕ
   pub own : OwnName config peer part number
 
--- the HEARTBEAT of that writer
-abbrev beat : Beating → HeartbeatBody
-beat b = record {
+-- the HEARTBEAT of that writer, with these flags
+abbrev pub beat : Beating → (final liveliness : Bool) → HeartbeatBody
+beat b final liveliness = record {
   reader_id = every_reader;
   writer_id = writer_entity b.config b.peer b.number;
   first_sn = first_kept (history_of (own_writer b.part b.number));
   last_sn = length (writer_changes (own_writer b.part b.number));
-  count = pos (length (counts_of (has_readers (own_writer b.part b.number)) (own_writer b.part b.number).written) + 1);
-  final_flag = false;
-  liveliness_flag = false;
+  count = pos (heartbeats_used (own_writer b.part b.number) + 1);
+  final_flag = final;
+  liveliness_flag = liveliness;
 }
 
 -- it names the writer, and claims what that one does not keep
-beat_says : (b : Beating) (far to : GuidPrefix) (claim : Claim)
-    → Says b.config far (addressed (prefix_of b.config b.peer) to) (Heartbeat (beat b)) claim
-    → IsTrueAt b.peer b.part claim
-beat_says b far to (ChangeIs v r n c) h = absurd h
-beat_says b far to (PlaceReached v r base) h = absurd h
-beat_says b far to (Asserts v r k) h = absurd cc
-beat_says b far to (MayPass v r n) h =
+pub first_says : (b : Beating) (final liveliness : Bool) (far to : GuidPrefix) (v r : Endpoint) (n : ℕ)
+    → Says b.config far (addressed (prefix_of b.config b.peer) to) (Heartbeat (beat b final liveliness)) (MayPass v r n)
+    → IsTrueAt b.peer b.part (MayPass v r n)
+first_says b final liveliness far to v r n h =
     let me : Endpoint = record { peer = b.peer; number = b.number } in
     let own : GuidPrefix = prefix_of b.config b.peer in
     let entity : EntityId = writer_entity b.config b.peer b.number in
@@ -69,6 +65,15 @@ beat_says b far to (MayPass v r n) h =
       subst (λ (e : Endpoint). Passes (own_writer b.part e.number) r n) (sym same)
           (below_first_passes (own_writer b.part b.number) r row.0 n row.1 h.1 h.2),
     )
+
+-- that of a tick claims nothing besides
+beat_says : (b : Beating) (far to : GuidPrefix) (claim : Claim)
+    → Says b.config far (addressed (prefix_of b.config b.peer) to) (Heartbeat (beat b false false)) claim
+    → IsTrueAt b.peer b.part claim
+beat_says b far to (ChangeIs v r n c) h = absurd h
+beat_says b far to (PlaceReached v r base) h = absurd h
+beat_says b far to (Asserts v r k) h = absurd cc
+beat_says b far to (MayPass v r n) h = first_says b false false far to v r n h
 
 -- the message with the HEARTBEAT of a writer, to the peer of this number
 abbrev pub heartbeat_due : Config → ℕ → Part → ℕ → ℕ → Due
@@ -83,19 +88,15 @@ beat_truthful : (b : Beating) (to : ℕ)
     → IsTruthful b.config b.peer b.part (heartbeat_due b.config b.peer b.part b.number to)
 beat_truthful b to claim writable says =
     let own : GuidPrefix = prefix_of b.config b.peer in
-    let t = told_alone b.config own (prefix_of b.config to) (Heartbeat (beat b)) claim writable says in
+    let t = told_alone b.config own (prefix_of b.config to) (Heartbeat (beat b false false)) claim writable says in
     beat_says b t.0 (prefix_of b.config to) claim t.1
 
 -- ---- all that is due at a tick
 
--- how many HEARTBEAT counts are used up
-abbrev pub used : Writer → ℕ
-used w = length (counts_of (has_readers w) w.written)
-
 -- it is so of each HEARTBEAT of the peer's writers that a reader is behind, while there are counts left
 abbrev pub OfEach : Config → ℕ → Part → (Due → Type 0) → Type 0
 OfEach config peer part P =
-    (number to : ℕ) → HasNumber part.rtps.writers number → used (own_writer part number) < 2 ^ 31 - 1
+    (number to : ℕ) → HasNumber part.rtps.writers number → heartbeats_used (own_writer part number) < 2 ^ 31 - 1
     → is_behind (own_writer part number) ≡ true → P (heartbeat_due config peer part number to)
 
 -- what none passes has nothing left
@@ -109,13 +110,13 @@ none_left {X = X} test (x ∷ xs) none = by (test x) (list_any test xs) none (λ
     by false b h later = later h
 
 -- what is so of all is so of those in a list
-all_of : {X : Type 0} (P : X → Type 0) → ((x : X) → P x) → (xs : List X) → All P xs
+pub all_of : {X : Type 0} (P : X → Type 0) → ((x : X) → P x) → (xs : List X) → All P xs
 all_of P f xs = λ i d lt. f (get_or xs i d)
 
 -- the HEARTBEATs of one writer
 of_writer : (config : Config) (peer : ℕ) (part : Part) (P : Due → Type 0) → OfEach config peer part P → (number : ℕ)
     → HasNumber part.rtps.writers number → All P (heartbeats_of config peer number (own_writer part number))
-of_writer config peer part P each number there = by (nat_lt (used w) (2 ^ 31 - 1)) refl
+of_writer config peer part P each number there = by (nat_lt (heartbeats_used w) (2 ^ 31 - 1)) refl
   where
     w : Writer
     w = own_writer part number
@@ -123,12 +124,12 @@ of_writer config peer part P each number there = by (nat_lt (used w) (2 ^ 31 - 1
     ends : List ℕ
     ends = peers_of (readers_behind w)
 
-    by : (left : Bool) → nat_lt (used w) (2 ^ 31 - 1) ≡ left
+    by : (left : Bool) → nat_lt (heartbeats_used w) (2 ^ 31 - 1) ≡ left
         → All P (if left then map (heartbeat_due config peer part number) ends else [])
     by true e =
-        let left : used w < 2 ^ 31 - 1 = grind (arith, nat_tests) in behind left (is_behind w) refl
+        let left : heartbeats_used w < 2 ^ 31 - 1 = grind (arith, nat_tests) in behind left (is_behind w) refl
       where
-        behind : used w < 2 ^ 31 - 1 → (b : Bool) → is_behind w ≡ b
+        behind : heartbeats_used w < 2 ^ 31 - 1 → (b : Bool) → is_behind w ≡ b
             → All P (map (heartbeat_due config peer part number) ends)
         behind left true is =
             All-map P (heartbeat_due config peer part number) ends
@@ -190,7 +191,7 @@ octets_at [] i h = refl
 octets_at (p ∷ ps) zero h = h 0 p refl
 octets_at (p ∷ ps) (suc i) h = octets_at ps i (λ k q at. h (suc k) q at)
 
-prefix_octets : (config : Config) → IsSized config → (n : ℕ) → length (prefix_of config n).0 ≡ 12
+pub prefix_octets : (config : Config) → IsSized config → (n : ℕ) → length (prefix_of config n).0 ≡ 12
 prefix_octets config sized zero = refl
 prefix_octets config sized (suc i) =
     octets_at config.peers i
@@ -207,6 +208,6 @@ heartbeats_writable config peer part of sized small =
     let me : Endpoint = record { peer = peer; number = number } in
     let entity : EntityId = writer_entity config peer number in
     let name = (own_name config peer part of number there).name in
-    heartbeat_writable (prefix_of config peer) (prefix_of config to) entity (own_writer part number)
+    heartbeat_writable false false (prefix_of config peer) (prefix_of config to) entity (own_writer part number)
     (prefix_octets config sized peer) (prefix_octets config sized to)
     (writer_octets config sized (prefix_of config peer) entity me name).1 (small number).few left)

@@ -12,7 +12,6 @@ use Rattle.dds_base.specs.declared.change.Change.{Change}
 use Rattle.dds_base.specs.declared.guid.EntityId.{EntityId}
 use Rattle.dds_base.specs.declared.guid.GuidPrefix.{GuidPrefix}
 use Rattle.dds_base.specs.Kept.{WriterHistory, change_at, is_kept, first_kept, numbers_from}
-use Rattle.dds_base.specs.Written.{counts_of}
 use Rattle.rtps_reader.specs.declared.step.AckNackDue.{AckNackDue}
 use Rattle.rtps_reader.specs.Answer.{Answers}
 use Rattle.rtps_reader.specs.Tracked.{Tracked}
@@ -27,8 +26,8 @@ use Rattle.rtps_wire.specs.Submessages.{IsSpellable}
 use Rattle.rtps_wire.proofs.LengthLaws.{short_writable}
 use Rattle.rtps_writer.specs.declared.answer.Answer.{Answer}
 use Rattle.rtps_writer.specs.declared.answer.Answer.TheVariants.{Data as AnswersData, Gap as AnswersGap}
-use Rattle.dds_model.specs.Part.{Writer, writer_changes, history_of, has_readers}
-use Rattle.dds_model.specs.Protocol.{acknack_message, answer_message, data_of, submessages_of, heartbeat_message}
+use Rattle.dds_model.specs.Part.{Writer, writer_changes, heartbeats_used, history_of}
+use Rattle.dds_model.specs.Protocol.{acknack_message, answer_message, data_of, submessages_of, heartbeat_with}
 use Rattle.dds_model.proofs.Growth.{change_at-within}
 
 -- a count from 1 to 2^31 - 1
@@ -86,14 +85,14 @@ first_within w =
     (find test (numbers_from 1 (length w.changes))) n ≤ n)) count (found_within test 1 (length w.changes))
 
 -- That of a writer with fewer than 2^62 changes can be written, while there are counts left.
-pub heartbeat_writable : (own to : GuidPrefix) (writer : EntityId) (w : Writer) → length own.0 ≡ 12 → length to.0 ≡ 12
-    → IsEntityId writer → length (writer_changes w) < 2 ^ 62
-    → length (counts_of (has_readers w) w.written) < 2 ^ 31 - 1 → IsWritable (heartbeat_message own to writer w)
-heartbeat_writable own to writer w own_octets to_octets writer_octets few left =
+pub heartbeat_writable : (final liveliness : Bool) (own to : GuidPrefix) (writer : EntityId) (w : Writer)
+    → length own.0 ≡ 12 → length to.0 ≡ 12 → IsEntityId writer → length (writer_changes w) < 2 ^ 62
+    → heartbeats_used w < 2 ^ 31 - 1 → IsWritable (heartbeat_with final liveliness own to writer w)
+heartbeat_writable final liveliness own to writer w own_octets to_octets writer_octets few left =
     let first = first_within (history_of w) in
     let low = first.0 in
     let high = first.1 in
-    short_writable (heartbeat_message own to writer w) own_octets (
+    short_writable (heartbeat_with final liveliness own to writer w) own_octets (
       to_octets,
       (
         record {
@@ -103,7 +102,7 @@ heartbeat_writable own to writer w own_octets to_octets writer_octets few left =
           not_past = high;
           first_small = omega (arith, high, few);
           last_small = omega (arith, few);
-          count = count_fits (length (counts_of (has_readers w) w.written)) left;
+          count = count_fits (heartbeats_used w) left;
         },
         tt,
       ),

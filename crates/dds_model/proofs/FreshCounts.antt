@@ -15,6 +15,7 @@ use Rattle.dds_base.specs.Written.{Written, Registered, Changed, Asserted, Looke
 use Rattle.rtps_wire.specs.declared.heartbeat.Heartbeat.{Heartbeat as HeartbeatBody}
 use Rattle.rtps_wire.specs.declared.submessage.Submessage.{Submessage}
 use Rattle.rtps_wire.specs.Messages.{IsWritable, spelling_of}
+use Rattle.dds_model.specs.declared.call.Call.{Call}
 use Rattle.dds_model.specs.declared.endpoint.Endpoint.{Endpoint}
 use Rattle.dds_model.specs.declared.event.Event.{Event}
 use Rattle.dds_model.specs.declared.event.Event.TheVariants as event
@@ -24,23 +25,24 @@ use Rattle.dds_model.specs.declared.event.WorldEvent.TheVariants as world
 use Rattle.dds_model.specs.declared.reply.Move.{Move}
 use Rattle.dds_model.specs.declared.reply.Report.{Report}
 use Rattle.dds_model.specs.declared.reply.Reply.{Reply}
-use Rattle.dds_model.specs.declared.reply.Reply.TheVariants.{Done, Samples, SampleLost, Reported, Refused}
+use Rattle.dds_model.specs.declared.reply.Reply.TheVariants.{Done, Reported}
 use Rattle.dds_model.specs.Numbered.{HasNumber}
-use Rattle.dds_model.specs.Part.{Part, Writer, no_writer, own_writer, writer_changes, history_of, has_readers, is_behind, peers_of}
+use Rattle.dds_model.specs.Part.{Part, Writer, no_writer, own_writer, writer_changes, history_of, has_readers, is_behind, peers_of, heartbeats_used}
 use Rattle.dds_model.specs.Moves.{Grounds}
-use Rattle.dds_model.specs.Calls.{Effect, nothing, writes, effect_of, Tests, ticked, after_tick, TickStep}
+use Rattle.dds_model.specs.Calls.{Effect, nothing, writes, effect, effect_of, with_written, Tests, ticked, after_tick, TickStep}
 use Rattle.dds_model.specs.Claims.{Receiver, receiver_of, after_submessage, every_reader}
 use Rattle.dds_model.specs.Receipt.{TakesUp, Receives, prefix_of}
 use Rattle.dds_model.specs.Dues.{IsPartOf}
 use Rattle.dds_model.specs.Machine.{Machine, AllTests, part_at, writer_at}
 use Rattle.dds_model.specs.Peer.{Peer, EventStep, no_peer, claimed, state_of}
-use Rattle.dds_model.specs.Protocol.{Due, Known, TakesPacket, writer_entity, change_message, heartbeats_due}
+use Rattle.dds_model.specs.Protocol.{Due, Known, TakesPacket, writer_entity, change_message, heartbeat_with, assertions_due, heartbeats_due}
 use Rattle.dds_model.specs.World.{WorldState, WorldStep, PeerSteps, peer_at, machine_of}
 use Rattle.dds_model.specs.Rules.{announcements_due, AreDue, RuledStep}
-use Rattle.dds_model.specs.Fresh.{HasHeartbeat, HasAckNack, heartbeats_used, heartbeats_used_at, tracked_at, acknacks_used_at, HasUsedCounts}
+use Rattle.dds_model.specs.Fresh.{HasHeartbeat, HasAckNack, heartbeats_used_at, tracked_at, acknacks_used_at, HasUsedCounts}
 use Rattle.dds_model.proofs.Composed.{parts_at, machine_after, contains_at}
 use Rattle.dds_model.proofs.CountsTaken.{Counting, Counts, packet_counts}
 use Rattle.dds_model.proofs.CountsWritten.{plain_beats, plain_asks, plain_data, one_beat, one_beat_asks, each_of}
+use Rattle.dds_model.proofs.DuesAssertions.{OfEachTold, told_each, asserted_writer}
 use Rattle.dds_model.proofs.DuesGrowth.{Gains, gains_same, gains_on, AreMoves-gains, is_part_kept}
 use Rattle.dds_model.proofs.DuesHeartbeats.{of_all}
 use Rattle.dds_model.proofs.DuesMatched.{own_name}
@@ -49,7 +51,7 @@ use Rattle.dds_model.proofs.DuesParts.{call_part, tick_part}
 use Rattle.dds_model.proofs.Framing.{number_or_not}
 use Rattle.dds_model.proofs.Growth.{WriterGrows, writer_same, Grows, CallStep-grows, TickStep-grows, MachineGrows, with_part-grows, counts-more}
 use Rattle.dds_model.proofs.OwnGuids.{one_writer}
-use Rattle.dds_model.proofs.Tables.{numbered-cases, numbered-same, numbered-map-cases, length-with_numbered, no_less_same}
+use Rattle.dds_model.proofs.Tables.{numbered-cases, numbered-same, numbered-map-cases, number_there, length-with_numbered, no_less_same}
 
 -- the packet is the written form of one of these messages, which has one
 pub record IsWrittenOf (dues : List Due) (packet : Packet) : Type 0 where
@@ -223,17 +225,26 @@ change_silent config own to writer number change n = record {
   ask = λ w r count writable has. plain_asks config (change_message own to writer number change) w r count writable (tt, plain_data every_reader writer number (Some change)) has;
 }
 
-announcement_silent : (config : Config) (peer : ℕ) (part : Part) (e : Effect) (due : Due) → Contains (announcements_due config peer part e) due → IsSilent config due
-announcement_silent config peer part (writes writer (Changed change)) due among =
-    let w : Endpoint = record { peer = peer; number = writer } in
-    each_of (IsSilent config) (λ to. record { to = to; message = change_message (prefix_of config peer) (prefix_of config to) (writer_entity config peer writer) (length (writer_changes (own_writer part writer)) + 1) change })
-    (λ to. change_silent config (prefix_of config peer) (prefix_of config to) (writer_entity config peer writer) (length (writer_changes (own_writer part writer)) + 1) change to)
+-- What is so of silent messages, and of those that tell an assertion, is so of what is due for what a call enters.
+announced : (config : Config) (peer : ℕ) (part : Part) (e : Effect) (P : Due → Type 0)
+    → ((due : Due) → IsSilent config due → P due)
+    → ((writer moment : ℕ) → e ≡ writes writer (Asserted moment) → OfEachTold config peer part writer P)
+    → (due : Due) → Contains (announcements_due config peer part e) due → P due
+announced config peer part (writes writer (Changed change)) P silent told due among =
+    let number : ℕ = length (writer_changes (own_writer part writer)) + 1 in
+    let entity : EntityId = writer_entity config peer writer in
+    each_of P (λ to. record { to = to; message = change_message (prefix_of config peer) (prefix_of config to) entity number change })
+    (λ to.
+    silent (record { to = to; message = change_message (prefix_of config peer) (prefix_of config to) entity number change })
+    (change_silent config (prefix_of config peer) (prefix_of config to) entity number change to))
     (peers_of (own_writer part writer).readers) due among
-announcement_silent config peer part (writes writer (Registered key)) due among = let lt = among.1 in absurd (omega (arith, lt))
-announcement_silent config peer part (writes writer (Asserted moment)) due among = let lt = among.1 in absurd (omega (arith, lt))
-announcement_silent config peer part (writes writer LookedAt) due among = let lt = among.1 in absurd (omega (arith, lt))
-announcement_silent config peer part (writes writer (Ticked now behind)) due among = let lt = among.1 in absurd (omega (arith, lt))
-announcement_silent config peer part nothing due among = let lt = among.1 in absurd (omega (arith, lt))
+announced config peer part (writes writer (Asserted moment)) P silent told due among =
+    All-contains P (assertions_due config (record { peer = peer; number = writer }) (own_writer part writer)) due
+    (told_each config peer part writer P (told writer moment refl)) among
+announced config peer part (writes writer (Registered key)) P silent told due among = let lt = among.1 in absurd (omega (arith, lt))
+announced config peer part (writes writer LookedAt) P silent told due among = let lt = among.1 in absurd (omega (arith, lt))
+announced config peer part (writes writer (Ticked now behind)) P silent told due among = let lt = among.1 in absurd (omega (arith, lt))
+announced config peer part nothing P silent told due among = let lt = among.1 in absurd (omega (arith, lt))
 
 -- packets that are written forms of silent messages
 silent_beats : (config : Config) (dues : List Due) (packets : List Packet) → ((p : Packet) → Contains packets p → IsWrittenOf dues p) → ((due : Due) → Contains dues due → IsSilent config due)
@@ -255,6 +266,67 @@ uses_silent config old dues packets new peer s h same written silent =
 none_silent : (config : Config) (dues : List Due) → dues ≡ [] → (due : Due) → Contains dues due → IsSilent config due
 none_silent config dues none due among = let empty = ap (λ (ds : List Due). length ds) none in let lt = among.1 in absurd (omega (arith, empty, lt))
 
+-- ---- HEARTBEATs
+
+-- a HEARTBEAT that is due has a count that the event uses
+record IsBeat (config : Config) (peer : ℕ) (after : Part) (due : Due) : Type 0 where
+  beat : (w : Endpoint) (count : ℤ) → IsWritable due.message → HasHeartbeat config (spelling_of due.message) w count → (w.peer ≡ peer) × (count ≤ℤ pos (heartbeats_used (own_writer after w.number)))
+  ask : (w r : Endpoint) (count : ℤ) → IsWritable due.message → HasAckNack config (spelling_of due.message) w r count → ⊥
+
+-- one without a HEARTBEAT too
+silent_beat : (config : Config) (peer : ℕ) (after : Part) (due : Due) → IsSilent config due → IsBeat config peer after due
+silent_beat config peer after due h = record {
+  beat = λ w count writable has. absurd (h.beat w count writable has);
+  ask = h.ask;
+}
+
+-- the next HEARTBEAT of the peer's writer, with these flags
+beat_body : Config → ℕ → Part → ℕ → (final liveliness : Bool) → HeartbeatBody
+beat_body config peer part number final liveliness = record {
+  reader_id = every_reader;
+  writer_id = writer_entity config peer number;
+  first_sn = first_kept (history_of (own_writer part number));
+  last_sn = length (writer_changes (own_writer part number));
+  count = pos (heartbeats_used (own_writer part number) + 1);
+  final_flag = final;
+  liveliness_flag = liveliness;
+}
+
+-- it is such a one where one count more is used afterwards
+next_beat : (config : Config) (peer : ℕ) (part after : Part) (number to : ℕ) (final liveliness : Bool) → check_refusal config.peers ≡ None → IsPartOf config peer part → HasNumber part.rtps.writers number
+    → heartbeats_used (own_writer after number) ≡ heartbeats_used (own_writer part number) + 1
+    → IsBeat config peer after (record { to = to; message = heartbeat_with final liveliness (prefix_of config peer) (prefix_of config to) (writer_entity config peer number) (own_writer part number) })
+unfolding beat_body
+next_beat config peer part after number to final liveliness checked of there more = record {
+  beat = λ w count writable has.
+      let me : Endpoint = record { peer = peer; number = number } in
+      let found = one_beat config (prefix_of config peer) (prefix_of config to) (beat_body config peer part number final liveliness) w count writable has in
+      let same : w ≡ me = one_writer config (prefix_of config peer) (writer_entity config peer number) w me checked found.0 (own_name config peer part of number there).name in
+      let at : count ≤ℤ pos (heartbeats_used (own_writer after number)) =
+      subst (λ (z : ℤ). z ≤ℤ pos (heartbeats_used (own_writer after number))) (sym found.1) (omega (arith, ints, more)) in
+      (ap (λ (e : Endpoint). e.peer) same, subst (λ (e : Endpoint). count ≤ℤ pos (heartbeats_used (own_writer after e.number))) (sym same) at);
+  ask = λ w r count writable has. one_beat_asks config (prefix_of config peer) (prefix_of config to) (beat_body config peer part number final liveliness) w r count writable has;
+}
+
+-- an event at which such messages are due, and nothing is learned
+uses_beats : (config : Config) (tests : Tests) (old : WorldState) (peer : ℕ) (ev : Event) (reply : Reply) (dues : List Due) (packets : List Packet) (new : WorldState) → HasUsedCounts config old
+    → (step : PeerSteps config tests old peer ev reply new) → step.after.known ≡ (peer_at old peer).known → ((due : Due) → Contains dues due → IsBeat config peer step.after.part due)
+    → ((p : Packet) → Contains packets p → IsWrittenOf dues p) → Uses config old packets new
+uses_beats config tests old peer ev reply dues packets new h step same all written =
+    uses_knowing config old packets new peer (steps_stays config tests old peer ev reply new step) h (known_of config tests old peer ev reply new step same)
+    (λ p w count among has.
+    let d = written p among in
+    let one = (all d.due d.among).beat w count d.writable (subst (λ (x : Packet). HasHeartbeat config x.bytes w count) d.is has) in
+    subst (λ (q : Part). count ≤ℤ pos (heartbeats_used (own_writer q w.number))) (sym (here w.peer one.0)) one.1)
+    (λ p w r count among has. let d = written p among in (all d.due d.among).ask w r count d.writable (subst (λ (x : Packet). HasAckNack config x.bytes w r count) d.is has))
+  where
+    here : (p : ℕ) → p ≡ peer → part_at (machine_of new) p ≡ step.after.part
+    here p e =
+        ap (λ (n : ℕ). part_at (machine_of new) n) e
+        ∙ (parts_at new peer
+        ∙ (ap (λ (x : WorldState). (peer_at x peer).part) step.changed
+        ∙ ap (λ (x : Peer). x.part) (numbered-same old.peers peer step.after no_peer step.within)))
+
 -- ---- a tick
 
 used_ticked : (now : ℕ) (w : Writer) (b : Bool) → is_behind w ≡ b → b ≡ true → heartbeats_used (ticked now w) ≡ heartbeats_used w + 1
@@ -270,48 +342,15 @@ used_after_tick part now number behind =
     (λ n. let none : is_behind (own_writer part number) ≡ false = ap (λ (x : Writer). is_behind x) n.1 in absurd cc)
     (numbered-map-cases (ticked now) part.rtps.writers number no_writer)
 
--- a HEARTBEAT that is due at a tick has the count that the tick uses
-record IsBeat (config : Config) (peer : ℕ) (after : Part) (due : Due) : Type 0 where
-  beat : (w : Endpoint) (count : ℤ) → IsWritable due.message → HasHeartbeat config (spelling_of due.message) w count → (w.peer ≡ peer) × (count ≤ℤ pos (heartbeats_used (own_writer after w.number)))
-  ask : (w r : Endpoint) (count : ℤ) → IsWritable due.message → HasAckNack config (spelling_of due.message) w r count → ⊥
-
-beat_body : Config → ℕ → Part → ℕ → HeartbeatBody
-beat_body config peer part number = record {
-  reader_id = every_reader;
-  writer_id = writer_entity config peer number;
-  first_sn = first_kept (history_of (own_writer part number));
-  last_sn = length (writer_changes (own_writer part number));
-  count = pos (heartbeats_used (own_writer part number) + 1);
-  final_flag = false;
-  liveliness_flag = false;
-}
-
 beats_are : (config : Config) (peer : ℕ) (part : Part) (now : ℕ) → check_refusal config.peers ≡ None → IsPartOf config peer part → All (IsBeat config peer (after_tick part now)) (heartbeats_due config peer part)
-unfolding beat_body
 beats_are config peer part now checked of =
     of_all config peer part (IsBeat config peer (after_tick part now))
-    (λ number to there left behind. record {
-      beat = λ w count writable has.
-          let me : Endpoint = record { peer = peer; number = number } in
-          let found = one_beat config (prefix_of config peer) (prefix_of config to) (beat_body config peer part number) w count writable has in
-          let same : w ≡ me = one_writer config (prefix_of config peer) (writer_entity config peer number) w me checked found.0 (own_name config peer part of number there).name in
-          let more = used_after_tick part now number behind in
-          let at : count ≤ℤ pos (heartbeats_used (own_writer (after_tick part now) number)) =
-          subst (λ (z : ℤ). z ≤ℤ pos (heartbeats_used (own_writer (after_tick part now) number))) (sym found.1) (omega (arith, ints, more)) in
-          (ap (λ (e : Endpoint). e.peer) same, subst (λ (e : Endpoint). count ≤ℤ pos (heartbeats_used (own_writer (after_tick part now) e.number))) (sym same) at);
-      ask = λ w r count writable has. one_beat_asks config (prefix_of config peer) (prefix_of config to) (beat_body config peer part number) w r count writable has;
-    })
+    (λ number to there left behind. next_beat config peer part (after_tick part now) number to false false checked of there (used_after_tick part now number behind))
 
 uses_tick : (config : Config) (tests : Tests) (old : WorldState) (peer now : ℕ) (dues : List Due) (packets : List Packet) (new : WorldState) → check_refusal config.peers ≡ None → HasUsedCounts config old
     → PeerSteps config tests old peer (event.Tick now) Done new → dues ≡ heartbeats_due config peer (peer_at old peer).part → ((p : Packet) → Contains packets p → IsWrittenOf dues p) → Uses config old packets new
 uses_tick config tests old peer now dues packets new checked h step are written =
-    uses_knowing config old packets new peer (steps_stays config tests old peer (event.Tick now) Done new step) h
-    (known_of config tests old peer (event.Tick now) Done new step step.step.knows)
-    (λ p w count among has.
-    let d = written p among in
-    let one = (all d.due d.among).beat w count d.writable (subst (λ (x : Packet). HasHeartbeat config x.bytes w count) d.is has) in
-    subst (λ (q : Part). count ≤ℤ pos (heartbeats_used (own_writer q w.number))) (sym (here w.peer one.0)) one.1)
-    (λ p w r count among has. let d = written p among in (all d.due d.among).ask w r count d.writable (subst (λ (x : Packet). HasAckNack config x.bytes w r count) d.is has))
+    uses_beats config tests old peer (event.Tick now) Done dues packets new h step step.step.knows all written
   where
     part : Part
     part = (peer_at old peer).part
@@ -319,17 +358,59 @@ uses_tick config tests old peer now dues packets new checked h step are written 
     ticks : TickStep part now Done step.after.part
     ticks = subst (λ (r : Reply). TickStep part now r step.after.part) step.replies step.step.step.0
 
-    here : (p : ℕ) → p ≡ peer → part_at (machine_of new) p ≡ after_tick part now
-    here p e =
-        ap (λ (n : ℕ). part_at (machine_of new) n) e
-        ∙ (parts_at new peer
-        ∙ (ap (λ (x : WorldState). (peer_at x peer).part) step.changed
-        ∙ (ap (λ (x : Peer). x.part) (numbered-same old.peers peer step.after no_peer step.within) ∙ ticks.1)))
-
-    all : (due : Due) → Contains dues due → IsBeat config peer (after_tick part now) due
+    all : (due : Due) → Contains dues due → IsBeat config peer step.after.part due
     all due among =
-        All-contains (IsBeat config peer (after_tick part now)) (heartbeats_due config peer part) due (beats_are config peer part now checked (h.of_config peer step.within))
-        (subst (λ (ds : List Due). Contains ds due) are among)
+        subst (λ (q : Part). IsBeat config peer q due) (sym ticks.1)
+        (All-contains (IsBeat config peer (after_tick part now)) (heartbeats_due config peer part) due (beats_are config peer part now checked (h.of_config peer step.within))
+        (subst (λ (ds : List Due). Contains ds due) are among))
+
+-- ---- a call
+
+-- the writer that asserted has used one count more, where it has readers
+used_asserted : (w : Writer) (moment : ℕ) → has_readers w ≡ true → heartbeats_used (with_written w (Asserted moment)) ≡ heartbeats_used w + 1
+used_asserted w moment matched =
+    let longer = ap (λ (b : Bool). length (if b then counts_of (has_readers w) w.written ++ true ∷ [] else counts_of (has_readers w) w.written)) matched in
+    let sum = length-append (counts_of (has_readers w) w.written) (true ∷ []) in
+    omega (arith, longer, sum)
+
+uses_call : (config : Config) (tests : Tests) (old : WorldState) (peer : ℕ) (call : Call) (reply : Reply) (dues : List Due) (packets : List Packet) (new : WorldState) → check_refusal config.peers ≡ None → HasUsedCounts config old
+    → PeerSteps config tests old peer (event.Call call) reply new → dues ≡ announcements_due config peer (peer_at old peer).part (effect_of (peer_at old peer).part call reply)
+    → ((p : Packet) → Contains packets p → IsWrittenOf dues p) → Uses config old packets new
+uses_call config tests old peer call reply dues packets new checked h step are written =
+    uses_beats config tests old peer (event.Call call) reply dues packets new h step step.step.knows
+    (λ due among.
+    announced config peer part (effect_of part call reply) (IsBeat config peer step.after.part) (silent_beat config peer step.after.part) told due
+    (subst (λ (ds : List Due). Contains ds due) are among)) written
+  where
+    part : Part
+    part = (peer_at old peer).part
+
+    entered : step.after.part.rtps ≡ effect part.rtps (effect_of part call reply)
+    entered = step.step.step.0.rtps ∙ ap (λ (r : Reply). effect part.rtps (effect_of part call r)) step.replies
+
+    told : (writer moment : ℕ) → effect_of part call reply ≡ writes writer (Asserted moment) → OfEachTold config peer part writer (IsBeat config peer step.after.part)
+    told writer moment is there matched to =
+        let after = asserted_writer part step.after.part writer moment there (entered ∙ ap (λ (e : Effect). effect part.rtps e) is) in
+        next_beat config peer part step.after.part writer to true true checked (h.of_config peer step.within) there
+        (ap (λ (w : Writer). heartbeats_used w) after ∙ used_asserted (own_writer part writer) moment matched)
+
+-- at no peer
+uses_no_call : (config : Config) (old : WorldState) (peer : ℕ) (e : Effect) (dues : List Due) (packets : List Packet) (new : WorldState) → HasUsedCounts config old → (HasNumber old.peers peer → ⊥) → new ≡ old
+    → dues ≡ announcements_due config peer (peer_at old peer).part e → ((p : Packet) → Contains packets p → IsWrittenOf dues p) → Uses config old packets new
+uses_no_call config old peer e dues packets new h never same are written =
+    uses_silent config old dues packets new peer (stays_same config old peer new same) h (λ p. ap (λ (x : WorldState). (peer_at x p).known) same) written
+    (λ due among.
+    announced config peer (peer_at old peer).part e (IsSilent config) (λ d s. s)
+    (λ writer moment is there. absurd (nobody writer there))
+    due (subst (λ (ds : List Due). Contains ds due) are among))
+  where
+    nobody : (writer : ℕ) → HasNumber (peer_at old peer).part.rtps.writers writer → ⊥
+    nobody writer there =
+        ⊎_elim (λ has. never has)
+        (λ none.
+        let empty = ap (λ (x : Peer). length x.part.rtps.writers) none in
+        let low = there.0 in let high = there.1 in absurd (omega (arith, empty, low, high)))
+        (number_there old.peers peer no_peer)
 
 -- ---- a delivery
 
@@ -416,13 +497,9 @@ uses_no_report config tests old peer number reply dues packets new used (inr s) 
 
 uses_step : (config : Config) (tests : AllTests) (old : WorldState) (ev : WorldEvent) (reply : Reply) (dues : List Due) (packets : List Packet) (new : WorldState) → check_refusal config.peers ≡ None → HasUsedCounts config old
     → ((p : Packet) → Contains packets p → IsWrittenOf dues p) → WorldStep config tests old ev reply new → AreDue config old ev reply new dues → Uses config old packets new
-uses_step config tests old (world.Call peer call) reply dues packets new checked used written (inl s) are =
-    uses_silent config old dues packets new peer (steps_stays config (tests peer) old peer (event.Call call) reply new s) used
-    (known_of config (tests peer) old peer (event.Call call) reply new s s.step.knows) written
-    (λ due among. announcement_silent config peer (peer_at old peer).part (effect_of (peer_at old peer).part call reply) due (subst (λ (ds : List Due). Contains ds due) are among))
+uses_step config tests old (world.Call peer call) reply dues packets new checked used written (inl s) are = uses_call config (tests peer) old peer call reply dues packets new checked used s are written
 uses_step config tests old (world.Call peer call) reply dues packets new checked used written (inr s) are =
-    uses_silent config old dues packets new peer (stays_same config old peer new s.1.after) used (known_same old new s.1.after) written
-    (λ due among. announcement_silent config peer (peer_at old peer).part (effect_of (peer_at old peer).part call reply) due (subst (λ (ds : List Due). Contains ds due) are among))
+    uses_no_call config old peer (effect_of (peer_at old peer).part call reply) dues packets new used s.0 s.1.after are written
 uses_step config tests old (world.Tick peer now) Done dues packets new checked used written (inl s) are = uses_tick config (tests peer) old peer now dues packets new checked used s are written
 uses_step config tests old (world.Tick peer now) Done dues packets new checked used written (inr s) are = let r = s.1.is_refused in absurd cc
 uses_step config tests old (world.Tick peer now) reply dues packets new checked used written (inl s) are = uses_no_tick config (tests peer) old peer now reply dues packets new used s written are

@@ -3,7 +3,7 @@ use Rattle.std.proofs.Common.{◌≡◌, ℕ, ◌+◌, ◌-◌, ◌≤◌, Bool,
 use Rattle.std.specs.Prelude.{if◌then◌else◌, nat_lt, nat_le}
 use Rattle.std.specs.Option.{option_map_or}
 use Rattle.std.proofs.lemmas.Bool.Decides.{nat_tests}
-use Rattle.std.proofs.lemmas.List.{drop-append-le}
+use Rattle.std.proofs.lemmas.List.{drop-append-le, length-map}
 use Rattle.std.proofs.lemmas.List.Sums.{sum_by-append}
 use Rattle.std.proofs.lemmas.Option.{slice_get_within}
 use Rattle.dds_base.specs.declared.change.Change.{Change}
@@ -21,7 +21,7 @@ use Rattle.dds_model.specs.declared.reply.Reply.TheVariants.{Done, Refused, Repo
 use Rattle.dds_model.specs.Numbered.{numbered, with_numbered}
 use Rattle.dds_model.specs.Part.{WriterProxy, ReaderProxy, Writer, Rtps, Part, no_writer, no_part, own_writer, own_proxies, place_of, with_place, with_heard, with_acknowledged, writer_changes, history_of, has_readers, is_behind, is_assertion, NoLess}
 use Rattle.dds_model.specs.Moves.{Grounds, IsMove, AreMoves, DeliveryStep}
-use Rattle.dds_model.specs.Calls.{Effect, nothing, writes, effect, effect_of, with_written, ticked, Tests, CallStep, TickStep}
+use Rattle.dds_model.specs.Calls.{Effect, nothing, writes, effect, effect_of, with_written, ticked, reader_ticked, Tests, CallStep, TickStep}
 use Rattle.dds_model.specs.Claims.{Claim, ChangeIs, MayPass, PlaceReached, Asserts}
 use Rattle.dds_model.specs.Machine.{Machine, part_at, writer_at, place_at}
 use Rattle.dds_model.specs.World.{Holds}
@@ -123,7 +123,7 @@ readers_set : (writers : List Writer) (w : ℕ) (after : Writer) → after.reade
 readers_set writers w after h k =
     ⊎_elim (λ e. ap (λ (x : Writer). x.readers) e) (λ s. ap (λ (x : Writer). x.readers) s.1 ∙ (h ∙ ap (λ (j : ℕ). (numbered writers j no_writer).readers) (sym s.0))) (numbered-cases writers w after k no_writer)
 
-effect-readers : (old : Rtps) (e : Effect) (k : ℕ) → (numbered (effect old e).writers k no_writer).readers ≡ (numbered old.writers k no_writer).readers
+pub effect-readers : (old : Rtps) (e : Effect) (k : ℕ) → (numbered (effect old e).writers k no_writer).readers ≡ (numbered old.writers k no_writer).readers
 effect-readers old nothing k = refl
 effect-readers old (writes w entry) k = readers_set old.writers w (with_written (numbered old.writers w no_writer) entry) refl k
 
@@ -158,9 +158,9 @@ TickStep-rows old now Done new h = ap (λ (p : Part). p.rtps.readers) h.1
 TickStep-rows old now (Refused code) new h = ap (λ (p : Part). p.rtps.readers) h.1
 TickStep-rows old now reply new h = absurd h
 
-pub TickStep-readers : (old : Part) (now : ℕ) (reply : Reply) (new : Part) → TickStep old now reply new → new.dds.readers ≡ old.dds.readers
-TickStep-readers old now Done new h = ap (λ (p : Part). p.dds.readers) h.1
-TickStep-readers old now (Refused code) new h = ap (λ (p : Part). p.dds.readers) h.1
+pub TickStep-readers : (old : Part) (now : ℕ) (reply : Reply) (new : Part) → TickStep old now reply new → length new.dds.readers ≡ length old.dds.readers
+TickStep-readers old now Done new h = ap (λ (p : Part). length p.dds.readers) h.1 ∙ length-map old.dds.readers (reader_ticked now)
+TickStep-readers old now (Refused code) new h = ap (λ (p : Part). length p.dds.readers) h.1
 TickStep-readers old now reply new h = absurd h
 
 ticked-readers : (now : ℕ) (ws : List Writer) (k : ℕ) → (numbered (map (ticked now) ws) k no_writer).readers ≡ (numbered ws k no_writer).readers

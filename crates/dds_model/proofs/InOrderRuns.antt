@@ -12,13 +12,13 @@ use Rattle.dds_base.specs.declared.config.PeerConfig.{PeerConfig}
 use Rattle.dds_base.specs.declared.config.WriterConfig.{WriterConfig}
 use Rattle.dds_base.specs.declared.config.ReaderConfig.{ReaderConfig}
 use Rattle.dds_base.specs.declared.happening.Happening.{Happening}
-use Rattle.dds_base.specs.declared.happening.Happening.TheVariants.{Read as HasRead, Took, Heard as WasHeard}
+use Rattle.dds_base.specs.declared.happening.Happening.TheVariants.{Read as HasRead, Took, Heard as WasHeard, Died}
 use Rattle.dds_base.specs.declared.happening.SamplePosition.{SamplePosition}
 use Rattle.dds_base.specs.declared.selection.Selection.{Selection}
 use Rattle.dds_base.specs.declared.qos.HistoryQos.TheVariants.{KeepAll}
-use Rattle.dds_base.specs.Statuses.{lost_count}
+use Rattle.dds_base.specs.Liveliness.{dead_at, with_deaths}
 use Rattle.dds_model.specs.declared.call.Call.{Call}
-use Rattle.dds_model.specs.declared.call.Call.TheVariants.{Register, Write, Dispose, Unregister, Read, Take, GetKeyValue, LookupInstance, GetSampleLost, GetLivelinessChanged, GetLivelinessLost}
+use Rattle.dds_model.specs.declared.call.Call.TheVariants.{Register, Write, Dispose, Unregister, AssertLiveliness, Read, Take, GetKeyValue, LookupInstance, GetSampleLost, GetLivelinessChanged, GetLivelinessLost}
 use Rattle.dds_model.specs.declared.endpoint.Endpoint.{Endpoint}
 use Rattle.dds_model.specs.declared.event.WorldEvent.{WorldEvent}
 use Rattle.dds_model.specs.declared.event.WorldEvent.TheVariants as world
@@ -30,13 +30,13 @@ use Rattle.dds_model.specs.declared.reply.Reply.TheVariants.{Done, Samples, KeyV
 use Rattle.dds_model.specs.Numbered.{numbered, with_numbered, HasNumber}
 use Rattle.dds_model.specs.Part.{same_endpoint, WriterProxy, Reader, Dds, Part, no_reader, no_part, own_writer, own_proxies, own_reader, at_reader, at_writer, row_of, place_of, with_place, with_heard, with_acknowledged, publication_of, writer_changes, nothing_seen, Seen}
 use Rattle.dds_model.specs.Moves.{Grounds, as_to, match_of, IsMatched, position_of, AreMoves, Places, Hears, DeliveryStep}
-use Rattle.dds_model.specs.Calls.{Effect, nothing, writes, effect, effect_of, after_look, seen_lost, seen_liveliness, with_happening, register_refusal, write_refusal, dispose_refusal, unregister_refusal, IsDoneUnless, Tests, AnswersAccess, Answers, CallStep, TickStep}
+use Rattle.dds_model.specs.Calls.{Effect, nothing, writes, effect, effect_of, after_look, seen_lost, seen_liveliness, with_happening, register_refusal, write_refusal, dispose_refusal, unregister_refusal, IsDoneUnless, Tests, AnswersAccess, Answers, CallStep, TickStep, reader_ticked}
 use Rattle.dds_model.specs.Machine.{Machine, AllTests, part_at, writer_at, place_at, grounds_of, Step}
 use Rattle.dds_model.specs.Runs.{Traffic, Run}
 use Rattle.dds_model.specs.InOrder.{came_from, CameInOrder, no_traffic}
 use Rattle.dds_model.specs.Opening.{writers_in, matched_writers, reader_qos, opening_part, opening_peers, opening}
 use Rattle.dds_model.specs.Peer.{Peer}
-use Rattle.dds_model.proofs.Tables.{numbered-cases, numbered-same, length-with_numbered, place-cases, place-hits, place-heard, same_is}
+use Rattle.dds_model.proofs.Tables.{numbered-cases, numbered-map-cases, numbered-same, length-with_numbered, place-cases, place-hits, place-heard, same_is}
 use Rattle.dds_model.proofs.Growth.{CallStep-grows, TickStep-rows, TickStep-readers, TickStep-grows, DeliveryStep-grows, MachineGrows, with_part-grows, writer-changes}
 use Rattle.dds_model.proofs.RunLaws.{keeps_all, Step-policy}
 use Rattle.dds_model.proofs.InOrder.{same_self, publication_kept, publication_there, Along, along_as, RestsOn, goes_along, others_go, different}
@@ -214,6 +214,9 @@ answers_came tests old (Register v key) reply new r h a = done_or_not (register_
 answers_came tests old (Write v key value) reply new r h a = done_or_not (write_refusal old v key value) reply old.dds new r h a
 answers_came tests old (Dispose v key) reply new r h a = done_or_not (dispose_refusal old v key) reply old.dds new r h a
 answers_came tests old (Unregister v key) reply new r h a = done_or_not (unregister_refusal old v key) reply old.dds new r h a
+answers_came tests old (AssertLiveliness v) Done new r h a = same_came old.dds new r h a.1
+answers_came tests old (AssertLiveliness v) (Refused code) new r h a = same_came old.dds new r h a.1
+answers_came tests old (AssertLiveliness v) reply new r h a = absurd a
 answers_came tests old (Read v selection) reply new r h a = accessed HasRead (λ samples p past. refl) old v selection reply new r h a
 answers_came tests old (Take v selection) reply new r h a = accessed Took (λ samples p past. refl) old v selection reply new r h a
 answers_came tests old (GetKeyValue v instance) (KeyValue key) new r h a = same_came old.dds new r h a.2
@@ -249,12 +252,31 @@ lane_call changes tests old w r c reply new l h =
     let came = answers_came tests old c reply new.dds r l.own h.answers in
     lane_same changes old new w r l rows came.0 (came.1 l.publication)
 
--- a tick
+-- a tick: by deaths nothing comes
+
+deaths_came : (now : ℕ) (ws : List ℕ) (h : List Happening) (p : ℕ) → came_from p (with_deaths now ws h) ≡ came_from p h
+deaths_came now [] h p = refl
+deaths_came now (w ∷ ws) h p = deaths_came now ws (Died w now ∷ h) p
+
+ticked_came : (now : ℕ) (rs : List Reader) (r p : ℕ)
+    → came_from p (numbered (map (reader_ticked now) rs) r no_reader).happened ≡ came_from p (numbered rs r no_reader).happened
+ticked_came now rs r p =
+    let old : Reader = numbered rs r no_reader in
+    ⊎_elim (λ e. ap (λ (x : Reader). came_from p x.happened) e ∙ deaths_came now (dead_at old.qos now old.happened) old.happened p)
+    (λ n. ap (λ (x : Reader). came_from p x.happened) (n.0 ∙ sym n.1)) (numbered-map-cases (reader_ticked now) rs r no_reader)
+
+tick_came : (old : Part) (now : ℕ) (reply : Reply) (new : Part) → TickStep old now reply new → (r p : ℕ)
+    → came_from p (own_reader new r).happened ≡ came_from p (own_reader old r).happened
+tick_came old now Done new h r p =
+    ap (λ (x : Part). came_from p (own_reader x r).happened) h.1 ∙ ticked_came now old.dds.readers r p
+tick_came old now (Refused code) new h r p = ap (λ (x : Part). came_from p (own_reader x r).happened) h.1
+tick_came old now reply new h r p = absurd h
+
 lane_tick : (changes : List Change) (old : Part) (w : Endpoint) (r now : ℕ) (reply : Reply) (new : Part) → Lane changes old w r → TickStep old now reply new → Lane changes new w r
 lane_tick changes old w r now reply new l h =
-    let same : new.dds.readers ≡ old.dds.readers = TickStep-readers old now reply new h in
-    lane_same changes old new w r l (TickStep-rows old now reply new h) (subst (λ (x : List Reader). HasNumber x r) (sym same) l.own)
-    (ap (λ (x : List Reader). came_from l.publication (numbered x r no_reader).happened) same)
+    let count : length new.dds.readers ≡ length old.dds.readers = TickStep-readers old now reply new h in
+    lane_same changes old new w r l (TickStep-rows old now reply new h)
+    (subst (λ (n : ℕ). (1 ≤ r) × (r ≤ n)) (sym count) l.own) (tick_came old now reply new h r l.publication)
 
 -- more changes are written
 lane_longer : (changes later : List Change) (part : Part) (w : Endpoint) (r : ℕ) → Lane changes part w r → Lane (changes ++ later) part w r

@@ -13,6 +13,7 @@ mod WorkedPackets
 mod WorkedMoves
 mod WorkedPeers
 mod WorkedReceipt
+mod WorkedTicks
 pub mod OwnGuids
 pub mod Knowing
 pub mod Framing
@@ -27,6 +28,7 @@ pub mod DuesAcknacks
 pub mod DuesUnkept
 pub mod DuesMatched
 pub mod DuesHeartbeats
+pub mod DuesAssertions
 pub mod DuesAnswers
 pub mod DuesTurns
 pub mod DuesPackets

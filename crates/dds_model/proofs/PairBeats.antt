@@ -16,13 +16,13 @@ use Rattle.dds_model.specs.declared.event.Packet.{Packet}
 use Rattle.dds_model.specs.declared.event.WorldEvent.TheVariants as world
 use Rattle.dds_model.specs.declared.reply.Reply.TheVariants.{Done}
 use Rattle.dds_model.specs.Numbered.{HasNumber}
-use Rattle.dds_model.specs.Part.{Part, ReaderProxy, Writer, no_writer, same_endpoint, row_of, own_writer, acknowledged_of, peers_of, writer_changes}
+use Rattle.dds_model.specs.Part.{Part, ReaderProxy, Writer, no_writer, same_endpoint, row_of, own_writer, acknowledged_of, peers_of, writer_changes, heartbeats_used}
 use Rattle.dds_model.specs.Receipt.{prefix_of}
 use Rattle.dds_model.specs.Dues.{IsPartOf}
 use Rattle.dds_model.specs.Machine.{AllTests, writer_at}
 use Rattle.dds_model.specs.Protocol.{Due, readers_behind, heartbeats_of, heartbeats_from, heartbeats_due}
 use Rattle.dds_model.specs.World.{WorldState, peer_at, machine_of}
-use Rattle.dds_model.specs.Fresh.{HasUsedCounts, heartbeats_used, heartbeats_used_at}
+use Rattle.dds_model.specs.Fresh.{HasUsedCounts, heartbeats_used_at}
 use Rattle.dds_model.specs.Repair.{HasBeatTo}
 use Rattle.dds_model.specs.Rules.{RuledStep}
 use Rattle.dds_model.proofs.Composed.{later_in, parts_at}

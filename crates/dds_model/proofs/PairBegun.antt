@@ -11,8 +11,8 @@ use Rattle.rtps_wire.specs.Messages.{IsWritable, spelling_of}
 use Rattle.dds_model.specs.declared.endpoint.Endpoint.{Endpoint}
 use Rattle.dds_model.specs.declared.event.WorldEvent.TheVariants as world
 use Rattle.dds_model.specs.declared.reply.Reply.TheVariants.{Done, Reported}
-use Rattle.dds_model.specs.Numbered.{numbered, HasNumber}
-use Rattle.dds_model.specs.Part.{Part, Reader, WriterProxy, ReaderProxy, Writer, no_writer, own_writer, own_proxies, own_reader, acknowledged_of, place_of, publication_of, writer_changes}
+use Rattle.dds_model.specs.Numbered.{numbered}
+use Rattle.dds_model.specs.Part.{Part, WriterProxy, ReaderProxy, Writer, no_writer, own_writer, own_proxies, own_reader, acknowledged_of, place_of, publication_of, writer_changes, heartbeats_used}
 use Rattle.dds_model.specs.Moves.{match_of}
 use Rattle.dds_model.specs.Dues.{IsPartOf}
 use Rattle.dds_model.specs.Machine.{AllTests, writer_at, place_at}
@@ -21,7 +21,7 @@ use Rattle.dds_model.specs.Protocol.{Known, State}
 use Rattle.dds_model.specs.World.{WorldState, peer_at, machine_of, Sound}
 use Rattle.dds_model.specs.Bounds.{IsBounded}
 use Rattle.dds_model.specs.CatchUp.{Standing, GoesOn}
-use Rattle.dds_model.specs.Fresh.{HasUsedCounts, heartbeats_used, tracked_at}
+use Rattle.dds_model.specs.Fresh.{HasUsedCounts, tracked_at}
 use Rattle.dds_model.specs.Repair.{BeginsRound, IsPair, StandsAt}
 use Rattle.dds_model.proofs.CaughtUp.{on_forward}
 use Rattle.dds_model.proofs.Composed.{parts_at}
@@ -118,7 +118,7 @@ pub seat_ticked : (c : Begun) → Seat (match c) c.writer c.reader.number (ticke
 unfolding match
 seat_ticked c = record {
   rows = has_reader (ticked_reader c).part c.reader.number c.place c.writer (place_ticked c);
-  there = subst (λ (rs : List Reader). HasNumber rs c.reader.number) (sym (left c c.reader.peer).readers) c.stands.here;
+  there = subst (λ (n : ℕ). (1 ≤ c.reader.number) × (c.reader.number ≤ n)) (sym (left c c.reader.peer).readers) c.stands.here;
   handle = (handle_of c).1;
   qos = refl;
   moment = refl;

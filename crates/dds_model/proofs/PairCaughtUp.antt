@@ -34,7 +34,6 @@ use Rattle.dds_model.specs.CatchUp.{Standing, TakesAnswers, IsRepaired, IsFull, 
 use Rattle.dds_model.specs.Fresh.{HasAckNack, HasUsedCounts, tracked_at}
 use Rattle.dds_model.specs.Repair.{AsksInRound, Delivers, DeliversAll, IsPair, StandsAt, IsRepairRound, HoldsWithoutRoom, HasCaughtUp}
 use Rattle.dds_model.proofs.CaughtUp.{window_catches_up}
-use Rattle.dds_model.proofs.CountsWritten.{contains_map}
 use Rattle.dds_model.proofs.DuesAnswers.{all_grouped}
 use Rattle.dds_model.proofs.Framing.{number_or_not}
 use Rattle.dds_model.proofs.FreshCounts.{sent_written}

@@ -1,33 +1,31 @@
 -- The HEARTBEAT and the ACKNACK of a round, as they are looked for among the packets that were sent.
-use Rattle.std.proofs.Common.{◌≡◌, ℕ, zero, suc, ℤ, List, [], ◌∷◌, Option, Some, None, Contains, length, slice_get}
-use Rattle.std.proofs.Common.{refl, subst, ap, sym, ◌∙◌, inl, inr, ⊎_elim, arith}
+use Rattle.std.proofs.Common.{◌≡◌, ℕ, zero, suc, ℤ, List, [], ◌∷◌, Option, Some, None, Contains, length}
+use Rattle.std.proofs.Common.{refl, subst, ap, sym, ◌∙◌, ⊎_elim, arith}
 use Rattle.std.specs.List.{All}
 use Rattle.std.proofs.lemmas.List.Elements.{All-contains}
 use Rattle.dds_base.specs.declared.config.Config.{Config}
 use Rattle.dds_base.specs.declared.config.WriterConfig.{WriterConfig}
 use Rattle.dds_base.specs.declared.guid.EntityId.{EntityId}
 use Rattle.dds_base.specs.declared.guid.GuidPrefix.{GuidPrefix}
-use Rattle.dds_base.specs.Checked.{check_refusal}
 use Rattle.rtps_reader.specs.declared.step.AckNackDue.{AckNackDue}
 use Rattle.rtps_wire.specs.declared.message.Message.{Message}
 use Rattle.rtps_wire.specs.declared.seek.Sought.{Sought}
 use Rattle.rtps_wire.specs.declared.seek.Sought.TheVariants as sought
 use Rattle.rtps_wire.specs.declared.submessage.Submessage.{Submessage}
-use Rattle.rtps_wire.specs.declared.submessage.Submessage.TheVariants.{InfoDst, Heartbeat, AckNack}
+use Rattle.rtps_wire.specs.declared.submessage.Submessage.TheVariants.{Heartbeat, AckNack}
 use Rattle.rtps_wire.specs.Messages.{IsWritable, spelling_of}
-use Rattle.rtps_wire.specs.Sought.{IsSought, HasSought, Has}
+use Rattle.rtps_wire.specs.Sought.{HasSought, Has}
 use Rattle.rtps_wire.proofs.SpellingLaws.{message_again}
 use Rattle.dds_model.specs.declared.endpoint.Endpoint.{Endpoint}
 use Rattle.dds_model.specs.declared.event.Packet.{Packet}
 use Rattle.dds_model.specs.declared.event.WorldEvent.TheVariants as world
 use Rattle.dds_model.specs.declared.reply.Reply.TheVariants.{Done, Reported}
 use Rattle.dds_model.specs.Part.{Part}
-use Rattle.dds_model.specs.Claims.{Receiver, receiver_of, after_submessage, StandsAt, IsWriter, IsReader}
+use Rattle.dds_model.specs.Claims.{Receiver, receiver_of, after_submessage, StandsAt, IsWriter}
 use Rattle.dds_model.specs.Receipt.{prefix_of}
 use Rattle.dds_model.specs.Dues.{IsPartOf}
 use Rattle.dds_model.specs.Machine.{AllTests}
 use Rattle.dds_model.specs.Numbered.{HasNumber}
-use Rattle.dds_model.specs.Peer.{state_of}
 use Rattle.dds_model.specs.Protocol.{Due, writer_entity, heartbeats_due, acknacks_due}
 use Rattle.dds_model.specs.World.{WorldState, peer_at}
 use Rattle.dds_model.specs.Backed.{reader_at}
@@ -42,7 +40,7 @@ use Rattle.dds_model.proofs.FreshCounts.{IsWrittenOf, sent_written}
 use Rattle.dds_model.proofs.OwnGuids.{one_reader}
 use Rattle.dds_model.proofs.PairAnswered.{asking}
 use Rattle.dds_model.proofs.PairBegun.{Begun, pairing, body, hears, packet}
-use Rattle.dds_model.proofs.PairHeard.{writer_prefix, reader_prefix, reader_host, back, ask_body, ask_message}
+use Rattle.dds_model.proofs.PairHeard.{writer_prefix, reader_prefix, reader_host, back, ask_body}
 use Rattle.dds_model.proofs.PairTicked.{beat_of, beat_message}
 use Rattle.dds_model.proofs.PairTurns.{OfOther}
 

@@ -18,7 +18,7 @@ use Rattle.dds_model.specs.declared.event.Packet.{Packet}
 use Rattle.dds_model.specs.declared.event.WorldEvent.TheVariants as world
 use Rattle.dds_model.specs.declared.reply.Reply.{Reply}
 use Rattle.dds_model.specs.declared.reply.Reply.TheVariants.{Done}
-use Rattle.dds_model.specs.Part.{Part, own_writer, writer_changes, history_of}
+use Rattle.dds_model.specs.Part.{Part, own_writer, writer_changes, history_of, heartbeats_used}
 use Rattle.dds_model.specs.Calls.{TickStep}
 use Rattle.dds_model.specs.Claims.{every_reader}
 use Rattle.dds_model.specs.Receipt.{prefix_of}
@@ -28,7 +28,7 @@ use Rattle.dds_model.specs.Peer.{Peer, no_peer}
 use Rattle.dds_model.specs.Protocol.{Due, writer_entity, heartbeats_due}
 use Rattle.dds_model.specs.Numbered.{HasNumber}
 use Rattle.dds_model.specs.World.{WorldState, WorldStep, PeerSteps, peer_at}
-use Rattle.dds_model.specs.Fresh.{HasHeartbeat, heartbeats_used}
+use Rattle.dds_model.specs.Fresh.{HasHeartbeat}
 use Rattle.dds_model.specs.Rules.{RuledStep}
 use Rattle.dds_model.proofs.CountsWritten.{one_beat}
 use Rattle.dds_model.proofs.Dues.{message_to}
@@ -114,7 +114,7 @@ beat_packet config tests old now lost new writer packet count checked of h among
 pub record TickLeaves (old new : WorldState) (p : ℕ) : Type 0 where
   pub known : (peer_at new p).known ≡ (peer_at old p).known
   pub rows : (peer_at new p).part.rtps.readers ≡ (peer_at old p).part.rtps.readers
-  pub readers : (peer_at new p).part.dds.readers ≡ (peer_at old p).part.dds.readers
+  pub readers : length (peer_at new p).part.dds.readers ≡ length (peer_at old p).part.dds.readers
   pub changes : (k : ℕ) → writer_changes (own_writer (peer_at new p).part k) ≡ writer_changes (own_writer (peer_at old p).part k)
   pub acknowledged : (k : ℕ) → (own_writer (peer_at new p).part k).readers ≡ (own_writer (peer_at old p).part k).readers
 
@@ -122,7 +122,7 @@ leaves_all : (old new : WorldState) (p : ℕ) → peer_at new p ≡ peer_at old 
 leaves_all old new p same = record {
   known = ap (λ (x : Peer). x.known) same;
   rows = ap (λ (x : Peer). x.part.rtps.readers) same;
-  readers = ap (λ (x : Peer). x.part.dds.readers) same;
+  readers = ap (λ (x : Peer). length x.part.dds.readers) same;
   changes = λ k. ap (λ (x : Peer). writer_changes (own_writer x.part k)) same;
   acknowledged = λ k. ap (λ (x : Peer). (own_writer x.part k).readers) same;
 }
@@ -136,7 +136,7 @@ steps_leave config tests old peer now new h p (inr s) =
     record {
       known = known_of config (tests peer) old peer (event.Tick now) Done new h h.step.knows p;
       rows = ap (λ (x : Peer). x.part.rtps.readers) s.1 ∙ TickStep-rows (peer_at old p).part now Done h.after.part step;
-      readers = ap (λ (x : Peer). x.part.dds.readers) s.1 ∙ TickStep-readers (peer_at old p).part now Done h.after.part step;
+      readers = ap (λ (x : Peer). length x.part.dds.readers) s.1 ∙ TickStep-readers (peer_at old p).part now Done h.after.part step;
       changes = λ k. ap (λ (x : Peer). writer_changes (own_writer x.part k)) s.1 ∙ tick_changes (peer_at old p).part now Done h.after.part step k;
       acknowledged = λ k. ap (λ (x : Peer). (own_writer x.part k).readers) s.1 ∙ TickStep-acknowledged (peer_at old p).part now Done h.after.part step k;
     }

@@ -5,7 +5,7 @@ use Rattle.dds_base.specs.declared.qos.HistoryQos.{HistoryQos}
 use Rattle.dds_base.specs.declared.qos.HistoryQos.TheVariants.{KeepAll}
 use Rattle.dds_base.specs.Kept.{is_dropped, is_dropped_by}
 use Rattle.dds_model.specs.declared.call.Call.{Call}
-use Rattle.dds_model.specs.declared.call.Call.TheVariants.{Register, Write, Dispose, Unregister, Read, Take, GetKeyValue, LookupInstance, GetSampleLost, GetLivelinessChanged, GetLivelinessLost}
+use Rattle.dds_model.specs.declared.call.Call.TheVariants.{Register, Write, Dispose, Unregister, AssertLiveliness, Read, Take, GetKeyValue, LookupInstance, GetSampleLost, GetLivelinessChanged, GetLivelinessLost}
 use Rattle.dds_model.specs.declared.endpoint.Endpoint.{Endpoint}
 use Rattle.dds_model.specs.declared.event.WorldEvent.{WorldEvent}
 use Rattle.dds_model.specs.declared.event.WorldEvent.TheVariants as world
@@ -80,6 +80,7 @@ loses_call w tests old (Register v k) (Reported report) new replies h rest = abs
 loses_call w tests old (Write v k c) (Reported report) new replies h rest = absurd h.answers
 loses_call w tests old (Dispose v k) (Reported report) new replies h rest = absurd h.answers
 loses_call w tests old (Unregister v k) (Reported report) new replies h rest = absurd h.answers
+loses_call w tests old (AssertLiveliness v) (Reported report) new replies h rest = absurd h.answers
 loses_call w tests old (Read r s) (Reported report) new replies h rest = absurd h.answers
 loses_call w tests old (Take r s) (Reported report) new replies h rest = absurd h.answers
 loses_call w tests old (GetKeyValue r n) (Reported report) new replies h rest = absurd h.answers

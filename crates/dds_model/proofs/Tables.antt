@@ -40,6 +40,16 @@ pub numbered-same : {X : Type 0} (xs : List X) (i : ℕ) (x d : X) → HasNumber
 numbered-same xs zero x d h = absurd (omega (arith, h.0))
 numbered-same xs (suc i) x d h = get_or-set_same xs i x d (omega (arith, h.1))
 
+get_there : {X : Type 0} (xs : List X) (i : ℕ) (d : X) → HasNumber xs (suc i) ⊎ (get_or xs i d ≡ d)
+get_there [] i d = inr refl
+get_there (x ∷ xs) zero d = inl (omega arith, omega arith)
+get_there (x ∷ xs) (suc i) d = ⊎_elim (λ h. let lt = h.1 in inl (omega arith, omega (arith, lt))) (λ e. inr e) (get_there xs i d)
+
+-- there is an element of this number, or else the one given is answered
+pub number_there : {X : Type 0} (xs : List X) (n : ℕ) (d : X) → HasNumber xs n ⊎ (numbered xs n d ≡ d)
+number_there xs zero d = inr refl
+number_there xs (suc i) d = get_there xs i d
+
 pub append_nothing : {X : Type 0} (xs : List X) → xs ++ [] ≡ xs
 append_nothing [] = refl
 append_nothing (x ∷ xs) = ap (λ ys. x ∷ ys) (append_nothing xs)

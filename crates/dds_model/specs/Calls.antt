@@ -1,32 +1,33 @@
 -- What a peer answers to a call, and what the call does: the first cause that holds refuses it, else it is done, unless
 -- a growth was refused.
 --
--- DDS 1.4, 2.2.2.4 (register_instance, write, dispose, unregister_instance, get_liveliness_lost_status), 2.2.2.5 (the forms of read
--- and take, get_key_value, lookup_instance, get_sample_lost_status, get_liveliness_changed_status), 2.2.1.1 (return codes).
-use Rattle.std.specs.Prelude.{◌≡◌, ◌≢◌, ℕ, ◌^◌, ◌&&◌, ◌||◌, not, Bool, List, [], ◌∷◌, map, length, Option, Some, None, is_some, nat_le, nat_lt, if◌then◌else◌}
+-- DDS 1.4, 2.2.2.4 (register_instance, write, dispose, unregister_instance, assert_liveliness, get_liveliness_lost_status),
+-- 2.2.2.5 (the forms of read and take, get_key_value, lookup_instance, get_sample_lost_status, get_liveliness_changed_status), 2.2.1.1 (return codes).
+use Rattle.std.specs.Prelude.{◌≡◌, ◌≢◌, ℕ, ◌-◌, ◌^◌, ◌&&◌, ◌||◌, not, Bool, true, List, [], ◌∷◌, map, length, Option, Some, None, is_some, nat_le, nat_lt, if◌then◌else◌}
+use Rattle.std.specs.List.{list_any}
 use Rattle.dds_base.specs.declared.key.Key.{Key}
 use Rattle.dds_base.specs.declared.change.Change.{Change}
 use Rattle.dds_base.specs.declared.change.ChangeKind.{ChangeKind}
 use Rattle.dds_base.specs.declared.change.ChangeKind.TheVariants as kind
 use Rattle.dds_base.specs.declared.code.Code.{Code}
-use Rattle.dds_base.specs.declared.code.Code.TheVariants.{BadParameter, PreconditionNotMet, NoData}
+use Rattle.dds_base.specs.declared.code.Code.TheVariants.{BadParameter, Memory, OutOfResources, PreconditionNotMet, NoData}
 use Rattle.dds_base.specs.declared.happening.Happening.{Happening}
 use Rattle.dds_base.specs.declared.happening.Happening.TheVariants.{Read as HasRead, Took}
 use Rattle.dds_base.specs.declared.happening.SamplePosition.{SamplePosition}
 use Rattle.dds_base.specs.declared.selection.Selection.{Selection}
 use Rattle.dds_base.specs.Access.{no_filter, collection_of, instance_of, handle_of}
 use Rattle.dds_base.specs.Kept.{append_refusal}
-use Rattle.dds_base.specs.Liveliness.{alive_count, not_alive_count, liveliness_changed_status}
+use Rattle.dds_base.specs.Liveliness.{after_deaths, alive_count, dead_at, liveliness_changed_status, not_alive_count}
 use Rattle.dds_base.specs.Refusal.{Refuses}
 use Rattle.dds_base.specs.Selection.{picked_by, selection_refusal}
 use Rattle.dds_base.specs.Statuses.{lost_count, sample_lost_status}
-use Rattle.dds_base.specs.Written.{Written, Registered, Changed, LookedAt, Ticked, is_key_registered, liveliness_lost_status}
+use Rattle.dds_base.specs.Written.{Written, Registered, Changed, Asserted, LookedAt, Ticked, is_key_registered, liveliness_lost_status}
 use Rattle.dds_model.specs.declared.call.Call.{Call}
-use Rattle.dds_model.specs.declared.call.Call.TheVariants.{Register, Write, Dispose, Unregister, Read, Take, GetKeyValue, LookupInstance, GetSampleLost, GetLivelinessChanged, GetLivelinessLost}
+use Rattle.dds_model.specs.declared.call.Call.TheVariants.{Register, Write, Dispose, Unregister, AssertLiveliness, Read, Take, GetKeyValue, LookupInstance, GetSampleLost, GetLivelinessChanged, GetLivelinessLost}
 use Rattle.dds_model.specs.declared.reply.Reply.{Reply}
 use Rattle.dds_model.specs.declared.reply.Reply.TheVariants.{Done, Samples, KeyValue, InstanceHandle, SampleLost, LivelinessChanged, LivelinessLost, Refused}
 use Rattle.dds_model.specs.Numbered.{numbered, with_numbered}
-use Rattle.dds_model.specs.Part.{Part, Rtps, Dds, Seen, Reader, Writer, no_writer, own_writer, own_reader, history_of, is_behind}
+use Rattle.dds_model.specs.Part.{Part, Rtps, Dds, Seen, Reader, Writer, no_writer, own_writer, own_reader, heartbeats_used, history_of, is_behind}
 
 -- there is an element of this number, counted from 1
 abbrev pub has_number : {X : Type 0} → List X → ℕ → Bool
@@ -63,6 +64,12 @@ unregister_refusal part writer key =
     if not (has_number part.rtps.writers writer) then Some BadParameter
     else (if not (is_key_registered key (own_writer part writer).written) then Some PreconditionNotMet
     else change_refusal part writer (change_made part (unregister_kind (own_writer part writer).autodispose) key []))
+
+-- why an assertion is refused: no such writer, or its HEARTBEAT counts, 1 to 2^31 - 1, are used up
+abbrev pub assert_refusal : Part → ℕ → Option Code
+assert_refusal part writer =
+    if not (has_number part.rtps.writers writer) then Some BadParameter
+    else (if nat_le (2 ^ 31 - 1) (heartbeats_used (own_writer part writer)) then Some OutOfResources else None)
 
 -- What the filters of a peer answer, by their numbers: whether a sample of this key and value passes. The machine holds
 -- the numbers alone.
@@ -131,6 +138,7 @@ effect_of part (Register writer key) Done = writes writer (Registered key)
 effect_of part (Write writer key value) Done = writes writer (Changed (change_made part kind.Write key value))
 effect_of part (Dispose writer key) Done = writes writer (Changed (change_made part kind.Dispose key []))
 effect_of part (Unregister writer key) Done = writes writer (Changed (change_made part (unregister_kind (own_writer part writer).autodispose) key []))
+effect_of part (AssertLiveliness writer) Done = writes writer (Asserted part.dds.moment)
 effect_of part (GetLivelinessLost writer) (LivelinessLost status) = writes writer LookedAt
 effect_of part call reply = nothing
 
@@ -153,13 +161,16 @@ AnswersAccess entry old reader selection (Refused NoData) dds =
 AnswersAccess entry old reader selection (Refused code) dds = Refuses (access_refusal old reader selection) code × (dds ≡ old.dds)
 AnswersAccess entry old reader selection reply dds = ⊥
 
--- What a call answers, and what it does to what the peer's own calls see. A look at a status, a key and a handle need no
--- memory.
+-- What a call answers, and what it does to what the peer's own calls see. A look at a status, a key, a handle and an
+-- assertion need no memory.
 abbrev pub Answers : Tests → Part → Call → Reply → Dds → Type 0
 Answers tests old (Register writer key) reply dds = IsDoneUnless (register_refusal old writer) reply old.dds old.dds dds
 Answers tests old (Write writer key value) reply dds = IsDoneUnless (write_refusal old writer key value) reply old.dds old.dds dds
 Answers tests old (Dispose writer key) reply dds = IsDoneUnless (dispose_refusal old writer key) reply old.dds old.dds dds
 Answers tests old (Unregister writer key) reply dds = IsDoneUnless (unregister_refusal old writer key) reply old.dds old.dds dds
+Answers tests old (AssertLiveliness writer) Done dds = (assert_refusal old writer ≡ None) × (dds ≡ old.dds)
+Answers tests old (AssertLiveliness writer) (Refused code) dds = (assert_refusal old writer ≡ Some code) × (dds ≡ old.dds)
+Answers tests old (AssertLiveliness writer) reply dds = ⊥
 Answers tests old (Read reader selection) reply dds = AnswersAccess HasRead old reader selection reply dds
 Answers tests old (Take reader selection) reply dds = AnswersAccess Took old reader selection reply dds
 Answers tests old (GetKeyValue reader instance) (KeyValue key) dds =
@@ -202,12 +213,28 @@ tick_refusal part now = if nat_lt now part.dds.moment || nat_le (2 ^ 63) now the
 abbrev pub ticked : ℕ → Writer → Writer
 ticked now w = with_written w (Ticked now (is_behind w))
 
--- the part of a peer whose time went on to this moment: it enters so at each writer, and whether a reader was behind
-abbrev pub after_tick : Part → ℕ → Part
-after_tick old now = record { rtps = record old.rtps { writers = map (ticked now) old.rtps.writers }; dds = record old.dds { moment = now } }
+-- a reader, after its peer's time went on to this moment: the writers whose leases are then over have died there
+abbrev pub reader_ticked : ℕ → Reader → Reader
+reader_ticked now r = record r { happened = after_deaths r.qos now r.happened }
 
--- The time of a peer goes on to this moment, exactly unless that is refused: a tick needs no memory.
+-- The part of a peer whose time went on to this moment: first writers die at its readers; then it enters so at each of its
+-- writers, and whether a reader was behind.
+abbrev pub after_tick : Part → ℕ → Part
+after_tick old now = record {
+  rtps = record old.rtps { writers = map (ticked now) old.rtps.writers };
+  dds = record { moment = now; readers = map (reader_ticked now) old.dds.readers };
+}
+
+-- at some reader of the peer a writer dies at this moment
+abbrev pub is_deadly : Part → ℕ → Bool
+is_deadly part now = list_any (λ (r : Reader). nat_lt 0 (length (dead_at r.qos now r.happened))) part.dds.readers
+
+-- why a tick is refused: for its moment, or for want of memory, where somebody dies: a death may leave markers
+abbrev pub RefusesTick : Part → ℕ → Code → Type 0
+RefusesTick old now code = Refuses (tick_refusal old now) code × (code ≡ Memory → is_deadly old now ≡ true)
+
+-- the time of a peer goes on to this moment, exactly unless that is refused
 abbrev pub TickStep : Part → ℕ → Reply → Part → Type 0
 TickStep old now Done new = (tick_refusal old now ≡ None) × (new ≡ after_tick old now)
-TickStep old now (Refused code) new = (tick_refusal old now ≡ Some code) × (new ≡ old)
+TickStep old now (Refused code) new = RefusesTick old now code × (new ≡ old)
 TickStep old now reply new = ⊥

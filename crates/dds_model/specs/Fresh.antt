@@ -2,11 +2,10 @@
 -- than all before it.
 --
 -- RTPS 2.5, 8.3.8 (Heartbeat, AckNack: count), 8.4.9, 8.4.12.
-use Rattle.std.specs.Prelude.{◌≡◌, ℕ, List, length, None, Some, ℤ, pos, ◌≤ℤ◌, Contains}
+use Rattle.std.specs.Prelude.{◌≡◌, ℕ, List, None, Some, ℤ, pos, ◌≤ℤ◌, Contains}
 use Rattle.dds_base.specs.declared.config.Config.{Config}
 use Rattle.dds_base.specs.declared.guid.GuidPrefix.{GuidPrefix}
 use Rattle.dds_base.specs.Checked.{check_refusal}
-use Rattle.dds_base.specs.Written.{counts_of}
 use Rattle.rtps_wire.specs.declared.acknack.AckNack.{AckNack as AckNackBody}
 use Rattle.rtps_wire.specs.declared.heartbeat.Heartbeat.{Heartbeat as HeartbeatBody}
 use Rattle.rtps_wire.specs.declared.message.Message.{Message}
@@ -18,7 +17,7 @@ use Rattle.dds_model.specs.declared.event.Packet.{Packet}
 use Rattle.dds_model.specs.declared.event.WorldEvent.{WorldEvent}
 use Rattle.dds_model.specs.declared.reply.Reply.{Reply}
 use Rattle.dds_model.specs.Numbered.{HasNumber}
-use Rattle.dds_model.specs.Part.{Writer, has_readers}
+use Rattle.dds_model.specs.Part.{heartbeats_used}
 use Rattle.dds_model.specs.Claims.{Receiver, receiver_of, StandsAt, IsWriter, IsToWriter}
 use Rattle.dds_model.specs.Dues.{IsPartOf}
 use Rattle.dds_model.specs.Machine.{AllTests, writer_at}
@@ -53,9 +52,6 @@ pub record HasAckNack (config : Config) (bytes : List ℕ) (writer reader : Endp
   pub same_count : acknack.count ≡ count
 
 -- how many HEARTBEAT counts a writer has used
-abbrev pub heartbeats_used : Writer → ℕ
-heartbeats_used w = length (counts_of (has_readers w) w.written)
-
 abbrev pub heartbeats_used_at : WorldState → Endpoint → ℕ
 heartbeats_used_at world writer = heartbeats_used (writer_at (machine_of world) writer)
 

@@ -9,25 +9,26 @@ use Rattle.dds_base.specs.declared.key.Key.{Key}
 use Rattle.dds_base.specs.declared.qos.HistoryQos.TheVariants.{KeepAll}
 use Rattle.dds_base.specs.Checked.{check_refusal}
 use Rattle.dds_base.specs.Ownership.{IsMatched, HaveOwnGuids, registered_writers, owner_of}
+use Rattle.dds_model.specs.declared.call.Call.TheVariants.{AssertLiveliness}
 use Rattle.dds_model.specs.declared.endpoint.Endpoint.{Endpoint}
 use Rattle.dds_model.specs.declared.event.WorldEvent.{WorldEvent}
 use Rattle.dds_model.specs.declared.reply.Move.{Move}
 use Rattle.dds_model.specs.declared.reply.Move.TheVariants.{Place}
 use Rattle.dds_model.specs.declared.reply.Reply.{Reply}
 use Rattle.dds_model.specs.declared.reply.Report.{Report}
-use Rattle.dds_model.specs.declared.reply.Reply.TheVariants.{Reported}
+use Rattle.dds_model.specs.declared.reply.Reply.TheVariants.{Done, Reported}
 use Rattle.dds_model.specs.Numbered.{numbered}
 use Rattle.dds_model.specs.Receipt.{Receives}
 use Rattle.dds_model.specs.Peer.{Delivery, no_peer, state_of, packets_of, claimed}
-use Rattle.dds_model.specs.Protocol.{State, Due, TakesPacket, heartbeats_due}
+use Rattle.dds_model.specs.Protocol.{State, Due, TakesPacket, assertions_due, heartbeats_due}
 use Rattle.dds_model.specs.Backed.{IsBacked}
 use Rattle.dds_model.specs.Dues.{AreTellable, IsPartOf, AreTruthful, IsSized, HasSmallChanges, CanBeWritten}
-use Rattle.dds_model.specs.Calls.{TickStep}
+use Rattle.dds_model.specs.Calls.{Tests, CallStep, TickStep}
 use Rattle.dds_model.specs.Machine.{Machine, AllTests, writer_at, Step}
 use Rattle.dds_model.specs.World.{WorldState, WorldStep, machine_of, Sound}
 use Rattle.dds_model.specs.Progress.{Progresses}
 use Rattle.dds_model.specs.Runs.{Traffic, Sends, Run}
-use Rattle.dds_model.specs.Part.{Part, publication_of}
+use Rattle.dds_model.specs.Part.{Part, own_writer, publication_of}
 use Rattle.dds_model.specs.Opening.{opening_world, matched_writers, reader_qos}
 
 -- a step of peers, on packets that were sent, is a step of the machine, which takes up what is delivered, and leaves all
@@ -118,3 +119,15 @@ AnswersCanBeWritten = (config : Config) (peer : ℕ) (before : List Delivery) (b
 abbrev pub HeartbeatsAreTrue : Type 0
 HeartbeatsAreTrue = (config : Config) (peer : ℕ) (old : Part) (now : ℕ) (reply : Reply) (new : Part) → check_refusal config.peers ≡ None → IsPartOf config peer old → TickStep old now reply new
     → AreTruthful config peer new (heartbeats_due config peer old)
+
+-- and the HEARTBEATs that tell an assertion are true of the peer that has entered it
+abbrev pub AssertionsAreTrue : Type 0
+AssertionsAreTrue = (config : Config) (tests : Tests) (peer writer : ℕ) (old new : Part) → check_refusal config.peers ≡ None
+    → IsPartOf config peer old → CallStep tests old (AssertLiveliness writer) Done new
+    → AreTruthful config peer new (assertions_due config (record { peer = peer; number = writer }) (own_writer old writer))
+
+-- each HEARTBEAT that tells an assertion can be written, in a configuration whose names have their octets, where the changes are small
+abbrev pub AssertionsCanBeWritten : Type 0
+AssertionsCanBeWritten = (config : Config) (tests : Tests) (peer writer : ℕ) (old new : Part) → IsPartOf config peer old
+    → CallStep tests old (AssertLiveliness writer) Done new → IsSized config → HasSmallChanges old
+    → All CanBeWritten (assertions_due config (record { peer = peer; number = writer }) (own_writer old writer))

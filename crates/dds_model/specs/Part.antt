@@ -173,6 +173,10 @@ peers_of (p ∷ ps) = if list_any (λ peer. peer == p.reader.peer) (peers_of ps)
 abbrev pub has_readers : Writer → Bool
 has_readers w = nat_lt 0 (length w.readers)
 
+-- how many HEARTBEAT counts a writer has used
+abbrev pub heartbeats_used : Writer → ℕ
+heartbeats_used w = length (counts_of (has_readers w) w.written)
+
 -- the count numbers an assertion of the writer
 abbrev pub is_assertion : Writer → ℤ → Bool
 is_assertion w (pos n) = numbered (counts_of (has_readers w) w.written) n false

@@ -34,8 +34,7 @@ use Rattle.dds_model.specs.declared.event.Packet.{Packet}
 use Rattle.dds_model.specs.declared.reply.Report.{Report}
 use Rattle.dds_model.specs.declared.reply.Move.{Move}
 use Rattle.dds_model.specs.declared.reply.Move.TheVariants.{Place, Acknowledged, Heard}
-use Rattle.dds_base.specs.Written.{counts_of}
-use Rattle.dds_model.specs.Part.{Part, ReaderProxy, Writer, peers_of, same_endpoint, own_writer, own_proxies, own_reader, acknowledged_of, with_acknowledged, with_place, with_heard, publication_of, at_reader, at_writer, writer_changes, history_of, has_readers}
+use Rattle.dds_model.specs.Part.{Part, ReaderProxy, Writer, peers_of, same_endpoint, own_writer, own_proxies, own_reader, acknowledged_of, with_acknowledged, with_place, with_heard, publication_of, at_reader, at_writer, writer_changes, heartbeats_used, history_of}
 use Rattle.dds_model.specs.Moves.{IsMatched, match_of}
 use Rattle.dds_model.specs.Claims.{Receiver, receiver_of, after_submessage, IsToReader, IsToWriter, every_reader}
 use Rattle.dds_model.specs.Receipt.{prefix_of, IsNotTaken}
@@ -104,7 +103,7 @@ pub record HearsOf (old : State) (writer : Endpoint) (reader : ℕ) (count : ℤ
     part = at_reader old.part reader (with_heard (own_proxies old.part reader) writer count) (WasHeard publication old.part.dds.moment ∷ (own_reader old.part reader).happened);
   }
 
--- a HEARTBEAT is an assertion of the writer where its flag L is set (RTPS 2.5, 8.4.13)
+-- a HEARTBEAT is an assertion of the writer where its flag L is set (RTPS 2.5, 8.3.8, 8.7.2.2)
 abbrev pub Asserting : Bool → State → Endpoint → ℕ → ℤ → List Move → State → Type 0
 Asserting true old writer reader count moves new = HearsOf old writer reader count new × (moves ≡ Heard writer reader ∷ [])
 Asserting false old writer reader count moves new = (moves ≡ []) × (new ≡ old)
@@ -260,25 +259,33 @@ changes_due config writer readers number change =
 abbrev pub readers_behind : Writer → List ReaderProxy
 readers_behind w = filter (λ (p : ReaderProxy). nat_le p.acknowledged (length (writer_changes w))) w.readers
 
--- the HEARTBEAT of a writer at a tick: from its first kept number to its last, with the next count
-abbrev pub heartbeat_message : (own to : GuidPrefix) (writer : EntityId) → Writer → Message
-heartbeat_message own to writer w = record {
+-- a HEARTBEAT of a writer with these flags: from its first kept number to its last, with the next count
+abbrev pub heartbeat_with : (final liveliness : Bool) (own to : GuidPrefix) (writer : EntityId) → Writer → Message
+heartbeat_with final liveliness own to writer w = record {
   prefix = own;
   submessages = InfoDst to ∷ Heartbeat (record {
     reader_id = every_reader;
     writer_id = writer;
     first_sn = first_kept (history_of w);
     last_sn = length (writer_changes w);
-    count = pos (length (counts_of (has_readers w) w.written) + 1);
-    final_flag = false;
-    liveliness_flag = false;
+    count = pos (heartbeats_used w + 1);
+    final_flag = final;
+    liveliness_flag = liveliness;
   }) ∷ [];
 }
+
+-- the HEARTBEAT of a tick, which asks for an answer
+abbrev pub heartbeat_message : (own to : GuidPrefix) (writer : EntityId) → Writer → Message
+heartbeat_message own to writer w = heartbeat_with false false own to writer w
+
+-- the HEARTBEAT of an assertion, which asks for none (RTPS 2.5, 8.3.8: FinalFlag, LivelinessFlag)
+abbrev pub assertion_message : (own to : GuidPrefix) (writer : EntityId) → Writer → Message
+assertion_message own to writer w = heartbeat_with true true own to writer w
 
 -- at a tick, one to each peer with a reader that is behind, while there are counts left
 abbrev pub heartbeats_of : Config → ℕ → ℕ → Writer → List Due
 heartbeats_of config peer number w =
-    if nat_lt (length (counts_of (has_readers w) w.written)) (2 ^ 31 - 1)
+    if nat_lt (heartbeats_used w) (2 ^ 31 - 1)
     then map (λ to. record { to = to; message = heartbeat_message (prefix_of config peer) (prefix_of config to) (writer_entity config peer number) w }) (peers_of (readers_behind w))
     else []
 
@@ -289,6 +296,11 @@ heartbeats_from config peer number (w ∷ ws) = heartbeats_of config peer number
 -- what is due at a tick of a peer: the HEARTBEATs of its writers, in their order
 abbrev pub heartbeats_due : Config → ℕ → Part → List Due
 heartbeats_due config peer part = heartbeats_from config peer 1 part.rtps.writers
+
+-- a writer's assertion is told at once to each peer with a matched reader
+abbrev pub assertions_due : Config → Endpoint → Writer → List Due
+assertions_due config writer w =
+    map (λ to. record { to = to; message = assertion_message (prefix_of config writer.peer) (prefix_of config to) (writer_entity config writer.peer writer.number) w }) (peers_of w.readers)
 
 -- of the messages that are due these packets are sent, in their order, each in the one written form that it has; so many
 -- more found no memory

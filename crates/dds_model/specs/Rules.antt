@@ -4,7 +4,7 @@
 -- RTPS 2.5, 8.4.9 (reliable StatefulWriter), 8.4.12 (reliable StatefulReader).
 use Rattle.std.specs.Prelude.{◌≡◌, ℕ, ◌+◌, ◌-◌, ◌^◌, min, List, [], ◌∷◌, ◌++◌, length, slice_get, Some}
 use Rattle.dds_base.specs.declared.config.Config.{Config}
-use Rattle.dds_base.specs.Written.{Changed}
+use Rattle.dds_base.specs.Written.{Changed, Asserted}
 use Rattle.dds_model.specs.declared.event.Packet.{Packet}
 use Rattle.dds_model.specs.declared.event.WorldEvent.{WorldEvent}
 use Rattle.dds_model.specs.declared.event.WorldEvent.TheVariants.{Call, Tick, Deliver}
@@ -14,19 +14,22 @@ use Rattle.dds_model.specs.Part.{Part, own_writer, writer_changes}
 use Rattle.dds_model.specs.Calls.{Effect, writes, effect_of}
 use Rattle.dds_model.specs.Machine.{AllTests}
 use Rattle.dds_model.specs.Peer.{state_of}
-use Rattle.dds_model.specs.Protocol.{Due, TakesPacket, AreSent, changes_due, heartbeats_due}
+use Rattle.dds_model.specs.Protocol.{Due, TakesPacket, AreSent, assertions_due, changes_due, heartbeats_due}
 use Rattle.dds_model.specs.Runs.{Traffic, Sends}
 use Rattle.dds_model.specs.World.{WorldState, WorldStep, peer_at, machine_of}
 
--- what is due for what a call enters at a writer of the peer: a change is announced, with the next number
+-- what is due for what a call enters at a writer of the peer: a change is announced, with the next number, and an assertion is
+-- told
 abbrev pub announcements_due : Config → ℕ → Part → Effect → List Due
 announcements_due config peer part (writes writer (Changed change)) =
     changes_due config (record { peer = peer; number = writer }) (own_writer part writer).readers
     (length (writer_changes (own_writer part writer)) + 1) change
+announcements_due config peer part (writes writer (Asserted moment)) =
+    assertions_due config (record { peer = peer; number = writer }) (own_writer part writer)
 announcements_due config peer part other = []
 
--- These messages are due at an event: for a call what announces its change, at a tick that is done the HEARTBEATs of the
--- peer, for a delivered packet what the rules say once it was taken up; where the event is refused, none.
+-- These messages are due at an event: for a call what announces its change or tells its assertion, at a tick that is done the
+-- HEARTBEATs of the peer, for a delivered packet what the rules say once it was taken up; where the event is refused, none.
 abbrev pub AreDue : Config → WorldState → WorldEvent → Reply → WorldState → List Due → Type 0
 AreDue config old (Call peer call) reply new dues =
     dues ≡ announcements_due config peer (peer_at old peer).part (effect_of (peer_at old peer).part call reply)

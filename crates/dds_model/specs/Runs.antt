@@ -2,7 +2,7 @@
 use Rattle.std.specs.Prelude.{◌≡◌, ◌≢◌, ◌⊎◌, ℕ, ◌+◌, ◌-◌, ◌^◌, List, [], ◌∷◌, ◌++◌, length, min, IsSome, Contains, AllPairs}
 use Rattle.dds_base.specs.declared.change.Change.{Change}
 use Rattle.dds_base.specs.declared.config.Config.{Config}
-use Rattle.dds_base.specs.Written.{Changed}
+use Rattle.dds_base.specs.Written.{Changed, Asserted}
 use Rattle.dds_model.specs.declared.endpoint.Endpoint.{Endpoint}
 use Rattle.dds_model.specs.declared.event.WorldEvent.{WorldEvent}
 use Rattle.dds_model.specs.declared.event.WorldEvent.TheVariants as world
@@ -13,7 +13,7 @@ use Rattle.dds_model.specs.Part.{ReaderProxy, peers_of, acknowledged_of, writer_
 use Rattle.dds_model.specs.Calls.{Effect, writes, effect_of}
 use Rattle.dds_model.specs.Claims.{ChangeIs, Claims}
 use Rattle.dds_model.specs.Machine.{Machine, AllTests, part_at, writer_at, Step}
-use Rattle.dds_model.specs.Protocol.{Due, AreSent, changes_due, heartbeats_due}
+use Rattle.dds_model.specs.Protocol.{Due, AreSent, assertions_due, changes_due, heartbeats_due}
 use Rattle.dds_model.specs.Progress.{Progresses}
 
 -- the packets that were sent, and how many found no memory, which stays at its greatest value
@@ -34,13 +34,6 @@ pub record Announced (config : Config) (old : Traffic) (writer : Endpoint) (read
   pub are_sent : AreSent (changes_due config writer readers number change) packets lost
   pub unsent : new.unsent ≡ min (old.unsent + lost) (2 ^ 64 - 1)
 
--- what a call with this effect sends: a change is announced, with the next number; else nothing is sent
-abbrev pub SendsOf : Config → Traffic → Machine → ℕ → Effect → Traffic → Type 0
-SendsOf config old m peer (writes writer (Changed change)) new =
-    Announced config old (record { peer = peer; number = writer }) (writer_at m (record { peer = peer; number = writer })).readers
-    (length (writer_changes (writer_at m (record { peer = peer; number = writer }))) + 1) change new
-SendsOf config old m peer other new = new ≡ old
-
 -- Of the messages that are due some are sent, in their order, each in its one written form; the others found no memory, and
 -- are counted.
 pub record SendsDues (dues : List Due) (old new : Traffic) : Type 0 where
@@ -50,9 +43,19 @@ pub record SendsDues (dues : List Due) (old new : Traffic) : Type 0 where
   pub are_sent : AreSent dues packets lost
   pub unsent : new.unsent ≡ min (old.unsent + lost) (2 ^ 64 - 1)
 
--- What is sent at an event: an accepted change is announced, a tick that is done sends the HEARTBEATs that are due at the
--- peer, and a delivery the ACKNACKs and the answers that are then due there, of which the machine without packets does not
--- know, or nothing where its own bytes found no memory; another call and what is refused send nothing, and lose nothing.
+-- what a call with this effect sends: a change is announced, with the next number, and an assertion told; else nothing is sent
+abbrev pub SendsOf : Config → Traffic → Machine → ℕ → Effect → Traffic → Type 0
+SendsOf config old m peer (writes writer (Changed change)) new =
+    Announced config old (record { peer = peer; number = writer }) (writer_at m (record { peer = peer; number = writer })).readers
+    (length (writer_changes (writer_at m (record { peer = peer; number = writer }))) + 1) change new
+SendsOf config old m peer (writes writer (Asserted moment)) new =
+    SendsDues (assertions_due config (record { peer = peer; number = writer }) (writer_at m (record { peer = peer; number = writer }))) old new
+SendsOf config old m peer other new = new ≡ old
+
+-- What is sent at an event: an accepted change is announced, an assertion is told, a tick that is done sends the HEARTBEATs
+-- that are due at the peer, and a delivery the ACKNACKs and the answers that are then due there, of which the machine without
+-- packets does not know, or nothing where its own bytes found no memory; another call and what is refused send nothing, and
+-- lose nothing.
 abbrev pub Sends : Config → Traffic → Machine → WorldEvent → Reply → Traffic → Type 0
 Sends config old m (world.Call peer call) reply new = SendsOf config old m peer (effect_of (part_at m peer) call reply) new
 Sends config old m (world.Tick peer now) Done new = SendsDues (heartbeats_due config peer (part_at m peer)) old new

@@ -23,6 +23,10 @@ pub enum Call {
     /// writer does so by itself (2.2.3, WRITER_DATA_LIFECYCLE). `PreconditionNotMet` for an instance that is not
     /// registered there.
     Unregister { writer: u8, key: Key },
+    /// Asserts a writer's liveliness (DDS 1.4, 2.2.2.4, assert_liveliness), and sends a HEARTBEAT that says so to each peer
+    /// with a matched reader. `OutOfResources` where at least 2^31 - 1 HEARTBEAT counts of the writer were due. It is never
+    /// refused for want of memory.
+    AssertLiveliness { writer: u8 },
     /// Reads samples, which stay (DDS 1.4, 2.2.2.5, read and its instance, next-instance and next-sample forms).
     /// `BadParameter` for a `max` that is neither -1 nor positive, and for an instance that is not known where it has to
     /// be; `NoData` where there is no such sample.
@@ -69,6 +73,7 @@ impl Clone for Call {
                 writer: *writer,
                 key: *key,
             },
+            Call::AssertLiveliness { writer } => Call::AssertLiveliness { writer: *writer },
             Call::Read { reader, selection } => Call::Read {
                 reader: *reader,
                 selection: *selection,

@@ -18,8 +18,9 @@ pub struct Packet {
 #[derive(Debug, Drop, PartialEq, Eq)]
 pub enum Event {
     Call(Call),
-    /// The time goes on to this moment: `BadParameter` where it would go back, or to 2^63 units of 2^-32 second and
-    /// beyond.
+    /// The time goes on to this moment: those whose lease is over die at the peer's readers, and then the HEARTBEATs are
+    /// sent that are due. `BadParameter` where it would go back, or to 2^63 units of 2^-32 second and beyond; `Memory`
+    /// only where somebody dies.
     Tick(Moment),
     /// The bytes of a packet come.
     Deliver(Octets),
@@ -37,8 +38,7 @@ pub struct Output {
 #[derive(Debug, Drop)]
 pub enum WorldEvent {
     Call { peer: u8, call: Call },
-    /// The time of a peer goes on to this moment: `BadParameter` where it would go back, or to 2^63 units of 2^-32
-    /// second and beyond.
+    /// The time of a peer goes on to this moment, as `Event::Tick` says.
     Tick { peer: u8, now: Moment },
     /// The packet of this number, counted from 1 among all that were ever sent, comes at a peer.
     Deliver { peer: u8, packet: u64 },

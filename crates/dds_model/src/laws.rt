@@ -5,7 +5,7 @@ ghost use Rattle.dds_model.specs.Bounds.{OpensBounded, RunsBounded, StepsBounded
 ghost use Rattle.dds_model.specs.CatchUp.{WindowCatchesUp};
 ghost use Rattle.dds_model.specs.Fresh.{OpensUsed, StepsUsed};
 ghost use Rattle.dds_model.specs.InOrder.{ChangesComeInOrder};
-ghost use Rattle.dds_model.specs.Laws.{AnswersAreTrue, AnswersCanBeWritten, Composes, ComposesRuns, HeartbeatsAreTrue, KeepAllIsKept, OpensBacked, OpensSound, OwnersExist, ReadersTellWritersApart, RulesRestOnClaims};
+ghost use Rattle.dds_model.specs.Laws.{AnswersAreTrue, AnswersCanBeWritten, AssertionsAreTrue, AssertionsCanBeWritten, Composes, ComposesRuns, HeartbeatsAreTrue, KeepAllIsKept, OpensBacked, OpensSound, OwnersExist, ReadersTellWritersApart, RulesRestOnClaims};
 ghost use Rattle.dds_model.specs.Repair.{AnswersAreFew, AsksAreSent, BeatsAreSent, PairCatchesUp};
 
 use crate::event::{Event, Output};
@@ -94,6 +94,10 @@ pub fn what_is_due_is_true()
     ensures tick { HeartbeatsAreTrue }
     // What is due to a packet has a written form, whatever the packet asked for.
     ensures written { AnswersCanBeWritten }
+    // So do the HEARTBEATs that tell an assertion.
+    ensures assertion { AssertionsAreTrue }
+    // They have a written form too.
+    ensures told { AssertionsCanBeWritten }
 {}
 
 /// No count of a HEARTBEAT or of an ACKNACK is sent or taken that its sender has not used: so the next one is newer than

@@ -155,6 +155,15 @@ fn liveliness_lost(words: &[&str]) -> Option<Call> {
     Some(Call::GetLivelinessLost { writer })
 }
 
+/// An assertion of a writer's liveliness.
+fn assertion(words: &[&str]) -> Option<Call> {
+    let [writer] = words else {
+        return None;
+    };
+    let writer = writer_number(writer)?;
+    Some(Call::AssertLiveliness { writer })
+}
+
 /// A writer and an instance.
 fn writer_and_key(writer: &str, key_word: &str) -> Option<(u8, Key)> {
     Some((writer_number(writer)?, key(key_word)?))
@@ -203,6 +212,7 @@ fn other_call(operation: &str, words: &[&str]) -> Option<Call> {
 pub fn call_of(alloc: Global, words: &[&str]) -> Result<Option<Call>, AllocError> {
     match words {
         ["write", operands @ ..] => write(alloc, operands),
+        ["assert", operands @ ..] => Ok(assertion(operands)),
         ["lost", operands @ ..] => Ok(sample_lost(operands)),
         ["changed", operands @ ..] => Ok(liveliness_changed(operands)),
         ["livelost", operands @ ..] => Ok(liveliness_lost(operands)),

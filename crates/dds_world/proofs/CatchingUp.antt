@@ -26,7 +26,7 @@ use Rattle.dds_model.specs.Dues.{IsPartOf}
 use Rattle.dds_model.specs.Fresh.{HasHeartbeat, HasAckNack, heartbeats_used_at, acknacks_used_at}
 use Rattle.dds_model.specs.Machine.{no_tests, place_at, writer_at}
 use Rattle.dds_model.specs.Numbered.{numbered, HasNumber}
-use Rattle.dds_model.specs.Part.{Part, Reader, ReaderProxy, Writer, WriterProxy, NoLess, IsAtMost, own_writer, acknowledged_of, place_of, writer_changes}
+use Rattle.dds_model.specs.Part.{Part, ReaderProxy, Writer, WriterProxy, NoLess, IsAtMost, own_writer, acknowledged_of, place_of, writer_changes}
 use Rattle.dds_model.specs.Protocol.{Known, writer_entity}
 use Rattle.dds_model.specs.Repair.{AsksInRound, BeginsRound, Delivers, DeliversAll, HasCaughtUp, IsRepairRound, StandsAt}
 use Rattle.dds_model.specs.Rules.{RuledStep, RuledRun}
@@ -174,7 +174,7 @@ not_behind t past =
       place = t.place;
       acknowledged = acknowledged t;
       stands = record {
-        here = subst (λ (rs : List Reader). HasNumber rs t.m.reader.number) (sym (left t.m.reader.peer).readers) (stands t).here;
+        here = subst (λ (n : ℕ). (1 ≤ t.m.reader.number) × (t.m.reader.number ≤ n)) (sym (left t.m.reader.peer).readers) (stands t).here;
         place_is = place_is (after_tick t) t.m.reader t.m.writer
             ∙ (ap (λ (rows : List (List WriterProxy)). place_of (numbered_rows rows) t.m.writer) (left t.m.reader.peer).rows ∙ (sym (place_is t.network t.m.reader t.m.writer) ∙ t.at));
         known = ap (λ (k : Known). (k.tracked t.m.writer t.m.reader.number).place) (left t.m.reader.peer).known ∙ (stands t).known;

@@ -19,7 +19,7 @@ use Rattle.dds_model.proofs.CountsOpened.{opens_used}
 use Rattle.dds_model.proofs.Opened.{opens_sound}
 use Rattle.dds_model.proofs.OpenedPeers.{opens_known}
 use Rattle.dds_core.specs.Kept.{CoreKept}
-use Rattle.dds_core.specs.Opening.{are_plain, opening_refusal, core_refusal, opening_peer}
+use Rattle.dds_core.specs.Opening.{core_refusal, opening_peer}
 use Rattle.dds_core.specs.Standing.{StandsFor as CoreStandsFor}
 use Rattle.dds_world.specs.WorldStanding.{WorldKept, StandsFor}
 use Rattle.dds_world.specs.Acting.{OpensFirst}
@@ -47,40 +47,41 @@ few_peers peers checked = ltb-false 16 (length peers) (sizes peers checked).1
 
 -- why a configuration is refused
 
--- what the check answers is the answer
-refused_as : (o : Option Code) (code : Code) (plain : Bool) → o ≡ Some code → Refuses (if is_some o then o else (if plain then None else Some BadParameter)) code
-refused_as (Some cause) code plain is = sym (same_Some cause code is)
-refused_as None code plain is = absurd cc
+pub check_refuses : (peers : List PeerConfig) (code : Code) → check_refusal peers ≡ Some code → Refuses (check_refusal peers) code
+check_refuses peers code is = subst (λ (o : Option Code). Refuses o code) (sym is) refl
 
-pub check_refuses : (peers : List PeerConfig) (code : Code) → check_refusal peers ≡ Some code → Refuses (opening_refusal peers) code
-check_refuses peers code is = refused_as (check_refusal peers) code (are_plain peers) is
+-- what the check answers is the answer
+checked_alone : (o : Option Code) → (if is_some o then o else None) ≡ o
+checked_alone (Some cause) = refl
+checked_alone None = refl
 
 -- a peer that there is, is refused as the whole
-pub same_refusal : (peers : List PeerConfig) (n : ℕ) → 1 ≤ n → n ≤ length peers → core_refusal peers n ≡ opening_refusal peers
+pub same_refusal : (peers : List PeerConfig) (n : ℕ) → 1 ≤ n → n ≤ length peers → core_refusal peers n ≡ check_refusal peers
 same_refusal peers n low high =
     let above : nat_lt 0 n ≡ true = grind (arith, nat_tests, low) in
     let within : nat_le n (length peers) ≡ true = grind (arith, nat_tests, high) in
     let has : has_number peers n ≡ true = ap (λ (b : Bool). b && nat_le n (length peers)) above ∙ within in
-    ap (λ (b : Bool). if is_some (check_refusal peers) then check_refusal peers else (if b && are_plain peers then None else Some BadParameter)) has
+    ap (λ (b : Bool). if is_some (check_refusal peers) then check_refusal peers else (if b then None else Some BadParameter)) has
+    ∙ checked_alone (check_refusal peers)
 
-pub peer_refuses : (peers : List PeerConfig) (i n : ℕ) (code : Code) → n ≡ i + 1 → i < length peers → Refuses (core_refusal peers n) code → Refuses (opening_refusal peers) code
+pub peer_refuses : (peers : List PeerConfig) (i n : ℕ) (code : Code) → n ≡ i + 1 → i < length peers → Refuses (core_refusal peers n) code → Refuses (check_refusal peers) code
 peer_refuses peers i n code is within h = subst (λ (o : Option Code). Refuses o code) (same_refusal peers n (omega (arith, is)) (omega (arith, is, within))) h
 
-pub peer_taken : (peers : List PeerConfig) (i n : ℕ) → n ≡ i + 1 → i < length peers → core_refusal peers n ≡ None → opening_refusal peers ≡ None
+pub peer_taken : (peers : List PeerConfig) (i n : ℕ) → n ≡ i + 1 → i < length peers → core_refusal peers n ≡ None → check_refusal peers ≡ None
 peer_taken peers i n is within h = sym (same_refusal peers n (omega (arith, is)) (omega (arith, is, within))) ∙ h
 
 -- what a peer answers at its opening, as the network answers it
 
-pub taken_so : (peers : List PeerConfig) (i : ℕ) (r : Result CoreKept Code) → i < length peers → IfOk r (λ core. core_refusal peers (i + 1) ≡ None) → IfOk r (λ core. opening_refusal peers ≡ None)
+pub taken_so : (peers : List PeerConfig) (i : ℕ) (r : Result CoreKept Code) → i < length peers → IfOk r (λ core. core_refusal peers (i + 1) ≡ None) → IfOk r (λ core. check_refusal peers ≡ None)
 taken_so peers i (Ok core) within h = peer_taken peers i (i + 1) refl within h
 taken_so peers i (Err code) within h = tt
 
-pub refused_so : (peers : List PeerConfig) (i : ℕ) (r : Result CoreKept Code) → i < length peers → IfErr r (Refuses (core_refusal peers (i + 1))) → IfErr r (Refuses (opening_refusal peers))
+pub refused_so : (peers : List PeerConfig) (i : ℕ) (r : Result CoreKept Code) → i < length peers → IfErr r (Refuses (core_refusal peers (i + 1))) → IfErr r (Refuses (check_refusal peers))
 refused_so peers i (Ok core) within h = tt
 refused_so peers i (Err code) within h = peer_refuses peers i (i + 1) code refl within h
 
 -- where the configuration is taken, want of memory is the one cause
-pub memory_refuses : (peers : List PeerConfig) → opening_refusal peers ≡ None → Refuses (opening_refusal peers) Memory
+pub memory_refuses : (peers : List PeerConfig) → check_refusal peers ≡ None → Refuses (check_refusal peers) Memory
 memory_refuses peers none = subst (λ (o : Option Code). Refuses o Memory) (sym none) refl
 
 -- the peers, one after the other
@@ -95,7 +96,7 @@ at_end [] y (suc j) x at = absurd cc
 at_end (z ∷ zs) y zero x at = inl at
 at_end (z ∷ zs) y (suc j) x at = ⊎_elim (λ e. inl e) (λ e. inr (ap suc e.0, e.1)) (at_end zs y j x at)
 
-pub opens_more : (config : Config) (i n : ℕ) (old new : List CoreKept) (core : CoreKept) → n ≡ i + 1 → OpensFirst config i old → CoreStandsFor core config (opening_peer config n) → opening_refusal config.peers ≡ None → new ≡ old ++ core ∷ []
+pub opens_more : (config : Config) (i n : ℕ) (old new : List CoreKept) (core : CoreKept) → n ≡ i + 1 → OpensFirst config i old → CoreStandsFor core config (opening_peer config n) → check_refusal config.peers ≡ None → new ≡ old ++ core ∷ []
     → OpensFirst config (i + 1) new
 opens_more config i n old new core is so stands taken items =
     let counted = so.counted in

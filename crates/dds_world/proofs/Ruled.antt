@@ -1,5 +1,5 @@
 -- A network whose peers keep the rules of the protocol.
-use Rattle.std.proofs.Common.{◌≡◌, ℕ, suc, ◌+◌, ◌-◌, ◌^◌, ◌<◌, List, [], Some, None, length, get_or, slice_get, subst, ap, sym, ◌∙◌, refl, arith}
+use Rattle.std.proofs.Common.{◌≡◌, ℕ, suc, ◌+◌, ◌-◌, ◌<◌, List, [], Some, length, get_or, slice_get, subst, sym, ◌∙◌, refl, arith}
 use Rattle.dds_base.specs.declared.config.Config.{Config}
 use Rattle.dds_base.specs.Written.{Registered, Changed, Asserted, LookedAt, Ticked}
 use Rattle.rtps_wire.specs.Messages.{HasSubmessage}
@@ -20,7 +20,6 @@ use Rattle.dds_model.specs.Rules.{AreDue, announcements_due}
 use Rattle.dds_model.specs.World.{WorldState, peer_at}
 use Rattle.dds_core.specs.Kept.{CoreKept}
 use Rattle.dds_core.specs.Sending.{SendsFor, due_at_tick}
-use Rattle.dds_core.specs.Standing.{StandsFor as CoreStandsFor, IsTakenByRules, KeepsRules as CoreKeepsRules}
 use Rattle.dds_core.proofs.Lists.{element, get-within}
 use Rattle.dds_world.specs.WorldStanding.{WorldKept, StandsFor, Steps, KeepsRules}
 use Rattle.dds_world.specs.Acting.{Acts, IsCopy, RuledSteps}
@@ -48,7 +47,7 @@ next_number i n is = omega (arith, is)
 effect_due : (config : Config) (peer : Peer) (effect : Effect) (output : Output) → SendsFor config peer effect output → AreSent (announcements_due config peer.number peer.part effect) output.packets output.unsent
 effect_due config peer (writes w (Changed change)) output one = one.are_sent
 effect_due config peer (writes w (Registered key)) output none = (none.packets, none.unsent)
-effect_due config peer (writes w (Asserted moment)) output none = (none.packets, none.unsent)
+effect_due config peer (writes w (Asserted moment)) output are = are
 effect_due config peer (writes w LookedAt) output none = (none.packets, none.unsent)
 effect_due config peer (writes w (Ticked now behind)) output none = (none.packets, none.unsent)
 effect_due config peer nothing output none = (none.packets, none.unsent)

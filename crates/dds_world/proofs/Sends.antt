@@ -1,5 +1,5 @@
 -- What a network sends at an event.
-use Rattle.std.proofs.Common.{◌≡◌, ℕ, suc, ◌+◌, ◌-◌, ◌^◌, min, List, [], ◌∷◌, inl, inr, ⊎_elim, length, get_or, subst, ap, sym, ◌∙◌, refl, arith, length-append}
+use Rattle.std.proofs.Common.{◌≡◌, ℕ, suc, ◌+◌, List, inl, inr, length, get_or, subst, sym, ◌∙◌, refl, arith}
 use Rattle.dds_base.specs.declared.change.Change.{Change}
 use Rattle.dds_base.specs.declared.config.Config.{Config}
 use Rattle.dds_base.specs.Written.{Registered, Changed, Asserted, LookedAt, Ticked}
@@ -17,7 +17,7 @@ use Rattle.dds_model.specs.Part.{Part, ReaderProxy, own_writer, writer_changes}
 use Rattle.dds_model.specs.Calls.{Effect, nothing, writes, effect_of}
 use Rattle.dds_model.specs.Machine.{part_at}
 use Rattle.dds_model.specs.Peer.{Peer, no_peer}
-use Rattle.dds_model.specs.Protocol.{Due, AreSent, changes_due, heartbeats_due}
+use Rattle.dds_model.specs.Protocol.{Due, AreSent, assertions_due, changes_due, heartbeats_due}
 use Rattle.dds_model.specs.Runs.{Traffic, Announced, Sends, SendsDues, SendsOf}
 use Rattle.dds_model.specs.Part.{peers_of}
 use Rattle.dds_model.specs.World.{WorldState, machine_of}
@@ -25,7 +25,7 @@ use Rattle.dds_model.proofs.Tables.{numbered-map}
 use Rattle.dds_core.specs.Sending.{SendsNothing, SendsChange, SendsFor, due_at_tick}
 use Rattle.dds_core.proofs.CallSteps.{refused_nothing}
 use Rattle.dds_core.proofs.Lists.{get-within}
-use Rattle.dds_world.specs.WorldStanding.{WorldKept, ArePosted, Posts, Announces, traffic}
+use Rattle.dds_world.specs.WorldStanding.{WorldKept, Posts, Announces, traffic}
 use Rattle.dds_world.specs.Acting.{Acts, Counts, IsQuiet}
 use Rattle.dds_world.proofs.Posted.{lost_in_all, lost_is, posted_count, posted_on}
 
@@ -46,6 +46,16 @@ announced kept new config writer readers number change output posts counts one =
       unsent = lost_is kept new output posts counts;
     }
 
+-- what a peer sends of its dues is sent in the network
+pub dues_sent : (kept new : WorldKept) (dues : List Due) (output : Output) → Posts kept.sent output.packets new.sent → Counts kept output new → AreSent dues output.packets output.unsent → SendsDues dues (traffic kept) (traffic new)
+dues_sent kept new dues output posts counts are = record {
+  packets = posts.posted;
+  sent = posts.sent;
+  lost = output.unsent + posts.lost;
+  are_sent = posted_on dues output.packets posts.posted output.unsent posts.lost are posts.are_posted;
+  unsent = lost_is kept new output posts counts;
+}
+
 traffic_as : (a b : List Packet) (m n : ℕ) → a ≡ b → m ≡ n → ◌≡◌ {A = Traffic} (record { sent = a; unsent = m }) (record { sent = b; unsent = n })
 traffic_as a b m n e f = cc
 
@@ -56,6 +66,8 @@ same_traffic kept new output quiet none = let q = quiet none in traffic_as new.s
 abbrev SendsAt : Config → Traffic → ℕ → Part → Effect → Traffic → Type 0
 SendsAt config old peer part (writes writer (Changed change)) new =
     Announced config old (record { peer = peer; number = writer }) (own_writer part writer).readers (length (writer_changes (own_writer part writer)) + 1) change new
+SendsAt config old peer part (writes writer (Asserted moment)) new =
+    SendsDues (assertions_due config (record { peer = peer; number = writer }) (own_writer part writer)) old new
 SendsAt config old peer part other new = new ≡ old
 
 effect_sends : (kept new : WorldKept) (config : Config) (peer : Peer) (effect : Effect) (output : Output) → Posts kept.sent output.packets new.sent → Counts kept output new → IsQuiet kept output new
@@ -63,7 +75,8 @@ effect_sends : (kept new : WorldKept) (config : Config) (peer : Peer) (effect : 
 effect_sends kept new config peer (writes w (Changed change)) output posts counts quiet one =
     announced kept new config (record { peer = peer.number; number = w }) (own_writer peer.part w).readers (length (writer_changes (own_writer peer.part w)) + 1) change output posts counts one
 effect_sends kept new config peer (writes w (Registered key)) output posts counts quiet none = same_traffic kept new output quiet none
-effect_sends kept new config peer (writes w (Asserted moment)) output posts counts quiet none = same_traffic kept new output quiet none
+effect_sends kept new config peer (writes w (Asserted moment)) output posts counts quiet are =
+    dues_sent kept new (assertions_due config (record { peer = peer.number; number = w }) (own_writer peer.part w)) output posts counts are
 effect_sends kept new config peer (writes w LookedAt) output posts counts quiet none = same_traffic kept new output quiet none
 effect_sends kept new config peer (writes w (Ticked now behind)) output posts counts quiet none = same_traffic kept new output quiet none
 effect_sends kept new config peer nothing output posts counts quiet none = same_traffic kept new output quiet none
@@ -106,16 +119,6 @@ pub called_sends : (kept new : WorldKept) (i peer : ℕ) (c : Call) (reply : Rep
 called_sends kept new i peer c reply is a = subst (λ (n : ℕ). Announces kept (world.Call n c) reply new) (number_of i peer is) (call_sends kept new i c reply a)
 
 -- a tick sends what is due
-
--- so it is of the dues of a peer
-pub dues_sent : (kept new : WorldKept) (dues : List Due) (output : Output) → Posts kept.sent output.packets new.sent → Counts kept output new → AreSent dues output.packets output.unsent → SendsDues dues (traffic kept) (traffic new)
-dues_sent kept new dues output posts counts are = record {
-  packets = posts.posted;
-  sent = posts.sent;
-  lost = output.unsent + posts.lost;
-  are_sent = posted_on dues output.packets posts.posted output.unsent posts.lost are posts.are_posted;
-  unsent = lost_is kept new output posts counts;
-}
 
 -- what a tick of a peer of this number and this part sends, by its reply
 abbrev TicksAt : Config → Traffic → ℕ → Part → Reply → Traffic → Type 0

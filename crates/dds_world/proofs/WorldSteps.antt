@@ -35,7 +35,7 @@ use Rattle.dds_model.proofs.Tables.{append_nothing}
 use Rattle.dds_core.specs.Kept.{CoreKept}
 use Rattle.dds_core.specs.Standing.{StandsFor as CoreStandsFor, IsSound, SoundSteps as CoreSteps, KeepsRules as CoreKeepsRules}
 use Rattle.dds_core.proofs.CallSteps.{refused_nothing}
-use Rattle.dds_core.proofs.Lists.{each_set, element, get-within}
+use Rattle.dds_core.proofs.Lists.{each_set, get-within}
 use Rattle.dds_world.specs.WorldStanding.{WorldKept, StandsFor, Steps, MovesOn, ArePosted, Posts}
 use Rattle.dds_world.specs.Acting.{Acts, RuledSteps}
 use Rattle.dds_world.proofs.Posted.{lost_is, posted_on}

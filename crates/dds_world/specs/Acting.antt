@@ -2,6 +2,7 @@
 -- here has to be believed.
 use Rattle.std.specs.Prelude.{◌≡◌, ℕ, ◌+◌, ◌-◌, ◌^◌, ◌≤◌, min, List, length, set, slice_get, Some, None}
 use Rattle.dds_base.specs.declared.config.Config.{Config}
+use Rattle.dds_base.specs.Checked.{check_refusal}
 use Rattle.dds_model.specs.declared.event.Event.{Event}
 use Rattle.dds_model.specs.declared.event.Output.{Output}
 use Rattle.dds_model.specs.declared.event.Packet.{Packet}
@@ -11,7 +12,7 @@ use Rattle.dds_model.specs.Machine.{no_tests, Step}
 use Rattle.dds_model.specs.Rules.{RuledStep}
 use Rattle.dds_model.specs.World.{WorldState, machine_of}
 use Rattle.dds_core.specs.Kept.{CoreKept}
-use Rattle.dds_core.specs.Opening.{opening_refusal, opening_peer}
+use Rattle.dds_core.specs.Opening.{opening_peer}
 use Rattle.dds_core.specs.Sending.{Sends as CoreSends, SendsNothing, AreMessages}
 use Rattle.dds_core.specs.Standing.{StandsFor as CoreStandsFor, SoundSteps as CoreSteps}
 use Rattle.dds_world.specs.WorldStanding.{WorldKept, StandsFor, Posts}
@@ -53,7 +54,7 @@ pub record IsCopy (sent : List Packet) (index : ℕ) (bytes : List ℕ) : Type 0
 pub record OpensFirst (config : Config) (count : ℕ) (kept : List CoreKept) : Type 0 where
   pub counted : length kept ≡ count
   pub each : (i : ℕ) (k : CoreKept) → slice_get kept i ≡ Some k → CoreStandsFor k config (opening_peer config (i + 1))
-  pub taken : 1 ≤ count → opening_refusal config.peers ≡ None
+  pub taken : 1 ≤ count → check_refusal config.peers ≡ None
 
 -- a step of the network's peers by the rules of the protocol, and of its machine, to one state
 abbrev pub RuledSteps : WorldKept → WorldEvent → Reply → WorldKept → Type 0

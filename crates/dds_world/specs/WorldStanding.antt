@@ -11,7 +11,7 @@ use Rattle.dds_model.specs.Fresh.{HasUsedCounts}
 use Rattle.dds_model.specs.Rules.{RuledStep, RuledRun}
 use Rattle.dds_model.specs.Runs.{Traffic, Sends, Run}
 use Rattle.dds_model.specs.Peer.{no_peer}
-use Rattle.dds_model.specs.World.{WorldState, WorldStep, peer_at, machine_of, Sound}
+use Rattle.dds_model.specs.World.{WorldState, WorldStep, machine_of, Sound}
 use Rattle.dds_core.specs.Kept.{CoreKept}
 use Rattle.dds_core.specs.Sending.{AreMessages}
 use Rattle.dds_core.specs.Standing.{StandsFor as CoreStandsFor, IsSound}

@@ -11,7 +11,7 @@ ghost use Rattle.dds_model.specs.InOrder.{no_traffic};
 ghost use Rattle.dds_model.specs.Machine.{place_at};
 ghost use Rattle.dds_model.specs.Opening.{opening_world};
 ghost use Rattle.dds_model.specs.World.{WorldState, machine_of};
-ghost use Rattle.dds_core.specs.Opening.{opening_peer, opening_refusal};
+ghost use Rattle.dds_core.specs.Opening.{opening_peer};
 ghost use Rattle.dds_core.specs.Standing.{StandsFor as CoreStandsFor};
 ghost use Rattle.dds_world.specs.WorldStanding.{traffic, Announces, KeepsRules, MovesOn, Posts, Runs, StandsFor, Steps};
 ghost use Rattle.dds_world.specs.Acting.{Acts, Counts, IsCopy, IsQuiet, OpensFirst, RuledSteps};
@@ -82,8 +82,8 @@ fn open_peer(alloc: Global, config: &Config, index: usize) -> Result<Core, Code>
     requires within { index < length config.now.peers }
     requires few { length config.now.peers ≤ 16 }
     ensures opening { IfOk result (λ core. CoreStandsFor core config.now (opening_peer config.now (index + 1))) }
-    ensures taken { IfOk result (λ core. opening_refusal config.now.peers ≡ None) }
-    ensures refused { IfErr result (Refuses (opening_refusal config.now.peers)) }
+    ensures taken { IfOk result (λ core. check_refusal config.now.peers ≡ None) }
+    ensures refused { IfErr result (Refuses (check_refusal config.now.peers)) }
 {
     Core::open(alloc, config, (index + 1) as u8)
 }
@@ -94,7 +94,7 @@ fn open_peers(alloc: Global, config: &Config) -> Result<Vec<Core>, Code>
     requires some { 1 ≤ length config.now.peers }
     requires few { length config.now.peers ≤ 16 }
     ensures opening { IfOk result (λ peers. OpensFirst config.now (length config.now.peers) peers.items) }
-    ensures refused { IfErr result (Refuses (opening_refusal config.now.peers)) }
+    ensures refused { IfErr result (Refuses (check_refusal config.now.peers)) }
 {
     let mut peers = Vec::new(alloc);
     for index in 0..config.peers.as_slice().len() {
@@ -109,17 +109,16 @@ impl World {
     ///
     /// # Errors
     ///
-    /// The first of these: what `Config::check` answers; `BadParameter` for a writer or a reader with a lease;
-    /// `Memory` where a growth was refused.
+    /// What `Config::check` answers, else `Memory` where a growth was refused.
     pub fn open(alloc: Global, config: &Config) -> Result<World, Code>
         // The network stands for the opening of its configuration.
         ensures opening { IfOk result (λ world. StandsFor world config.now (opening_world config.now)) }
         // Nothing was sent, and nothing is counted.
         ensures quiet { IfOk result (λ world. traffic world ≡ no_traffic) }
         // Against what is opened there is no cause.
-        ensures taken { IfOk result (λ world. opening_refusal config.now.peers ≡ None) }
+        ensures taken { IfOk result (λ world. check_refusal config.now.peers ≡ None) }
         // A refusal is by the first cause that there is, or for want of memory.
-        ensures refused { IfErr result (Refuses (opening_refusal config.now.peers)) }
+        ensures refused { IfErr result (Refuses (check_refusal config.now.peers)) }
     {
         config.check()?;
         let peers = open_peers(alloc, config)?;
@@ -134,7 +133,8 @@ impl World {
     /// One event: a call at a peer, its time that goes on, or the delivery of a packet that was sent, at a peer.
     ///
     /// An event at a peer that does not exist, and the delivery of a packet that was never sent, are refused with
-    /// `BadParameter`; a call or a tick is refused as it says itself, or with `Memory`. What is refused changes nothing.
+    /// `BadParameter`. A call is answered as `Call` says, and a tick as `Event::Tick`: at it writers die whose lease is
+    /// over. What is refused changes nothing, but for `NoData`: an access that found nothing is entered.
     pub fn step(&mut self, event: WorldEvent) -> Reply
         // For each state that the network stands for, the reply is one that the machine without packets gives, and the
         // network stands for the state afterwards: this is the theorem.

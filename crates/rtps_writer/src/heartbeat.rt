@@ -1,4 +1,4 @@
-//! The HEARTBEAT that a tick asks for.
+//! The HEARTBEAT that a tick asks for, or that tells an assertion.
 
 use dds_base::Sn;
 

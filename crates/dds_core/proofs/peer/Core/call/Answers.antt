@@ -16,6 +16,10 @@ returns-in-Dispose-clause-step c = subst (λ (x : Call). Steps c.args.self.now (
 pub returns-in-Unregister-clause-step : goal.returns-in-Unregister-clause-step
 returns-in-Unregister-clause-step c = subst (λ (x : Call). Steps c.args.self.now (event.Call x) c.unregister.result c.unregister.new.self) (sym c.in-Unregister.is) c.unregister.ensures.step
 
+pub returns-in-AssertLiveliness-clause-step : goal.returns-in-AssertLiveliness-clause-step
+returns-in-AssertLiveliness-clause-step c =
+    subst (λ (x : Call). Steps c.args.self.now (event.Call x) c.assert_liveliness.result c.assert_liveliness.new.self) (sym c.in-AssertLiveliness.is) c.assert_liveliness.ensures.step
+
 pub returns-in-Read-clause-step : goal.returns-in-Read-clause-step
 returns-in-Read-clause-step c = subst (λ (x : Call). Steps c.args.self.now (event.Call x) c.read.result c.read.new.self) (sym c.in-Read.is) c.read.ensures.step
 

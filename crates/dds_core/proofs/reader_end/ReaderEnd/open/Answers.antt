@@ -1,14 +1,10 @@
 use mir.Val.{SFits}
-use Rattle.std.proofs.Common.{◌≡◌, ◌∙◌, ℕ, ◌<◌, List, Option, ap, rules, sym, subst}
+use Rattle.std.proofs.Common.{◌∙◌, ℕ, ◌<◌, ap, rules, sym, subst}
 use Rattle.std.specs.Prelude.{ℤ}
 use Rattle.std.specs.Int.{w32}
 use Rattle.std.proofs.lemmas.Int.{to_z-of_z}
-use Rattle.dds_base.specs.declared.qos.MatchedWriter.{MatchedWriter}
-use Rattle.dds_base.specs.declared.qos.HistoryQos.{HistoryQos}
-use Rattle.dds_base.specs.declared.qos.OwnershipQos.{OwnershipQos}
-use Rattle.dds_base.specs.declared.qos.ReaderQos.{ReaderQos}
 use Rattle.dds_base.specs.Checked.{limit_of}
-use Rattle.dds_core.proofs.ReaderEnds.{opens_reader, rows_fit, qos_with, qos_as}
+use Rattle.dds_core.proofs.ReaderEnds.{opens_reader, rows_fit, qos_as}
 use Rattle.dds_core.proofs.reader_end.ReaderEnd.open.Goals as goal
 
 pub invariant_of-result : goal.invariant_of-result

@@ -1,4 +1,4 @@
-use Rattle.std.specs.Prelude.{Result, Ok}
+use Rattle.std.specs.Prelude.{Ok}
 use Rattle.dds_base.specs.Written.{LookedAt}
 use Rattle.dds_core.specs.Standing.{state_of}
 use Rattle.dds_core.proofs.WriterEnds.{enters_if, stands_there}

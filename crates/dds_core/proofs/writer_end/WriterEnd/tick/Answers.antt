@@ -1,4 +1,4 @@
-use Rattle.std.proofs.Common.{◌≡◌, List, Some, map, ap, sym, subst, ◌∙◌}
+use Rattle.std.proofs.Common.{◌≡◌, false, List, Some, map, ap, sym, subst, ◌∙◌}
 use Rattle.rtps_writer.specs.WriterState.{heartbeat_due}
 use Rattle.dds_model.specs.Calls.{ticked}
 use Rattle.dds_model.specs.Protocol.{Due}
@@ -41,7 +41,7 @@ returns-clause-beats c = λ w answered s.
       readers = c.self.inside.readers.items;
       writer = c.self.inside.writer;
     } in
-    let beat : Beat = record { prefix = c.args.prefix; entity = c.self.inside.entity; due = c.in-Some.due } in
+    let beat : Beat = record { prefix = c.args.prefix; entity = c.self.inside.entity; due = c.in-Some.due; asserts = false } in
     let here = stands_there kept c.args.self.now w answered c.self.view_is s in
     let after = (ticks _ c.args.self.now c.args.now c.tick.new.self c.self.view_is c.tick.ensures.stands).stands w answered s in
     let due : heartbeat_due (state_of w answered) c.args.now ≡ Some c.in-Some.due = sym (c.tick.ensures.due (state_of w answered) here.writer) ∙ c.in-Some.is in

@@ -1,0 +1,115 @@
+-- What tells an assertion of a writer is what is due for it.
+use Rattle.std.proofs.Common.{◌≡◌, ℕ, ◌+◌, ◌-◌, ◌^◌, ◌<◌, Bool, true, false, List, [], ◌∷◌, ◌++◌, Option, Some, None, map, take, length, get_or, refl, ap, sym, ◌∙◌, subst, length-append}
+use Rattle.std.specs.Prelude.{ℤ, pos, nat_le, nat_lt, if◌then◌else◌}
+use Rattle.std.proofs.lemmas.List.{take_more, length-map, map-append}
+use Rattle.std.proofs.lemmas.Option.{same_Some}
+use Rattle.dds_base.specs.declared.code.Code.{Code}
+use Rattle.dds_base.specs.declared.code.Code.TheVariants.{OutOfResources}
+use Rattle.dds_base.specs.declared.guid.GuidPrefix.{GuidPrefix}
+use Rattle.dds_base.specs.Kept.{first_kept}
+use Rattle.dds_base.specs.Written.{counts_of}
+use Rattle.rtps_writer.specs.Standing.{Kept, StandsFor as RtpsStandsFor}
+use Rattle.rtps_writer.specs.Liveliness.{assert_refusal, asserted, heartbeat_asserted}
+use Rattle.rtps_writer.specs.WriterState.{WriterState, counts_due, last_of, history_of as rtps_history_of}
+use Rattle.rtps_writer.specs.declared.heartbeat.HeartbeatDue.{HeartbeatDue}
+use Rattle.dds_model.specs.declared.endpoint.Endpoint.{Endpoint}
+use Rattle.dds_model.specs.declared.event.Packet.{Packet}
+use Rattle.dds_model.specs.Part.{ReaderProxy, Writer, has_readers, heartbeats_used}
+use Rattle.dds_model.specs.Protocol.{Due, AreSent, assertion_message}
+use Rattle.dds_core.specs.declared.heartbeat.Beat.{Beat}
+use Rattle.dds_core.specs.declared.matching.Destination.{Destination}
+use Rattle.dds_core.specs.Beating.{Adds, IsValid, assertions_of, due_to, message_to, told_to}
+use Rattle.dds_core.specs.Kept.{WriterKept}
+use Rattle.dds_core.specs.Standing.{state_of}
+use Rattle.dds_core.proofs.Beating.{due_by, made_is, valid_next, written_on}
+
+-- ---- one destination more
+
+pub told_more : (beat : Beat) (ds : List Destination) (i : ℕ) (d : Destination) (p q : List Packet) (m n : ℕ) → i < length ds
+    → AreSent (told_to beat (take i ds)) p m → Adds (due_to (get_or ds i d).peer (message_to beat (get_or ds i d).prefix) ∷ []) p m q n
+    → AreSent (told_to beat (take (i + 1) ds)) q n
+told_more beat ds i d p q m n lt h k =
+    let tell : Destination → Due = λ e. due_to e.peer (message_to beat e.prefix) in
+    let last : Destination = get_or ds i d in
+    let all : told_to beat (take (i + 1) ds) ≡ told_to beat (take i ds) ++ tell last ∷ [] =
+    ap (λ (es : List Destination). map tell es) (take_more ds i d lt) ∙ map-append tell (take i ds) (last ∷ []) in
+    subst (λ (dues : List Due). AreSent dues q n) (sym all)
+    (subst (λ (xs : List Packet). AreSent (told_to beat (take i ds) ++ tell last ∷ []) xs n) (sym k.sent)
+    (subst (λ (j : ℕ). AreSent (told_to beat (take i ds) ++ tell last ∷ []) (p ++ k.packets) j) (sym k.lost)
+    (written_on (told_to beat (take i ds)) (tell last ∷ []) p k.packets m k.unsent h k.written)))
+
+-- ---- what is due
+
+-- a writer has readers where its state has
+readers_same : (w : Writer) (answered : Endpoint → Option ℤ) → nat_lt 0 (length (state_of w answered).acknowledged) ≡ has_readers w
+readers_same w answered = ap (λ (n : ℕ). nat_lt 0 n) (length-map w.readers (λ (p : ReaderProxy). p.acknowledged))
+
+-- it has used as many counts
+used_same : (w : Writer) (answered : Endpoint → Option ℤ) → counts_due (state_of w answered) ≡ heartbeats_used w
+used_same w answered = ap (λ (b : Bool). length (counts_of b w.written)) (readers_same w answered)
+
+some_told : (b : Bool) (xs : List Bool) (make : ℕ → HeartbeatDue) (due : HeartbeatDue)
+    → (if b then Some (make (length (if b then xs ++ true ∷ [] else xs))) else None) ≡ Some due
+    → (b ≡ true) × (due ≡ make (length xs + 1))
+some_told true xs make due is =
+    (refl, sym (same_Some (make (length (xs ++ true ∷ []))) due is) ∙ ap make (length-append xs (true ∷ [])))
+some_told false xs make due is = absurd cc
+
+none_told : (b : Bool) (due : HeartbeatDue) → (if b then Some due else None) ≡ None → b ≡ false
+none_told true due is = absurd cc
+none_told false due is = refl
+
+-- the HEARTBEAT of an assertion, by whether there are readers
+abbrev told_by : Writer → Bool → Option HeartbeatDue
+told_by w b =
+    if b then Some (due_by w (length (if b then counts_of b w.written ++ true ∷ [] else counts_of b w.written))) else None
+
+told_as : (w : Writer) (answered : Endpoint → Option ℤ) (now : ℕ) → heartbeat_asserted (state_of w answered) now ≡ told_by w (has_readers w)
+told_as w answered now = ap (λ (b : Bool). told_by w b) (readers_same w answered)
+
+-- the HEARTBEATs that are sent are those of the writer
+pub told_are : (prefix : GuidPrefix) (kept : WriterKept) (w : Writer) (answered : Endpoint → Option ℤ) (now : ℕ) (due : HeartbeatDue)
+    → heartbeat_asserted (state_of w answered) now ≡ Some due
+    → told_to (record { prefix = prefix; entity = kept.entity; due = due; asserts = true }) kept.destinations ≡ assertions_of prefix kept w
+told_are prefix kept w answered now due is =
+    let d =
+    some_told (has_readers w) (counts_of (has_readers w) w.written) (due_by w) due (sym (told_as w answered now) ∙ is) in
+    ap (λ (x : HeartbeatDue). told_to (record { prefix = prefix; entity = kept.entity; due = x; asserts = true }) kept.destinations) d.1
+    ∙ sym (ap (λ (b : Bool). if b then map (λ (e : Destination). due_to e.peer (assertion_message prefix e.prefix kept.entity w)) kept.destinations else []) d.0)
+
+pub told_none : (prefix : GuidPrefix) (kept : WriterKept) (w : Writer) (answered : Endpoint → Option ℤ) (now : ℕ)
+    → heartbeat_asserted (state_of w answered) now ≡ None → [] ≡ assertions_of prefix kept w
+told_none prefix kept w answered now is =
+    let nobody =
+    none_told (has_readers w) (due_by w (length (if has_readers w then counts_of (has_readers w) w.written ++ true ∷ [] else counts_of (has_readers w) w.written)))
+    (sym (told_as w answered now) ∙ is) in
+    sym (ap (λ (b : Bool). if b then map (λ (e : Destination). due_to e.peer (assertion_message prefix e.prefix kept.entity w)) kept.destinations else []) nobody)
+
+-- it can be written
+pub valid_told : (kept : Kept) (s : WriterState) (now : ℕ) (due : HeartbeatDue) → RtpsStandsFor kept s → heartbeat_asserted s now ≡ Some due → IsValid due
+valid_told kept s now due stands is =
+    let count : ℤ = pos (counts_due (asserted s now)) in
+    subst (λ (d : HeartbeatDue). IsValid d)
+    (made_is (nat_lt 0 (length s.acknowledged)) (record { first = first_kept (rtps_history_of s); last = last_of s; count = count }) due is)
+    (valid_next kept s count stands)
+
+-- ---- counts that are left
+
+left_if : (b : Bool) → (if b then Some OutOfResources else None) ≡ None → b ≡ false
+left_if true is = absurd cc
+left_if false is = refl
+
+used_if : (b : Bool) (code : Code) → (if b then Some OutOfResources else None) ≡ Some code → (code ≡ OutOfResources) × (b ≡ true)
+used_if true code is = (sym (same_Some OutOfResources code is), refl)
+used_if false code is = absurd cc
+
+pub count_left : (w : Writer) (answered : Endpoint → Option ℤ) → assert_refusal (state_of w answered) ≡ None
+    → nat_le (2 ^ 31 - 1) (heartbeats_used w) ≡ false
+count_left w answered is =
+    ap (λ (n : ℕ). nat_le (2 ^ 31 - 1) n) (sym (used_same w answered)) ∙ left_if (nat_le (2 ^ 31 - 1) (counts_due (state_of w answered))) is
+
+pub count_used : (w : Writer) (answered : Endpoint → Option ℤ) (code : Code) → assert_refusal (state_of w answered) ≡ Some code
+    → (code ≡ OutOfResources) × (nat_le (2 ^ 31 - 1) (heartbeats_used w) ≡ true)
+count_used w answered code is =
+    let u = used_if (nat_le (2 ^ 31 - 1) (counts_due (state_of w answered))) code is in
+    (u.0, ap (λ (n : ℕ). nat_le (2 ^ 31 - 1) n) (sym (used_same w answered)) ∙ u.1)

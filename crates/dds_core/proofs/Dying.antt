@@ -1,0 +1,220 @@
+-- A tick's deaths at a reader, one after the other.
+use Rattle.std.proofs.Common.{◌≡◌, ℕ, zero, suc, ◌+◌, ◌<◌, ◌≤◌, List, [], ◌∷◌, Some, length, map, ◌||◌, get_or, set, slice_get, refl, ap, sym, ◌∙◌, subst, arith, ⊎_elim, length-set, Bool, true, false, nat_lt}
+use Rattle.std.specs.List.{list_any}
+use Rattle.std.proofs.lemmas.Bool.Decides.{nat_tests}
+use Rattle.std.proofs.lemmas.List.{length-map}
+use Rattle.std.proofs.lemmas.Option.{same_Some, get_or_from_slice_get, slice_get-get_or}
+use Rattle.dds_base.specs.declared.happening.Happening.{Happening}
+use Rattle.dds_base.specs.declared.happening.Happening.TheVariants.{Died}
+use Rattle.dds_base.specs.declared.qos.ReaderQos.{ReaderQos}
+use Rattle.dds_base.specs.Liveliness.{after_deaths, dead_at}
+use Rattle.dds_cache.specs.Standing.{qos_of, StandsFor as CacheStandsFor}
+use Rattle.dds_lease.specs.Standing.{after_deaths_above, writer_count, StandsFor as LeasesStandFor}
+use Rattle.dds_lease.proofs.DeathLaws.{above_none}
+use Rattle.dds_model.specs.Calls.{is_deadly, reader_ticked}
+use Rattle.dds_model.specs.Part.{Part, Reader, WriterProxy, no_reader}
+use Rattle.dds_model.specs.Protocol.{Known}
+use Rattle.dds_model.proofs.Tables.{numbered-map}
+use Rattle.dds_core.specs.Expiring.{AllExpire, Expires, HasDeadly, HasRoomForDeaths, HaveRoomForDeaths, IsDeadly}
+use Rattle.dds_core.specs.Kept.{ReaderIdentity, ReaderKept, reader_identity}
+use Rattle.dds_core.specs.Receiving.{AreAlike}
+use Rattle.dds_core.specs.Standing.{ReaderStands, ReadersStand}
+use Rattle.dds_core.specs.Stored.{StoreKept, Holds}
+use Rattle.dds_core.proofs.Identities.{same_identity}
+use Rattle.dds_core.proofs.Lists.{get-within}
+use Rattle.dds_core.proofs.Ready.{alike_stands, partner, set-cases}
+
+-- something happened by which the store stands as it does, and after which the deaths that are left lead to the tick's end
+pub record LeadsTo (q : ReaderQos) (now after : ℕ) (store : StoreKept) (end : List Happening) : Type 0 where
+  pub happened : List Happening
+  pub holds : Holds store happened
+  pub left : after_deaths_above q now after happened ≡ end
+
+-- those of the handles up to this one have died
+pub record Dying (q : ReaderQos) (now after : ℕ) (old new : StoreKept) : Type 0 where
+  pub room : HasRoomForDeaths now new
+  pub count : writer_count new.leases ≡ length q.writers
+  pub qos : qos_of new.cache ≡ q
+  pub lost : new.lost ≡ old.lost
+  pub died : (h : List Happening) → Holds old h → LeadsTo q now after new (after_deaths q now h)
+
+-- at first nobody has
+pub nobody_yet : (q : ReaderQos) (now : ℕ) (store : StoreKept) (h : List Happening) → Holds store h → LeadsTo q now 0 store (after_deaths q now h)
+nobody_yet q now store h s = record { happened = h; holds = s; left = above_none q now h }
+
+-- where nobody is left, all have
+pub all_died : (q : ReaderQos) (now after : ℕ) (store : StoreKept) (end : List Happening) → (l : LeadsTo q now after store end)
+    → after_deaths_above q now after l.happened ≡ l.happened → Holds store end
+all_died q now after store end l none = subst (λ (h : List Happening). Holds store h) (sym none ∙ l.left) l.holds
+
+-- one more has
+pub next_died : (q : ReaderQos) (now after w : ℕ) (store new : StoreKept) (end : List Happening)
+    → (l : LeadsTo q now after store end) → LeasesStandFor new.leases q (Died w now ∷ l.happened)
+    → after_deaths_above q now after l.happened ≡ after_deaths_above q now w (Died w now ∷ l.happened)
+    → CacheStandsFor new.cache (Died w now ∷ l.happened) → qos_of new.cache ≡ q → new.lost ≡ store.lost
+    → LeadsTo q now w new end
+next_died q now after w store new end l leases turn cache same lost = record {
+  happened = Died w now ∷ l.happened;
+  holds = record {
+    cache = cache;
+    leases = subst (λ (p : ReaderQos). LeasesStandFor new.leases p (Died w now ∷ l.happened)) (sym same) leases;
+    lost_is = lost ∙ l.holds.lost_is;
+  };
+  left = sym turn ∙ l.left;
+}
+
+-- ---- at each reader of a peer
+
+-- a reader whose store went so far
+pub expires : (kept : ReaderKept) (now : ℕ) (store : StoreKept) → qos_of store.cache ≡ qos_of kept.store.cache
+    → ((h : List Happening) → Holds kept.store h → Holds store (after_deaths (qos_of kept.store.cache) now h))
+    → Expires kept now (record kept { store = store })
+expires kept now store qos died = record {
+  same = refl;
+  stands = λ proxies r tracked s. record {
+    writers_are = s.writers_are;
+    places = s.places;
+    knows = s.knows;
+    qos_is = s.qos_is ∙ sym qos;
+    holds = subst (λ (q : ReaderQos). Holds store (after_deaths q now r.happened)) (sym s.qos_is) (died r.happened s.holds);
+    seen_is = s.seen_is;
+  };
+}
+
+-- somebody dies at a reader where somebody dies at what it stores
+pub deadly : (kept : ReaderKept) (now : ℕ)
+    → ((h : List Happening) → Holds kept.store h → 1 ≤ length (dead_at (qos_of kept.store.cache) now h)) → IsDeadly kept now
+deadly kept now dies proxies r tracked s =
+    subst (λ (q : ReaderQos). 1 ≤ length (dead_at q now r.happened)) (sym s.qos_is) (dies r.happened s.holds)
+
+-- so it is at one that had less memory
+pub deadly_before : (olds news : List ReaderKept) (now i : ℕ) (k : ReaderKept) → AreAlike olds news → slice_get news i ≡ Some k → IsDeadly k now → HasDeadly olds now
+deadly_before olds news now i k alike at dies =
+    let old = partner olds news i k alike.count at in
+    record {
+      index = i;
+      reader = old.0;
+      at = old.1;
+      deadly = λ proxies r tracked s. dies proxies r tracked (alike_stands old.0 k proxies r tracked (alike.each i old.0 k old.1 at) s);
+    }
+
+-- what lies before the next index, and is not this one, lies before it
+below : (i index : ℕ) → i < index + 1 → (i ≡ index → ⊥) → i < index
+below i index lt other = by (nat_lt i index) refl
+  where
+    by : (b : Bool) → nat_lt i index ≡ b → i < index
+    by true e = grind (arith, nat_tests, e)
+    by false e = absurd (other (grind (arith, nat_tests, e, lt)))
+
+-- room was made at one more
+pub room_more : (now : ℕ) (readers : List ReaderKept) (index : ℕ) (x : ReaderKept)
+    → ((i : ℕ) (k : ReaderKept) → i < index → slice_get readers i ≡ Some k → HasRoomForDeaths now k.store)
+    → HasRoomForDeaths now x.store → (i : ℕ) (k : ReaderKept) → i < index + 1 → slice_get (set readers index x) i ≡ Some k
+    → HasRoomForDeaths now k.store
+room_more now readers index x before here i k lt at =
+    ⊎_elim (λ s. subst (λ (y : ReaderKept). HasRoomForDeaths now y.store) s.1 here)
+    (λ o. before i k (below i index lt o.0) o.1) (set-cases readers index x i k at)
+
+-- there is room at all
+pub room_all : (now : ℕ) (readers : List ReaderKept) (index : ℕ) → length readers ≤ index
+    → ((i : ℕ) (k : ReaderKept) → i < index → slice_get readers i ≡ Some k → HasRoomForDeaths now k.store)
+    → HaveRoomForDeaths now readers
+room_all now readers index all each i d lt = each i (get_or readers i d) (omega (arith, lt, all)) (slice_get-get_or readers i d lt)
+
+-- the readers before this index have come so far, and the others are as they were
+pub record ExpiredTo (now index : ℕ) (old new : List ReaderKept) : Type 0 where
+  pub count : length new ≡ length old
+  pub done : (i : ℕ) (a b : ReaderKept) → i < index → slice_get old i ≡ Some a → slice_get new i ≡ Some b → Expires a now b
+  pub left : (i : ℕ) (b : ReaderKept) → index ≤ i → slice_get new i ≡ Some b → slice_get old i ≡ Some b
+
+pub none_expired : (now : ℕ) (readers : List ReaderKept) → ExpiredTo now 0 readers readers
+none_expired now readers = record { count = refl; done = λ i a b lt x y. absurd (omega (arith, lt)); left = λ i b le at. at }
+
+pub expired_more : (now index : ℕ) (old new : List ReaderKept) (k x : ReaderKept) → ExpiredTo now index old new → slice_get new index ≡ Some k
+    → Expires k now x → ExpiredTo now (index + 1) old (set new index x)
+expired_more now index old new k x before at one = record {
+  count = length-set new index x ∙ before.count;
+  done = λ i a b lt at_a at_b.
+      ⊎_elim
+      (λ s.
+      let same : k ≡ a =
+      same_Some k a (sym (before.left index k (omega arith) at) ∙ (ap (λ (n : ℕ). slice_get old n) (sym s.0) ∙ at_a)) in
+      subst (λ (y : ReaderKept). Expires a now y) s.1 (subst (λ (y : ReaderKept). Expires y now x) same one))
+      (λ o. before.done i a b (below i index lt o.0) at_a o.1) (set-cases new index x i b at_b);
+  left = λ i b le at_b.
+      ⊎_elim (λ s. let same = s.0 in absurd (omega (arith, le, same))) (λ o. before.left i b (omega (arith, le)) o.1)
+      (set-cases new index x i b at_b);
+}
+
+pub all_expired : (now index : ℕ) (old new : List ReaderKept) → length new ≤ index → ExpiredTo now index old new → AllExpire old now new
+all_expired now index old new all h = record {
+  count = h.count;
+  each = λ i a b at_a at_b. let within = get-within new i b at_b in h.done i a b (omega (arith, within, all)) at_a at_b;
+}
+
+-- there is room at the reader that is next
+pub room_next : (now index : ℕ) (old new : List ReaderKept) (k : ReaderKept) → HaveRoomForDeaths now old → ExpiredTo now index old new
+    → slice_get new index ≡ Some k → HasRoomForDeaths now k.store
+room_next now index old new k room h at =
+    let there = h.left index k (omega arith) at in
+    subst (λ (x : ReaderKept). HasRoomForDeaths now x.store) (get_or_from_slice_get old index k k there)
+    (room index k (get-within old index k there))
+
+-- after more memory was found
+pub expire_on : (now : ℕ) (a b c : List ReaderKept) → AreAlike a b → AllExpire b now c → AllExpire a now c
+expire_on now as' bs cs alike h = record {
+  count = h.count ∙ alike.count;
+  each = λ i a c at_a at_c.
+      let mid = partner bs cs i c h.count at_c in
+      let one = alike.each i a mid.0 at_a mid.1 in
+      let dies = h.each i mid.0 c mid.1 at_c in
+      record {
+        same = dies.same ∙ same_identity mid.0 a one.entity one.writers;
+        stands = λ proxies r tracked s. dies.stands proxies r tracked (alike_stands a mid.0 proxies r tracked one s);
+      };
+}
+
+-- the peer's readers stand as before, each with its deaths
+
+pub expired_names : (now : ℕ) (old new : List ReaderKept) → AllExpire old now new → map reader_identity new ≡ map reader_identity old
+expired_names now [] [] h = refl
+expired_names now [] (b ∷ bs) h = let count = h.count in absurd (omega (arith, count))
+expired_names now (a ∷ as') [] h = let count = h.count in absurd (omega (arith, count))
+expired_names now (a ∷ as') (b ∷ bs) h =
+    let count = h.count in
+    let rest : AllExpire as' now bs = record {
+      count = omega (arith, count);
+      each = λ i x y at_x at_y. h.each (suc i) x y at_x at_y;
+    } in
+    ap (λ (n : ReaderIdentity). n ∷ map reader_identity bs) (h.each zero a b refl refl).same
+    ∙ ap (λ (ns : List ReaderIdentity). reader_identity a ∷ ns) (expired_names now as' bs rest)
+
+pub readers_expired : (now : ℕ) (old new : List ReaderKept) (proxies : List (List WriterProxy)) (rs : List Reader) (known : Known)
+    → AllExpire old now new → ReadersStand old proxies rs known → ReadersStand new proxies (map (reader_ticked now) rs) known
+readers_expired now old new proxies rs known h s = record {
+  rows = s.rows ∙ sym h.count;
+  count = length-map rs (reader_ticked now) ∙ (s.count ∙ sym h.count);
+  each = λ i k at.
+      let before = partner old new i k h.count at in
+      let one : ReaderStands k (get_or proxies i []) (reader_ticked now (get_or rs i no_reader)) (λ w. known.tracked w (suc i)) =
+      (h.each i before.0 k before.1 at).stands _ _ _ (s.each i before.0 before.1) in
+      subst (λ (r : Reader). ReaderStands k (get_or proxies i []) r (λ w. known.tracked w (suc i)))
+      (sym (numbered-map (reader_ticked now) rs (suc i) no_reader)) one;
+}
+
+-- somebody dies at the peer
+any_at : {X : Type 0} (test : X → Bool) (xs : List X) (i : ℕ) (d : X) → i < length xs → test (get_or xs i d) ≡ true → list_any test xs ≡ true
+any_at test [] i d lt is = absurd (omega (arith, lt))
+any_at {X = X} test (x ∷ xs) zero d lt is = ap (λ (b : Bool). b || list_any test xs) is
+any_at {X = X} test (x ∷ xs) (suc i) d lt is = by (test x) (any_at test xs i d (omega (arith, lt)) is)
+  where
+    by : (b : Bool) → list_any test xs ≡ true → (b || list_any test xs) ≡ true
+    by true e = refl
+    by false e = e
+
+pub peer_deadly : (part : Part) (now i : ℕ) → i < length part.dds.readers
+    → 1 ≤ length (dead_at (get_or part.dds.readers i no_reader).qos now (get_or part.dds.readers i no_reader).happened)
+    → is_deadly part now ≡ true
+peer_deadly part now i lt dies =
+    any_at (λ (r : Reader). nat_lt 0 (length (dead_at r.qos now r.happened))) part.dds.readers i no_reader lt
+    (grind (arith, nat_tests, dies))

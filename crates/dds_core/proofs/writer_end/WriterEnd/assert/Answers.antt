@@ -1,0 +1,45 @@
+use Rattle.std.proofs.Common.{◌≡◌, true, List, Some, ap, sym, subst, ◌∙◌}
+use Rattle.std.specs.Prelude.{Ok}
+use Rattle.dds_base.specs.Written.{Asserted}
+use Rattle.rtps_writer.specs.Liveliness.{heartbeat_asserted}
+use Rattle.dds_model.specs.Protocol.{Due, AreSent}
+use Rattle.dds_core.specs.declared.heartbeat.Beat.{Beat}
+use Rattle.dds_core.specs.declared.matching.Destination.{Destination}
+use Rattle.dds_core.specs.Beating.{assertions_of, told_to}
+use Rattle.dds_core.specs.Kept.{WriterKept}
+use Rattle.dds_core.specs.Standing.{state_of}
+use Rattle.dds_core.proofs.Asserting.{count_left, told_are, valid_told}
+use Rattle.dds_core.proofs.WriterEnds.{enters_if, stands_there}
+use Rattle.dds_core.proofs.writer_end.WriterEnd.assert.Goals as goal
+
+pub send_to_all-requires-clause-valid : goal.send_to_all-requires-clause-valid
+send_to_all-requires-clause-valid c =
+    let whole = c.self.invariant in
+    valid_told c.self.inside.writer whole.state c.args.now c.in-Some.due whole.stands
+    (sym (c.in_ok-due.ensures.accepted whole.state whole.stands).1 ∙ c.in-Some.is)
+
+pub returns-clause-ok : goal.returns-clause-ok
+returns-clause-ok c =
+    enters_if {A = Unit {0}} {B = Unit {0}} (Ok tt) _ c.args.self.now (Asserted c.args.now) c.assert.new.self c.self.view_is
+    c.in_ok-due.ensures.ok
+
+pub returns-clause-tells : goal.returns-clause-tells
+returns-clause-tells c = λ w answered s.
+    let kept : WriterKept = record {
+      entity = c.self.inside.entity;
+      autodispose = c.self.inside.autodispose;
+      destinations = c.self.inside.destinations.items;
+      readers = c.self.inside.readers.items;
+      writer = c.self.inside.writer;
+    } in
+    let beat : Beat = record { prefix = c.args.prefix; entity = c.self.inside.entity; due = c.in-Some.due; asserts = true } in
+    let sent = c.send_to_all.result in
+    let here = stands_there kept c.args.self.now w answered c.self.view_is s in
+    let accepted = c.in_ok-due.ensures.accepted (state_of w answered) here.writer in
+    let due : heartbeat_asserted (state_of w answered) c.args.now ≡ Some c.in-Some.due = sym accepted.1 ∙ c.in-Some.is in (
+      count_left w answered accepted.0,
+      subst (λ (k : WriterKept). AreSent (assertions_of c.args.prefix k w) sent.packets.items sent.unsent) c.self.view_is
+          (subst (λ (dues : List Due). AreSent dues sent.packets.items sent.unsent)
+          (ap (λ (ds : List Destination). told_to beat ds) c.as_slice.ensures.value ∙ told_are c.args.prefix kept w answered c.args.now c.in-Some.due due)
+          c.send_to_all.ensures.sent),
+    )
