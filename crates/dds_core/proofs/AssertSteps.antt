@@ -1,6 +1,6 @@
 -- What an assertion of one of the peer's writers does.
-use Rattle.std.proofs.Common.{◌≡◌, ℕ, suc, ◌+◌, ◌-◌, ◌^◌, ◌<◌, Bool, true, false, not, List, [], ◌∷◌, Option, Some, None, map, length, slice_get, refl, ap, sym, ◌∙◌, subst, arith}
-use Rattle.std.specs.Prelude.{ℤ, nat_le, nat_lt, if◌then◌else◌}
+use Rattle.std.proofs.Common.{◌≡◌, ℕ, suc, ◌+◌, ◌-◌, ◌^◌, ◌<◌, Bool, true, false, not, List, [], ◌∷◌, Some, None, map, length, slice_get, refl, ap, sym, ◌∙◌, subst, arith}
+use Rattle.std.specs.Prelude.{nat_le, nat_lt, if◌then◌else◌}
 use Rattle.std.proofs.lemmas.Bool.Decides.{nat_tests}
 use Rattle.dds_base.specs.declared.code.Code.{Code}
 use Rattle.dds_base.specs.declared.code.Code.TheVariants.{BadParameter, OutOfResources}
@@ -9,7 +9,6 @@ use Rattle.dds_base.specs.declared.guid.EntityId.{EntityId}
 use Rattle.dds_base.specs.declared.guid.GuidPrefix.{GuidPrefix}
 use Rattle.dds_base.specs.Written.{Asserted}
 use Rattle.dds_model.specs.declared.call.Call.TheVariants as call
-use Rattle.dds_model.specs.declared.endpoint.Endpoint.{Endpoint}
 use Rattle.dds_model.specs.declared.event.Event.TheVariants as event
 use Rattle.dds_model.specs.declared.event.Packet.{Packet}
 use Rattle.dds_model.specs.declared.reply.Reply.TheVariants.{Done, Refused}
@@ -23,7 +22,7 @@ use Rattle.dds_model.proofs.DuesAssertions.{assertions_true}
 use Rattle.dds_core.specs.declared.matching.Destination.{Destination}
 use Rattle.dds_core.specs.Beating.{HasNoCount, TellsOf, assertions_of, due_to}
 use Rattle.dds_core.specs.Kept.{WriterKept, CoreKept}
-use Rattle.dds_core.specs.Standing.{WriterStands, StandsFor, Enters}
+use Rattle.dds_core.specs.Standing.{StandsFor, Enters}
 use Rattle.dds_core.proofs.BeatsDue.{IsNamed, all_named, by_number, named, part_of, sent_true}
 use Rattle.dds_core.proofs.CallSteps.{Follows, number_is, refused_call, there_is}
 use Rattle.dds_core.proofs.Destinations.{sends_to}
@@ -53,7 +52,8 @@ assertions_are config peer prefix number k w is = by w.readers refl
         ∙ ap (λ (e : EntityId). map (λ (d : Destination). due_to d.peer (assertion_message prefix d.prefix e w)) ds) is.entity)))
 
 -- the peer's writer of this index, and what is told of it
-told_at : (kept : CoreKept) (i : ℕ) (k : WriterKept) (config : Config) (peer : Peer) → (s : StandsFor kept config peer) → slice_get kept.writers i ≡ Some k
+told_at : (kept : CoreKept) (i : ℕ) (k : WriterKept) (config : Config) (peer : Peer)
+    → (s : StandsFor kept config peer) → slice_get kept.writers i ≡ Some k
     → (packets : List Packet) (unsent : ℕ) → TellsOf kept.prefix k packets unsent
     → (nat_le (2 ^ 31 - 1) (heartbeats_used (own_writer peer.part (suc i))) ≡ false)
     × AreSent (assertions_due config (record { peer = peer.number; number = suc i }) (own_writer peer.part (suc i))) packets unsent
@@ -64,7 +64,9 @@ told_at kept i k config peer s at packets unsent tells =
     let is : IsNamed config peer.number kept.prefix (suc i) k w = subst (λ (n : ℕ). IsNamed config peer.number kept.prefix n k w) next (named config peer kept s i k at) in
     (told.0, subst (λ (dues : List Due). AreSent dues packets unsent) (assertions_are config peer.number kept.prefix (suc i) k w is) told.1)
 
-asserts : (kept : CoreKept) (i : ℕ) (k k' : WriterKept) (config : Config) (peer : Peer) → StandsFor kept config peer → slice_get kept.writers i ≡ Some k → i < length kept.writers → Enters k (Asserted kept.moment) k'
+asserts : (kept : CoreKept) (i : ℕ) (k k' : WriterKept) (config : Config) (peer : Peer)
+    → StandsFor kept config peer → slice_get kept.writers i ≡ Some k → i < length kept.writers
+    → Enters k (Asserted kept.moment) k'
     → (packets : List Packet) (unsent : ℕ) → TellsOf kept.prefix k packets unsent
     → Follows (with_writer kept i k') config peer (event.Call (call.AssertLiveliness (suc i))) (record { reply = Done; packets = packets; unsent = unsent })
 asserts kept i k k' config peer s at lt enters packets unsent tells =
@@ -91,14 +93,17 @@ asserts kept i k k' config peer s at lt enters packets unsent tells =
     )
 
 -- so it is of the writer of a number
-pub asserts_at : (kept : CoreKept) (writer i : ℕ) (k k' : WriterKept) (config : Config) (peer : Peer) → StandsFor kept config peer → writer ≡ i + 1 → slice_get kept.writers i ≡ Some k → i < length kept.writers
-    → Enters k (Asserted kept.moment) k' → (packets : List Packet) (unsent : ℕ) → TellsOf kept.prefix k packets unsent
+pub asserts_at : (kept : CoreKept) (writer i : ℕ) (k k' : WriterKept) (config : Config) (peer : Peer)
+    → StandsFor kept config peer → writer ≡ i + 1 → slice_get kept.writers i ≡ Some k → i < length kept.writers
+    → Enters k (Asserted kept.moment) k' → (packets : List Packet) (unsent : ℕ)
+    → TellsOf kept.prefix k packets unsent
     → Follows (with_writer kept i k') config peer (event.Call (call.AssertLiveliness writer)) (record { reply = Done; packets = packets; unsent = unsent })
 asserts_at kept writer i k k' config peer s is at lt enters packets unsent tells =
     subst (λ (n : ℕ). Follows (with_writer kept i k') config peer (event.Call (call.AssertLiveliness n)) (record { reply = Done; packets = packets; unsent = unsent }))
     (number_is writer i is) (asserts kept i k k' config peer s at lt enters packets unsent tells)
 
-pub asserts_sends : (kept : CoreKept) (writer i : ℕ) (k : WriterKept) (config : Config) (peer : Peer) → StandsFor kept config peer → writer ≡ i + 1 → slice_get kept.writers i ≡ Some k
+pub asserts_sends : (kept : CoreKept) (writer i : ℕ) (k : WriterKept) (config : Config) (peer : Peer)
+    → StandsFor kept config peer → writer ≡ i + 1 → slice_get kept.writers i ≡ Some k
     → (packets : List Packet) (unsent : ℕ) → TellsOf kept.prefix k packets unsent
     → AreSent (assertions_due config (record { peer = peer.number; number = writer }) (own_writer peer.part writer)) packets unsent
 asserts_sends kept writer i k config peer s is at packets unsent tells =
@@ -106,7 +111,8 @@ asserts_sends kept writer i k config peer s is at packets unsent tells =
     (number_is writer i is) (told_at kept i k config peer s at packets unsent tells).1
 
 -- where its counts are used up, nothing happens
-refuses : (kept : CoreKept) (i : ℕ) (k : WriterKept) (config : Config) (peer : Peer) → StandsFor kept config peer → slice_get kept.writers i ≡ Some k → i < length kept.writers → HasNoCount k
+refuses : (kept : CoreKept) (i : ℕ) (k : WriterKept) (config : Config) (peer : Peer)
+    → StandsFor kept config peer → slice_get kept.writers i ≡ Some k → i < length kept.writers → HasNoCount k
     → Follows kept config peer (event.Call (call.AssertLiveliness (suc i))) (silent (Refused OutOfResources))
 refuses kept i k config peer s at lt used =
     let count = s.writers.count in
@@ -118,7 +124,8 @@ refuses kept i k config peer s at lt used =
     refused_call kept config peer s (call.AssertLiveliness (suc i)) OutOfResources (is, refl)
 
 pub refuses_at : (kept : CoreKept) (writer i : ℕ) (k k' : WriterKept) (code : Code) (config : Config) (peer : Peer) → StandsFor kept config peer → writer ≡ i + 1 → slice_get kept.writers i ≡ Some k → i < length kept.writers
-    → (code ≡ OutOfResources) × HasNoCount k → k' ≡ k → Follows (with_writer kept i k') config peer (event.Call (call.AssertLiveliness writer)) (silent (Refused code))
+    → (code ≡ OutOfResources) × HasNoCount k → k' ≡ k
+    → Follows (with_writer kept i k') config peer (event.Call (call.AssertLiveliness writer)) (silent (Refused code))
 refuses_at kept writer i k k' code config peer s is at lt used same =
     subst (λ (x : CoreKept). Follows x config peer (event.Call (call.AssertLiveliness writer)) (silent (Refused code))) (sym (unchanged_with kept i k k' at same))
     (subst (λ (n : ℕ). Follows kept config peer (event.Call (call.AssertLiveliness n)) (silent (Refused code))) (number_is writer i is)

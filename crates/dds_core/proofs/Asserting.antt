@@ -26,7 +26,8 @@ use Rattle.dds_core.proofs.Beating.{due_by, made_is, valid_next, written_on}
 -- ---- one destination more
 
 pub told_more : (beat : Beat) (ds : List Destination) (i : ℕ) (d : Destination) (p q : List Packet) (m n : ℕ) → i < length ds
-    → AreSent (told_to beat (take i ds)) p m → Adds (due_to (get_or ds i d).peer (message_to beat (get_or ds i d).prefix) ∷ []) p m q n
+    → AreSent (told_to beat (take i ds)) p m
+    → Adds (due_to (get_or ds i d).peer (message_to beat (get_or ds i d).prefix) ∷ []) p m q n
     → AreSent (told_to beat (take (i + 1) ds)) q n
 told_more beat ds i d p q m n lt h k =
     let tell : Destination → Due = λ e. due_to e.peer (message_to beat e.prefix) in
@@ -41,7 +42,8 @@ told_more beat ds i d p q m n lt h k =
 -- ---- what is due
 
 -- a writer has readers where its state has
-readers_same : (w : Writer) (answered : Endpoint → Option ℤ) → nat_lt 0 (length (state_of w answered).acknowledged) ≡ has_readers w
+readers_same : (w : Writer) (answered : Endpoint → Option ℤ)
+    → nat_lt 0 (length (state_of w answered).acknowledged) ≡ has_readers w
 readers_same w answered = ap (λ (n : ℕ). nat_lt 0 n) (length-map w.readers (λ (p : ReaderProxy). p.acknowledged))
 
 -- it has used as many counts
@@ -64,7 +66,8 @@ abbrev told_by : Writer → Bool → Option HeartbeatDue
 told_by w b =
     if b then Some (due_by w (length (if b then counts_of b w.written ++ true ∷ [] else counts_of b w.written))) else None
 
-told_as : (w : Writer) (answered : Endpoint → Option ℤ) (now : ℕ) → heartbeat_asserted (state_of w answered) now ≡ told_by w (has_readers w)
+told_as : (w : Writer) (answered : Endpoint → Option ℤ) (now : ℕ)
+    → heartbeat_asserted (state_of w answered) now ≡ told_by w (has_readers w)
 told_as w answered now = ap (λ (b : Bool). told_by w b) (readers_same w answered)
 
 -- the HEARTBEATs that are sent are those of the writer
@@ -86,7 +89,8 @@ told_none prefix kept w answered now is =
     sym (ap (λ (b : Bool). if b then map (λ (e : Destination). due_to e.peer (assertion_message prefix e.prefix kept.entity w)) kept.destinations else []) nobody)
 
 -- it can be written
-pub valid_told : (kept : Kept) (s : WriterState) (now : ℕ) (due : HeartbeatDue) → RtpsStandsFor kept s → heartbeat_asserted s now ≡ Some due → IsValid due
+pub valid_told : (kept : Kept) (s : WriterState) (now : ℕ) (due : HeartbeatDue) → RtpsStandsFor kept s
+    → heartbeat_asserted s now ≡ Some due → IsValid due
 valid_told kept s now due stands is =
     let count : ℤ = pos (counts_due (asserted s now)) in
     subst (λ (d : HeartbeatDue). IsValid d)
@@ -99,7 +103,8 @@ left_if : (b : Bool) → (if b then Some OutOfResources else None) ≡ None → 
 left_if true is = absurd cc
 left_if false is = refl
 
-used_if : (b : Bool) (code : Code) → (if b then Some OutOfResources else None) ≡ Some code → (code ≡ OutOfResources) × (b ≡ true)
+used_if : (b : Bool) (code : Code) → (if b then Some OutOfResources else None) ≡ Some code
+    → (code ≡ OutOfResources) × (b ≡ true)
 used_if true code is = (sym (same_Some OutOfResources code is), refl)
 used_if false code is = absurd cc
 
@@ -108,7 +113,8 @@ pub count_left : (w : Writer) (answered : Endpoint → Option ℤ) → assert_re
 count_left w answered is =
     ap (λ (n : ℕ). nat_le (2 ^ 31 - 1) n) (sym (used_same w answered)) ∙ left_if (nat_le (2 ^ 31 - 1) (counts_due (state_of w answered))) is
 
-pub count_used : (w : Writer) (answered : Endpoint → Option ℤ) (code : Code) → assert_refusal (state_of w answered) ≡ Some code
+pub count_used : (w : Writer) (answered : Endpoint → Option ℤ) (code : Code)
+    → assert_refusal (state_of w answered) ≡ Some code
     → (code ≡ OutOfResources) × (nat_le (2 ^ 31 - 1) (heartbeats_used w) ≡ true)
 count_used w answered code is =
     let u = used_if (nat_le (2 ^ 31 - 1) (counts_due (state_of w answered))) code is in

@@ -39,11 +39,13 @@ pub record Dying (q : ReaderQos) (now after : ℕ) (old new : StoreKept) : Type 
   pub died : (h : List Happening) → Holds old h → LeadsTo q now after new (after_deaths q now h)
 
 -- at first nobody has
-pub nobody_yet : (q : ReaderQos) (now : ℕ) (store : StoreKept) (h : List Happening) → Holds store h → LeadsTo q now 0 store (after_deaths q now h)
+pub nobody_yet : (q : ReaderQos) (now : ℕ) (store : StoreKept) (h : List Happening) → Holds store h
+    → LeadsTo q now 0 store (after_deaths q now h)
 nobody_yet q now store h s = record { happened = h; holds = s; left = above_none q now h }
 
 -- where nobody is left, all have
-pub all_died : (q : ReaderQos) (now after : ℕ) (store : StoreKept) (end : List Happening) → (l : LeadsTo q now after store end)
+pub all_died : (q : ReaderQos) (now after : ℕ) (store : StoreKept) (end : List Happening)
+    → (l : LeadsTo q now after store end)
     → after_deaths_above q now after l.happened ≡ l.happened → Holds store end
 all_died q now after store end l none = subst (λ (h : List Happening). Holds store h) (sym none ∙ l.left) l.holds
 
@@ -83,12 +85,14 @@ expires kept now store qos died = record {
 
 -- somebody dies at a reader where somebody dies at what it stores
 pub deadly : (kept : ReaderKept) (now : ℕ)
-    → ((h : List Happening) → Holds kept.store h → 1 ≤ length (dead_at (qos_of kept.store.cache) now h)) → IsDeadly kept now
+    → ((h : List Happening) → Holds kept.store h → 1 ≤ length (dead_at (qos_of kept.store.cache) now h))
+    → IsDeadly kept now
 deadly kept now dies proxies r tracked s =
     subst (λ (q : ReaderQos). 1 ≤ length (dead_at q now r.happened)) (sym s.qos_is) (dies r.happened s.holds)
 
 -- so it is at one that had less memory
-pub deadly_before : (olds news : List ReaderKept) (now i : ℕ) (k : ReaderKept) → AreAlike olds news → slice_get news i ≡ Some k → IsDeadly k now → HasDeadly olds now
+pub deadly_before : (olds news : List ReaderKept) (now i : ℕ) (k : ReaderKept) → AreAlike olds news
+    → slice_get news i ≡ Some k → IsDeadly k now → HasDeadly olds now
 deadly_before olds news now i k alike at dies =
     let old = partner olds news i k alike.count at in
     record {
@@ -109,7 +113,8 @@ below i index lt other = by (nat_lt i index) refl
 -- room was made at one more
 pub room_more : (now : ℕ) (readers : List ReaderKept) (index : ℕ) (x : ReaderKept)
     → ((i : ℕ) (k : ReaderKept) → i < index → slice_get readers i ≡ Some k → HasRoomForDeaths now k.store)
-    → HasRoomForDeaths now x.store → (i : ℕ) (k : ReaderKept) → i < index + 1 → slice_get (set readers index x) i ≡ Some k
+    → HasRoomForDeaths now x.store → (i : ℕ) (k : ReaderKept) → i < index + 1
+    → slice_get (set readers index x) i ≡ Some k
     → HasRoomForDeaths now k.store
 room_more now readers index x before here i k lt at =
     ⊎_elim (λ s. subst (λ (y : ReaderKept). HasRoomForDeaths now y.store) s.1 here)
@@ -130,7 +135,8 @@ pub record ExpiredTo (now index : ℕ) (old new : List ReaderKept) : Type 0 wher
 pub none_expired : (now : ℕ) (readers : List ReaderKept) → ExpiredTo now 0 readers readers
 none_expired now readers = record { count = refl; done = λ i a b lt x y. absurd (omega (arith, lt)); left = λ i b le at. at }
 
-pub expired_more : (now index : ℕ) (old new : List ReaderKept) (k x : ReaderKept) → ExpiredTo now index old new → slice_get new index ≡ Some k
+pub expired_more : (now index : ℕ) (old new : List ReaderKept) (k x : ReaderKept)
+    → ExpiredTo now index old new → slice_get new index ≡ Some k
     → Expires k now x → ExpiredTo now (index + 1) old (set new index x)
 expired_more now index old new k x before at one = record {
   count = length-set new index x ∙ before.count;
@@ -146,14 +152,16 @@ expired_more now index old new k x before at one = record {
       (set-cases new index x i b at_b);
 }
 
-pub all_expired : (now index : ℕ) (old new : List ReaderKept) → length new ≤ index → ExpiredTo now index old new → AllExpire old now new
+pub all_expired : (now index : ℕ) (old new : List ReaderKept) → length new ≤ index
+    → ExpiredTo now index old new → AllExpire old now new
 all_expired now index old new all h = record {
   count = h.count;
   each = λ i a b at_a at_b. let within = get-within new i b at_b in h.done i a b (omega (arith, within, all)) at_a at_b;
 }
 
 -- there is room at the reader that is next
-pub room_next : (now index : ℕ) (old new : List ReaderKept) (k : ReaderKept) → HaveRoomForDeaths now old → ExpiredTo now index old new
+pub room_next : (now index : ℕ) (old new : List ReaderKept) (k : ReaderKept) → HaveRoomForDeaths now old
+    → ExpiredTo now index old new
     → slice_get new index ≡ Some k → HasRoomForDeaths now k.store
 room_next now index old new k room h at =
     let there = h.left index k (omega arith) at in
@@ -176,7 +184,8 @@ expire_on now as' bs cs alike h = record {
 
 -- the peer's readers stand as before, each with its deaths
 
-pub expired_names : (now : ℕ) (old new : List ReaderKept) → AllExpire old now new → map reader_identity new ≡ map reader_identity old
+pub expired_names : (now : ℕ) (old new : List ReaderKept) → AllExpire old now new
+    → map reader_identity new ≡ map reader_identity old
 expired_names now [] [] h = refl
 expired_names now [] (b ∷ bs) h = let count = h.count in absurd (omega (arith, count))
 expired_names now (a ∷ as') [] h = let count = h.count in absurd (omega (arith, count))
@@ -190,7 +199,8 @@ expired_names now (a ∷ as') (b ∷ bs) h =
     ∙ ap (λ (ns : List ReaderIdentity). reader_identity a ∷ ns) (expired_names now as' bs rest)
 
 pub readers_expired : (now : ℕ) (old new : List ReaderKept) (proxies : List (List WriterProxy)) (rs : List Reader) (known : Known)
-    → AllExpire old now new → ReadersStand old proxies rs known → ReadersStand new proxies (map (reader_ticked now) rs) known
+    → AllExpire old now new → ReadersStand old proxies rs known
+    → ReadersStand new proxies (map (reader_ticked now) rs) known
 readers_expired now old new proxies rs known h s = record {
   rows = s.rows ∙ sym h.count;
   count = length-map rs (reader_ticked now) ∙ (s.count ∙ sym h.count);
@@ -203,7 +213,8 @@ readers_expired now old new proxies rs known h s = record {
 }
 
 -- somebody dies at the peer
-any_at : {X : Type 0} (test : X → Bool) (xs : List X) (i : ℕ) (d : X) → i < length xs → test (get_or xs i d) ≡ true → list_any test xs ≡ true
+any_at : {X : Type 0} (test : X → Bool) (xs : List X) (i : ℕ) (d : X) → i < length xs
+    → test (get_or xs i d) ≡ true → list_any test xs ≡ true
 any_at test [] i d lt is = absurd (omega (arith, lt))
 any_at {X = X} test (x ∷ xs) zero d lt is = ap (λ (b : Bool). b || list_any test xs) is
 any_at {X = X} test (x ∷ xs) (suc i) d lt is = by (test x) (any_at test xs i d (omega (arith, lt)) is)

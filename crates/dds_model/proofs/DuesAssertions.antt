@@ -111,7 +111,8 @@ record HasAsserted (b : Beating) (tests : Tests) (new : Part) : Type 0 where
   matched : has_readers (own_writer b.part b.number) ≡ true
   step : CallStep tests b.part (AssertLiveliness b.number) Done new
 
-told_says : (b : Beating) (tests : Tests) (new : Part) → HasAsserted b tests new → (far to : GuidPrefix) (claim : Claim)
+told_says : (b : Beating) (tests : Tests) (new : Part) → HasAsserted b tests new
+    → (far to : GuidPrefix) (claim : Claim)
     → Says b.config far (addressed (prefix_of b.config b.peer) to) (Heartbeat (beat b true true)) claim
     → IsTrueAt b.peer new claim
 told_says b tests new t far to (ChangeIs v r n c) h = absurd h
@@ -138,7 +139,8 @@ told_says b tests new t far to (Asserts v r k) h =
     )
 
 pub assertions_true : (config : Config) (tests : Tests) (peer writer : ℕ) (old new : Part)
-    → check_refusal config.peers ≡ None → IsPartOf config peer old → CallStep tests old (AssertLiveliness writer) Done new
+    → check_refusal config.peers ≡ None → IsPartOf config peer old
+    → CallStep tests old (AssertLiveliness writer) Done new
     → AreTruthful config peer new (assertions_due config (record { peer = peer; number = writer }) (own_writer old writer))
 assertions_true config tests peer writer old new checked of step =
     told_each config peer old writer (IsTruthful config peer new)
@@ -156,7 +158,8 @@ left_if_done true true h = cc
 left_if_done true false h = refl
 left_if_done false b h = cc
 
-pub assertions_writable : (config : Config) (tests : Tests) (peer writer : ℕ) (old new : Part) → IsPartOf config peer old
+pub assertions_writable : (config : Config) (tests : Tests) (peer writer : ℕ) (old new : Part)
+    → IsPartOf config peer old
     → CallStep tests old (AssertLiveliness writer) Done new → IsSized config → HasSmallChanges old
     → All CanBeWritten (assertions_due config (record { peer = peer; number = writer }) (own_writer old writer))
 assertions_writable config tests peer writer old new of step sized small =
