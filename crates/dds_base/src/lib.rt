@@ -13,6 +13,7 @@ mod config_fault;
 mod config_rules;
 mod datum;
 mod endianness;
+mod entity;
 mod field;
 mod guid;
 mod handle;
@@ -38,6 +39,7 @@ pub use datum::{
     take_key,
 };
 pub use endianness::Endianness;
+pub use entity::Entity;
 pub use field::{take_octets, take_u16, take_u32};
 pub use guid::{EntityId, Guid, GuidPrefix};
 pub use handle::Handle;

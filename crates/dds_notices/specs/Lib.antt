@@ -1,0 +1,2 @@
+pub mod Masks
+pub mod Notices

@@ -1,0 +1,64 @@
+//! Whoever is told of statuses.
+
+ghost use Rattle.std.specs.Prelude.{◌≡◌};
+
+use crate::notice::Notice;
+
+/// Whoever is told of statuses, and keeps the last notices: at most `room` of them.
+///
+/// A type of the application's own may be one, and is then handed over in a box. It can't call the peer that tells it,
+/// and can't refuse a notice: the memory for what it keeps is made before.
+///
+/// DDS 1.4, 2.2.4.2 (Listener).
+pub trait Listener: Drop {
+    ghost use Rattle.std.specs.Prelude.{◌≡◌, ◌↔◌, [], ℕ, List, slice_get, IsTrue};
+    ghost use Rattle.dds_notices.specs.declared.notice.Notice.{Notice};
+    ghost use Rattle.dds_notices.specs.Notices.{told};
+
+    /// The notices that it keeps, the oldest first.
+    ghost notices: { Self → List Notice };
+
+    /// How many it can keep.
+    ghost capacity: { Self → ℕ };
+
+    /// How many notices it can keep.
+    fn room(&self) -> usize
+        ensures { result ≡ capacity self.now };
+
+    /// Whether it keeps none.
+    fn is_fresh(&self) -> bool
+        ensures { IsTrue result ↔ (notices self.now ≡ []) };
+
+    /// The notice that it keeps at this place, counted from 0, the oldest first. `None` from their number on.
+    fn held(&self, at: usize) -> Option<Notice>
+        ensures { result ≡ slice_get (notices self.now) at };
+
+    /// It is told of a status.
+    fn on_notice(&mut self, notice: &Notice)
+        // It keeps the last ones of what it kept, and of this.
+        ensures notices { notices self.new ≡ told (capacity self.old) (notices self.old) notice.now }
+        // It can keep as many as before.
+        ensures capacity { capacity self.new ≡ capacity self.old };
+}
+
+impl Listener for Box<dyn Listener + Send> {
+    ghost notices = { λ b. (Listener-box b).notices b.value };
+
+    ghost capacity = { λ b. (Listener-box b).capacity b.value };
+
+    fn room(&self) -> usize {
+        (**self).room()
+    }
+
+    fn is_fresh(&self) -> bool {
+        (**self).is_fresh()
+    }
+
+    fn held(&self, at: usize) -> Option<Notice> {
+        (**self).held(at)
+    }
+
+    fn on_notice(&mut self, notice: &Notice) {
+        (**self).on_notice(notice)
+    }
+}

@@ -1,0 +1,31 @@
+//! What a listener is told.
+//!
+//! DDS 1.4, 2.2.4.1 (communication statuses).
+
+use dds_base::{Entity, LivelinessChangedStatus, LivelinessLostStatus, SampleLostStatus};
+
+/// A communication status, with its values.
+///
+/// DDS 1.4, 2.2.4.1.
+#[derive(Clone, Copy, Debug, PartialEq, Eq)]
+pub enum Status {
+    /// SAMPLE_LOST, of a reader.
+    SampleLost(SampleLostStatus),
+    /// DATA_AVAILABLE, of a reader. It has no values.
+    DataAvailable,
+    /// LIVELINESS_LOST, of a writer.
+    LivelinessLost(LivelinessLostStatus),
+    /// LIVELINESS_CHANGED, of a reader.
+    LivelinessChanged(LivelinessChangedStatus),
+}
+
+/// That a status of an entity was raised. The values are those of that moment, and their changes count from the last
+/// look at that status, or the last notice of it.
+///
+/// DDS 1.4, 2.2.4.2 (listeners).
+#[derive(Clone, Copy, Debug, PartialEq, Eq)]
+pub struct Notice {
+    /// Whose status it is: a writer or a reader, also where the participant's listener is told.
+    pub entity: Entity,
+    pub status: Status,
+}
