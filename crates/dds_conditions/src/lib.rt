@@ -1,0 +1,13 @@
+//! Conditions, the WaitSets that wait for them, and the filters of query conditions.
+//!
+//! DDS 1.4, 2.2.2.1 (WaitSet, Condition), 2.2.2.5 (ReadCondition, QueryCondition).
+//! Not here: when a condition's trigger value is true, and how long a WaitSet waits.
+#![tactic(auto)]
+
+mod condition;
+mod filter;
+mod wait_set;
+
+pub use condition::Cond;
+pub use filter::Filter;
+pub use wait_set::WaitSet;

@@ -1,0 +1,120 @@
+//! What an application waits for.
+
+ghost use Rattle.std.specs.Prelude.{◌≡◌, [], Bool, true, filter, IsOk, IfOk, IfErr, OnOk, OnErr, None, Some};
+ghost use Rattle.std.specs.Fn.{CalledAt};
+ghost use Rattle.dds_base.specs.declared.code.Code.TheVariants.{Memory};
+ghost use Rattle.dds_conditions.specs.declared.condition.Cond.{Cond};
+ghost use Rattle.dds_conditions.specs.Attached.{active_of, attached, detach_refusal, detached, is_attached};
+
+use crate::condition::Cond;
+use dds_base::{Code, Sequence};
+use std::alloc::Global;
+use std::marker::Model;
+
+/// The conditions that an application waits for, in the order in which they were attached.
+///
+/// DDS 1.4, 2.2.2.1 (WaitSet).
+#[derive(Drop)]
+pub struct WaitSet {
+    conditions: Vec<Cond>,
+}
+
+impl Model for WaitSet {
+    ghost use Rattle.std.specs.Prelude.{List};
+    ghost use Rattle.dds_conditions.specs.declared.condition.Cond.{Cond};
+
+    ghost Value = { List Cond };
+
+    ghost view = { λ s. s.conditions.items };
+}
+
+impl WaitSet {
+    /// One with no conditions. Takes no memory.
+    pub fn open(alloc: Global) -> WaitSet
+        ensures { result ≡ [] }
+    {
+        WaitSet {
+            conditions: Vec::new(alloc),
+        }
+    }
+
+    /// The attached conditions, in the order in which they were attached.
+    ///
+    /// DDS 1.4, 2.2.2.1 (get_conditions).
+    pub fn conditions(&self) -> &[Cond]
+        ensures { result.now ≡ self.now }
+    {
+        self.conditions.as_slice()
+    }
+
+    /// Attaches a condition, as the last one. One that is attached already stays where it is.
+    ///
+    /// DDS 1.4, 2.2.2.1 (attach_condition).
+    ///
+    /// # Errors
+    ///
+    /// `Memory` where a growth was refused, which only one that was not attached needs.
+    pub fn attach(&mut self, condition: Cond) -> Result<(), Code>
+        // It is attached, and the others as before.
+        ensures ok { OnOk result (self.new ≡ attached condition self.old) }
+        // A refusal changes nothing.
+        ensures err { OnErr result (self.new ≡ self.old) }
+        // Attached again, it is never refused.
+        ensures again { is_attached condition self.old ≡ true → IsOk result }
+        // The only refusal is for want of memory.
+        ensures memory { IfErr result (λ code. code ≡ Memory) }
+    {
+        if !self.conditions.contains(&condition) {
+            self.conditions.push(condition)?;
+        }
+        Ok(())
+    }
+
+    /// Detaches a condition.
+    ///
+    /// DDS 1.4, 2.2.2.1 (detach_condition).
+    ///
+    /// # Errors
+    ///
+    /// `PreconditionNotMet` where it is not attached. It takes no memory.
+    pub fn detach(&mut self, condition: Cond) -> Result<(), Code>
+        // It is no longer attached, and the others are as before.
+        ensures ok { OnOk result (self.new ≡ detached condition self.old) }
+        // A refusal changes nothing.
+        ensures err { OnErr result (self.new ≡ self.old) }
+        // It was attached.
+        ensures taken { OnOk result (detach_refusal condition self.old ≡ None) }
+        // A refusal is for its cause.
+        ensures refused { IfErr result (λ code. detach_refusal condition self.old ≡ Some code) }
+    {
+        let is_attached = self.conditions.contains(&condition);
+        if !is_attached {
+            return Err(Code::PreconditionNotMet);
+        }
+        self.conditions.retain(|other| *other != condition);
+        Ok(())
+    }
+
+    /// The attached conditions whose trigger value is true, in the order in which they were attached. `is_true` tells
+    /// the trigger value of each.
+    ///
+    /// DDS 1.4, 2.2.2.1 (wait: active_conditions; get_trigger_value).
+    ///
+    /// # Errors
+    ///
+    /// `Memory` where a growth was refused.
+    pub fn active<T: FnMut(&Cond) -> bool>(&self, is_true: T) -> Result<Sequence<Cond>, Code>
+        requires { T.IsAlwaysCallable is_true }
+        // If the test tells these trigger values, and stays the same, they are those that are true by these.
+        ensures ok { (trigger : Cond → Bool)
+            → ((c : Cond) (answer : Bool) (after : T) → CalledAt T.FnMut is_true c answer after
+            → (answer ≡ trigger c) × (after ≡ is_true))
+            → IfOk result (λ active. active ≡ active_of trigger self.now) }
+        // The only refusal is for want of memory.
+        ensures memory { IfErr result (λ code. code ≡ Memory) }
+    {
+        let mut active = Vec::from_slice(*self.conditions.allocator(), &self.conditions)?;
+        active.retain(is_true);
+        Ok(Sequence::from_vec(active))
+    }
+}
