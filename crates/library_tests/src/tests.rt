@@ -1,8 +1,10 @@
 mod base;
 mod cache;
+mod conditions;
 mod history;
 mod info;
 mod lease;
+mod notices;
 mod owner;
 mod readme;
 mod rows;
