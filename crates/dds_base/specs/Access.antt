@@ -3,6 +3,7 @@
 -- DDS 1.4, 2.2.2.5 (read, take and their instance forms; SampleInfo).
 use Rattle.std.specs.Prelude.{ℕ, zero, suc, slice_get, ◌+◌, ◌-◌, List, [], ◌∷◌, take, Bool, true, false, ◌&&◌, ◌==◌, nat_lt, Option, None, Some, if◌then◌else◌, filter, map, count_by}
 use Rattle.std.specs.Int.RustNames.{bit_and}
+use Rattle.std.specs.List.{list_any}
 use Rattle.dds_base.specs.declared.key.Key.{Key}
 use Rattle.dds_base.specs.declared.happening.SamplePosition.{SamplePosition}
 use Rattle.dds_base.specs.declared.happening.Happening.{Happening}
@@ -86,6 +87,10 @@ at_most (Some max) xs = take max xs
 -- what a read or a take returns: the matching samples, max at most (2.2.2.5, read and take)
 abbrev pub picked_samples : ReaderQos → List Happening → Option ℕ → Masks → (Key → List ℕ → Bool) → List SamplePosition
 picked_samples q h max masks passes = at_most max (matching_samples q h masks passes)
+
+-- some present sample meets the masks and passes the filter (2.2.2.5, get_trigger_value of a read condition)
+abbrev pub has_match : ReaderQos → List Happening → Masks → (Key → List ℕ → Bool) → Bool
+has_match q h masks passes = list_any (λ (s : SamplePosition). meets q h masks s && passes s.key (value_of q h s)) (present_samples q h)
 
 -- no filter: each key and value passes
 abbrev pub no_filter : Key → List ℕ → Bool

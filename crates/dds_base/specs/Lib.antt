@@ -7,6 +7,7 @@ pub mod Kept
 pub mod Refusal
 pub mod Happening
 pub mod Statuses
+pub mod StatusFlags
 pub mod Ownership
 pub mod Instance
 pub mod Presence

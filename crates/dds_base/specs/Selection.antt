@@ -1,13 +1,16 @@
 -- Which samples an access picks, by its form, and which access is refused.
 --
 -- DDS 1.4, 2.2.2.5 (read, take, and their instance, next-instance and next-sample forms).
-use Rattle.std.specs.Prelude.{ℕ, List, Bool, ◌&&◌, Option, None, Some, is_some, if◌then◌else◌}
+use Rattle.std.specs.Prelude.{ℕ, ℤ, List, Bool, ◌&&◌, Option, None, Some, is_some, if◌then◌else◌}
 use Rattle.dds_base.specs.declared.code.Code.{Code}
 use Rattle.dds_base.specs.declared.code.Code.TheVariants.{BadParameter}
 use Rattle.dds_base.specs.declared.key.Key.{Key}
 use Rattle.dds_base.specs.declared.happening.SamplePosition.{SamplePosition}
 use Rattle.dds_base.specs.declared.happening.Happening.{Happening}
 use Rattle.dds_base.specs.declared.qos.ReaderQos.{ReaderQos}
+use Rattle.dds_base.specs.declared.mask.Masks.{Masks}
+use Rattle.dds_base.specs.declared.selection.Scope.{Scope}
+use Rattle.dds_base.specs.declared.selection.Scope.TheVariants as scope
 use Rattle.dds_base.specs.declared.selection.Selection.{Selection}
 use Rattle.dds_base.specs.declared.selection.Selection.TheVariants.{Any, Instance, NextInstance, NextSample}
 use Rattle.dds_base.specs.Access.{picked_samples, picked_of_instance, picked_of_next_instance, picked_next_sample, instance_of}
@@ -30,3 +33,13 @@ selection_refusal q h (Any max masks) = unless_bad (is_maximum max)
 selection_refusal q h (Instance handle max masks) = unless_bad (is_maximum max && is_some (instance_of q h handle))
 selection_refusal q h (NextInstance previous max masks) = unless_bad (is_maximum max)
 selection_refusal q h NextSample = None
+
+-- what an access asks for by the masks of a condition (read_w_condition, read_next_instance_w_condition)
+abbrev pub selection_in : Scope → Masks → Selection
+selection_in (scope.Any max) masks = Any max masks
+selection_in (scope.NextInstance previous max) masks = NextInstance previous max masks
+
+-- how many samples it returns at most
+abbrev pub max_in : Scope → ℤ
+max_in (scope.Any max) = max
+max_in (scope.NextInstance previous max) = max

@@ -51,7 +51,7 @@ pub use moment::Moment;
 pub use octets::Octets;
 pub use qos::{HistoryQos, MatchedWriter, OwnershipQos, ReaderQos};
 pub use sample::{InstanceState, Picked, Sample, SampleInfo, SampleState, ViewState};
-pub use selection::Selection;
+pub use selection::{Scope, Selection};
 pub use sequence::Sequence;
 pub use sn::Sn;
 pub use status::{LivelinessChangedStatus, LivelinessLostStatus, SampleLostStatus};
