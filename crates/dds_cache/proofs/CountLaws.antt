@@ -1,23 +1,27 @@
 -- The present samples are counted among those kept.
 use Rattle.std.proofs.Common.{◌≡◌, ℕ, ◌+◌, List, [], ◌∷◌, ◌++◌, length, map, filter, Bool, true, false, ◌||◌, sym, ap, ◌∙◌, refl, cond, arith, suc, ⊎_elim}
 use Rattle.std.specs.List.{list_any, All, flat_map, count_by, IsDistinct, AllByRecursion}
-use Rattle.std.proofs.lemmas.Bool.{cases_Bool}
+use Rattle.std.specs.Prelude.{nat_lt}
+use Rattle.std.proofs.lemmas.Bool.{cases_Bool, lt-ltb}
 use Rattle.std.proofs.lemmas.List.{length-append, length-map}
-use Rattle.std.proofs.lemmas.List.Sums.{length-filter}
-use Rattle.std.proofs.lemmas.List.Elements.{All-cons, All-head, All-tail}
+use Rattle.std.proofs.lemmas.List.Sums.{length-filter, sum_by-cons}
+use Rattle.std.proofs.lemmas.List.Elements.{All-cons, All-head, All-tail, All-weaker}
 use Rattle.std.proofs.lemmas.List.Concat.{flat_map-cons}
 use Rattle.std.proofs.lemmas.Map.Keys.{IsDistinct-head, IsDistinct-tail}
 use Rattle.dds_base.specs.declared.key.Key.{Key}
 use Rattle.dds_base.specs.declared.happening.SamplePosition.{SamplePosition}
 use Rattle.dds_base.specs.declared.happening.Happening.{Happening}
 use Rattle.dds_base.specs.declared.qos.ReaderQos.{ReaderQos}
+use Rattle.dds_base.specs.declared.mask.Masks.{Masks}
+use Rattle.dds_instances.specs.Table.{Table}
+use Rattle.dds_base.specs.Access.{has_match}
 use Rattle.dds_base.specs.Happening.{same_key}
 use Rattle.dds_base.specs.Instance.{known_instances}
 use Rattle.dds_base.specs.Presence.{is_present, present_of, present_samples, up_to}
 use Rattle.dds_base.proofs.KeyLaws.{key-same, same_key-comm}
 use Rattle.dds_cache.specs.declared.kept.Kept.{Kept}
-use Rattle.dds_cache.specs.Kept.{positions_in, sample_at}
-use Rattle.dds_cache.specs.Finding.{sample_of}
+use Rattle.dds_cache.specs.Kept.{IsKept, positions_in, sample_at}
+use Rattle.dds_cache.specs.Finding.{Holds, is_asked_for, is_wanted, sample_of}
 use Rattle.dds_cache.proofs.GroupLaws.{flat_map-same}
 use Rattle.dds_cache.proofs.FindingLaws.{filter-flat_map, known-distinct, passes, wanted-of}
 
@@ -90,3 +94,30 @@ present-count q h test ks known present =
     ∙ (ap length (flat_map-same (λ i. filter test (present_of q h i)) (of_key ss) known_is (λ i. ap (λ (ps : List ℕ). filter test (map (sample_at i) ps)) (present i) ∙ sym (wanted-of q h test i ks)))
     ∙ (groups-count known_is ss (known-distinct q h) (passing-all (λ (s : SamplePosition). list_any (λ i. same_key i s.key) known_is ≡ true) (passes q h test) ks known)
     ∙ (length-map (filter (passes q h test) ks) sample_of ∙ length-filter (passes q h test) ks))))
+
+-- some passes exactly where those that pass are at least one
+any-count : {X : Type 0} (p : X → Bool) (xs : List X) → list_any p xs ≡ nat_lt 0 (count_by p xs)
+any-count p [] = refl
+any-count p (x ∷ xs) =
+    one (p x) (list_any p xs) (count_by p xs) (any-count p xs) ∙ ap (λ (n : ℕ). nat_lt 0 n) (sym (sum_by-cons (λ y. cond (p y) 1 0) x xs))
+  where
+    nothing-more : (n : ℕ) → n ≡ 0 + n
+    nothing-more n = omega arith
+
+    one : (b rest : Bool) (n : ℕ) → rest ≡ nat_lt 0 n → (b || rest) ≡ nat_lt 0 (cond b 1 0 + n)
+    one true rest n is = sym (lt-ltb 0 (1 + n) (omega arith))
+    one false rest n is = is ∙ ap (λ (m : ℕ). nat_lt 0 m) (nothing-more n)
+
+-- some present sample passes a test exactly where one of those kept does
+pub present-any : (q : ReaderQos) (h : List Happening) (test : SamplePosition → Bool) (ks : List Kept)
+    → All (IsKept q h) ks → ((i : Key) → filter (is_present q h i) (up_to (length h)) ≡ positions_in q h i ks)
+    → list_any test (present_samples q h) ≡ list_any (passes q h test) ks
+present-any q h test ks kept present =
+    any-count test (present_samples q h)
+    ∙ (ap (λ (n : ℕ). nat_lt 0 n) (present-count q h test ks (All-weaker (IsKept q h) (λ (k : Kept). list_any (λ i. same_key i k.sample.key) (known_instances q h) ≡ true) (λ k is. is.is_known) ks kept) present)
+    ∙ sym (any-count (passes q h test) ks))
+
+-- some of them meets the masks and passes the test exactly where one of those kept does
+pub matched-any : (q : ReaderQos) (table : Table) (h : List Happening) (masks : Masks) (test : Key → List ℕ → Bool) (ks : List Kept) → Holds q table ks h
+    → list_any (is_wanted q h masks test) ks ≡ has_match q h masks test
+matched-any q table h masks test ks holds = sym (present-any q h (is_asked_for q h masks test) ks holds.each holds.present)

@@ -27,11 +27,11 @@ use Rattle.dds_instances.specs.Table.{Table, has_marked, marked_of}
 use Rattle.dds_instances.specs.Track.{one_if}
 use Rattle.dds_instances.proofs.KnownLaws.{known}
 use Rattle.dds_cache.specs.declared.kept.Kept.{Kept}
-use Rattle.dds_cache.specs.Kept.{Adds, IsKept, IsKeptAt, positions_in}
+use Rattle.dds_cache.specs.Kept.{Adds, IsKept, IsKeptAt, IsNewAt, positions_in}
 use Rattle.dds_cache.specs.Dying.{AddsOf}
 use Rattle.dds_cache.proofs.PresenceLaws.{here-append, unknown-absent}
 use Rattle.dds_cache.proofs.KeptLaws.{IsNewest}
-use Rattle.dds_cache.proofs.StandingLaws.{one-position}
+use Rattle.dds_cache.proofs.StandingLaws.{new-at, one-position}
 use Rattle.dds_cache.proofs.FindingLaws.{known-distinct}
 
 -- ---- the sample of one instance
@@ -65,6 +65,7 @@ adds-of-one q g n x ks k at = record {
   are = refl;
   each = All-cons (IsKept q g) k [] at.kept (All-nil (IsKept q g));
   present = λ i. ap (λ (b : Bool). cond (b && is_present q g i n) (n ∷ []) []) (or-none (same_key x i)) ∙ sym (one-position q g x i n k at.sample_is);
+  new_are = All-cons (IsNewAt q g n) k [] (new-at q g x n k at) (All-nil (IsNewAt q g n));
 }
 
 -- and where it left none
@@ -77,6 +78,7 @@ adds-of-nothing q g n x ks absent = record {
       (λ same. ap (λ (b : Bool). cond (b && is_present q g i n) (n ∷ []) []) same ∙ ap (λ (b : Bool). cond b (n ∷ []) []) (ap (λ (y : Key). is_present q g y n) (sym (key-same x i same)) ∙ absent))
       (λ other. ap (λ (b : Bool). cond (b && is_present q g i n) (n ∷ []) []) other)
       (cases_Bool (same_key x i));
+  new_are = All-nil (IsNewAt q g n);
 }
 
 -- ---- one instance after another
@@ -119,6 +121,7 @@ adds-of-more q g n at x a b c there first second =
           ∙ (ap (λ (ps : List ℕ). ps ++ cond ((same_key x i || false) && is_present q g i n) (n ∷ []) []) (first.present i)
           ∙ (ap (λ (ps : List ℕ). positions_in q g i first.added ++ ps) (second.present i)
           ∙ sym (here-append q g i first.added second.added)))));
+      new_are = All-append (IsNewAt q g n) first.added second.added first.new_are second.new_are;
     }
 
 none-from : (o : Option ChangeKind) → is_some o ≡ false → o ≡ None
@@ -141,6 +144,7 @@ adds-died q e h count old new all adds =
           (cases_Bool (list_any (λ k. same_key k i) (known_instances q g)))
           ∙ (ap (λ (is : List Key). cond (list_any (λ k. same_key k i) is && is_present q g i n) (n ∷ []) []) (sym (ap (λ (m : ℕ). take m (known_instances q g)) all ∙ take_whole (known_instances q g)))
           ∙ adds.present i));
+      new_are = adds.new_are;
     }
   where
     take_whole : (ks : List Key) → take (length ks) ks ≡ ks

@@ -25,7 +25,7 @@ use Rattle.dds_base.specs.declared.qos.ReaderQos.{ReaderQos}
 use Rattle.dds_base.specs.Happening.{same_key, as_of}
 use Rattle.dds_base.specs.Instance.{known_instances, introduces, last_accepted, instance_state_of, view_state_of, disposed_generations, no_writers_generations, generations_of}
 use Rattle.dds_base.specs.Presence.{is_present, ends_with_write, present_of}
-use Rattle.dds_base.specs.Access.{sample_state_of, picked_of, own_generations, handle_of, instance_of, state_of_known, timestamp_of, publication_of, meets, matching_samples, no_filter}
+use Rattle.dds_base.specs.Access.{sample_state_of, picked_of, own_generations, handle_of, instance_of, state_of_known, timestamp_of, publication_of, meets, matching_samples}
 use Rattle.dds_base.specs.declared.sample.ViewState.TheVariants.{New}
 use Rattle.dds_base.specs.declared.sample.InstanceState.TheVariants.{Alive}
 use Rattle.dds_instances.specs.Table.{Table}
@@ -39,23 +39,20 @@ use Rattle.dds_base.proofs.KeyLaws.{key-same, same_key-comm}
 use Rattle.dds_cache.proofs.KeptLaws.{live-present, instance-of-handle, NumberAt, number-there}
 use Rattle.dds_cache.proofs.GroupLaws.{group, groups, grouped, by-key, flat_map-same, distinct-push, distinct-nil}
 
-and-true : (b : Bool) → b ≡ (b && true)
-and-true true = refl
-and-true false = refl
-
 -- what the masks ask for, by what is kept and known
-pub asked-is : (q : ReaderQos) (h : List Happening) (masks : Masks) (known_is : KnownInstance) (k : Kept) → IsKnown q h known_is → known_is.key ≡ k.sample.key → IsKept q h k → are_asked_for masks (if k.is_read then HasBeenRead else NotRead) known_is.view (Some known_is.state) ≡ is_asked_for q h masks k.sample
+pub asked-is : (q : ReaderQos) (h : List Happening) (masks : Masks) (known_is : KnownInstance) (k : Kept) → IsKnown q h known_is → known_is.key ≡ k.sample.key → IsKept q h k → are_asked_for masks (if k.is_read then HasBeenRead else NotRead) known_is.view (Some known_is.state) ≡ meets q h masks k.sample
 asked-is q h masks known_is k is_known key kept =
     ap (λ (b : Bool). are_asked_for masks (if b then HasBeenRead else NotRead) known_is.view (Some known_is.state)) kept.read_is
     ∙ (ap (λ (v : ViewState). are_asked_for masks (sample_state_of h k.sample) v (Some known_is.state)) (is_known.view_is ∙ ap (λ (i : Key). view_state_of q i h) key)
-    ∙ (ap (λ (s : Option InstanceState). are_asked_for masks (sample_state_of h k.sample) (view_state_of q k.sample.key h) s) (sym is_known.state_is ∙ ap (λ (i : Key). instance_state_of q i h) key)
-    ∙ and-true (meets q h masks k.sample)))
+    ∙ ap (λ (s : Option InstanceState). are_asked_for masks (sample_state_of h k.sample) (view_state_of q k.sample.key h) s) (sym is_known.state_is ∙ ap (λ (i : Key). instance_state_of q i h) key))
 
 -- a kept sample is found exactly where it is wanted
-pub found-is : (q : ReaderQos) (h : List Happening) (masks : Masks) (known_is : KnownInstance) (k : Kept) → IsKnown q h known_is → known_is.key ≡ k.sample.key → IsKept q h k → (is_live q known_is k && are_asked_for masks (if k.is_read then HasBeenRead else NotRead) known_is.view (Some known_is.state)) ≡ is_wanted q h masks k
-found-is q h masks known_is k is_known key kept =
-    ap (λ (b : Bool). b && are_asked_for masks (if k.is_read then HasBeenRead else NotRead) known_is.view (Some known_is.state)) (live-present q h known_is k is_known key kept)
-    ∙ ap (λ (b : Bool). is_present q h k.sample.key k.sample.position && b) (asked-is q h masks known_is k is_known key kept)
+pub found-is : (q : ReaderQos) (h : List Happening) (masks : Masks) (test : Key → List ℕ → Bool) (known_is : KnownInstance) (k : Kept) → IsKnown q h known_is → known_is.key ≡ k.sample.key → IsKept q h k
+    → (is_live q known_is k && (are_asked_for masks (if k.is_read then HasBeenRead else NotRead) known_is.view (Some known_is.state) && test k.sample.key k.value)) ≡ is_wanted q h masks test k
+found-is q h masks test known_is k is_known key kept =
+    ap (λ (b : Bool). b && (are_asked_for masks (if k.is_read then HasBeenRead else NotRead) known_is.view (Some known_is.state) && test k.sample.key k.value)) (live-present q h known_is k is_known key kept)
+    ∙ (ap (λ (b : Bool). is_present q h k.sample.key k.sample.position && (b && test k.sample.key k.value)) (asked-is q h masks known_is k is_known key kept)
+    ∙ ap (λ (v : List ℕ). is_present q h k.sample.key k.sample.position && (meets q h masks k.sample && test k.sample.key v)) kept.is_of.value_is)
 
 -- what is said of it before its ranks
 pub described-is : (q : ReaderQos) (h : List Happening) (known_is : KnownInstance) (k : Kept) → IsKnown q h known_is → known_is.key ≡ k.sample.key → IsKept q h k → described_by k known_is ≡ picked_of q h k.sample
@@ -115,16 +112,16 @@ filter-more p ks at k b within is passes =
     ap (λ (xs : List Kept). filter p xs) (take_more ks at k within ∙ ap (λ (x : Kept). take at ks ++ x ∷ []) (sym is))
     ∙ (filter-append p (take at ks) (k ∷ []) ∙ ap (λ (x : Bool). filter p (take at ks) ++ cond x (k ∷ []) []) passes)
 
-pub candidates-none : (q : ReaderQos) (h : List Happening) (masks : Masks) (ks : List Kept) (at : ℕ) (k : Kept) (cs : List Candidate) → at < length ks → k ≡ get_or ks at k → is_wanted q h masks k ≡ false → AreCandidates q h masks ks (take at ks) cs → AreCandidates q h masks ks (take (at + 1) ks) cs
-candidates-none q h masks ks at k cs within is unwanted so_far = record {
-  samples_are = so_far.samples_are ∙ ap (λ (xs : List Kept). map sample_of xs) (sym (filter-more (is_wanted q h masks) ks at k false within is unwanted ∙ append-nil (filter (is_wanted q h masks) (take at ks))));
+pub candidates-none : (q : ReaderQos) (h : List Happening) (masks : Masks) (test : Key → List ℕ → Bool) (ks : List Kept) (at : ℕ) (k : Kept) (cs : List Candidate) → at < length ks → k ≡ get_or ks at k → is_wanted q h masks test k ≡ false → AreCandidates q h masks test ks (take at ks) cs → AreCandidates q h masks test ks (take (at + 1) ks) cs
+candidates-none q h masks test ks at k cs within is unwanted so_far = record {
+  samples_are = so_far.samples_are ∙ ap (λ (xs : List Kept). map sample_of xs) (sym (filter-more (is_wanted q h masks test) ks at k false within is unwanted ∙ append-nil (filter (is_wanted q h masks test) (take at ks))));
   each = so_far.each;
 }
 
-pub candidates-some : (q : ReaderQos) (h : List Happening) (masks : Masks) (ks : List Kept) (at : ℕ) (k : Kept) (c : Candidate) (cs : List Candidate) → at < length ks → k ≡ get_or ks at k → IsKept q h k → IsFound q h masks k at c → AreCandidates q h masks ks (take at ks) cs → AreCandidates q h masks ks (take (at + 1) ks) (cs ++ c ∷ [])
-candidates-some q h masks ks at k c cs within is kept found so_far = record {
-  samples_are = map-append sample_in cs (c ∷ []) ∙ (ap (λ (ss : List SamplePosition). ss ++ c.sample ∷ []) so_far.samples_are ∙ (ap (λ (s : SamplePosition). map sample_of (filter (is_wanted q h masks) (take at ks)) ++ s ∷ []) found.sample_is
-      ∙ (sym (map-append sample_of (filter (is_wanted q h masks) (take at ks)) (k ∷ [])) ∙ ap (λ (xs : List Kept). map sample_of xs) (sym (filter-more (is_wanted q h masks) ks at k true within is found.wanted)))));
+pub candidates-some : (q : ReaderQos) (h : List Happening) (masks : Masks) (test : Key → List ℕ → Bool) (ks : List Kept) (at : ℕ) (k : Kept) (c : Candidate) (cs : List Candidate) → at < length ks → k ≡ get_or ks at k → IsKept q h k → IsFound q h masks test k at c → AreCandidates q h masks test ks (take at ks) cs → AreCandidates q h masks test ks (take (at + 1) ks) (cs ++ c ∷ [])
+candidates-some q h masks test ks at k c cs within is kept found so_far = record {
+  samples_are = map-append sample_in cs (c ∷ []) ∙ (ap (λ (ss : List SamplePosition). ss ++ c.sample ∷ []) so_far.samples_are ∙ (ap (λ (s : SamplePosition). map sample_of (filter (is_wanted q h masks test) (take at ks)) ++ s ∷ []) found.sample_is
+      ∙ (sym (map-append sample_of (filter (is_wanted q h masks test) (take at ks)) (k ∷ [])) ∙ ap (λ (xs : List Kept). map sample_of xs) (sym (filter-more (is_wanted q h masks test) ks at k true within is found.wanted)))));
   each = All-push (IsCandidate q h ks) cs c so_far.each (record {
     within = subst (λ (n : ℕ). n < length ks) (sym found.at_is) within;
     there = λ d. ap (λ (n : ℕ). (get_or ks n d).sample) found.at_is ∙ (ap (λ (x : Kept). x.sample) (get_or_default ks at d k within ∙ sym is) ∙ sym found.sample_is);
@@ -275,12 +272,12 @@ handle-bounds q h i known_is = bounds-of (number-there 1 (known_instances q h) i
     bounds-of place = let less : place.at < length (known_instances q h) = inside (known_instances q h) place.at i place.there in (omega (arith, place.number_is), omega (arith, place.number_is, less))
 
 -- the samples of the candidates in the order of their handles
-pub matched : (q : ReaderQos) (table : Table) (h : List Happening) (masks : Masks) (ks : List Kept) (before after : List Candidate) → Holds q table ks h → AreCandidates q h masks ks ks before → IsPermutation before after → IsNonDecreasingBy handle_in after → IsStableByKey handle_in nat_cmp before after → map sample_in after ≡ matching_samples q h masks no_filter
-matched q table h masks ks before after holds candidates permuted sorted stable =
+pub matched : (q : ReaderQos) (table : Table) (h : List Happening) (masks : Masks) (test : Key → List ℕ → Bool) (ks : List Kept) (before after : List Candidate) → Holds q table ks h → AreCandidates q h masks test ks ks before → IsPermutation before after → IsNonDecreasingBy handle_in after → IsStableByKey handle_in nat_cmp before after → map sample_in after ≡ matching_samples q h masks test
+matched q table h masks test ks before after holds candidates permuted sorted stable =
     let known_is : List Key = known_instances q h in
     let n : ℕ = length known_is in
     let H : SamplePosition → ℕ = λ s. handle_of q h s.key in
-    let S : List SamplePosition = map sample_of (filter (is_wanted q h masks) ks) in
+    let S : List SamplePosition = map sample_of (filter (is_wanted q h masks test) ks) in
     let bounds : (c : Candidate) → IsCandidate q h ks c → (1 ≤ handle_in c) × (handle_in c < 1 + n) = λ c is. let b = handle-bounds q h c.sample.key is.is_known in let same : handle_in c ≡ handle_of q h c.sample.key = ap (λ (p : Picked). p.instance_handle) is.picked_is in (omega (arith, same, b.0), omega (arith, same, b.1)) in
     let each : All (IsCandidate q h ks) after = All-permutation (IsCandidate q h ks) before after permuted candidates.each in
     let handles : All (λ (c : Candidate). handle_in c ≡ H c.sample) before = All-weaker (IsCandidate q h ks) (λ (c : Candidate). handle_in c ≡ H c.sample) (λ c is. ap (λ (p : Picked). p.instance_handle) is.picked_is) before candidates.each in
@@ -288,8 +285,8 @@ matched q table h masks ks before after holds candidates permuted sorted stable 
     ∙ (map-groups before H 1 n handles
     ∙ (ap (λ (ss : List SamplePosition). groups H ss 1 n) candidates.samples_are
     ∙ (by-key 1 known_is S (omega arith) (known-distinct q h)
-    ∙ (flat_map-same (λ i. filter (λ (s : SamplePosition). same_key i s.key) S) (λ i. filter (is_asked_for q h masks) (present_of q h i)) known_is (λ i. wanted-of q h (is_asked_for q h masks) i ks ∙ ap (λ (ps : List ℕ). filter (is_asked_for q h masks) (map (sample_at i) ps)) (sym (holds.present i)))
-    ∙ sym (filter-flat_map (is_asked_for q h masks) (present_of q h) known_is)))))
+    ∙ (flat_map-same (λ i. filter (λ (s : SamplePosition). same_key i s.key) S) (λ i. filter (is_asked_for q h masks test) (present_of q h i)) known_is (λ i. wanted-of q h (is_asked_for q h masks test) i ks ∙ ap (λ (ps : List ℕ). filter (is_asked_for q h masks test) (map (sample_at i) ps)) (sym (holds.present i)))
+    ∙ sym (filter-flat_map (is_asked_for q h masks test) (present_of q h) known_is)))))
 
-pub candidates-after : (q : ReaderQos) (h : List Happening) (masks : Masks) (ks : List Kept) (before after : List Candidate) → AreCandidates q h masks ks ks before → IsPermutation before after → All (IsCandidate q h ks) after
-candidates-after q h masks ks before after candidates permuted = All-permutation (IsCandidate q h ks) before after permuted candidates.each
+pub candidates-after : (q : ReaderQos) (h : List Happening) (masks : Masks) (test : Key → List ℕ → Bool) (ks : List Kept) (before after : List Candidate) → AreCandidates q h masks test ks ks before → IsPermutation before after → All (IsCandidate q h ks) after
+candidates-after q h masks test ks before after candidates permuted = All-permutation (IsCandidate q h ks) before after permuted candidates.each

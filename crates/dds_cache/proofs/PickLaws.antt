@@ -4,6 +4,7 @@ use Rattle.std.specs.Prelude.{nat_lt, if◌then◌else◌}
 use Rattle.std.specs.List.{All}
 use Rattle.std.proofs.lemmas.List.{take-map}
 use Rattle.std.proofs.lemmas.List.Elements.{All-take, All-filter, All-head, All-tail, All-weaker}
+use Rattle.dds_base.specs.declared.key.Key.{Key}
 use Rattle.dds_base.specs.declared.happening.SamplePosition.{SamplePosition}
 use Rattle.dds_base.specs.declared.happening.Happening.{Happening}
 use Rattle.dds_base.specs.declared.mask.Masks.{Masks}
@@ -11,12 +12,12 @@ use Rattle.dds_base.specs.declared.sample.Picked.{Picked}
 use Rattle.dds_base.specs.declared.qos.ReaderQos.{ReaderQos}
 use Rattle.dds_base.specs.declared.selection.Selection.{Selection}
 use Rattle.dds_base.specs.declared.selection.Selection.TheVariants.{Any, Instance, NextInstance, NextSample}
-use Rattle.dds_base.specs.Access.{at_most, matching_samples, no_filter, handle_of, next_handle}
+use Rattle.dds_base.specs.Access.{at_most, matching_samples, handle_of, next_handle}
 use Rattle.dds_base.specs.Selection.{picked_by, selection_refusal}
 use Rattle.dds_cache.specs.declared.access.Candidate.{Candidate}
 use Rattle.dds_cache.specs.declared.kept.Kept.{Kept}
 use Rattle.dds_cache.specs.Finding.{IsCandidate, Finds, sample_in, handle_in}
-use Rattle.dds_cache.specs.Picking.{limit_in, masks_in, of_form, of_selection, has_handle, first_above, Picks}
+use Rattle.dds_cache.specs.Picking.{limit_in, masks_in, test_in, of_form, of_selection, has_handle, first_above, Picks}
 
 -- the handle of a candidate is that of its instance
 abbrev pub IsOfHandle : ReaderQos → List Happening → Candidate → Type 0
@@ -71,22 +72,22 @@ at_most-all P (Some n) cs all = All-take P n cs all
 
 -- ---- what is picked
 
-by-form : (q : ReaderQos) (h : List Happening) (selection : Selection) → at_most (limit_in selection) (of_form q h selection (matching_samples q h (masks_in selection) no_filter)) ≡ picked_by q h selection no_filter
-by-form q h (Any max masks) = refl
-by-form q h (Instance handle max masks) = refl
-by-form q h (NextInstance previous max masks) = refl
-by-form q h NextSample = refl
+by-form : (q : ReaderQos) (h : List Happening) (selection : Selection) (test : Key → List ℕ → Bool) → at_most (limit_in selection) (of_form q h selection (matching_samples q h (masks_in selection) (test_in selection test))) ≡ picked_by q h selection test
+by-form q h (Any max masks) test = refl
+by-form q h (Instance handle max masks) test = refl
+by-form q h (NextInstance previous max masks) test = refl
+by-form q h NextSample test = refl
 
-pub picked : (q : ReaderQos) (h : List Happening) (selection : Selection) (masks : Masks) (limit : Option ℕ) (ks : List Kept) (found restricted new : List Candidate) → selection_refusal q h selection ≡ None → limit ≡ limit_in selection → masks ≡ masks_in selection
-    → Finds q h masks ks found → restricted ≡ of_selection selection found → new ≡ at_most limit restricted → Picks q h selection ks new
-picked q h selection masks limit ks found restricted new good limited masked finds of cut =
+pub picked : (q : ReaderQos) (h : List Happening) (selection : Selection) (test : Key → List ℕ → Bool) (masks : Masks) (limit : Option ℕ) (ks : List Kept) (found restricted new : List Candidate) → selection_refusal q h selection ≡ None → limit ≡ limit_in selection → masks ≡ masks_in selection
+    → Finds q h masks (test_in selection test) ks found → restricted ≡ of_selection selection found → new ≡ at_most limit restricted → Picks q h selection test ks new
+picked q h selection test masks limit ks found restricted new good limited masked finds of cut =
     let whole : new ≡ at_most limit (of_selection selection found) = cut ∙ ap (λ (cs : List Candidate). at_most limit cs) of in
     record {
       good = good;
       samples_are = ap (λ (cs : List Candidate). map sample_in cs) whole
           ∙ (at_most-map limit (of_selection selection found)
-          ∙ (ap (λ (ss : List SamplePosition). at_most limit ss) (asked-of q h selection found (handles q h ks found finds.each) ∙ ap (λ (ss : List SamplePosition). of_form q h selection ss) (finds.samples_are ∙ ap (λ (m : Masks). matching_samples q h m no_filter) masked))
-          ∙ (ap (λ (l : Option ℕ). at_most l (of_form q h selection (matching_samples q h (masks_in selection) no_filter))) limited ∙ by-form q h selection)));
+          ∙ (ap (λ (ss : List SamplePosition). at_most limit ss) (asked-of q h selection found (handles q h ks found finds.each) ∙ ap (λ (ss : List SamplePosition). of_form q h selection ss) (finds.samples_are ∙ ap (λ (m : Masks). matching_samples q h m (test_in selection test)) masked))
+          ∙ (ap (λ (l : Option ℕ). at_most l (of_form q h selection (matching_samples q h (masks_in selection) (test_in selection test)))) limited ∙ by-form q h selection test)));
       each = subst (λ (cs : List Candidate). All (IsCandidate q h ks) cs) (sym whole) (at_most-all (IsCandidate q h ks) limit (of_selection selection found) (asked-all (IsCandidate q h ks) selection found finds.each));
     }
 

@@ -1,5 +1,6 @@
 -- A cache stands for one entry more.
 use Rattle.std.proofs.Common.{◌≡◌, ℕ, ◌+◌, ◌-◌, ◌^◌, min, ◌≤◌, ◌<◌, List, [], ◌∷◌, ◌++◌, length, map, filter, Bool, true, false, ◌&&◌, ◌||◌, sym, ap, ◌∙◌, refl, subst, cond, arith, ⊎_elim, ◌⊎◌, not, get_or}
+use Rattle.std.specs.Prelude.{if◌then◌else◌, nat_lt}
 use Rattle.std.specs.List.{list_any, All}
 use Rattle.std.proofs.lemmas.Bool.{cases_Bool, and_parts}
 use Rattle.std.proofs.lemmas.List.{append-nil}
@@ -16,17 +17,19 @@ use Rattle.dds_base.proofs.KeyLaws.{key-same}
 use Rattle.dds_base.specs.declared.selection.Selection.{Selection}
 use Rattle.dds_base.specs.declared.sample.Sample.{Sample}
 use Rattle.dds_base.specs.Access.{collection_of}
+use Rattle.dds_base.specs.StatusFlags.{brings_sample, data_available_at}
 use Rattle.dds_instances.specs.Table.{Table, Stands}
 use Rattle.dds_instances.specs.Known.{IsReturnable}
 use Rattle.dds_cache.specs.declared.access.Candidate.{Candidate}
 use Rattle.dds_cache.specs.Finding.{Holds, IsCandidate, IsSmall, sample_in}
 use Rattle.dds_cache.specs.Picking.{Picks, IsAccess}
 use Rattle.dds_cache.specs.declared.kept.Kept.{Kept}
-use Rattle.dds_cache.specs.Kept.{IsKept, IsKeptAt, IsFresh, Adds, sample_at, is_here, position_of, positions_in, is_among, marked, HaveSame}
+use Rattle.dds_cache.specs.Kept.{IsKept, IsKeptAt, IsFresh, IsNewAt, Adds, sample_at, is_here, position_of, positions_in, is_among, marked, HaveSame}
 use Rattle.dds_cache.specs.Standing.{Stored, StandsFor}
 use Rattle.dds_cache.proofs.PresenceLaws.{present-next, present-dropped, quiet-absent, other-absent}
 use Rattle.dds_cache.proofs.KeptLaws.{kept-quiet, kept-next}
 use Rattle.dds_cache.proofs.GroupLaws.{unequal}
+use Rattle.dds_cache.proofs.DataLaws.{brings-added}
 
 -- no access returned what has not happened yet
 pub fresh : (stored : Stored) (h : List Happening) (i : Key) → StandsFor stored h → IsFresh h i
@@ -37,12 +40,22 @@ pub counts-more : (n m : ℕ) → n ≡ min m (2 ^ 31 - 1) → min (n + 1) (2 ^ 
 counts-more n m is = omega (arith, is)
 
 -- the samples that an entry leaves are added
-pub stands-added : (q : ReaderQos) (e : Happening) (h : List Happening) (old new : Stored) → old.qos ≡ q → new.qos ≡ q → taken_by e ≡ [] → read_by e ≡ [] → new.arrivals ≡ min (arrivals (e ∷ h)) (2 ^ 31 - 1) → Stands q new.instances (e ∷ h) → Adds q e h old.samples new.samples → StandsFor old h → StandsFor new (e ∷ h)
-stands-added q e h old new old_qos new_qos taken read counted instances adds stands =
+pub stands-added : (q : ReaderQos) (e : Happening) (h : List Happening) (old new : Stored) → old.qos ≡ q → new.qos ≡ q → taken_by e ≡ [] → read_by e ≡ [] → new.arrivals ≡ min (arrivals (e ∷ h)) (2 ^ 31 - 1)
+    → data_available_at q (e ∷ h) ≡ (if brings_sample q (e ∷ h) then length h + 1 else data_available_at q h)
+    → new.data_at ≡ (if nat_lt (length old.samples) (length new.samples) then length h + 1 else old.data_at)
+    → Stands q new.instances (e ∷ h) → Adds q e h old.samples new.samples → StandsFor old h → StandsFor new (e ∷ h)
+stands-added q e h old new old_qos new_qos taken read counted raised noted instances adds stands =
     let each : All (IsKept q h) old.samples = subst (λ (r : ReaderQos). All (IsKept r h) old.samples) old_qos stands.each in
     let present : (i : Key) → filter (is_present q h i) (up_to (length h)) ≡ positions_in q h i old.samples = λ i. subst (λ (r : ReaderQos). filter (is_present r h i) (up_to (length h)) ≡ positions_in r h i old.samples) old_qos (stands.present i) in
     let all : All (IsKept q (e ∷ h)) new.samples = subst (λ (ks : List Kept). All (IsKept q (e ∷ h)) ks) (sym adds.are) (All-append (IsKept q (e ∷ h)) old.samples adds.added (All-weaker (IsKept q h) (IsKept q (e ∷ h)) (λ k kept. kept-quiet q e h k taken read kept) old.samples each) adds.each) in
     let next : (i : Key) → filter (is_present q (e ∷ h) i) (up_to (length (e ∷ h))) ≡ positions_in q (e ∷ h) i new.samples = λ i. present-next q e h i old.samples adds.added (All-weaker (IsKept q h) (λ (k : Kept). position_of k ≤ length h) (λ k kept. kept.in_past) old.samples each) (present i) (adds.present i) ∙ ap (λ (ks : List Kept). positions_in q (e ∷ h) i ks) (sym adds.are) in
+    let past : All (λ (k : Kept). position_of k ≤ length h) old.samples = All-weaker (IsKept q h) (λ (k : Kept). position_of k ≤ length h) (λ k kept. kept.in_past) old.samples each in
+    let brings : brings_sample q (e ∷ h) ≡ nat_lt (length old.samples) (length new.samples) = brings-added q e h old.samples new.samples past adds all next in
+    let before : old.data_at ≡ data_available_at q h = subst (λ (r : ReaderQos). old.data_at ≡ data_available_at r h) old_qos stands.data_is in
+    let is : new.data_at ≡ data_available_at q (e ∷ h) =
+    noted
+    ∙ (ap (λ (n : ℕ). if nat_lt (length old.samples) (length new.samples) then length h + 1 else n) before
+    ∙ (ap (λ (b : Bool). if b then length h + 1 else data_available_at q h) (sym brings) ∙ sym raised)) in
     record {
       instances = subst (λ (r : ReaderQos). Stands r new.instances (e ∷ h)) (sym new_qos) instances;
       each = subst (λ (r : ReaderQos). All (IsKept r (e ∷ h)) new.samples) (sym new_qos) all;
@@ -50,6 +63,7 @@ stands-added q e h old new old_qos new_qos taken read counted instances adds sta
       unread = λ i j later. ap (λ (ss : List SamplePosition). list_any (same_sample (sample_at i j)) ss || is_read (sample_at i j) h) read ∙ stands.unread i j (omega (arith, later));
       untaken = λ i j later. ap (λ (ss : List SamplePosition). list_any (same_sample (sample_at i j)) ss || is_taken (sample_at i j) h) taken ∙ stands.untaken i j (omega (arith, later));
       arrivals_are = counted;
+      data_is = subst (λ (r : ReaderQos). new.data_at ≡ data_available_at r (e ∷ h)) (sym new_qos) is;
     }
 
 -- an entry that leaves none
@@ -59,6 +73,7 @@ adds-none q e h ks absent = record {
   are = sym (append-nil ks);
   each = All-nil (IsKept q (e ∷ h));
   present = λ i. ap (λ (b : Bool). cond b ((length h + 1) ∷ []) []) (absent i);
+  new_are = All-nil (IsNewAt q (e ∷ h) (length h + 1));
 }
 
 map-one : (b : Bool) (k : Kept) (n : ℕ) → position_of k ≡ n → map position_of (cond b (k ∷ []) []) ≡ cond b (n ∷ []) []
@@ -70,6 +85,13 @@ one-position q g x i n k sample =
     ap (λ (s : SamplePosition). map position_of (cond (same_key s.key i && is_present q g i s.position) (k ∷ []) [])) sample
     ∙ map-one (same_key x i && is_present q g i n) k n (ap (λ (s : SamplePosition). s.position) sample)
 
+-- a sample that is kept and present at a position
+pub new-at : (q : ReaderQos) (g : List Happening) (x : Key) (n : ℕ) (k : Kept) → IsKeptAt q g x n k → IsNewAt q g n k
+new-at q g x n k at = (
+  ap (λ (s : SamplePosition). s.position) at.sample_is,
+  ap (λ (s : SamplePosition). is_present q g s.key n) at.sample_is ∙ at.present,
+)
+
 -- a change that leaves one
 pub adds-one : (q : ReaderQos) (a : Arrival) (h : List Happening) (ks : List Kept) (k : Kept) → IsKeptAt q (Came a ∷ h) a.change.key (length h + 1) k → Adds q (Came a) h ks (ks ++ k ∷ [])
 adds-one q a h ks k at = record {
@@ -77,6 +99,7 @@ adds-one q a h ks k at = record {
   are = refl;
   each = All-cons (IsKept q (Came a ∷ h)) k [] at.kept (All-nil (IsKept q (Came a ∷ h)));
   present = λ i. sym (one-position q (Came a ∷ h) a.change.key i (length h + 1) k at.sample_is ∙ own q a h i (cases_Bool (same_key a.change.key i)));
+  new_are = All-cons (IsNewAt q (Came a ∷ h) (length h + 1)) k [] (new-at q (Came a ∷ h) a.change.key (length h + 1) k at) (All-nil (IsNewAt q (Came a ∷ h) (length h + 1)));
 }
   where
     own : (q : ReaderQos) (a : Arrival) (h : List Happening) (i : Key) → (same_key a.change.key i ≡ true) ⊎ (same_key a.change.key i ≡ false) → cond (same_key a.change.key i && is_present q (Came a ∷ h) i (length h + 1)) ((length h + 1) ∷ []) [] ≡ cond (is_present q (Came a ∷ h) i (length h + 1)) ((length h + 1) ∷ []) []
@@ -93,8 +116,8 @@ adds-nothing q a h ks absent = adds-none q (Came a) h ks (λ i. ⊎_elim
     (cases_Bool (same_key a.change.key i)))
 
 -- what changes nothing that is kept
-pub stands-still : (h : List Happening) (old new : Stored) → new.qos ≡ old.qos → new.samples ≡ old.samples → new.arrivals ≡ old.arrivals → ((q : ReaderQos) → Stands q old.instances h → Stands q new.instances h) → StandsFor old h → StandsFor new h
-stands-still h old new qos samples counted instances stands =
+pub stands-still : (h : List Happening) (old new : Stored) → new.qos ≡ old.qos → new.samples ≡ old.samples → new.arrivals ≡ old.arrivals → new.data_at ≡ old.data_at → ((q : ReaderQos) → Stands q old.instances h → Stands q new.instances h) → StandsFor old h → StandsFor new h
+stands-still h old new qos samples counted noted instances stands =
     record {
       instances = subst (λ (r : ReaderQos). Stands r new.instances h) (sym qos) (instances old.qos stands.instances);
       each = subst (λ (r : ReaderQos). All (IsKept r h) new.samples) (sym qos) (subst (λ (ks : List Kept). All (IsKept old.qos h) ks) (sym samples) stands.each);
@@ -102,6 +125,7 @@ stands-still h old new qos samples counted instances stands =
       unread = stands.unread;
       untaken = stands.untaken;
       arrivals_are = counted ∙ stands.arrivals_are;
+      data_is = noted ∙ (stands.data_is ∙ ap (λ (r : ReaderQos). data_available_at r h) (sym qos));
     }
 
 -- ---- a read
@@ -127,8 +151,8 @@ none-later h i j (s ∷ ss) later past =
     and-false false = refl
 
 -- the samples that a read returned are marked
-pub stands-read : (q : ReaderQos) (ss : List SamplePosition) (h : List Happening) (old new : Stored) → old.qos ≡ q → new.qos ≡ q → new.arrivals ≡ old.arrivals → All (λ (s : SamplePosition). s.position ≤ length h) ss → Stands q new.instances (Read ss ∷ h) → new.samples ≡ map (marked ss) old.samples → StandsFor old h → StandsFor new (Read ss ∷ h)
-stands-read q ss h old new old_qos new_qos counted past instances samples stands =
+pub stands-read : (q : ReaderQos) (ss : List SamplePosition) (h : List Happening) (old new : Stored) → old.qos ≡ q → new.qos ≡ q → new.arrivals ≡ old.arrivals → new.data_at ≡ 0 → All (λ (s : SamplePosition). s.position ≤ length h) ss → Stands q new.instances (Read ss ∷ h) → new.samples ≡ map (marked ss) old.samples → StandsFor old h → StandsFor new (Read ss ∷ h)
+stands-read q ss h old new old_qos new_qos counted lowered past instances samples stands =
     let e : Happening = Read ss in
     let each : All (IsKept q h) old.samples = subst (λ (r : ReaderQos). All (IsKept r h) old.samples) old_qos stands.each in
     let present : (i : Key) → filter (is_present q h i) (up_to (length h)) ≡ positions_in q h i old.samples = λ i. subst (λ (r : ReaderQos). filter (is_present r h i) (up_to (length h)) ≡ positions_in r h i old.samples) old_qos (stands.present i) in
@@ -143,6 +167,7 @@ stands-read q ss h old new old_qos new_qos counted past instances samples stands
       unread = λ i j later. ap (λ (b : Bool). b || is_read (sample_at i j) h) (none-later h i j ss (omega (arith, later)) past) ∙ stands.unread i j (omega (arith, later));
       untaken = λ i j later. stands.untaken i j (omega (arith, later));
       arrivals_are = counted ∙ stands.arrivals_are;
+      data_is = lowered;
     }
 
 -- ---- a take
@@ -175,8 +200,8 @@ here-untaken q ss h i k here =
     first-false false b e = refl
 
 -- the samples that a take returned are gone
-pub stands-took : (q : ReaderQos) (ss : List SamplePosition) (h : List Happening) (old new : Stored) → old.qos ≡ q → new.qos ≡ q → new.arrivals ≡ old.arrivals → All (λ (s : SamplePosition). s.position ≤ length h) ss → Stands q new.instances (Took ss ∷ h) → new.samples ≡ filter (λ k. not (is_among ss k)) old.samples → StandsFor old h → StandsFor new (Took ss ∷ h)
-stands-took q ss h old new old_qos new_qos counted past instances samples stands =
+pub stands-took : (q : ReaderQos) (ss : List SamplePosition) (h : List Happening) (old new : Stored) → old.qos ≡ q → new.qos ≡ q → new.arrivals ≡ old.arrivals → new.data_at ≡ 0 → All (λ (s : SamplePosition). s.position ≤ length h) ss → Stands q new.instances (Took ss ∷ h) → new.samples ≡ filter (λ k. not (is_among ss k)) old.samples → StandsFor old h → StandsFor new (Took ss ∷ h)
+stands-took q ss h old new old_qos new_qos counted lowered past instances samples stands =
     let e : Happening = Took ss in
     let keep : Kept → Bool = λ k. not (is_among ss k) in
     let each : All (IsKept q h) old.samples = subst (λ (r : ReaderQos). All (IsKept r h) old.samples) old_qos stands.each in
@@ -192,11 +217,12 @@ stands-took q ss h old new old_qos new_qos counted past instances samples stands
       unread = λ i j later. stands.unread i j (omega (arith, later));
       untaken = λ i j later. ap (λ (b : Bool). b || is_taken (sample_at i j) h) (none-later h i j ss (omega (arith, later)) past) ∙ stands.untaken i j (omega (arith, later));
       arrivals_are = counted ∙ stands.arrivals_are;
+      data_is = lowered;
     }
 
 -- samples that are no longer present can be swept out
-pub stands-swept : (h : List Happening) (old new : Stored) (keep : Kept → Bool) → new.qos ≡ old.qos → new.instances ≡ old.instances → new.samples ≡ filter keep old.samples → new.arrivals ≡ old.arrivals → ((i : Key) → All (λ (k : Kept). is_here old.qos h i k ≡ true → keep k ≡ true) old.samples) → StandsFor old h → StandsFor new h
-stands-swept h old new keep qos instances samples counted kept stands =
+pub stands-swept : (h : List Happening) (old new : Stored) (keep : Kept → Bool) → new.qos ≡ old.qos → new.instances ≡ old.instances → new.samples ≡ filter keep old.samples → new.arrivals ≡ old.arrivals → new.data_at ≡ old.data_at → ((i : Key) → All (λ (k : Kept). is_here old.qos h i k ≡ true → keep k ≡ true) old.samples) → StandsFor old h → StandsFor new h
+stands-swept h old new keep qos instances samples counted noted kept stands =
     let q : ReaderQos = old.qos in
     record {
       instances = subst (λ (r : ReaderQos). Stands r new.instances h) (sym qos) (subst (λ (t : Table). Stands q t h) (sym instances) stands.instances);
@@ -205,6 +231,7 @@ stands-swept h old new keep qos instances samples counted kept stands =
       unread = stands.unread;
       untaken = stands.untaken;
       arrivals_are = counted ∙ stands.arrivals_are;
+      data_is = noted ∙ (stands.data_is ∙ ap (λ (r : ReaderQos). data_available_at r h) (sym qos));
     }
 
 -- ---- an access
@@ -225,8 +252,8 @@ returnable q h ks c kept is =
     nothing c = record { sample = c.sample; handle = 0; number = 0; is_read = false; valid_data = false; disposed_generation_count = 0; no_writers_generation_count = 0; source_timestamp = 0; publication_handle = 0; value = [] }
 
 -- what was gathered of what an access picks
-pub accessed : (stored : Stored) (h : List Happening) (selection : Selection) (cs : List Candidate) (positions : List SamplePosition) (collection : List Sample) → StandsFor stored h → Picks stored.qos h selection stored.samples cs → positions ≡ map sample_in cs → collection ≡ collection_of stored.qos h (map sample_in cs) → IsAccess stored.qos h selection positions collection
-accessed stored h selection cs positions collection stands picks positions_are collection_is = record {
+pub accessed : (stored : Stored) (h : List Happening) (selection : Selection) (test : Key → List ℕ → Bool) (cs : List Candidate) (positions : List SamplePosition) (collection : List Sample) → StandsFor stored h → Picks stored.qos h selection test stored.samples cs → positions ≡ map sample_in cs → collection ≡ collection_of stored.qos h (map sample_in cs) → IsAccess stored.qos h selection test positions collection
+accessed stored h selection test cs positions collection stands picks positions_are collection_is = record {
   good = picks.good;
   positions_are = positions_are ∙ picks.samples_are;
   collection_is = collection_is ∙ ap (λ (ss : List SamplePosition). collection_of stored.qos h ss) (sym positions_are);

@@ -42,9 +42,9 @@ here-stays q h i k kept here =
     stays-present q h k kept ∙ (ap (λ (x : Key). is_present q h x k.sample.position) (key-same k.sample.key i both.0) ∙ both.1)
 
 -- a cache that is swept stands for what it stood for
-pub stands-stays : (h : List Happening) (old new : Stored) → new.qos ≡ old.qos → new.instances ≡ old.instances → new.samples ≡ filter (stays old.qos h) old.samples → new.arrivals ≡ old.arrivals → StandsFor old h → StandsFor new h
-stands-stays h old new qos instances samples counted stands =
-    stands-swept h old new (stays old.qos h) qos instances samples counted
+pub stands-stays : (h : List Happening) (old new : Stored) → new.qos ≡ old.qos → new.instances ≡ old.instances → new.samples ≡ filter (stays old.qos h) old.samples → new.arrivals ≡ old.arrivals → new.data_at ≡ old.data_at → StandsFor old h → StandsFor new h
+stands-stays h old new qos instances samples counted noted stands =
+    stands-swept h old new (stays old.qos h) qos instances samples counted noted
     (λ i. All-weaker (IsKept old.qos h) (λ (k : Kept). is_here old.qos h i k ≡ true → stays old.qos h k ≡ true) (λ k kept. here-stays old.qos h i k kept) old.samples stands.each)
     stands
 

@@ -16,7 +16,7 @@ use Rattle.dds_base.specs.declared.qos.ReaderQos.{ReaderQos}
 use Rattle.dds_base.specs.Happening.{same_key}
 use Rattle.dds_base.specs.Instance.{known_instances}
 use Rattle.dds_base.specs.Presence.{is_present, up_to}
-use Rattle.dds_base.specs.Access.{asks_for_sample_state, asks_for_view_state, asks_for_instance_state, meets, picked_of, own_generations, no_filter, value_of, matching_samples}
+use Rattle.dds_base.specs.Access.{asks_for_sample_state, asks_for_view_state, asks_for_instance_state, meets, picked_of, own_generations, value_of, matching_samples}
 use Rattle.dds_cache.specs.declared.kept.Kept.{Kept}
 use Rattle.dds_cache.specs.declared.access.Candidate.{Candidate}
 use Rattle.dds_cache.specs.Kept.{IsKept, positions_in}
@@ -26,13 +26,13 @@ use Rattle.dds_instances.specs.Table.{Table, Stands}
 abbrev pub are_asked_for : Masks → SampleState → ViewState → Option InstanceState → Bool
 are_asked_for masks sample view instance = asks_for_sample_state masks.samples sample && (asks_for_view_state masks.views view && asks_for_instance_state masks.instances instance)
 
--- the sample meets the masks; there is no filter
-abbrev pub is_asked_for : ReaderQos → List Happening → Masks → SamplePosition → Bool
-is_asked_for q h masks s = meets q h masks s && no_filter s.key (value_of q h s)
+-- the sample meets the masks, and passes the test
+abbrev pub is_asked_for : ReaderQos → List Happening → Masks → (Key → List ℕ → Bool) → SamplePosition → Bool
+is_asked_for q h masks test s = meets q h masks s && test s.key (value_of q h s)
 
--- a kept sample is present and meets the masks
-abbrev pub is_wanted : ReaderQos → List Happening → Masks → Kept → Bool
-is_wanted q h masks k = is_present q h k.sample.key k.sample.position && is_asked_for q h masks k.sample
+-- a kept sample is present, meets the masks, and passes the test
+abbrev pub is_wanted : ReaderQos → List Happening → Masks → (Key → List ℕ → Bool) → Kept → Bool
+is_wanted q h masks test k = is_present q h k.sample.key k.sample.position && is_asked_for q h masks test k.sample
 
 -- the instances and the samples are those of what happened
 pub record Holds (q : ReaderQos) (table : Table) (ks : List Kept) (h : List Happening) : Type 0 where
@@ -63,8 +63,8 @@ abbrev pub picked_in : Candidate → Picked
 picked_in c = c.picked
 
 -- the candidates are the wanted ones of a list of kept samples, in their order
-pub record AreCandidates (q : ReaderQos) (h : List Happening) (masks : Masks) (ks wanted : List Kept) (cs : List Candidate) : Type 0 where
-  pub samples_are : map sample_in cs ≡ map sample_of (filter (is_wanted q h masks) wanted)
+pub record AreCandidates (q : ReaderQos) (h : List Happening) (masks : Masks) (test : Key → List ℕ → Bool) (ks wanted : List Kept) (cs : List Candidate) : Type 0 where
+  pub samples_are : map sample_in cs ≡ map sample_of (filter (is_wanted q h masks test) wanted)
   pub each : All (IsCandidate q h ks) cs
 
 -- what is said of a kept sample before its ranks, by what is known of its instance
@@ -83,8 +83,8 @@ described_by k known = record {
 }
 
 -- a kept sample is wanted, and found as a candidate
-pub record IsFound (q : ReaderQos) (h : List Happening) (masks : Masks) (k : Kept) (at : ℕ) (c : Candidate) : Type 0 where
-  pub wanted : is_wanted q h masks k ≡ true
+pub record IsFound (q : ReaderQos) (h : List Happening) (masks : Masks) (test : Key → List ℕ → Bool) (k : Kept) (at : ℕ) (c : Candidate) : Type 0 where
+  pub wanted : is_wanted q h masks test k ≡ true
   pub sample_is : c.sample ≡ k.sample
   pub picked_is : c.picked ≡ picked_of q h k.sample
   pub at_is : c.at ≡ at
@@ -100,6 +100,6 @@ pub record IsPlaced (n : ℕ) (c : Candidate) : Type 0 where
   pub small : own_generations c.picked < 2 ^ 64
 
 -- what is found are the matching samples, in their order
-pub record Finds (q : ReaderQos) (h : List Happening) (masks : Masks) (ks : List Kept) (cs : List Candidate) : Type 0 where
-  pub samples_are : map sample_in cs ≡ matching_samples q h masks no_filter
+pub record Finds (q : ReaderQos) (h : List Happening) (masks : Masks) (test : Key → List ℕ → Bool) (ks : List Kept) (cs : List Candidate) : Type 0 where
+  pub samples_are : map sample_in cs ≡ matching_samples q h masks test
   pub each : All (IsCandidate q h ks) cs

@@ -73,12 +73,17 @@ pub record IsKeptAt (q : ReaderQos) (h : List Happening) (i : Key) (n : ℕ) (k 
 abbrev pub value_if : Bool → List ℕ → List ℕ
 value_if is_write value = if is_write then value else []
 
+-- a kept sample is at position n, and present
+abbrev pub IsNewAt : ReaderQos → List Happening → ℕ → Kept → Type 0
+IsNewAt q h n k = (k.sample.position ≡ n) × (is_present q h k.sample.key n ≡ true)
+
 -- the present samples that an entry left of each instance are added to those kept
 pub record Adds (q : ReaderQos) (e : Happening) (h : List Happening) (old new : List Kept) : Type 0 where
   pub added : List Kept
   pub are : new ≡ old ++ added
   pub each : All (IsKept q (e ∷ h)) added
   pub present : (i : Key) → filter (is_present q (e ∷ h) i) ((length h + 1) ∷ []) ≡ positions_in q (e ∷ h) i added
+  pub new_are : All (IsNewAt q (e ∷ h) (length h + 1)) added
 
 -- the sample is among those that were returned
 abbrev pub is_among : List SamplePosition → Kept → Bool

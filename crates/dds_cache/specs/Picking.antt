@@ -4,6 +4,7 @@ use Rattle.std.specs.Prelude.{◌≡◌, ℕ, List, [], ◌∷◌, All, map, fil
 use Rattle.dds_base.specs.declared.code.Code.{Code}
 use Rattle.dds_base.specs.declared.code.Code.TheVariants.{BadParameter}
 use Rattle.dds_base.specs.declared.happening.SamplePosition.{SamplePosition}
+use Rattle.dds_base.specs.declared.key.Key.{Key}
 use Rattle.dds_base.specs.declared.happening.Happening.{Happening}
 use Rattle.dds_base.specs.declared.mask.Masks.{Masks}
 use Rattle.dds_base.specs.declared.qos.ReaderQos.{ReaderQos}
@@ -33,6 +34,13 @@ masks_in (Any max masks) = masks
 masks_in (Instance handle max masks) = masks
 masks_in (NextInstance previous max masks) = masks
 masks_in NextSample = not_read
+
+-- the test that they have to pass: the next sample is picked without one
+abbrev pub test_in : Selection → (Key → List ℕ → Bool) → Key → List ℕ → Bool
+test_in (Any max masks) test = test
+test_in (Instance handle max masks) test = test
+test_in (NextInstance previous max masks) test = test
+test_in NextSample test = no_filter
 
 -- those of one instance
 abbrev pub of_handle : ReaderQos → List Happening → ℕ → List SamplePosition → List SamplePosition
@@ -79,9 +87,9 @@ IsRequest q h selection (Ok request) =
 IsRequest q h selection (Err code) = selection_refusal q h selection ≡ Some code
 
 -- an access that is not refused picks these of the kept samples
-pub record Picks (q : ReaderQos) (h : List Happening) (selection : Selection) (ks : List Kept) (cs : List Candidate) : Type 0 where
+pub record Picks (q : ReaderQos) (h : List Happening) (selection : Selection) (test : Key → List ℕ → Bool) (ks : List Kept) (cs : List Candidate) : Type 0 where
   pub good : selection_refusal q h selection ≡ None
-  pub samples_are : map sample_in cs ≡ picked_by q h selection no_filter
+  pub samples_are : map sample_in cs ≡ picked_by q h selection test
   pub each : All (IsCandidate q h ks) cs
 
 -- this is the collection of these candidates
@@ -91,8 +99,8 @@ IsCollection ks cs collection =
     → collection ≡ collection_of q h (map sample_in cs)
 
 -- an access that is not refused finds these samples, and this is their collection
-pub record IsAccess (q : ReaderQos) (h : List Happening) (selection : Selection) (positions : List SamplePosition) (collection : List Sample) : Type 0 where
+pub record IsAccess (q : ReaderQos) (h : List Happening) (selection : Selection) (test : Key → List ℕ → Bool) (positions : List SamplePosition) (collection : List Sample) : Type 0 where
   pub good : selection_refusal q h selection ≡ None
-  pub positions_are : positions ≡ picked_by q h selection no_filter
+  pub positions_are : positions ≡ picked_by q h selection test
   pub collection_is : collection ≡ collection_of q h positions
   pub each : All (IsReturnable q h) positions

@@ -1,6 +1,6 @@
 -- What contracts see of a reader's cache: what happened as it stands for it, and what an access answers and leaves.
 -- Nobody looks into `StandsFor`: what it has to say is in the clauses of each call.
-use Rattle.std.specs.Prelude.{◌≡◌, ◌≢◌, ℕ, ◌<◌, ◌-◌, ◌^◌, min, List, [], ◌∷◌, length, filter, All, false, Option, None, Result, Ok, Err}
+use Rattle.std.specs.Prelude.{Bool, ◌≡◌, ◌≢◌, ℕ, ◌<◌, ◌-◌, ◌^◌, min, List, [], ◌∷◌, length, filter, All, false, Option, None, Result, Ok, Err}
 use Rattle.dds_base.specs.declared.code.Code.{Code}
 use Rattle.dds_base.specs.declared.code.Code.TheVariants.{NoData}
 use Rattle.dds_base.specs.declared.happening.SamplePosition.{SamplePosition}
@@ -14,12 +14,13 @@ use Rattle.dds_base.specs.Presence.{is_present, up_to}
 use Rattle.dds_base.specs.Access.{no_filter, collection_of}
 use Rattle.dds_base.specs.Refusal.{Refuses}
 use Rattle.dds_base.specs.Selection.{picked_by, selection_refusal}
+use Rattle.dds_base.specs.StatusFlags.{data_available_at}
 use Rattle.dds_cache.specs.declared.kept.Kept.{Kept}
 use Rattle.dds_cache.specs.Kept.{IsKept, positions_in, sample_at}
 use Rattle.dds_instances.specs.Table.{Table, Stands}
 
--- what is kept: the instances, the samples in the order in which they came, how many changes came, and for how
--- many more entries, and how many deaths in a row, it has memory
+-- what is kept: the instances, the samples in the order in which they came, how many changes came, for how many more
+-- entries, and how many deaths in a row, it has memory, and where the newest entry stands that brought a sample
 pub record Stored : Type 0 where
   pub qos : ReaderQos
   pub instances : Table
@@ -27,6 +28,7 @@ pub record Stored : Type 0 where
   pub arrivals : ℕ
   pub room : ℕ
   pub deaths : ℕ
+  pub data_at : ℕ
 
 -- the policies and the matched writers that it was opened with
 abbrev pub qos_of : Stored → ReaderQos
@@ -41,8 +43,8 @@ abbrev pub deaths_of : Stored → ℕ
 deaths_of stored = stored.deaths
 
 -- what is kept stands for what happened: so do its instances; each kept sample is what it was; the present samples of
--- each instance are kept in their order; no access returned what had not happened; and the changes are counted, up to a
--- bound
+-- each instance are kept in their order; no access returned what had not happened; the changes are counted, up to a
+-- bound; and it is known since when there is data that no access was asked for
 pub record StandsFor (stored : Stored) (h : List Happening) : Type 0 where
   pub instances : Stands stored.qos stored.instances h
   pub each : All (IsKept stored.qos h) stored.samples
@@ -50,27 +52,41 @@ pub record StandsFor (stored : Stored) (h : List Happening) : Type 0 where
   pub unread : (i : Key) (j : ℕ) → length h < j → is_read (sample_at i j) h ≡ false
   pub untaken : (i : Key) (j : ℕ) → length h < j → is_taken (sample_at i j) h ≡ false
   pub arrivals_are : stored.arrivals ≡ min (arrivals h) (2 ^ 31 - 1)
+  pub data_is : stored.data_at ≡ data_available_at stored.qos h
+
+-- what an access picks by a test
+abbrev pub picked_with : Stored → List Happening → Selection → (Key → List ℕ → Bool) → List SamplePosition
+picked_with stored h selection test = picked_by (qos_of stored) h selection test
 
 -- what an access without a filter picks
 abbrev pub picked : Stored → List Happening → Selection → List SamplePosition
-picked stored h selection = picked_by (qos_of stored) h selection no_filter
+picked stored h selection = picked_with stored h selection no_filter
 
 -- why an access is refused
 abbrev pub refusal : Stored → List Happening → Selection → Option Code
 refusal stored h selection = selection_refusal (qos_of stored) h selection
 
--- the answer of an access: the collection, or NO_DATA where nothing is picked; or the first cause that refuses it, or MEMORY
--- where there is none
-abbrev pub Answers : Stored → List Happening → Selection → Result (List Sample) Code → Type 0
-Answers stored h selection (Ok samples) =
-    (refusal stored h selection ≡ None) × (picked stored h selection ≢ [])
-    × (samples ≡ collection_of (qos_of stored) h (picked stored h selection))
-Answers stored h selection (Err NoData) = (refusal stored h selection ≡ None) × (picked stored h selection ≡ [])
-Answers stored h selection (Err code) = Refuses (refusal stored h selection) code
+-- the answer of an access by a test: the collection, or NO_DATA where nothing is picked; or the first cause that refuses
+-- it, or MEMORY where there is none
+abbrev pub AnswersWith : Stored → List Happening → Selection → (Key → List ℕ → Bool) → Result (List Sample) Code → Type 0
+AnswersWith stored h selection test (Ok samples) =
+    (refusal stored h selection ≡ None) × (picked_with stored h selection test ≢ [])
+    × (samples ≡ collection_of (qos_of stored) h (picked_with stored h selection test))
+AnswersWith stored h selection test (Err NoData) =
+    (refusal stored h selection ≡ None) × (picked_with stored h selection test ≡ [])
+AnswersWith stored h selection test (Err code) = Refuses (refusal stored h selection) code
 
--- what a cache is after an access that was answered so: it stands for one entry more, the access, also where that found
--- nothing; any other refusal leaves it as it was
+-- the answer of one without a filter
+abbrev pub Answers : Stored → List Happening → Selection → Result (List Sample) Code → Type 0
+Answers stored h selection result = AnswersWith stored h selection no_filter result
+
+-- what a cache is after an access by a test that was answered so: it stands for one entry more, the access, also where
+-- that found nothing; any other refusal leaves it as it was
+abbrev pub AfterAccessWith : (List SamplePosition → Happening) → Stored → List Happening → Selection → (Key → List ℕ → Bool) → Result (List Sample) Code → Stored → Type 0
+AfterAccessWith entry old h selection test (Ok samples) new = StandsFor new (entry (picked_with old h selection test) ∷ h)
+AfterAccessWith entry old h selection test (Err NoData) new = StandsFor new (entry [] ∷ h)
+AfterAccessWith entry old h selection test (Err code) new = new ≡ old
+
+-- after one without a filter
 abbrev pub AfterAccess : (List SamplePosition → Happening) → Stored → List Happening → Selection → Result (List Sample) Code → Stored → Type 0
-AfterAccess entry old h selection (Ok samples) new = StandsFor new (entry (picked old h selection) ∷ h)
-AfterAccess entry old h selection (Err NoData) new = StandsFor new (entry [] ∷ h)
-AfterAccess entry old h selection (Err code) new = new ≡ old
+AfterAccess entry old h selection result new = AfterAccessWith entry old h selection no_filter result new

@@ -5,13 +5,14 @@ ghost use Rattle.std.specs.List.Sorted.{IsPermutation, IsNonDecreasingBy, IsStab
 ghost use Rattle.std.specs.Ordering.{nat_cmp};
 ghost use Rattle.dds_base.specs.declared.happening.Happening.{Happening};
 ghost use Rattle.dds_base.specs.declared.sample.SampleState.TheVariants.{Read as HasBeenRead, NotRead};
-ghost use Rattle.dds_base.specs.Access.{own_generations};
+ghost use Rattle.dds_base.specs.Access.{has_match, own_generations};
 ghost use Rattle.dds_instances.specs.Table.{Stands};
 ghost use Rattle.dds_cache.specs.Kept.{IsKept, is_live};
 ghost use Rattle.dds_cache.specs.Finding.{are_asked_for, is_wanted, described_by, IsFound, IsSmall, IsPlaced, AreCandidates, Holds, Finds, sample_in, picked_in, handle_in};
 
 use crate::kept::Kept;
 use crate::masks::{asks_for_instance, asks_for_sample, asks_for_view};
+use crate::test::Test;
 use dds_base::{InstanceState, Masks, Picked, ReaderQos, SamplePosition, SampleState, ViewState};
 use dds_instances::{Instances, KnownInstance};
 use std::alloc::{AllocError, Global};
@@ -66,9 +67,18 @@ fn picked(kept: &Kept, known: &KnownInstance) -> Picked
     }
 }
 
-/// Whether a kept sample is present and meets the masks, by what is known of its instance.
-fn is_found(kept: &Kept, qos: &ReaderQos, masks: Masks, known: &KnownInstance) -> bool
-    ensures { result ≡ (is_live qos.now known.now kept.now && are_asked_for masks (if kept.now.is_read then HasBeenRead else NotRead) known.now.view (Some known.now.state)) }
+/// Whether a kept sample is present, meets the masks and passes the test, by what is known of its instance.
+fn is_found<T: Test>(
+    kept: &Kept,
+    qos: &ReaderQos,
+    masks: Masks,
+    test: &T,
+    known: &KnownInstance,
+) -> bool
+    ensures found { result ≡ (is_live qos.now known.now kept.now
+        && (are_asked_for masks (if kept.now.is_read then HasBeenRead else NotRead)
+        known.now.view (Some known.now.state)
+        && T.meaning test.now kept.now.sample.key kept.now.value)) }
 {
     kept.is_live(qos, known)
         && is_asked(
@@ -77,24 +87,66 @@ fn is_found(kept: &Kept, qos: &ReaderQos, masks: Masks, known: &KnownInstance) -
             known.view,
             Some(known.state),
         )
+        && test.passes(&kept.sample.key, kept.value.as_slice())
 }
 
-/// The kept sample at an index as a candidate, if it is present and meets the masks.
-fn as_candidate(
+/// Whether a kept sample is present, meets the masks and passes the test.
+fn is_match<T: Test>(
     instances: &Instances,
     qos: &ReaderQos,
     masks: Masks,
+    test: &T,
+    kept: &Kept,
+) -> bool
+    ensures wanted { (h : List Happening) → Stands qos.now instances.now h
+        → IsKept qos.now h kept.now
+        → result ≡ is_wanted qos.now h masks (T.meaning test.now) kept.now }
+{
+    match instances.at(kept.handle) {
+        None => false,
+        Some(known) => is_found(kept, qos, masks, test, &known),
+    }
+}
+
+/// Whether some sample is present, meets the masks and passes the test. It goes once over them.
+pub fn is_any_match<T: Test>(
+    instances: &Instances,
+    qos: &ReaderQos,
+    masks: Masks,
+    test: &T,
+    samples: &[Kept],
+) -> bool
+    ensures matched { (h : List Happening) → Holds qos.now instances.now samples.now h
+        → result ≡ has_match qos.now h masks (T.meaning test.now) }
+{
+    for kept in samples {
+        if is_match(instances, qos, masks, test, kept) {
+            return true;
+        }
+    }
+    false
+}
+
+/// The kept sample at an index as a candidate, if it is present, meets the masks and passes the test.
+fn as_candidate<T: Test>(
+    instances: &Instances,
+    qos: &ReaderQos,
+    masks: Masks,
+    test: &T,
     kept: &Kept,
     at: usize,
 ) -> Option<Candidate>
     requires small { IsSmall kept.now }
     ensures placed { IfSome result (λ c. (c.at ≡ at) × (own_generations c.picked < 2 ^ 64)) }
-    ensures wanted { (h : List Happening) → Stands qos.now instances.now h → IsKept qos.now h kept.now → MatchOption result (is_wanted qos.now h masks kept.now ≡ false) (IsFound qos.now h masks kept.now at) }
+    ensures wanted { (h : List Happening) → Stands qos.now instances.now h
+        → IsKept qos.now h kept.now
+        → MatchOption result (is_wanted qos.now h masks (T.meaning test.now) kept.now ≡ false)
+        (IsFound qos.now h masks (T.meaning test.now) kept.now at) }
 {
     match instances.at(kept.handle) {
         None => None,
         Some(known) => {
-            if is_found(kept, qos, masks, &known) {
+            if is_found(kept, qos, masks, test, &known) {
                 Some(Candidate {
                     sample: kept.sample,
                     picked: picked(kept, &known),
@@ -108,20 +160,23 @@ fn as_candidate(
 }
 
 /// The candidates, in the order in which they came.
-fn find_candidates(
+fn find_candidates<T: Test>(
     alloc: Global,
     instances: &Instances,
     qos: &ReaderQos,
     masks: Masks,
+    test: &T,
     samples: &[Kept],
 ) -> Result<Vec<Candidate>, AllocError>
     requires small { All IsSmall samples.now }
     ensures placed { IfOk result (λ cs. All (IsPlaced (length samples.now)) cs.items) }
-    ensures found { IfOk result (λ cs. (h : List Happening) → Stands qos.now instances.now h → All (IsKept qos.now h) samples.now → AreCandidates qos.now h masks samples.now samples.now cs.items) }
+    ensures found { IfOk result (λ cs. (h : List Happening) → Stands qos.now instances.now h
+        → All (IsKept qos.now h) samples.now
+        → AreCandidates qos.now h masks (T.meaning test.now) samples.now samples.now cs.items) }
 {
     let mut found = Vec::new(alloc);
     for at in 0..samples.len() {
-        if let Some(candidate) = as_candidate(instances, qos, masks, &samples[at], at) {
+        if let Some(candidate) = as_candidate(instances, qos, masks, test, &samples[at], at) {
             found.push(candidate)?;
         }
     }
@@ -138,19 +193,23 @@ fn sort_by_handle(candidates: &mut Vec<Candidate>) -> Result<(), AllocError>
     Ok(())
 }
 
-/// The present samples that meet the masks, by handle, and those of one instance in the order in which they came.
-pub fn find_matching(
+/// The present samples that meet the masks and pass the test, by handle, and those of one instance in the order in which
+/// they came.
+pub fn find_matching<T: Test>(
     alloc: Global,
     instances: &Instances,
     qos: &ReaderQos,
     masks: Masks,
+    test: &T,
     samples: &[Kept],
 ) -> Result<Vec<Candidate>, AllocError>
     requires small { All IsSmall samples.now }
     ensures placed { IfOk result (λ found. All (IsPlaced (length samples.now)) found.items) }
-    ensures found { IfOk result (λ found. (h : List Happening) → Holds qos.now instances.now samples.now h → Finds qos.now h masks samples.now found.items) }
+    ensures found { IfOk result (λ found. (h : List Happening)
+        → Holds qos.now instances.now samples.now h
+        → Finds qos.now h masks (T.meaning test.now) samples.now found.items) }
 {
-    let mut found = find_candidates(alloc, instances, qos, masks, samples)?;
+    let mut found = find_candidates(alloc, instances, qos, masks, test, samples)?;
     sort_by_handle(&mut found)?;
     Ok(found)
 }

@@ -15,5 +15,7 @@ mod reader_cache;
 mod returned;
 mod room;
 mod sweeping;
+mod test;
 
 pub use reader_cache::ReaderCache;
+pub use test::{Everything, Test};

@@ -9,15 +9,16 @@ ghost use Rattle.dds_base.specs.Access.{at_most};
 ghost use Rattle.dds_base.specs.Refusal.{Refuses};
 ghost use Rattle.dds_base.specs.Selection.{selection_refusal};
 ghost use Rattle.dds_instances.specs.Table.{Stands};
-ghost use Rattle.dds_cache.specs.Finding.{Holds, IsPlaced, IsSmall};
-ghost use Rattle.dds_cache.specs.Picking.{IsLimit, IsRequestWith, IsRequest, Picks};
+ghost use Rattle.dds_cache.specs.Finding.{Finds, Holds, IsPlaced, IsSmall};
+ghost use Rattle.dds_cache.specs.Picking.{IsLimit, IsRequestWith, IsRequest, Picks, test_in};
 ghost use Rattle.dds_cache.specs.Picking.{has_handle, first_above, of_selection};
 
 use crate::access::{Candidate, find_matching};
 use crate::kept::Kept;
+use crate::test::{Everything, Test};
 use dds_base::{Code, Handle, Masks, ReaderQos, Selection};
 use dds_instances::Instances;
-use std::alloc::Global;
+use std::alloc::{AllocError, Global};
 
 /// How many samples an access asks for at most, and which masks they have to meet.
 #[derive(Clone, Copy)]
@@ -115,28 +116,65 @@ fn cut_to(found: &mut Vec<Candidate>, max: Option<u32>)
     }
 }
 
-/// The kept samples that an access picks, with what is known of each before its ranks.
+/// The present samples that meet the masks and pass the test, but for the next sample: that is found without a test.
+fn find_asked<T: Test>(
+    alloc: Global,
+    instances: &Instances,
+    qos: &ReaderQos,
+    samples: &[Kept],
+    selection: &Selection,
+    masks: Masks,
+    test: &T,
+) -> Result<Vec<Candidate>, AllocError>
+    requires small { All IsSmall samples.now }
+    ensures placed { IfOk result (λ found. All (IsPlaced (length samples.now)) found.items) }
+    ensures found { IfOk result (λ found. (h : List Happening)
+        → Holds qos.now instances.now samples.now h
+        → Finds qos.now h masks (test_in selection.now (T.meaning test.now)) samples.now
+        found.items) }
+{
+    match *selection {
+        Selection::NextSample => {
+            find_matching(alloc, instances, qos, masks, &Everything, samples)
+        }
+        Selection::Any { .. } | Selection::Instance { .. } | Selection::NextInstance { .. } => {
+            find_matching(alloc, instances, qos, masks, test, samples)
+        }
+    }
+}
+
+/// The kept samples that an access picks by a test, with what is known of each before its ranks.
 ///
 /// # Errors
 ///
 /// `BadParameter` for a maximum that is neither -1 nor positive, and for an instance that is not known where it has to be;
 /// else `Memory` where a growth was refused.
-pub fn pick(
+pub fn pick<T: Test>(
     alloc: Global,
     instances: &Instances,
     qos: &ReaderQos,
     samples: &[Kept],
     selection: Selection,
+    test: &T,
 ) -> Result<Vec<Candidate>, Code>
     requires small { All IsSmall samples.now }
     ensures placed { IfOk result (λ found. All (IsPlaced (length samples.now)) found.items) }
     ensures picks { IfOk result (λ found. (h : List Happening)
-        → Holds qos.now instances.now samples.now h → Picks qos.now h selection samples.now found.items) }
+        → Holds qos.now instances.now samples.now h
+        → Picks qos.now h selection (T.meaning test.now) samples.now found.items) }
     ensures refused { IfErr result (λ e. (h : List Happening) → Stands qos.now instances.now h
         → Refuses (selection_refusal qos.now h selection) e) }
 {
     let request = request_by(instances, &selection)?;
-    let mut found = find_matching(alloc, instances, qos, request.masks, samples)?;
+    let mut found = find_asked(
+        alloc,
+        instances,
+        qos,
+        samples,
+        &selection,
+        request.masks,
+        test,
+    )?;
     restrict(&mut found, &selection);
     cut_to(&mut found, request.limit);
     Ok(found)

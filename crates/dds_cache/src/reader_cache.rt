@@ -1,19 +1,22 @@
 //! The samples of a reader and its instances, kept up with what happens.
 
-ghost use Rattle.std.specs.Prelude.{◌≡◌, ◌==◌, ℕ, ◌+◌, ◌≤◌, ◌∷◌, [], if◌then◌else◌, List, length, All, IsOk, OnOk, OnErr, IfOk, IfErr};
+ghost use Rattle.std.specs.Prelude.{◌≡◌, ◌==◌, ℕ, ◌+◌, ◌≤◌, ◌∷◌, [], if◌then◌else◌, nat_lt, List, length, All, IsOk, OnOk, OnErr, IfOk, IfErr};
 ghost use Rattle.dds_base.specs.declared.happening.Happening.{Happening};
 ghost use Rattle.dds_base.specs.declared.happening.Happening.TheVariants.{Came, Passed, Heard, Died, Read, Took};
 ghost use Rattle.dds_base.specs.declared.code.Code.TheVariants.{Memory, NoData};
-ghost use Rattle.dds_base.specs.Access.{instance_of, handle_of};
+ghost use Rattle.dds_base.specs.Access.{instance_of, handle_of, has_match};
 ghost use Rattle.dds_base.specs.Ownership.{IsMatched};
 ghost use Rattle.dds_base.specs.Presence.{has_room};
 ghost use Rattle.dds_base.specs.Refusal.{Refuses};
 ghost use Rattle.dds_base.specs.Selection.{selection_refusal};
+ghost use Rattle.dds_base.specs.StatusFlags.{data_available_at};
 ghost use Rattle.dds_instances.specs.Known.{IsReturnable};
 ghost use Rattle.dds_cache.specs.Kept.{HaveSame};
 ghost use Rattle.dds_cache.specs.Picking.{IsAccess};
-ghost use Rattle.dds_cache.specs.Standing.{deaths_of, qos_of, room_of, StandsFor, Answers, AfterAccess};
+ghost use Rattle.dds_cache.specs.Standing.{deaths_of, qos_of, room_of, StandsFor};
+ghost use Rattle.dds_cache.specs.Standing.{Answers, AfterAccess, AnswersWith, AfterAccessWith};
 
+use crate::access::is_any_match;
 use crate::arriving::{add_left, is_accepted_write};
 use crate::collection::{Access, gather};
 use crate::dying::add_markers;
@@ -22,8 +25,10 @@ use crate::pick::pick;
 use crate::returned::{mark_all, remove_all};
 use crate::room::{count_arrival, is_room};
 use crate::sweeping::{next_sweep, sweep};
+use crate::test::{Everything, Test};
 use dds_base::{
-    Arrival, Code, Handle, Key, Moment, ReaderQos, Sample, SamplePosition, Selection, Sequence, Sn,
+    Arrival, Code, Handle, Key, Masks, Moment, ReaderQos, Sample, SamplePosition, Selection,
+    Sequence, Sn,
 };
 use dds_instances::Instances;
 use std::alloc::Global;
@@ -48,6 +53,8 @@ pub struct ReaderCache {
     room: usize,
     /// For how many deaths there is memory, where nothing comes between.
     deaths: usize,
+    /// The position of the newest entry that brought a sample, if no read or take has followed it; 0 for none.
+    data_at: u64,
 }
 
 impl Model for ReaderCache {
@@ -80,6 +87,7 @@ impl ReaderCache {
             sweep_at: next_sweep(0),
             room: 0,
             deaths: 0,
+            data_at: 0,
         }
     }
 
@@ -165,6 +173,7 @@ impl ReaderCache {
         ensures deaths { deaths_of self.new + 1 ≡ deaths_of self.old }
     {
         let count = self.instances.len();
+        let before = self.samples.len();
         self.instances.died(writer).unwrap();
         add_markers(
             self.alloc,
@@ -174,6 +183,8 @@ impl ReaderCache {
             writer,
             moment,
         );
+        let newest = self.instances.happened();
+        self.data_at = data_after(self.data_at, before, self.samples.len(), newest);
         self.room = self.room.saturating_sub(1);
         self.deaths -= 1;
     }
@@ -186,6 +197,7 @@ impl ReaderCache {
         ensures room { room_of self.new + 1 ≡ room_of self.old }
     {
         let is_write = is_accepted_write(&self.instances, &self.qos, &arrival);
+        let before = self.samples.len();
         self.instances.come(&self.qos, &arrival).unwrap();
         add_left(
             self.alloc,
@@ -195,6 +207,8 @@ impl ReaderCache {
             arrival,
             is_write,
         );
+        let newest = self.instances.happened();
+        self.data_at = data_after(self.data_at, before, self.samples.len(), newest);
         self.arrivals = count_arrival(self.arrivals);
         self.room -= 1;
         self.deaths = 0;
@@ -363,10 +377,22 @@ impl ReaderCache {
         )
     }
 
-    /// What an access finds.
-    fn access(&self, selection: Selection) -> Result<Access, Code>
+    /// Whether some present sample meets the masks and passes the test. It needs no memory, and goes once over the samples.
+    ///
+    /// DDS 1.4, 2.2.2.5 (ReadCondition, QueryCondition: get_trigger_value).
+    pub fn has_match<T: Test>(&self, masks: Masks, test: &T) -> bool
+        // It is so by the definitions.
+        ensures matched { (h : List Happening) → StandsFor self.now h
+            → result ≡ has_match (qos_of self.now) h masks (T.meaning test.now) }
+    {
+        is_any_match(&self.instances, &self.qos, masks, test, &self.samples)
+    }
+
+    /// What an access by a test finds.
+    fn access<T: Test>(&self, selection: Selection, test: &T) -> Result<Access, Code>
         ensures found { IfOk result (λ access. (h : List Happening) → StandsFor self.now h
-            → IsAccess (qos_of self.now) h selection access.positions.items access.samples.items) }
+            → IsAccess (qos_of self.now) h selection (T.meaning test.now)
+            access.positions.items access.samples.items) }
         ensures set { IfOk result (λ access. HaveSame access.returned.keys access.positions.items) }
         ensures refused { IfErr result (λ e. (h : List Happening) → StandsFor self.now h
             → Refuses (selection_refusal (qos_of self.now) h selection) e) }
@@ -377,6 +403,7 @@ impl ReaderCache {
             &self.qos,
             &self.samples,
             selection,
+            test,
         )?;
         let access = gather(self.alloc, &self.samples, &found)?;
         Ok(access)
@@ -397,6 +424,7 @@ impl ReaderCache {
         mark_all(&mut self.samples, &access.returned);
         self.room = self.room.saturating_sub(1);
         self.deaths = 0;
+        self.data_at = 0;
         Ok(())
     }
 
@@ -415,6 +443,7 @@ impl ReaderCache {
         remove_all(&mut self.samples, &access.returned);
         self.room = self.room.saturating_sub(1);
         self.deaths = 0;
+        self.data_at = 0;
         Ok(())
     }
 
@@ -438,7 +467,35 @@ impl ReaderCache {
         // It takes the room of one entry at most.
         ensures room { room_of self.old ≤ room_of self.new + 1 }
     {
-        let access = self.access(selection)?;
+        self.read_by(selection, &Everything)
+    }
+
+    /// Reads the present samples that the selection asks for and that pass the test. They stay, and are READ from then on.
+    /// The next sample is picked without the test.
+    ///
+    /// # Errors
+    ///
+    /// As those of `read`.
+    ///
+    /// DDS 1.4, 2.2.2.5 (read_w_condition, read_next_instance_w_condition).
+    pub fn read_by<T: Test>(
+        &mut self,
+        selection: Selection,
+        test: &T,
+    ) -> Result<Sequence<Sample>, Code>
+        // The samples are those that the definitions pick by the test of what happened, or there is none; or it is
+        // refused by the first cause that there is, or for want of memory.
+        ensures answer { (h : List Happening) → StandsFor self.old h
+            → AnswersWith self.old h selection (T.meaning test.now) result }
+        // The read is entered, and nothing else; one that is refused is not.
+        ensures after { (h : List Happening) → StandsFor self.old h
+            → AfterAccessWith Read self.old h selection (T.meaning test.now) result self.new }
+        // The policies stay.
+        ensures qos { qos_of self.new ≡ qos_of self.old }
+        // It takes the room of one entry at most.
+        ensures room { room_of self.old ≤ room_of self.new + 1 }
+    {
+        let access = self.access(selection, test)?;
         self.enter_read(&access)?;
         answer_of(access)
     }
@@ -463,7 +520,35 @@ impl ReaderCache {
         // It takes the room of one entry at most.
         ensures room { room_of self.old ≤ room_of self.new + 1 }
     {
-        let access = self.access(selection)?;
+        self.take_by(selection, &Everything)
+    }
+
+    /// Takes the present samples that the selection asks for and that pass the test. They are gone from then on.
+    /// The next sample is picked without the test.
+    ///
+    /// # Errors
+    ///
+    /// As those of `take`.
+    ///
+    /// DDS 1.4, 2.2.2.5 (take_w_condition, take_next_instance_w_condition).
+    pub fn take_by<T: Test>(
+        &mut self,
+        selection: Selection,
+        test: &T,
+    ) -> Result<Sequence<Sample>, Code>
+        // The samples are those that the definitions pick by the test of what happened, or there is none; or it is
+        // refused by the first cause that there is, or for want of memory.
+        ensures answer { (h : List Happening) → StandsFor self.old h
+            → AnswersWith self.old h selection (T.meaning test.now) result }
+        // The take is entered, and nothing else; one that is refused is not.
+        ensures after { (h : List Happening) → StandsFor self.old h
+            → AfterAccessWith Took self.old h selection (T.meaning test.now) result self.new }
+        // The policies stay.
+        ensures qos { qos_of self.new ≡ qos_of self.old }
+        // It takes the room of one entry at most.
+        ensures room { room_of self.old ≤ room_of self.new + 1 }
+    {
+        let access = self.access(selection, test)?;
         self.enter_take(&access)?;
         answer_of(access)
     }
@@ -489,6 +574,34 @@ impl ReaderCache {
     {
         self.instances.handle(key)
     }
+
+    /// The position of the newest entry that brought a sample, if no read or take has followed it; 0 for none, where
+    /// DATA_AVAILABLE is not raised. It needs no memory.
+    ///
+    /// DDS 1.4, 2.2.4.1 (DATA_AVAILABLE), 2.2.4.2.2 (changes in read communication statuses).
+    pub fn data_at(&self) -> u64
+        // It is so by the definitions: a write that was accepted brings one, and an entry that ends an instance.
+        ensures position { (h : List Happening) → StandsFor self.now h
+            → result ≡ data_available_at (qos_of self.now) h }
+    {
+        self.data_at
+    }
+
+    /// How many entries were taken up: the position of the newest. It needs no memory.
+    pub fn happened(&self) -> u64
+        // It is the number of all that happened.
+        ensures entries { (h : List Happening) → StandsFor self.now h → result ≡ length h }
+    {
+        self.instances.happened()
+    }
+}
+
+/// The position of the newest entry that brought a sample, by what it was before an entry, how many samples were kept
+/// before and after it, and its position.
+fn data_after(data_at: u64, before: usize, after: usize, position: u64) -> u64
+    ensures newest { result ≡ (if nat_lt before after then position else data_at) }
+{
+    if before < after { position } else { data_at }
 }
 
 /// The samples of an access, or that there is none.

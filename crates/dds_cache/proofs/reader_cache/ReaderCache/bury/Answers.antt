@@ -1,4 +1,4 @@
-use Rattle.std.proofs.Common.{List, ℕ, ◌≡◌, ◌∷◌, length, sym, subst, refl, ◌∙◌, ap}
+use Rattle.std.proofs.Common.{List, ℕ, ◌≡◌, ◌+◌, ◌∷◌, length, sym, subst, refl, ◌∙◌, ap, arith}
 use Rattle.std.proofs.lemmas.List.{append-nil}
 use Rattle.std.specs.Prelude.{OnOk, Result}
 use Rattle.dds_base.specs.declared.happening.Happening.TheVariants.{Died}
@@ -11,6 +11,7 @@ use Rattle.dds_instances.specs.Table.{Stands}
 use Rattle.dds_cache.specs.Kept.{Adds}
 use Rattle.dds_cache.specs.Standing.{Stored, StandsFor}
 use Rattle.dds_cache.specs.Sound.{stored_of}
+use Rattle.dds_cache.proofs.DataLaws.{noted-by}
 use Rattle.dds_cache.proofs.StandingLaws.{stands-added, fresh}
 use Rattle.dds_cache.proofs.reader_cache.ReaderCache.bury.Goals as goal
 
@@ -28,5 +29,8 @@ returns-clause-stands c = λ h stands.
     ∙ ap (λ (ks : List Key). length ks) (sym (append-nil (known_instances q h))) in
     let adds : Adds q (Died c.args.writer c.args.moment) h c.self.inside.samples.items c.add_markers.new.samples.items =
     c.add_markers.ensures.samples q h died count (λ i. fresh (stored_of c.self.inside) h i old) in
+    let at : c.happened-newest.result ≡ length h + 1 = c.happened-newest.ensures.happened q g died ∙ (let more : length g ≡ length h + 1 = omega arith in more) in
+    let noted = c.data_after-self-inside.ensures.newest ∙ noted-by _ _ _ _ _ _ c.self.inside.data_at
+    (c.len-before.ensures ∙ c.self.inside.samples.ok.0) (c.len.ensures ∙ c.add_markers.new.samples.ok.0) at in
     stands-added q (Died c.args.writer c.args.moment) h (stored_of c.self.inside) _ refl refl refl refl
-    old.arrivals_are died adds old
+    old.arrivals_are refl noted died adds old

@@ -28,4 +28,4 @@ returns-clause-ok c = λ h stands each.
     let old : StandsFor (stored_of c.self.inside) h = subst (λ (t : Stored). StandsFor t h) (sym c.self.view_is) stands in
     let fits : All (IsReturnable q h) ss = subst (λ (t : Stored). All (IsReturnable t.qos h) ss) (sym c.self.view_is) each in
     let came : Stands q c.returned.new.self (Read ss ∷ h) = subst (λ (xs : List SamplePosition). Stands q c.returned.new.self (Read xs ∷ h)) c.deref.ensures.value (c.in_ok-returned.ensures.read q h old.instances (subst (λ (xs : List SamplePosition). All (IsReturnable q h) xs) (sym c.deref.ensures.value) fits)) in
-    stands-read q ss h (stored_of c.self.inside) _ refl refl refl (past-all q h ss fits) came (c.mark_all.ensures.items ∙ marked-same c.args.access.now.returned.keys ss c.self.inside.samples.items c.requires.set) old
+    stands-read q ss h (stored_of c.self.inside) _ refl refl refl refl (past-all q h ss fits) came (c.mark_all.ensures.items ∙ marked-same c.args.access.now.returned.keys ss c.self.inside.samples.items c.requires.set) old
