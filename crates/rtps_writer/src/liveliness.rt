@@ -2,7 +2,7 @@
 //!
 //! DDS 1.4, 2.2.3 (LIVELINESS), 2.2.4.1 (LIVELINESS_LOST).
 
-ghost use Rattle.std.specs.Prelude.{◌≡◌, ℕ, List, [], ◌∷◌, Option, Bool};
+ghost use Rattle.std.specs.Prelude.{◌≡◌, ℕ, List, [], ◌∷◌, Option, Bool, nat_lt};
 ghost use Rattle.dds_base.specs.declared.change.Change.{Change};
 ghost use Rattle.dds_base.specs.Written.{Written, Registered, Changed, Asserted, LookedAt, Ticked, is_over, liveliness_lost_status};
 ghost use Rattle.rtps_writer.specs.Liveliness.{IsLiveliness};
@@ -82,5 +82,13 @@ impl Liveliness {
         };
         self.losses_seen = self.losses;
         status
+    }
+
+    /// Whether it was lost since the application looked.
+    pub fn is_lost(&self) -> bool
+        ensures { (lease : Option ℕ) (c : List Written) → IsLiveliness self.now lease c
+            → result ≡ nat_lt 0 (liveliness_lost_status lease c).total_count_change }
+    {
+        self.losses_seen < self.losses
     }
 }

@@ -1,6 +1,6 @@
 //! A writer with its matched reliable readers.
 
-ghost use Rattle.std.specs.Prelude.{◌≡◌, ◌≤◌, ◌<◌, ◌+◌, ◌-◌, ◌^◌, pos, [], length, vec_capacity, None, Some, IfOk, IfErr, OnOk, OnErr};
+ghost use Rattle.std.specs.Prelude.{◌≡◌, ◌≤◌, ◌<◌, ◌+◌, ◌-◌, ◌^◌, pos, [], nat_lt, length, vec_capacity, None, Some, IfOk, IfErr, OnOk, OnErr};
 ghost use Rattle.std.specs.Option.{option_copied};
 ghost use Rattle.dds_base.specs.declared.code.Code.TheVariants.{Memory};
 ghost use Rattle.dds_base.specs.Kept.{WriterHistory, append_refusal, first_kept, kept_change};
@@ -316,6 +316,17 @@ impl StatefulWriter {
         ensures readers { reader_count self.new ≡ reader_count self.old }
     {
         self.liveliness.look()
+    }
+
+    /// Whether its liveliness was lost since LIVELINESS_LOST was looked at.
+    ///
+    /// DDS 1.4, 2.2.4.1 (LIVELINESS_LOST), 2.2.4.2 (changes in status).
+    pub fn is_lost(&self) -> bool
+        // So it is while the status of the definitions has a change to tell.
+        ensures { (s : WriterState) → StandsFor self.now s
+            → result ≡ nat_lt 0 (liveliness_lost_status s.lease s.written).total_count_change }
+    {
+        self.liveliness.is_lost()
     }
 
     /// The time of its peer has gone on: the HEARTBEAT that this asks for, if some reader has not acknowledged all
