@@ -1,1 +1,2 @@
 pub mod Attached
+pub mod Watched

@@ -1,6 +1,6 @@
 //! The conditions of a peer.
 
-use dds_base::Entity;
+use dds_base::{Entity, Masks};
 
 /// A condition of a peer.
 ///
@@ -11,4 +11,15 @@ pub enum Cond {
     Status(Entity),
     /// The read condition, query condition or guard condition that was made with this number, from 1.
     Made(u32),
+}
+
+/// A condition that was made.
+///
+/// DDS 1.4, 2.2.2.1 (GuardCondition), 2.2.2.5 (ReadCondition).
+#[derive(Clone, Copy, Debug, PartialEq, Eq)]
+pub enum Condition {
+    /// A read condition: whether a present sample of this reader meets the masks.
+    Samples { reader: u8, masks: Masks },
+    /// A guard condition, with the value that the application gave it.
+    Guard(bool),
 }

@@ -7,7 +7,10 @@
 mod condition;
 mod filter;
 mod wait_set;
+mod waiting;
+mod watch;
 
-pub use condition::Cond;
+pub use condition::{Cond, Condition};
 pub use filter::Filter;
 pub use wait_set::WaitSet;
+pub use watch::Watch;

@@ -2,6 +2,7 @@
 
 ghost use Rattle.std.specs.Prelude.{◌≡◌, [], Bool, true, filter, IsOk, IfOk, IfErr, OnOk, OnErr, None, Some};
 ghost use Rattle.std.specs.Fn.{CalledAt};
+ghost use Rattle.std.specs.List.{list_any};
 ghost use Rattle.dds_base.specs.declared.code.Code.TheVariants.{Memory};
 ghost use Rattle.dds_conditions.specs.declared.condition.Cond.{Cond};
 ghost use Rattle.dds_conditions.specs.Attached.{active_of, attached, detach_refusal, detached, is_attached};
@@ -64,7 +65,8 @@ impl WaitSet {
         // The only refusal is for want of memory.
         ensures memory { IfErr result (λ code. code ≡ Memory) }
     {
-        if !self.conditions.contains(&condition) {
+        let is_new = !self.conditions.contains(&condition);
+        if is_new {
             self.conditions.push(condition)?;
         }
         Ok(())
@@ -87,12 +89,32 @@ impl WaitSet {
         // A refusal is for its cause.
         ensures refused { IfErr result (λ code. detach_refusal condition self.old ≡ Some code) }
     {
-        let is_attached = self.conditions.contains(&condition);
-        if !is_attached {
+        if !self.conditions.contains(&condition) {
             return Err(Code::PreconditionNotMet);
         }
-        self.conditions.retain(|other| *other != condition);
+        self.forget(condition);
         Ok(())
+    }
+
+    /// Detaches a condition, if it is attached.
+    pub(crate) fn forget(&mut self, condition: Cond)
+        ensures { self.new ≡ detached condition self.old }
+    {
+        self.conditions.retain(|other| *other != condition);
+    }
+
+    /// Whether some attached condition has a trigger value that is true. `is_true` tells the trigger value of each.
+    ///
+    /// DDS 1.4, 2.2.2.1 (wait; get_trigger_value).
+    pub fn is_active<T: FnMut(&Cond) -> bool>(&self, is_true: T) -> bool
+        requires { T.IsAlwaysCallable is_true }
+        // If the test tells these trigger values, and stays the same, one is true by these.
+        ensures { (trigger : Cond → Bool)
+            → ((c : Cond) (answer : Bool) (after : T) → CalledAt T.FnMut is_true c answer after
+            → (answer ≡ trigger c) × (after ≡ is_true))
+            → result ≡ list_any trigger self.now }
+    {
+        self.conditions.iter().any(is_true)
     }
 
     /// The attached conditions whose trigger value is true, in the order in which they were attached. `is_true` tells

@@ -1,0 +1,536 @@
+//! What the application of a peer watches.
+//!
+//! DDS 1.4, 2.2.2.1 (Condition, WaitSet).
+
+ghost use Rattle.std.specs.Prelude.{◌≡◌, ◌⊎◌, ℕ, nat_le, replicate, ◌+◌, ◌-◌, ◌<◌, ◌≤◌, length, map, Bool, None, Some, true, false, OnOk, OnErr, IfOk, IfErr, IfSome, IfNone, is_some};
+ghost use Rattle.std.specs.List.{list_any};
+ghost use Rattle.std.specs.Option.{option_copied};
+ghost use Rattle.dds_notices.specs.declared.mask.StatusMask.{StatusMask as Mask};
+ghost use Rattle.std.specs.Fn.{CalledAt};
+ghost use Rattle.dds_base.specs.declared.code.Code.TheVariants.{Memory};
+ghost use Rattle.dds_base.specs.Refusal.{Refuses};
+ghost use Rattle.dds_conditions.specs.declared.condition.Cond.{Cond as CondOf};
+ghost use Rattle.dds_conditions.specs.declared.condition.Condition.TheVariants.{Guard as IsGuard};
+ghost use Rattle.dds_conditions.specs.Attached.{active_of, is_attached};
+ghost use Rattle.dds_conditions.specs.Watched.{attach_refusal, conditions_in, conditions_of, detaching_refusal, enabled_of, free_refusal, guard_refusal, is_number, is_timed_out, knows, knows_entity, every_status, made, number_refusal, opened, unless_there, use_refusal, with_attached, with_condition, with_condition_at, with_deadline, with_detached, with_enabled, with_made, with_wait_set, with_wait_set_at, without, without_condition};
+
+use crate::condition::{Cond, Condition};
+use crate::wait_set::WaitSet;
+use crate::waiting::Waiting;
+use dds_base::{Code, Entity, Moment, Sequence};
+use dds_notices::StatusMask;
+use std::alloc::{AllocError, Global};
+use std::marker::Model;
+
+/// What the application of a peer watches: the conditions that it made, its WaitSets, and which statuses of which entity
+/// are enabled. Conditions and WaitSets are numbered from 1 to 2^32 - 1, and no number is given twice.
+///
+/// DDS 1.4, 2.2.2.1 (Condition, WaitSet, StatusCondition).
+#[derive(Drop)]
+pub struct Watch {
+    alloc: Global,
+    conditions: Vec<Option<Condition>>,
+    wait_sets: Vec<Option<Waiting>>,
+    participant: StatusMask,
+    writers: Vec<StatusMask>,
+    readers: Vec<StatusMask>,
+}
+
+impl Model for Watch {
+    ghost use Rattle.dds_conditions.specs.Watched.{Watched};
+
+    ghost Value = { Watched };
+
+    ghost view = { λ w. record {
+      conditions = w.conditions.items;
+      wait_sets = w.wait_sets.items;
+      participant = w.participant;
+      writers = w.writers.items;
+      readers = w.readers.items;
+    } };
+}
+
+/// Whether there is something of this number, counted from 1, among so many.
+fn is_number_of(number: u8, count: usize) -> bool
+    ensures { result ≡ is_number number count }
+{
+    0 < number && usize::from(number) <= count
+}
+
+/// As many entities, of each of which all statuses are enabled.
+fn all_enabled(alloc: Global, count: usize) -> Result<Vec<StatusMask>, AllocError>
+    ensures { IfOk result (λ masks. masks.items ≡ replicate count every_status) }
+{
+    let mut masks = Vec::with_capacity(alloc, count)?;
+    for _ in 0..count {
+        masks.push(StatusMask::ANY)?;
+    }
+    Ok(masks)
+}
+
+impl Watch {
+    /// Of a peer with so many writers and readers: nothing was made, and all statuses are enabled.
+    ///
+    /// # Errors
+    ///
+    /// Where a growth was refused.
+    pub fn open(alloc: Global, writers: usize, readers: usize) -> Result<Watch, AllocError>
+        ensures { IfOk result (λ watch. watch ≡ opened writers readers) }
+    {
+        Ok(Watch {
+            alloc,
+            conditions: Vec::new(alloc),
+            wait_sets: Vec::new(alloc),
+            participant: StatusMask::ANY,
+            writers: all_enabled(alloc, writers)?,
+            readers: all_enabled(alloc, readers)?,
+        })
+    }
+
+    /// The condition of this number, if there is one.
+    pub fn condition(&self, number: u32) -> Option<Condition>
+        // It was made with this number, and was not deleted.
+        ensures { result ≡ made self.now.conditions number }
+    {
+        if number == 0 {
+            return None;
+        }
+        match self.conditions.get(number as usize - 1) {
+            Some(condition) => *condition,
+            None => None,
+        }
+    }
+
+    /// Whether there is such a condition.
+    pub fn knows(&self, condition: Cond) -> bool
+        ensures { result ≡ knows self.now condition }
+    {
+        match condition {
+            Cond::Status(entity) => self.knows_entity(entity),
+            Cond::Made(number) => self.condition(number).is_some(),
+        }
+    }
+
+    /// Whether there is such an entity.
+    pub fn knows_entity(&self, entity: Entity) -> bool
+        ensures { result ≡ knows_entity self.now entity }
+    {
+        match entity {
+            Entity::Participant => true,
+            Entity::Writer(number) => is_number_of(number, self.writers.len()),
+            Entity::Reader(number) => is_number_of(number, self.readers.len()),
+        }
+    }
+
+    /// Makes a condition, and gives its number.
+    ///
+    /// # Errors
+    ///
+    /// `OutOfResources` where no number is left, else `Memory` where a growth was refused; nothing was made then.
+    ///
+    /// DDS 1.4, 2.2.2.1 (GuardCondition), 2.2.2.5 (create_readcondition).
+    pub fn create(&mut self, condition: Condition) -> Result<u32, Code>
+        // It is the last one, by the next number.
+        ensures ok { OnOk result (self.new ≡ with_condition self.old condition) }
+        ensures number { IfOk result (λ number. number ≡ length self.old.conditions + 1) }
+        // A number was left.
+        ensures taken { OnOk result (number_refusal self.old.conditions ≡ None) }
+        // A refusal is for its cause, or for want of memory, and changes nothing.
+        ensures refused { IfErr result (λ code. Refuses (number_refusal self.old.conditions) code) }
+        ensures err { OnErr result (self.new ≡ self.old) }
+    {
+        if self.conditions.len() >= u32::MAX as usize {
+            return Err(Code::OutOfResources);
+        }
+        self.conditions.push(Some(condition))?;
+        Ok(self.conditions.len() as u32)
+    }
+
+    /// Gives a guard condition this value.
+    ///
+    /// # Errors
+    ///
+    /// `BadParameter` where there is no such condition, `PreconditionNotMet` where it is no guard; nothing changes then.
+    ///
+    /// DDS 1.4, 2.2.2.1 (GuardCondition, set_trigger_value).
+    pub fn set_guard(&mut self, number: u32, value: bool) -> Result<(), Code>
+        // It has the value, and the others are as before.
+        ensures ok { OnOk result (self.new ≡ with_condition_at self.old number (Some (IsGuard value))) }
+        // A refusal is for its cause, and changes nothing.
+        ensures taken { OnOk result (guard_refusal (made self.old.conditions number) ≡ None) }
+        ensures refused { IfErr result (λ code. guard_refusal (made self.old.conditions number) ≡ Some code) }
+        ensures err { OnErr result (self.new ≡ self.old) }
+    {
+        match self.condition(number) {
+            Some(Condition::Guard(_)) => {}
+            Some(_) => return Err(Code::PreconditionNotMet),
+            None => return Err(Code::BadParameter),
+        }
+        self.conditions[number as usize - 1] = Some(Condition::Guard(value));
+        Ok(())
+    }
+
+    /// Deletes a condition: it is detached from each WaitSet, and its number is unknown from then on.
+    ///
+    /// # Errors
+    ///
+    /// `BadParameter` where there is no such condition.
+    ///
+    /// DDS 1.4, 2.2.2.5 (delete_readcondition).
+    pub fn delete(&mut self, number: u32) -> Result<(), Code>
+        // It is gone, and attached nowhere.
+        ensures ok { OnOk result (self.new ≡ without_condition self.old number) }
+        // A refusal is for its cause, and changes nothing.
+        ensures taken { OnOk result (unless_there (is_some (made self.old.conditions number)) ≡ None) }
+        ensures refused { IfErr result (λ code. unless_there (is_some (made self.old.conditions number)) ≡ Some code) }
+        ensures err { OnErr result (self.new ≡ self.old) }
+    {
+        if self.condition(number).is_none() {
+            return Err(Code::BadParameter);
+        }
+        self.conditions[number as usize - 1] = None;
+        detach_all(self.wait_sets.as_mut_slice(), Cond::Made(number));
+        Ok(())
+    }
+
+    /// Makes a WaitSet with no conditions, and gives its number.
+    ///
+    /// # Errors
+    ///
+    /// `OutOfResources` where no number is left, else `Memory` where a growth was refused; nothing was made then.
+    ///
+    /// DDS 1.4, 2.2.2.1 (WaitSet).
+    pub fn create_wait_set(&mut self) -> Result<u32, Code>
+        // It is the last one, by the next number.
+        ensures ok { OnOk result (self.new ≡ with_wait_set self.old) }
+        ensures number { IfOk result (λ number. number ≡ length self.old.wait_sets + 1) }
+        // A number was left.
+        ensures taken { OnOk result (number_refusal self.old.wait_sets ≡ None) }
+        // A refusal is for its cause, or for want of memory, and changes nothing.
+        ensures refused { IfErr result (λ code. Refuses (number_refusal self.old.wait_sets) code) }
+        ensures err { OnErr result (self.new ≡ self.old) }
+    {
+        if self.wait_sets.len() >= u32::MAX as usize {
+            return Err(Code::OutOfResources);
+        }
+        self.wait_sets.push(Some(Waiting {
+            conditions: WaitSet::open(self.alloc),
+            deadline: None,
+        }))?;
+        Ok(self.wait_sets.len() as u32)
+    }
+
+    /// Deletes a WaitSet: its number is unknown from then on.
+    ///
+    /// # Errors
+    ///
+    /// `BadParameter` where there is no such WaitSet, `PreconditionNotMet` where somebody waits in it; nothing changes then.
+    ///
+    /// DDS 1.4, 2.2.2.1 (WaitSet).
+    pub fn delete_wait_set(&mut self, number: u32) -> Result<(), Code>
+        // It is gone, and the others are as before.
+        ensures ok { OnOk result (self.new ≡ with_wait_set_at self.old number None) }
+        // A refusal is for its cause, and changes nothing.
+        ensures taken { OnOk result (free_refusal (made self.old.wait_sets number) ≡ None) }
+        ensures refused { IfErr result (λ code. free_refusal (made self.old.wait_sets number) ≡ Some code) }
+        ensures err { OnErr result (self.new ≡ self.old) }
+    {
+        let Some(index) = index_of(number, self.wait_sets.len()) else {
+            return Err(Code::BadParameter);
+        };
+        free(&self.wait_sets[index])?;
+        self.wait_sets[index] = None;
+        Ok(())
+    }
+
+    /// Attaches a condition to a WaitSet, as its last one. One that is attached already stays where it is.
+    ///
+    /// # Errors
+    ///
+    /// `BadParameter` where there is no such WaitSet or no such condition, else `Memory` where a growth was refused, which
+    /// only one that was not attached needs; nothing changes then.
+    ///
+    /// DDS 1.4, 2.2.2.1 (attach_condition).
+    pub fn attach(&mut self, number: u32, condition: Cond) -> Result<(), Code>
+        // It is attached, and the others are as before.
+        ensures ok { OnOk result (self.new ≡ with_attached self.old number condition) }
+        // A refusal is for its cause, or for want of memory, and changes nothing.
+        ensures taken { OnOk result (attach_refusal self.old number condition ≡ None) }
+        ensures refused { IfErr result (λ code. Refuses (attach_refusal self.old number condition) code) }
+        ensures again { is_attached condition (conditions_of self.old number) ≡ true
+            → IfErr result (λ code. attach_refusal self.old number condition ≡ Some code) }
+        ensures err { OnErr result (self.new ≡ self.old) }
+    {
+        let is_known = self.knows(condition);
+        let Some(index) = index_of(number, self.wait_sets.len()) else {
+            return Err(Code::BadParameter);
+        };
+        match &mut self.wait_sets[index] {
+            Some(waiting) if is_known => waiting.conditions.attach(condition),
+            _ => Err(Code::BadParameter),
+        }
+    }
+
+    /// Detaches a condition from a WaitSet.
+    ///
+    /// # Errors
+    ///
+    /// `BadParameter` where there is no such WaitSet or no such condition, `PreconditionNotMet` where it is not attached;
+    /// nothing changes then.
+    ///
+    /// DDS 1.4, 2.2.2.1 (detach_condition).
+    pub fn detach(&mut self, number: u32, condition: Cond) -> Result<(), Code>
+        // It is no longer attached, and the others are as before.
+        ensures ok { OnOk result (self.new ≡ with_detached self.old number condition) }
+        // A refusal is for its cause, and changes nothing.
+        ensures taken { OnOk result (detaching_refusal self.old number condition ≡ None) }
+        ensures refused { IfErr result (λ code. detaching_refusal self.old number condition ≡ Some code) }
+        ensures err { OnErr result (self.new ≡ self.old) }
+    {
+        let is_known = self.knows(condition);
+        let Some(index) = index_of(number, self.wait_sets.len()) else {
+            return Err(Code::BadParameter);
+        };
+        match &mut self.wait_sets[index] {
+            Some(waiting) if is_known => waiting.conditions.detach(condition),
+            _ => Err(Code::BadParameter),
+        }
+    }
+
+    /// The conditions of a WaitSet, in the order in which they were attached.
+    ///
+    /// # Errors
+    ///
+    /// `BadParameter` where there is no such WaitSet, else `Memory` where a growth was refused.
+    ///
+    /// DDS 1.4, 2.2.2.1 (get_conditions).
+    pub fn conditions(&self, number: u32) -> Result<Sequence<Cond>, Code>
+        ensures ok { IfOk result (λ conditions. conditions ≡ conditions_of self.now number) }
+        ensures taken { OnOk result (unless_there (is_some (made self.now.wait_sets number)) ≡ None) }
+        ensures refused { IfErr result (λ code. Refuses (unless_there (is_some (made self.now.wait_sets number))) code) }
+    {
+        let waiting = self.wait_set(number).ok_or(Code::BadParameter)?;
+        let conditions = Vec::from_slice(self.alloc, waiting.conditions.conditions())?;
+        Ok(Sequence::from_vec(conditions))
+    }
+
+    /// The WaitSet of this number, if there is one.
+    fn wait_set(&self, number: u32) -> Option<&Waiting>
+        ensures { option_copied result ≡ made self.now.wait_sets number }
+    {
+        if number == 0 {
+            return None;
+        }
+        match self.wait_sets.get(number as usize - 1) {
+            Some(Some(waiting)) => Some(waiting),
+            _ => None,
+        }
+    }
+
+    /// Somebody waits in a WaitSet, up to this moment.
+    ///
+    /// # Errors
+    ///
+    /// `BadParameter` where there is no such WaitSet, `PreconditionNotMet` where somebody waits in it already; nothing
+    /// changes then.
+    ///
+    /// DDS 1.4, 2.2.2.1 (wait).
+    pub fn begin(&mut self, number: u32, deadline: Moment) -> Result<(), Code>
+        ensures ok { OnOk result (self.new ≡ with_deadline self.old number (Some deadline)) }
+        // A refusal is for its cause, and changes nothing.
+        ensures taken { OnOk result (free_refusal (made self.old.wait_sets number) ≡ None) }
+        ensures refused { IfErr result (λ code. free_refusal (made self.old.wait_sets number) ≡ Some code) }
+        ensures err { OnErr result (self.new ≡ self.old) }
+    {
+        let Some(place) = index_of(number, self.wait_sets.len()) else {
+            return Err(Code::BadParameter);
+        };
+        free(&self.wait_sets[place])?;
+        if let Some(waiting) = &mut self.wait_sets[place] {
+            waiting.deadline = Some(deadline);
+        }
+        Ok(())
+    }
+
+    /// Nobody waits in a WaitSet any more.
+    ///
+    /// # Errors
+    ///
+    /// `BadParameter` where there is no such WaitSet, `PreconditionNotMet` where nobody waits in it; nothing changes then.
+    ///
+    /// DDS 1.4, 2.2.2.1 (wait).
+    pub fn end(&mut self, number: u32) -> Result<(), Code>
+        ensures ok { OnOk result (self.new ≡ with_deadline self.old number None) }
+        // A refusal is for its cause, and changes nothing.
+        ensures taken { OnOk result (use_refusal (made self.old.wait_sets number) ≡ None) }
+        ensures refused { IfErr result (λ code. use_refusal (made self.old.wait_sets number) ≡ Some code) }
+        ensures err { OnErr result (self.new ≡ self.old) }
+    {
+        let Some(index) = index_of(number, self.wait_sets.len()) else {
+            return Err(Code::BadParameter);
+        };
+        used(&self.wait_sets[index])?;
+        if let Some(waiting) = &mut self.wait_sets[index] {
+            waiting.deadline = None;
+        }
+        Ok(())
+    }
+
+    /// Up to which moment somebody waits in a WaitSet.
+    ///
+    /// # Errors
+    ///
+    /// `BadParameter` where there is no such WaitSet, `PreconditionNotMet` where nobody waits in it.
+    ///
+    /// DDS 1.4, 2.2.2.1 (wait: timeout).
+    pub fn deadline(&self, number: u32) -> Result<Moment, Code>
+        ensures ok { IfOk result (λ moment. (now : ℕ) → is_timed_out (made self.now.wait_sets number) now ≡ nat_le moment now) }
+        ensures taken { OnOk result (use_refusal (made self.now.wait_sets number) ≡ None) }
+        ensures refused { IfErr result (λ code. use_refusal (made self.now.wait_sets number) ≡ Some code) }
+    {
+        let waiting = self.wait_set(number).ok_or(Code::BadParameter)?;
+        waiting.deadline.ok_or(Code::PreconditionNotMet)
+    }
+
+    /// Whether some condition of a WaitSet has a trigger value that is true; `false` where there is no such WaitSet.
+    /// `is_true` tells the trigger value of each.
+    ///
+    /// DDS 1.4, 2.2.2.1 (wait; get_trigger_value).
+    pub fn is_active<T: FnMut(&Cond) -> bool>(&self, number: u32, is_true: T) -> bool
+        requires { T.IsAlwaysCallable is_true }
+        // If the test tells these trigger values, and stays the same, one is true by these.
+        ensures { (trigger : CondOf → Bool)
+            → ((c : CondOf) (answer : Bool) (after : T) → CalledAt T.FnMut is_true c answer after
+            → (answer ≡ trigger c) × (after ≡ is_true))
+            → result ≡ list_any trigger (conditions_of self.now number) }
+    {
+        match self.wait_set(number) {
+            Some(waiting) => waiting.conditions.is_active(is_true),
+            None => false,
+        }
+    }
+
+    /// The conditions of a WaitSet whose trigger value is true, in the order in which they were attached; none where there
+    /// is no such WaitSet. `is_true` tells the trigger value of each.
+    ///
+    /// # Errors
+    ///
+    /// `Memory` where a growth was refused.
+    ///
+    /// DDS 1.4, 2.2.2.1 (wait: active_conditions).
+    pub fn active<T: FnMut(&Cond) -> bool>(
+        &self,
+        number: u32,
+        is_true: T,
+    ) -> Result<Sequence<Cond>, Code>
+        requires { T.IsAlwaysCallable is_true }
+        // If the test tells these trigger values, and stays the same, they are those that are true by these.
+        ensures ok { (trigger : CondOf → Bool)
+            → ((c : CondOf) (answer : Bool) (after : T) → CalledAt T.FnMut is_true c answer after
+            → (answer ≡ trigger c) × (after ≡ is_true))
+            → IfOk result (λ active. active ≡ active_of trigger (conditions_of self.now number)) }
+        // The only refusal is for want of memory.
+        ensures memory { IfErr result (λ code. code ≡ Memory) }
+    {
+        match self.wait_set(number) {
+            Some(waiting) => waiting.conditions.active(is_true),
+            None => Ok(Sequence::from_vec(Vec::new(self.alloc))),
+        }
+    }
+
+    /// Which statuses of an entity are enabled, if there is such an entity.
+    ///
+    /// DDS 1.4, 2.2.2.1 (StatusCondition, get_enabled_statuses).
+    pub fn enabled(&self, entity: Entity) -> Option<StatusMask>
+        ensures there { IfSome result (λ mask. (knows_entity self.now entity ≡ true) × ((none : Mask) → mask ≡ enabled_of self.now entity none)) }
+        ensures none { IfNone result (knows_entity self.now entity ≡ false) }
+    {
+        if !self.knows_entity(entity) {
+            return None;
+        }
+        Some(match entity {
+            Entity::Participant => self.participant,
+            Entity::Writer(number) => self.writers[usize::from(number) - 1],
+            Entity::Reader(number) => self.readers[usize::from(number) - 1],
+        })
+    }
+
+    /// Enables these statuses of an entity, and no others.
+    ///
+    /// # Errors
+    ///
+    /// `BadParameter` where there is no such entity; nothing changes then.
+    ///
+    /// DDS 1.4, 2.2.2.1 (StatusCondition, set_enabled_statuses).
+    pub fn enable(&mut self, entity: Entity, mask: StatusMask) -> Result<(), Code>
+        ensures ok { OnOk result (self.new ≡ with_enabled self.old entity mask) }
+        // A refusal is for its cause, and changes nothing.
+        ensures taken { OnOk result (unless_there (knows_entity self.old entity) ≡ None) }
+        ensures refused { IfErr result (λ code. unless_there (knows_entity self.old entity) ≡ Some code) }
+        ensures err { OnErr result (self.new ≡ self.old) }
+    {
+        if !self.knows_entity(entity) {
+            return Err(Code::BadParameter);
+        }
+        match entity {
+            Entity::Participant => self.participant = mask,
+            Entity::Writer(number) => self.writers[usize::from(number) - 1] = mask,
+            Entity::Reader(number) => self.readers[usize::from(number) - 1] = mask,
+        }
+        Ok(())
+    }
+}
+
+/// The index of what has this number, counted from 1, among so many.
+fn index_of(number: u32, count: usize) -> Option<usize>
+    ensures there { IfSome result (λ index. (number ≡ index + 1) × (index < count)) }
+    ensures none { IfNone result ((number ≡ 0) ⊎ (count < number)) }
+{
+    if number == 0 || count < number as usize {
+        None
+    } else {
+        Some(number as usize - 1)
+    }
+}
+
+/// That there is a WaitSet, and nobody waits in it.
+fn free(waiting: &Option<Waiting>) -> Result<(), Code>
+    ensures ok { OnOk result (free_refusal waiting.now ≡ None) }
+    ensures refused { IfErr result (λ code. free_refusal waiting.now ≡ Some code) }
+{
+    match waiting {
+        None => Err(Code::BadParameter),
+        Some(waiting) if waiting.deadline.is_some() => Err(Code::PreconditionNotMet),
+        Some(_) => Ok(()),
+    }
+}
+
+/// That there is a WaitSet, and somebody waits in it.
+fn used(waiting: &Option<Waiting>) -> Result<(), Code>
+    ensures ok { OnOk result (use_refusal waiting.now ≡ None) }
+    ensures refused { IfErr result (λ code. use_refusal waiting.now ≡ Some code) }
+{
+    match waiting {
+        None => Err(Code::BadParameter),
+        Some(waiting) if waiting.deadline.is_none() => Err(Code::PreconditionNotMet),
+        Some(_) => Ok(()),
+    }
+}
+
+/// Detaches a condition from a WaitSet, if there is one and it is attached there.
+fn detach_from(waiting: &mut Option<Waiting>, condition: Cond)
+    ensures { waiting.new ≡ without condition waiting.old }
+{
+    if let Some(waiting) = waiting {
+        waiting.conditions.forget(condition);
+    }
+}
+
+/// Detaches a condition from each of these WaitSets to which it is attached.
+fn detach_all(wait_sets: &mut [Option<Waiting>], condition: Cond)
+    ensures { wait_sets.new ≡ map (without condition) wait_sets.old }
+{
+    for index in 0..wait_sets.len() {
+        detach_from(&mut wait_sets[index], condition);
+    }
+}
