@@ -17,8 +17,10 @@ use Rattle.dds_base.specs.declared.happening.SamplePosition.{SamplePosition}
 use Rattle.dds_base.specs.declared.selection.Selection.{Selection}
 use Rattle.dds_base.specs.declared.qos.HistoryQos.TheVariants.{KeepAll}
 use Rattle.dds_base.specs.Liveliness.{dead_at, with_deaths}
+use Rattle.dds_conditions.specs.declared.condition.Cond.{Cond}
+use Rattle.dds_conditions.specs.Watched.{Watched}
 use Rattle.dds_model.specs.declared.call.Call.{Call}
-use Rattle.dds_model.specs.declared.call.Call.TheVariants.{Register, Write, Dispose, Unregister, AssertLiveliness, Read, Take, GetKeyValue, LookupInstance, GetSampleLost, GetLivelinessChanged, GetLivelinessLost}
+use Rattle.dds_model.specs.declared.call.Call.TheVariants.{Register, Write, Dispose, Unregister, AssertLiveliness, Read, Take, GetKeyValue, LookupInstance, GetSampleLost, GetLivelinessChanged, GetLivelinessLost, ReadByCondition, TakeByCondition, CreateReadCondition, CreateGuardCondition, SetTriggerValue, DeleteCondition, GetTriggerValue, CreateWaitSet, DeleteWaitSet, AttachCondition, DetachCondition, GetConditions, WaitBegin, WaitLook, WaitEnd, SetEnabledStatuses, GetStatusChanges}
 use Rattle.dds_model.specs.declared.endpoint.Endpoint.{Endpoint}
 use Rattle.dds_model.specs.declared.event.WorldEvent.{WorldEvent}
 use Rattle.dds_model.specs.declared.event.WorldEvent.TheVariants as world
@@ -30,7 +32,7 @@ use Rattle.dds_model.specs.declared.reply.Reply.TheVariants.{Done, Samples, KeyV
 use Rattle.dds_model.specs.Numbered.{numbered, with_numbered, HasNumber}
 use Rattle.dds_model.specs.Part.{same_endpoint, WriterProxy, Reader, Dds, Part, no_reader, no_part, own_writer, own_proxies, own_reader, at_reader, at_writer, row_of, place_of, with_place, with_heard, with_acknowledged, publication_of, writer_changes, nothing_seen, Seen}
 use Rattle.dds_model.specs.Moves.{Grounds, as_to, match_of, IsMatched, position_of, AreMoves, Places, Hears, DeliveryStep}
-use Rattle.dds_model.specs.Calls.{Effect, nothing, writes, effect, effect_of, after_look, seen_lost, seen_liveliness, with_happening, register_refusal, write_refusal, dispose_refusal, unregister_refusal, IsDoneUnless, Tests, AnswersAccess, Answers, CallStep, TickStep, reader_ticked}
+use Rattle.dds_model.specs.Calls.{Effect, nothing, writes, effect, effect_of, after_look, seen_lost, seen_liveliness, with_happening, register_refusal, write_refusal, dispose_refusal, unregister_refusal, IsDoneUnless, Tests, AnswersAccess, AnswersByCondition, AnswersLook, IsAnswered, IsAnsweredInMemory, Answers, CallStep, TickStep, reader_ticked}
 use Rattle.dds_model.specs.Machine.{Machine, AllTests, part_at, writer_at, place_at, grounds_of, Step}
 use Rattle.dds_model.specs.Runs.{Traffic, Run}
 use Rattle.dds_model.specs.InOrder.{came_from, CameInOrder, no_traffic}
@@ -209,6 +211,34 @@ done_or_not refusal Done old new r h a = same_came old new r h a.1
 done_or_not refusal (Refused code) old new r h a = same_came old new r h a.1
 done_or_not refusal reply old new r h a = absurd a
 
+-- what is watched is not what came
+watch_came : (old new : Dds) (after : Watched) (r : ℕ) → HasNumber old.readers r → new ≡ record old { watch = after } → SameCame old new r
+watch_came old new after r h e = (
+  subst (λ (d : Dds). HasNumber d.readers r) (sym e) h,
+  λ p. ap (λ (d : Dds). came_from p (numbered d.readers r no_reader).happened) e,
+)
+
+answered_came : (refusal : Option Code) (answer : Reply) (after : Watched) (old : Part) (reply : Reply) (new : Dds) (r : ℕ)
+    → HasNumber old.dds.readers r → IsAnswered refusal answer after old reply new → SameCame old.dds new r
+answered_came (Some code) answer after old reply new r h a = same_came old.dds new r h a.1
+answered_came None answer after old reply new r h a = watch_came old.dds new after r h a.1
+
+in_memory_came : (needs : Bool) (refusal : Option Code) (answer : Reply) (after : Watched) (old : Part) (reply : Reply) (new : Dds) (r : ℕ)
+    → HasNumber old.dds.readers r → IsAnsweredInMemory needs refusal answer after old reply new → SameCame old.dds new r
+in_memory_came needs refusal answer after old reply new r h (inl a) = answered_came refusal answer after old reply new r h a
+in_memory_came needs refusal answer after old reply new r h (inr a) = same_came old.dds new r h a.3
+
+look_came : (active : List Cond) (timed_out : Bool) (old : Part) (wait_set : ℕ) (reply : Reply) (new : Dds) (r : ℕ)
+    → HasNumber old.dds.readers r → AnswersLook active timed_out old wait_set reply new → SameCame old.dds new r
+look_came [] true old wait_set reply new r h a = answered_came _ _ _ old reply new r h a
+look_came [] false old wait_set reply new r h a = answered_came _ _ _ old reply new r h a
+look_came (c ∷ cs) timed_out old wait_set reply new r h a = in_memory_came _ _ _ _ old reply new r h a
+
+by_condition : (entry : List SamplePosition → Happening) → EntersNothingThatCame entry → (refusal : Option Code) (old : Part) (k : ℕ) (selection : Selection) (reply : Reply) (new : Dds) (r : ℕ)
+    → HasNumber old.dds.readers r → AnswersByCondition entry refusal old k selection reply new → SameCame old.dds new r
+by_condition entry same (Some code) old k selection reply new r h a = same_came old.dds new r h a.1
+by_condition entry same None old k selection reply new r h a = accessed entry same old k selection reply new r h a
+
 answers_came : (tests : Tests) (old : Part) (c : Call) (reply : Reply) (new : Dds) (r : ℕ) → HasNumber old.dds.readers r → Answers tests old c reply new → SameCame old.dds new r
 answers_came tests old (Register v key) reply new r h a = done_or_not (register_refusal old v) reply old.dds new r h a
 answers_came tests old (Write v key value) reply new r h a = done_or_not (write_refusal old v key value) reply old.dds new r h a
@@ -234,6 +264,23 @@ answers_came tests old (GetLivelinessChanged v) reply new r h a = absurd a
 answers_came tests old (GetLivelinessLost v) (LivelinessLost status) new r h a = same_came old.dds new r h a.2
 answers_came tests old (GetLivelinessLost v) (Refused code) new r h a = same_came old.dds new r h a.1
 answers_came tests old (GetLivelinessLost v) reply new r h a = absurd a
+answers_came tests old (ReadByCondition v scope c) reply new r h a = by_condition HasRead (λ samples p past. refl) _ old v _ reply new r h a
+answers_came tests old (TakeByCondition v scope c) reply new r h a = by_condition Took (λ samples p past. refl) _ old v _ reply new r h a
+answers_came tests old (CreateReadCondition v masks) reply new r h a = in_memory_came _ _ _ _ old reply new r h a
+answers_came tests old CreateGuardCondition reply new r h a = in_memory_came _ _ _ _ old reply new r h a
+answers_came tests old (SetTriggerValue c value) reply new r h a = answered_came _ _ _ old reply new r h a
+answers_came tests old (DeleteCondition c) reply new r h a = answered_came _ _ _ old reply new r h a
+answers_came tests old (GetTriggerValue c) reply new r h a = answered_came _ _ _ old reply new r h a
+answers_came tests old CreateWaitSet reply new r h a = in_memory_came _ _ _ _ old reply new r h a
+answers_came tests old (DeleteWaitSet s) reply new r h a = answered_came _ _ _ old reply new r h a
+answers_came tests old (AttachCondition s c) reply new r h a = in_memory_came _ _ _ _ old reply new r h a
+answers_came tests old (DetachCondition s c) reply new r h a = answered_came _ _ _ old reply new r h a
+answers_came tests old (GetConditions s) reply new r h a = in_memory_came _ _ _ _ old reply new r h a
+answers_came tests old (WaitBegin s deadline) reply new r h a = answered_came _ _ _ old reply new r h a
+answers_came tests old (WaitLook s) reply new r h a = look_came _ _ old s reply new r h a
+answers_came tests old (WaitEnd s) reply new r h a = answered_came _ _ _ old reply new r h a
+answers_came tests old (SetEnabledStatuses e mask) reply new r h a = answered_came _ _ _ old reply new r h a
+answers_came tests old (GetStatusChanges e) reply new r h a = answered_came _ _ _ old reply new r h a
 
 effect_rows : (old : Part) (new : Part) (e : Effect) → new.rtps ≡ effect old.rtps e → new.rtps.readers ≡ old.rtps.readers
 effect_rows old new nothing h = ap (λ x. x.readers) h

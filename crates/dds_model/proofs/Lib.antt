@@ -57,3 +57,4 @@ pub mod PairBeats
 pub mod PairAsks
 pub mod PairNamed
 pub mod PairFound
+pub mod Compared

@@ -1,23 +1,32 @@
 -- Runs of peers are runs of the machine, and runs of the machine pass over no change of a writer that keeps all.
-use Rattle.std.proofs.Common.{◌≡◌, ℕ, true, false, List, [], ◌∷◌, length, refl, subst, ap, sym, ◌∙◌, inl, inr, arith}
+use Rattle.std.proofs.Common.{◌≡◌, ℕ, Bool, Option, Some, None, true, false, List, [], ◌∷◌, length, refl, subst, ap, sym, ◌∙◌, inl, inr, arith}
+use Rattle.dds_base.specs.declared.code.Code.{Code}
 use Rattle.dds_base.specs.declared.config.Config.{Config}
+use Rattle.dds_base.specs.declared.happening.Happening.{Happening}
+use Rattle.dds_base.specs.declared.happening.Happening.TheVariants.{Read as HasRead, Took}
+use Rattle.dds_base.specs.declared.happening.SamplePosition.{SamplePosition}
+use Rattle.dds_base.specs.declared.selection.Selection.{Selection}
+use Rattle.dds_conditions.specs.declared.condition.Cond.{Cond}
+use Rattle.dds_conditions.specs.Watched.{Watched}
 use Rattle.dds_base.specs.declared.qos.HistoryQos.{HistoryQos}
 use Rattle.dds_base.specs.declared.qos.HistoryQos.TheVariants.{KeepAll}
 use Rattle.dds_base.specs.Kept.{is_dropped, is_dropped_by}
 use Rattle.dds_model.specs.declared.call.Call.{Call}
-use Rattle.dds_model.specs.declared.call.Call.TheVariants.{Register, Write, Dispose, Unregister, AssertLiveliness, Read, Take, GetKeyValue, LookupInstance, GetSampleLost, GetLivelinessChanged, GetLivelinessLost}
+use Rattle.dds_model.specs.declared.call.Call.TheVariants.{Register, Write, Dispose, Unregister, AssertLiveliness, Read, Take, GetKeyValue, LookupInstance, GetSampleLost, GetLivelinessChanged, GetLivelinessLost, ReadByCondition, TakeByCondition, CreateReadCondition, CreateGuardCondition, SetTriggerValue, DeleteCondition, GetTriggerValue, CreateWaitSet, DeleteWaitSet, AttachCondition, DetachCondition, GetConditions, WaitBegin, WaitLook, WaitEnd, SetEnabledStatuses, GetStatusChanges}
 use Rattle.dds_model.specs.declared.endpoint.Endpoint.{Endpoint}
 use Rattle.dds_model.specs.declared.event.WorldEvent.{WorldEvent}
 use Rattle.dds_model.specs.declared.event.WorldEvent.TheVariants as world
 use Rattle.dds_model.specs.declared.reply.Move.{Move}
 use Rattle.dds_model.specs.declared.reply.Move.TheVariants.{Place, Acknowledged, Heard}
 use Rattle.dds_model.specs.declared.reply.Reply.{Reply}
-use Rattle.dds_model.specs.declared.reply.Reply.TheVariants.{Done, Samples, KeyValue, InstanceHandle, SampleLost, LivelinessChanged, LivelinessLost, Reported, Refused}
-use Rattle.dds_model.specs.Part.{Part, writer_changes, history_of}
+use Rattle.dds_model.specs.declared.reply.Report.{Report}
+use Rattle.dds_model.specs.declared.reply.Reply.TheVariants.{Done, Samples, KeyValue, InstanceHandle, SampleLost, LivelinessChanged, LivelinessLost, Created, TriggerValue, Conditions, Active, Waiting, StatusChanges, Reported, Refused}
+use Rattle.dds_model.specs.Part.{Dds, Part, writer_changes, history_of}
 use Rattle.dds_base.specs.Places.{GoesTo}
 use Rattle.dds_model.specs.Moves.{as_to, match_of, position_of, AreMoves, DeliveryStep}
-use Rattle.dds_model.specs.Calls.{Tests, CallStep, TickStep}
+use Rattle.dds_model.specs.Calls.{Tests, IsAnswered, IsAnsweredInMemory, AnswersLook, AnswersByCondition, CallStep, TickStep}
 use Rattle.dds_model.specs.Machine.{Machine, AllTests, part_at, writer_at, grounds_of, Step}
+use Rattle.dds_model.specs.Watching.{condition_selection}
 use Rattle.dds_model.specs.World.{WorldState, machine_of, Sound}
 use Rattle.dds_model.specs.Runs.{Traffic, Run}
 use Rattle.dds_model.specs.Rules.{RuledRun, traffic_of}
@@ -67,6 +76,28 @@ loses_delivery : (m : Machine) (i : ℕ) (w : Endpoint) (old : Part) (reply : Re
 loses_delivery m i w old (Reported report) new replies all h rest = (no_passes m i w old report.moves new all h, rest)
 loses_delivery m i w old reply new replies all h rest = absurd h
 
+-- a call of what is watched is answered by no report
+answered_so : (refusal : Option Code) (answer : Reply) (after : Watched) (old : Part) (report : Report) (dds : Dds)
+    → (Reported report ≡ answer → ⊥) → IsAnswered refusal answer after old (Reported report) dds → ⊥
+answered_so (Some code) answer after old report dds other h = let is = h.0 in absurd cc
+answered_so None answer after old report dds other h = other h.0
+
+in_memory_so : (needs : Bool) (refusal : Option Code) (answer : Reply) (after : Watched) (old : Part) (report : Report) (dds : Dds)
+    → (Reported report ≡ answer → ⊥) → IsAnsweredInMemory needs refusal answer after old (Reported report) dds → ⊥
+in_memory_so needs refusal answer after old report dds other (inl h) = answered_so refusal answer after old report dds other h
+in_memory_so needs refusal answer after old report dds other (inr h) = let is = h.2 in absurd cc
+
+look_so : (active : List Cond) (timed_out : Bool) (old : Part) (wait_set : ℕ) (report : Report) (dds : Dds)
+    → AnswersLook active timed_out old wait_set (Reported report) dds → ⊥
+look_so [] true old wait_set report dds h = answered_so _ _ _ old report dds (λ e. absurd cc) h
+look_so [] false old wait_set report dds h = answered_so _ _ _ old report dds (λ e. absurd cc) h
+look_so (c ∷ cs) timed_out old wait_set report dds h = in_memory_so _ _ _ _ old report dds (λ e. absurd cc) h
+
+by_condition_so : (entry : List SamplePosition → Happening) (refusal : Option Code) (old : Part) (k : ℕ) (selection : Selection) (report : Report) (dds : Dds)
+    → AnswersByCondition entry refusal old k selection (Reported report) dds → ⊥
+by_condition_so entry (Some code) old k selection report dds h = let is = h.0 in absurd cc
+by_condition_so entry None old k selection report dds h = h
+
 loses_call : (w : Endpoint) (tests : Tests) (old : Part) (call : Call) (reply : Reply) (new : Part) (replies : List Reply) → CallStep tests old call reply new → LosesNone w replies → LosesNone w (reply ∷ replies)
 loses_call w tests old call Done new replies h rest = rest
 loses_call w tests old call (Samples samples) new replies h rest = rest
@@ -75,6 +106,12 @@ loses_call w tests old call (InstanceHandle handle) new replies h rest = rest
 loses_call w tests old call (SampleLost status) new replies h rest = rest
 loses_call w tests old call (LivelinessChanged status) new replies h rest = rest
 loses_call w tests old call (LivelinessLost status) new replies h rest = rest
+loses_call w tests old call (Created number) new replies h rest = rest
+loses_call w tests old call (TriggerValue value) new replies h rest = rest
+loses_call w tests old call (Conditions cs) new replies h rest = rest
+loses_call w tests old call (Active cs) new replies h rest = rest
+loses_call w tests old call Waiting new replies h rest = rest
+loses_call w tests old call (StatusChanges mask) new replies h rest = rest
 loses_call w tests old call (Refused code) new replies h rest = rest
 loses_call w tests old (Register v k) (Reported report) new replies h rest = absurd h.answers
 loses_call w tests old (Write v k c) (Reported report) new replies h rest = absurd h.answers
@@ -88,6 +125,23 @@ loses_call w tests old (LookupInstance r k) (Reported report) new replies h rest
 loses_call w tests old (GetSampleLost r) (Reported report) new replies h rest = absurd h.answers
 loses_call w tests old (GetLivelinessChanged r) (Reported report) new replies h rest = absurd h.answers
 loses_call w tests old (GetLivelinessLost v) (Reported report) new replies h rest = absurd h.answers
+loses_call w tests old (ReadByCondition r scope c) (Reported report) new replies h rest = absurd (by_condition_so HasRead _ old r (condition_selection old scope c) report new.dds h.answers)
+loses_call w tests old (TakeByCondition r scope c) (Reported report) new replies h rest = absurd (by_condition_so Took _ old r (condition_selection old scope c) report new.dds h.answers)
+loses_call w tests old (CreateReadCondition r masks) (Reported report) new replies h rest = absurd (in_memory_so _ _ _ _ old report new.dds (λ e. absurd cc) h.answers)
+loses_call w tests old CreateGuardCondition (Reported report) new replies h rest = absurd (in_memory_so _ _ _ _ old report new.dds (λ e. absurd cc) h.answers)
+loses_call w tests old (SetTriggerValue c value) (Reported report) new replies h rest = absurd (answered_so _ _ _ old report new.dds (λ e. absurd cc) h.answers)
+loses_call w tests old (DeleteCondition c) (Reported report) new replies h rest = absurd (answered_so _ _ _ old report new.dds (λ e. absurd cc) h.answers)
+loses_call w tests old (GetTriggerValue c) (Reported report) new replies h rest = absurd (answered_so _ _ _ old report new.dds (λ e. absurd cc) h.answers)
+loses_call w tests old CreateWaitSet (Reported report) new replies h rest = absurd (in_memory_so _ _ _ _ old report new.dds (λ e. absurd cc) h.answers)
+loses_call w tests old (DeleteWaitSet s) (Reported report) new replies h rest = absurd (answered_so _ _ _ old report new.dds (λ e. absurd cc) h.answers)
+loses_call w tests old (AttachCondition s c) (Reported report) new replies h rest = absurd (in_memory_so _ _ _ _ old report new.dds (λ e. absurd cc) h.answers)
+loses_call w tests old (DetachCondition s c) (Reported report) new replies h rest = absurd (answered_so _ _ _ old report new.dds (λ e. absurd cc) h.answers)
+loses_call w tests old (GetConditions s) (Reported report) new replies h rest = absurd (in_memory_so _ _ _ _ old report new.dds (λ e. absurd cc) h.answers)
+loses_call w tests old (WaitBegin s deadline) (Reported report) new replies h rest = absurd (answered_so _ _ _ old report new.dds (λ e. absurd cc) h.answers)
+loses_call w tests old (WaitLook s) (Reported report) new replies h rest = absurd (look_so _ _ old s report new.dds h.answers)
+loses_call w tests old (WaitEnd s) (Reported report) new replies h rest = absurd (answered_so _ _ _ old report new.dds (λ e. absurd cc) h.answers)
+loses_call w tests old (SetEnabledStatuses e mask) (Reported report) new replies h rest = absurd (answered_so _ _ _ old report new.dds (λ e. absurd cc) h.answers)
+loses_call w tests old (GetStatusChanges e) (Reported report) new replies h rest = absurd (answered_so _ _ _ old report new.dds (λ e. absurd cc) h.answers)
 
 loses_tick : (w : Endpoint) (old : Part) (now : ℕ) (reply : Reply) (new : Part) (replies : List Reply) → TickStep old now reply new → LosesNone w replies → LosesNone w (reply ∷ replies)
 loses_tick w old now Done new replies h rest = rest

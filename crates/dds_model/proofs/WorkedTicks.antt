@@ -26,7 +26,7 @@ leased = record {
 -- a reader of two writers, of which the first was heard at 2 and the second at 5
 abbrev part : Part
 part = record no_part {
-  dds = record {
+  dds = record no_part.dds {
     moment = 5;
     readers = record {
       qos = record { ownership = Shared; history = KeepAll; max_samples = None; max_instances = None; writers = leased ∷ leased ∷ [] };

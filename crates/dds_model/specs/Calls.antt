@@ -3,14 +3,14 @@
 --
 -- DDS 1.4, 2.2.2.4 (register_instance, write, dispose, unregister_instance, assert_liveliness, get_liveliness_lost_status),
 -- 2.2.2.5 (the forms of read and take, get_key_value, lookup_instance, get_sample_lost_status, get_liveliness_changed_status), 2.2.1.1 (return codes).
-use Rattle.std.specs.Prelude.{◌≡◌, ◌≢◌, ℕ, ◌-◌, ◌^◌, ◌&&◌, ◌||◌, not, Bool, true, List, [], ◌∷◌, map, length, Option, Some, None, is_some, nat_le, nat_lt, if◌then◌else◌}
+use Rattle.std.specs.Prelude.{◌≡◌, ◌≢◌, ◌⊎◌, ℕ, ◌+◌, ◌-◌, ◌^◌, ◌&&◌, ◌||◌, not, Bool, true, false, List, [], ◌∷◌, map, length, Option, Some, None, is_some, nat_le, nat_lt, if◌then◌else◌}
 use Rattle.std.specs.List.{list_any}
 use Rattle.dds_base.specs.declared.key.Key.{Key}
 use Rattle.dds_base.specs.declared.change.Change.{Change}
 use Rattle.dds_base.specs.declared.change.ChangeKind.{ChangeKind}
 use Rattle.dds_base.specs.declared.change.ChangeKind.TheVariants as kind
 use Rattle.dds_base.specs.declared.code.Code.{Code}
-use Rattle.dds_base.specs.declared.code.Code.TheVariants.{BadParameter, Memory, OutOfResources, PreconditionNotMet, NoData}
+use Rattle.dds_base.specs.declared.code.Code.TheVariants.{BadParameter, Memory, OutOfResources, PreconditionNotMet, NoData, Timeout}
 use Rattle.dds_base.specs.declared.happening.Happening.{Happening}
 use Rattle.dds_base.specs.declared.happening.Happening.TheVariants.{Read as HasRead, Took}
 use Rattle.dds_base.specs.declared.happening.SamplePosition.{SamplePosition}
@@ -21,17 +21,19 @@ use Rattle.dds_base.specs.Liveliness.{after_deaths, alive_count, dead_at, liveli
 use Rattle.dds_base.specs.Refusal.{Refuses}
 use Rattle.dds_base.specs.Selection.{picked_by, selection_refusal}
 use Rattle.dds_base.specs.Statuses.{lost_count, sample_lost_status}
+use Rattle.dds_base.specs.StatusFlags.{turned_at}
 use Rattle.dds_base.specs.Written.{Written, Registered, Changed, Asserted, LookedAt, Ticked, is_key_registered, liveliness_lost_status}
 use Rattle.dds_model.specs.declared.call.Call.{Call}
-use Rattle.dds_model.specs.declared.call.Call.TheVariants.{Register, Write, Dispose, Unregister, AssertLiveliness, Read, Take, GetKeyValue, LookupInstance, GetSampleLost, GetLivelinessChanged, GetLivelinessLost}
+use Rattle.dds_model.specs.declared.call.Call.TheVariants.{Register, Write, Dispose, Unregister, AssertLiveliness, Read, Take, GetKeyValue, LookupInstance, GetSampleLost, GetLivelinessChanged, GetLivelinessLost, ReadByCondition, TakeByCondition, CreateReadCondition, CreateGuardCondition, SetTriggerValue, DeleteCondition, GetTriggerValue, CreateWaitSet, DeleteWaitSet, AttachCondition, DetachCondition, GetConditions, WaitBegin, WaitLook, WaitEnd, SetEnabledStatuses, GetStatusChanges}
 use Rattle.dds_model.specs.declared.reply.Reply.{Reply}
-use Rattle.dds_model.specs.declared.reply.Reply.TheVariants.{Done, Samples, KeyValue, InstanceHandle, SampleLost, LivelinessChanged, LivelinessLost, Refused}
-use Rattle.dds_model.specs.Numbered.{numbered, with_numbered}
+use Rattle.dds_model.specs.declared.reply.Reply.TheVariants.{Done, Samples, KeyValue, InstanceHandle, SampleLost, LivelinessChanged, LivelinessLost, Created, TriggerValue, Conditions, Active, Waiting, StatusChanges, Refused}
+use Rattle.dds_conditions.specs.declared.condition.Cond.{Cond}
+use Rattle.dds_conditions.specs.declared.condition.Condition.TheVariants.{Guard, Samples as OfSamples}
+use Rattle.dds_conditions.specs.Attached.{active_of, is_attached}
+use Rattle.dds_conditions.specs.Watched.{Watched, attach_refusal, conditions_of, detaching_refusal, free_refusal, guard_refusal, is_timed_out, knows, knows_entity, made, number_refusal, unless_there, use_refusal, with_attached, with_condition, with_condition_at, with_deadline, with_detached, with_enabled, with_wait_set, with_wait_set_at, without_condition}
+use Rattle.dds_model.specs.Numbered.{has_number, numbered, with_numbered}
+use Rattle.dds_model.specs.Watching.{condition_refusal, condition_selection, read_condition_refusal, status_changes, trigger_value}
 use Rattle.dds_model.specs.Part.{Part, Rtps, Dds, Seen, Reader, Writer, no_writer, own_writer, own_reader, heartbeats_used, history_of, is_behind}
-
--- there is an element of this number, counted from 1
-abbrev pub has_number : {X : Type 0} → List X → ℕ → Bool
-has_number xs n = nat_lt 0 n && nat_le n (length xs)
 
 -- the change that a call makes at the peer's moment
 abbrev pub change_made : Part → ChangeKind → Key → List ℕ → Change
@@ -71,8 +73,7 @@ assert_refusal part writer =
     if not (has_number part.rtps.writers writer) then Some BadParameter
     else (if nat_le (2 ^ 31 - 1) (heartbeats_used (own_writer part writer)) then Some OutOfResources else None)
 
--- What the filters of a peer answer, by their numbers: whether a sample of this key and value passes. The machine holds
--- the numbers alone.
+-- What the filters of a peer answer, by their numbers: whether a sample of this key and value passes.
 abbrev pub Tests : Type 0
 Tests = ℕ → Key → List ℕ → Bool
 
@@ -112,7 +113,11 @@ seen_lost r = record r.seen { lost = lost_count r.happened }
 
 -- what is seen of them once its LIVELINESS_CHANGED was looked at
 abbrev pub seen_liveliness : Reader → Seen
-seen_liveliness r = record r.seen { alive = alive_count r.qos r.happened; not_alive = not_alive_count r.qos r.happened }
+seen_liveliness r = record r.seen {
+  alive = alive_count r.qos r.happened;
+  not_alive = not_alive_count r.qos r.happened;
+  turned = turned_at r.happened;
+}
 
 -- a peer's reader, after one more thing happened there
 abbrev pub with_happening : Part → ℕ → Happening → Dds
@@ -161,6 +166,33 @@ AnswersAccess entry old reader selection (Refused NoData) dds =
 AnswersAccess entry old reader selection (Refused code) dds = Refuses (access_refusal old reader selection) code × (dds ≡ old.dds)
 AnswersAccess entry old reader selection reply dds = ⊥
 
+-- A call of what is watched: the first cause refuses it, or it is answered so, and this is watched from then on.
+abbrev pub IsAnswered : Option Code → Reply → Watched → Part → Reply → Dds → Type 0
+IsAnswered (Some code) answer after old reply dds = (reply ≡ Refused code) × (dds ≡ old.dds)
+IsAnswered None answer after old reply dds = (reply ≡ answer) × (dds ≡ record old.dds { watch = after })
+
+-- the same, or where no cause refuses it but it needs memory, want of memory, and nothing changes
+abbrev pub IsAnsweredInMemory : Bool → Option Code → Reply → Watched → Part → Reply → Dds → Type 0
+IsAnsweredInMemory needs refusal answer after old reply dds =
+    IsAnswered refusal answer after old reply dds
+    ⊎ ((refusal ≡ None) × (needs ≡ true) × (reply ≡ Refused Memory) × (dds ≡ old.dds))
+
+-- A look at a WaitSet in which somebody waits: its active conditions, which end the wait; where there is none, TIMEOUT, which
+-- ends it too, once its deadline has come; before that, the wait goes on.
+abbrev pub AnswersLook : List Cond → Bool → Part → ℕ → Reply → Dds → Type 0
+AnswersLook [] true old wait_set reply dds =
+    IsAnswered (use_refusal (made old.dds.watch.wait_sets wait_set)) (Refused Timeout) (with_deadline old.dds.watch wait_set None) old reply dds
+AnswersLook [] false old wait_set reply dds =
+    IsAnswered (use_refusal (made old.dds.watch.wait_sets wait_set)) Waiting old.dds.watch old reply dds
+AnswersLook (c ∷ cs) timed_out old wait_set reply dds =
+    IsAnsweredInMemory true (use_refusal (made old.dds.watch.wait_sets wait_set)) (Active (c ∷ cs))
+    (with_deadline old.dds.watch wait_set None) old reply dds
+
+-- An access by a condition: the first cause refuses it, or it is the access by the condition's masks.
+abbrev pub AnswersByCondition : (List SamplePosition → Happening) → Option Code → Part → ℕ → Selection → Reply → Dds → Type 0
+AnswersByCondition entry (Some code) old reader selection reply dds = (reply ≡ Refused code) × (dds ≡ old.dds)
+AnswersByCondition entry None old reader selection reply dds = AnswersAccess entry old reader selection reply dds
+
 -- What a call answers, and what it does to what the peer's own calls see. A look at a status, a key, a handle and an
 -- assertion need no memory.
 abbrev pub Answers : Tests → Part → Call → Reply → Dds → Type 0
@@ -199,6 +231,48 @@ Answers tests old (GetLivelinessLost writer) (LivelinessLost status) dds =
     × (status ≡ liveliness_lost_status (own_writer old writer).lease (own_writer old writer).written) × (dds ≡ old.dds)
 Answers tests old (GetLivelinessLost writer) (Refused code) dds = (writer_look_refusal old writer ≡ Some code) × (dds ≡ old.dds)
 Answers tests old (GetLivelinessLost writer) reply dds = ⊥
+Answers tests old (ReadByCondition reader scope condition) reply dds =
+    AnswersByCondition HasRead (condition_refusal old reader scope condition) old reader (condition_selection old scope condition) reply dds
+Answers tests old (TakeByCondition reader scope condition) reply dds =
+    AnswersByCondition Took (condition_refusal old reader scope condition) old reader (condition_selection old scope condition) reply dds
+Answers tests old (CreateReadCondition reader masks) reply dds =
+    IsAnsweredInMemory true (read_condition_refusal old reader) (Created (length old.dds.watch.conditions + 1))
+    (with_condition old.dds.watch (OfSamples reader masks)) old reply dds
+Answers tests old CreateGuardCondition reply dds =
+    IsAnsweredInMemory true (number_refusal old.dds.watch.conditions) (Created (length old.dds.watch.conditions + 1))
+    (with_condition old.dds.watch (Guard false)) old reply dds
+Answers tests old (SetTriggerValue condition value) reply dds =
+    IsAnswered (guard_refusal (made old.dds.watch.conditions condition)) Done
+    (with_condition_at old.dds.watch condition (Some (Guard value))) old reply dds
+Answers tests old (DeleteCondition condition) reply dds =
+    IsAnswered (unless_there (is_some (made old.dds.watch.conditions condition))) Done
+    (without_condition old.dds.watch condition) old reply dds
+Answers tests old (GetTriggerValue condition) reply dds =
+    IsAnswered (unless_there (knows old.dds.watch condition)) (TriggerValue (trigger_value old condition)) old.dds.watch old reply dds
+Answers tests old CreateWaitSet reply dds =
+    IsAnsweredInMemory true (number_refusal old.dds.watch.wait_sets) (Created (length old.dds.watch.wait_sets + 1))
+    (with_wait_set old.dds.watch) old reply dds
+Answers tests old (DeleteWaitSet wait_set) reply dds =
+    IsAnswered (free_refusal (made old.dds.watch.wait_sets wait_set)) Done (with_wait_set_at old.dds.watch wait_set None) old reply dds
+Answers tests old (AttachCondition wait_set condition) reply dds =
+    IsAnsweredInMemory (not (is_attached condition (conditions_of old.dds.watch wait_set)))
+    (attach_refusal old.dds.watch wait_set condition) Done (with_attached old.dds.watch wait_set condition) old reply dds
+Answers tests old (DetachCondition wait_set condition) reply dds =
+    IsAnswered (detaching_refusal old.dds.watch wait_set condition) Done (with_detached old.dds.watch wait_set condition) old reply dds
+Answers tests old (GetConditions wait_set) reply dds =
+    IsAnsweredInMemory true (unless_there (is_some (made old.dds.watch.wait_sets wait_set)))
+    (Conditions (conditions_of old.dds.watch wait_set)) old.dds.watch old reply dds
+Answers tests old (WaitBegin wait_set deadline) reply dds =
+    IsAnswered (free_refusal (made old.dds.watch.wait_sets wait_set)) Done (with_deadline old.dds.watch wait_set (Some deadline)) old reply dds
+Answers tests old (WaitLook wait_set) reply dds =
+    AnswersLook (active_of (trigger_value old) (conditions_of old.dds.watch wait_set))
+    (is_timed_out (made old.dds.watch.wait_sets wait_set) old.dds.moment) old wait_set reply dds
+Answers tests old (WaitEnd wait_set) reply dds =
+    IsAnswered (use_refusal (made old.dds.watch.wait_sets wait_set)) Done (with_deadline old.dds.watch wait_set None) old reply dds
+Answers tests old (SetEnabledStatuses entity mask) reply dds =
+    IsAnswered (unless_there (knows_entity old.dds.watch entity)) Done (with_enabled old.dds.watch entity mask) old reply dds
+Answers tests old (GetStatusChanges entity) reply dds =
+    IsAnswered (unless_there (knows_entity old.dds.watch entity)) (StatusChanges (status_changes old entity)) old.dds.watch old reply dds
 
 -- one call at a peer
 pub record CallStep (tests : Tests) (old : Part) (call : Call) (reply : Reply) (new : Part) : Type 0 where
@@ -222,7 +296,7 @@ reader_ticked now r = record r { happened = after_deaths r.qos now r.happened }
 abbrev pub after_tick : Part → ℕ → Part
 after_tick old now = record {
   rtps = record old.rtps { writers = map (ticked now) old.rtps.writers };
-  dds = record { moment = now; readers = map (reader_ticked now) old.dds.readers };
+  dds = record old.dds { moment = now; readers = map (reader_ticked now) old.dds.readers };
 }
 
 -- at some reader of the peer a writer dies at this moment

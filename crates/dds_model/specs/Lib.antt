@@ -1,6 +1,7 @@
 pub mod Numbered
 pub mod Part
 pub mod Moves
+pub mod Watching
 pub mod Calls
 pub mod Claims
 pub mod Receipt

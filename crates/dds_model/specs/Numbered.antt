@@ -1,5 +1,5 @@
 -- Lists whose elements are numbered from 1.
-use Rattle.std.specs.Prelude.{ℕ, zero, suc, ◌≤◌, List, get_or, set, length}
+use Rattle.std.specs.Prelude.{ℕ, zero, suc, ◌≤◌, List, get_or, set, length, Bool, ◌&&◌, nat_le, nat_lt}
 
 -- the element of this number, or the one given where there is none
 abbrev pub numbered : {X : Type 0} → List X → ℕ → X → X
@@ -14,3 +14,7 @@ with_numbered xs (suc n) x = set xs n x
 -- there is an element of this number
 abbrev pub HasNumber : {X : Type 0} → List X → ℕ → Type 0
 HasNumber xs n = (1 ≤ n) × (n ≤ length xs)
+
+-- so it is, as a test
+abbrev pub has_number : {X : Type 0} → List X → ℕ → Bool
+has_number xs n = nat_lt 0 n && nat_le n (length xs)

@@ -1,12 +1,13 @@
 -- The opening of a configuration: writers and readers of equal topic are matched, nothing has happened, each place is 1
 -- and nothing is acknowledged.
-use Rattle.std.specs.Prelude.{ℕ, ◌+◌, List, [], ◌∷◌, map, None}
+use Rattle.std.specs.Prelude.{ℕ, ◌+◌, List, [], ◌∷◌, length, map, None}
 use Rattle.dds_base.specs.declared.config.Config.{Config}
 use Rattle.dds_base.specs.declared.config.PeerConfig.{PeerConfig}
 use Rattle.dds_base.specs.declared.config.WriterConfig.{WriterConfig}
 use Rattle.dds_base.specs.declared.config.ReaderConfig.{ReaderConfig}
 use Rattle.dds_base.specs.declared.qos.MatchedWriter.{MatchedWriter}
 use Rattle.dds_base.specs.declared.qos.ReaderQos.{ReaderQos}
+use Rattle.dds_conditions.specs.Watched.{opened as nothing_watched}
 use Rattle.dds_base.specs.Matched.{of_writers_in, of_matched_writers, of_readers_in, of_matched_readers}
 use Rattle.dds_model.specs.Part.{ReaderProxy, WriterProxy, Writer, Part, nothing_seen}
 use Rattle.dds_base.specs.Checked.{limit_of}
@@ -45,7 +46,11 @@ opening_writer peers w = record { policy = w.history; max_samples = limit_of w.m
 abbrev pub opening_part : List PeerConfig → PeerConfig → Part
 opening_part peers p = record {
   rtps = record { writers = map (opening_writer peers) p.writers; readers = map (λ (r : ReaderConfig). matched_writers r.topic 1 peers) p.readers };
-  dds = record { moment = 0; readers = map (λ (r : ReaderConfig). record { qos = reader_qos peers r; happened = []; seen = nothing_seen }) p.readers };
+  dds = record {
+    moment = 0;
+    readers = map (λ (r : ReaderConfig). record { qos = reader_qos peers r; happened = []; seen = nothing_seen }) p.readers;
+    watch = nothing_watched (length p.writers) (length p.readers);
+  };
 }
 
 abbrev pub opening_peers : List PeerConfig → ℕ → List PeerConfig → List Peer

@@ -2,7 +2,9 @@
 
 ghost use Rattle.std.specs.Prelude.{◌≡◌};
 
-use dds_base::{Handle, Key, Octets, Selection};
+use dds_base::{Entity, Handle, Key, Masks, Moment, Octets, Scope, Selection};
+use dds_conditions::Cond;
+use dds_notices::StatusMask;
 use std::alloc::AllocError;
 
 /// A call at a peer. Writers and readers are named by their numbers there, which count from 1.
@@ -13,42 +15,168 @@ use std::alloc::AllocError;
 #[derive(Debug, Drop, PartialEq, Eq)]
 pub enum Call {
     /// Registers an instance, of which no other peer learns (DDS 1.4, 2.2.2.4, register_instance).
-    Register { writer: u8, key: Key },
+    Register {
+        writer: u8,
+        key: Key,
+    },
     /// Writes a value of an instance, and registers it (DDS 1.4, 2.2.2.4, write). `BadParameter` for a value above 1,024
     /// octets.
-    Write { writer: u8, key: Key, value: Octets },
+    Write {
+        writer: u8,
+        key: Key,
+        value: Octets,
+    },
     /// Disposes an instance, and registers it (DDS 1.4, 2.2.2.4, dispose).
-    Dispose { writer: u8, key: Key },
+    Dispose {
+        writer: u8,
+        key: Key,
+    },
     /// Ends the registration of an instance (DDS 1.4, 2.2.2.4, unregister_instance), and disposes it too where the
     /// writer does so by itself (2.2.3, WRITER_DATA_LIFECYCLE). `PreconditionNotMet` for an instance that is not
     /// registered there.
-    Unregister { writer: u8, key: Key },
+    Unregister {
+        writer: u8,
+        key: Key,
+    },
     /// Asserts a writer's liveliness (DDS 1.4, 2.2.2.4, assert_liveliness), and sends a HEARTBEAT that says so to each peer
     /// with a matched reader. `OutOfResources` where at least 2^31 - 1 HEARTBEAT counts of the writer were due. It is never
     /// refused for want of memory.
-    AssertLiveliness { writer: u8 },
+    AssertLiveliness {
+        writer: u8,
+    },
     /// Reads samples, which stay (DDS 1.4, 2.2.2.5, read and its instance, next-instance and next-sample forms).
     /// `BadParameter` for a `max` that is neither -1 nor positive, and for an instance that is not known where it has to
     /// be; `NoData` where there is no such sample.
-    Read { reader: u8, selection: Selection },
+    Read {
+        reader: u8,
+        selection: Selection,
+    },
     /// Takes samples, which are then gone (DDS 1.4, 2.2.2.5, take and its instance, next-instance and next-sample forms).
     /// It is refused as a read is.
-    Take { reader: u8, selection: Selection },
+    Take {
+        reader: u8,
+        selection: Selection,
+    },
     /// Asks for the key of an instance (DDS 1.4, 2.2.2.5, get_key_value). `BadParameter` for an instance that is not known.
     /// It is never refused for want of memory.
-    GetKeyValue { reader: u8, instance: Handle },
+    GetKeyValue {
+        reader: u8,
+        instance: Handle,
+    },
     /// Asks for the handle of an instance, `NIL` where it is not known (DDS 1.4, 2.2.2.5, lookup_instance). It is never
     /// refused for want of memory.
-    LookupInstance { reader: u8, key: Key },
+    LookupInstance {
+        reader: u8,
+        key: Key,
+    },
     /// Looks at how many changes a reader passed over, in all and since the last look (DDS 1.4, 2.2.2.5,
     /// get_sample_lost_status). It is never refused for want of memory.
-    GetSampleLost { reader: u8 },
+    GetSampleLost {
+        reader: u8,
+    },
     /// Looks at how many matched writers of a reader are alive, and how many are not alive, now and against the last look
     /// (DDS 1.4, 2.2.2.5, get_liveliness_changed_status). It is never refused for want of memory.
-    GetLivelinessChanged { reader: u8 },
+    GetLivelinessChanged {
+        reader: u8,
+    },
     /// Looks at how often a writer's liveliness was lost, in all and since the last look (DDS 1.4, 2.2.2.4,
     /// get_liveliness_lost_status). It is never refused for want of memory.
-    GetLivelinessLost { writer: u8 },
+    GetLivelinessLost {
+        writer: u8,
+    },
+    /// Reads samples that a read condition of the reader asks for (DDS 1.4, 2.2.2.5, read_w_condition,
+    /// read_next_instance_w_condition). `BadParameter` for a condition that was not made, and for a `max` that is neither -1
+    /// nor positive; `PreconditionNotMet` for one that is no read condition of the reader; `NoData` where there is no such
+    /// sample.
+    ReadByCondition {
+        reader: u8,
+        scope: Scope,
+        condition: u32,
+    },
+    /// Takes samples that a read condition of the reader asks for (DDS 1.4, 2.2.2.5, take_w_condition,
+    /// take_next_instance_w_condition). It is refused as such a read is.
+    TakeByCondition {
+        reader: u8,
+        scope: Scope,
+        condition: u32,
+    },
+    /// Makes a read condition: its trigger value is true while a present sample of the reader meets the masks (DDS 1.4,
+    /// 2.2.2.5, create_readcondition). `OutOfResources` where 2^32 - 1 conditions were made.
+    CreateReadCondition {
+        reader: u8,
+        masks: Masks,
+    },
+    /// Makes a guard condition, whose trigger value is false (DDS 1.4, 2.2.2.1, GuardCondition). `OutOfResources` where
+    /// 2^32 - 1 conditions were made.
+    CreateGuardCondition,
+    /// Gives a guard condition its trigger value (DDS 1.4, 2.2.2.1, set_trigger_value). `BadParameter` for one that was not
+    /// made, `PreconditionNotMet` for one that is no guard. It is never refused for want of memory.
+    SetTriggerValue {
+        condition: u32,
+        value: bool,
+    },
+    /// Deletes a condition, and so detaches it: its number is unknown from then on (DDS 1.4, 2.2.2.5,
+    /// delete_readcondition). `BadParameter` for one that was not made. It is never refused for want of memory.
+    DeleteCondition {
+        condition: u32,
+    },
+    /// Asks for the trigger value of a condition (DDS 1.4, 2.2.2.1, get_trigger_value). `BadParameter` for one that does not
+    /// exist. It is never refused for want of memory.
+    GetTriggerValue {
+        condition: Cond,
+    },
+    /// Makes a WaitSet, with no conditions (DDS 1.4, 2.2.2.1, WaitSet). `OutOfResources` where 2^32 - 1 were made.
+    CreateWaitSet,
+    /// Deletes a WaitSet: its number is unknown from then on. `BadParameter` for one that was not made,
+    /// `PreconditionNotMet` where somebody waits in it. It is never refused for want of memory.
+    DeleteWaitSet {
+        wait_set: u32,
+    },
+    /// Attaches a condition to a WaitSet, as its last one; attached again it stays where it is (DDS 1.4, 2.2.2.1,
+    /// attach_condition). `BadParameter` where one of them does not exist.
+    AttachCondition {
+        wait_set: u32,
+        condition: Cond,
+    },
+    /// Detaches a condition from a WaitSet (DDS 1.4, 2.2.2.1, detach_condition). `BadParameter` where one of them does not
+    /// exist, `PreconditionNotMet` where the condition is not attached. It is never refused for want of memory.
+    DetachCondition {
+        wait_set: u32,
+        condition: Cond,
+    },
+    /// Asks for the conditions of a WaitSet (DDS 1.4, 2.2.2.1, get_conditions). `BadParameter` for one that was not made.
+    GetConditions {
+        wait_set: u32,
+    },
+    /// Somebody waits in a WaitSet, up to this moment (DDS 1.4, 2.2.2.1, wait). `BadParameter` for one that was not made,
+    /// `PreconditionNotMet` where somebody waits in it already. It is never refused for want of memory.
+    WaitBegin {
+        wait_set: u32,
+        deadline: Moment,
+    },
+    /// Looks whether a condition of a WaitSet is true (DDS 1.4, 2.2.2.1, wait). If so, it answers those that are, and the
+    /// wait is over; else it answers `Waiting`, or `Timeout` once the deadline has come, and then the wait is over too.
+    /// `BadParameter` for one that was not made, `PreconditionNotMet` where nobody waits in it.
+    WaitLook {
+        wait_set: u32,
+    },
+    /// Nobody waits in a WaitSet any more (DDS 1.4, 2.2.2.1, wait). `BadParameter` for one that was not made,
+    /// `PreconditionNotMet` where nobody waits in it. It is never refused for want of memory.
+    WaitEnd {
+        wait_set: u32,
+    },
+    /// Enables these statuses of an entity at its status condition, and no others; at first all are (DDS 1.4, 2.2.2.1,
+    /// set_enabled_statuses). `BadParameter` for an entity that the peer does not have. It is never refused for want of
+    /// memory.
+    SetEnabledStatuses {
+        entity: Entity,
+        mask: StatusMask,
+    },
+    /// Asks which statuses of an entity are flagged, enabled or not (DDS 1.4, 2.2.2.1, get_status_changes). `BadParameter`
+    /// for an entity that the peer does not have. It is never refused for want of memory.
+    GetStatusChanges {
+        entity: Entity,
+    },
 }
 
 impl Clone for Call {
@@ -95,6 +223,75 @@ impl Clone for Call {
                 Call::GetLivelinessChanged { reader: *reader }
             }
             Call::GetLivelinessLost { writer } => Call::GetLivelinessLost { writer: *writer },
+            Call::ReadByCondition {
+                reader,
+                scope,
+                condition,
+            } => Call::ReadByCondition {
+                reader: *reader,
+                scope: *scope,
+                condition: *condition,
+            },
+            Call::TakeByCondition {
+                reader,
+                scope,
+                condition,
+            } => Call::TakeByCondition {
+                reader: *reader,
+                scope: *scope,
+                condition: *condition,
+            },
+            Call::CreateReadCondition { reader, masks } => Call::CreateReadCondition {
+                reader: *reader,
+                masks: *masks,
+            },
+            Call::CreateGuardCondition => Call::CreateGuardCondition,
+            Call::SetTriggerValue { condition, value } => Call::SetTriggerValue {
+                condition: *condition,
+                value: *value,
+            },
+            Call::DeleteCondition { condition } => Call::DeleteCondition {
+                condition: *condition,
+            },
+            Call::GetTriggerValue { condition } => Call::GetTriggerValue {
+                condition: *condition,
+            },
+            Call::CreateWaitSet => Call::CreateWaitSet,
+            Call::DeleteWaitSet { wait_set } => Call::DeleteWaitSet {
+                wait_set: *wait_set,
+            },
+            Call::AttachCondition {
+                wait_set,
+                condition,
+            } => Call::AttachCondition {
+                wait_set: *wait_set,
+                condition: *condition,
+            },
+            Call::DetachCondition {
+                wait_set,
+                condition,
+            } => Call::DetachCondition {
+                wait_set: *wait_set,
+                condition: *condition,
+            },
+            Call::GetConditions { wait_set } => Call::GetConditions {
+                wait_set: *wait_set,
+            },
+            Call::WaitBegin { wait_set, deadline } => Call::WaitBegin {
+                wait_set: *wait_set,
+                deadline: *deadline,
+            },
+            Call::WaitLook { wait_set } => Call::WaitLook {
+                wait_set: *wait_set,
+            },
+            Call::WaitEnd { wait_set } => Call::WaitEnd {
+                wait_set: *wait_set,
+            },
+            Call::SetEnabledStatuses { entity, mask } => Call::SetEnabledStatuses {
+                entity: *entity,
+                mask: *mask,
+            },
+            Call::GetStatusChanges { entity } => Call::GetStatusChanges { entity: *entity },
         })
     }
 }

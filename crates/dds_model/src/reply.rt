@@ -7,6 +7,8 @@ use dds_base::{
     Code, Handle, Key, LivelinessChangedStatus, LivelinessLostStatus, PassedRun, Sample,
     SampleLostStatus, Sequence, Sn,
 };
+use dds_conditions::Cond;
+use dds_notices::StatusMask;
 use std::alloc::AllocError;
 
 /// What a delivery moved.
@@ -51,6 +53,17 @@ pub enum Reply {
     SampleLost(SampleLostStatus),
     LivelinessChanged(LivelinessChangedStatus),
     LivelinessLost(LivelinessLostStatus),
+    /// The number of the condition or of the WaitSet that was made, from 1.
+    Created(u32),
+    TriggerValue(bool),
+    /// The conditions of a WaitSet, in the order in which they were attached.
+    Conditions(Sequence<Cond>),
+    /// Those of a WaitSet whose trigger value is true, in the same order: the wait is over.
+    Active(Sequence<Cond>),
+    /// The wait goes on.
+    Waiting,
+    /// The statuses that are flagged.
+    StatusChanges(StatusMask),
     Reported(Report),
     Refused(Code),
 }
@@ -108,6 +121,12 @@ impl Clone for Reply {
             Reply::SampleLost(status) => Reply::SampleLost(*status),
             Reply::LivelinessChanged(status) => Reply::LivelinessChanged(*status),
             Reply::LivelinessLost(status) => Reply::LivelinessLost(*status),
+            Reply::Created(number) => Reply::Created(*number),
+            Reply::TriggerValue(value) => Reply::TriggerValue(*value),
+            Reply::Conditions(conditions) => Reply::Conditions(conditions.copied()?),
+            Reply::Active(conditions) => Reply::Active(conditions.copied()?),
+            Reply::Waiting => Reply::Waiting,
+            Reply::StatusChanges(mask) => Reply::StatusChanges(*mask),
             Reply::Reported(report) => Reply::Reported(report.clone()?),
             Reply::Refused(code) => Reply::Refused(*code),
         })

@@ -1,0 +1,105 @@
+-- The statuses that are flagged, the trigger values of conditions, and what an access by a condition asks for.
+--
+-- DDS 1.4, 2.2.2.1 (get_status_changes, get_trigger_value), 2.2.2.5 (ReadCondition), 2.2.4.2 (changes in status).
+use Rattle.std.specs.Prelude.{ℕ, ◌+◌, Bool, false, ◌&&◌, ◌||◌, ◌==◌, not, nat_le, nat_lt, List, length, Option, Some, None, is_some, if◌then◌else◌}
+use Rattle.std.specs.Int.RustNames.{bit_and}
+use Rattle.dds_base.specs.declared.code.Code.{Code}
+use Rattle.dds_base.specs.declared.code.Code.TheVariants.{BadParameter, PreconditionNotMet}
+use Rattle.dds_base.specs.declared.entity.Entity.{Entity}
+use Rattle.dds_base.specs.declared.entity.Entity.TheVariants as entity
+use Rattle.dds_base.specs.declared.mask.Masks.{Masks}
+use Rattle.dds_base.specs.declared.selection.Scope.{Scope}
+use Rattle.dds_base.specs.declared.selection.Selection.{Selection}
+use Rattle.dds_base.specs.Access.{has_match, no_filter}
+use Rattle.dds_base.specs.Checked.{is_maximum}
+use Rattle.dds_base.specs.Selection.{max_in, selection_in}
+use Rattle.dds_base.specs.Statuses.{lost_count}
+use Rattle.dds_base.specs.StatusFlags.{data_available_at, turned_at}
+use Rattle.dds_base.specs.Written.{liveliness_lost_status}
+use Rattle.dds_notices.specs.declared.mask.StatusMask.{StatusMask}
+use Rattle.dds_conditions.specs.declared.condition.Cond.{Cond}
+use Rattle.dds_conditions.specs.declared.condition.Cond.TheVariants.{Status, Made}
+use Rattle.dds_conditions.specs.declared.condition.Condition.{Condition}
+use Rattle.dds_conditions.specs.declared.condition.Condition.TheVariants.{Samples, Guard}
+use Rattle.dds_conditions.specs.Watched.{enabled_of, knows_entity, made, number_refusal}
+use Rattle.dds_model.specs.Numbered.{has_number}
+use Rattle.dds_model.specs.Part.{Part, Reader, Writer, own_reader, own_writer}
+
+-- ---- statuses
+
+-- changes were passed over since SAMPLE_LOST was looked at
+abbrev pub is_lost_flagged : Reader → Bool
+is_lost_flagged r = nat_lt r.seen.lost (lost_count r.happened)
+
+-- a sample came since the last read or take
+abbrev pub is_data_flagged : Reader → Bool
+is_data_flagged r = nat_lt 0 (data_available_at r.qos r.happened)
+
+-- a writer became alive, or not alive, since LIVELINESS_CHANGED was looked at
+abbrev pub is_turn_flagged : Reader → Bool
+is_turn_flagged r = nat_lt r.seen.turned (turned_at r.happened)
+
+-- the writer's liveliness was lost since LIVELINESS_LOST was looked at
+abbrev pub is_loss_flagged : Writer → Bool
+is_loss_flagged w = nat_lt 0 (liveliness_lost_status w.lease w.written).total_count_change
+
+-- the bit, where the test holds
+abbrev pub bit_if : Bool → ℕ → ℕ
+bit_if b bit = if b then bit else 0
+
+-- the flagged statuses of a reader and of a writer, as a mask (2.3.3)
+abbrev pub reader_statuses : Reader → StatusMask
+reader_statuses r = record { 0 = bit_if (is_lost_flagged r) 128 + (bit_if (is_data_flagged r) 1024 + bit_if (is_turn_flagged r) 4096) }
+
+abbrev pub writer_statuses : Writer → StatusMask
+writer_statuses w = record { 0 = bit_if (is_loss_flagged w) 2048 }
+
+-- the flagged statuses of an entity; the participant has none of its own (Entity, get_status_changes)
+abbrev pub status_changes : Part → Entity → StatusMask
+status_changes part entity.Participant = record { 0 = 0 }
+status_changes part (entity.Writer writer) = writer_statuses (own_writer part writer)
+status_changes part (entity.Reader reader) = reader_statuses (own_reader part reader)
+
+-- ---- trigger values
+
+-- two masks have a bit in common
+abbrev pub meet : StatusMask → StatusMask → Bool
+meet a b = not (bit_and a.0 b.0 == 0)
+
+-- a condition that was made: a read condition is true while a present sample meets its masks, a guard as it was set
+abbrev pub value_of : Part → Option Condition → Bool
+value_of part None = false
+value_of part (Some (Samples reader masks)) = has_match (own_reader part reader).qos (own_reader part reader).happened masks no_filter
+value_of part (Some (Guard value)) = value
+
+-- the trigger value of a condition; that of an entity is true while one of its enabled statuses is flagged
+abbrev pub trigger_value : Part → Cond → Bool
+trigger_value part (Status entity) = knows_entity part.dds.watch entity && meet (enabled_of part.dds.watch entity (record { 0 = 0 })) (status_changes part entity)
+trigger_value part (Made number) = value_of part (made part.dds.watch.conditions number)
+
+-- ---- accesses by a condition
+
+-- why a read condition is not made: no such reader, or no number is left
+abbrev pub read_condition_refusal : Part → ℕ → Option Code
+read_condition_refusal part reader = if not (has_number part.dds.readers reader) then Some BadParameter else number_refusal part.dds.watch.conditions
+
+-- the condition is a read condition of this reader
+abbrev pub is_condition_of : ℕ → Option Condition → Bool
+is_condition_of reader (Some (Samples other masks)) = other == reader
+is_condition_of reader _ = false
+
+-- why an access by a condition is refused: no such reader, no such condition, or a max that is neither -1 nor positive; or a
+-- condition that is no read condition of the reader (read_w_condition)
+abbrev pub condition_refusal : Part → ℕ → Scope → ℕ → Option Code
+condition_refusal part reader scope condition =
+    if not (has_number part.dds.readers reader) || (not (is_some (made part.dds.watch.conditions condition)) || not (is_maximum (max_in scope))) then Some BadParameter
+    else (if not (is_condition_of reader (made part.dds.watch.conditions condition)) then Some PreconditionNotMet else None)
+
+-- the masks of a read condition
+abbrev pub masks_of : Option Condition → Masks
+masks_of (Some (Samples reader masks)) = masks
+masks_of _ = record { samples = record { 0 = 0 }; views = record { 0 = 0 }; instances = record { 0 = 0 } }
+
+-- what an access by a condition asks for
+abbrev pub condition_selection : Part → Scope → ℕ → Selection
+condition_selection part scope condition = selection_in scope (masks_of (made part.dds.watch.conditions condition))
