@@ -14,6 +14,7 @@ use Rattle.dds_base.specs.declared.sample.Sample.{Sample}
 use Rattle.dds_base.specs.Access.{no_filter, collection_of}
 use Rattle.dds_base.specs.Refusal.{Refuses}
 use Rattle.dds_base.specs.Selection.{picked_by, selection_refusal}
+use Rattle.dds_base.specs.StatusFlags.{turned_at}
 use Rattle.dds_base.specs.Statuses.{lost_count}
 use Rattle.dds_cache.specs.Standing.{Stored, qos_of, StandsFor as CacheStandsFor, Answers, AfterAccess, picked, refusal}
 use Rattle.dds_model.specs.declared.call.Call.{Call}
@@ -21,7 +22,8 @@ use Rattle.dds_model.specs.declared.call.Call.TheVariants as call
 use Rattle.dds_model.specs.declared.event.Event.TheVariants as event
 use Rattle.dds_model.specs.declared.reply.Reply.{Reply}
 use Rattle.dds_model.specs.declared.reply.Reply.TheVariants.{Samples, Refused}
-use Rattle.dds_model.specs.Calls.{Answers as CallAnswers, AnswersAccess, CallStep, Effect, nothing, effect, effect_of, access_refusal, picked_at, has_number, with_happening}
+use Rattle.dds_model.specs.Calls.{Answers as CallAnswers, AnswersAccess, CallStep, Effect, nothing, effect, effect_of, access_refusal, picked_at, with_happening}
+use Rattle.dds_model.specs.Numbered.{has_number}
 use Rattle.dds_model.specs.Machine.{no_filters}
 use Rattle.dds_model.specs.Part.{Part, Dds, Reader, WriterProxy, own_reader, own_proxies, Seen}
 use Rattle.dds_model.specs.Peer.{Peer}
@@ -44,6 +46,7 @@ use Rattle.dds_core.proofs.Lists.{set_back}
 -- what happens at a reader where an access was entered: nothing was passed over, and no writer asserted or died
 pub record IsQuiet (entry : List SamplePosition → Happening) : Type 0 where
   pub lost : (samples : List SamplePosition) (h : List Happening) → lost_count (entry samples ∷ h) ≡ lost_count h
+  pub turned : (samples : List SamplePosition) (h : List Happening) → turned_at (entry samples ∷ h) ≡ turned_at h
   pub leases : (kept : Leased) (q : ReaderQos) (samples : List SamplePosition) (h : List Happening) → LeasesStandFor kept q h → LeasesStandFor kept q (entry samples ∷ h)
 
 -- the call is an access that enters so: it is answered as one, and does nothing at a writer
@@ -53,10 +56,10 @@ pub record IsAccess (c : Call) (entry : List SamplePosition → Happening) (read
   pub effect : (part : Part) (reply : Reply) → effect_of part c reply ≡ nothing
 
 pub read_is_access : (reader : ℕ) (selection : Selection) → IsAccess (call.Read reader selection) HasRead reader selection
-read_is_access reader selection = record { quiet = record { lost = λ samples h. refl; leases = λ kept q samples h s. record { tracks = s.tracks; last_turned = s.last_turned } }; answers = λ part reply dds a. a; effect = λ part reply. refl }
+read_is_access reader selection = record { quiet = record { lost = λ samples h. refl; turned = λ samples h. refl; leases = λ kept q samples h s. record { tracks = s.tracks; last_turned = s.last_turned } }; answers = λ part reply dds a. a; effect = λ part reply. refl }
 
 pub take_is_access : (reader : ℕ) (selection : Selection) → IsAccess (call.Take reader selection) Took reader selection
-take_is_access reader selection = record { quiet = record { lost = λ samples h. refl; leases = λ kept q samples h s. record { tracks = s.tracks; last_turned = s.last_turned } }; answers = λ part reply dds a. a; effect = λ part reply. refl }
+take_is_access reader selection = record { quiet = record { lost = λ samples h. refl; turned = λ samples h. refl; leases = λ kept q samples h s. record { tracks = s.tracks; last_turned = s.last_turned } }; answers = λ part reply dds a. a; effect = λ part reply. refl }
 
 -- the reader with one more entry, an access
 one_entered : (entry : List SamplePosition → Happening) → IsQuiet entry → (k k' : ReaderKept) (proxies : List WriterProxy) (r : Reader) (tracked : Endpoint → Tracked) (samples : List SamplePosition) → TakesOnly k k' → ReaderStands k proxies r tracked
@@ -71,6 +74,7 @@ one_entered entry quiet k k' proxies r tracked samples same s stands = record {
     leases = subst (λ (l : Leased). LeasesStandFor l (qos_of k'.store.cache) (entry samples ∷ r.happened)) (sym same.leases)
         (subst (λ (q : ReaderQos). LeasesStandFor k.store.leases q (entry samples ∷ r.happened)) (sym same.qos) (quiet.leases k.store.leases (qos_of k.store.cache) samples r.happened s.holds.leases));
     lost_is = same.lost ∙ (s.holds.lost_is ∙ sym (quiet.lost samples r.happened));
+    turned_is = same.turned ∙ (s.holds.turned_is ∙ sym (quiet.turned samples r.happened));
   };
   seen_is = s.seen_is ∙ sym same.seen;
 }
@@ -103,10 +107,11 @@ not_entered c kept i k k' config peer code s at same is =
 kept_same : (k k' : ReaderKept) → TakesOnly k k' → k'.store.cache ≡ k.store.cache → k' ≡ k
 kept_same k k' same cache =
     reader_as k'.entity k.entity k'.writers k.writers k'.reader k.reader k'.store k.store k'.seen k.seen same.entity same.writers same.reader
-    (store_as k'.store.lost k.store.lost k'.store.leases k.store.leases k'.store.cache k.store.cache same.lost same.leases cache) same.seen
+    (store_as k'.store.lost k.store.lost k'.store.turned k.store.turned k'.store.leases k.store.leases k'.store.cache k.store.cache same.lost same.turned same.leases cache) same.seen
   where
-    store_as : (i j : ℕ) (l m : Leased) (c d : Stored) → i ≡ j → l ≡ m → c ≡ d → ◌≡◌ {A = StoreKept} (record { lost = i; leases = l; cache = c }) (record { lost = j; leases = m; cache = d })
-    store_as i j l m c d e f g = cc
+    store_as : (i j t u : ℕ) (l m : Leased) (c d : Stored) → i ≡ j → t ≡ u → l ≡ m → c ≡ d
+        → ◌≡◌ {A = StoreKept} (record { lost = i; turned = t; leases = l; cache = c }) (record { lost = j; turned = u; leases = m; cache = d })
+    store_as i j t u l m c d e f g h = cc
 
     reader_as : (a b : EntityId) (x y : List WriterName) (p q : Proxies) (s t : StoreKept) (i j : Seen) → a ≡ b → x ≡ y → p ≡ q → s ≡ t → i ≡ j
         → ◌≡◌ {A = ReaderKept} (record { entity = a; writers = x; reader = p; store = s; seen = i }) (record { entity = b; writers = y; reader = q; store = t; seen = j })

@@ -11,7 +11,8 @@ use Rattle.dds_cache.specs.Standing.{qos_of}
 use Rattle.dds_model.specs.declared.call.Call.TheVariants as call
 use Rattle.dds_model.specs.declared.event.Event.TheVariants as event
 use Rattle.dds_model.specs.declared.reply.Reply.TheVariants.{KeyValue, InstanceHandle, Refused}
-use Rattle.dds_model.specs.Calls.{look_refusal, key_of, key_refusal, has_number}
+use Rattle.dds_model.specs.Calls.{look_refusal, key_of, key_refusal}
+use Rattle.dds_model.specs.Numbered.{has_number}
 use Rattle.dds_model.specs.Part.{Part, own_reader}
 use Rattle.dds_model.specs.Peer.{Peer}
 use Rattle.dds_core.specs.Kept.{ReaderKept, CoreKept}

@@ -20,7 +20,8 @@ use Rattle.dds_model.specs.declared.event.Output.{Output}
 use Rattle.dds_model.specs.declared.reply.Reply.{Reply}
 use Rattle.dds_model.specs.declared.reply.Reply.TheVariants.{Done, LivelinessLost, Refused}
 use Rattle.dds_model.specs.declared.endpoint.Endpoint.{Endpoint}
-use Rattle.dds_model.specs.Calls.{Effect, nothing, writes, effect, effect_of, IsDoneUnless, Answers, CallStep, has_number, register_refusal, write_refusal, dispose_refusal, unregister_refusal, change_refusal, change_made, unregister_kind, tick_refusal, after_tick, is_deadly, RefusesTick, TickStep, writer_look_refusal}
+use Rattle.dds_model.specs.Calls.{Effect, nothing, writes, effect, effect_of, IsDoneUnless, Answers, CallStep, register_refusal, write_refusal, dispose_refusal, unregister_refusal, change_refusal, change_made, unregister_kind, tick_refusal, after_tick, is_deadly, RefusesTick, TickStep, writer_look_refusal}
+use Rattle.dds_model.specs.Numbered.{has_number}
 use Rattle.dds_model.specs.Machine.{no_filters}
 use Rattle.dds_model.specs.Part.{Part, Dds, Writer, own_writer}
 use Rattle.dds_model.specs.Peer.{Peer, PeerStep}
@@ -65,6 +66,23 @@ refused_nothing part (call.LookupInstance r key) x = refl
 refused_nothing part (call.GetSampleLost r) x = refl
 refused_nothing part (call.GetLivelinessChanged r) x = refl
 refused_nothing part (call.GetLivelinessLost w) x = refl
+refused_nothing part (call.ReadByCondition r scope n) x = refl
+refused_nothing part (call.TakeByCondition r scope n) x = refl
+refused_nothing part (call.CreateReadCondition r masks) x = refl
+refused_nothing part call.CreateGuardCondition x = refl
+refused_nothing part (call.SetTriggerValue n value) x = refl
+refused_nothing part (call.DeleteCondition n) x = refl
+refused_nothing part (call.GetTriggerValue n) x = refl
+refused_nothing part call.CreateWaitSet x = refl
+refused_nothing part (call.DeleteWaitSet n) x = refl
+refused_nothing part (call.AttachCondition n m) x = refl
+refused_nothing part (call.DetachCondition n m) x = refl
+refused_nothing part (call.GetConditions n) x = refl
+refused_nothing part (call.WaitBegin n deadline) x = refl
+refused_nothing part (call.WaitLook n) x = refl
+refused_nothing part (call.WaitEnd n) x = refl
+refused_nothing part (call.SetEnabledStatuses e mask) x = refl
+refused_nothing part (call.GetStatusChanges e) x = refl
 
 -- a call that changes nothing
 pub unchanging_call : (kept : CoreKept) (config : Config) (peer : Peer) → StandsFor kept config peer → (c : Call) (reply : Reply) → effect_of peer.part c reply ≡ nothing → Answers no_filters peer.part c reply peer.part.dds
@@ -266,6 +284,7 @@ ticks kept writers readers config peer s now on early all expired output done be
         is_peer = same_peer kept config peer.number writers readers (same_names now kept.writers writers all) (expired_names now kept.readers readers expired) s.is_peer;
         moment = refl;
         early = early;
+        watch = s.watch;
         writers = writers_ticked now kept.writers writers peer.part.rtps.writers peer.known.answered all s.writers;
         readers = readers_expired now kept.readers readers peer.part.rtps.readers peer.part.dds.readers peer.known expired s.readers;
         tellable = tellable_ticked peer.part now s.tellable;

@@ -1,13 +1,18 @@
 -- A tick's deaths at a reader, one after the other.
-use Rattle.std.proofs.Common.{◌≡◌, ℕ, zero, suc, ◌+◌, ◌<◌, ◌≤◌, List, [], ◌∷◌, Some, length, map, ◌||◌, get_or, set, slice_get, refl, ap, sym, ◌∙◌, subst, arith, ⊎_elim, length-set, Bool, true, false, nat_lt}
+use Rattle.std.proofs.Common.{◌≡◌, ℕ, zero, suc, ◌+◌, ◌<◌, ◌≤◌, List, [], ◌∷◌, Some, length, map, ◌||◌, get_or, set, slice_get, refl, ap, sym, ◌∙◌, subst, arith, ⊎_elim, length-set, Bool, true, false, not, ◌&&◌, Option, None, cond, nat_lt}
+use Rattle.std.specs.Prelude.{filter, find, if◌then◌else◌, is_some}
 use Rattle.std.specs.List.{list_any}
+use Rattle.std.proofs.lemmas.Bool.{cases_Bool}
 use Rattle.std.proofs.lemmas.Bool.Decides.{nat_tests}
 use Rattle.std.proofs.lemmas.List.{length-map}
 use Rattle.std.proofs.lemmas.Option.{same_Some, get_or_from_slice_get, slice_get-get_or}
 use Rattle.dds_base.specs.declared.happening.Happening.{Happening}
 use Rattle.dds_base.specs.declared.happening.Happening.TheVariants.{Died}
 use Rattle.dds_base.specs.declared.qos.ReaderQos.{ReaderQos}
-use Rattle.dds_base.specs.Liveliness.{after_deaths, dead_at}
+use Rattle.dds_base.specs.Liveliness.{after_deaths, alive_since, dead_at, is_alive, is_death_of, is_overdue, lease_of}
+use Rattle.dds_base.specs.Ownership.{publication_handles, writer_of}
+use Rattle.dds_base.specs.StatusFlags.{turned_at}
+use Rattle.dds_base.specs.Written.{is_over}
 use Rattle.dds_cache.specs.Standing.{qos_of, StandsFor as CacheStandsFor}
 use Rattle.dds_lease.specs.Standing.{after_deaths_above, writer_count, StandsFor as LeasesStandFor}
 use Rattle.dds_lease.proofs.DeathLaws.{above_none}
@@ -49,18 +54,50 @@ pub all_died : (q : ReaderQos) (now after : ℕ) (store : StoreKept) (end : List
     → after_deaths_above q now after l.happened ≡ l.happened → Holds store end
 all_died q now after store end l none = subst (λ (h : List Happening). Holds store h) (sym none ∙ l.left) l.holds
 
+-- whoever is found in a filtered list passes the test
+found_in : (due above : ℕ → Bool) (w : ℕ) (vs : List ℕ) → Some w ≡ find above (filter due vs) → due w ≡ true
+found_in due above w [] is = absurd cc
+found_in due above w (v ∷ vs) is = ⊎_elim
+    (λ due_here. here (above v) due_here (found_in due above w vs) (is ∙ ap (λ (b : Bool). find above (cond b (v ∷ filter due vs) (filter due vs))) due_here))
+    (λ not_due. found_in due above w vs (is ∙ ap (λ (b : Bool). find above (cond b (v ∷ filter due vs) (filter due vs))) not_due))
+    (cases_Bool (due v))
+  where
+    here : (b : Bool) → due v ≡ true → (Some w ≡ find above (filter due vs) → due w ≡ true) → Some w ≡ cond b (Some v) (find above (filter due vs)) → due w ≡ true
+    here true v_due rest at = subst (λ (x : ℕ). due x ≡ true) (sym (same_Some w v at)) v_due
+    here false v_due rest at = rest at
+
+-- whoever is overdue is alive
+overdue_alive : (lease since : Option ℕ) (now : ℕ) → is_over lease since now ≡ true → is_some since ≡ true
+overdue_alive (Some lease) (Some since) now is = refl
+overdue_alive (Some lease) None now is = absurd cc
+overdue_alive None since now is = absurd cc
+
+-- and turns by its death
+turned_by_death : (q : ReaderQos) (now after w : ℕ) (h : List Happening) → Some w ≡ find (λ v. nat_lt after v) (dead_at q now h)
+    → length (Died w now ∷ h) ≡ turned_at (Died w now ∷ h)
+turned_by_death q now after w h first =
+    turns (list_any (is_death_of w) h) (is_alive w h)
+    (overdue_alive (lease_of (writer_of q.writers w)) (alive_since w h) now (found_in (is_overdue q now h) (λ v. nat_lt after v) w (publication_handles q) first))
+  where
+    turns : (died alive : Bool) → alive ≡ true → suc (length h) ≡ (if not (died && not alive) then length h + 1 else turned_at h)
+    turns true true is = omega arith
+    turns false true is = omega arith
+    turns died false is = absurd cc
+
 -- one more has
 pub next_died : (q : ReaderQos) (now after w : ℕ) (store new : StoreKept) (end : List Happening)
     → (l : LeadsTo q now after store end) → LeasesStandFor new.leases q (Died w now ∷ l.happened)
     → after_deaths_above q now after l.happened ≡ after_deaths_above q now w (Died w now ∷ l.happened)
     → CacheStandsFor new.cache (Died w now ∷ l.happened) → qos_of new.cache ≡ q → new.lost ≡ store.lost
+    → Some w ≡ find (λ v. nat_lt after v) (dead_at q now l.happened) → new.turned ≡ length (Died w now ∷ l.happened)
     → LeadsTo q now w new end
-next_died q now after w store new end l leases turn cache same lost = record {
+next_died q now after w store new end l leases turn cache same lost first turned = record {
   happened = Died w now ∷ l.happened;
   holds = record {
     cache = cache;
     leases = subst (λ (p : ReaderQos). LeasesStandFor new.leases p (Died w now ∷ l.happened)) (sym same) leases;
     lost_is = lost ∙ l.holds.lost_is;
+    turned_is = turned ∙ turned_by_death q now after w l.happened first;
   };
   left = sym turn ∙ l.left;
 }

@@ -68,6 +68,7 @@ own_writer_stepped kept i k k' entry config peer s at enters tellable =
       is_peer = subst (λ (x : Identity). IsPeerOf config peer.number x) (sym (same_with_writer kept i k k' at enters.same)) s.is_peer;
       moment = s.moment;
       early = s.early;
+      watch = s.watch;
       writers = record {
         count = length-set ws i (with_written (get_or ws i no_writer) entry) ∙ (s.writers.count ∙ sym (length-set kept.writers i k'));
         each = writers_set kept.writers ws i k' (with_written (get_or ws i no_writer) entry) peer.known.answered s.writers.count s.writers.each
@@ -106,6 +107,7 @@ own_reader_stepped kept i k k' proxies r known config peer s at same counts othe
       is_peer = subst (λ (x : Identity). IsPeerOf config peer.number x) (sym (same_with_reader kept i k k' at same)) s.is_peer;
       moment = s.moment;
       early = s.early;
+      watch = s.watch;
       writers = subst (λ (answered : ℕ → Endpoint → Option ℤ). WritersStand kept.writers peer.part.rtps.writers answered) (sym counts) s.writers;
       readers = record {
         rows = length-set ps i proxies ∙ (s.readers.rows ∙ sym (length-set kept.readers i k'));

@@ -21,6 +21,8 @@ pub mod Ticking
 pub mod Accessing
 pub mod Asking
 pub mod Looked
+pub mod Watched
+pub mod Triggers
 pub mod WriterEnds
 pub mod Named
 pub mod Rows

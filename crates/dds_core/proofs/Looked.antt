@@ -7,6 +7,7 @@ use Rattle.dds_base.specs.declared.qos.ReaderQos.{ReaderQos}
 use Rattle.dds_base.specs.declared.status.LivelinessChangedStatus.{LivelinessChangedStatus}
 use Rattle.dds_base.specs.declared.status.SampleLostStatus.{SampleLostStatus}
 use Rattle.dds_base.specs.Liveliness.{alive_count, not_alive_count, liveliness_changed_status}
+use Rattle.dds_base.specs.StatusFlags.{turned_at}
 use Rattle.dds_base.specs.Statuses.{lost_count, sample_lost_status}
 use Rattle.dds_model.specs.declared.call.Call.{Call}
 use Rattle.dds_model.specs.declared.call.Call.TheVariants as call
@@ -95,8 +96,8 @@ looked_at_liveliness kept reader i k k' status seen config peer s is lt at tells
     told.0 ∙ (ap (λ (q : ReaderQos). liveliness_changed_status q r.happened k.seen.alive k.seen.not_alive) (sym rs.qos_is)
     ∙ ap (λ (x : Seen). liveliness_changed_status r.qos r.happened x.alive x.not_alive) (sym rs.seen_is)) in
     let same : seen ≡ seen_liveliness r =
-    told.1 ∙ (ap (λ (q : ReaderQos). record k.seen { alive = alive_count q r.happened; not_alive = not_alive_count q r.happened }) (sym rs.qos_is)
-    ∙ ap (λ (x : Seen). record x { alive = alive_count r.qos r.happened; not_alive = not_alive_count r.qos r.happened }) (sym rs.seen_is)) in
+    told.1 ∙ (ap (λ (q : ReaderQos). record k.seen { alive = alive_count q r.happened; not_alive = not_alive_count q r.happened; turned = turned_at r.happened }) (sym rs.qos_is)
+    ∙ ap (λ (x : Seen). record x { alive = alive_count r.qos r.happened; not_alive = not_alive_count r.qos r.happened; turned = turned_at r.happened }) (sym rs.seen_is)) in
     let look : Follows (with_reader kept i (record k { seen = seen_liveliness r })) config peer (event.Call (call.GetLivelinessChanged (suc i))) (silent (LivelinessChanged status)) =
     looked (call.GetLivelinessChanged (suc i)) kept i k (LivelinessChanged status) (seen_liveliness r) config peer s at
     (record { answers = (known_reader kept i config peer s lt, answer, refl); effect = refl }) in

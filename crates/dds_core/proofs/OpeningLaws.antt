@@ -6,6 +6,7 @@ use Rattle.dds_base.specs.declared.config.PeerConfig.{PeerConfig}
 use Rattle.dds_base.specs.declared.config.WriterConfig.{WriterConfig}
 use Rattle.dds_base.specs.declared.config.ReaderConfig.{ReaderConfig}
 use Rattle.dds_base.specs.Checked.{check_refusal}
+use Rattle.dds_conditions.specs.Watched.{Watched, opened}
 use Rattle.dds_model.specs.Opening.{opening_writer, matched_writers, reader_qos, opening_part, opening_peers}
 use Rattle.dds_model.specs.Part.{Writer, Reader, WriterProxy, no_writer, no_reader, nothing_seen}
 use Rattle.rtps_reader.specs.Tracked.{fresh}
@@ -125,10 +126,11 @@ opening_is peers index own at =
 is_numbered : (peers : List PeerConfig) (index : ℕ) (own : PeerConfig) → slice_get peers index ≡ Some own → slice_get peers (1 + index - 1) ≡ Some own
 is_numbered peers index own at = let same : index ≡ 1 + index - 1 = omega arith in subst (λ (k : ℕ). slice_get peers k ≡ Some own) same at
 
-stands_begun : (peers : List PeerConfig) (index moment : ℕ) (own : PeerConfig) (writers : List WriterKept) (readers : List ReaderKept) → check_refusal peers ≡ None → slice_get peers index ≡ Some own → moment ≡ 0
+stands_begun : (peers : List PeerConfig) (index moment : ℕ) (own : PeerConfig) (writers : List WriterKept) (readers : List ReaderKept) (watch : Watched) → check_refusal peers ≡ None → slice_get peers index ≡ Some own → moment ≡ 0
+    → watch ≡ opened (length writers) (length readers)
     → OpenWriters peers own.writers writers → OpenReaders peers own.readers readers
-    → StandsFor (record { prefix = own.prefix; moment = moment; writers = writers; readers = readers }) (record { peers = peers }) (begun peers own (1 + index))
-stands_begun peers index moment own writers readers checked at begins ws rs = record {
+    → StandsFor (record { prefix = own.prefix; moment = moment; writers = writers; readers = readers; watch = watch }) (record { peers = peers }) (begun peers own (1 + index))
+stands_begun peers index moment own writers readers watch checked at begins watches ws rs = record {
   is_peer = record {
     checked = checked;
     own = own;
@@ -142,11 +144,12 @@ stands_begun peers index moment own writers readers checked at begins ws rs = re
   writers = writers_stand peers own.writers writers ws;
   readers = readers_stand peers own.readers readers rs;
   tellable = tellable_opening peers own;
+  watch = sym (watches ∙ (ap (λ (n : ℕ). opened n (length readers)) ws.count ∙ ap (λ (n : ℕ). opened (length own.writers) n) rs.count));
 }
 
-pub opens_core : (peers : List PeerConfig) (index moment : ℕ) (own : PeerConfig) (writers : List WriterKept) (readers : List ReaderKept) → index < length peers → check_refusal peers ≡ None → own ≡ get_or peers index own → moment ≡ 0
-    → OpenWriters peers own.writers writers → OpenReaders peers own.readers readers → OpensCore peers index (record { prefix = own.prefix; moment = moment; writers = writers; readers = readers })
-opens_core peers index moment own writers readers within checked is begins ws rs =
+pub opens_core : (peers : List PeerConfig) (index moment : ℕ) (own : PeerConfig) (writers : List WriterKept) (readers : List ReaderKept) (watch : Watched) → index < length peers → check_refusal peers ≡ None → own ≡ get_or peers index own → moment ≡ 0
+    → watch ≡ opened (length writers) (length readers) → OpenWriters peers own.writers writers → OpenReaders peers own.readers readers → OpensCore peers index (record { prefix = own.prefix; moment = moment; writers = writers; readers = readers; watch = watch })
+opens_core peers index moment own writers readers watch within checked is begins watches ws rs =
     let at : slice_get peers index ≡ Some own = slice_get-get_or peers index own within ∙ ap (λ (p : PeerConfig). Some p) (sym is) in
-    subst (λ (p : Peer). StandsFor (record { prefix = own.prefix; moment = moment; writers = writers; readers = readers }) (record { peers = peers }) p) (opening_is peers index own at)
-    (stands_begun peers index moment own writers readers checked at begins ws rs)
+    subst (λ (p : Peer). StandsFor (record { prefix = own.prefix; moment = moment; writers = writers; readers = readers; watch = watch }) (record { peers = peers }) p) (opening_is peers index own at)
+    (stands_begun peers index moment own writers readers watch checked at begins watches ws rs)

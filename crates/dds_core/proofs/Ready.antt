@@ -142,6 +142,7 @@ alike_core kept readers h config peer s =
       is_peer = subst (λ (x : Identity). IsPeerOf config peer.number x) (sym (ap identity (same_identities kept.readers readers h))) s.is_peer;
       moment = s.moment;
       early = s.early;
+      watch = s.watch;
       writers = s.writers;
       readers = record {
         rows = s.readers.rows ∙ sym h.count;

@@ -132,6 +132,7 @@ writer_put config peer kept s i k k' at same w answered stands others tellable =
       is_peer = subst (λ (x : Identity). IsPeerOf config peer.number x) (sym (same_with_writer kept i k k' at same)) s.is_peer;
       moment = s.moment;
       early = s.early;
+      watch = s.watch;
       writers = record {
         count = length-set ws i w ∙ (s.writers.count ∙ sym (length-set kept.writers i k'));
         each = each_set_at (λ (j : ℕ) (x : WriterKept) (y : Writer) (z : Writer). WriterStands x y (answered (suc j))) kept.writers ws ws i k' w no_writer w no_writer s.writers.count s.writers.count

@@ -48,7 +48,7 @@ stands_again kept config peer after number part known s =
     subst (λ n. StandsFor kept config (record { number = n; part = after.part; known = after.known; delivered = after.delivered })) (sym number)
     (subst (λ p. StandsFor kept config (record { number = peer.number; part = p; known = after.known; delivered = after.delivered })) (sym part)
     (subst (λ k. StandsFor kept config (record { number = peer.number; part = peer.part; known = k; delivered = after.delivered })) (sym known)
-    (record { is_peer = s.is_peer; moment = s.moment; early = s.early; writers = s.writers; readers = s.readers; tellable = s.tellable })))
+    (record { is_peer = s.is_peer; moment = s.moment; early = s.early; writers = s.writers; readers = s.readers; tellable = s.tellable; watch = s.watch })))
 
 pub numbered_prefix : (ps : List PeerConfig) (n : ℕ) (p : PeerConfig) → IsNumbered ps n p → (numbered ps n (record { prefix = unknown_prefix; writers = []; readers = [] })).prefix ≡ p.prefix
 numbered_prefix ps zero p at = let low = at.0 in absurd (omega (arith, low))

@@ -8,6 +8,7 @@ use Rattle.dds_base.specs.declared.guid.GuidPrefix.{GuidPrefix}
 use Rattle.dds_base.specs.declared.guid.EntityId.{EntityId}
 use Rattle.dds_base.specs.Checked.{check_refusal}
 use Rattle.dds_cache.specs.Standing.{qos_of}
+use Rattle.dds_conditions.specs.Watched.{Watched}
 use Rattle.rtps_reader.specs.Reader.{Proxies, count_of}
 use Rattle.rtps_writer.specs.Standing.{Kept}
 use Rattle.dds_core.specs.Stored.{StoreKept}
@@ -45,6 +46,7 @@ pub record CoreKept : Type 0 where
   pub moment : ℕ
   pub writers : List WriterKept
   pub readers : List ReaderKept
+  pub watch : Watched
 
 -- what never changes of a writer, a reader and a peer: their names, and those of the ends that they are matched with
 pub record WriterIdentity : Type 0 where

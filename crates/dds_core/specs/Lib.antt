@@ -10,3 +10,4 @@ pub mod Beating
 pub mod Answering
 pub mod Pairs
 pub mod Expiring
+pub mod Watching

@@ -8,7 +8,7 @@ use Rattle.dds_base.specs.declared.config.WriterConfig.{WriterConfig}
 use Rattle.dds_base.specs.declared.config.ReaderConfig.{ReaderConfig}
 use Rattle.dds_base.specs.Checked.{check_refusal}
 use Rattle.rtps_reader.specs.Tracked.{fresh}
-use Rattle.dds_model.specs.Calls.{has_number}
+use Rattle.dds_model.specs.Numbered.{has_number}
 use Rattle.dds_model.specs.Opening.{opening_writer, matched_writers, reader_qos, opening_world}
 use Rattle.dds_model.specs.Part.{nothing_seen}
 use Rattle.dds_model.specs.Peer.{Peer}

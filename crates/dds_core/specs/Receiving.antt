@@ -2,19 +2,22 @@
 -- with memory for all that it does, before the first of them is told; so it is taken up by all of them or by none.
 --
 -- RTPS 2.5, 8.3.4 (the message receiver), 8.4.12 (the behaviour of a reliable StatefulReader).
-use Rattle.std.specs.Prelude.{◌≡◌, ◌⊎◌, ◌+◌, ◌^◌, ◌<◌, ◌≤◌, true, false, ℕ, List, [], ◌∷◌, ◌++◌, drop, set, length, slice_get, nat_lt, if◌then◌else◌, Option, Some, None, Result, Ok, Err}
+use Rattle.std.specs.Prelude.{◌≡◌, ◌⊎◌, ◌+◌, ◌^◌, ◌<◌, ◌≤◌, true, false, Bool, ℕ, List, [], ◌∷◌, ◌++◌, drop, set, length, slice_get, nat_lt, if◌then◌else◌, Option, Some, None, Result, Ok, Err}
 use Rattle.dds_base.specs.declared.code.Code.{Code}
 use Rattle.dds_base.specs.declared.config.Config.{Config}
 use Rattle.dds_base.specs.declared.guid.EntityId.{EntityId}
 use Rattle.dds_base.specs.declared.guid.Guid.{Guid}
 use Rattle.dds_base.specs.declared.guid.GuidPrefix.{GuidPrefix}
 use Rattle.dds_base.specs.declared.happening.Happening.{Happening}
+use Rattle.dds_base.specs.declared.mask.Masks.{Masks}
 use Rattle.dds_base.specs.declared.sample.Sample.{Sample}
 use Rattle.dds_base.specs.declared.status.LivelinessChangedStatus.{LivelinessChangedStatus}
 use Rattle.dds_base.specs.declared.status.SampleLostStatus.{SampleLostStatus}
+use Rattle.dds_base.specs.Access.{has_match, no_filter}
 use Rattle.dds_base.specs.Kept.{numbers_from}
 use Rattle.dds_base.specs.Places.{Match}
 use Rattle.dds_base.specs.Liveliness.{alive_count, not_alive_count, liveliness_changed_status}
+use Rattle.dds_base.specs.StatusFlags.{turned_at}
 use Rattle.dds_base.specs.Statuses.{sample_lost_status}
 use Rattle.dds_cache.specs.Standing.{qos_of, room_of}
 use Rattle.rtps_reader.specs.declared.step.Step.{Step}
@@ -25,6 +28,7 @@ use Rattle.rtps_wire.specs.declared.message.Message.{Message}
 use Rattle.rtps_wire.specs.declared.submessage.Submessage.{Submessage}
 use Rattle.rtps_wire.specs.declared.submessage.Submessage.TheVariants.{Data, Heartbeat, AckNack, Gap}
 use Rattle.rtps_wire.specs.Content.{change_in}
+use Rattle.dds_notices.specs.declared.mask.StatusMask.{StatusMask}
 use Rattle.dds_model.specs.declared.endpoint.Endpoint.{Endpoint}
 use Rattle.dds_model.specs.declared.reply.Move.{Move}
 use Rattle.dds_model.specs.declared.reply.Move.TheVariants.{Place, Heard}
@@ -33,7 +37,8 @@ use Rattle.dds_model.specs.declared.reply.Report.{Report}
 use Rattle.dds_model.specs.declared.reply.Reply.TheVariants.{Samples, Refused}
 use Rattle.dds_model.specs.Claims.{Receiver, receiver_of, is_for, Names}
 use Rattle.dds_model.specs.Peer.{Peer, state_of}
-use Rattle.dds_model.specs.Part.{Seen}
+use Rattle.dds_model.specs.Part.{Reader, Seen, WriterProxy}
+use Rattle.dds_model.specs.Watching.{reader_statuses}
 use Rattle.dds_model.specs.Protocol.{Due, State, InTurn, ReaderTakes, Takes, Follows, TakesPacket, AreSent, acknacks_due}
 use Rattle.dds_core.specs.declared.matching.WriterName.{WriterName}
 use Rattle.dds_core.specs.declared.reader_end.Ready.{Ready}
@@ -44,7 +49,7 @@ use Rattle.dds_core.specs.declared.sending.Announced.{Announced}
 use Rattle.dds_core.specs.Beating.{AddsTo}
 use Rattle.dds_core.specs.Kept.{ReaderKept, CoreKept}
 use Rattle.dds_core.specs.Stored.{Holds}
-use Rattle.dds_core.specs.Standing.{StandsFor}
+use Rattle.dds_core.specs.Standing.{ReaderStands, StandsFor}
 
 -- the receiver of a message, as a peer keeps it
 abbrev pub receiver_at : MessageReceiver → Receiver
@@ -303,6 +308,7 @@ pub record TakesOnly (old new : ReaderKept) : Type 0 where
   pub writers : new.writers ≡ old.writers
   pub reader : new.reader ≡ old.reader
   pub lost : new.store.lost ≡ old.store.lost
+  pub turned : new.store.turned ≡ old.store.turned
   pub leases : new.store.leases ≡ old.store.leases
   pub qos : qos_of new.store.cache ≡ qos_of old.store.cache
   pub seen : new.seen ≡ old.seen
@@ -315,4 +321,14 @@ TellsLost kept status = (h : List Happening) → Holds kept.store h → status �
 abbrev pub TellsLiveliness : ReaderKept → LivelinessChangedStatus → Seen → Type 0
 TellsLiveliness kept status seen = (h : List Happening) → Holds kept.store h
     → (status ≡ liveliness_changed_status (qos_of kept.store.cache) h kept.seen.alive kept.seen.not_alive)
-    × (seen ≡ record kept.seen { alive = alive_count (qos_of kept.store.cache) h; not_alive = not_alive_count (qos_of kept.store.cache) h })
+    × (seen ≡ record kept.seen { alive = alive_count (qos_of kept.store.cache) h; not_alive = not_alive_count (qos_of kept.store.cache) h; turned = turned_at h })
+
+-- whether the statuses of a reader are flagged, as it is kept
+abbrev pub TellsFlags : ReaderKept → StatusMask → Type 0
+TellsFlags kept mask = (proxies : List WriterProxy) (r : Reader) (tracked : Endpoint → Tracked) → ReaderStands kept proxies r tracked
+    → mask ≡ reader_statuses r
+
+-- whether a present sample of a reader meets the masks, as it is kept
+abbrev pub TellsMatch : ReaderKept → Masks → Bool → Type 0
+TellsMatch kept masks answer = (proxies : List WriterProxy) (r : Reader) (tracked : Endpoint → Tracked) → ReaderStands kept proxies r tracked
+    → answer ≡ has_match r.qos r.happened masks no_filter

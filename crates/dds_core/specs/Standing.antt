@@ -105,6 +105,7 @@ pub record StandsFor (kept : CoreKept) (config : Config) (peer : Peer) : Type 0 
   pub writers : WritersStand kept.writers peer.part.rtps.writers peer.known.answered
   pub readers : ReadersStand kept.readers peer.part.rtps.readers peer.part.dds.readers peer.known
   pub tellable : AreTellable peer.part
+  pub watch : peer.part.dds.watch ≡ kept.watch
 
 -- for each state that the old values stand for, the event is a step to one that the new values stand for
 abbrev pub Steps : CoreKept → Event → Output → CoreKept → Type 0

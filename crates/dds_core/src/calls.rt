@@ -50,6 +50,39 @@ impl Core {
             Call::GetSampleLost { reader } => self.get_sample_lost(reader),
             Call::GetLivelinessChanged { reader } => self.get_liveliness_changed(reader),
             Call::GetLivelinessLost { writer } => self.get_liveliness_lost(writer),
+            Call::ReadByCondition {
+                reader,
+                scope,
+                condition,
+            } => self.read_by_condition(reader, scope, condition),
+            Call::TakeByCondition {
+                reader,
+                scope,
+                condition,
+            } => self.take_by_condition(reader, scope, condition),
+            Call::CreateReadCondition { reader, masks } => {
+                self.create_read_condition(reader, masks)
+            }
+            Call::CreateGuardCondition => self.create_guard_condition(),
+            Call::SetTriggerValue { condition, value } => self.set_trigger_value(condition, value),
+            Call::DeleteCondition { condition } => self.delete_condition(condition),
+            Call::GetTriggerValue { condition } => self.get_trigger_value(condition),
+            Call::CreateWaitSet => self.create_wait_set(),
+            Call::DeleteWaitSet { wait_set } => self.delete_wait_set(wait_set),
+            Call::AttachCondition {
+                wait_set,
+                condition,
+            } => self.attach_condition(wait_set, condition),
+            Call::DetachCondition {
+                wait_set,
+                condition,
+            } => self.detach_condition(wait_set, condition),
+            Call::GetConditions { wait_set } => self.get_conditions(wait_set),
+            Call::WaitBegin { wait_set, deadline } => self.wait_begin(wait_set, deadline),
+            Call::WaitLook { wait_set } => self.wait_look(wait_set),
+            Call::WaitEnd { wait_set } => self.wait_end(wait_set),
+            Call::SetEnabledStatuses { entity, mask } => self.set_enabled_statuses(entity, mask),
+            Call::GetStatusChanges { entity } => self.get_status_changes(entity),
         }
     }
 

@@ -22,7 +22,9 @@ mod receiver;
 mod requests;
 mod seen;
 mod sending;
+mod status_bits;
 mod store;
+mod watching;
 mod writer_end;
 
 pub use pairing::Pair;

@@ -11,6 +11,7 @@ use crate::peer::Core;
 use crate::reader_end::ReaderEnd;
 use crate::writer_end::WriterEnd;
 use dds_base::{Code, Config, Moment, PeerConfig, ReaderConfig, WriterConfig};
+use dds_conditions::Watch;
 use std::alloc::{AllocError, Global};
 
 /// A peer's writers, which have written nothing.
@@ -54,12 +55,14 @@ fn open(alloc: Global, peers: &[PeerConfig], index: usize) -> Result<Core, Alloc
     let own = &peers[index];
     let writers = open_writers(alloc, peers, own.writers.as_slice())?;
     let readers = open_readers(alloc, peers, own.readers.as_slice())?;
+    let watch = Watch::open(alloc, writers.len(), readers.len())?;
     Ok(Core {
         alloc,
         prefix: own.prefix,
         moment: Moment::new(0),
         writers,
         readers,
+        watch,
     })
 }
 

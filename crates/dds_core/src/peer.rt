@@ -12,6 +12,7 @@ use crate::receiver::NO_MOMENT;
 use crate::sending::Announced;
 use crate::writer_end::{WriterEnd, tick_all};
 use dds_base::{Code, GuidPrefix, Moment, Sequence};
+use dds_conditions::Watch;
 use dds_model::{Event, Output, Reply};
 use std::alloc::Global;
 use std::marker::Model;
@@ -29,6 +30,7 @@ pub struct Core {
     pub(crate) moment: Moment,
     pub(crate) writers: Vec<WriterEnd>,
     pub(crate) readers: Vec<ReaderEnd>,
+    pub(crate) watch: Watch,
 }
 
 impl Model for Core {
@@ -42,6 +44,7 @@ impl Model for Core {
       moment = c.moment;
       writers = c.writers.items;
       readers = c.readers.items;
+      watch = c.watch;
     } };
 
     ghost invariant = { λ c. (length c.writers.items ≤ 16) × (length c.readers.items ≤ 16) };

@@ -13,7 +13,7 @@ ghost use Rattle.rtps_reader.specs.Answer.{IsSayable};
 ghost use Rattle.rtps_reader.specs.Tracked.{Tracked};
 ghost use Rattle.dds_core.specs.Expiring.{Expires, HasRoomForDeaths, IsDeadly};
 ghost use Rattle.dds_core.specs.Opening.{OpensReader};
-ghost use Rattle.dds_core.specs.Receiving.{receiver_at, IsFirstName, IsNamedFor, NamedBy, NamesNobody, IsToldBy, HasMemory, IsReadyFor, IsAlike, CanTake, TakesTold, SameReader, TakesOnly, TellsLost, TellsLiveliness, IsPlaceAt};
+ghost use Rattle.dds_core.specs.Receiving.{receiver_at, IsFirstName, IsNamedFor, NamedBy, NamesNobody, IsToldBy, HasMemory, IsReadyFor, IsAlike, CanTake, TakesTold, SameReader, TakesOnly, TellsFlags, TellsLost, TellsLiveliness, TellsMatch, IsPlaceAt};
 ghost use Rattle.dds_core.specs.Stored.{Holds};
 ghost use Rattle.dds_cache.specs.Standing.{qos_of, Answers, AfterAccess};
 ghost use Rattle.dds_model.specs.Claims.{is_for, Names};
@@ -22,11 +22,14 @@ use crate::limits::limit_of;
 use crate::matching::{MatchedWriters, WriterName, matched_writers};
 use crate::receiver::{MessageReceiver, is_for};
 use crate::seen::Seen;
+use crate::status_bits::{DATA_AVAILABLE, LIVELINESS_CHANGED, SAMPLE_LOST, bit_if};
 use crate::store::Store;
+use bitflags::Flags;
 use dds_base::{
-    Change, Code, EntityId, Guid, GuidPrefix, Handle, Key, LivelinessChangedStatus, Moment,
+    Change, Code, EntityId, Guid, GuidPrefix, Handle, Key, LivelinessChangedStatus, Masks, Moment,
     PeerConfig, ReaderConfig, ReaderQos, Sample, SampleLostStatus, Selection, Sequence, Sn,
 };
+use dds_notices::StatusMask;
 use rtps_reader::{HeartbeatSeen, StatefulReader, Step};
 use rtps_sets::SnSet;
 use rtps_wire::{Data, Gap, Heartbeat, Submessage};
@@ -455,6 +458,28 @@ impl ReaderEnd {
         };
         self.seen.alive = alive;
         self.seen.not_alive = not_alive;
+        self.seen.turned = self.store.turned();
         status
+    }
+
+    /// Which of its statuses are flagged.
+    ///
+    /// DDS 1.4, 2.2.2.1 (get_status_changes), 2.2.4.2 (changes in status).
+    pub fn status_changes(&self) -> StatusMask
+        ensures { TellsFlags self.now result }
+    {
+        let lost = bit_if(self.seen.lost < self.store.lost(), SAMPLE_LOST);
+        let data = bit_if(self.store.has_data(), DATA_AVAILABLE);
+        let turned = bit_if(self.seen.turned < self.store.turned(), LIVELINESS_CHANGED);
+        StatusMask::from_bits_retain(lost + (data + turned))
+    }
+
+    /// Whether some present sample meets the masks.
+    ///
+    /// DDS 1.4, 2.2.2.5 (ReadCondition).
+    pub fn has_match(&self, masks: Masks) -> bool
+        ensures { TellsMatch self.now masks result }
+    {
+        self.store.has_match(masks)
     }
 }

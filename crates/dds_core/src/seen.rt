@@ -4,13 +4,14 @@
 
 use std::marker::Model;
 
-/// What a reader's statuses said when each was looked at last: the total of SAMPLE_LOST, and how many matched writers were
-/// alive and not alive by LIVELINESS_CHANGED, at most 256 each.
+/// What a reader's statuses said when each was looked at last: the total of SAMPLE_LOST; and by LIVELINESS_CHANGED how many
+/// matched writers were alive and not alive, at most 256 each, and where the newest entry stood that had changed that.
 #[derive(Clone, Copy)]
 pub struct Seen {
     pub lost: u64,
     pub alive: u16,
     pub not_alive: u16,
+    pub turned: u64,
 }
 
 impl Model for Seen {
@@ -18,9 +19,9 @@ impl Model for Seen {
 
     ghost Value = { SeenOf };
 
-    ghost view = { λ s. record { lost = s.lost; alive = s.alive; not_alive = s.not_alive } };
+    ghost view = { λ s. record { lost = s.lost; alive = s.alive; not_alive = s.not_alive; turned = s.turned } };
 
-    ghost inverse = { λ s. record { lost = s.lost; alive = s.alive; not_alive = s.not_alive } };
+    ghost inverse = { λ s. record { lost = s.lost; alive = s.alive; not_alive = s.not_alive; turned = s.turned } };
 }
 
 impl Seen {
@@ -29,5 +30,6 @@ impl Seen {
         lost: 0,
         alive: 0,
         not_alive: 0,
+        turned: 0,
     };
 }

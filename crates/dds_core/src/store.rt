@@ -2,20 +2,23 @@
 //!
 //! RTPS 2.5, 8.2 (HistoryCache of a reader); DDS 1.4, 2.2.3 (RESOURCE_LIMITS, LIVELINESS).
 
-ghost use Rattle.std.specs.Prelude.{◌≡◌, ◌≤◌, ℕ, List, [], IfOk, IfErr, OnOk, length};
+ghost use Rattle.std.specs.Prelude.{◌≡◌, ◌≤◌, ℕ, List, [], nat_lt, if◌then◌else◌, IfOk, IfErr, OnOk, length};
 ghost use Rattle.dds_base.specs.declared.code.Code.TheVariants.{Memory};
 ghost use Rattle.dds_base.specs.declared.happening.Happening.{Happening};
 ghost use Rattle.dds_base.specs.declared.happening.Happening.TheVariants.{Read, Took};
-ghost use Rattle.dds_base.specs.Access.{instance_of, handle_of};
+ghost use Rattle.dds_base.specs.Access.{handle_of, has_match, instance_of, no_filter};
 ghost use Rattle.dds_base.specs.Liveliness.{after_deaths, dead_at};
 ghost use Rattle.dds_base.specs.Statuses.{lost_count};
-ghost use Rattle.dds_cache.specs.Standing.{qos_of, Answers, AfterAccess};
+ghost use Rattle.dds_base.specs.StatusFlags.{data_available_at, turned_at};
+ghost use Rattle.dds_cache.specs.Standing.{qos_of, Answers, AfterAccess, StandsFor as CacheStandsFor};
 ghost use Rattle.dds_lease.specs.Standing.{writer_count};
 ghost use Rattle.dds_core.specs.Expiring.{HasRoomForDeaths};
 ghost use Rattle.dds_core.specs.Stored.{StoreKept, Holds, Loses};
 
-use dds_base::{Arrival, Code, Handle, Key, Moment, ReaderQos, Sample, Selection, Sequence, Sn};
-use dds_cache::ReaderCache;
+use dds_base::{
+    Arrival, Code, Handle, Key, Masks, Moment, ReaderQos, Sample, Selection, Sequence, Sn,
+};
+use dds_cache::{Everything, ReaderCache};
 use dds_lease::Leases;
 use rtps_reader::Sink;
 use std::alloc::Global;
@@ -26,6 +29,8 @@ use std::marker::Model;
 pub struct Store {
     /// At most 2^64 - 1, where it stays.
     lost: u64,
+    /// The position of the newest entry that changed how many writers are alive, or not alive; 0 for none.
+    turned: u64,
     leases: Leases,
     cache: ReaderCache,
 }
@@ -38,7 +43,7 @@ impl Model for Store {
 
     ghost Value = { StoreKept };
 
-    ghost view = { λ s. record { lost = s.lost; leases = s.leases; cache = s.cache } };
+    ghost view = { λ s. record { lost = s.lost; turned = s.turned; leases = s.leases; cache = s.cache } };
 
     ghost invariant = { λ s. (s.lost < 2 ^ 64) × (writer_count s.leases ≡ length (qos_of s.cache).writers) };
 }
@@ -52,6 +57,7 @@ impl Store {
         let leases = Leases::open(alloc, &qos)?;
         Ok(Store {
             lost: 0,
+            turned: 0,
             leases,
             cache: ReaderCache::open(alloc, qos),
         })
@@ -60,12 +66,26 @@ impl Store {
     /// The changes from `first` to `last` were passed over.
     fn lose(&mut self, first: Sn, last: Sn)
         ensures lost { Loses self.old.lost first last self.new.lost }
+        ensures turned { self.new.turned ≡ self.old.turned }
         ensures leases { self.new.leases ≡ self.old.leases }
         ensures cache { self.new.cache ≡ self.old.cache }
     {
         if first.number() <= last.number() {
             let count = (last.number() - first.number()).saturating_add(1);
             self.lost = self.lost.saturating_add(count);
+        }
+    }
+
+    /// The newest entry changed how many writers are alive, or not alive, if so.
+    fn turn_if(&mut self, turns: bool)
+        ensures turned { (h : List Happening) → CacheStandsFor self.old.cache h
+            → self.new.turned ≡ (if turns then length h else self.old.turned) }
+        ensures lost { self.new.lost ≡ self.old.lost }
+        ensures leases { self.new.leases ≡ self.old.leases }
+        ensures cache { self.new.cache ≡ self.old.cache }
+    {
+        if turns {
+            self.turned = self.cache.happened();
         }
     }
 
@@ -77,6 +97,34 @@ impl Store {
         ensures total { (h : List Happening) → Holds self.now h → result ≡ lost_count h }
     {
         self.lost
+    }
+
+    /// The position of the newest entry that changed how many writers are alive, or not alive; 0 for none.
+    ///
+    /// DDS 1.4, 2.2.4.1 (LIVELINESS_CHANGED).
+    pub fn turned(&self) -> u64
+        ensures turned { result ≡ self.now.turned }
+        ensures at { (h : List Happening) → Holds self.now h → result ≡ turned_at h }
+    {
+        self.turned
+    }
+
+    /// Whether a sample came since the last read or take.
+    ///
+    /// DDS 1.4, 2.2.4.1 (DATA_AVAILABLE).
+    pub fn has_data(&self) -> bool
+        ensures { (h : List Happening) → Holds self.now h → result ≡ nat_lt 0 (data_available_at (qos_of self.now.cache) h) }
+    {
+        0 < self.cache.data_at()
+    }
+
+    /// Whether some present sample meets the masks.
+    ///
+    /// DDS 1.4, 2.2.2.5 (ReadCondition).
+    pub fn has_match(&self, masks: Masks) -> bool
+        ensures { (h : List Happening) → Holds self.now h → result ≡ has_match (qos_of self.now.cache) h masks no_filter }
+    {
+        self.cache.has_match(masks, &Everything)
     }
 
     /// Which matched writers are alive.
@@ -118,6 +166,7 @@ impl Store {
         let mut after = Handle::NIL;
         while let Some(writer) = self.leases.expire(after, now) {
             self.cache.died(writer, now).unwrap();
+            self.turned = self.cache.happened();
             after = writer;
         }
     }
@@ -129,6 +178,7 @@ impl Store {
         ensures qos { qos_of self.new.cache ≡ qos_of self.old.cache }
         ensures leases { self.new.leases ≡ self.old.leases }
         ensures lost { self.new.lost ≡ self.old.lost }
+        ensures turned { self.new.turned ≡ self.old.turned }
     {
         self.cache.read(selection)
     }
@@ -140,6 +190,7 @@ impl Store {
         ensures qos { qos_of self.new.cache ≡ qos_of self.old.cache }
         ensures leases { self.new.leases ≡ self.old.leases }
         ensures lost { self.new.lost ≡ self.old.lost }
+        ensures turned { self.new.turned ≡ self.old.turned }
     {
         self.cache.take(selection)
     }
@@ -179,8 +230,10 @@ impl Sink for Store {
 
     fn come(&mut self, arrival: Arrival) -> Result<(), Code> {
         let (writer, moment) = (arrival.writer, arrival.moment);
+        let turns = !self.leases.is_alive(writer);
         self.cache.come(arrival)?;
         self.leases.assert_at(writer, moment);
+        self.turn_if(turns);
         Ok(())
     }
 
@@ -191,8 +244,10 @@ impl Sink for Store {
     }
 
     fn hear(&mut self, writer: Handle, moment: Moment) -> Result<(), Code> {
+        let turns = !self.leases.is_alive(writer);
         self.cache.hear(writer, moment)?;
         self.leases.assert_at(writer, moment);
+        self.turn_if(turns);
         Ok(())
     }
 }

@@ -9,6 +9,7 @@ ghost use Rattle.dds_base.specs.Kept.{append_refusal};
 ghost use Rattle.dds_base.specs.Refusal.{Refuses};
 ghost use Rattle.dds_base.specs.Written.{Asserted, Registered, Changed, LookedAt, is_key_registered, liveliness_lost_status};
 ghost use Rattle.dds_model.specs.declared.endpoint.Endpoint.{Endpoint as EndpointOf};
+ghost use Rattle.dds_model.specs.Watching.{writer_statuses};
 ghost use Rattle.dds_model.specs.Calls.{unregister_kind};
 ghost use Rattle.dds_model.specs.Part.{ReaderProxy, Writer, history_of, writer_changes};
 ghost use Rattle.dds_core.specs.declared.matching.ReaderName.{ReaderName as NameOf};
@@ -26,11 +27,14 @@ use crate::limits::limit_of;
 use crate::matching::{Destination, ReaderName, destinations, matched_readers};
 use crate::receiver::MessageReceiver;
 use crate::sending::Announced;
+use crate::status_bits::{LIVELINESS_LOST, bit_if};
+use bitflags::Flags;
 use dds_base::{
     Change, ChangeKind, Code, EntityId, GuidPrefix, Key, LivelinessLostStatus, Moment, PeerConfig,
     Sn, WriterConfig,
 };
 use dds_model::Endpoint;
+use dds_notices::StatusMask;
 use rtps_wire::AckNack;
 use rtps_writer::{Answered, StatefulWriter};
 use std::alloc::{AllocError, Global};
@@ -156,6 +160,16 @@ impl WriterEnd {
         ensures enters { Enters self.old LookedAt self.new }
     {
         self.writer.liveliness_lost()
+    }
+
+    /// Which of its statuses are flagged.
+    ///
+    /// DDS 1.4, 2.2.2.1 (get_status_changes), 2.2.4.2 (changes in status).
+    pub fn status_changes(&self) -> StatusMask
+        ensures { (w : Writer) (answered : EndpointOf → Option ℤ) → WriterStands self.now w answered
+            → result ≡ writer_statuses w }
+    {
+        StatusMask::from_bits_retain(bit_if(self.writer.is_lost(), LIVELINESS_LOST))
     }
 
     /// Registers an instance.

@@ -11,7 +11,7 @@ use Rattle.dds_base.specs.declared.config.PeerConfig.{PeerConfig}
 use Rattle.dds_base.specs.Checked.{has_bad_parameter, has_inconsistent_policy, check_refusal}
 use Rattle.dds_base.specs.Refusal.{Refuses}
 use Rattle.dds_model.specs.declared.event.Packet.{Packet}
-use Rattle.dds_model.specs.Calls.{has_number}
+use Rattle.dds_model.specs.Numbered.{has_number}
 use Rattle.dds_model.specs.Opening.{opening_peers, opening_world}
 use Rattle.dds_model.specs.Peer.{no_peer}
 use Rattle.dds_model.proofs.Bounded.{opens_bounded}

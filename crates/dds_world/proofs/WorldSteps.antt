@@ -214,7 +214,7 @@ comes_to_nothing core bytes some config peer s sound =
       step = (inr (record { moves = refl; after = refl; cause = inr (refl, some) }), refl);
       sent = λ p claim c says. absurd (omega (arith, c.1));
     } in
-    let stands : CoreStandsFor core config after = record { is_peer = s.is_peer; moment = s.moment; early = s.early; writers = s.writers; readers = s.readers; tellable = s.tellable } in
+    let stands : CoreStandsFor core config after = record { is_peer = s.is_peer; moment = s.moment; early = s.early; writers = s.writers; readers = s.readers; tellable = s.tellable; watch = s.watch } in
     let known : IsSound config after = unread_backed config peer.number peer.delivered bytes (state_of peer) (state_of peer) delivery.report (record { moves = refl; after = refl; cause = inr (refl, some) }) refl sound in
     (after, step, stands, known, record { report = delivery.report; reply = refl; dues = []; takes = inr (record { moves = refl; after = refl; cause = inr (refl, some) }, refl, refl); sent = (refl, refl) })
 

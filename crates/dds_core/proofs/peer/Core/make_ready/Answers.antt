@@ -16,6 +16,6 @@ pub returns-clause-stands : goal.returns-clause-stands
 returns-clause-stands c =
     let same = with_items_is c.self.inside.readers c.prepare.new.readers (c.prepare.ensures.alike.count ∙ c.deref_mut.ensures.len) in
     let alike = subst (λ (rs : List ReaderKept). AreAlike rs c.prepare.new.readers) c.deref_mut.ensures.value c.prepare.ensures.alike in
-    subst (λ (rs : List ReaderKept). StandsAsWell c.args.self.now (record { prefix = c.self.inside.prefix; moment = c.self.inside.moment; writers = c.self.inside.writers.items; readers = rs })) (sym same)
-    (subst (λ (k : CoreKept). StandsAsWell k (record { prefix = c.self.inside.prefix; moment = c.self.inside.moment; writers = c.self.inside.writers.items; readers = c.prepare.new.readers })) c.self.view_is
+    subst (λ (rs : List ReaderKept). StandsAsWell c.args.self.now (record { prefix = c.self.inside.prefix; moment = c.self.inside.moment; writers = c.self.inside.writers.items; readers = rs; watch = c.self.inside.watch })) (sym same)
+    (subst (λ (k : CoreKept). StandsAsWell k (record { prefix = c.self.inside.prefix; moment = c.self.inside.moment; writers = c.self.inside.writers.items; readers = c.prepare.new.readers; watch = c.self.inside.watch })) c.self.view_is
     (alike_core _ c.prepare.new.readers alike))

@@ -1,0 +1,75 @@
+-- What a peer tells of its statuses and its conditions, by what it keeps. Inner functions alone cite this: nothing here has to
+-- be believed.
+use Rattle.std.specs.Prelude.{◌≡◌, ℕ, Bool, List, Option, Some, None, Result, Ok, Err, ◌==◌, if◌then◌else◌}
+use Rattle.dds_base.specs.declared.code.Code.{Code}
+use Rattle.dds_base.specs.declared.code.Code.TheVariants.{BadParameter, PreconditionNotMet}
+use Rattle.dds_base.specs.declared.config.Config.{Config}
+use Rattle.dds_base.specs.declared.entity.Entity.{Entity}
+use Rattle.dds_base.specs.declared.selection.Scope.{Scope}
+use Rattle.dds_base.specs.declared.selection.Selection.{Selection}
+use Rattle.dds_base.specs.Selection.{selection_in}
+use Rattle.dds_notices.specs.declared.mask.StatusMask.{StatusMask}
+use Rattle.dds_conditions.specs.declared.condition.Cond.{Cond}
+use Rattle.dds_conditions.specs.declared.condition.Condition.{Condition}
+use Rattle.dds_conditions.specs.declared.condition.Condition.TheVariants.{Guard, Samples}
+use Rattle.std.specs.List.{list_any}
+use Rattle.dds_conditions.specs.Attached.{active_of}
+use Rattle.dds_conditions.specs.Watched.{conditions_of}
+use Rattle.dds_model.specs.declared.reply.Reply.{Reply}
+use Rattle.dds_model.specs.declared.reply.Reply.TheVariants.{Done, Created, Conditions, Refused}
+use Rattle.dds_model.specs.Peer.{Peer}
+use Rattle.dds_model.specs.Watching.{condition_refusal, condition_selection, status_changes, trigger_value, value_of}
+use Rattle.dds_core.specs.Kept.{CoreKept}
+use Rattle.dds_core.specs.Standing.{StandsFor}
+use Rattle.dds_model.specs.Part.{Part}
+
+-- the reply to a call that is done or refused
+abbrev pub done_reply : Result (Unit {0}) Code → Reply
+done_reply (Ok done) = Done
+done_reply (Err code) = Refused code
+
+-- the reply to a call that makes something, and gives its number
+abbrev pub made_reply : Result ℕ Code → Reply
+made_reply (Ok number) = Created number
+made_reply (Err code) = Refused code
+
+-- the reply to a call that gives conditions
+abbrev pub conditions_reply : Result (List Cond) Code → Reply
+conditions_reply (Ok conditions) = Conditions conditions
+conditions_reply (Err code) = Refused code
+
+-- so it is of the part of each state that stands for what is kept
+abbrev pub Tells : CoreKept → (Part → Type 0) → Type 0
+Tells kept Is = (config : Config) (peer : Peer) → StandsFor kept config peer → Is peer.part
+
+-- the flagged statuses of an entity
+abbrev pub TellsStatuses : CoreKept → Entity → StatusMask → Type 0
+TellsStatuses kept entity mask = Tells kept (λ part. mask ≡ status_changes part entity)
+
+-- the trigger value of a condition that may have been made
+abbrev pub TellsValue : CoreKept → Option Condition → Bool → Type 0
+TellsValue kept condition answer = Tells kept (λ part. answer ≡ value_of part condition)
+
+-- the trigger value of a condition
+abbrev pub TellsTrigger : CoreKept → Cond → Bool → Type 0
+TellsTrigger kept condition answer = Tells kept (λ part. answer ≡ trigger_value part condition)
+
+-- whether a condition of a WaitSet is true
+abbrev pub TellsActive : CoreKept → ℕ → Bool → Type 0
+TellsActive kept wait_set answer = Tells kept (λ part. answer ≡ list_any (trigger_value part) (conditions_of part.dds.watch wait_set))
+
+-- the conditions of a WaitSet that are true
+abbrev pub AreActive : CoreKept → ℕ → List Cond → Type 0
+AreActive kept wait_set active = Tells kept (λ part. active ≡ active_of (trigger_value part) (conditions_of part.dds.watch wait_set))
+
+-- what an access by a condition asks for, or why it is refused
+abbrev pub AsksBy : CoreKept → ℕ → Scope → ℕ → Result Selection Code → Type 0
+AsksBy kept reader scope condition (Ok selection) =
+    Tells kept (λ part. (condition_refusal part reader scope condition ≡ None) × (selection ≡ condition_selection part scope condition))
+AsksBy kept reader scope condition (Err code) = Tells kept (λ part. condition_refusal part reader scope condition ≡ Some code)
+
+-- what an access of a reader by this condition asks for, or why it is refused
+abbrev pub selection_for : ℕ → Scope → Option Condition → Result Selection Code
+selection_for reader scope None = Err BadParameter
+selection_for reader scope (Some (Guard value)) = Err PreconditionNotMet
+selection_for reader scope (Some (Samples other masks)) = if other == reader then Ok (selection_in scope masks) else Err PreconditionNotMet

@@ -1,0 +1,22 @@
+//! The bits of statuses in a mask.
+//!
+//! DDS 1.4, 2.3.3 (SAMPLE_LOST_STATUS and kin).
+
+ghost use Rattle.std.specs.Prelude.{◌≡◌, ◌≤◌};
+ghost use Rattle.dds_model.specs.Watching.{bit_if};
+
+pub const SAMPLE_LOST: u32 = 128;
+
+pub const DATA_AVAILABLE: u32 = 1024;
+
+pub const LIVELINESS_LOST: u32 = 2048;
+
+pub const LIVELINESS_CHANGED: u32 = 4096;
+
+/// The bit, where the status is flagged.
+pub fn bit_if(is_flagged: bool, bit: u32) -> u32
+    ensures is { result ≡ bit_if is_flagged bit }
+    ensures small { result ≤ bit }
+{
+    if is_flagged { bit } else { 0 }
+}
