@@ -1,35 +1,11 @@
 //! The calls of a script.
 
-use crate::number::{decimal_i32, decimal_u8, decimal_u32, key, value};
-use bitflags::Flags;
-use dds_base::{Handle, InstanceStateMask, Key, Masks, SampleStateMask, Selection, ViewStateMask};
+use crate::number::{decimal_i32, key, value};
+use crate::operand::{handle, masks, reader_number, writer_number};
+use crate::watching::watching_call;
+use dds_base::{Key, Masks, Selection};
 use dds_model::Call;
 use std::alloc::{AllocError, Global};
-
-/// The number of a writer, as `w2`.
-pub fn writer_number(word: &str) -> Option<u8> {
-    decimal_u8(word.strip_prefix('w')?)
-}
-
-/// The number of a reader, as `r2`.
-pub fn reader_number(word: &str) -> Option<u8> {
-    decimal_u8(word.strip_prefix('r')?)
-}
-
-fn mask(word: &str) -> Option<u32> {
-    match word {
-        "any" => Some(0xffff),
-        _ => decimal_u32(word),
-    }
-}
-
-fn masks(samples: &str, views: &str, instances: &str) -> Option<Masks> {
-    Some(Masks {
-        samples: SampleStateMask::from_bits_retain(mask(samples)?),
-        views: ViewStateMask::from_bits_retain(mask(views)?),
-        instances: InstanceStateMask::from_bits_retain(mask(instances)?),
-    })
-}
 
 /// How many samples at most, and which: all of them where nothing is said.
 fn limits(words: &[&str]) -> Option<(i32, Masks)> {
@@ -41,11 +17,6 @@ fn limits(words: &[&str]) -> Option<(i32, Masks)> {
         }
         _ => None,
     }
-}
-
-/// The handle of an instance.
-fn handle(word: &str) -> Option<Handle> {
-    Some(Handle::new(u64::from(decimal_u32(word)?)))
 }
 
 /// Samples of any instance.
@@ -218,7 +189,7 @@ pub fn call_of(alloc: Global, words: &[&str]) -> Result<Option<Call>, AllocError
         ["livelost", operands @ ..] => Ok(liveliness_lost(operands)),
         ["key", operands @ ..] => Ok(key_value(operands)),
         ["lookup", operands @ ..] => Ok(lookup(operands)),
-        [operation, operands @ ..] => Ok(other_call(operation, operands)),
+        [operation, operands @ ..] => Ok(other_call(operation, operands).or(watching_call(words))),
         [] => Ok(None),
     }
 }

@@ -1,11 +1,14 @@
 //! What is printed.
 
 use crate::fault::Fault;
-use dds_base::{Code, Handle, InstanceState, Key, Sample, SampleInfo, SampleState, ViewState};
+use bitflags::Flags;
+use dds_base::{Code, Entity, Handle, Key};
+use dds_conditions::Cond;
 use dds_model::{
     Endpoint, LivelinessChangedStatus, LivelinessLostStatus, Move, PassedRun, Reply, Report,
     SampleLostStatus,
 };
+use dds_notices::StatusMask;
 use std::alloc::{AllocError, Global};
 use std::fmt::Display;
 use std::io::Write;
@@ -27,28 +30,6 @@ pub struct TranscriptLine {
     is_whole: bool,
 }
 
-fn sample_state(state: SampleState) -> char {
-    match state {
-        SampleState::Read => 'R',
-        SampleState::NotRead => 'N',
-    }
-}
-
-fn view_state(state: ViewState) -> char {
-    match state {
-        ViewState::New => 'N',
-        ViewState::NotNew => 'O',
-    }
-}
-
-fn instance_state(state: InstanceState) -> char {
-    match state {
-        InstanceState::Alive => 'A',
-        InstanceState::NotAliveDisposed => 'D',
-        InstanceState::NotAliveNoWriters => 'W',
-    }
-}
-
 impl TranscriptLine {
     /// An empty line.
     pub fn new(alloc: Global) -> Self {
@@ -68,21 +49,21 @@ impl TranscriptLine {
         }
     }
 
-    fn push(&mut self, piece: impl Display + Drop) {
+    pub(crate) fn push(&mut self, piece: impl Display + Drop) {
         if write!(self.text, "{piece}").is_err() {
             self.is_whole = false;
         }
     }
 
     /// Octets in hexadecimal digits, two each.
-    fn push_octets(&mut self, octets: &[u8]) {
+    pub(crate) fn push_octets(&mut self, octets: &[u8]) {
         for octet in octets {
             self.push(format_args!("{octet:02x}"));
         }
     }
 
     /// A key in hexadecimal digits without leading zeros, `0` for all zeros.
-    fn push_key(&mut self, key: Key) {
+    pub(crate) fn push_key(&mut self, key: Key) {
         let number = u128::from_be_bytes(key.0);
         self.push(format_args!("{number:x}"));
     }
@@ -95,58 +76,6 @@ impl TranscriptLine {
     fn push_handle(&mut self, handle: Handle) {
         let number = handle.number();
         self.push(format_args!("handle {number}"));
-    }
-
-    fn push_value(&mut self, sample: &Sample) {
-        let octets = sample.value.as_slice();
-        if !sample.info.valid_data {
-            self.push('!');
-        } else if octets.is_empty() {
-            self.push('-');
-        } else {
-            self.push_octets(octets);
-        }
-    }
-
-    fn push_states(&mut self, info: &SampleInfo) {
-        let sample = sample_state(info.sample_state);
-        let view = view_state(info.view_state);
-        let instance = instance_state(info.instance_state);
-        self.push(format_args!(" {sample} {view} {instance}"));
-    }
-
-    fn push_numbers(&mut self, info: &SampleInfo) {
-        let numbers = [
-            info.disposed_generation_count,
-            info.no_writers_generation_count,
-            info.sample_rank,
-            info.generation_rank,
-            info.absolute_generation_rank,
-            info.source_timestamp.units(),
-            info.instance_handle.number(),
-            info.publication_handle.number(),
-        ];
-        for number in numbers {
-            self.push(format_args!(" {number}"));
-        }
-    }
-
-    fn push_sample(&mut self, sample: &Sample) {
-        self.push(" [");
-        self.push_key(sample.key);
-        self.push(' ');
-        self.push_value(sample);
-        self.push_states(&sample.info);
-        self.push_numbers(&sample.info);
-        self.push(']');
-    }
-
-    fn push_samples(&mut self, samples: &[Sample]) {
-        let count = samples.len();
-        self.push(format_args!("samples {count}"));
-        for sample in samples {
-            self.push_sample(sample);
-        }
     }
 
     fn push_sample_lost(&mut self, status: SampleLostStatus) {
@@ -177,6 +106,39 @@ impl TranscriptLine {
             total_count_change,
         } = status;
         self.push(format_args!("livelost {total_count} {total_count_change}"));
+    }
+
+    /// The participant, a writer or a reader, as `p`, `w2` and `r2`.
+    fn push_entity(&mut self, entity: Entity) {
+        match entity {
+            Entity::Participant => self.push('p'),
+            Entity::Writer(number) => self.push(format_args!("w{number}")),
+            Entity::Reader(number) => self.push(format_args!("r{number}")),
+        }
+    }
+
+    /// A condition by its number, or the status condition of an entity, as `s:r2`.
+    fn push_condition(&mut self, condition: Cond) {
+        match condition {
+            Cond::Status(entity) => {
+                self.push("s:");
+                self.push_entity(entity);
+            }
+            Cond::Made(number) => self.push(number),
+        }
+    }
+
+    fn push_conditions(&mut self, name: &str, conditions: &[Cond]) {
+        self.push(name);
+        for condition in conditions {
+            self.push(' ');
+            self.push_condition(*condition);
+        }
+    }
+
+    fn push_status_changes(&mut self, statuses: StatusMask) {
+        let bits = statuses.bits();
+        self.push(format_args!("flags {bits}"));
     }
 
     fn push_code(&mut self, code: Code) {
@@ -252,6 +214,12 @@ impl TranscriptLine {
             Reply::SampleLost(status) => self.push_sample_lost(*status),
             Reply::LivelinessChanged(status) => self.push_liveliness_changed(*status),
             Reply::LivelinessLost(status) => self.push_liveliness_lost(*status),
+            Reply::Created(number) => self.push(format_args!("id {number}")),
+            Reply::TriggerValue(value) => self.push(*value),
+            Reply::Conditions(all) => self.push_conditions("conditions", all.as_slice()),
+            Reply::Active(active) => self.push_conditions("active", active.as_slice()),
+            Reply::Waiting => self.push("waiting"),
+            Reply::StatusChanges(statuses) => self.push_status_changes(*statuses),
             Reply::Reported(report) => self.push_report(report),
             Reply::Refused(code) => self.push_code(*code),
         }
