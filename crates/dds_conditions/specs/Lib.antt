@@ -1,2 +1,3 @@
 pub mod Attached
 pub mod Watched
+pub mod Filtered

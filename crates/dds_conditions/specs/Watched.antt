@@ -1,12 +1,13 @@
 -- What the application of a peer watches: the conditions that it made, its WaitSets, and the statuses that are enabled.
 --
 -- DDS 1.4, 2.2.2.1 (Condition, GuardCondition, StatusCondition, WaitSet), 2.2.2.5 (ReadCondition).
-use Rattle.std.specs.Prelude.{ℕ, ◌+◌, ◌-◌, ◌^◌, List, [], ◌∷◌, ◌++◌, get_or, set, map, replicate, length, nat_le, nat_lt, ◌==◌, ◌&&◌, Bool, true, Option, None, Some, is_some, if◌then◌else◌}
+use Rattle.std.specs.Prelude.{ℕ, ◌+◌, ◌-◌, ◌^◌, List, [], ◌∷◌, ◌++◌, get_or, set, map, replicate, length, nat_le, nat_lt, ◌==◌, ◌&&◌, Bool, true, false, Option, None, Some, is_some, if◌then◌else◌}
 use Rattle.std.specs.List.{list_any}
 use Rattle.std.specs.Option.{option_map}
 use Rattle.dds_base.specs.declared.code.Code.{Code}
 use Rattle.dds_base.specs.declared.code.Code.TheVariants.{BadParameter, OutOfResources, PreconditionNotMet, Timeout}
 use Rattle.dds_base.specs.declared.entity.Entity.{Entity}
+use Rattle.dds_base.specs.declared.key.Key.{Key}
 use Rattle.dds_base.specs.declared.entity.Entity.TheVariants.{Participant, Writer, Reader}
 use Rattle.dds_notices.specs.declared.mask.StatusMask.{StatusMask}
 use Rattle.dds_conditions.specs.declared.condition.Cond.{Cond}
@@ -17,19 +18,20 @@ use Rattle.dds_conditions.specs.declared.waiting.Waiting.{Waiting}
 use Rattle.dds_conditions.specs.Attached.{attached, detached, detach_refusal}
 
 -- the conditions and the WaitSets by their numbers, none where one was deleted; and which statuses of the participant, of
--- each writer and of each reader are enabled
+-- each writer and of each reader are enabled; and how many filters there are
 pub record Watched : Type 0 where
   pub conditions : List (Option Condition)
   pub wait_sets : List (Option Waiting)
   pub participant : StatusMask
   pub writers : List StatusMask
   pub readers : List StatusMask
+  pub filters : ℕ
 
 -- every status (2.3.3, STATUS_MASK_ALL)
 abbrev pub every_status : StatusMask
 every_status = record { 0 = 65535 }
 
--- at first nothing was made, and all statuses of the participant, of so many writers and of so many readers are enabled
+-- at first nothing was made, there is no filter, and all statuses of the participant, of so many writers and of so many readers are enabled
 abbrev pub opened : ℕ → ℕ → Watched
 opened writers readers = record {
   conditions = [];
@@ -37,6 +39,7 @@ opened writers readers = record {
   participant = every_status;
   writers = replicate writers every_status;
   readers = replicate readers every_status;
+  filters = 0;
 }
 
 -- ---- by number, from 1
@@ -75,7 +78,7 @@ with_condition_at w n c = record w { conditions = with_made w.conditions n c }
 abbrev pub guard_refusal : Option Condition → Option Code
 guard_refusal None = Some BadParameter
 guard_refusal (Some (Guard value)) = None
-guard_refusal (Some (Samples reader masks)) = Some PreconditionNotMet
+guard_refusal (Some (Samples reader masks filter)) = Some PreconditionNotMet
 
 -- a WaitSet without this condition
 abbrev pub without : Cond → Option Waiting → Option Waiting
@@ -84,6 +87,24 @@ without c waiting = option_map (λ (s : Waiting). record s { conditions = detach
 -- a condition is deleted, and so detached
 abbrev pub without_condition : Watched → ℕ → Watched
 without_condition w n = record w { conditions = with_made w.conditions n None; wait_sets = map (without (Made n)) w.wait_sets }
+
+-- ---- filters
+
+-- filters are numbered from 1 to 2^32 - 1, in the order in which they were added
+abbrev pub filter_refusal : Watched → Option Code
+filter_refusal w = if nat_le (2 ^ 32 - 1) w.filters then Some OutOfResources else None
+
+-- a filter more, the last one
+abbrev pub with_filter : Watched → Watched
+with_filter w = record w { filters = w.filters + 1 }
+
+-- where there are none, no sample passes
+abbrev pub no_filters : ℕ → Key → List ℕ → Bool
+no_filters filter key value = false
+
+-- there is a filter of this number
+abbrev pub has_filter : Watched → ℕ → Bool
+has_filter w n = is_number n w.filters
 
 -- ---- entities
 

@@ -29,3 +29,33 @@ impl Filter for Box<dyn Filter + Send> {
         (**self).passes(key, value)
     }
 }
+
+/// The filters of a peer, by their numbers from 1. What they answer is a function of the number, the key and the value
+/// alone: their `meaning`.
+///
+/// DDS 1.4, 2.2.2.5 (QueryCondition).
+pub trait Filters {
+    ghost use Rattle.std.specs.Prelude.{◌≡◌, ℕ, List, Bool};
+    ghost use Rattle.dds_base.specs.declared.key.Key.{Key};
+
+    /// Which keys and values pass the filter of a number.
+    ghost meaning: { Self → ℕ → Key → List ℕ → Bool };
+
+    /// Whether a sample passes the filter of this number: its key, and the octets of its value, none where it has no data.
+    fn passes(&self, filter: u32, key: &Key, value: &[u8]) -> bool
+        ensures { result ≡ meaning self.now filter key.now value.now };
+}
+
+/// No filters: nothing passes one.
+#[derive(Clone, Copy)]
+pub struct NoFilters;
+
+impl Filters for NoFilters {
+    ghost use Rattle.dds_conditions.specs.Watched.{no_filters};
+
+    ghost meaning = { λ _. no_filters };
+
+    fn passes(&self, _: u32, _: &Key, _: &[u8]) -> bool {
+        false
+    }
+}

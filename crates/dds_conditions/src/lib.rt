@@ -6,11 +6,13 @@
 
 mod condition;
 mod filter;
+mod filter_list;
 mod wait_set;
 mod waiting;
 mod watch;
 
 pub use condition::{Cond, Condition};
-pub use filter::Filter;
+pub use filter::{Filter, Filters, NoFilters};
+pub use filter_list::FilterList;
 pub use wait_set::WaitSet;
 pub use watch::Watch;

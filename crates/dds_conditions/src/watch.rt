@@ -12,7 +12,7 @@ ghost use Rattle.dds_base.specs.Refusal.{Refuses};
 ghost use Rattle.dds_conditions.specs.declared.condition.Cond.{Cond as CondOf};
 ghost use Rattle.dds_conditions.specs.declared.condition.Condition.TheVariants.{Guard as IsGuard};
 ghost use Rattle.dds_conditions.specs.Attached.{active_of, is_attached};
-ghost use Rattle.dds_conditions.specs.Watched.{attach_refusal, conditions_in, conditions_of, detaching_refusal, enabled_of, free_refusal, guard_refusal, is_number, is_timed_out, knows, knows_entity, every_status, made, number_refusal, opened, unless_there, use_refusal, with_attached, with_condition, with_condition_at, with_deadline, with_detached, with_enabled, with_made, with_wait_set, with_wait_set_at, without, without_condition};
+ghost use Rattle.dds_conditions.specs.Watched.{attach_refusal, conditions_in, conditions_of, detaching_refusal, enabled_of, filter_refusal, free_refusal, guard_refusal, has_filter, is_number, is_timed_out, knows, knows_entity, every_status, made, number_refusal, opened, unless_there, use_refusal, with_attached, with_condition, with_condition_at, with_deadline, with_detached, with_enabled, with_filter, with_made, with_wait_set, with_wait_set_at, without, without_condition};
 
 use crate::condition::{Cond, Condition};
 use crate::wait_set::WaitSet;
@@ -34,6 +34,7 @@ pub struct Watch {
     participant: StatusMask,
     writers: Vec<StatusMask>,
     readers: Vec<StatusMask>,
+    filters: u32,
 }
 
 impl Model for Watch {
@@ -47,6 +48,7 @@ impl Model for Watch {
       participant = w.participant;
       writers = w.writers.items;
       readers = w.readers.items;
+      filters = w.filters;
     } };
 }
 
@@ -84,6 +86,7 @@ impl Watch {
             participant: StatusMask::ANY,
             writers: all_enabled(alloc, writers)?,
             readers: all_enabled(alloc, readers)?,
+            filters: 0,
         })
     }
 
@@ -191,6 +194,34 @@ impl Watch {
         self.conditions[number as usize - 1] = None;
         detach_all(self.wait_sets.as_mut_slice(), Cond::Made(number));
         Ok(())
+    }
+
+    /// Counts one more filter, and gives its number.
+    ///
+    /// # Errors
+    ///
+    /// `OutOfResources` where no number is left; nothing changes then.
+    ///
+    /// DDS 1.4, 2.2.2.5 (QueryCondition).
+    pub fn add_filter(&mut self) -> Result<u32, Code>
+        // It is the last one, by the next number.
+        ensures ok { OnOk result (self.new ≡ with_filter self.old) }
+        ensures number { IfOk result (λ number. number ≡ self.old.filters + 1) }
+        // A number was left, or the refusal is for want of one, and changes nothing.
+        ensures taken { OnOk result (filter_refusal self.old ≡ None) }
+        ensures refused { IfErr result (λ code. filter_refusal self.old ≡ Some code) }
+        ensures err { OnErr result (self.new ≡ self.old) }
+    {
+        let number = self.filters.checked_add(1).ok_or(Code::OutOfResources)?;
+        self.filters = number;
+        Ok(number)
+    }
+
+    /// Whether there is a filter of this number.
+    pub fn has_filter(&self, number: u32) -> bool
+        ensures { result ≡ has_filter self.now number }
+    {
+        0 < number && number <= self.filters
     }
 
     /// Makes a WaitSet with no conditions, and gives its number.
