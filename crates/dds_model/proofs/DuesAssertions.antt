@@ -17,7 +17,8 @@ use Rattle.dds_model.specs.declared.endpoint.Endpoint.{Endpoint}
 use Rattle.dds_model.specs.declared.reply.Reply.TheVariants.{Done}
 use Rattle.dds_model.specs.Numbered.{numbered, HasNumber, has_number}
 use Rattle.dds_model.specs.Part.{Part, ReaderProxy, Rtps, Writer, acknowledged_of, has_readers, heartbeats_used, is_assertion, no_writer, own_writer, peers_of, NoLess}
-use Rattle.dds_model.specs.Calls.{CallStep, Tests, effect, with_written, writes}
+use Rattle.dds_model.specs.Calls.{CallStep, effect, with_written, writes}
+use Rattle.dds_model.specs.Watching.{Tests}
 use Rattle.dds_model.specs.Claims.{Claim, ChangeIs, MayPass, PlaceReached, Asserts, Says}
 use Rattle.dds_model.specs.Receipt.{prefix_of}
 use Rattle.dds_model.specs.Peer.{IsTrueAt}

@@ -29,7 +29,8 @@ use Rattle.dds_model.specs.declared.reply.Reply.TheVariants.{Done, Reported}
 use Rattle.dds_model.specs.Numbered.{HasNumber}
 use Rattle.dds_model.specs.Part.{Part, Writer, no_writer, own_writer, writer_changes, history_of, has_readers, is_behind, peers_of, heartbeats_used}
 use Rattle.dds_model.specs.Moves.{Grounds}
-use Rattle.dds_model.specs.Calls.{Effect, nothing, writes, effect, effect_of, with_written, Tests, ticked, after_tick, TickStep}
+use Rattle.dds_model.specs.Calls.{Effect, nothing, writes, effect, effect_of, with_written, ticked, after_tick, TickStep}
+use Rattle.dds_model.specs.Watching.{Tests}
 use Rattle.dds_model.specs.Claims.{Receiver, receiver_of, after_submessage, every_reader}
 use Rattle.dds_model.specs.Receipt.{TakesUp, Receives, prefix_of}
 use Rattle.dds_model.specs.Dues.{IsPartOf}

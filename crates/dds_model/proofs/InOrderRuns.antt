@@ -20,7 +20,7 @@ use Rattle.dds_base.specs.Liveliness.{dead_at, with_deaths}
 use Rattle.dds_conditions.specs.declared.condition.Cond.{Cond}
 use Rattle.dds_conditions.specs.Watched.{Watched}
 use Rattle.dds_model.specs.declared.call.Call.{Call}
-use Rattle.dds_model.specs.declared.call.Call.TheVariants.{Register, Write, Dispose, Unregister, AssertLiveliness, Read, Take, GetKeyValue, LookupInstance, GetSampleLost, GetLivelinessChanged, GetLivelinessLost, ReadByCondition, TakeByCondition, CreateReadCondition, CreateGuardCondition, SetTriggerValue, DeleteCondition, GetTriggerValue, CreateWaitSet, DeleteWaitSet, AttachCondition, DetachCondition, GetConditions, WaitBegin, WaitLook, WaitEnd, SetEnabledStatuses, GetStatusChanges}
+use Rattle.dds_model.specs.declared.call.Call.TheVariants.{Register, Write, Dispose, Unregister, AssertLiveliness, Read, Take, GetKeyValue, LookupInstance, GetSampleLost, GetLivelinessChanged, GetLivelinessLost, ReadByCondition, TakeByCondition, CreateReadCondition, CreateQueryCondition, CreateGuardCondition, SetTriggerValue, DeleteCondition, GetTriggerValue, CreateWaitSet, DeleteWaitSet, AttachCondition, DetachCondition, GetConditions, WaitBegin, WaitLook, WaitEnd, SetEnabledStatuses, GetStatusChanges}
 use Rattle.dds_model.specs.declared.endpoint.Endpoint.{Endpoint}
 use Rattle.dds_model.specs.declared.event.WorldEvent.{WorldEvent}
 use Rattle.dds_model.specs.declared.event.WorldEvent.TheVariants as world
@@ -32,7 +32,8 @@ use Rattle.dds_model.specs.declared.reply.Reply.TheVariants.{Done, Samples, KeyV
 use Rattle.dds_model.specs.Numbered.{numbered, with_numbered, HasNumber}
 use Rattle.dds_model.specs.Part.{same_endpoint, WriterProxy, Reader, Dds, Part, no_reader, no_part, own_writer, own_proxies, own_reader, at_reader, at_writer, row_of, place_of, with_place, with_heard, with_acknowledged, publication_of, writer_changes, nothing_seen, Seen}
 use Rattle.dds_model.specs.Moves.{Grounds, as_to, match_of, IsMatched, position_of, AreMoves, Places, Hears, DeliveryStep}
-use Rattle.dds_model.specs.Calls.{Effect, nothing, writes, effect, effect_of, after_look, seen_lost, seen_liveliness, with_happening, register_refusal, write_refusal, dispose_refusal, unregister_refusal, IsDoneUnless, Tests, AnswersAccess, AnswersByCondition, AnswersLook, IsAnswered, IsAnsweredInMemory, Answers, CallStep, TickStep, reader_ticked}
+use Rattle.dds_model.specs.Calls.{Effect, nothing, writes, effect, effect_of, after_look, seen_lost, seen_liveliness, with_happening, register_refusal, write_refusal, dispose_refusal, unregister_refusal, IsDoneUnless, AnswersAccess, AnswersByCondition, AnswersLook, IsAnswered, IsAnsweredInMemory, Answers, CallStep, TickStep, reader_ticked}
+use Rattle.dds_model.specs.Watching.{Test, Tests}
 use Rattle.dds_model.specs.Machine.{Machine, AllTests, part_at, writer_at, place_at, grounds_of, Step}
 use Rattle.dds_model.specs.Runs.{Traffic, Run}
 use Rattle.dds_model.specs.InOrder.{came_from, CameInOrder, no_traffic}
@@ -200,11 +201,11 @@ entered entry same old new k samples r h e = changed_reader old new k (record (o
 looked : (old : Part) (new : Dds) (k : ℕ) (seen : Seen) (r : ℕ) → HasNumber old.dds.readers r → new ≡ after_look old k seen → SameCame old.dds new r
 looked old new k seen r h e = changed_reader old new k (record (own_reader old k) { seen = seen }) r h (λ p. refl) e
 
-accessed : (entry : List SamplePosition → Happening) → EntersNothingThatCame entry → (old : Part) (k : ℕ) (selection : Selection) (reply : Reply) (new : Dds) (r : ℕ) → HasNumber old.dds.readers r → AnswersAccess entry old k selection reply new → SameCame old.dds new r
-accessed entry same old k selection (Samples samples) new r h a = entered entry same old new k _ r h a.3
-accessed entry same old k selection (Refused code.NoData) new r h a = entered entry same old new k [] r h a.2
-accessed entry same old k selection (Refused code) new r h a = same_came old.dds new r h a.1
-accessed entry same old k selection reply new r h a = absurd a
+accessed : (entry : List SamplePosition → Happening) → EntersNothingThatCame entry → (test : Test) (old : Part) (k : ℕ) (selection : Selection) (reply : Reply) (new : Dds) (r : ℕ) → HasNumber old.dds.readers r → AnswersAccess entry test old k selection reply new → SameCame old.dds new r
+accessed entry same test old k selection (Samples samples) new r h a = entered entry same old new k _ r h a.3
+accessed entry same test old k selection (Refused code.NoData) new r h a = entered entry same old new k [] r h a.2
+accessed entry same test old k selection (Refused code) new r h a = same_came old.dds new r h a.1
+accessed entry same test old k selection reply new r h a = absurd a
 
 done_or_not : (refusal : Option Code) (reply : Reply) (old new : Dds) (r : ℕ) → HasNumber old.readers r → IsDoneUnless refusal reply old old new → SameCame old new r
 done_or_not refusal Done old new r h a = same_came old new r h a.1
@@ -234,10 +235,10 @@ look_came [] true old wait_set reply new r h a = answered_came _ _ _ old reply n
 look_came [] false old wait_set reply new r h a = answered_came _ _ _ old reply new r h a
 look_came (c ∷ cs) timed_out old wait_set reply new r h a = in_memory_came _ _ _ _ old reply new r h a
 
-by_condition : (entry : List SamplePosition → Happening) → EntersNothingThatCame entry → (refusal : Option Code) (old : Part) (k : ℕ) (selection : Selection) (reply : Reply) (new : Dds) (r : ℕ)
-    → HasNumber old.dds.readers r → AnswersByCondition entry refusal old k selection reply new → SameCame old.dds new r
-by_condition entry same (Some code) old k selection reply new r h a = same_came old.dds new r h a.1
-by_condition entry same None old k selection reply new r h a = accessed entry same old k selection reply new r h a
+by_condition : (entry : List SamplePosition → Happening) → EntersNothingThatCame entry → (refusal : Option Code) (test : Test) (old : Part) (k : ℕ) (selection : Selection) (reply : Reply) (new : Dds) (r : ℕ)
+    → HasNumber old.dds.readers r → AnswersByCondition entry refusal test old k selection reply new → SameCame old.dds new r
+by_condition entry same (Some code) test old k selection reply new r h a = same_came old.dds new r h a.1
+by_condition entry same None test old k selection reply new r h a = accessed entry same test old k selection reply new r h a
 
 answers_came : (tests : Tests) (old : Part) (c : Call) (reply : Reply) (new : Dds) (r : ℕ) → HasNumber old.dds.readers r → Answers tests old c reply new → SameCame old.dds new r
 answers_came tests old (Register v key) reply new r h a = done_or_not (register_refusal old v) reply old.dds new r h a
@@ -247,8 +248,8 @@ answers_came tests old (Unregister v key) reply new r h a = done_or_not (unregis
 answers_came tests old (AssertLiveliness v) Done new r h a = same_came old.dds new r h a.1
 answers_came tests old (AssertLiveliness v) (Refused code) new r h a = same_came old.dds new r h a.1
 answers_came tests old (AssertLiveliness v) reply new r h a = absurd a
-answers_came tests old (Read v selection) reply new r h a = accessed HasRead (λ samples p past. refl) old v selection reply new r h a
-answers_came tests old (Take v selection) reply new r h a = accessed Took (λ samples p past. refl) old v selection reply new r h a
+answers_came tests old (Read v selection) reply new r h a = accessed HasRead (λ samples p past. refl) _ old v selection reply new r h a
+answers_came tests old (Take v selection) reply new r h a = accessed Took (λ samples p past. refl) _ old v selection reply new r h a
 answers_came tests old (GetKeyValue v instance) (KeyValue key) new r h a = same_came old.dds new r h a.2
 answers_came tests old (GetKeyValue v instance) (Refused code) new r h a = same_came old.dds new r h a.1
 answers_came tests old (GetKeyValue v instance) reply new r h a = absurd a
@@ -264,9 +265,10 @@ answers_came tests old (GetLivelinessChanged v) reply new r h a = absurd a
 answers_came tests old (GetLivelinessLost v) (LivelinessLost status) new r h a = same_came old.dds new r h a.2
 answers_came tests old (GetLivelinessLost v) (Refused code) new r h a = same_came old.dds new r h a.1
 answers_came tests old (GetLivelinessLost v) reply new r h a = absurd a
-answers_came tests old (ReadByCondition v scope c) reply new r h a = by_condition HasRead (λ samples p past. refl) _ old v _ reply new r h a
-answers_came tests old (TakeByCondition v scope c) reply new r h a = by_condition Took (λ samples p past. refl) _ old v _ reply new r h a
+answers_came tests old (ReadByCondition v scope c) reply new r h a = by_condition HasRead (λ samples p past. refl) _ _ old v _ reply new r h a
+answers_came tests old (TakeByCondition v scope c) reply new r h a = by_condition Took (λ samples p past. refl) _ _ old v _ reply new r h a
 answers_came tests old (CreateReadCondition v masks) reply new r h a = in_memory_came _ _ _ _ old reply new r h a
+answers_came tests old (CreateQueryCondition v masks filter) reply new r h a = in_memory_came _ _ _ _ old reply new r h a
 answers_came tests old CreateGuardCondition reply new r h a = in_memory_came _ _ _ _ old reply new r h a
 answers_came tests old (SetTriggerValue c value) reply new r h a = answered_came _ _ _ old reply new r h a
 answers_came tests old (DeleteCondition c) reply new r h a = answered_came _ _ _ old reply new r h a

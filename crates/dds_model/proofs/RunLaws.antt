@@ -12,7 +12,7 @@ use Rattle.dds_base.specs.declared.qos.HistoryQos.{HistoryQos}
 use Rattle.dds_base.specs.declared.qos.HistoryQos.TheVariants.{KeepAll}
 use Rattle.dds_base.specs.Kept.{is_dropped, is_dropped_by}
 use Rattle.dds_model.specs.declared.call.Call.{Call}
-use Rattle.dds_model.specs.declared.call.Call.TheVariants.{Register, Write, Dispose, Unregister, AssertLiveliness, Read, Take, GetKeyValue, LookupInstance, GetSampleLost, GetLivelinessChanged, GetLivelinessLost, ReadByCondition, TakeByCondition, CreateReadCondition, CreateGuardCondition, SetTriggerValue, DeleteCondition, GetTriggerValue, CreateWaitSet, DeleteWaitSet, AttachCondition, DetachCondition, GetConditions, WaitBegin, WaitLook, WaitEnd, SetEnabledStatuses, GetStatusChanges}
+use Rattle.dds_model.specs.declared.call.Call.TheVariants.{Register, Write, Dispose, Unregister, AssertLiveliness, Read, Take, GetKeyValue, LookupInstance, GetSampleLost, GetLivelinessChanged, GetLivelinessLost, ReadByCondition, TakeByCondition, CreateReadCondition, CreateQueryCondition, CreateGuardCondition, SetTriggerValue, DeleteCondition, GetTriggerValue, CreateWaitSet, DeleteWaitSet, AttachCondition, DetachCondition, GetConditions, WaitBegin, WaitLook, WaitEnd, SetEnabledStatuses, GetStatusChanges}
 use Rattle.dds_model.specs.declared.endpoint.Endpoint.{Endpoint}
 use Rattle.dds_model.specs.declared.event.WorldEvent.{WorldEvent}
 use Rattle.dds_model.specs.declared.event.WorldEvent.TheVariants as world
@@ -24,9 +24,9 @@ use Rattle.dds_model.specs.declared.reply.Reply.TheVariants.{Done, Samples, KeyV
 use Rattle.dds_model.specs.Part.{Dds, Part, writer_changes, history_of}
 use Rattle.dds_base.specs.Places.{GoesTo}
 use Rattle.dds_model.specs.Moves.{as_to, match_of, position_of, AreMoves, DeliveryStep}
-use Rattle.dds_model.specs.Calls.{Tests, IsAnswered, IsAnsweredInMemory, AnswersLook, AnswersByCondition, CallStep, TickStep}
+use Rattle.dds_model.specs.Calls.{IsAnswered, IsAnsweredInMemory, AnswersLook, AnswersByCondition, CallStep, TickStep}
+use Rattle.dds_model.specs.Watching.{Test, Tests, condition_selection}
 use Rattle.dds_model.specs.Machine.{Machine, AllTests, part_at, writer_at, grounds_of, Step}
-use Rattle.dds_model.specs.Watching.{condition_selection}
 use Rattle.dds_model.specs.World.{WorldState, machine_of, Sound}
 use Rattle.dds_model.specs.Runs.{Traffic, Run}
 use Rattle.dds_model.specs.Rules.{RuledRun, traffic_of}
@@ -93,10 +93,10 @@ look_so [] true old wait_set report dds h = answered_so _ _ _ old report dds (λ
 look_so [] false old wait_set report dds h = answered_so _ _ _ old report dds (λ e. absurd cc) h
 look_so (c ∷ cs) timed_out old wait_set report dds h = in_memory_so _ _ _ _ old report dds (λ e. absurd cc) h
 
-by_condition_so : (entry : List SamplePosition → Happening) (refusal : Option Code) (old : Part) (k : ℕ) (selection : Selection) (report : Report) (dds : Dds)
-    → AnswersByCondition entry refusal old k selection (Reported report) dds → ⊥
-by_condition_so entry (Some code) old k selection report dds h = let is = h.0 in absurd cc
-by_condition_so entry None old k selection report dds h = h
+by_condition_so : (entry : List SamplePosition → Happening) (refusal : Option Code) (test : Test) (old : Part) (k : ℕ) (selection : Selection) (report : Report) (dds : Dds)
+    → AnswersByCondition entry refusal test old k selection (Reported report) dds → ⊥
+by_condition_so entry (Some code) test old k selection report dds h = let is = h.0 in absurd cc
+by_condition_so entry None test old k selection report dds h = h
 
 loses_call : (w : Endpoint) (tests : Tests) (old : Part) (call : Call) (reply : Reply) (new : Part) (replies : List Reply) → CallStep tests old call reply new → LosesNone w replies → LosesNone w (reply ∷ replies)
 loses_call w tests old call Done new replies h rest = rest
@@ -125,9 +125,10 @@ loses_call w tests old (LookupInstance r k) (Reported report) new replies h rest
 loses_call w tests old (GetSampleLost r) (Reported report) new replies h rest = absurd h.answers
 loses_call w tests old (GetLivelinessChanged r) (Reported report) new replies h rest = absurd h.answers
 loses_call w tests old (GetLivelinessLost v) (Reported report) new replies h rest = absurd h.answers
-loses_call w tests old (ReadByCondition r scope c) (Reported report) new replies h rest = absurd (by_condition_so HasRead _ old r (condition_selection old scope c) report new.dds h.answers)
-loses_call w tests old (TakeByCondition r scope c) (Reported report) new replies h rest = absurd (by_condition_so Took _ old r (condition_selection old scope c) report new.dds h.answers)
+loses_call w tests old (ReadByCondition r scope c) (Reported report) new replies h rest = absurd (by_condition_so HasRead _ _ old r (condition_selection old scope c) report new.dds h.answers)
+loses_call w tests old (TakeByCondition r scope c) (Reported report) new replies h rest = absurd (by_condition_so Took _ _ old r (condition_selection old scope c) report new.dds h.answers)
 loses_call w tests old (CreateReadCondition r masks) (Reported report) new replies h rest = absurd (in_memory_so _ _ _ _ old report new.dds (λ e. absurd cc) h.answers)
+loses_call w tests old (CreateQueryCondition r masks filter) (Reported report) new replies h rest = absurd (in_memory_so _ _ _ _ old report new.dds (λ e. absurd cc) h.answers)
 loses_call w tests old CreateGuardCondition (Reported report) new replies h rest = absurd (in_memory_so _ _ _ _ old report new.dds (λ e. absurd cc) h.answers)
 loses_call w tests old (SetTriggerValue c value) (Reported report) new replies h rest = absurd (answered_so _ _ _ old report new.dds (λ e. absurd cc) h.answers)
 loses_call w tests old (DeleteCondition c) (Reported report) new replies h rest = absurd (answered_so _ _ _ old report new.dds (λ e. absurd cc) h.answers)

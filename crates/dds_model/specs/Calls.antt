@@ -24,7 +24,7 @@ use Rattle.dds_base.specs.Statuses.{lost_count, sample_lost_status}
 use Rattle.dds_base.specs.StatusFlags.{turned_at}
 use Rattle.dds_base.specs.Written.{Written, Registered, Changed, Asserted, LookedAt, Ticked, is_key_registered, liveliness_lost_status}
 use Rattle.dds_model.specs.declared.call.Call.{Call}
-use Rattle.dds_model.specs.declared.call.Call.TheVariants.{Register, Write, Dispose, Unregister, AssertLiveliness, Read, Take, GetKeyValue, LookupInstance, GetSampleLost, GetLivelinessChanged, GetLivelinessLost, ReadByCondition, TakeByCondition, CreateReadCondition, CreateGuardCondition, SetTriggerValue, DeleteCondition, GetTriggerValue, CreateWaitSet, DeleteWaitSet, AttachCondition, DetachCondition, GetConditions, WaitBegin, WaitLook, WaitEnd, SetEnabledStatuses, GetStatusChanges}
+use Rattle.dds_model.specs.declared.call.Call.TheVariants.{Register, Write, Dispose, Unregister, AssertLiveliness, Read, Take, GetKeyValue, LookupInstance, GetSampleLost, GetLivelinessChanged, GetLivelinessLost, ReadByCondition, TakeByCondition, CreateReadCondition, CreateQueryCondition, CreateGuardCondition, SetTriggerValue, DeleteCondition, GetTriggerValue, CreateWaitSet, DeleteWaitSet, AttachCondition, DetachCondition, GetConditions, WaitBegin, WaitLook, WaitEnd, SetEnabledStatuses, GetStatusChanges}
 use Rattle.dds_model.specs.declared.reply.Reply.{Reply}
 use Rattle.dds_model.specs.declared.reply.Reply.TheVariants.{Done, Samples, KeyValue, InstanceHandle, SampleLost, LivelinessChanged, LivelinessLost, Created, TriggerValue, Conditions, Active, Waiting, StatusChanges, Refused}
 use Rattle.dds_conditions.specs.declared.condition.Cond.{Cond}
@@ -32,7 +32,7 @@ use Rattle.dds_conditions.specs.declared.condition.Condition.TheVariants.{Guard,
 use Rattle.dds_conditions.specs.Attached.{active_of, is_attached}
 use Rattle.dds_conditions.specs.Watched.{Watched, attach_refusal, conditions_of, detaching_refusal, free_refusal, guard_refusal, is_timed_out, knows, knows_entity, made, number_refusal, unless_there, use_refusal, with_attached, with_condition, with_condition_at, with_deadline, with_detached, with_enabled, with_wait_set, with_wait_set_at, without_condition}
 use Rattle.dds_model.specs.Numbered.{has_number, numbered, with_numbered}
-use Rattle.dds_model.specs.Watching.{condition_refusal, condition_selection, read_condition_refusal, status_changes, trigger_value}
+use Rattle.dds_model.specs.Watching.{Test, Tests, condition_refusal, condition_selection, condition_test, query_condition_refusal, read_condition_refusal, status_changes, trigger_value}
 use Rattle.dds_model.specs.Part.{Part, Rtps, Dds, Seen, Reader, Writer, no_writer, own_writer, own_reader, heartbeats_used, history_of, is_behind}
 
 -- the change that a call makes at the peer's moment
@@ -73,13 +73,9 @@ assert_refusal part writer =
     if not (has_number part.rtps.writers writer) then Some BadParameter
     else (if nat_le (2 ^ 31 - 1) (heartbeats_used (own_writer part writer)) then Some OutOfResources else None)
 
--- What the filters of a peer answer, by their numbers: whether a sample of this key and value passes.
-abbrev pub Tests : Type 0
-Tests = ℕ → Key → List ℕ → Bool
-
 -- the samples that an access of the peer's reader returns
-abbrev pub picked_at : Part → ℕ → Selection → List SamplePosition
-picked_at part reader selection = picked_by (own_reader part reader).qos (own_reader part reader).happened selection no_filter
+abbrev pub picked_at : Test → Part → ℕ → Selection → List SamplePosition
+picked_at test part reader selection = picked_by (own_reader part reader).qos (own_reader part reader).happened selection test
 
 -- why an access is refused: no such reader, a max that is neither -1 nor positive, or an instance that has to be known and is not
 abbrev pub access_refusal : Part → ℕ → Selection → Option Code
@@ -154,17 +150,17 @@ IsDoneUnless refusal Done old done new = (refusal ≡ None) × (new ≡ done)
 IsDoneUnless refusal (Refused code) old done new = Refuses refusal code × (new ≡ old)
 IsDoneUnless refusal reply old done new = ⊥
 
--- An access that enters so: the samples that it picks, or NO_DATA where it picks none, and either is entered; or the first
+-- An access by a test that enters so: the samples that it picks, or NO_DATA where it picks none, and either is entered; or the first
 -- cause that refuses it, or want of memory where there is none, and it did not happen.
-abbrev pub AnswersAccess : (List SamplePosition → Happening) → Part → ℕ → Selection → Reply → Dds → Type 0
-AnswersAccess entry old reader selection (Samples samples) dds =
-    (access_refusal old reader selection ≡ None) × (picked_at old reader selection ≢ [])
-    × (samples ≡ collection_of (own_reader old reader).qos (own_reader old reader).happened (picked_at old reader selection))
-    × (dds ≡ with_happening old reader (entry (picked_at old reader selection)))
-AnswersAccess entry old reader selection (Refused NoData) dds =
-    (access_refusal old reader selection ≡ None) × (picked_at old reader selection ≡ []) × (dds ≡ with_happening old reader (entry []))
-AnswersAccess entry old reader selection (Refused code) dds = Refuses (access_refusal old reader selection) code × (dds ≡ old.dds)
-AnswersAccess entry old reader selection reply dds = ⊥
+abbrev pub AnswersAccess : (List SamplePosition → Happening) → Test → Part → ℕ → Selection → Reply → Dds → Type 0
+AnswersAccess entry test old reader selection (Samples samples) dds =
+    (access_refusal old reader selection ≡ None) × (picked_at test old reader selection ≢ [])
+    × (samples ≡ collection_of (own_reader old reader).qos (own_reader old reader).happened (picked_at test old reader selection))
+    × (dds ≡ with_happening old reader (entry (picked_at test old reader selection)))
+AnswersAccess entry test old reader selection (Refused NoData) dds =
+    (access_refusal old reader selection ≡ None) × (picked_at test old reader selection ≡ []) × (dds ≡ with_happening old reader (entry []))
+AnswersAccess entry test old reader selection (Refused code) dds = Refuses (access_refusal old reader selection) code × (dds ≡ old.dds)
+AnswersAccess entry test old reader selection reply dds = ⊥
 
 -- A call of what is watched: the first cause refuses it, or it is answered so, and this is watched from then on.
 abbrev pub IsAnswered : Option Code → Reply → Watched → Part → Reply → Dds → Type 0
@@ -188,10 +184,10 @@ AnswersLook (c ∷ cs) timed_out old wait_set reply dds =
     IsAnsweredInMemory true (use_refusal (made old.dds.watch.wait_sets wait_set)) (Active (c ∷ cs))
     (with_deadline old.dds.watch wait_set None) old reply dds
 
--- An access by a condition: the first cause refuses it, or it is the access by the condition's masks.
-abbrev pub AnswersByCondition : (List SamplePosition → Happening) → Option Code → Part → ℕ → Selection → Reply → Dds → Type 0
-AnswersByCondition entry (Some code) old reader selection reply dds = (reply ≡ Refused code) × (dds ≡ old.dds)
-AnswersByCondition entry None old reader selection reply dds = AnswersAccess entry old reader selection reply dds
+-- An access by a condition: the first cause refuses it, or it is the access by the condition's masks and test.
+abbrev pub AnswersByCondition : (List SamplePosition → Happening) → Option Code → Test → Part → ℕ → Selection → Reply → Dds → Type 0
+AnswersByCondition entry (Some code) test old reader selection reply dds = (reply ≡ Refused code) × (dds ≡ old.dds)
+AnswersByCondition entry None test old reader selection reply dds = AnswersAccess entry test old reader selection reply dds
 
 -- What a call answers, and what it does to what the peer's own calls see. A look at a status, a key, a handle and an
 -- assertion need no memory.
@@ -203,8 +199,8 @@ Answers tests old (Unregister writer key) reply dds = IsDoneUnless (unregister_r
 Answers tests old (AssertLiveliness writer) Done dds = (assert_refusal old writer ≡ None) × (dds ≡ old.dds)
 Answers tests old (AssertLiveliness writer) (Refused code) dds = (assert_refusal old writer ≡ Some code) × (dds ≡ old.dds)
 Answers tests old (AssertLiveliness writer) reply dds = ⊥
-Answers tests old (Read reader selection) reply dds = AnswersAccess HasRead old reader selection reply dds
-Answers tests old (Take reader selection) reply dds = AnswersAccess Took old reader selection reply dds
+Answers tests old (Read reader selection) reply dds = AnswersAccess HasRead no_filter old reader selection reply dds
+Answers tests old (Take reader selection) reply dds = AnswersAccess Took no_filter old reader selection reply dds
 Answers tests old (GetKeyValue reader instance) (KeyValue key) dds =
     (key_refusal old reader instance ≡ None) × (key_of old reader instance ≡ Some key) × (dds ≡ old.dds)
 Answers tests old (GetKeyValue reader instance) (Refused code) dds = (key_refusal old reader instance ≡ Some code) × (dds ≡ old.dds)
@@ -232,12 +228,17 @@ Answers tests old (GetLivelinessLost writer) (LivelinessLost status) dds =
 Answers tests old (GetLivelinessLost writer) (Refused code) dds = (writer_look_refusal old writer ≡ Some code) × (dds ≡ old.dds)
 Answers tests old (GetLivelinessLost writer) reply dds = ⊥
 Answers tests old (ReadByCondition reader scope condition) reply dds =
-    AnswersByCondition HasRead (condition_refusal old reader scope condition) old reader (condition_selection old scope condition) reply dds
+    AnswersByCondition HasRead (condition_refusal old reader scope condition) (condition_test tests old condition) old reader
+    (condition_selection old scope condition) reply dds
 Answers tests old (TakeByCondition reader scope condition) reply dds =
-    AnswersByCondition Took (condition_refusal old reader scope condition) old reader (condition_selection old scope condition) reply dds
+    AnswersByCondition Took (condition_refusal old reader scope condition) (condition_test tests old condition) old reader
+    (condition_selection old scope condition) reply dds
 Answers tests old (CreateReadCondition reader masks) reply dds =
     IsAnsweredInMemory true (read_condition_refusal old reader) (Created (length old.dds.watch.conditions + 1))
-    (with_condition old.dds.watch (OfSamples reader masks)) old reply dds
+    (with_condition old.dds.watch (OfSamples reader masks None)) old reply dds
+Answers tests old (CreateQueryCondition reader masks filter) reply dds =
+    IsAnsweredInMemory true (query_condition_refusal old reader filter) (Created (length old.dds.watch.conditions + 1))
+    (with_condition old.dds.watch (OfSamples reader masks (Some filter))) old reply dds
 Answers tests old CreateGuardCondition reply dds =
     IsAnsweredInMemory true (number_refusal old.dds.watch.conditions) (Created (length old.dds.watch.conditions + 1))
     (with_condition old.dds.watch (Guard false)) old reply dds
@@ -248,7 +249,7 @@ Answers tests old (DeleteCondition condition) reply dds =
     IsAnswered (unless_there (is_some (made old.dds.watch.conditions condition))) Done
     (without_condition old.dds.watch condition) old reply dds
 Answers tests old (GetTriggerValue condition) reply dds =
-    IsAnswered (unless_there (knows old.dds.watch condition)) (TriggerValue (trigger_value old condition)) old.dds.watch old reply dds
+    IsAnswered (unless_there (knows old.dds.watch condition)) (TriggerValue (trigger_value tests old condition)) old.dds.watch old reply dds
 Answers tests old CreateWaitSet reply dds =
     IsAnsweredInMemory true (number_refusal old.dds.watch.wait_sets) (Created (length old.dds.watch.wait_sets + 1))
     (with_wait_set old.dds.watch) old reply dds
@@ -265,7 +266,7 @@ Answers tests old (GetConditions wait_set) reply dds =
 Answers tests old (WaitBegin wait_set deadline) reply dds =
     IsAnswered (free_refusal (made old.dds.watch.wait_sets wait_set)) Done (with_deadline old.dds.watch wait_set (Some deadline)) old reply dds
 Answers tests old (WaitLook wait_set) reply dds =
-    AnswersLook (active_of (trigger_value old) (conditions_of old.dds.watch wait_set))
+    AnswersLook (active_of (trigger_value tests old) (conditions_of old.dds.watch wait_set))
     (is_timed_out (made old.dds.watch.wait_sets wait_set) old.dds.moment) old wait_set reply dds
 Answers tests old (WaitEnd wait_set) reply dds =
     IsAnswered (use_refusal (made old.dds.watch.wait_sets wait_set)) Done (with_deadline old.dds.watch wait_set None) old reply dds

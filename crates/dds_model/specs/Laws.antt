@@ -23,7 +23,8 @@ use Rattle.dds_model.specs.Peer.{Delivery, no_peer, state_of, packets_of, claime
 use Rattle.dds_model.specs.Protocol.{State, Due, TakesPacket, assertions_due, heartbeats_due}
 use Rattle.dds_model.specs.Backed.{IsBacked}
 use Rattle.dds_model.specs.Dues.{AreTellable, IsPartOf, AreTruthful, IsSized, HasSmallChanges, CanBeWritten}
-use Rattle.dds_model.specs.Calls.{Tests, CallStep, TickStep}
+use Rattle.dds_model.specs.Calls.{CallStep, TickStep}
+use Rattle.dds_model.specs.Watching.{Tests}
 use Rattle.dds_model.specs.Machine.{Machine, AllTests, writer_at, Step}
 use Rattle.dds_model.specs.World.{WorldState, WorldStep, machine_of, Sound}
 use Rattle.dds_model.specs.Progress.{Progresses}

@@ -11,7 +11,9 @@ use Rattle.dds_model.specs.declared.reply.Reply.TheVariants.{Refused}
 use Rattle.dds_model.specs.Numbered.{numbered, with_numbered, HasNumber}
 use Rattle.dds_model.specs.Part.{Part, Writer, no_part, own_writer, own_proxies, place_of, writer_changes, history_of, is_assertion, IsAtMost}
 use Rattle.dds_model.specs.Moves.{Grounds, DeliveryStep}
-use Rattle.dds_model.specs.Calls.{Tests, CallStep, TickStep}
+use Rattle.dds_model.specs.Calls.{CallStep, TickStep}
+use Rattle.dds_model.specs.Watching.{Tests}
+use Rattle.dds_conditions.specs.Watched.{no_filters}
 
 -- the peers' parts, which are numbered from 1
 pub record Machine : Type 0 where
@@ -51,10 +53,7 @@ IsRefused old reply new = (reply ≡ Refused BadParameter) × (new ≡ old)
 abbrev pub AllTests : Type 0
 AllTests = ℕ → Tests
 
--- a peer without filters, and a network of such peers
-abbrev pub no_filters : Tests
-no_filters filter key value = false
-
+-- a network of peers without filters
 abbrev pub no_tests : AllTests
 no_tests peer = no_filters
 

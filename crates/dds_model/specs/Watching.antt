@@ -7,6 +7,7 @@ use Rattle.dds_base.specs.declared.code.Code.{Code}
 use Rattle.dds_base.specs.declared.code.Code.TheVariants.{BadParameter, PreconditionNotMet}
 use Rattle.dds_base.specs.declared.entity.Entity.{Entity}
 use Rattle.dds_base.specs.declared.entity.Entity.TheVariants as entity
+use Rattle.dds_base.specs.declared.key.Key.{Key}
 use Rattle.dds_base.specs.declared.mask.Masks.{Masks}
 use Rattle.dds_base.specs.declared.selection.Scope.{Scope}
 use Rattle.dds_base.specs.declared.selection.Selection.{Selection}
@@ -21,7 +22,7 @@ use Rattle.dds_conditions.specs.declared.condition.Cond.{Cond}
 use Rattle.dds_conditions.specs.declared.condition.Cond.TheVariants.{Status, Made}
 use Rattle.dds_conditions.specs.declared.condition.Condition.{Condition}
 use Rattle.dds_conditions.specs.declared.condition.Condition.TheVariants.{Samples, Guard}
-use Rattle.dds_conditions.specs.Watched.{enabled_of, knows_entity, made, number_refusal}
+use Rattle.dds_conditions.specs.Watched.{enabled_of, has_filter, knows_entity, made, number_refusal}
 use Rattle.dds_model.specs.Numbered.{has_number}
 use Rattle.dds_model.specs.Part.{Part, Reader, Writer, own_reader, own_writer}
 
@@ -60,22 +61,39 @@ status_changes part entity.Participant = record { 0 = 0 }
 status_changes part (entity.Writer writer) = writer_statuses (own_writer part writer)
 status_changes part (entity.Reader reader) = reader_statuses (own_reader part reader)
 
+-- ---- filters
+
+-- what a filter answers: whether a sample of this key and value passes
+abbrev pub Test : Type 0
+Test = Key → List ℕ → Bool
+
+-- what the filters of a peer answer, by their numbers
+abbrev pub Tests : Type 0
+Tests = ℕ → Test
+
+-- the test of a condition: that of its filter, or that each sample passes
+abbrev pub test_of : Tests → Option ℕ → Test
+test_of tests None = no_filter
+test_of tests (Some filter) = tests filter
+
 -- ---- trigger values
 
 -- two masks have a bit in common
 abbrev pub meet : StatusMask → StatusMask → Bool
 meet a b = not (bit_and a.0 b.0 == 0)
 
--- a condition that was made: a read condition is true while a present sample meets its masks, a guard as it was set
-abbrev pub value_of : Part → Option Condition → Bool
-value_of part None = false
-value_of part (Some (Samples reader masks)) = has_match (own_reader part reader).qos (own_reader part reader).happened masks no_filter
-value_of part (Some (Guard value)) = value
+-- a condition that was made: a read condition is true while a present sample meets its masks, a query condition while such
+-- a sample passes its filter, a guard as it was set
+abbrev pub value_of : Tests → Part → Option Condition → Bool
+value_of tests part None = false
+value_of tests part (Some (Samples reader masks filter)) =
+    has_match (own_reader part reader).qos (own_reader part reader).happened masks (test_of tests filter)
+value_of tests part (Some (Guard value)) = value
 
 -- the trigger value of a condition; that of an entity is true while one of its enabled statuses is flagged
-abbrev pub trigger_value : Part → Cond → Bool
-trigger_value part (Status entity) = knows_entity part.dds.watch entity && meet (enabled_of part.dds.watch entity (record { 0 = 0 })) (status_changes part entity)
-trigger_value part (Made number) = value_of part (made part.dds.watch.conditions number)
+abbrev pub trigger_value : Tests → Part → Cond → Bool
+trigger_value tests part (Status entity) = knows_entity part.dds.watch entity && meet (enabled_of part.dds.watch entity (record { 0 = 0 })) (status_changes part entity)
+trigger_value tests part (Made number) = value_of tests part (made part.dds.watch.conditions number)
 
 -- ---- accesses by a condition
 
@@ -83,9 +101,14 @@ trigger_value part (Made number) = value_of part (made part.dds.watch.conditions
 abbrev pub read_condition_refusal : Part → ℕ → Option Code
 read_condition_refusal part reader = if not (has_number part.dds.readers reader) then Some BadParameter else number_refusal part.dds.watch.conditions
 
+-- why a query condition is not made: no such reader or no such filter, or no number is left
+abbrev pub query_condition_refusal : Part → ℕ → ℕ → Option Code
+query_condition_refusal part reader filter =
+    if has_filter part.dds.watch filter then read_condition_refusal part reader else Some BadParameter
+
 -- the condition is a read condition of this reader
 abbrev pub is_condition_of : ℕ → Option Condition → Bool
-is_condition_of reader (Some (Samples other masks)) = other == reader
+is_condition_of reader (Some (Samples other masks filter)) = other == reader
 is_condition_of reader _ = false
 
 -- why an access by a condition is refused: no such reader, no such condition, or a max that is neither -1 nor positive; or a
@@ -97,9 +120,18 @@ condition_refusal part reader scope condition =
 
 -- the masks of a read condition
 abbrev pub masks_of : Option Condition → Masks
-masks_of (Some (Samples reader masks)) = masks
+masks_of (Some (Samples reader masks filter)) = masks
 masks_of _ = record { samples = record { 0 = 0 }; views = record { 0 = 0 }; instances = record { 0 = 0 } }
+
+-- the filter of a query condition
+abbrev pub filter_of : Option Condition → Option ℕ
+filter_of (Some (Samples reader masks filter)) = filter
+filter_of _ = None
 
 -- what an access by a condition asks for
 abbrev pub condition_selection : Part → Scope → ℕ → Selection
 condition_selection part scope condition = selection_in scope (masks_of (made part.dds.watch.conditions condition))
+
+-- the test that it asks samples to pass
+abbrev pub condition_test : Tests → Part → ℕ → Test
+condition_test tests part condition = test_of tests (filter_of (made part.dds.watch.conditions condition))

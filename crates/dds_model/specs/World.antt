@@ -14,7 +14,7 @@ use Rattle.dds_model.specs.declared.reply.Reply.{Reply}
 use Rattle.dds_model.specs.declared.reply.Reply.TheVariants.{Refused}
 use Rattle.dds_model.specs.Numbered.{numbered, with_numbered, HasNumber}
 use Rattle.dds_model.specs.Part.{acknowledged_of, writer_changes, history_of, is_assertion, IsBelow, IsAtMost, NoLess}
-use Rattle.dds_model.specs.Calls.{Tests}
+use Rattle.dds_model.specs.Watching.{Tests}
 use Rattle.dds_model.specs.Claims.{Claim, ChangeIs, MayPass, PlaceReached, Asserts, Claims}
 use Rattle.dds_model.specs.Peer.{Peer, Delivery, PeerStep, no_peer}
 use Rattle.dds_model.specs.Machine.{Machine, AllTests, writer_at, place_at}

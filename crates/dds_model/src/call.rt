@@ -106,6 +106,13 @@ pub enum Call {
         reader: u8,
         masks: Masks,
     },
+    /// Makes a query condition: its trigger value is true while a present sample of the reader meets the masks and passes the
+    /// filter of this number (DDS 1.4, 2.2.2.5, create_querycondition). `OutOfResources` where 2^32 - 1 conditions were made.
+    CreateQueryCondition {
+        reader: u8,
+        masks: Masks,
+        filter: u32,
+    },
     /// Makes a guard condition, whose trigger value is false (DDS 1.4, 2.2.2.1, GuardCondition). `OutOfResources` where
     /// 2^32 - 1 conditions were made.
     CreateGuardCondition,
@@ -244,6 +251,15 @@ impl Clone for Call {
             Call::CreateReadCondition { reader, masks } => Call::CreateReadCondition {
                 reader: *reader,
                 masks: *masks,
+            },
+            Call::CreateQueryCondition {
+                reader,
+                masks,
+                filter,
+            } => Call::CreateQueryCondition {
+                reader: *reader,
+                masks: *masks,
+                filter: *filter,
             },
             Call::CreateGuardCondition => Call::CreateGuardCondition,
             Call::SetTriggerValue { condition, value } => Call::SetTriggerValue {

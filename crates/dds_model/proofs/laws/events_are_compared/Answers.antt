@@ -51,6 +51,7 @@ calls = of_variants enum_of_calls _
     ⨾ more Decides-eqb (more scopes (last Decides-eqb))  -- ReadByCondition
     ⨾ more Decides-eqb (more scopes (last Decides-eqb))  -- TakeByCondition
     ⨾ more Decides-eqb (last masks)  -- CreateReadCondition
+    ⨾ more Decides-eqb (more masks (last Decides-eqb))  -- CreateQueryCondition
     ⨾ bare  -- CreateGuardCondition
     ⨾ more Decides-eqb (last booleans_Decides)  -- SetTriggerValue
     ⨾ last Decides-eqb  -- DeleteCondition
