@@ -1,5 +1,5 @@
 -- An access of one of the peer's readers: a read or a take, in any of its forms.
-use Rattle.std.proofs.Common.{◌≡◌, ◌≢◌, ℕ, suc, ◌+◌, ◌<◌, Bool, true, not, List, [], ◌∷◌, Option, Some, set, length, slice_get, refl, ap, sym, ◌∙◌, subst, arith}
+use Rattle.std.proofs.Common.{◌≡◌, ◌≢◌, ℕ, suc, ◌+◌, ◌<◌, Bool, true, not, List, [], ◌∷◌, Option, Some, None, set, length, slice_get, refl, ap, sym, ◌∙◌, subst, arith}
 use Rattle.std.specs.Prelude.{if◌then◌else◌, Result, Ok, Err}
 use Rattle.dds_base.specs.declared.code.Code.{Code}
 use Rattle.dds_base.specs.declared.code.Code.TheVariants.{BadParameter, NoData}
@@ -8,6 +8,7 @@ use Rattle.dds_base.specs.declared.guid.EntityId.{EntityId}
 use Rattle.dds_base.specs.declared.happening.Happening.{Happening}
 use Rattle.dds_base.specs.declared.happening.Happening.TheVariants.{Read as HasRead, Took}
 use Rattle.dds_base.specs.declared.happening.SamplePosition.{SamplePosition}
+use Rattle.dds_base.specs.declared.selection.Scope.{Scope}
 use Rattle.dds_base.specs.declared.selection.Selection.{Selection}
 use Rattle.dds_base.specs.declared.qos.ReaderQos.{ReaderQos}
 use Rattle.dds_base.specs.declared.sample.Sample.{Sample}
@@ -16,17 +17,19 @@ use Rattle.dds_base.specs.Refusal.{Refuses}
 use Rattle.dds_base.specs.Selection.{picked_by, selection_refusal}
 use Rattle.dds_base.specs.StatusFlags.{turned_at}
 use Rattle.dds_base.specs.Statuses.{lost_count}
-use Rattle.dds_cache.specs.Standing.{Stored, qos_of, StandsFor as CacheStandsFor, Answers, AfterAccess, picked, refusal}
+use Rattle.dds_cache.specs.Standing.{Stored, qos_of, StandsFor as CacheStandsFor, AnswersWith, AfterAccessWith, picked_with, refusal}
 use Rattle.dds_model.specs.declared.call.Call.{Call}
 use Rattle.dds_model.specs.declared.call.Call.TheVariants as call
 use Rattle.dds_model.specs.declared.event.Event.TheVariants as event
 use Rattle.dds_model.specs.declared.reply.Reply.{Reply}
 use Rattle.dds_model.specs.declared.reply.Reply.TheVariants.{Samples, Refused}
-use Rattle.dds_model.specs.Calls.{Answers as CallAnswers, AnswersAccess, CallStep, Effect, nothing, effect, effect_of, access_refusal, picked_at, with_happening}
+use Rattle.dds_model.specs.Calls.{Answers as CallAnswers, AnswersAccess, AnswersByCondition, CallStep, Effect, nothing, effect, effect_of, access_refusal, picked_at, with_happening}
 use Rattle.dds_model.specs.Numbered.{has_number}
-use Rattle.dds_model.specs.Machine.{no_filters}
+use Rattle.dds_conditions.specs.Watched.{made, no_filters}
 use Rattle.dds_model.specs.Part.{Part, Dds, Reader, WriterProxy, own_reader, own_proxies, Seen}
 use Rattle.dds_model.specs.Peer.{Peer}
+use Rattle.dds_model.specs.Watching.{Test, Tests, condition_refusal, condition_selection, filter_of, test_of}
+use Rattle.dds_core.specs.declared.watching.Asked.{Asked}
 use Rattle.dds_core.specs.declared.matching.WriterName.{WriterName}
 use Rattle.rtps_reader.specs.Reader.{Proxies, Tracks}
 use Rattle.rtps_reader.specs.Tracked.{Tracked}
@@ -37,7 +40,7 @@ use Rattle.dds_core.proofs.Rows.{writers_of}
 use Rattle.dds_core.specs.Kept.{ReaderKept, CoreKept}
 use Rattle.dds_core.specs.Receiving.{TakesOnly, access_reply}
 use Rattle.dds_core.specs.Standing.{IsFirstRow, ReaderStands, StandsFor}
-use Rattle.dds_core.proofs.CallSteps.{Follows, refused_call, there_is}
+use Rattle.dds_core.proofs.CallSteps.{FollowsBy, refused_call, there_is}
 use Rattle.dds_core.proofs.Ends.{with_reader, own_reader_changed}
 use Rattle.dds_core.proofs.Taking.{silent}
 use Rattle.dds_core.proofs.Identities.{same_identity}
@@ -50,16 +53,64 @@ pub record IsQuiet (entry : List SamplePosition → Happening) : Type 0 where
   pub leases : (kept : Leased) (q : ReaderQos) (samples : List SamplePosition) (h : List Happening) → LeasesStandFor kept q h → LeasesStandFor kept q (entry samples ∷ h)
 
 -- the call is an access that enters so: it is answered as one, and does nothing at a writer
-pub record IsAccess (c : Call) (entry : List SamplePosition → Happening) (reader : ℕ) (selection : Selection) : Type 0 where
+pub record IsAccess (tests : Tests) (part : Part) (c : Call) (entry : List SamplePosition → Happening) (test : Test) (reader : ℕ) (selection : Selection) : Type 0 where
   pub quiet : IsQuiet entry
-  pub answers : (part : Part) (reply : Reply) (dds : Dds) → AnswersAccess entry part reader selection reply dds → CallAnswers no_filters part c reply dds
-  pub effect : (part : Part) (reply : Reply) → effect_of part c reply ≡ nothing
+  pub answers : (reply : Reply) (dds : Dds) → AnswersAccess entry test part reader selection reply dds → CallAnswers tests part c reply dds
+  pub effect : (reply : Reply) → effect_of part c reply ≡ nothing
 
-pub read_is_access : (reader : ℕ) (selection : Selection) → IsAccess (call.Read reader selection) HasRead reader selection
-read_is_access reader selection = record { quiet = record { lost = λ samples h. refl; turned = λ samples h. refl; leases = λ kept q samples h s. record { tracks = s.tracks; last_turned = s.last_turned } }; answers = λ part reply dds a. a; effect = λ part reply. refl }
+-- a read and a take are quiet
+pub read_is_quiet : IsQuiet HasRead
+read_is_quiet = record {
+  lost = λ samples h. refl;
+  turned = λ samples h. refl;
+  leases = λ kept q samples h s. record { tracks = s.tracks; last_turned = s.last_turned };
+}
 
-pub take_is_access : (reader : ℕ) (selection : Selection) → IsAccess (call.Take reader selection) Took reader selection
-take_is_access reader selection = record { quiet = record { lost = λ samples h. refl; turned = λ samples h. refl; leases = λ kept q samples h s. record { tracks = s.tracks; last_turned = s.last_turned } }; answers = λ part reply dds a. a; effect = λ part reply. refl }
+pub take_is_quiet : IsQuiet Took
+take_is_quiet = record {
+  lost = λ samples h. refl;
+  turned = λ samples h. refl;
+  leases = λ kept q samples h s. record { tracks = s.tracks; last_turned = s.last_turned };
+}
+
+pub read_is_access : (part : Part) (reader : ℕ) (selection : Selection) → IsAccess no_filters part (call.Read reader selection) HasRead no_filter reader selection
+read_is_access part reader selection = record { quiet = read_is_quiet; answers = λ reply dds a. a; effect = λ reply. refl }
+
+pub take_is_access : (part : Part) (reader : ℕ) (selection : Selection) → IsAccess no_filters part (call.Take reader selection) Took no_filter reader selection
+take_is_access part reader selection = record { quiet = take_is_quiet; answers = λ reply dds a. a; effect = λ reply. refl }
+
+-- one by a condition against which there is no cause is such an access
+by_condition : (entry : List SamplePosition → Happening) (refusal : Option Code) (asked_test test : Test) (part : Part) (reader : ℕ) (asked selection : Selection) (reply : Reply) (dds : Dds)
+    → refusal ≡ None → asked_test ≡ test → asked ≡ selection → AnswersAccess entry asked_test part reader asked reply dds
+    → AnswersByCondition entry refusal test part reader selection reply dds
+by_condition entry refusal asked_test test part reader asked selection reply dds none same is access =
+    subst (λ (o : Option Code). AnswersByCondition entry o test part reader selection reply dds) (sym none)
+    (subst (λ (x : Selection). AnswersAccess entry test part reader x reply dds) is
+    (subst (λ (f : Test). AnswersAccess entry f part reader asked reply dds) same access))
+
+-- what was asked for is what the condition asks for
+pub record IsAsked (part : Part) (reader : ℕ) (scope : Scope) (condition : ℕ) (asked : Asked) : Type 0 where
+  pub taken : condition_refusal part reader scope condition ≡ None
+  pub selection : asked.selection ≡ condition_selection part scope condition
+  pub filter : asked.filter ≡ filter_of (made part.dds.watch.conditions condition)
+
+pub read_by_is_access : (tests : Tests) (part : Part) (reader : ℕ) (scope : Scope) (condition : ℕ) (asked : Asked) → IsAsked part reader scope condition asked
+    → IsAccess tests part (call.ReadByCondition reader scope condition) HasRead (test_of tests asked.filter) reader asked.selection
+read_by_is_access tests part reader scope condition asked is = record {
+  quiet = read_is_quiet;
+  answers = λ reply dds a. by_condition HasRead _ (test_of tests asked.filter) _ part reader asked.selection _ reply dds is.taken
+      (ap (λ (f : Option ℕ). test_of tests f) is.filter) is.selection a;
+  effect = λ reply. refl;
+}
+
+pub take_by_is_access : (tests : Tests) (part : Part) (reader : ℕ) (scope : Scope) (condition : ℕ) (asked : Asked) → IsAsked part reader scope condition asked
+    → IsAccess tests part (call.TakeByCondition reader scope condition) Took (test_of tests asked.filter) reader asked.selection
+take_by_is_access tests part reader scope condition asked is = record {
+  quiet = take_is_quiet;
+  answers = λ reply dds a. by_condition Took _ (test_of tests asked.filter) _ part reader asked.selection _ reply dds is.taken
+      (ap (λ (f : Option ℕ). test_of tests f) is.filter) is.selection a;
+  effect = λ reply. refl;
+}
 
 -- the reader with one more entry, an access
 one_entered : (entry : List SamplePosition → Happening) → IsQuiet entry → (k k' : ReaderKept) (proxies : List WriterProxy) (r : Reader) (tracked : Endpoint → Tracked) (samples : List SamplePosition) → TakesOnly k k' → ReaderStands k proxies r tracked
@@ -84,10 +135,10 @@ abbrev after_access : (List SamplePosition → Happening) → Part → ℕ → L
 after_access entry part reader samples = record part { dds = with_happening part reader (entry samples) }
 
 -- an access that was entered
-entered : (entry : List SamplePosition → Happening) → IsQuiet entry → (c : Call) (kept : CoreKept) (i : ℕ) (k k' : ReaderKept) (config : Config) (peer : Peer) → StandsFor kept config peer → slice_get kept.readers i ≡ Some k → TakesOnly k k' → (reply : Reply)
-    (samples : List SamplePosition) → CacheStandsFor k'.store.cache (entry samples ∷ (own_reader peer.part (suc i)).happened) → CallStep no_filters peer.part c reply (after_access entry peer.part (suc i) samples)
-    → Follows (with_reader kept i k') config peer (event.Call c) (silent reply)
-entered entry quiet c kept i k k' config peer s at same reply samples stands step =
+entered : (tests : Tests) (entry : List SamplePosition → Happening) → IsQuiet entry → (c : Call) (kept : CoreKept) (i : ℕ) (k k' : ReaderKept) (config : Config) (peer : Peer) → StandsFor kept config peer → slice_get kept.readers i ≡ Some k → TakesOnly k k' → (reply : Reply)
+    (samples : List SamplePosition) → CacheStandsFor k'.store.cache (entry samples ∷ (own_reader peer.part (suc i)).happened) → CallStep tests peer.part c reply (after_access entry peer.part (suc i) samples)
+    → FollowsBy tests (with_reader kept i k') config peer (event.Call c) (silent reply)
+entered tests entry quiet c kept i k k' config peer s at same reply samples stands step =
     let part : Part = peer.part in
     let proxies : List WriterProxy = own_proxies part (suc i) in
     let r : Reader = own_reader part (suc i) in
@@ -98,11 +149,11 @@ entered entry quiet c kept i k k' config peer s at same reply samples stands ste
     )
 
 -- an access that was refused, and is not entered
-not_entered : (c : Call) (kept : CoreKept) (i : ℕ) (k k' : ReaderKept) (config : Config) (peer : Peer) (code : Code) → StandsFor kept config peer → slice_get kept.readers i ≡ Some k → k' ≡ k → CallAnswers no_filters peer.part c (Refused code) peer.part.dds
-    → Follows (with_reader kept i k') config peer (event.Call c) (silent (Refused code))
-not_entered c kept i k k' config peer code s at same is =
+not_entered : (tests : Tests) (c : Call) (kept : CoreKept) (i : ℕ) (k k' : ReaderKept) (config : Config) (peer : Peer) (code : Code) → StandsFor kept config peer → slice_get kept.readers i ≡ Some k → k' ≡ k → CallAnswers tests peer.part c (Refused code) peer.part.dds
+    → FollowsBy tests (with_reader kept i k') config peer (event.Call c) (silent (Refused code))
+not_entered tests c kept i k k' config peer code s at same is =
     let unchanged : set kept.readers i k' ≡ kept.readers = set_back kept.readers i k k' at same in
-    subst (λ (rs : List ReaderKept). Follows (record kept { readers = rs }) config peer (event.Call c) (silent (Refused code))) (sym unchanged) (refused_call kept config peer s c code is)
+    subst (λ (rs : List ReaderKept). FollowsBy tests (record kept { readers = rs }) config peer (event.Call c) (silent (Refused code))) (sym unchanged) (refused_call kept config peer s c code is)
 
 kept_same : (k k' : ReaderKept) → TakesOnly k k' → k'.store.cache ≡ k.store.cache → k' ≡ k
 kept_same k k' same cache =
@@ -118,31 +169,33 @@ kept_same k k' same cache =
     reader_as a b x y p q s t i j e f g h l = cc
 
 -- what a cache answers is what the machine answers
-accessed : (entry : List SamplePosition → Happening) (c : Call) (i : ℕ) (selection : Selection) → IsAccess c entry (suc i) selection → (kept : CoreKept) (k k' : ReaderKept) (config : Config) (peer : Peer) → StandsFor kept config peer
+accessed : (tests : Tests) (entry : List SamplePosition → Happening) (c : Call) (test : Test) (i : ℕ) (selection : Selection) (kept : CoreKept) (k k' : ReaderKept) (config : Config) (peer : Peer)
+    → IsAccess tests peer.part c entry test (suc i) selection → StandsFor kept config peer
     → slice_get kept.readers i ≡ Some k → TakesOnly k k' → (r : Result (List Sample) Code) → access_refusal peer.part (suc i) selection ≡ refusal k.store.cache (own_reader peer.part (suc i)).happened selection
-    → (own_reader peer.part (suc i)).qos ≡ qos_of k.store.cache → Answers k.store.cache (own_reader peer.part (suc i)).happened selection r
-    → AfterAccess entry k.store.cache (own_reader peer.part (suc i)).happened selection r k'.store.cache → Follows (with_reader kept i k') config peer (event.Call c) (silent (access_reply r))
-accessed entry c i selection is kept k k' config peer s at same (Ok samples) causes qos answer after =
+    → (own_reader peer.part (suc i)).qos ≡ qos_of k.store.cache → AnswersWith k.store.cache (own_reader peer.part (suc i)).happened selection test r
+    → AfterAccessWith entry k.store.cache (own_reader peer.part (suc i)).happened selection test r k'.store.cache → FollowsBy tests (with_reader kept i k') config peer (event.Call c) (silent (access_reply r))
+accessed tests entry c test i selection kept k k' config peer is s at same (Ok samples) causes qos answer after =
     let h : List Happening = (own_reader peer.part (suc i)).happened in
-    let found : picked k.store.cache h selection ≡ picked_at peer.part (suc i) selection = ap (λ (q : ReaderQos). picked_by q h selection no_filter) (sym qos) in
-    let some : picked_at peer.part (suc i) selection ≢ [] = λ none. answer.1 (found ∙ none) in
-    let collected : samples ≡ collection_of (own_reader peer.part (suc i)).qos h (picked_at peer.part (suc i) selection) =
-    answer.2 ∙ (ap (λ (ps : List SamplePosition). collection_of (qos_of k.store.cache) h ps) found ∙ ap (λ (q : ReaderQos). collection_of q h (picked_at peer.part (suc i) selection)) (sym qos)) in
-    entered entry is.quiet c kept i k k' config peer s at same (Samples samples) (picked_at peer.part (suc i) selection) (subst (λ (ps : List SamplePosition). CacheStandsFor k'.store.cache (entry ps ∷ h)) found after)
-    (record { answers = is.answers peer.part (Samples samples) (with_happening peer.part (suc i) (entry (picked_at peer.part (suc i) selection))) (causes ∙ answer.0, some, collected, refl); rtps = ap (λ (e : Effect). effect peer.part.rtps e) (sym (is.effect peer.part (Samples samples))) })
-accessed entry c i selection is kept k k' config peer s at same (Err NoData) causes qos answer after =
+    let found : picked_with k.store.cache h selection test ≡ picked_at test peer.part (suc i) selection = ap (λ (q : ReaderQos). picked_by q h selection test) (sym qos) in
+    let some : picked_at test peer.part (suc i) selection ≢ [] = λ none. answer.1 (found ∙ none) in
+    let collected : samples ≡ collection_of (own_reader peer.part (suc i)).qos h (picked_at test peer.part (suc i) selection) =
+    answer.2 ∙ (ap (λ (ps : List SamplePosition). collection_of (qos_of k.store.cache) h ps) found ∙ ap (λ (q : ReaderQos). collection_of q h (picked_at test peer.part (suc i) selection)) (sym qos)) in
+    entered tests entry is.quiet c kept i k k' config peer s at same (Samples samples) (picked_at test peer.part (suc i) selection) (subst (λ (ps : List SamplePosition). CacheStandsFor k'.store.cache (entry ps ∷ h)) found after)
+    (record { answers = is.answers (Samples samples) (with_happening peer.part (suc i) (entry (picked_at test peer.part (suc i) selection))) (causes ∙ answer.0, some, collected, refl); rtps = ap (λ (e : Effect). effect peer.part.rtps e) (sym (is.effect (Samples samples))) })
+accessed tests entry c test i selection kept k k' config peer is s at same (Err NoData) causes qos answer after =
     let h : List Happening = (own_reader peer.part (suc i)).happened in
-    let found : picked k.store.cache h selection ≡ picked_at peer.part (suc i) selection = ap (λ (q : ReaderQos). picked_by q h selection no_filter) (sym qos) in
-    entered entry is.quiet c kept i k k' config peer s at same (Refused NoData) [] after
-    (record { answers = is.answers peer.part (Refused NoData) (with_happening peer.part (suc i) (entry [])) (causes ∙ answer.0, sym found ∙ answer.1, refl); rtps = ap (λ (e : Effect). effect peer.part.rtps e) (sym (is.effect peer.part (Refused NoData))) })
-accessed entry c i selection is kept k k' config peer s at same (Err code) causes qos answer after =
-    not_entered c kept i k k' config peer code s at (kept_same k k' same after) (is.answers peer.part (Refused code) peer.part.dds (subst (λ (o : Option Code). Refuses o code) (sym causes) answer, refl))
+    let found : picked_with k.store.cache h selection test ≡ picked_at test peer.part (suc i) selection = ap (λ (q : ReaderQos). picked_by q h selection test) (sym qos) in
+    entered tests entry is.quiet c kept i k k' config peer s at same (Refused NoData) [] after
+    (record { answers = is.answers (Refused NoData) (with_happening peer.part (suc i) (entry [])) (causes ∙ answer.0, sym found ∙ answer.1, refl); rtps = ap (λ (e : Effect). effect peer.part.rtps e) (sym (is.effect (Refused NoData))) })
+accessed tests entry c test i selection kept k k' config peer is s at same (Err code) causes qos answer after =
+    not_entered tests c kept i k k' config peer code s at (kept_same k k' same after) (is.answers (Refused code) peer.part.dds (subst (λ (o : Option Code). Refuses o code) (sym causes) answer, refl))
 
 -- the same of the reader of a number
-pub accessed_at : (entry : List SamplePosition → Happening) (c : Call) (reader : ℕ) (selection : Selection) → IsAccess c entry reader selection → (kept : CoreKept) (i : ℕ) (k k' : ReaderKept) (config : Config) (peer : Peer) → StandsFor kept config peer
-    → reader ≡ i + 1 → i < length kept.readers → slice_get kept.readers i ≡ Some k → TakesOnly k k' → (r : Result (List Sample) Code) → ((h : List Happening) → Holds k.store h → Answers k.store.cache h selection r)
-    → ((h : List Happening) → Holds k.store h → AfterAccess entry k.store.cache h selection r k'.store.cache) → Follows (with_reader kept i k') config peer (event.Call c) (silent (access_reply r))
-accessed_at entry c reader selection is kept i k k' config peer s number lt at same r answer after =
+pub accessed_at : (tests : Tests) (entry : List SamplePosition → Happening) (c : Call) (test : Test) (reader : ℕ) (selection : Selection) (kept : CoreKept) (i : ℕ) (k k' : ReaderKept) (config : Config) (peer : Peer)
+    → IsAccess tests peer.part c entry test reader selection → StandsFor kept config peer
+    → reader ≡ i + 1 → i < length kept.readers → slice_get kept.readers i ≡ Some k → TakesOnly k k' → (r : Result (List Sample) Code) → ((h : List Happening) → Holds k.store h → AnswersWith k.store.cache h selection test r)
+    → ((h : List Happening) → Holds k.store h → AfterAccessWith entry k.store.cache h selection test r k'.store.cache) → FollowsBy tests (with_reader kept i k') config peer (event.Call c) (silent (access_reply r))
+accessed_at tests entry c test reader selection kept i k k' config peer is s number lt at same r answer after =
     let index : i + 1 ≡ suc i = omega arith in
     let rs = s.readers.each i k at in
     let count = s.readers.count in
@@ -150,4 +203,4 @@ accessed_at entry c reader selection is kept i k k' config peer s number lt at s
     let known : has_number peer.part.dds.readers (suc i) ≡ true = there_is peer.part.dds.readers i (omega (arith, lt, count)) in
     let causes : access_refusal peer.part (suc i) selection ≡ refusal k.store.cache h selection =
     ap (λ (b : Bool). if not b then Some BadParameter else selection_refusal (own_reader peer.part (suc i)).qos h selection) known ∙ ap (λ (q : ReaderQos). selection_refusal q h selection) rs.qos_is in
-    accessed entry c i selection (subst (λ (n : ℕ). IsAccess c entry n selection) (number ∙ index) is) kept k k' config peer s at same r causes rs.qos_is (answer h rs.holds) (after h rs.holds)
+    accessed tests entry c test i selection kept k k' config peer (subst (λ (n : ℕ). IsAccess tests peer.part c entry test n selection) (number ∙ index) is) s at same r causes rs.qos_is (answer h rs.holds) (after h rs.holds)

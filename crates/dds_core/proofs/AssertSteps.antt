@@ -14,7 +14,7 @@ use Rattle.dds_model.specs.declared.event.Packet.{Packet}
 use Rattle.dds_model.specs.declared.reply.Reply.TheVariants.{Done, Refused}
 use Rattle.dds_model.specs.Calls.{CallStep, assert_refusal}
 use Rattle.dds_model.specs.Numbered.{has_number}
-use Rattle.dds_model.specs.Machine.{no_filters}
+use Rattle.dds_conditions.specs.Watched.{no_filters}
 use Rattle.dds_model.specs.Part.{ReaderProxy, Writer, has_readers, heartbeats_used, own_writer, peers_of}
 use Rattle.dds_model.specs.Peer.{Peer}
 use Rattle.dds_model.specs.Protocol.{Due, AreSent, assertion_message, assertions_due, writer_entity}

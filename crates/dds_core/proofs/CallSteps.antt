@@ -22,9 +22,10 @@ use Rattle.dds_model.specs.declared.reply.Reply.TheVariants.{Done, LivelinessLos
 use Rattle.dds_model.specs.declared.endpoint.Endpoint.{Endpoint}
 use Rattle.dds_model.specs.Calls.{Effect, nothing, writes, effect, effect_of, IsDoneUnless, Answers, CallStep, register_refusal, write_refusal, dispose_refusal, unregister_refusal, change_refusal, change_made, unregister_kind, tick_refusal, after_tick, is_deadly, RefusesTick, TickStep, writer_look_refusal}
 use Rattle.dds_model.specs.Numbered.{has_number}
-use Rattle.dds_model.specs.Machine.{no_filters}
+use Rattle.dds_conditions.specs.Watched.{no_filters}
 use Rattle.dds_model.specs.Part.{Part, Dds, Writer, own_writer}
 use Rattle.dds_model.specs.Peer.{Peer, PeerStep}
+use Rattle.dds_model.specs.Watching.{Tests}
 use Rattle.dds_core.specs.Kept.{WriterKept, ReaderKept, CoreKept, WriterIdentity, ReaderIdentity, identity_of, reader_identity, writer_identity, IsPeerOf}
 use Rattle.dds_core.specs.Expiring.{AllExpire, HasDeadly}
 use Rattle.dds_core.specs.Receiving.{AreAlike}
@@ -45,12 +46,17 @@ pub silent_sends : (reply : Reply) → SendsNothing (silent reply)
 silent_sends reply = record { packets = refl; unsent = refl }
 
 -- what follows an event, for a state that stands
+abbrev pub FollowsBy : Tests → CoreKept → Config → Peer → Event → Output → Type 0
+FollowsBy tests kept config peer ev output = (after : Peer) × PeerStep config tests peer ev output after × StandsFor kept config after
+
+-- the same of an event in which no filter has a say
 abbrev pub Follows : CoreKept → Config → Peer → Event → Output → Type 0
-Follows kept config peer ev output = (after : Peer) × PeerStep config no_filters peer ev output after × StandsFor kept config after
+Follows kept config peer ev output = FollowsBy no_filters kept config peer ev output
 
 -- the same of another name for the output
-pub follows_as : (kept : CoreKept) (config : Config) (peer : Peer) (ev : Event) (o p : Output) → p ≡ o → Follows kept config peer ev o → Follows kept config peer ev p
-follows_as kept config peer ev o p same h = subst (λ (x : Output). Follows kept config peer ev x) (sym same) h
+pub follows_as : {tests : Tests} (kept : CoreKept) (config : Config) (peer : Peer) (ev : Event) (o p : Output) → p ≡ o
+    → FollowsBy tests kept config peer ev o → FollowsBy tests kept config peer ev p
+follows_as {tests} kept config peer ev o p same h = subst (λ (x : Output). FollowsBy tests kept config peer ev x) (sym same) h
 
 -- what is refused enters nothing
 pub refused_nothing : (part : Part) (c : Call) (x : Code) → effect_of part c (Refused x) ≡ nothing
@@ -69,6 +75,7 @@ refused_nothing part (call.GetLivelinessLost w) x = refl
 refused_nothing part (call.ReadByCondition r scope n) x = refl
 refused_nothing part (call.TakeByCondition r scope n) x = refl
 refused_nothing part (call.CreateReadCondition r masks) x = refl
+refused_nothing part (call.CreateQueryCondition r masks filter) x = refl
 refused_nothing part call.CreateGuardCondition x = refl
 refused_nothing part (call.SetTriggerValue n value) x = refl
 refused_nothing part (call.DeleteCondition n) x = refl
@@ -85,8 +92,9 @@ refused_nothing part (call.SetEnabledStatuses e mask) x = refl
 refused_nothing part (call.GetStatusChanges e) x = refl
 
 -- a call that changes nothing
-pub unchanging_call : (kept : CoreKept) (config : Config) (peer : Peer) → StandsFor kept config peer → (c : Call) (reply : Reply) → effect_of peer.part c reply ≡ nothing → Answers no_filters peer.part c reply peer.part.dds
-    → Follows kept config peer (event.Call c) (silent reply)
+pub unchanging_call : {tests : Tests} (kept : CoreKept) (config : Config) (peer : Peer) → StandsFor kept config peer → (c : Call) (reply : Reply)
+    → effect_of peer.part c reply ≡ nothing → Answers tests peer.part c reply peer.part.dds
+    → FollowsBy tests kept config peer (event.Call c) (silent reply)
 unchanging_call kept config peer s c reply none is = (
   peer,
   record {
@@ -99,8 +107,9 @@ unchanging_call kept config peer s c reply none is = (
 )
 
 -- so does one that is refused
-pub refused_call : (kept : CoreKept) (config : Config) (peer : Peer) → StandsFor kept config peer → (c : Call) (code : Code) → Answers no_filters peer.part c (Refused code) peer.part.dds
-    → Follows kept config peer (event.Call c) (silent (Refused code))
+pub refused_call : {tests : Tests} (kept : CoreKept) (config : Config) (peer : Peer) → StandsFor kept config peer → (c : Call) (code : Code)
+    → Answers tests peer.part c (Refused code) peer.part.dds
+    → FollowsBy tests kept config peer (event.Call c) (silent (Refused code))
 refused_call kept config peer s c code is = unchanging_call kept config peer s c (Refused code) (refused_nothing peer.part c code) is
 
 -- numbers of writers and readers

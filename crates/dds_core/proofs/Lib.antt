@@ -1,3 +1,4 @@
+pub mod AnyTests
 pub mod Announcing
 pub mod Beating
 pub mod Asserting

@@ -15,7 +15,7 @@ use Rattle.dds_model.specs.declared.event.Event.TheVariants as event
 use Rattle.dds_model.specs.declared.reply.Reply.{Reply}
 use Rattle.dds_model.specs.declared.reply.Reply.TheVariants.{SampleLost, LivelinessChanged}
 use Rattle.dds_model.specs.Calls.{Answers, look_refusal, after_look, effect, effect_of, nothing, seen_lost, seen_liveliness}
-use Rattle.dds_model.specs.Machine.{no_filters}
+use Rattle.dds_conditions.specs.Watched.{no_filters}
 use Rattle.dds_model.specs.Part.{Reader, Seen, own_reader}
 use Rattle.dds_model.specs.Peer.{Peer}
 use Rattle.dds_core.specs.Kept.{ReaderKept, CoreKept}

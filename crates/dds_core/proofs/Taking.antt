@@ -38,7 +38,8 @@ use Rattle.dds_core.specs.Beating.{AddsTo}
 use Rattle.dds_core.specs.Kept.{CoreKept}
 use Rattle.dds_core.specs.Receiving.{with_state, StandsAsWell, ReadersTook, TookSubmessage, TellsReaders, TakesOneMore, TookMessage, TakesMessage, TakenTo, TakesTo, ReceivesPacket, IsBounded, AreBounded}
 use Rattle.dds_core.specs.Sending.{AreMessages}
-use Rattle.dds_core.specs.Standing.{StandsFor, IsSound, Steps, SoundSteps}
+use Rattle.dds_core.specs.Standing.{StandsFor, IsSound, Steps, StepsBy, SoundSteps, SoundStepsBy}
+use Rattle.dds_model.specs.Watching.{Tests}
 use Rattle.dds_core.proofs.Beating.{written_on}
 
 -- ---- what a peer is, said again
@@ -270,7 +271,7 @@ tick_readers old now Done new h = ap (λ (p : Part). p.rtps.readers) h.1
 tick_readers old now (Refused code) new h = ap (λ (p : Part). p.rtps.readers) h.1
 tick_readers old now reply new h = absurd h
 
-pub sound_call : (old new : CoreKept) (call : Call) (output : Output) → Steps old (event.Call call) output new → SoundSteps old (event.Call call) output new
+pub sound_call : {tests : Tests} (old new : CoreKept) (call : Call) (output : Output) → StepsBy tests old (event.Call call) output new → SoundStepsBy tests old (event.Call call) output new
 sound_call old new call output steps config peer s sound =
     let r = steps config peer s in
     let readers : r.0.part.rtps.readers ≡ peer.part.rtps.readers = ap (λ (x : Rtps). x.readers) r.1.step.0.rtps ∙ effect_readers peer.part.rtps (effect_of peer.part call output.reply) in

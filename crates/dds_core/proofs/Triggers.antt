@@ -13,7 +13,7 @@ use Rattle.dds_base.specs.declared.selection.Selection.{Selection}
 use Rattle.dds_notices.specs.declared.mask.StatusMask.{StatusMask}
 use Rattle.dds_conditions.specs.declared.condition.Cond.{Cond}
 use Rattle.dds_conditions.specs.Attached.{active_of}
-use Rattle.dds_conditions.specs.Watched.{Watched, conditions_of, is_timed_out, made, use_refusal, with_deadline}
+use Rattle.dds_conditions.specs.Watched.{Watched, conditions_of, is_timed_out, made, no_filters, use_refusal, with_deadline}
 use Rattle.dds_model.specs.declared.call.Call.{Call}
 use Rattle.dds_model.specs.declared.call.Call.TheVariants as call
 use Rattle.dds_model.specs.declared.event.Event.TheVariants as event
@@ -21,82 +21,34 @@ use Rattle.dds_model.specs.declared.event.Output.{Output}
 use Rattle.dds_model.specs.declared.reply.Reply.{Reply}
 use Rattle.dds_model.specs.declared.reply.Reply.TheVariants.{Active, Refused, Waiting}
 use Rattle.dds_model.specs.Calls.{nothing, effect_of, Answers, AnswersAccess, AnswersByCondition, AnswersLook, IsAnswered, IsAnsweredInMemory}
-use Rattle.dds_model.specs.Machine.{no_filters}
 use Rattle.dds_model.specs.Part.{Part, Dds, own_reader, own_writer}
 use Rattle.dds_model.specs.Peer.{Peer, PeerStep}
-use Rattle.dds_model.specs.Watching.{condition_refusal, condition_selection, trigger_value}
+use Rattle.dds_model.specs.Watching.{Test, Tests, condition_refusal, condition_selection, condition_test, trigger_value}
 use Rattle.dds_core.specs.Kept.{CoreKept}
 use Rattle.dds_core.specs.Standing.{StandsFor}
-use Rattle.dds_core.proofs.CallSteps.{Follows, unchanging_call}
+use Rattle.dds_core.proofs.CallSteps.{FollowsBy, unchanging_call}
 use Rattle.dds_core.proofs.Taking.{silent}
 use Rattle.dds_core.proofs.Watched.{watched_call}
 
--- an access by a condition against which there is no cause is that access
-by_condition : (entry : List SamplePosition → Happening) (refusal : Option Code) (part : Part) (reader : ℕ) (asked selection : Selection) (reply : Reply) (dds : Dds)
-    → refusal ≡ None → asked ≡ selection → AnswersAccess entry part reader asked reply dds → AnswersByCondition entry refusal part reader selection reply dds
-by_condition entry refusal part reader asked selection reply dds none is access =
-    subst (λ (o : Option Code). AnswersByCondition entry o part reader selection reply dds) (sym none)
-    (subst (λ (x : Selection). AnswersAccess entry part reader x reply dds) is access)
+-- an access by a condition against which there is a cause is refused
+not_by_condition : (entry : List SamplePosition → Happening) (refusal : Option Code) (test : Test) (part : Part) (reader : ℕ) (selection : Selection) (code : Code)
+    → refusal ≡ Some code → AnswersByCondition entry refusal test part reader selection (Refused code) part.dds
+not_by_condition entry refusal test part reader selection code some =
+    subst (λ (o : Option Code). AnswersByCondition entry o test part reader selection (Refused code) part.dds) (sym some) (refl, refl)
 
-pub reads_by : (kept new : CoreKept) (config : Config) (peer : Peer) (output : Output) (reader : ℕ) (scope : Scope) (condition : ℕ) (selection : Selection)
-    → (condition_refusal peer.part reader scope condition ≡ None) × (selection ≡ condition_selection peer.part scope condition)
-    → Follows new config peer (event.Call (call.Read reader selection)) output → Follows new config peer (event.Call (call.ReadByCondition reader scope condition)) output
-reads_by kept new config peer output reader scope condition selection asked follows = (
-  follows.0,
-  record {
-    same_number = follows.1.same_number;
-    knows = follows.1.knows;
-    step = (
-      record {
-        answers = by_condition HasRead _ peer.part reader selection _ output.reply follows.0.part.dds asked.0 asked.1 follows.1.step.0.answers;
-        rtps = follows.1.step.0.rtps;
-      },
-      follows.1.step.1,
-    );
-    sent = follows.1.sent;
-  },
-  follows.2,
-)
-
-pub takes_by : (kept new : CoreKept) (config : Config) (peer : Peer) (output : Output) (reader : ℕ) (scope : Scope) (condition : ℕ) (selection : Selection)
-    → (condition_refusal peer.part reader scope condition ≡ None) × (selection ≡ condition_selection peer.part scope condition)
-    → Follows new config peer (event.Call (call.Take reader selection)) output → Follows new config peer (event.Call (call.TakeByCondition reader scope condition)) output
-takes_by kept new config peer output reader scope condition selection asked follows = (
-  follows.0,
-  record {
-    same_number = follows.1.same_number;
-    knows = follows.1.knows;
-    step = (
-      record {
-        answers = by_condition Took _ peer.part reader selection _ output.reply follows.0.part.dds asked.0 asked.1 follows.1.step.0.answers;
-        rtps = follows.1.step.0.rtps;
-      },
-      follows.1.step.1,
-    );
-    sent = follows.1.sent;
-  },
-  follows.2,
-)
-
--- one against which there is a cause is refused
-not_by_condition : (entry : List SamplePosition → Happening) (refusal : Option Code) (part : Part) (reader : ℕ) (selection : Selection) (code : Code)
-    → refusal ≡ Some code → AnswersByCondition entry refusal part reader selection (Refused code) part.dds
-not_by_condition entry refusal part reader selection code some =
-    subst (λ (o : Option Code). AnswersByCondition entry o part reader selection (Refused code) part.dds) (sym some) (refl, refl)
-
-pub no_read_by : (kept : CoreKept) (config : Config) (peer : Peer) → StandsFor kept config peer → (reader : ℕ) (scope : Scope) (condition : ℕ) (code : Code)
+pub no_read_by : {tests : Tests} (kept : CoreKept) (config : Config) (peer : Peer) → StandsFor kept config peer → (reader : ℕ) (scope : Scope) (condition : ℕ) (code : Code)
     → condition_refusal peer.part reader scope condition ≡ Some code
-    → Follows kept config peer (event.Call (call.ReadByCondition reader scope condition)) (silent (Refused code))
-no_read_by kept config peer s reader scope condition code some =
+    → FollowsBy tests kept config peer (event.Call (call.ReadByCondition reader scope condition)) (silent (Refused code))
+no_read_by {tests} kept config peer s reader scope condition code some =
     unchanging_call kept config peer s (call.ReadByCondition reader scope condition) (Refused code) refl
-    (not_by_condition HasRead _ peer.part reader (condition_selection peer.part scope condition) code some)
+    (not_by_condition HasRead _ (condition_test tests peer.part condition) peer.part reader (condition_selection peer.part scope condition) code some)
 
-pub no_take_by : (kept : CoreKept) (config : Config) (peer : Peer) → StandsFor kept config peer → (reader : ℕ) (scope : Scope) (condition : ℕ) (code : Code)
+pub no_take_by : {tests : Tests} (kept : CoreKept) (config : Config) (peer : Peer) → StandsFor kept config peer → (reader : ℕ) (scope : Scope) (condition : ℕ) (code : Code)
     → condition_refusal peer.part reader scope condition ≡ Some code
-    → Follows kept config peer (event.Call (call.TakeByCondition reader scope condition)) (silent (Refused code))
-no_take_by kept config peer s reader scope condition code some =
+    → FollowsBy tests kept config peer (event.Call (call.TakeByCondition reader scope condition)) (silent (Refused code))
+no_take_by {tests} kept config peer s reader scope condition code some =
     unchanging_call kept config peer s (call.TakeByCondition reader scope condition) (Refused code) refl
-    (not_by_condition Took _ peer.part reader (condition_selection peer.part scope condition) code some)
+    (not_by_condition Took _ (condition_test tests peer.part condition) peer.part reader (condition_selection peer.part scope condition) code some)
 
 -- ---- a look at a WaitSet
 
@@ -153,54 +105,54 @@ look_is_refused (c ∷ cs) timed_out part wait_set code some =
     inl (subst (λ (o : Option Code). IsAnswered o (Active (c ∷ cs)) (with_deadline part.dds.watch wait_set None) part (Refused code) part.dds) (sym some) (refl, refl))
 
 -- the wait goes on
-pub waits_on : (kept : CoreKept) (config : Config) (peer : Peer) → StandsFor kept config peer → (wait_set : ℕ)
-    → false ≡ list_any (trigger_value peer.part) (conditions_of peer.part.dds.watch wait_set)
+pub waits_on : {tests : Tests} (kept : CoreKept) (config : Config) (peer : Peer) → StandsFor kept config peer → (wait_set : ℕ)
+    → false ≡ list_any (trigger_value tests peer.part) (conditions_of peer.part.dds.watch wait_set)
     → is_timed_out (made kept.watch.wait_sets wait_set) kept.moment ≡ false → used_by kept.watch wait_set ≡ None
-    → Follows kept config peer (event.Call (call.WaitLook wait_set)) (silent Waiting)
-waits_on kept config peer s wait_set none early used =
+    → FollowsBy tests kept config peer (event.Call (call.WaitLook wait_set)) (silent Waiting)
+waits_on {tests} kept config peer s wait_set none early used =
     unchanging_call kept config peer s (call.WaitLook wait_set) Waiting refl
-    (look_goes_on _ _ peer.part wait_set (none_active (trigger_value peer.part) (conditions_of peer.part.dds.watch wait_set) (sym none))
+    (look_goes_on _ _ peer.part wait_set (none_active (trigger_value tests peer.part) (conditions_of peer.part.dds.watch wait_set) (sym none))
     (ap (λ (w : Watched). is_timed_out (made w.wait_sets wait_set) peer.part.dds.moment) s.watch
     ∙ (ap (λ (m : ℕ). is_timed_out (made kept.watch.wait_sets wait_set) m) s.moment ∙ early))
     (ap (λ (w : Watched). used_by w wait_set) s.watch ∙ used))
 
 -- it ends at its deadline
-pub times_out : (kept : CoreKept) (new : Watched) (config : Config) (peer : Peer) → StandsFor kept config peer → (wait_set : ℕ)
-    → false ≡ list_any (trigger_value peer.part) (conditions_of peer.part.dds.watch wait_set)
+pub times_out : {tests : Tests} (kept : CoreKept) (new : Watched) (config : Config) (peer : Peer) → StandsFor kept config peer → (wait_set : ℕ)
+    → false ≡ list_any (trigger_value tests peer.part) (conditions_of peer.part.dds.watch wait_set)
     → is_timed_out (made kept.watch.wait_sets wait_set) kept.moment ≡ true → used_by kept.watch wait_set ≡ None → new ≡ with_deadline kept.watch wait_set None
-    → Follows (record kept { watch = new }) config peer (event.Call (call.WaitLook wait_set)) (silent (Refused Timeout))
-times_out kept new config peer s wait_set none late used ended =
+    → FollowsBy tests (record kept { watch = new }) config peer (event.Call (call.WaitLook wait_set)) (silent (Refused Timeout))
+times_out {tests} kept new config peer s wait_set none late used ended =
     watched_call kept new config peer s (call.WaitLook wait_set) (Refused Timeout) refl
-    (look_times_out _ _ peer.part wait_set new (none_active (trigger_value peer.part) (conditions_of peer.part.dds.watch wait_set) (sym none))
+    (look_times_out _ _ peer.part wait_set new (none_active (trigger_value tests peer.part) (conditions_of peer.part.dds.watch wait_set) (sym none))
     (ap (λ (w : Watched). is_timed_out (made w.wait_sets wait_set) peer.part.dds.moment) s.watch
     ∙ (ap (λ (m : ℕ). is_timed_out (made kept.watch.wait_sets wait_set) m) s.moment ∙ late))
     (ap (λ (w : Watched). used_by w wait_set) s.watch ∙ used)
     (ended ∙ ap (λ (w : Watched). with_deadline w wait_set None) (sym s.watch)))
 
 -- nobody waits there
-pub no_wait : (kept : CoreKept) (config : Config) (peer : Peer) → StandsFor kept config peer → (wait_set : ℕ) (code : Code) → used_by kept.watch wait_set ≡ Some code
-    → Follows kept config peer (event.Call (call.WaitLook wait_set)) (silent (Refused code))
-no_wait kept config peer s wait_set code some =
+pub no_wait : {tests : Tests} (kept : CoreKept) (config : Config) (peer : Peer) → StandsFor kept config peer → (wait_set : ℕ) (code : Code) → used_by kept.watch wait_set ≡ Some code
+    → FollowsBy tests kept config peer (event.Call (call.WaitLook wait_set)) (silent (Refused code))
+no_wait {tests} kept config peer s wait_set code some =
     unchanging_call kept config peer s (call.WaitLook wait_set) (Refused code) refl
     (look_is_refused _ _ peer.part wait_set code (ap (λ (w : Watched). used_by w wait_set) s.watch ∙ some))
 
 -- it ends with the active conditions
-pub is_over_with : (kept : CoreKept) (new : Watched) (config : Config) (peer : Peer) → StandsFor kept config peer → (wait_set : ℕ) (active : List Cond)
-    → true ≡ list_any (trigger_value peer.part) (conditions_of peer.part.dds.watch wait_set)
-    → active ≡ active_of (trigger_value peer.part) (conditions_of peer.part.dds.watch wait_set) → used_by kept.watch wait_set ≡ None → new ≡ with_deadline kept.watch wait_set None
-    → Follows (record kept { watch = new }) config peer (event.Call (call.WaitLook wait_set)) (silent (Active active))
-is_over_with kept new config peer s wait_set active some is used ended =
+pub is_over_with : {tests : Tests} (kept : CoreKept) (new : Watched) (config : Config) (peer : Peer) → StandsFor kept config peer → (wait_set : ℕ) (active : List Cond)
+    → true ≡ list_any (trigger_value tests peer.part) (conditions_of peer.part.dds.watch wait_set)
+    → active ≡ active_of (trigger_value tests peer.part) (conditions_of peer.part.dds.watch wait_set) → used_by kept.watch wait_set ≡ None → new ≡ with_deadline kept.watch wait_set None
+    → FollowsBy tests (record kept { watch = new }) config peer (event.Call (call.WaitLook wait_set)) (silent (Active active))
+is_over_with {tests} kept new config peer s wait_set active some is used ended =
     watched_call kept new config peer s (call.WaitLook wait_set) (Active active) refl
-    (look_is_active _ _ peer.part wait_set _ _ (some_active (trigger_value peer.part) (conditions_of peer.part.dds.watch wait_set) (sym some))
-    (inl (subst (λ (o : Option Code). IsAnswered o (Active (active_of (trigger_value peer.part) (conditions_of peer.part.dds.watch wait_set))) (with_deadline peer.part.dds.watch wait_set None) peer.part (Active active) (record peer.part.dds { watch = new }))
+    (look_is_active _ _ peer.part wait_set _ _ (some_active (trigger_value tests peer.part) (conditions_of peer.part.dds.watch wait_set) (sym some))
+    (inl (subst (λ (o : Option Code). IsAnswered o (Active (active_of (trigger_value tests peer.part) (conditions_of peer.part.dds.watch wait_set))) (with_deadline peer.part.dds.watch wait_set None) peer.part (Active active) (record peer.part.dds { watch = new }))
     (sym (ap (λ (w : Watched). used_by w wait_set) s.watch ∙ used))
     (ap (λ (cs : List Cond). Active cs) is, ap (λ (w : Watched). record peer.part.dds { watch = w }) (ended ∙ ap (λ (w : Watched). with_deadline w wait_set None) (sym s.watch))))))
 
 -- or finds no memory for them
-pub lacks_memory : (kept : CoreKept) (config : Config) (peer : Peer) → StandsFor kept config peer → (wait_set : ℕ)
-    → true ≡ list_any (trigger_value peer.part) (conditions_of peer.part.dds.watch wait_set) → used_by kept.watch wait_set ≡ None
-    → Follows kept config peer (event.Call (call.WaitLook wait_set)) (silent (Refused Memory))
-lacks_memory kept config peer s wait_set some used =
+pub lacks_memory : {tests : Tests} (kept : CoreKept) (config : Config) (peer : Peer) → StandsFor kept config peer → (wait_set : ℕ)
+    → true ≡ list_any (trigger_value tests peer.part) (conditions_of peer.part.dds.watch wait_set) → used_by kept.watch wait_set ≡ None
+    → FollowsBy tests kept config peer (event.Call (call.WaitLook wait_set)) (silent (Refused Memory))
+lacks_memory {tests} kept config peer s wait_set some used =
     unchanging_call kept config peer s (call.WaitLook wait_set) (Refused Memory) refl
-    (look_is_active _ _ peer.part wait_set _ _ (some_active (trigger_value peer.part) (conditions_of peer.part.dds.watch wait_set) (sym some))
+    (look_is_active _ _ peer.part wait_set _ _ (some_active (trigger_value tests peer.part) (conditions_of peer.part.dds.watch wait_set) (sym some))
     (inr (ap (λ (w : Watched). used_by w wait_set) s.watch ∙ used, refl, refl, refl)))

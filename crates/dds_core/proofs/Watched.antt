@@ -6,25 +6,25 @@ use Rattle.dds_base.specs.declared.code.Code.TheVariants.{Memory, Timeout}
 use Rattle.dds_base.specs.declared.config.Config.{Config}
 use Rattle.dds_base.specs.Refusal.{Refuses}
 use Rattle.dds_conditions.specs.declared.condition.Cond.{Cond}
-use Rattle.dds_conditions.specs.Watched.{Watched}
+use Rattle.dds_conditions.specs.Watched.{Watched, no_filters}
 use Rattle.dds_model.specs.declared.call.Call.{Call}
 use Rattle.dds_model.specs.declared.event.Event.TheVariants as event
 use Rattle.dds_model.specs.declared.reply.Reply.{Reply}
 use Rattle.dds_model.specs.declared.reply.Reply.TheVariants.{Done, Created, Conditions, Refused}
 use Rattle.dds_model.specs.Calls.{Effect, nothing, effect, effect_of, Answers, IsAnswered, IsAnsweredInMemory}
-use Rattle.dds_model.specs.Machine.{no_filters}
 use Rattle.dds_model.specs.Part.{Part, Dds}
 use Rattle.dds_model.specs.Peer.{Peer}
+use Rattle.dds_model.specs.Watching.{Tests}
 use Rattle.dds_core.specs.Kept.{CoreKept}
 use Rattle.dds_core.specs.Standing.{StandsFor}
 use Rattle.dds_core.specs.Watching.{conditions_reply, done_reply, made_reply}
-use Rattle.dds_core.proofs.CallSteps.{Follows}
+use Rattle.dds_core.proofs.CallSteps.{Follows, FollowsBy}
 use Rattle.dds_core.proofs.Taking.{silent}
 
 -- a call after which this is watched
-pub watched_call : (kept : CoreKept) (new : Watched) (config : Config) (peer : Peer) → StandsFor kept config peer → (c : Call) (reply : Reply)
-    → effect_of peer.part c reply ≡ nothing → Answers no_filters peer.part c reply (record peer.part.dds { watch = new })
-    → Follows (record kept { watch = new }) config peer (event.Call c) (silent reply)
+pub watched_call : {tests : Tests} (kept : CoreKept) (new : Watched) (config : Config) (peer : Peer) → StandsFor kept config peer → (c : Call) (reply : Reply)
+    → effect_of peer.part c reply ≡ nothing → Answers tests peer.part c reply (record peer.part.dds { watch = new })
+    → FollowsBy tests (record kept { watch = new }) config peer (event.Call c) (silent reply)
 watched_call kept new config peer s c reply none is = (
   record peer { part = record peer.part { dds = record peer.part.dds { watch = new } } },
   record {
@@ -120,21 +120,21 @@ given_in_memory tells told on_ok on_err refusal gives after kept new (Err code) 
         inr (refl, refl, told ∙ ap (λ (x : Code). Refused x) is, ap (λ (w : Watched). record part.dds { watch = w }) same)
 
 -- a call that tells something, and changes nothing
-pub told_call : (kept : CoreKept) (config : Config) (peer : Peer) → StandsFor kept config peer → (refusal : Option Code) (answer : Reply) (c : Call) (reply : Reply)
-    → ((dds : Dds) → IsAnswered refusal answer peer.part.dds.watch peer.part reply dds → Answers no_filters peer.part c reply dds)
+pub told_call : {tests : Tests} (kept : CoreKept) (config : Config) (peer : Peer) → StandsFor kept config peer → (refusal : Option Code) (answer : Reply) (c : Call) (reply : Reply)
+    → ((dds : Dds) → IsAnswered refusal answer peer.part.dds.watch peer.part reply dds → Answers tests peer.part c reply dds)
     → effect_of peer.part c reply ≡ nothing → refusal ≡ None → reply ≡ answer
-    → Follows kept config peer (event.Call c) (silent reply)
-told_call kept config peer s refusal answer c reply answers none taken is =
-    subst (λ (w : Watched). Follows (record kept { watch = w }) config peer (event.Call c) (silent reply)) s.watch
+    → FollowsBy tests kept config peer (event.Call c) (silent reply)
+told_call {tests} kept config peer s refusal answer c reply answers none taken is =
+    subst (λ (w : Watched). FollowsBy tests (record kept { watch = w }) config peer (event.Call c) (silent reply)) s.watch
     (watched_call kept peer.part.dds.watch config peer s c reply none (answers _ (answered_so refusal answer _ peer.part reply _ taken is refl)))
 
 -- one that is refused
-pub not_told : (kept : CoreKept) (config : Config) (peer : Peer) → StandsFor kept config peer → (refusal : Option Code) (answer : Reply) (after : Watched) (code : Code) (c : Call)
-    → ((dds : Dds) → IsAnswered refusal answer after peer.part (Refused code) dds → Answers no_filters peer.part c (Refused code) dds)
+pub not_told : {tests : Tests} (kept : CoreKept) (config : Config) (peer : Peer) → StandsFor kept config peer → (refusal : Option Code) (answer : Reply) (after : Watched) (code : Code) (c : Call)
+    → ((dds : Dds) → IsAnswered refusal answer after peer.part (Refused code) dds → Answers tests peer.part c (Refused code) dds)
     → effect_of peer.part c (Refused code) ≡ nothing → refusal ≡ Some code
-    → Follows kept config peer (event.Call c) (silent (Refused code))
-not_told kept config peer s refusal answer after code c answers none some =
-    subst (λ (w : Watched). Follows (record kept { watch = w }) config peer (event.Call c) (silent (Refused code))) s.watch
+    → FollowsBy tests kept config peer (event.Call c) (silent (Refused code))
+not_told {tests} kept config peer s refusal answer after code c answers none some =
+    subst (λ (w : Watched). FollowsBy tests (record kept { watch = w }) config peer (event.Call c) (silent (Refused code))) s.watch
     (watched_call kept peer.part.dds.watch config peer s c (Refused code) none (answers _ (refused_so refusal answer after peer.part code (Refused code) _ some refl refl)))
 
 -- what is so is so where the result is one or the other

@@ -13,7 +13,8 @@ use Rattle.dds_base.specs.declared.mask.Masks.{Masks}
 use Rattle.dds_base.specs.declared.sample.Sample.{Sample}
 use Rattle.dds_base.specs.declared.status.LivelinessChangedStatus.{LivelinessChangedStatus}
 use Rattle.dds_base.specs.declared.status.SampleLostStatus.{SampleLostStatus}
-use Rattle.dds_base.specs.Access.{has_match, no_filter}
+use Rattle.dds_base.specs.declared.key.Key.{Key}
+use Rattle.dds_base.specs.Access.{has_match}
 use Rattle.dds_base.specs.Kept.{numbers_from}
 use Rattle.dds_base.specs.Places.{Match}
 use Rattle.dds_base.specs.Liveliness.{alive_count, not_alive_count, liveliness_changed_status}
@@ -328,7 +329,7 @@ abbrev pub TellsFlags : ReaderKept → StatusMask → Type 0
 TellsFlags kept mask = (proxies : List WriterProxy) (r : Reader) (tracked : Endpoint → Tracked) → ReaderStands kept proxies r tracked
     → mask ≡ reader_statuses r
 
--- whether a present sample of a reader meets the masks, as it is kept
-abbrev pub TellsMatch : ReaderKept → Masks → Bool → Type 0
-TellsMatch kept masks answer = (proxies : List WriterProxy) (r : Reader) (tracked : Endpoint → Tracked) → ReaderStands kept proxies r tracked
-    → answer ≡ has_match r.qos r.happened masks no_filter
+-- whether a present sample of a reader meets the masks and passes the test, as it is kept
+abbrev pub TellsMatch : ReaderKept → Masks → (Key → List ℕ → Bool) → Bool → Type 0
+TellsMatch kept masks test answer = (proxies : List WriterProxy) (r : Reader) (tracked : Endpoint → Tracked) → ReaderStands kept proxies r tracked
+    → answer ≡ has_match r.qos r.happened masks test

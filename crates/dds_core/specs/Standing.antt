@@ -21,7 +21,8 @@ use Rattle.dds_model.specs.Backed.{IsBacked}
 use Rattle.dds_model.specs.Dues.{AreTellable}
 use Rattle.dds_model.specs.Part.{Writer, Reader, ReaderProxy, WriterProxy, no_writer, no_reader, place_of}
 use Rattle.dds_model.specs.Calls.{with_written, ticked}
-use Rattle.dds_model.specs.Machine.{no_filters}
+use Rattle.dds_model.specs.Watching.{Tests}
+use Rattle.dds_conditions.specs.Watched.{no_filters}
 use Rattle.dds_model.specs.Peer.{Peer, PeerStep, packets_of, state_of as network_of}
 use Rattle.dds_model.specs.Protocol.{Known, Due, TakesPacket, AreSent}
 use Rattle.dds_core.specs.declared.matching.Destination.{Destination}
@@ -107,9 +108,14 @@ pub record StandsFor (kept : CoreKept) (config : Config) (peer : Peer) : Type 0 
   pub tellable : AreTellable peer.part
   pub watch : peer.part.dds.watch ≡ kept.watch
 
--- for each state that the old values stand for, the event is a step to one that the new values stand for
+-- for each state that the old values stand for, the event is a step by these filters to one that the new values stand for
+abbrev pub StepsBy : Tests → CoreKept → Event → Output → CoreKept → Type 0
+StepsBy tests old event output new = (config : Config) (peer : Peer) → StandsFor old config peer
+    → (after : Peer) × PeerStep config tests peer event output after × StandsFor new config after
+
+-- the same of an event in which no filter has a say
 abbrev pub Steps : CoreKept → Event → Output → CoreKept → Type 0
-Steps old event output new = (config : Config) (peer : Peer) → StandsFor old config peer → (after : Peer) × PeerStep config no_filters peer event output after × StandsFor new config after
+Steps old event output new = StepsBy no_filters old event output new
 
 -- all that the peer knows is claimed by what was delivered to it
 abbrev pub IsSound : Config → Peer → Type 0
@@ -130,9 +136,14 @@ KeepsRules config old other output new = Unit {0}
 
 -- For each state that the old values stand for, and of which all that is known was claimed, the event is a step to one that
 -- the new values stand for, and of which all that is known was claimed; a delivery follows the rules of the protocol.
+abbrev pub SoundStepsBy : Tests → CoreKept → Event → Output → CoreKept → Type 0
+SoundStepsBy tests old event output new = (config : Config) (peer : Peer) → StandsFor old config peer → IsSound config peer
+    → (after : Peer) × PeerStep config tests peer event output after × StandsFor new config after × IsSound config after
+    × KeepsRules config peer event output after
+
+-- the same without filters
 abbrev pub SoundSteps : CoreKept → Event → Output → CoreKept → Type 0
-SoundSteps old event output new = (config : Config) (peer : Peer) → StandsFor old config peer → IsSound config peer
-    → (after : Peer) × PeerStep config no_filters peer event output after × StandsFor new config after × IsSound config after × KeepsRules config peer event output after
+SoundSteps old event output new = SoundStepsBy no_filters old event output new
 
 -- a writer whose peer's time went on to this moment, and nothing else
 pub record Ticks (old : WriterKept) (now : ℕ) (new : WriterKept) : Type 0 where

@@ -12,6 +12,7 @@ use crate::calls::index_of;
 use crate::output::{answered, reply_to_access};
 use crate::peer::Core;
 use dds_base::{Code, Handle, Key, Selection};
+use dds_cache::Everything;
 use dds_model::{Output, Reply};
 
 impl Core {
@@ -22,7 +23,7 @@ impl Core {
         let Some(index) = index_of(reader, self.readers.len()) else {
             return self.refused(Code::BadParameter);
         };
-        let samples = self.readers[index].read(selection);
+        let samples = self.readers[index].read(selection, &Everything);
         answered(self.alloc, reply_to_access(samples))
     }
 
@@ -33,7 +34,7 @@ impl Core {
         let Some(index) = index_of(reader, self.readers.len()) else {
             return self.refused(Code::BadParameter);
         };
-        let samples = self.readers[index].take(selection);
+        let samples = self.readers[index].take(selection, &Everything);
         answered(self.alloc, reply_to_access(samples))
     }
 

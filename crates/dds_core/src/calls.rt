@@ -8,7 +8,7 @@ ghost use Rattle.rtps_wire.specs.Data.{IsContent};
 ghost use Rattle.dds_model.specs.declared.reply.Reply.TheVariants.{Done, Refused};
 ghost use Rattle.dds_model.specs.declared.call.Call.TheVariants as call;
 ghost use Rattle.dds_model.specs.declared.event.Event.TheVariants as event;
-ghost use Rattle.dds_core.specs.Standing.{Steps};
+ghost use Rattle.dds_core.specs.Standing.{Steps, StepsBy};
 ghost use Rattle.dds_core.specs.Making.{Makes, IsValueOf};
 ghost use Rattle.dds_core.specs.Sending.{Sends, SendsNothing, AnnouncesAll, AreMessages};
 
@@ -16,6 +16,7 @@ use crate::output::answered;
 use crate::peer::Core;
 use crate::sending::{Announced, Sender, announce};
 use dds_base::{Change, ChangeKind, Code, Key, MAX_VALUE, Octets, Sequence, Sn};
+use dds_conditions::Filters;
 use dds_model::{Call, Output, Reply};
 use rtps_wire::DataContent;
 use std::alloc::AllocError;
@@ -32,8 +33,8 @@ pub fn index_of(number: u8, count: usize) -> Option<usize>
 }
 
 impl Core {
-    pub(crate) fn call(&mut self, call: Call) -> Output
-        ensures step { Steps self.old (event.Call call) result self.new }
+    pub(crate) fn call<T: Filters>(&mut self, filters: &T, call: Call) -> Output
+        ensures step { StepsBy (T.meaning filters.now) self.old (event.Call call) result self.new }
         ensures sends { Sends self.old (event.Call call) result }
         ensures messages { AreMessages result.packets }
     {
@@ -54,19 +55,24 @@ impl Core {
                 reader,
                 scope,
                 condition,
-            } => self.read_by_condition(reader, scope, condition),
+            } => self.read_by_condition(filters, reader, scope, condition),
             Call::TakeByCondition {
                 reader,
                 scope,
                 condition,
-            } => self.take_by_condition(reader, scope, condition),
+            } => self.take_by_condition(filters, reader, scope, condition),
             Call::CreateReadCondition { reader, masks } => {
                 self.create_read_condition(reader, masks)
             }
+            Call::CreateQueryCondition {
+                reader,
+                masks,
+                filter,
+            } => self.create_query_condition(reader, masks, filter),
             Call::CreateGuardCondition => self.create_guard_condition(),
             Call::SetTriggerValue { condition, value } => self.set_trigger_value(condition, value),
             Call::DeleteCondition { condition } => self.delete_condition(condition),
-            Call::GetTriggerValue { condition } => self.get_trigger_value(condition),
+            Call::GetTriggerValue { condition } => self.get_trigger_value(filters, condition),
             Call::CreateWaitSet => self.create_wait_set(),
             Call::DeleteWaitSet { wait_set } => self.delete_wait_set(wait_set),
             Call::AttachCondition {
@@ -79,7 +85,7 @@ impl Core {
             } => self.detach_condition(wait_set, condition),
             Call::GetConditions { wait_set } => self.get_conditions(wait_set),
             Call::WaitBegin { wait_set, deadline } => self.wait_begin(wait_set, deadline),
-            Call::WaitLook { wait_set } => self.wait_look(wait_set),
+            Call::WaitLook { wait_set } => self.wait_look(filters, wait_set),
             Call::WaitEnd { wait_set } => self.wait_end(wait_set),
             Call::SetEnabledStatuses { entity, mask } => self.set_enabled_statuses(entity, mask),
             Call::GetStatusChanges { entity } => self.get_status_changes(entity),

@@ -7,6 +7,7 @@
 mod access;
 mod acknack;
 mod answering;
+mod by_filter;
 mod calls;
 mod delivery;
 mod expiring;

@@ -15,7 +15,7 @@ ghost use Rattle.dds_core.specs.Expiring.{Expires, HasRoomForDeaths, IsDeadly};
 ghost use Rattle.dds_core.specs.Opening.{OpensReader};
 ghost use Rattle.dds_core.specs.Receiving.{receiver_at, IsFirstName, IsNamedFor, NamedBy, NamesNobody, IsToldBy, HasMemory, IsReadyFor, IsAlike, CanTake, TakesTold, SameReader, TakesOnly, TellsFlags, TellsLost, TellsLiveliness, TellsMatch, IsPlaceAt};
 ghost use Rattle.dds_core.specs.Stored.{Holds};
-ghost use Rattle.dds_cache.specs.Standing.{qos_of, Answers, AfterAccess};
+ghost use Rattle.dds_cache.specs.Standing.{qos_of, AnswersWith, AfterAccessWith};
 ghost use Rattle.dds_model.specs.Claims.{is_for, Names};
 
 use crate::limits::limit_of;
@@ -29,6 +29,7 @@ use dds_base::{
     Change, Code, EntityId, Guid, GuidPrefix, Handle, Key, LivelinessChangedStatus, Masks, Moment,
     PeerConfig, ReaderConfig, ReaderQos, Sample, SampleLostStatus, Selection, Sequence, Sn,
 };
+use dds_cache::Test;
 use dds_notices::StatusMask;
 use rtps_reader::{HeartbeatSeen, StatefulReader, Step};
 use rtps_sets::SnSet;
@@ -373,7 +374,7 @@ impl ReaderEnd {
         self.store.expire(now);
     }
 
-    /// Reads samples, as the reader's cache does.
+    /// Reads samples that pass the test, as the reader's cache does.
     ///
     /// # Errors
     ///
@@ -381,15 +382,21 @@ impl ReaderEnd {
     /// refused. But for `NoData` the reader is then as it was.
     ///
     /// DDS 1.4, 2.2.2.5 (read and its other forms).
-    pub fn read(&mut self, selection: Selection) -> Result<Sequence<Sample>, Code>
-        ensures answer { (h : List Happening) → Holds self.old.store h → Answers self.old.store.cache h selection result }
-        ensures after { (h : List Happening) → Holds self.old.store h → AfterAccess Read self.old.store.cache h selection result self.new.store.cache }
+    pub fn read<T: Test>(
+        &mut self,
+        selection: Selection,
+        test: &T,
+    ) -> Result<Sequence<Sample>, Code>
+        ensures answer { (h : List Happening) → Holds self.old.store h
+            → AnswersWith self.old.store.cache h selection (T.meaning test.now) result }
+        ensures after { (h : List Happening) → Holds self.old.store h
+            → AfterAccessWith Read self.old.store.cache h selection (T.meaning test.now) result self.new.store.cache }
         ensures same { TakesOnly self.old self.new }
     {
-        self.store.read(selection)
+        self.store.read(selection, test)
     }
 
-    /// Takes samples, as the reader's cache does.
+    /// Takes samples that pass the test, as the reader's cache does.
     ///
     /// # Errors
     ///
@@ -397,12 +404,18 @@ impl ReaderEnd {
     /// refused. But for `NoData` the reader is then as it was.
     ///
     /// DDS 1.4, 2.2.2.5 (take and its other forms).
-    pub fn take(&mut self, selection: Selection) -> Result<Sequence<Sample>, Code>
-        ensures answer { (h : List Happening) → Holds self.old.store h → Answers self.old.store.cache h selection result }
-        ensures after { (h : List Happening) → Holds self.old.store h → AfterAccess Took self.old.store.cache h selection result self.new.store.cache }
+    pub fn take<T: Test>(
+        &mut self,
+        selection: Selection,
+        test: &T,
+    ) -> Result<Sequence<Sample>, Code>
+        ensures answer { (h : List Happening) → Holds self.old.store h
+            → AnswersWith self.old.store.cache h selection (T.meaning test.now) result }
+        ensures after { (h : List Happening) → Holds self.old.store h
+            → AfterAccessWith Took self.old.store.cache h selection (T.meaning test.now) result self.new.store.cache }
         ensures same { TakesOnly self.old self.new }
     {
-        self.store.take(selection)
+        self.store.take(selection, test)
     }
 
     /// The key of a known instance, by its handle.
@@ -474,12 +487,12 @@ impl ReaderEnd {
         StatusMask::from_bits_retain(lost + (data + turned))
     }
 
-    /// Whether some present sample meets the masks.
+    /// Whether some present sample meets the masks and passes the test.
     ///
-    /// DDS 1.4, 2.2.2.5 (ReadCondition).
-    pub fn has_match(&self, masks: Masks) -> bool
-        ensures { TellsMatch self.now masks result }
+    /// DDS 1.4, 2.2.2.5 (ReadCondition, QueryCondition).
+    pub fn has_match<T: Test>(&self, masks: Masks, test: &T) -> bool
+        ensures { TellsMatch self.now masks (T.meaning test.now) result }
     {
-        self.store.has_match(masks)
+        self.store.has_match(masks, test)
     }
 }

@@ -6,11 +6,11 @@ ghost use Rattle.std.specs.Prelude.{◌≡◌, ◌≤◌, ℕ, List, [], nat_lt,
 ghost use Rattle.dds_base.specs.declared.code.Code.TheVariants.{Memory};
 ghost use Rattle.dds_base.specs.declared.happening.Happening.{Happening};
 ghost use Rattle.dds_base.specs.declared.happening.Happening.TheVariants.{Read, Took};
-ghost use Rattle.dds_base.specs.Access.{handle_of, has_match, instance_of, no_filter};
+ghost use Rattle.dds_base.specs.Access.{handle_of, has_match, instance_of};
 ghost use Rattle.dds_base.specs.Liveliness.{after_deaths, dead_at};
 ghost use Rattle.dds_base.specs.Statuses.{lost_count};
 ghost use Rattle.dds_base.specs.StatusFlags.{data_available_at, turned_at};
-ghost use Rattle.dds_cache.specs.Standing.{qos_of, Answers, AfterAccess, StandsFor as CacheStandsFor};
+ghost use Rattle.dds_cache.specs.Standing.{qos_of, AnswersWith, AfterAccessWith, StandsFor as CacheStandsFor};
 ghost use Rattle.dds_lease.specs.Standing.{writer_count};
 ghost use Rattle.dds_core.specs.Expiring.{HasRoomForDeaths};
 ghost use Rattle.dds_core.specs.Stored.{StoreKept, Holds, Loses};
@@ -18,7 +18,7 @@ ghost use Rattle.dds_core.specs.Stored.{StoreKept, Holds, Loses};
 use dds_base::{
     Arrival, Code, Handle, Key, Masks, Moment, ReaderQos, Sample, Selection, Sequence, Sn,
 };
-use dds_cache::{Everything, ReaderCache};
+use dds_cache::{ReaderCache, Test};
 use dds_lease::Leases;
 use rtps_reader::Sink;
 use std::alloc::Global;
@@ -118,13 +118,14 @@ impl Store {
         0 < self.cache.data_at()
     }
 
-    /// Whether some present sample meets the masks.
+    /// Whether some present sample meets the masks and passes the test.
     ///
     /// DDS 1.4, 2.2.2.5 (ReadCondition).
-    pub fn has_match(&self, masks: Masks) -> bool
-        ensures { (h : List Happening) → Holds self.now h → result ≡ has_match (qos_of self.now.cache) h masks no_filter }
+    pub fn has_match<T: Test>(&self, masks: Masks, test: &T) -> bool
+        ensures { (h : List Happening) → Holds self.now h
+            → result ≡ has_match (qos_of self.now.cache) h masks (T.meaning test.now) }
     {
-        self.cache.has_match(masks, &Everything)
+        self.cache.has_match(masks, test)
     }
 
     /// Which matched writers are alive.
@@ -171,28 +172,40 @@ impl Store {
         }
     }
 
-    /// Reads samples, as the cache does.
-    pub fn read(&mut self, selection: Selection) -> Result<Sequence<Sample>, Code>
-        ensures answer { (h : List Happening) → Holds self.old h → Answers self.old.cache h selection result }
-        ensures after { (h : List Happening) → Holds self.old h → AfterAccess Read self.old.cache h selection result self.new.cache }
+    /// Reads samples that pass the test, as the cache does.
+    pub fn read<T: Test>(
+        &mut self,
+        selection: Selection,
+        test: &T,
+    ) -> Result<Sequence<Sample>, Code>
+        ensures answer { (h : List Happening) → Holds self.old h
+            → AnswersWith self.old.cache h selection (T.meaning test.now) result }
+        ensures after { (h : List Happening) → Holds self.old h
+            → AfterAccessWith Read self.old.cache h selection (T.meaning test.now) result self.new.cache }
         ensures qos { qos_of self.new.cache ≡ qos_of self.old.cache }
         ensures leases { self.new.leases ≡ self.old.leases }
         ensures lost { self.new.lost ≡ self.old.lost }
         ensures turned { self.new.turned ≡ self.old.turned }
     {
-        self.cache.read(selection)
+        self.cache.read_by(selection, test)
     }
 
-    /// Takes samples, as the cache does.
-    pub fn take(&mut self, selection: Selection) -> Result<Sequence<Sample>, Code>
-        ensures answer { (h : List Happening) → Holds self.old h → Answers self.old.cache h selection result }
-        ensures after { (h : List Happening) → Holds self.old h → AfterAccess Took self.old.cache h selection result self.new.cache }
+    /// Takes samples that pass the test, as the cache does.
+    pub fn take<T: Test>(
+        &mut self,
+        selection: Selection,
+        test: &T,
+    ) -> Result<Sequence<Sample>, Code>
+        ensures answer { (h : List Happening) → Holds self.old h
+            → AnswersWith self.old.cache h selection (T.meaning test.now) result }
+        ensures after { (h : List Happening) → Holds self.old h
+            → AfterAccessWith Took self.old.cache h selection (T.meaning test.now) result self.new.cache }
         ensures qos { qos_of self.new.cache ≡ qos_of self.old.cache }
         ensures leases { self.new.leases ≡ self.old.leases }
         ensures lost { self.new.lost ≡ self.old.lost }
         ensures turned { self.new.turned ≡ self.old.turned }
     {
-        self.cache.take(selection)
+        self.cache.take_by(selection, test)
     }
 
     /// The key of a known instance, by its handle.

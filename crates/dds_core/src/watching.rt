@@ -2,23 +2,24 @@
 //!
 //! DDS 1.4, 2.2.2.1 (Condition, WaitSet), 2.2.2.5 (ReadCondition).
 
-ghost use Rattle.std.specs.Prelude.{◌≡◌, true, None, IfOk, IfErr};
+ghost use Rattle.std.specs.Prelude.{◌≡◌, true, None, Some, IfOk, IfErr, OnErr, OnOk};
 ghost use Rattle.dds_base.specs.declared.code.Code.TheVariants.{Memory};
 ghost use Rattle.dds_base.specs.Checked.{is_maximum};
 ghost use Rattle.dds_base.specs.Selection.{max_in};
-ghost use Rattle.dds_conditions.specs.Watched.{made, use_refusal};
+ghost use Rattle.dds_conditions.specs.Watched.{filter_refusal, made, use_refusal};
 ghost use Rattle.dds_model.specs.declared.call.Call.TheVariants as call;
 ghost use Rattle.dds_model.specs.declared.event.Event.TheVariants as event;
-ghost use Rattle.dds_core.specs.Standing.{Steps};
+ghost use Rattle.dds_core.specs.Standing.{Steps, StepsBy};
 ghost use Rattle.dds_core.specs.Sending.{SendsNothing};
-ghost use Rattle.dds_core.specs.Watching.{AreActive, AsksBy, TellsActive, TellsStatuses, TellsTrigger, TellsValue, conditions_reply, done_reply, made_reply, selection_for};
+ghost use Rattle.dds_core.specs.Watching.{AddsFilter, AreActive, AsksBy, Tells, TellsActive, TellsStatuses, TellsTrigger, TellsValue, asked_of, conditions_reply, done_reply, made_reply};
 
+use crate::by_filter::ByFilter;
 use crate::calls::index_of;
-use crate::output::answered;
+use crate::output::{answered, reply_to_access};
 use crate::peer::Core;
 use bitflags::Flags;
 use dds_base::{Code, Entity, Masks, Moment, Scope, Selection, Sequence};
-use dds_conditions::{Cond, Condition};
+use dds_conditions::{Cond, Condition, Filters};
 use dds_model::{Output, Reply};
 use dds_notices::StatusMask;
 
@@ -62,6 +63,36 @@ fn is_valid(scope: &Scope) -> bool
     }
 }
 
+/// What an access by a condition asks for: the samples of a selection that pass the filter of a number, if there is one.
+pub struct Asked {
+    pub selection: Selection,
+    pub filter: Option<u32>,
+}
+
+/// What an access of a reader by this condition asks for.
+fn asked_for(reader: u8, scope: Scope, condition: Option<Condition>) -> Result<Asked, Code>
+    ensures { result ≡ asked_of reader scope condition }
+{
+    match condition {
+        Some(
+            Condition::Samples {
+                reader: other,
+                masks,
+                filter,
+            },
+        ) => {
+            if other == reader {
+                let selection = scope.selection(masks);
+                Ok(Asked { selection, filter })
+            } else {
+                Err(Code::PreconditionNotMet)
+            }
+        }
+        Some(Condition::Guard(_)) => Err(Code::PreconditionNotMet),
+        None => Err(Code::BadParameter),
+    }
+}
+
 impl Core {
     pub(crate) fn create_read_condition(&mut self, reader: u8, masks: Masks) -> Output
         ensures step { Steps self.old (event.Call (call.CreateReadCondition reader masks)) result self.new }
@@ -70,8 +101,48 @@ impl Core {
         let Some(_index) = index_of(reader, self.readers.len()) else {
             return self.refused(Code::BadParameter);
         };
-        let made = self.watch.create(Condition::Samples { reader, masks });
+        let made = self.watch.create(Condition::Samples {
+            reader,
+            masks,
+            filter: None,
+        });
         answered(self.alloc, reply_to_made(made))
+    }
+
+    pub(crate) fn create_query_condition(&mut self, reader: u8, masks: Masks, filter: u32) -> Output
+        ensures step { Steps self.old (event.Call (call.CreateQueryCondition reader masks filter)) result self.new }
+        ensures sends { SendsNothing result }
+    {
+        let Some(_reader) = index_of(reader, self.readers.len()) else {
+            return self.refused(Code::BadParameter);
+        };
+        if !self.watch.has_filter(filter) {
+            return self.refused(Code::BadParameter);
+        }
+        let made = self.watch.create(Condition::Samples {
+            reader,
+            masks,
+            filter: Some(filter),
+        });
+        answered(self.alloc, reply_to_made(made))
+    }
+
+    /// One filter more can be named, by the next number: what it answers is what the filters of `step_by` mean by that.
+    ///
+    /// # Errors
+    ///
+    /// `OutOfResources` where 2^32 - 1 filters were added; nothing changes then.
+    ///
+    /// DDS 1.4, 2.2.2.5 (QueryCondition).
+    pub fn add_filter(&mut self) -> Result<u32, Code>
+        // It is the last one, by the next number, and nothing else changes.
+        ensures ok { IfOk result (λ number. AddsFilter self.old number self.new) }
+        // A refusal is for want of a number, exactly then, and changes nothing.
+        ensures taken { OnOk result (Tells self.old (λ part. filter_refusal part.dds.watch ≡ None)) }
+        ensures refused { IfErr result (λ code. Tells self.old (λ part. filter_refusal part.dds.watch ≡ Some code)) }
+        ensures err { OnErr result (self.new ≡ self.old) }
+    {
+        self.watch.add_filter()
     }
 
     pub(crate) fn create_guard_condition(&mut self) -> Output
@@ -180,42 +251,47 @@ impl Core {
     }
 
     /// The trigger value of a condition that was made; of one that was not, `false`.
-    fn value_of(&self, condition: Option<Condition>) -> bool
-        ensures { TellsValue self.now condition result }
+    fn value_of<T: Filters>(&self, filters: &T, condition: Option<Condition>) -> bool
+        ensures { TellsValue (T.meaning filters.now) self.now condition result }
     {
         match condition {
-            Some(Condition::Samples { reader, masks }) => {
-                match index_of(reader, self.readers.len()) {
-                    Some(index) => self.readers[index].has_match(masks),
-                    None => false,
+            Some(Condition::Samples {
+                reader,
+                masks,
+                filter,
+            }) => match index_of(reader, self.readers.len()) {
+                Some(index) => {
+                    let test = ByFilter { filters, filter };
+                    self.readers[index].has_match(masks, &test)
                 }
-            }
+                None => false,
+            },
             Some(Condition::Guard(value)) => value,
             None => false,
         }
     }
 
     /// The trigger value of a condition; of one that does not exist, `false`.
-    fn trigger_of(&self, condition: Cond) -> bool
-        ensures { TellsTrigger self.now condition result }
+    fn trigger_of<T: Filters>(&self, filters: &T, condition: Cond) -> bool
+        ensures { TellsTrigger (T.meaning filters.now) self.now condition result }
     {
         match condition {
             Cond::Status(entity) => match self.watch.enabled(entity) {
                 Some(enabled) => enabled.intersects(self.statuses_of(entity)),
                 None => false,
             },
-            Cond::Made(number) => self.value_of(self.watch.condition(number)),
+            Cond::Made(number) => self.value_of(filters, self.watch.condition(number)),
         }
     }
 
-    pub(crate) fn get_trigger_value(&self, condition: Cond) -> Output
-        ensures step { Steps self.now (event.Call (call.GetTriggerValue condition)) result self.now }
+    pub(crate) fn get_trigger_value<T: Filters>(&self, filters: &T, condition: Cond) -> Output
+        ensures step { StepsBy (T.meaning filters.now) self.now (event.Call (call.GetTriggerValue condition)) result self.now }
         ensures sends { SendsNothing result }
     {
         if !self.watch.knows(condition) {
             return self.refused(Code::BadParameter);
         }
-        let value = self.trigger_of(condition);
+        let value = self.trigger_of(filters, condition);
         answered(self.alloc, Reply::TriggerValue(value))
     }
 
@@ -231,93 +307,90 @@ impl Core {
     }
 
     /// What an access by a condition asks for.
-    fn asked_by(&self, reader: u8, scope: Scope, condition: u32) -> Result<Selection, Code>
+    fn asked_by(&self, reader: u8, scope: Scope, condition: u32) -> Result<Asked, Code>
         ensures { AsksBy self.now reader scope condition result }
     {
         if index_of(reader, self.readers.len()).is_none() || !is_valid(&scope) {
             return Err(Code::BadParameter);
         }
-        self.selection_of(reader, scope, self.watch.condition(condition))
+        asked_for(reader, scope, self.watch.condition(condition))
     }
 
-    /// The same, by the condition.
-    fn selection_of(
-        &self,
+    pub(crate) fn read_by_condition<T: Filters>(
+        &mut self,
+        filters: &T,
         reader: u8,
         scope: Scope,
-        condition: Option<Condition>,
-    ) -> Result<Selection, Code>
-        ensures { result ≡ selection_for reader scope condition }
-    {
-        match condition {
-            Some(
-                Condition::Samples {
-                    reader: other,
-                    masks,
-                },
-            ) => {
-                if other == reader {
-                    Ok(scope.selection(masks))
-                } else {
-                    Err(Code::PreconditionNotMet)
-                }
-            }
-            Some(Condition::Guard(_)) => Err(Code::PreconditionNotMet),
-            None => Err(Code::BadParameter),
-        }
-    }
-
-    pub(crate) fn read_by_condition(&mut self, reader: u8, scope: Scope, condition: u32) -> Output
-        ensures step { Steps self.old (event.Call (call.ReadByCondition reader scope condition)) result self.new }
+        condition: u32,
+    ) -> Output
+        ensures step { StepsBy (T.meaning filters.now) self.old (event.Call (call.ReadByCondition reader scope condition)) result self.new }
         ensures sends { SendsNothing result }
     {
-        match self.asked_by(reader, scope, condition) {
-            Ok(selection) => self.read(reader, selection),
-            Err(code) => self.refused(code),
-        }
+        let Asked { selection, filter } = match self.asked_by(reader, scope, condition) {
+            Ok(asked) => asked,
+            Err(code) => return self.refused(code),
+        };
+        let Some(index) = index_of(reader, self.readers.len()) else {
+            return self.refused(Code::BadParameter);
+        };
+        let test = ByFilter { filters, filter };
+        let samples = self.readers[index].read(selection, &test);
+        answered(self.alloc, reply_to_access(samples))
     }
 
-    pub(crate) fn take_by_condition(&mut self, reader: u8, scope: Scope, condition: u32) -> Output
-        ensures step { Steps self.old (event.Call (call.TakeByCondition reader scope condition)) result self.new }
+    pub(crate) fn take_by_condition<T: Filters>(
+        &mut self,
+        filters: &T,
+        reader: u8,
+        scope: Scope,
+        condition: u32,
+    ) -> Output
+        ensures step { StepsBy (T.meaning filters.now) self.old (event.Call (call.TakeByCondition reader scope condition)) result self.new }
         ensures sends { SendsNothing result }
     {
-        match self.asked_by(reader, scope, condition) {
-            Ok(selection) => self.take(reader, selection),
-            Err(code) => self.refused(code),
-        }
+        let Asked { selection, filter } = match self.asked_by(reader, scope, condition) {
+            Ok(asked) => asked,
+            Err(code) => return self.refused(code),
+        };
+        let Some(index) = index_of(reader, self.readers.len()) else {
+            return self.refused(Code::BadParameter);
+        };
+        let test = ByFilter { filters, filter };
+        let samples = self.readers[index].take(selection, &test);
+        answered(self.alloc, reply_to_access(samples))
     }
 
     /// Whether a condition of a WaitSet is true.
-    fn is_active(&self, wait_set: u32) -> bool
-        ensures { TellsActive self.now wait_set result }
+    fn is_active<T: Filters>(&self, filters: &T, wait_set: u32) -> bool
+        ensures { TellsActive (T.meaning filters.now) self.now wait_set result }
     {
         let is_true = |condition: &Cond|
-            ensures trigger { TellsTrigger self.entry.now condition.entry.now result }
-            ensures same { self.exit ≡ self.entry }
-        { self.trigger_of(*condition) };
+            ensures trigger { TellsTrigger (T.meaning filters.entry.now) self.entry.now condition.entry.now result }
+            ensures same { (self.exit ≡ self.entry) × (filters.exit ≡ filters.entry) }
+        { self.trigger_of(filters, *condition) };
         self.watch.is_active(wait_set, is_true)
     }
 
     /// The conditions of a WaitSet that are true.
-    fn active(&self, wait_set: u32) -> Result<Sequence<Cond>, Code>
-        ensures ok { IfOk result (AreActive self.now wait_set) }
+    fn active<T: Filters>(&self, filters: &T, wait_set: u32) -> Result<Sequence<Cond>, Code>
+        ensures ok { IfOk result (AreActive (T.meaning filters.now) self.now wait_set) }
         ensures memory { IfErr result (λ code. code ≡ Memory) }
     {
         let is_true = |condition: &Cond|
-            ensures trigger { TellsTrigger self.entry.now condition.entry.now result }
-            ensures same { self.exit ≡ self.entry }
-        { self.trigger_of(*condition) };
+            ensures trigger { TellsTrigger (T.meaning filters.entry.now) self.entry.now condition.entry.now result }
+            ensures same { (self.exit ≡ self.entry) × (filters.exit ≡ filters.entry) }
+        { self.trigger_of(filters, *condition) };
         self.watch.active(wait_set, is_true)
     }
 
     /// The true conditions of a WaitSet, of which there is one: the wait is over.
-    fn end_active(&mut self, wait_set: u32) -> Output
+    fn end_active<T: Filters>(&mut self, filters: &T, wait_set: u32) -> Output
         requires used { use_refusal (made self.old.watch.wait_sets wait_set) ≡ None }
-        requires active { TellsActive self.old wait_set true }
-        ensures step { Steps self.old (event.Call (call.WaitLook wait_set)) result self.new }
+        requires active { TellsActive (T.meaning filters.now) self.old wait_set true }
+        ensures step { StepsBy (T.meaning filters.now) self.old (event.Call (call.WaitLook wait_set)) result self.new }
         ensures sends { SendsNothing result }
     {
-        match self.active(wait_set) {
+        match self.active(filters, wait_set) {
             Ok(active) => {
                 let _ = self.watch.end(wait_set);
                 answered(self.alloc, Reply::Active(active))
@@ -326,16 +399,16 @@ impl Core {
         }
     }
 
-    pub(crate) fn wait_look(&mut self, wait_set: u32) -> Output
-        ensures step { Steps self.old (event.Call (call.WaitLook wait_set)) result self.new }
+    pub(crate) fn wait_look<T: Filters>(&mut self, filters: &T, wait_set: u32) -> Output
+        ensures step { StepsBy (T.meaning filters.now) self.old (event.Call (call.WaitLook wait_set)) result self.new }
         ensures sends { SendsNothing result }
     {
         let deadline = match self.watch.deadline(wait_set) {
             Ok(deadline) => deadline,
             Err(code) => return self.refused(code),
         };
-        if self.is_active(wait_set) {
-            return self.end_active(wait_set);
+        if self.is_active(filters, wait_set) {
+            return self.end_active(filters, wait_set);
         }
         if self.moment.units() < deadline.units() {
             return answered(self.alloc, Reply::Waiting);

@@ -1,4 +1,4 @@
-use Rattle.std.proofs.Common.{◌≡◌, ℕ, ◌∙◌, ◌+◌, ◌<◌, Bool, true, not, Option, Some, length, refl, sym, subst, ap, arith, rules}
+use Rattle.std.proofs.Common.{◌≡◌, ℕ, ◌∙◌, ◌+◌, ◌<◌, Bool, true, not, Option, Some, None, length, refl, sym, subst, ap, arith, rules}
 use Rattle.dds_model.specs.declared.call.Call.TheVariants as call
 use Rattle.dds_model.specs.declared.event.Event.TheVariants as event
 use Rattle.dds_core.specs.Kept.{CoreKept}
@@ -26,8 +26,8 @@ returns-clause-step c = λ config peer given.
     subst (λ (n : ℕ). has_number peer.part.dds.readers n ≡ true) (number_is c.args.reader i c.in-Some.ensures.0)
     (there_is peer.part.dds.readers i (omega (arith, within, count))) in
     follows_as _ config peer _ _ _ c.answered.ensures
-    (given_in_memory (λ n. Created n) made_reply (λ n. refl) (λ code. refl) (λ w. number_refusal w.conditions) (λ w. length w.conditions + 1) (λ w. with_condition w (Samples c.args.reader c.args.masks)) _
+    (given_in_memory (λ n. Created n) made_reply (λ n. refl) (λ code. refl) (λ w. number_refusal w.conditions) (λ w. length w.conditions + 1) (λ w. with_condition w (Samples c.args.reader c.args.masks None)) _
     c.create-made.new.self c.create-made.result c.reply_to_made.result config peer s (call.CreateReadCondition c.args.reader c.args.masks)
-    (λ dds h. subst (λ (o : Option Code). IsAnsweredInMemory true o (Created (length peer.part.dds.watch.conditions + 1)) (with_condition peer.part.dds.watch (Samples c.args.reader c.args.masks)) peer.part c.reply_to_made.result dds)
+    (λ dds h. subst (λ (o : Option Code). IsAnsweredInMemory true o (Created (length peer.part.dds.watch.conditions + 1)) (with_condition peer.part.dds.watch (Samples c.args.reader c.args.masks None)) peer.part c.reply_to_made.result dds)
     (sym (ap (λ (b : Bool). if not b then Some BadParameter else number_refusal peer.part.dds.watch.conditions) known)) h) refl c.reply_to_made.ensures
     c.create-made.ensures.ok c.create-made.ensures.number c.create-made.ensures.taken c.create-made.ensures.refused c.create-made.ensures.err)

@@ -1,0 +1,115 @@
+-- Events in which no filter has a say: they are the same by any filters.
+use Rattle.std.proofs.Common.{◌≡◌, ℕ, Bool, true, false, List}
+use Rattle.dds_base.specs.declared.config.Config.{Config}
+use Rattle.dds_conditions.specs.Watched.{no_filters}
+use Rattle.dds_model.specs.declared.call.Call.{Call}
+use Rattle.dds_model.specs.declared.call.Call.TheVariants as call
+use Rattle.dds_model.specs.declared.event.Event.TheVariants as event
+use Rattle.dds_model.specs.declared.event.Output.{Output}
+use Rattle.dds_model.specs.declared.reply.Reply.{Reply}
+use Rattle.dds_model.specs.declared.reply.Reply.TheVariants.{Done, InstanceHandle, KeyValue, LivelinessChanged, LivelinessLost, Refused, Reported, SampleLost}
+use Rattle.dds_model.specs.Calls.{Answers}
+use Rattle.dds_model.specs.Part.{Dds, Part}
+use Rattle.dds_model.specs.Peer.{EventStep, Peer}
+use Rattle.dds_model.specs.Watching.{Tests}
+use Rattle.dds_core.specs.Kept.{CoreKept}
+use Rattle.dds_core.specs.Standing.{SoundSteps, SoundStepsBy, Steps, StepsBy}
+
+-- no filter has a say in the call
+abbrev pub is_plain : Call → Bool
+is_plain (call.ReadByCondition r scope c) = false
+is_plain (call.TakeByCondition r scope c) = false
+is_plain (call.GetTriggerValue c) = false
+is_plain (call.WaitLook s) = false
+is_plain other = true
+
+any_answers : (tests : Tests) (old : Part) (c : Call) (reply : Reply) (dds : Dds) → is_plain c ≡ true → Answers no_filters old c reply dds → Answers tests old c reply dds
+any_answers tests old (call.Register w key) reply dds plain a = a
+any_answers tests old (call.Write w key value) reply dds plain a = a
+any_answers tests old (call.Dispose w key) reply dds plain a = a
+any_answers tests old (call.Unregister w key) reply dds plain a = a
+any_answers tests old (call.AssertLiveliness w) Done dds plain a = a
+any_answers tests old (call.AssertLiveliness w) (Refused code) dds plain a = a
+any_answers tests old (call.AssertLiveliness w) reply dds plain a = absurd a
+any_answers tests old (call.Read r selection) reply dds plain a = a
+any_answers tests old (call.Take r selection) reply dds plain a = a
+any_answers tests old (call.GetKeyValue r instance) (KeyValue key) dds plain a = a
+any_answers tests old (call.GetKeyValue r instance) (Refused code) dds plain a = a
+any_answers tests old (call.GetKeyValue r instance) reply dds plain a = absurd a
+any_answers tests old (call.LookupInstance r key) (InstanceHandle handle) dds plain a = a
+any_answers tests old (call.LookupInstance r key) (Refused code) dds plain a = a
+any_answers tests old (call.LookupInstance r key) reply dds plain a = absurd a
+any_answers tests old (call.GetSampleLost r) (SampleLost status) dds plain a = a
+any_answers tests old (call.GetSampleLost r) (Refused code) dds plain a = a
+any_answers tests old (call.GetSampleLost r) reply dds plain a = absurd a
+any_answers tests old (call.GetLivelinessChanged r) (LivelinessChanged status) dds plain a = a
+any_answers tests old (call.GetLivelinessChanged r) (Refused code) dds plain a = a
+any_answers tests old (call.GetLivelinessChanged r) reply dds plain a = absurd a
+any_answers tests old (call.GetLivelinessLost w) (LivelinessLost status) dds plain a = a
+any_answers tests old (call.GetLivelinessLost w) (Refused code) dds plain a = a
+any_answers tests old (call.GetLivelinessLost w) reply dds plain a = absurd a
+any_answers tests old (call.ReadByCondition r scope c) reply dds plain a = absurd cc
+any_answers tests old (call.TakeByCondition r scope c) reply dds plain a = absurd cc
+any_answers tests old (call.CreateReadCondition r masks) reply dds plain a = a
+any_answers tests old (call.CreateQueryCondition r masks filter) reply dds plain a = a
+any_answers tests old call.CreateGuardCondition reply dds plain a = a
+any_answers tests old (call.SetTriggerValue c value) reply dds plain a = a
+any_answers tests old (call.DeleteCondition c) reply dds plain a = a
+any_answers tests old (call.GetTriggerValue c) reply dds plain a = absurd cc
+any_answers tests old call.CreateWaitSet reply dds plain a = a
+any_answers tests old (call.DeleteWaitSet s) reply dds plain a = a
+any_answers tests old (call.AttachCondition s c) reply dds plain a = a
+any_answers tests old (call.DetachCondition s c) reply dds plain a = a
+any_answers tests old (call.GetConditions s) reply dds plain a = a
+any_answers tests old (call.WaitBegin s deadline) reply dds plain a = a
+any_answers tests old (call.WaitLook s) reply dds plain a = absurd cc
+any_answers tests old (call.WaitEnd s) reply dds plain a = a
+any_answers tests old (call.SetEnabledStatuses entity mask) reply dds plain a = a
+any_answers tests old (call.GetStatusChanges entity) reply dds plain a = a
+
+-- a call
+pub any_call : (tests : Tests) (old new : CoreKept) (c : Call) (output : Output) → Steps old (event.Call c) output new → is_plain c ≡ true → StepsBy tests old (event.Call c) output new
+any_call tests old new c output steps plain = λ config peer s.
+    let r = steps config peer s in (
+      r.0,
+      record {
+        same_number = r.1.same_number;
+        knows = r.1.knows;
+        step = (
+          record {
+            answers = any_answers tests peer.part c output.reply r.0.part.dds plain r.1.step.0.answers;
+            rtps = r.1.step.0.rtps;
+          },
+          r.1.step.1,
+        );
+        sent = r.1.sent;
+      },
+      r.2,
+    )
+
+-- a tick
+pub any_tick : (tests : Tests) (old new : CoreKept) (now : ℕ) (output : Output) → SoundSteps old (event.Tick now) output new → SoundStepsBy tests old (event.Tick now) output new
+any_tick tests old new now output steps = λ config peer s sound.
+    let r = steps config peer s sound in
+    (r.0, record { same_number = r.1.same_number; knows = r.1.knows; step = r.1.step; sent = r.1.sent }, r.2, r.3, r.4)
+
+-- a delivery
+any_report : (config : Config) (tests : Tests) (old : Peer) (packet : List ℕ) (reply : Reply) (new : Peer)
+    → EventStep config no_filters old (event.Deliver packet) reply new → EventStep config tests old (event.Deliver packet) reply new
+any_report config tests old packet (Reported report) new h = h
+any_report config tests old packet reply new h = absurd h
+
+pub any_delivery : (tests : Tests) (old new : CoreKept) (packet : List ℕ) (output : Output) → SoundSteps old (event.Deliver packet) output new → SoundStepsBy tests old (event.Deliver packet) output new
+any_delivery tests old new packet output steps = λ config peer s sound.
+    let r = steps config peer s sound in (
+      r.0,
+      record {
+        same_number = r.1.same_number;
+        knows = r.1.knows;
+        step = any_report config tests peer packet output.reply r.0 r.1.step;
+        sent = r.1.sent;
+      },
+      r.2,
+      r.3,
+      r.4,
+    )
