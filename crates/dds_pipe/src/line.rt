@@ -1,6 +1,6 @@
 //! The lines that a peer is given.
 
-use dds_base::Moment;
+use dds_base::{Moment, Octets};
 use dds_model::Event;
 use dds_script::{
     SetupLine, call_of, decimal, decimal_u8, entity_id, guid_prefix, reader_options, value,
@@ -15,6 +15,8 @@ pub enum Line {
     Setup(SetupLine),
     /// The peer opens as the one of this number.
     Open(u8),
+    /// The peer has a filter more, by the octets with which a value begins.
+    Filter(Octets),
     /// Something happens to the peer.
     Event(Event),
 }
@@ -88,10 +90,21 @@ fn delivery(alloc: Global, words: &[&str]) -> Result<Option<Line>, AllocError> {
     }
 }
 
+fn filter(alloc: Global, words: &[&str]) -> Result<Option<Line>, AllocError> {
+    let [octets] = words else {
+        return Ok(None);
+    };
+    match value(alloc, octets)? {
+        Some(octets) => Ok(Some(Line::Filter(octets))),
+        None => Ok(None),
+    }
+}
+
 fn line_of_words(alloc: Global, words: &[&str]) -> Result<Option<Line>, AllocError> {
     match words {
         ["call", operands @ ..] => call(alloc, operands),
         ["deliver", operands @ ..] => delivery(alloc, operands),
+        ["filter", operands @ ..] => filter(alloc, operands),
         [name, operands @ ..] => Ok(short_line(name, operands)),
         [] => Ok(None),
     }

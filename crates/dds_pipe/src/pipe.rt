@@ -1,9 +1,11 @@
 //! A peer, asked line by line.
 
 use crate::line::{Line, line_of};
+use dds_base::{Code, Octets};
+use dds_conditions::FilterList;
 use dds_core::Core;
 use dds_model::{Event, Output, Packet, Reply};
-use dds_script::{Fault, Lines, Setup, SetupLine, Status, TranscriptLine, print};
+use dds_script::{Fault, Lines, Prefix, Setup, SetupLine, Status, TranscriptLine, print};
 use std::alloc::{AllocError, Global};
 use std::io::{Read, Write};
 
@@ -17,6 +19,7 @@ struct Session {
     setup: Setup,
     is_open: bool,
     core: Option<Core>,
+    filters: FilterList<Prefix>,
 }
 
 fn packet_line(alloc: Global, packet: &Packet) -> Result<String, AllocError> {
@@ -51,6 +54,7 @@ impl Session {
             setup: Setup::new(alloc),
             is_open: false,
             core: None,
+            filters: FilterList::new(alloc),
         }
     }
 
@@ -83,8 +87,22 @@ impl Session {
     /// An event at the peer, which needs to be open.
     fn step(&mut self, event: Event, line: u64) -> Result<Output, Fault> {
         match &mut self.core {
-            Some(core) => Ok(core.step(event)),
+            Some(core) => Ok(core.step_by(&self.filters, event)),
             None => Err(Fault::NotACommand { line }),
+        }
+    }
+
+    /// A filter more at the peer, which needs to be open.
+    fn add_filter(&mut self, octets: Octets, line: u64) -> Result<Reply, Fault> {
+        let Some(core) = &mut self.core else {
+            return Err(Fault::NotACommand { line });
+        };
+        if self.filters.add(Prefix::new(octets)).is_err() {
+            return Ok(Reply::Refused(Code::Memory));
+        }
+        match core.add_filter() {
+            Ok(number) => Ok(Reply::Created(number)),
+            Err(code) => Ok(Reply::Refused(code)),
         }
     }
 
@@ -94,6 +112,10 @@ impl Session {
             Line::Setup(part) => self.set_up(part, number),
             Line::Open(peer) => {
                 let reply = self.open(peer, number)?;
+                print(output, reply_line(self.alloc, &reply, 0)?.as_str())
+            }
+            Line::Filter(octets) => {
+                let reply = self.add_filter(octets, number)?;
                 print(output, reply_line(self.alloc, &reply, 0)?.as_str())
             }
             Line::Event(event) => {

@@ -66,6 +66,13 @@ fn condition_call(words: &[&str]) -> Option<Call> {
             reader: reader_number(reader)?,
             masks: masks(samples, views, instances)?,
         }),
+        ["querycond", reader, samples, views, instances, filter] => {
+            Some(Call::CreateQueryCondition {
+                reader: reader_number(reader)?,
+                masks: masks(samples, views, instances)?,
+                filter: decimal_u32(filter)?,
+            })
+        }
         ["guard"] => Some(Call::CreateGuardCondition),
         ["setguard", number, value] => Some(Call::SetTriggerValue {
             condition: decimal_u32(number)?,

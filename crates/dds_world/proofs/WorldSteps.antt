@@ -19,7 +19,8 @@ use Rattle.dds_model.specs.declared.event.WorldEvent.{WorldEvent}
 use Rattle.dds_model.specs.declared.event.WorldEvent.TheVariants as world
 use Rattle.dds_model.specs.declared.reply.Reply.{Reply}
 use Rattle.dds_model.specs.declared.reply.Reply.TheVariants.{Reported, Refused}
-use Rattle.dds_model.specs.Machine.{no_filters, no_tests, Step}
+use Rattle.dds_conditions.specs.Watched.{no_filters}
+use Rattle.dds_model.specs.Machine.{no_tests, Step}
 use Rattle.dds_model.specs.Numbered.{HasNumber}
 use Rattle.dds_model.specs.Peer.{Peer, Delivery, PeerStep, no_peer, state_of}
 use Rattle.dds_model.specs.Progress.{Progresses}
