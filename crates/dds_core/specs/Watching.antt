@@ -1,5 +1,5 @@
--- What a peer tells of its statuses and its conditions, by what it keeps. Inner functions alone cite this: nothing here has to
--- be believed.
+-- What a peer tells of its statuses and its conditions, by what it keeps. Inner functions alone cite this, so nothing here has
+-- to be believed, but what one filter more is (`AddsFilter`, `Tells`).
 use Rattle.std.specs.Prelude.{◌≡◌, ℕ, Bool, List, Option, Some, None, Result, Ok, Err, ◌==◌, ◌+◌, if◌then◌else◌}
 use Rattle.dds_base.specs.declared.code.Code.{Code}
 use Rattle.dds_base.specs.declared.code.Code.TheVariants.{BadParameter, PreconditionNotMet}

@@ -255,11 +255,13 @@ impl Core {
         ensures { TellsValue (T.meaning filters.now) self.now condition result }
     {
         match condition {
-            Some(Condition::Samples {
-                reader,
-                masks,
-                filter,
-            }) => match index_of(reader, self.readers.len()) {
+            Some(
+                Condition::Samples {
+                    reader,
+                    masks,
+                    filter,
+                },
+            ) => match index_of(reader, self.readers.len()) {
                 Some(index) => {
                     let test = ByFilter { filters, filter };
                     self.readers[index].has_match(masks, &test)

@@ -2,7 +2,7 @@
 
 use crate::tests::rows::{Subject, expect_rows, number_of, octets_of, words_of};
 use dds_base::{Entity, Key};
-use dds_conditions::{Cond, Filter, WaitSet};
+use dds_conditions::{Cond, Filter, FilterList, Filters, WaitSet};
 use std::alloc::Global;
 
 /// `open` begins anew. `attach` and `detach` have a condition: what is attached then, or the code. `active` has a
@@ -41,6 +41,17 @@ passes 01aa => true
 passes 0000 => true
 passes 01 => false
 passes 01aa02 => false
+";
+
+/// `passes` has the number of a filter and a value.
+const LISTED: &str = "\
+# The first filter passes values of one octet, the second those of two; no value passes a filter that is not there.
+passes 1 01 => true
+passes 1 01aa => false
+passes 2 01aa => true
+passes 2 01 => false
+passes 0 01 => false
+passes 3 01 => false
 ";
 
 fn condition_of(operands: &str) -> Cond {
@@ -122,6 +133,24 @@ impl<F: Filter> Subject for Asked<F> {
     }
 }
 
+/// The filters of a peer, of any type.
+#[derive(Drop)]
+struct Listed<F> {
+    filters: FilterList<F>,
+}
+
+impl<F: Filter> Subject for Listed<F> {
+    fn answer(&mut self, alloc: Global, text: &mut String, _: &str, operands: &str) {
+        let words = words_of(operands);
+        let passes = self.filters.passes(
+            words.first.parse().unwrap_or(0),
+            &Key([1; 16]),
+            octets_of(alloc, words.second).as_slice(),
+        );
+        let _ = write!(text, "{passes}");
+    }
+}
+
 #[test]
 fn wait_sets_keep_conditions(rt: HostRuntime) {
     let mut set = WaitSet::open(rt.alloc());
@@ -142,4 +171,18 @@ fn a_boxed_filter_answers_the_same(rt: HostRuntime) {
         let filter: Box<dyn Filter + Send> = own;
         expect_rows(&rt, rt.alloc(), &mut Asked { filter }, FILTERS);
     }
+}
+
+#[test]
+fn boxed_filters_answer_by_their_numbers(rt: HostRuntime) {
+    let mut filters = FilterList::<Box<dyn Filter + Send>>::new(rt.alloc());
+    for octets in 1..3 {
+        let boxed = Box::new(rt.alloc(), OfLength { octets });
+        assert!(rt; boxed.is_ok(), "no memory");
+        if let Ok(own) = boxed {
+            let filter: Box<dyn Filter + Send> = own;
+            assert!(rt; filters.add(filter).is_ok(), "no memory");
+        }
+    }
+    expect_rows(&rt, rt.alloc(), &mut Listed { filters }, LISTED);
 }
