@@ -1,5 +1,5 @@
 -- What the conditions of a peer tell, and accesses by them.
-use Rattle.std.proofs.Common.{◌≡◌, ℕ, suc, ◌+◌, ◌<◌, Bool, true, false, not, cond, ◌||◌, List, [], ◌∷◌, Option, Some, None, length, slice_get, refl, ap, sym, ◌∙◌, subst, arith, inl, inr}
+use Rattle.std.proofs.Common.{◌≡◌, ℕ, Bool, true, false, cond, ◌||◌, List, [], ◌∷◌, Option, Some, None, refl, ap, sym, ◌∙◌, subst, inl, inr}
 use Rattle.std.specs.Prelude.{filter}
 use Rattle.std.specs.List.{list_any}
 use Rattle.dds_base.specs.declared.code.Code.{Code}
@@ -10,19 +10,16 @@ use Rattle.dds_base.specs.declared.happening.Happening.TheVariants.{Read as HasR
 use Rattle.dds_base.specs.declared.happening.SamplePosition.{SamplePosition}
 use Rattle.dds_base.specs.declared.selection.Scope.{Scope}
 use Rattle.dds_base.specs.declared.selection.Selection.{Selection}
-use Rattle.dds_notices.specs.declared.mask.StatusMask.{StatusMask}
 use Rattle.dds_conditions.specs.declared.condition.Cond.{Cond}
 use Rattle.dds_conditions.specs.Attached.{active_of}
-use Rattle.dds_conditions.specs.Watched.{Watched, conditions_of, is_timed_out, made, no_filters, use_refusal, with_deadline}
-use Rattle.dds_model.specs.declared.call.Call.{Call}
+use Rattle.dds_conditions.specs.Watched.{Watched, conditions_of, is_timed_out, made, use_refusal, with_deadline}
 use Rattle.dds_model.specs.declared.call.Call.TheVariants as call
 use Rattle.dds_model.specs.declared.event.Event.TheVariants as event
-use Rattle.dds_model.specs.declared.event.Output.{Output}
 use Rattle.dds_model.specs.declared.reply.Reply.{Reply}
 use Rattle.dds_model.specs.declared.reply.Reply.TheVariants.{Active, Refused, Waiting}
-use Rattle.dds_model.specs.Calls.{nothing, effect_of, Answers, AnswersAccess, AnswersByCondition, AnswersLook, IsAnswered, IsAnsweredInMemory}
-use Rattle.dds_model.specs.Part.{Part, Dds, own_reader, own_writer}
-use Rattle.dds_model.specs.Peer.{Peer, PeerStep}
+use Rattle.dds_model.specs.Calls.{AnswersByCondition, AnswersLook, IsAnswered, IsAnsweredInMemory}
+use Rattle.dds_model.specs.Part.{Part, Dds}
+use Rattle.dds_model.specs.Peer.{Peer}
 use Rattle.dds_model.specs.Watching.{Test, Tests, condition_refusal, condition_selection, condition_test, trigger_value}
 use Rattle.dds_core.specs.Kept.{CoreKept}
 use Rattle.dds_core.specs.Standing.{StandsFor}

@@ -1,23 +1,20 @@
 -- The calls of what is watched: each changes that alone.
-use Rattle.std.proofs.Common.{◌≡◌, ◌⊎◌, ℕ, ◌+◌, Bool, true, false, not, List, Option, Some, None, Result, Ok, Err, OnOk, OnErr, IfOk, IfErr, length, refl, ap, sym, ◌∙◌, subst, arith, inl, inr}
-use Rattle.std.specs.List.{list_any}
+use Rattle.std.proofs.Common.{◌≡◌, Bool, true, false, Option, Some, None, Result, Ok, Err, OnOk, OnErr, IfOk, IfErr, refl, ap, sym, ◌∙◌, subst, arith, inl, inr}
 use Rattle.dds_base.specs.declared.code.Code.{Code}
-use Rattle.dds_base.specs.declared.code.Code.TheVariants.{Memory, Timeout}
 use Rattle.dds_base.specs.declared.config.Config.{Config}
 use Rattle.dds_base.specs.Refusal.{Refuses}
-use Rattle.dds_conditions.specs.declared.condition.Cond.{Cond}
 use Rattle.dds_conditions.specs.Watched.{Watched, no_filters}
 use Rattle.dds_model.specs.declared.call.Call.{Call}
 use Rattle.dds_model.specs.declared.event.Event.TheVariants as event
 use Rattle.dds_model.specs.declared.reply.Reply.{Reply}
-use Rattle.dds_model.specs.declared.reply.Reply.TheVariants.{Done, Created, Conditions, Refused}
+use Rattle.dds_model.specs.declared.reply.Reply.TheVariants.{Done, Refused}
 use Rattle.dds_model.specs.Calls.{Effect, nothing, effect, effect_of, Answers, IsAnswered, IsAnsweredInMemory}
 use Rattle.dds_model.specs.Part.{Part, Dds}
 use Rattle.dds_model.specs.Peer.{Peer}
 use Rattle.dds_model.specs.Watching.{Tests}
 use Rattle.dds_core.specs.Kept.{CoreKept}
 use Rattle.dds_core.specs.Standing.{StandsFor}
-use Rattle.dds_core.specs.Watching.{conditions_reply, done_reply, made_reply}
+use Rattle.dds_core.specs.Watching.{done_reply}
 use Rattle.dds_core.proofs.CallSteps.{Follows, FollowsBy}
 use Rattle.dds_core.proofs.Taking.{silent}
 

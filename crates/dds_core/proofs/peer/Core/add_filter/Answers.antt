@@ -1,4 +1,4 @@
-use Rattle.std.proofs.Common.{◌≡◌, ℕ, ◌+◌, Option, Some, None, Result, Ok, Err, IfErr, IfOk, OnOk, ap, refl, sym, ◌∙◌, subst}
+use Rattle.std.proofs.Common.{◌≡◌, ℕ, ◌+◌, Some, None, Result, Ok, Err, IfErr, IfOk, OnOk, ap, sym, ◌∙◌, subst}
 use Rattle.dds_base.specs.declared.code.Code.{Code}
 use Rattle.dds_conditions.specs.Watched.{Watched, filter_refusal, with_filter}
 use Rattle.dds_core.specs.Kept.{CoreKept}

@@ -1,6 +1,5 @@
-use Rattle.std.proofs.Common.{◌≡◌, ℕ, ◌∙◌, ◌+◌, ◌<◌, Bool, true, not, Option, Some, None, length, refl, sym, subst, ap, arith, rules}
+use Rattle.std.proofs.Common.{◌≡◌, ℕ, ◌+◌, ◌<◌, Bool, true, not, Option, Some, None, length, refl, sym, subst, ap, arith, rules}
 use Rattle.dds_model.specs.declared.call.Call.TheVariants as call
-use Rattle.dds_model.specs.declared.event.Event.TheVariants as event
 use Rattle.dds_core.specs.Kept.{CoreKept}
 use Rattle.dds_core.specs.Standing.{StandsFor}
 use Rattle.std.specs.Prelude.{if◌then◌else◌}

@@ -1,4 +1,4 @@
-use Rattle.std.proofs.Common.{sym, subst, refl, rules}
+use Rattle.std.proofs.Common.{sym, subst, rules}
 use Rattle.dds_model.specs.declared.call.Call.TheVariants as call
 use Rattle.dds_model.specs.declared.event.Event.TheVariants as event
 use Rattle.dds_core.specs.Kept.{CoreKept}

@@ -1,8 +1,5 @@
 use Rattle.std.proofs.Common.{refl, ap, rules, ◌∙◌}
 use Rattle.dds_model.specs.declared.call.Call.TheVariants as call
-use Rattle.dds_model.specs.declared.event.Event.TheVariants as event
-use Rattle.dds_core.specs.Kept.{CoreKept}
-use Rattle.dds_core.specs.Standing.{StandsFor}
 use Rattle.dds_notices.specs.declared.mask.StatusMask.{StatusMask}
 use Rattle.dds_conditions.specs.Watched.{Watched, knows_entity, unless_there}
 use Rattle.dds_model.specs.declared.reply.Reply.TheVariants.{StatusChanges}

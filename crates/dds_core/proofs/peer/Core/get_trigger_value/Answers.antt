@@ -1,8 +1,5 @@
 use Rattle.std.proofs.Common.{Bool, refl, ap, rules, ◌∙◌}
 use Rattle.dds_model.specs.declared.call.Call.TheVariants as call
-use Rattle.dds_model.specs.declared.event.Event.TheVariants as event
-use Rattle.dds_core.specs.Kept.{CoreKept}
-use Rattle.dds_core.specs.Standing.{StandsFor}
 use Rattle.dds_conditions.specs.Watched.{Watched, knows, unless_there}
 use Rattle.dds_model.specs.declared.reply.Reply.TheVariants.{TriggerValue}
 use Rattle.dds_model.specs.Watching.{trigger_value}

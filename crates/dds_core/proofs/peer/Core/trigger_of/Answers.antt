@@ -1,6 +1,5 @@
 use Rattle.std.proofs.Common.{◌≡◌, Bool, true, false, ◌&&◌, Option, refl, sym, ◌∙◌, ap}
 use Rattle.dds_core.specs.Kept.{CoreKept}
-use Rattle.dds_core.specs.Standing.{StandsFor}
 use Rattle.dds_notices.specs.declared.mask.StatusMask.{StatusMask}
 use Rattle.dds_conditions.specs.declared.condition.Cond.{Cond}
 use Rattle.dds_conditions.specs.declared.condition.Condition.{Condition}

@@ -1,4 +1,4 @@
-use Rattle.std.proofs.Common.{◌≡◌, true, false, sym, subst, refl, rules, arith, ◌∙◌}
+use Rattle.std.proofs.Common.{◌≡◌, true, false, sym, subst, rules, arith, ◌∙◌}
 use Rattle.dds_model.specs.declared.call.Call.TheVariants as call
 use Rattle.dds_model.specs.declared.event.Event.TheVariants as event
 use Rattle.dds_core.specs.Kept.{CoreKept}
