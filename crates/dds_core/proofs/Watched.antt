@@ -18,6 +18,19 @@ use Rattle.dds_core.specs.Watching.{done_reply}
 use Rattle.dds_core.proofs.CallSteps.{Follows, FollowsBy}
 use Rattle.dds_core.proofs.Taking.{silent}
 
+-- what is kept stands for the state in which this is watched, once it is what is kept of that
+pub watches : (kept : CoreKept) (new : Watched) (config : Config) (peer : Peer) → StandsFor kept config peer
+    → StandsFor (record kept { watch = new }) config (record peer { part = record peer.part { dds = record peer.part.dds { watch = new } } })
+watches kept new config peer s = record {
+  is_peer = s.is_peer;
+  moment = s.moment;
+  early = s.early;
+  writers = s.writers;
+  readers = s.readers;
+  tellable = s.tellable;
+  watch = refl;
+}
+
 -- a call after which this is watched
 pub watched_call : {tests : Tests} (kept : CoreKept) (new : Watched) (config : Config) (peer : Peer) → StandsFor kept config peer → (c : Call) (reply : Reply)
     → effect_of peer.part c reply ≡ nothing → Answers tests peer.part c reply (record peer.part.dds { watch = new })
@@ -30,15 +43,7 @@ watched_call kept new config peer s c reply none is = (
     step = (record { answers = is; rtps = ap (λ (e : Effect). effect peer.part.rtps e) (sym none) }, refl);
     sent = λ p x m h. absurd (omega (arith, m.1));
   },
-  record {
-    is_peer = s.is_peer;
-    moment = s.moment;
-    early = s.early;
-    writers = s.writers;
-    readers = s.readers;
-    tellable = s.tellable;
-    watch = refl;
-  },
+  watches kept new config peer s,
 )
 
 answered_so : (refusal : Option Code) (answer : Reply) (after : Watched) (part : Part) (reply : Reply) (new : Watched) → refusal ≡ None → reply ≡ answer → new ≡ after

@@ -3,21 +3,16 @@ use Rattle.dds_base.specs.declared.code.Code.{Code}
 use Rattle.dds_conditions.specs.Watched.{Watched, filter_refusal, with_filter}
 use Rattle.dds_core.specs.Kept.{CoreKept}
 use Rattle.dds_core.specs.Watching.{AddsFilter, Tells}
+use Rattle.dds_core.specs.Standing.{StandsFor}
+use Rattle.dds_core.proofs.Watched.{watches}
 use Rattle.dds_core.proofs.peer.Core.add_filter.Goals as goal
 
 added : (kept : CoreKept) (new : Watched) (result : Result ℕ Code) → OnOk result (new ≡ with_filter kept.watch) → IfOk result (λ n. n ≡ kept.watch.filters + 1)
     → IfOk result (λ n. AddsFilter kept n (record kept { watch = new }))
 added kept new (Ok n) ok number = λ config peer s. (
   number ∙ ap (λ (w : Watched). w.filters + 1) (sym s.watch),
-  record {
-    is_peer = s.is_peer;
-    moment = s.moment;
-    early = s.early;
-    writers = s.writers;
-    readers = s.readers;
-    tellable = s.tellable;
-    watch = ap (λ (w : Watched). with_filter w) s.watch ∙ sym ok;
-  },
+  subst (λ (w : Watched). StandsFor (record kept { watch = new }) config (record peer { part = record peer.part { dds = record peer.part.dds { watch = w } } }))
+      (ok ∙ ap (λ (w : Watched). with_filter w) (sym s.watch)) (watches kept new config peer s),
   λ sound. record { place = sound.place; claimed = sound.claimed; newest = sound.newest; heard = sound.heard },
 )
 added kept new (Err code) ok number = tt
