@@ -196,6 +196,23 @@ impl Watch {
         Ok(())
     }
 
+    /// The number of the next filter.
+    ///
+    /// # Errors
+    ///
+    /// `OutOfResources` where no number is left.
+    ///
+    /// DDS 1.4, 2.2.2.5 (QueryCondition).
+    pub fn next_filter(&self) -> Result<u32, Code>
+        // It is one more than there are filters.
+        ensures number { IfOk result (λ number. number ≡ self.now.filters + 1) }
+        // A number is left exactly if one is given.
+        ensures taken { OnOk result (filter_refusal self.now ≡ None) }
+        ensures refused { IfErr result (λ code. filter_refusal self.now ≡ Some code) }
+    {
+        self.filters.checked_add(1).ok_or(Code::OutOfResources)
+    }
+
     /// Counts one more filter, and gives its number.
     ///
     /// # Errors
@@ -212,7 +229,7 @@ impl Watch {
         ensures refused { IfErr result (λ code. filter_refusal self.old ≡ Some code) }
         ensures err { OnErr result (self.new ≡ self.old) }
     {
-        let number = self.filters.checked_add(1).ok_or(Code::OutOfResources)?;
+        let number = self.next_filter()?;
         self.filters = number;
         Ok(number)
     }

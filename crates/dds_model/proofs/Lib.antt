@@ -58,3 +58,5 @@ pub mod PairAsks
 pub mod PairNamed
 pub mod PairFound
 pub mod Compared
+pub mod FiltersKept
+pub mod SameBeside

@@ -21,3 +21,4 @@ pub mod Rules
 pub mod Fresh
 pub mod CatchUp
 pub mod Repair
+pub mod Filters
