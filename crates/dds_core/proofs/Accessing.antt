@@ -37,7 +37,7 @@ use Rattle.dds_lease.specs.Standing.{Kept as Leased, StandsFor as LeasesStandFor
 use Rattle.dds_core.specs.Stored.{StoreKept, Holds}
 use Rattle.dds_model.specs.declared.endpoint.Endpoint.{Endpoint}
 use Rattle.dds_core.proofs.Rows.{writers_of}
-use Rattle.dds_core.specs.Kept.{ReaderKept, CoreKept}
+use Rattle.dds_core.specs.Kept.{ReaderKept, PeerKept}
 use Rattle.dds_core.specs.Receiving.{TakesOnly, access_reply}
 use Rattle.dds_core.specs.Standing.{IsFirstRow, ReaderStands, StandsFor}
 use Rattle.dds_core.proofs.CallSteps.{FollowsBy, refused_call, there_is}
@@ -135,7 +135,7 @@ abbrev after_access : (List SamplePosition → Happening) → Part → ℕ → L
 after_access entry part reader samples = record part { dds = with_happening part reader (entry samples) }
 
 -- an access that was entered
-entered : (tests : Tests) (entry : List SamplePosition → Happening) → IsQuiet entry → (c : Call) (kept : CoreKept) (i : ℕ) (k k' : ReaderKept) (config : Config) (peer : Peer) → StandsFor kept config peer → slice_get kept.readers i ≡ Some k → TakesOnly k k' → (reply : Reply)
+entered : (tests : Tests) (entry : List SamplePosition → Happening) → IsQuiet entry → (c : Call) (kept : PeerKept) (i : ℕ) (k k' : ReaderKept) (config : Config) (peer : Peer) → StandsFor kept config peer → slice_get kept.readers i ≡ Some k → TakesOnly k k' → (reply : Reply)
     (samples : List SamplePosition) → CacheStandsFor k'.store.cache (entry samples ∷ (own_reader peer.part (suc i)).happened) → CallStep tests peer.part c reply (after_access entry peer.part (suc i) samples)
     → FollowsBy tests (with_reader kept i k') config peer (event.Call c) (silent reply)
 entered tests entry quiet c kept i k k' config peer s at same reply samples stands step =
@@ -149,7 +149,7 @@ entered tests entry quiet c kept i k k' config peer s at same reply samples stan
     )
 
 -- an access that was refused, and is not entered
-not_entered : (tests : Tests) (c : Call) (kept : CoreKept) (i : ℕ) (k k' : ReaderKept) (config : Config) (peer : Peer) (code : Code) → StandsFor kept config peer → slice_get kept.readers i ≡ Some k → k' ≡ k → CallAnswers tests peer.part c (Refused code) peer.part.dds
+not_entered : (tests : Tests) (c : Call) (kept : PeerKept) (i : ℕ) (k k' : ReaderKept) (config : Config) (peer : Peer) (code : Code) → StandsFor kept config peer → slice_get kept.readers i ≡ Some k → k' ≡ k → CallAnswers tests peer.part c (Refused code) peer.part.dds
     → FollowsBy tests (with_reader kept i k') config peer (event.Call c) (silent (Refused code))
 not_entered tests c kept i k k' config peer code s at same is =
     let unchanged : set kept.readers i k' ≡ kept.readers = set_back kept.readers i k k' at same in
@@ -169,7 +169,7 @@ kept_same k k' same cache =
     reader_as a b x y p q s t i j e f g h l = cc
 
 -- what a cache answers is what the machine answers
-accessed : (tests : Tests) (entry : List SamplePosition → Happening) (c : Call) (test : Test) (i : ℕ) (selection : Selection) (kept : CoreKept) (k k' : ReaderKept) (config : Config) (peer : Peer)
+accessed : (tests : Tests) (entry : List SamplePosition → Happening) (c : Call) (test : Test) (i : ℕ) (selection : Selection) (kept : PeerKept) (k k' : ReaderKept) (config : Config) (peer : Peer)
     → IsAccess tests peer.part c entry test (suc i) selection → StandsFor kept config peer
     → slice_get kept.readers i ≡ Some k → TakesOnly k k' → (r : Result (List Sample) Code) → access_refusal peer.part (suc i) selection ≡ refusal k.store.cache (own_reader peer.part (suc i)).happened selection
     → (own_reader peer.part (suc i)).qos ≡ qos_of k.store.cache → AnswersWith k.store.cache (own_reader peer.part (suc i)).happened selection test r
@@ -191,7 +191,7 @@ accessed tests entry c test i selection kept k k' config peer is s at same (Err 
     not_entered tests c kept i k k' config peer code s at (kept_same k k' same after) (is.answers (Refused code) peer.part.dds (subst (λ (o : Option Code). Refuses o code) (sym causes) answer, refl))
 
 -- the same of the reader of a number
-pub accessed_at : (tests : Tests) (entry : List SamplePosition → Happening) (c : Call) (test : Test) (reader : ℕ) (selection : Selection) (kept : CoreKept) (i : ℕ) (k k' : ReaderKept) (config : Config) (peer : Peer)
+pub accessed_at : (tests : Tests) (entry : List SamplePosition → Happening) (c : Call) (test : Test) (reader : ℕ) (selection : Selection) (kept : PeerKept) (i : ℕ) (k k' : ReaderKept) (config : Config) (peer : Peer)
     → IsAccess tests peer.part c entry test reader selection → StandsFor kept config peer
     → reader ≡ i + 1 → i < length kept.readers → slice_get kept.readers i ≡ Some k → TakesOnly k k' → (r : Result (List Sample) Code) → ((h : List Happening) → Holds k.store h → AnswersWith k.store.cache h selection test r)
     → ((h : List Happening) → Holds k.store h → AfterAccessWith entry k.store.cache h selection test r k'.store.cache) → FollowsBy tests (with_reader kept i k') config peer (event.Call c) (silent (access_reply r))

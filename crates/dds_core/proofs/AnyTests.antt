@@ -12,7 +12,7 @@ use Rattle.dds_model.specs.Calls.{Answers}
 use Rattle.dds_model.specs.Part.{Dds, Part}
 use Rattle.dds_model.specs.Peer.{EventStep, Peer}
 use Rattle.dds_model.specs.Watching.{Tests}
-use Rattle.dds_core.specs.Kept.{CoreKept}
+use Rattle.dds_core.specs.Kept.{PeerKept}
 use Rattle.dds_core.specs.Standing.{SoundSteps, SoundStepsBy, Steps, StepsBy}
 
 -- no filter has a say in the call
@@ -68,7 +68,7 @@ any_answers tests old (call.SetEnabledStatuses entity mask) reply dds plain a = 
 any_answers tests old (call.GetStatusChanges entity) reply dds plain a = a
 
 -- a call
-pub any_call : (tests : Tests) (old new : CoreKept) (c : Call) (output : Output) → Steps old (event.Call c) output new → is_plain c ≡ true → StepsBy tests old (event.Call c) output new
+pub any_call : (tests : Tests) (old new : PeerKept) (c : Call) (output : Output) → Steps old (event.Call c) output new → is_plain c ≡ true → StepsBy tests old (event.Call c) output new
 any_call tests old new c output steps plain = λ config peer s.
     let r = steps config peer s in (
       r.0,
@@ -88,7 +88,7 @@ any_call tests old new c output steps plain = λ config peer s.
     )
 
 -- a tick
-pub any_tick : (tests : Tests) (old new : CoreKept) (now : ℕ) (output : Output) → SoundSteps old (event.Tick now) output new → SoundStepsBy tests old (event.Tick now) output new
+pub any_tick : (tests : Tests) (old new : PeerKept) (now : ℕ) (output : Output) → SoundSteps old (event.Tick now) output new → SoundStepsBy tests old (event.Tick now) output new
 any_tick tests old new now output steps = λ config peer s sound.
     let r = steps config peer s sound in
     (r.0, record { same_number = r.1.same_number; knows = r.1.knows; step = r.1.step; sent = r.1.sent }, r.2, r.3, r.4)
@@ -99,7 +99,7 @@ any_report : (config : Config) (tests : Tests) (old : Peer) (packet : List ℕ) 
 any_report config tests old packet (Reported report) new h = h
 any_report config tests old packet reply new h = absurd h
 
-pub any_delivery : (tests : Tests) (old new : CoreKept) (packet : List ℕ) (output : Output) → SoundSteps old (event.Deliver packet) output new → SoundStepsBy tests old (event.Deliver packet) output new
+pub any_delivery : (tests : Tests) (old new : PeerKept) (packet : List ℕ) (output : Output) → SoundSteps old (event.Deliver packet) output new → SoundStepsBy tests old (event.Deliver packet) output new
 any_delivery tests old new packet output steps = λ config peer s sound.
     let r = steps config peer s sound in (
       r.0,

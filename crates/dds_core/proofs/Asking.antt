@@ -15,20 +15,20 @@ use Rattle.dds_model.specs.Calls.{look_refusal, key_of, key_refusal}
 use Rattle.dds_model.specs.Numbered.{has_number}
 use Rattle.dds_model.specs.Part.{Part, own_reader}
 use Rattle.dds_model.specs.Peer.{Peer}
-use Rattle.dds_core.specs.Kept.{ReaderKept, CoreKept}
+use Rattle.dds_core.specs.Kept.{ReaderKept, PeerKept}
 use Rattle.dds_core.specs.Standing.{StandsFor}
 use Rattle.dds_core.specs.Stored.{Holds}
 use Rattle.dds_core.proofs.CallSteps.{Follows, unchanging_call, there_is}
 use Rattle.dds_core.proofs.Taking.{silent}
 
 -- what is asked of the reader of this index, which the peer has
-record IsAsked (kept : CoreKept) (config : Config) (peer : Peer) (reader i : ℕ) (k : ReaderKept) : Type 0 where
+record IsAsked (kept : PeerKept) (config : Config) (peer : Peer) (reader i : ℕ) (k : ReaderKept) : Type 0 where
   stands : StandsFor kept config peer
   number : reader ≡ i + 1
   within : i < length kept.readers
   at : slice_get kept.readers i ≡ Some k
 
-known_reader : (kept : CoreKept) (config : Config) (peer : Peer) (reader i : ℕ) (k : ReaderKept) → IsAsked kept config peer reader i k → has_number peer.part.dds.readers reader ≡ true
+known_reader : (kept : PeerKept) (config : Config) (peer : Peer) (reader i : ℕ) (k : ReaderKept) → IsAsked kept config peer reader i k → has_number peer.part.dds.readers reader ≡ true
 known_reader kept config peer reader i k a =
     let count = a.stands.readers.count in
     let within = a.within in
@@ -36,7 +36,7 @@ known_reader kept config peer reader i k a =
     subst (λ (n : ℕ). has_number peer.part.dds.readers n ≡ true) number (there_is peer.part.dds.readers i (omega (arith, within, count)))
 
 -- what the store says of all that happened, the machine says
-by_store : {X : Type 0} (of : ReaderQos → List Happening → X) (kept : CoreKept) (config : Config) (peer : Peer) (reader i : ℕ) (k : ReaderKept) (answer : X) → IsAsked kept config peer reader i k
+by_store : {X : Type 0} (of : ReaderQos → List Happening → X) (kept : PeerKept) (config : Config) (peer : Peer) (reader i : ℕ) (k : ReaderKept) (answer : X) → IsAsked kept config peer reader i k
     → ((h : List Happening) → Holds k.store h → answer ≡ of (qos_of k.store.cache) h) → answer ≡ of (own_reader peer.part reader).qos (own_reader peer.part reader).happened
 by_store of kept config peer reader i k answer a says =
     let rs = a.stands.readers.each i k a.at in
@@ -55,7 +55,7 @@ key_missing true None is = refl
 key_missing false None is = refl
 
 -- the key of a known instance
-pub key_told : (kept : CoreKept) (config : Config) (peer : Peer) (reader i : ℕ) (k : ReaderKept) (instance : ℕ) (key : Key) → StandsFor kept config peer → reader ≡ i + 1 → i < length kept.readers → slice_get kept.readers i ≡ Some k
+pub key_told : (kept : PeerKept) (config : Config) (peer : Peer) (reader i : ℕ) (k : ReaderKept) (instance : ℕ) (key : Key) → StandsFor kept config peer → reader ≡ i + 1 → i < length kept.readers → slice_get kept.readers i ≡ Some k
     → ((h : List Happening) → Holds k.store h → Some key ≡ instance_of (qos_of k.store.cache) h instance) → Follows kept config peer (event.Call (call.GetKeyValue reader instance)) (silent (KeyValue key))
 key_told kept config peer reader i k instance key s is lt at says =
     let a : IsAsked kept config peer reader i k = record { stands = s; number = is; within = lt; at = at } in
@@ -64,7 +64,7 @@ key_told kept config peer reader i k instance key s is lt at says =
     (key_there (has_number peer.part.dds.readers reader) (key_of peer.part reader instance) key (known_reader kept config peer reader i k a) found, found, refl)
 
 -- an unknown one has none
-pub key_not_told : (kept : CoreKept) (config : Config) (peer : Peer) (reader i : ℕ) (k : ReaderKept) (instance : ℕ) → StandsFor kept config peer → reader ≡ i + 1 → i < length kept.readers → slice_get kept.readers i ≡ Some k
+pub key_not_told : (kept : PeerKept) (config : Config) (peer : Peer) (reader i : ℕ) (k : ReaderKept) (instance : ℕ) → StandsFor kept config peer → reader ≡ i + 1 → i < length kept.readers → slice_get kept.readers i ≡ Some k
     → ((h : List Happening) → Holds k.store h → None ≡ instance_of (qos_of k.store.cache) h instance) → Follows kept config peer (event.Call (call.GetKeyValue reader instance)) (silent (Refused BadParameter))
 key_not_told kept config peer reader i k instance s is lt at says =
     let a : IsAsked kept config peer reader i k = record { stands = s; number = is; within = lt; at = at } in
@@ -76,7 +76,7 @@ pub no_key : (part : Part) (reader instance : ℕ) → has_number part.dds.reade
 no_key part reader instance none = ap (λ (b : Bool). if not b || not (is_some (key_of part reader instance)) then Some BadParameter else None) none
 
 -- the handle of an instance
-pub handle_told : (kept : CoreKept) (config : Config) (peer : Peer) (reader i : ℕ) (k : ReaderKept) (key : Key) (handle : ℕ) → StandsFor kept config peer → reader ≡ i + 1 → i < length kept.readers → slice_get kept.readers i ≡ Some k
+pub handle_told : (kept : PeerKept) (config : Config) (peer : Peer) (reader i : ℕ) (k : ReaderKept) (key : Key) (handle : ℕ) → StandsFor kept config peer → reader ≡ i + 1 → i < length kept.readers → slice_get kept.readers i ≡ Some k
     → ((h : List Happening) → Holds k.store h → handle ≡ handle_of (qos_of k.store.cache) h key) → Follows kept config peer (event.Call (call.LookupInstance reader key)) (silent (InstanceHandle handle))
 handle_told kept config peer reader i k key handle s is lt at says =
     let a : IsAsked kept config peer reader i k = record { stands = s; number = is; within = lt; at = at } in

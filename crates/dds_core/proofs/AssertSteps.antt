@@ -22,7 +22,7 @@ use Rattle.dds_model.specs.Receipt.{prefix_of}
 use Rattle.dds_model.proofs.DuesAssertions.{assertions_true}
 use Rattle.dds_core.specs.declared.matching.Destination.{Destination}
 use Rattle.dds_core.specs.Beating.{HasNoCount, TellsOf, assertions_of, due_to}
-use Rattle.dds_core.specs.Kept.{WriterKept, CoreKept}
+use Rattle.dds_core.specs.Kept.{WriterKept, PeerKept}
 use Rattle.dds_core.specs.Standing.{StandsFor, Enters}
 use Rattle.dds_core.proofs.BeatsDue.{IsNamed, all_named, by_number, named, part_of, sent_true}
 use Rattle.dds_core.proofs.CallSteps.{Follows, number_is, refused_call, there_is}
@@ -53,7 +53,7 @@ assertions_are config peer prefix number k w is = by w.readers refl
         ∙ ap (λ (e : EntityId). map (λ (d : Destination). due_to d.peer (assertion_message prefix d.prefix e w)) ds) is.entity)))
 
 -- the peer's writer of this index, and what is told of it
-told_at : (kept : CoreKept) (i : ℕ) (k : WriterKept) (config : Config) (peer : Peer)
+told_at : (kept : PeerKept) (i : ℕ) (k : WriterKept) (config : Config) (peer : Peer)
     → (s : StandsFor kept config peer) → slice_get kept.writers i ≡ Some k
     → (packets : List Packet) (unsent : ℕ) → TellsOf kept.prefix k packets unsent
     → (nat_le (2 ^ 31 - 1) (heartbeats_used (own_writer peer.part (suc i))) ≡ false)
@@ -65,7 +65,7 @@ told_at kept i k config peer s at packets unsent tells =
     let is : IsNamed config peer.number kept.prefix (suc i) k w = subst (λ (n : ℕ). IsNamed config peer.number kept.prefix n k w) next (named config peer kept s i k at) in
     (told.0, subst (λ (dues : List Due). AreSent dues packets unsent) (assertions_are config peer.number kept.prefix (suc i) k w is) told.1)
 
-asserts : (kept : CoreKept) (i : ℕ) (k k' : WriterKept) (config : Config) (peer : Peer)
+asserts : (kept : PeerKept) (i : ℕ) (k k' : WriterKept) (config : Config) (peer : Peer)
     → StandsFor kept config peer → slice_get kept.writers i ≡ Some k → i < length kept.writers
     → Enters k (Asserted kept.moment) k'
     → (packets : List Packet) (unsent : ℕ) → TellsOf kept.prefix k packets unsent
@@ -94,7 +94,7 @@ asserts kept i k k' config peer s at lt enters packets unsent tells =
     )
 
 -- so it is of the writer of a number
-pub asserts_at : (kept : CoreKept) (writer i : ℕ) (k k' : WriterKept) (config : Config) (peer : Peer)
+pub asserts_at : (kept : PeerKept) (writer i : ℕ) (k k' : WriterKept) (config : Config) (peer : Peer)
     → StandsFor kept config peer → writer ≡ i + 1 → slice_get kept.writers i ≡ Some k → i < length kept.writers
     → Enters k (Asserted kept.moment) k' → (packets : List Packet) (unsent : ℕ)
     → TellsOf kept.prefix k packets unsent
@@ -103,7 +103,7 @@ asserts_at kept writer i k k' config peer s is at lt enters packets unsent tells
     subst (λ (n : ℕ). Follows (with_writer kept i k') config peer (event.Call (call.AssertLiveliness n)) (record { reply = Done; packets = packets; unsent = unsent }))
     (number_is writer i is) (asserts kept i k k' config peer s at lt enters packets unsent tells)
 
-pub asserts_sends : (kept : CoreKept) (writer i : ℕ) (k : WriterKept) (config : Config) (peer : Peer)
+pub asserts_sends : (kept : PeerKept) (writer i : ℕ) (k : WriterKept) (config : Config) (peer : Peer)
     → StandsFor kept config peer → writer ≡ i + 1 → slice_get kept.writers i ≡ Some k
     → (packets : List Packet) (unsent : ℕ) → TellsOf kept.prefix k packets unsent
     → AreSent (assertions_due config (record { peer = peer.number; number = writer }) (own_writer peer.part writer)) packets unsent
@@ -112,7 +112,7 @@ asserts_sends kept writer i k config peer s is at packets unsent tells =
     (number_is writer i is) (told_at kept i k config peer s at packets unsent tells).1
 
 -- where its counts are used up, nothing happens
-refuses : (kept : CoreKept) (i : ℕ) (k : WriterKept) (config : Config) (peer : Peer)
+refuses : (kept : PeerKept) (i : ℕ) (k : WriterKept) (config : Config) (peer : Peer)
     → StandsFor kept config peer → slice_get kept.writers i ≡ Some k → i < length kept.writers → HasNoCount k
     → Follows kept config peer (event.Call (call.AssertLiveliness (suc i))) (silent (Refused OutOfResources))
 refuses kept i k config peer s at lt used =
@@ -124,10 +124,10 @@ refuses kept i k config peer s at lt used =
     ∙ ap (λ (b : Bool). if b then Some OutOfResources else None) (used w (peer.known.answered (suc i)) (s.writers.each i k at)) in
     refused_call kept config peer s (call.AssertLiveliness (suc i)) OutOfResources (is, refl)
 
-pub refuses_at : (kept : CoreKept) (writer i : ℕ) (k k' : WriterKept) (code : Code) (config : Config) (peer : Peer) → StandsFor kept config peer → writer ≡ i + 1 → slice_get kept.writers i ≡ Some k → i < length kept.writers
+pub refuses_at : (kept : PeerKept) (writer i : ℕ) (k k' : WriterKept) (code : Code) (config : Config) (peer : Peer) → StandsFor kept config peer → writer ≡ i + 1 → slice_get kept.writers i ≡ Some k → i < length kept.writers
     → (code ≡ OutOfResources) × HasNoCount k → k' ≡ k
     → Follows (with_writer kept i k') config peer (event.Call (call.AssertLiveliness writer)) (silent (Refused code))
 refuses_at kept writer i k k' code config peer s is at lt used same =
-    subst (λ (x : CoreKept). Follows x config peer (event.Call (call.AssertLiveliness writer)) (silent (Refused code))) (sym (unchanged_with kept i k k' at same))
+    subst (λ (x : PeerKept). Follows x config peer (event.Call (call.AssertLiveliness writer)) (silent (Refused code))) (sym (unchanged_with kept i k k' at same))
     (subst (λ (n : ℕ). Follows kept config peer (event.Call (call.AssertLiveliness n)) (silent (Refused code))) (number_is writer i is)
     (subst (λ (x : Code). Follows kept config peer (event.Call (call.AssertLiveliness (suc i))) (silent (Refused x))) (sym used.0) (refuses kept i k config peer s at lt used.1)))

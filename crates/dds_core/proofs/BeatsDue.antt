@@ -27,7 +27,7 @@ use Rattle.dds_model.proofs.Tables.{no_less_same}
 use Rattle.dds_core.specs.declared.matching.Destination.{Destination}
 use Rattle.dds_core.specs.declared.matching.ReaderName.{ReaderName}
 use Rattle.dds_core.specs.Beating.{BeatsOfAll, beats_of, beats_of_all, due_to, peers_behind}
-use Rattle.dds_core.specs.Kept.{WriterKept, CoreKept, WriterIdentity, writer_identity, configured_writer}
+use Rattle.dds_core.specs.Kept.{WriterKept, PeerKept, WriterIdentity, writer_identity, configured_writer}
 use Rattle.dds_core.specs.Matching.{destinations, reader_names}
 use Rattle.dds_core.specs.Standing.{WriterStands, StandsFor}
 use Rattle.dds_core.proofs.Destinations.{ends_of_names, is_peer, reader_ends}
@@ -132,12 +132,12 @@ beats_due_from config peer prefix n (k ∷ ks) (w ∷ ws) count each =
 -- ---- what is due of a peer
 
 -- a writer of the configuration, and what is kept of it
-record IsConfigured (config : Config) (kept : CoreKept) (own : PeerConfig) (j : ℕ) (k : WriterKept) : Type 0 where
+record IsConfigured (config : Config) (kept : PeerKept) (own : PeerConfig) (j : ℕ) (k : WriterKept) : Type 0 where
   end : WriterConfig
   at : slice_get own.writers j ≡ Some end
   is : writer_identity k ≡ configured_writer config.peers end
 
-configured : (config : Config) (peer : Peer) (kept : CoreKept) (s : StandsFor kept config peer) (j : ℕ) (k : WriterKept) → slice_get kept.writers j ≡ Some k → IsConfigured config kept s.is_peer.own j k
+configured : (config : Config) (peer : Peer) (kept : PeerKept) (s : StandsFor kept config peer) (j : ℕ) (k : WriterKept) → slice_get kept.writers j ≡ Some k → IsConfigured config kept s.is_peer.own j k
 configured config peer kept s j k at =
     let f = get-map (configured_writer config.peers) s.is_peer.own.writers j (writer_identity k)
     (subst (λ (xs : List WriterIdentity). slice_get xs j ≡ Some (writer_identity k)) s.is_peer.writers (map-get writer_identity kept.writers j k at)) in
@@ -148,7 +148,7 @@ readers_configured : (config : Config) (k : WriterKept) (w : Writer) (answered :
 readers_configured config k w answered end s is =
     s.readers ∙ (ap (λ (x : WriterIdentity). map (λ (n : ReaderName). n.reader) x.readers) is ∙ ends_of_names end.topic config.peers)
 
-pub named : (config : Config) (peer : Peer) (kept : CoreKept) (s : StandsFor kept config peer) (j : ℕ) (k : WriterKept) → slice_get kept.writers j ≡ Some k
+pub named : (config : Config) (peer : Peer) (kept : PeerKept) (s : StandsFor kept config peer) (j : ℕ) (k : WriterKept) → slice_get kept.writers j ≡ Some k
     → IsNamed config peer.number kept.prefix (1 + j) k (get_or peer.part.rtps.writers j no_writer)
 named config peer kept s j k at =
     let c = configured config peer kept s j k at in
@@ -164,25 +164,25 @@ named config peer kept s j k at =
     }
 
 -- the name of a writer, and of those that it is matched with
-pub writer_named : (config : Config) (peer : Peer) (kept : CoreKept) → StandsFor kept config peer → (j : ℕ) (k : WriterKept) → slice_get kept.writers j ≡ Some k → writer_entity config peer.number (1 + j) ≡ k.entity
+pub writer_named : (config : Config) (peer : Peer) (kept : PeerKept) → StandsFor kept config peer → (j : ℕ) (k : WriterKept) → slice_get kept.writers j ≡ Some k → writer_entity config peer.number (1 + j) ≡ k.entity
 writer_named config peer kept s j k at = (named config peer kept s j k at).entity
 
-pub readers_named : (config : Config) (peer : Peer) (kept : CoreKept) → StandsFor kept config peer → (j : ℕ) (k : WriterKept) → slice_get kept.writers j ≡ Some k → (topic : ℕ) × (k.readers ≡ reader_names topic config.peers)
+pub readers_named : (config : Config) (peer : Peer) (kept : PeerKept) → StandsFor kept config peer → (j : ℕ) (k : WriterKept) → slice_get kept.writers j ≡ Some k → (topic : ℕ) × (k.readers ≡ reader_names topic config.peers)
 readers_named config peer kept s j k at =
     let c = configured config peer kept s j k at in
     (c.end.topic, ap (λ (x : WriterIdentity). x.readers) c.is)
 
-beats_due : (config : Config) (peer : Peer) (kept : CoreKept) → StandsFor kept config peer → beats_of_all kept.prefix kept.writers peer.part.rtps.writers ≡ heartbeats_due config peer.number peer.part
+beats_due : (config : Config) (peer : Peer) (kept : PeerKept) → StandsFor kept config peer → beats_of_all kept.prefix kept.writers peer.part.rtps.writers ≡ heartbeats_due config peer.number peer.part
 beats_due config peer kept s = beats_due_from config peer.number kept.prefix 1 kept.writers peer.part.rtps.writers s.writers.count (named config peer kept s)
 
 -- what a peer sends at a tick is what is due
-pub due_sent : (config : Config) (peer : Peer) (kept : CoreKept) (packets : List Packet) (unsent : ℕ) → StandsFor kept config peer → BeatsOfAll kept.prefix kept.writers packets unsent → AreSent (heartbeats_due config peer.number peer.part) packets unsent
+pub due_sent : (config : Config) (peer : Peer) (kept : PeerKept) (packets : List Packet) (unsent : ℕ) → StandsFor kept config peer → BeatsOfAll kept.prefix kept.writers packets unsent → AreSent (heartbeats_due config peer.number peer.part) packets unsent
 due_sent config peer kept packets unsent s beats =
     subst (λ (dues : List Due). AreSent dues packets unsent) (beats_due config peer kept s) (beats peer.part.rtps.writers peer.known.answered s.writers)
 
 -- ---- it is true
 
-own_readers : (config : Config) (peer : Peer) (kept : CoreKept) (s : StandsFor kept config peer) (number : ℕ) (w : WriterConfig) → IsNumbered s.is_peer.own.writers number w
+own_readers : (config : Config) (peer : Peer) (kept : PeerKept) (s : StandsFor kept config peer) (number : ℕ) (w : WriterConfig) → IsNumbered s.is_peer.own.writers number w
     → map (λ (p : ReaderProxy). p.reader) (own_writer peer.part number).readers ≡ reader_ends w.topic config.peers
 own_readers config peer kept s zero w at = let low = at.0 in absurd (omega (arith, low))
 own_readers config peer kept s (suc n) w at =
@@ -197,7 +197,7 @@ own_readers config peer kept s (suc n) w at =
     let same : c.end ≡ w = same_Some c.end w (sym c.at ∙ there) in
     readers_configured config found.0 (get_or peer.part.rtps.writers n no_writer) (peer.known.answered (suc n)) c.end (s.writers.each n found.0 found.1) c.is ∙ ap (λ (x : WriterConfig). reader_ends x.topic config.peers) same
 
-pub part_of : (config : Config) (peer : Peer) (kept : CoreKept) → StandsFor kept config peer → IsPartOf config peer.number peer.part
+pub part_of : (config : Config) (peer : Peer) (kept : PeerKept) → StandsFor kept config peer → IsPartOf config peer.number peer.part
 part_of config peer kept s = record {
   here = s.is_peer.own;
   at = s.is_peer.at;
@@ -206,7 +206,7 @@ part_of config peer kept s = record {
 }
 
 -- what a peer sends at a tick is true afterwards
-pub due_true : (config : Config) (peer : Peer) (kept : CoreKept) (now : ℕ) (packets : List Packet) (unsent : ℕ) → StandsFor kept config peer → tick_refusal peer.part now ≡ None → BeatsOfAll kept.prefix kept.writers packets unsent
+pub due_true : (config : Config) (peer : Peer) (kept : PeerKept) (now : ℕ) (packets : List Packet) (unsent : ℕ) → StandsFor kept config peer → tick_refusal peer.part now ≡ None → BeatsOfAll kept.prefix kept.writers packets unsent
     → (packet : Packet) (claim : Claim) → Contains packets packet → Claims config packet.bytes claim → IsTrueAt peer.number (after_tick peer.part now) claim
 due_true config peer kept now packets unsent s accepted beats packet claim among says =
     let old = peer.part in

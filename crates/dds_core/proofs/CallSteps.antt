@@ -26,7 +26,7 @@ use Rattle.dds_conditions.specs.Watched.{no_filters}
 use Rattle.dds_model.specs.Part.{Part, Dds, Writer, own_writer}
 use Rattle.dds_model.specs.Peer.{Peer, PeerStep}
 use Rattle.dds_model.specs.Watching.{Tests}
-use Rattle.dds_core.specs.Kept.{WriterKept, ReaderKept, CoreKept, WriterIdentity, ReaderIdentity, identity_of, reader_identity, writer_identity, IsPeerOf}
+use Rattle.dds_core.specs.Kept.{WriterKept, ReaderKept, PeerKept, WriterIdentity, ReaderIdentity, identity_of, reader_identity, writer_identity, IsPeerOf}
 use Rattle.dds_core.specs.Expiring.{AllExpire, HasDeadly}
 use Rattle.dds_core.specs.Receiving.{AreAlike}
 use Rattle.dds_core.specs.Making.{IsMade, IsNotMade, entered}
@@ -46,15 +46,15 @@ pub silent_sends : (reply : Reply) → SendsNothing (silent reply)
 silent_sends reply = record { packets = refl; unsent = refl }
 
 -- what follows an event, for a state that stands
-abbrev pub FollowsBy : Tests → CoreKept → Config → Peer → Event → Output → Type 0
+abbrev pub FollowsBy : Tests → PeerKept → Config → Peer → Event → Output → Type 0
 FollowsBy tests kept config peer ev output = (after : Peer) × PeerStep config tests peer ev output after × StandsFor kept config after
 
 -- the same of an event in which no filter has a say
-abbrev pub Follows : CoreKept → Config → Peer → Event → Output → Type 0
+abbrev pub Follows : PeerKept → Config → Peer → Event → Output → Type 0
 Follows kept config peer ev output = FollowsBy no_filters kept config peer ev output
 
 -- the same of another name for the output
-pub follows_as : {tests : Tests} (kept : CoreKept) (config : Config) (peer : Peer) (ev : Event) (o p : Output) → p ≡ o
+pub follows_as : {tests : Tests} (kept : PeerKept) (config : Config) (peer : Peer) (ev : Event) (o p : Output) → p ≡ o
     → FollowsBy tests kept config peer ev o → FollowsBy tests kept config peer ev p
 follows_as {tests} kept config peer ev o p same h = subst (λ (x : Output). FollowsBy tests kept config peer ev x) (sym same) h
 
@@ -92,7 +92,7 @@ refused_nothing part (call.SetEnabledStatuses e mask) x = refl
 refused_nothing part (call.GetStatusChanges e) x = refl
 
 -- a call that changes nothing
-pub unchanging_call : {tests : Tests} (kept : CoreKept) (config : Config) (peer : Peer) → StandsFor kept config peer → (c : Call) (reply : Reply)
+pub unchanging_call : {tests : Tests} (kept : PeerKept) (config : Config) (peer : Peer) → StandsFor kept config peer → (c : Call) (reply : Reply)
     → effect_of peer.part c reply ≡ nothing → Answers tests peer.part c reply peer.part.dds
     → FollowsBy tests kept config peer (event.Call c) (silent reply)
 unchanging_call kept config peer s c reply none is = (
@@ -107,7 +107,7 @@ unchanging_call kept config peer s c reply none is = (
 )
 
 -- so does one that is refused
-pub refused_call : {tests : Tests} (kept : CoreKept) (config : Config) (peer : Peer) → StandsFor kept config peer → (c : Call) (code : Code)
+pub refused_call : {tests : Tests} (kept : PeerKept) (config : Config) (peer : Peer) → StandsFor kept config peer → (c : Call) (code : Code)
     → Answers tests peer.part c (Refused code) peer.part.dds
     → FollowsBy tests kept config peer (event.Call c) (silent (Refused code))
 refused_call kept config peer s c code is = unchanging_call kept config peer s c (Refused code) (refused_nothing peer.part c code) is
@@ -163,7 +163,7 @@ good_register part w known = ap (λ (b : Bool). if not b then Some BadParameter 
 pub register_memory : (part : Part) (w : ℕ) (key : Key) → has_number part.rtps.writers w ≡ true → Answers no_filters part (call.Register w key) (Refused Memory) part.dds
 register_memory part w key known = (subst (λ (o : Option Code). Refuses o Memory) (sym (good_register part w known)) refl, refl)
 
-pub registers : (kept : CoreKept) (i : ℕ) (k k' : WriterKept) (key : Key) (config : Config) (peer : Peer) → StandsFor kept config peer → slice_get kept.writers i ≡ Some k → i < length kept.writers → Enters k (Registered key) k'
+pub registers : (kept : PeerKept) (i : ℕ) (k k' : WriterKept) (key : Key) (config : Config) (peer : Peer) → StandsFor kept config peer → slice_get kept.writers i ≡ Some k → i < length kept.writers → Enters k (Registered key) k'
     → Follows (with_writer kept i k') config peer (event.Call (call.Register (suc i) key)) (silent Done)
 registers kept i k k' key config peer s at lt enters =
     let count = s.writers.count in
@@ -174,7 +174,7 @@ registers kept i k k' key config peer s at lt enters =
     )
 
 -- a look at LIVELINESS_LOST
-looks : (kept : CoreKept) (i : ℕ) (k k' : WriterKept) (status : LivelinessLostStatus) (config : Config) (peer : Peer) → StandsFor kept config peer → slice_get kept.writers i ≡ Some k → i < length kept.writers
+looks : (kept : PeerKept) (i : ℕ) (k k' : WriterKept) (status : LivelinessLostStatus) (config : Config) (peer : Peer) → StandsFor kept config peer → slice_get kept.writers i ≡ Some k → i < length kept.writers
     → ((w : Writer) (answered : Endpoint → Option ℤ) → WriterStands k w answered → status ≡ liveliness_lost_status w.lease w.written) → Enters k LookedAt k'
     → Follows (with_writer kept i k') config peer (event.Call (call.GetLivelinessLost (suc i))) (silent (LivelinessLost status))
 looks kept i k k' status config peer s at lt tells enters =
@@ -233,7 +233,7 @@ unregister_makes part w key known there = record {
 
 -- a call that makes a change
 
-pub made_steps : (kept new : CoreKept) (config : Config) (peer : Peer) → StandsFor kept config peer → (c : Call) (w : ℕ) (change : Change) (output : Output) → MakesChange peer.part c w change
+pub made_steps : (kept new : PeerKept) (config : Config) (peer : Peer) → StandsFor kept config peer → (c : Call) (w : ℕ) (change : Change) (output : Output) → MakesChange peer.part c w change
     → IsMade config peer w change output new ⊎ IsNotMade config peer w change output new → Follows new config peer (event.Call c) output
 made_steps kept new config peer s c w change output makes (inr not_made) =
     subst (λ (o : Output). Follows new config peer (event.Call c) o) (sym not_made.output_is)
@@ -246,7 +246,7 @@ made_steps kept new config peer s c w change output makes (inl made) =
       made.stands,
     )
 
-pub made_sends : (new : CoreKept) (config : Config) (peer : Peer) (c : Call) (w : ℕ) (change : Change) (output : Output) → MakesChange peer.part c w change → IsMade config peer w change output new ⊎ IsNotMade config peer w change output new
+pub made_sends : (new : PeerKept) (config : Config) (peer : Peer) (c : Call) (w : ℕ) (change : Change) (output : Output) → MakesChange peer.part c w change → IsMade config peer w change output new ⊎ IsNotMade config peer w change output new
     → SendsFor config peer (effect_of peer.part c output.reply) output
 made_sends new config peer c w change output makes (inr not_made) =
     subst (λ (o : Output). SendsFor config peer (effect_of peer.part c o.reply) o) (sym not_made.output_is)
@@ -261,7 +261,7 @@ refused_sends config peer c code = subst (λ (e : Effect). SendsFor config peer 
 -- a tick
 
 -- a moment that is neither before the peer's nor too late
-good_moment : (kept : CoreKept) (config : Config) (peer : Peer) → StandsFor kept config peer → (now : ℕ) → kept.moment ≤ now → now < 2 ^ 63 → tick_refusal peer.part now ≡ None
+good_moment : (kept : PeerKept) (config : Config) (peer : Peer) → StandsFor kept config peer → (now : ℕ) → kept.moment ≤ now → now < 2 ^ 63 → tick_refusal peer.part now ≡ None
 good_moment kept config peer s now on early =
     let moment = s.moment in
     ap (λ (b : Bool). if b then Some BadParameter else None) (neither (nat_lt now peer.part.dds.moment) (nat_le (2 ^ 63) now) (grind (arith, nat_tests)) (grind (arith, nat_tests)))
@@ -271,13 +271,13 @@ good_moment kept config peer s now on early =
     neither true b h k = absurd cc
 
 -- the names stay, where those of writers and of readers do
-same_peer : (kept : CoreKept) (config : Config) (number : ℕ) (writers : List WriterKept) (readers : List ReaderKept) → map writer_identity writers ≡ map writer_identity kept.writers → map reader_identity readers ≡ map reader_identity kept.readers
+same_peer : (kept : PeerKept) (config : Config) (number : ℕ) (writers : List WriterKept) (readers : List ReaderKept) → map writer_identity writers ≡ map writer_identity kept.writers → map reader_identity readers ≡ map reader_identity kept.readers
     → IsPeerOf config number (identity_of kept) → IsPeerOf config number (record { prefix = kept.prefix; writers = map writer_identity writers; readers = map reader_identity readers })
 same_peer kept config number writers readers ws rs h =
     subst (λ (is : List ReaderIdentity). IsPeerOf config number (record { prefix = kept.prefix; writers = map writer_identity writers; readers = is })) (sym rs)
     (subst (λ (is : List WriterIdentity). IsPeerOf config number (record { prefix = kept.prefix; writers = is; readers = map reader_identity kept.readers })) (sym ws) h)
 
-pub ticks : (kept : CoreKept) (writers : List WriterKept) (readers : List ReaderKept) (config : Config) (peer : Peer) → StandsFor kept config peer → (now : ℕ) → kept.moment ≤ now → now < 2 ^ 63 → AllTick kept.writers now writers
+pub ticks : (kept : PeerKept) (writers : List WriterKept) (readers : List ReaderKept) (config : Config) (peer : Peer) → StandsFor kept config peer → (now : ℕ) → kept.moment ≤ now → now < 2 ^ 63 → AllTick kept.writers now writers
     → AllExpire kept.readers now readers → (output : Output) → output.reply ≡ Done → BeatsOfAll kept.prefix kept.writers output.packets output.unsent
     → Follows (record kept { moment = now; writers = writers; readers = readers }) config peer (event.Tick now) output
 ticks kept writers readers config peer s now on early all expired output done beats =
@@ -301,7 +301,7 @@ ticks kept writers readers config peer s now on early all expired output done be
     )
 
 -- one whose deaths find no memory
-pub tick_without_memory : (kept : CoreKept) (readers : List ReaderKept) (code : Code) (config : Config) (peer : Peer) → StandsFor kept config peer → (now : ℕ) → kept.moment ≤ now → now < 2 ^ 63 → AreAlike kept.readers readers
+pub tick_without_memory : (kept : PeerKept) (readers : List ReaderKept) (code : Code) (config : Config) (peer : Peer) → StandsFor kept config peer → (now : ℕ) → kept.moment ≤ now → now < 2 ^ 63 → AreAlike kept.readers readers
     → (code ≡ Memory) × HasDeadly kept.readers now → Follows (record kept { readers = readers }) config peer (event.Tick now) (silent (Refused code))
 tick_without_memory kept readers code config peer s now on early alike dies =
     let accepted : tick_refusal peer.part now ≡ None = good_moment kept config peer s now on early in
@@ -312,7 +312,7 @@ tick_without_memory kept readers code config peer s now on early alike dies =
     let refused : RefusesTick peer.part now code = (subst (λ (o : Option Code). Refuses o code) (sym accepted) dies.0, λ memory. deadly) in
     (peer, record { same_number = refl; knows = refl; step = ((refused, refl), refl); sent = λ p x m h. absurd (omega (arith, m.1)) }, alike_core kept readers alike config peer s)
 
-pub refused_tick : (kept : CoreKept) (config : Config) (peer : Peer) → StandsFor kept config peer → (now : ℕ) → (now < kept.moment) ⊎ (2 ^ 63 ≤ now) → Follows kept config peer (event.Tick now) (silent (Refused BadParameter))
+pub refused_tick : (kept : PeerKept) (config : Config) (peer : Peer) → StandsFor kept config peer → (now : ℕ) → (now < kept.moment) ⊎ (2 ^ 63 ≤ now) → Follows kept config peer (event.Tick now) (silent (Refused BadParameter))
 refused_tick kept config peer s now bad =
     let moment = s.moment in
     let is_bad : (nat_lt now peer.part.dds.moment || nat_le (2 ^ 63) now) ≡ true =
@@ -333,18 +333,18 @@ refused_tick kept config peer s now bad =
 pub number_is : (writer i : ℕ) → writer ≡ i + 1 → suc i ≡ writer
 number_is writer i is = let index : i + 1 ≡ suc i = omega arith in sym (is ∙ index)
 
-known_writer : (kept : CoreKept) (config : Config) (peer : Peer) → StandsFor kept config peer → (writer i : ℕ) → writer ≡ i + 1 → i < length kept.writers → has_number peer.part.rtps.writers writer ≡ true
+known_writer : (kept : PeerKept) (config : Config) (peer : Peer) → StandsFor kept config peer → (writer i : ℕ) → writer ≡ i + 1 → i < length kept.writers → has_number peer.part.rtps.writers writer ≡ true
 known_writer kept config peer s writer i is lt =
     let count = s.writers.count in
     subst (λ (n : ℕ). has_number peer.part.rtps.writers n ≡ true) (number_is writer i is) (there_is peer.part.rtps.writers i (omega (arith, lt, count)))
 
-pub register_at : (kept : CoreKept) (writer i : ℕ) (k k' : WriterKept) (key : Key) (config : Config) (peer : Peer) → StandsFor kept config peer → writer ≡ i + 1 → slice_get kept.writers i ≡ Some k → i < length kept.writers → Enters k (Registered key) k'
+pub register_at : (kept : PeerKept) (writer i : ℕ) (k k' : WriterKept) (key : Key) (config : Config) (peer : Peer) → StandsFor kept config peer → writer ≡ i + 1 → slice_get kept.writers i ≡ Some k → i < length kept.writers → Enters k (Registered key) k'
     → Follows (with_writer kept i k') config peer (event.Call (call.Register writer key)) (silent Done)
 register_at kept writer i k k' key config peer s is at lt enters =
     subst (λ (n : ℕ). Follows (with_writer kept i k') config peer (event.Call (call.Register n key)) (silent Done)) (number_is writer i is) (registers kept i k k' key config peer s at lt enters)
 
 -- so it is of the writer of a number
-pub looks_at : (kept : CoreKept) (writer i : ℕ) (k k' : WriterKept) (status : LivelinessLostStatus) (config : Config) (peer : Peer) → StandsFor kept config peer → writer ≡ i + 1 → slice_get kept.writers i ≡ Some k → i < length kept.writers
+pub looks_at : (kept : PeerKept) (writer i : ℕ) (k k' : WriterKept) (status : LivelinessLostStatus) (config : Config) (peer : Peer) → StandsFor kept config peer → writer ≡ i + 1 → slice_get kept.writers i ≡ Some k → i < length kept.writers
     → ((w : Writer) (answered : Endpoint → Option ℤ) → WriterStands k w answered → status ≡ liveliness_lost_status w.lease w.written) → Enters k LookedAt k'
     → Follows (with_writer kept i k') config peer (event.Call (call.GetLivelinessLost writer)) (silent (LivelinessLost status))
 looks_at kept writer i k k' status config peer s is at lt tells enters =
@@ -352,7 +352,7 @@ looks_at kept writer i k k' status config peer s is at lt tells enters =
     (looks kept i k k' status config peer s at lt tells enters)
 
 -- an instance that the writer of this index has not registered
-pub unregistered_at : (kept : CoreKept) (writer i : ℕ) (k : WriterKept) (key : Key) (config : Config) (peer : Peer) → StandsFor kept config peer → writer ≡ i + 1 → i < length kept.writers → slice_get kept.writers i ≡ Some k
+pub unregistered_at : (kept : PeerKept) (writer i : ℕ) (k : WriterKept) (key : Key) (config : Config) (peer : Peer) → StandsFor kept config peer → writer ≡ i + 1 → i < length kept.writers → slice_get kept.writers i ≡ Some k
     → ((w : Writer) (answered : Endpoint → Option ℤ) → WriterStands k w answered → is_key_registered key w.written ≡ false)
     → Follows kept config peer (event.Call (call.Unregister writer key)) (silent (Refused PreconditionNotMet))
 unregistered_at kept writer i k key config peer s is lt at none =
@@ -362,17 +362,17 @@ unregistered_at kept writer i k key config peer s is lt at none =
     refused_call kept config peer s (call.Unregister writer key) PreconditionNotMet (unregistered peer.part writer key (known_writer kept config peer s writer i is lt) unknown)
 
 -- what a call of a writer makes, where it is one of the peer's
-pub write_at : (kept : CoreKept) (writer i : ℕ) (key : Key) (value : List ℕ) (config : Config) (peer : Peer) → StandsFor kept config peer → writer ≡ i + 1 → i < length kept.writers → length value ≤ 1024
+pub write_at : (kept : PeerKept) (writer i : ℕ) (key : Key) (value : List ℕ) (config : Config) (peer : Peer) → StandsFor kept config peer → writer ≡ i + 1 → i < length kept.writers → length value ≤ 1024
     → MakesChange peer.part (call.Write writer key value) (i + 1) (change_made peer.part kind.Write key value)
 write_at kept writer i key value config peer s is lt short =
     subst (λ (n : ℕ). MakesChange peer.part (call.Write writer key value) n (change_made peer.part kind.Write key value)) is (write_makes peer.part writer key value (known_writer kept config peer s writer i is lt) short)
 
-pub dispose_at : (kept : CoreKept) (writer i : ℕ) (key : Key) (config : Config) (peer : Peer) → StandsFor kept config peer → writer ≡ i + 1 → i < length kept.writers
+pub dispose_at : (kept : PeerKept) (writer i : ℕ) (key : Key) (config : Config) (peer : Peer) → StandsFor kept config peer → writer ≡ i + 1 → i < length kept.writers
     → MakesChange peer.part (call.Dispose writer key) (i + 1) (change_made peer.part kind.Dispose key [])
 dispose_at kept writer i key config peer s is lt =
     subst (λ (n : ℕ). MakesChange peer.part (call.Dispose writer key) n (change_made peer.part kind.Dispose key [])) is (dispose_makes peer.part writer key (known_writer kept config peer s writer i is lt))
 
-pub unregister_at : (kept : CoreKept) (writer i : ℕ) (k : WriterKept) (key : Key) (made : ChangeKind) (config : Config) (peer : Peer) → StandsFor kept config peer → writer ≡ i + 1 → i < length kept.writers → slice_get kept.writers i ≡ Some k
+pub unregister_at : (kept : PeerKept) (writer i : ℕ) (k : WriterKept) (key : Key) (made : ChangeKind) (config : Config) (peer : Peer) → StandsFor kept config peer → writer ≡ i + 1 → i < length kept.writers → slice_get kept.writers i ≡ Some k
     → ((w : Writer) (answered : Endpoint → Option ℤ) → WriterStands k w answered → is_key_registered key w.written ≡ true) → ((w : Writer) (answered : Endpoint → Option ℤ) → WriterStands k w answered → made ≡ unregister_kind w.autodispose)
     → MakesChange peer.part (call.Unregister writer key) (i + 1) (change_made peer.part made key [])
 unregister_at kept writer i k key made config peer s is lt at there kind_is =

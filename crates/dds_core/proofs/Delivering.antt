@@ -8,7 +8,7 @@ use Rattle.dds_model.specs.Peer.{Peer, state_of}
 use Rattle.dds_model.proofs.DuesPackets.{packet_truthful}
 use Rattle.dds_model.proofs.RuledPackets.{takes_packet}
 use Rattle.dds_core.specs.declared.sending.Announced.{Announced}
-use Rattle.dds_core.specs.Kept.{CoreKept}
+use Rattle.dds_core.specs.Kept.{PeerKept}
 use Rattle.dds_core.specs.Receiving.{with_state, ReceivedPacket, ReceivesPacket}
 use Rattle.dds_core.specs.Standing.{SoundSteps}
 use Rattle.dds_core.proofs.BeatsDue.{sent_true}
@@ -18,7 +18,7 @@ use Rattle.dds_core.proofs.Taking.{stands_again}
 abbrev pub delivered : Report → Announced → Output
 delivered report gone = record { reply = Reported report; packets = gone.packets.items; unsent = gone.unsent }
 
-pub delivers : (old new : CoreKept) (bytes : List ℕ) (report : Report) (gone : Announced) → ReceivesPacket old bytes report new gone → SoundSteps old (event.Deliver bytes) (delivered report gone) new
+pub delivers : (old new : PeerKept) (bytes : List ℕ) (report : Report) (gone : Announced) → ReceivesPacket old bytes report new gone → SoundSteps old (event.Deliver bytes) (delivered report gone) new
 delivers old new bytes report gone receives config peer s sound =
     let r : ReceivedPacket config peer bytes report new gone = receives config peer s in
     let rests = takes_packet config peer.number peer.delivered bytes (state_of peer) report r.dues r.state s.is_peer.checked sound r.takes in

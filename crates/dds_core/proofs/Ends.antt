@@ -13,26 +13,26 @@ use Rattle.dds_model.specs.Peer.{Peer}
 use Rattle.dds_model.specs.Protocol.{Known}
 use Rattle.rtps_reader.specs.Tracked.{Tracked}
 use Rattle.rtps_reader.specs.Reader.{Tracks}
-use Rattle.dds_core.specs.Kept.{WriterKept, ReaderKept, CoreKept, Identity, WriterIdentity, ReaderIdentity, writer_identity, reader_identity, identity_of, IsPeerOf}
+use Rattle.dds_core.specs.Kept.{WriterKept, ReaderKept, PeerKept, Identity, WriterIdentity, ReaderIdentity, writer_identity, reader_identity, identity_of, IsPeerOf}
 use Rattle.dds_core.specs.Standing.{WriterStands, WritersStand, ReaderStands, StandsFor, Enters}
 use Rattle.dds_core.proofs.Lists.{each_set_at, map-set_same, set_back}
 
 -- what is kept, with another writer or reader of this index
 
-abbrev pub with_writer : CoreKept → ℕ → WriterKept → CoreKept
+abbrev pub with_writer : PeerKept → ℕ → WriterKept → PeerKept
 with_writer kept i k = record kept { writers = set kept.writers i k }
 
-abbrev pub with_reader : CoreKept → ℕ → ReaderKept → CoreKept
+abbrev pub with_reader : PeerKept → ℕ → ReaderKept → PeerKept
 with_reader kept i k = record kept { readers = set kept.readers i k }
 
 abbrev made : Identity → List WriterIdentity → List ReaderIdentity → Identity
 made identity writers readers = record { prefix = identity.prefix; writers = writers; readers = readers }
 
-pub same_with_writer : (kept : CoreKept) (i : ℕ) (k k' : WriterKept) → slice_get kept.writers i ≡ Some k → writer_identity k' ≡ writer_identity k → identity_of (with_writer kept i k') ≡ identity_of kept
+pub same_with_writer : (kept : PeerKept) (i : ℕ) (k k' : WriterKept) → slice_get kept.writers i ≡ Some k → writer_identity k' ≡ writer_identity k → identity_of (with_writer kept i k') ≡ identity_of kept
 same_with_writer kept i k k' at same =
     ap (λ (ws : List WriterIdentity). made (identity_of kept) ws (map reader_identity kept.readers)) (map-set_same writer_identity kept.writers i k k' at same)
 
-pub same_with_reader : (kept : CoreKept) (i : ℕ) (k k' : ReaderKept) → slice_get kept.readers i ≡ Some k → reader_identity k' ≡ reader_identity k → identity_of (with_reader kept i k') ≡ identity_of kept
+pub same_with_reader : (kept : PeerKept) (i : ℕ) (k k' : ReaderKept) → slice_get kept.readers i ≡ Some k → reader_identity k' ≡ reader_identity k → identity_of (with_reader kept i k') ≡ identity_of kept
 same_with_reader kept i k k' at same =
     ap (λ (rs : List ReaderIdentity). made (identity_of kept) (map writer_identity kept.writers) rs) (map-set_same reader_identity kept.readers i k k' at same)
 
@@ -41,10 +41,10 @@ abbrev pub entered_at : Peer → ℕ → Written → Peer
 entered_at peer writer entry = record peer { part = record peer.part { rtps = effect peer.part.rtps (writes writer entry) } }
 
 -- a writer that was put back as it was changes nothing
-pub unchanged_with : (kept : CoreKept) (i : ℕ) (k k' : WriterKept) → slice_get kept.writers i ≡ Some k → k' ≡ k → with_writer kept i k' ≡ kept
+pub unchanged_with : (kept : PeerKept) (i : ℕ) (k k' : WriterKept) → slice_get kept.writers i ≡ Some k → k' ≡ k → with_writer kept i k' ≡ kept
 unchanged_with kept i k k' at same = ap (λ (ws : List WriterKept). changed kept ws) (set_back kept.writers i k k' at same)
   where
-    changed : CoreKept → List WriterKept → CoreKept
+    changed : PeerKept → List WriterKept → PeerKept
     changed x ws = record x { writers = ws }
 
 -- each writer stands, also where one stepped
@@ -60,7 +60,7 @@ writers_set (a ∷ ks) (b ∷ ws) (suc i) k w answered count each new (suc j) x 
     writers_set ks ws i k w (λ n. answered (suc n)) (omega (arith, count)) (λ n y h. each (suc n) y h) new j x at
 
 -- own writer n stepped
-pub own_writer_stepped : (kept : CoreKept) (i : ℕ) (k k' : WriterKept) (entry : Written) (config : Config) (peer : Peer) → StandsFor kept config peer → slice_get kept.writers i ≡ Some k → Enters k entry k'
+pub own_writer_stepped : (kept : PeerKept) (i : ℕ) (k k' : WriterKept) (entry : Written) (config : Config) (peer : Peer) → StandsFor kept config peer → slice_get kept.writers i ≡ Some k → Enters k entry k'
     → AreTellable (entered_at peer (suc i) entry).part → StandsFor (with_writer kept i k') config (entered_at peer (suc i) entry)
 own_writer_stepped kept i k k' entry config peer s at enters tellable =
     let ws : List Writer = peer.part.rtps.writers in
@@ -97,7 +97,7 @@ reader_stands_on k proxies r old new same s = record {
 }
 
 -- own reader n stepped, and knows what it knows now
-pub own_reader_stepped : (kept : CoreKept) (i : ℕ) (k k' : ReaderKept) (proxies : List WriterProxy) (r : Reader) (known : Known) (config : Config) (peer : Peer) → StandsFor kept config peer → slice_get kept.readers i ≡ Some k
+pub own_reader_stepped : (kept : PeerKept) (i : ℕ) (k k' : ReaderKept) (proxies : List WriterProxy) (r : Reader) (known : Known) (config : Config) (peer : Peer) → StandsFor kept config peer → slice_get kept.readers i ≡ Some k
     → reader_identity k' ≡ reader_identity k → known.answered ≡ peer.known.answered → ((w : Endpoint) (n : ℕ) → (n ≡ suc i → ⊥) → known.tracked w n ≡ peer.known.tracked w n) → ReaderStands k' proxies r (λ w. known.tracked w (suc i))
     → StandsFor (with_reader kept i k') config (record peer { part = with_read peer.part (suc i) proxies r; known = known })
 own_reader_stepped kept i k k' proxies r known config peer s at same counts others stands =
@@ -133,7 +133,7 @@ abbrev pub readers_with : Part → ℕ → Reader → Dds
 readers_with part reader r = record part.dds { readers = with_numbered part.dds.readers reader r }
 
 -- own reader n stepped, and knows of its writers what it knew
-pub own_reader_changed : (kept : CoreKept) (i : ℕ) (k k' : ReaderKept) (r : Reader) (config : Config) (peer : Peer) → StandsFor kept config peer → slice_get kept.readers i ≡ Some k → reader_identity k' ≡ reader_identity k
+pub own_reader_changed : (kept : PeerKept) (i : ℕ) (k k' : ReaderKept) (r : Reader) (config : Config) (peer : Peer) → StandsFor kept config peer → slice_get kept.readers i ≡ Some k → reader_identity k' ≡ reader_identity k
     → ReaderStands k' (own_proxies peer.part (suc i)) r (λ w. peer.known.tracked w (suc i)) → StandsFor (with_reader kept i k') config (record peer { part = record peer.part { dds = readers_with peer.part (suc i) r } })
 own_reader_changed kept i k k' r config peer s at same one =
     let rows : set peer.part.rtps.readers i (own_proxies peer.part (suc i)) ≡ peer.part.rtps.readers = set_same peer.part.rtps.readers i [] in

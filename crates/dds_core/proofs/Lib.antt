@@ -42,3 +42,4 @@ pub mod Once
 pub mod RowsAnswered
 pub mod Requesting
 pub mod Pairs
+pub mod Filtering

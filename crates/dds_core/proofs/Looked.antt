@@ -18,7 +18,7 @@ use Rattle.dds_model.specs.Calls.{Answers, look_refusal, after_look, effect, eff
 use Rattle.dds_conditions.specs.Watched.{no_filters}
 use Rattle.dds_model.specs.Part.{Reader, Seen, own_reader}
 use Rattle.dds_model.specs.Peer.{Peer}
-use Rattle.dds_core.specs.Kept.{ReaderKept, CoreKept}
+use Rattle.dds_core.specs.Kept.{ReaderKept, PeerKept}
 use Rattle.dds_core.specs.Receiving.{TellsLost, TellsLiveliness}
 use Rattle.dds_core.specs.Standing.{StandsFor}
 use Rattle.dds_core.proofs.CallSteps.{Follows, there_is}
@@ -26,17 +26,17 @@ use Rattle.dds_core.proofs.Ends.{with_reader, own_reader_changed}
 use Rattle.dds_core.proofs.Taking.{silent}
 
 -- the call is a look at the statuses of the reader of this index, which is seen so, with this reply
-record IsLook (c : Call) (kept : CoreKept) (peer : Peer) (i : ℕ) (reply : Reply) (seen : Seen) : Type 0 where
+record IsLook (c : Call) (kept : PeerKept) (peer : Peer) (i : ℕ) (reply : Reply) (seen : Seen) : Type 0 where
   answers : Answers no_filters peer.part c reply (after_look peer.part (suc i) seen)
   effect : effect_of peer.part c reply ≡ nothing
 
-known_reader : (kept : CoreKept) (i : ℕ) (config : Config) (peer : Peer) → StandsFor kept config peer → i < length kept.readers → look_refusal peer.part (suc i) ≡ None
+known_reader : (kept : PeerKept) (i : ℕ) (config : Config) (peer : Peer) → StandsFor kept config peer → i < length kept.readers → look_refusal peer.part (suc i) ≡ None
 known_reader kept i config peer s lt =
     let count = s.readers.count in
     ap (λ (b : Bool). if not b then Some BadParameter else None) (there_is peer.part.dds.readers i (omega (arith, lt, count)))
 
 -- what stands after a look
-looked : (c : Call) (kept : CoreKept) (i : ℕ) (k : ReaderKept) (reply : Reply) (seen : Seen) (config : Config) (peer : Peer)
+looked : (c : Call) (kept : PeerKept) (i : ℕ) (k : ReaderKept) (reply : Reply) (seen : Seen) (config : Config) (peer : Peer)
     → StandsFor kept config peer → slice_get kept.readers i ≡ Some k → IsLook c kept peer i reply seen
     → Follows (with_reader kept i (record k { seen = seen })) config peer (event.Call c) (silent reply)
 looked c kept i k reply seen config peer s at is =
@@ -63,7 +63,7 @@ number_of : (reader i : ℕ) → reader ≡ i + 1 → suc i ≡ reader
 number_of reader i is = let index : i + 1 ≡ suc i = omega arith in sym (is ∙ index)
 
 -- a look at SAMPLE_LOST
-pub looked_at_lost : (kept : CoreKept) (reader i : ℕ) (k k' : ReaderKept) (status : SampleLostStatus) (config : Config)
+pub looked_at_lost : (kept : PeerKept) (reader i : ℕ) (k k' : ReaderKept) (status : SampleLostStatus) (config : Config)
     (peer : Peer) → StandsFor kept config peer → reader ≡ i + 1 → i < length kept.readers
     → slice_get kept.readers i ≡ Some k → TellsLost k status → k' ≡ record k { seen = record k.seen { lost = status.total_count } }
     → Follows (with_reader kept i k') config peer (event.Call (call.GetSampleLost reader)) (silent (SampleLost status))
@@ -84,7 +84,7 @@ looked_at_lost kept reader i k k' status config peer s is lt at tells after =
     (subst (λ (n : ℕ). Follows (with_reader kept i (record k { seen = seen_lost r })) config peer (event.Call (call.GetSampleLost n)) (silent (SampleLost status))) (number_of reader i is) look)
 
 -- a look at LIVELINESS_CHANGED
-pub looked_at_liveliness : (kept : CoreKept) (reader i : ℕ) (k k' : ReaderKept) (status : LivelinessChangedStatus) (seen : Seen) (config : Config)
+pub looked_at_liveliness : (kept : PeerKept) (reader i : ℕ) (k k' : ReaderKept) (status : LivelinessChangedStatus) (seen : Seen) (config : Config)
     (peer : Peer) → StandsFor kept config peer → reader ≡ i + 1 → i < length kept.readers
     → slice_get kept.readers i ≡ Some k → TellsLiveliness k status seen → k' ≡ record k { seen = seen }
     → Follows (with_reader kept i k') config peer (event.Call (call.GetLivelinessChanged reader)) (silent (LivelinessChanged status))

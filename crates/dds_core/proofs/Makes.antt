@@ -28,7 +28,7 @@ use Rattle.dds_model.specs.Protocol.{AreSent, changes_due}
 use Rattle.dds_model.proofs.OwnGuids.{one_writer}
 use Rattle.dds_core.specs.declared.matching.Destination.{Destination}
 use Rattle.dds_core.specs.declared.sending.Sender.{Sender}
-use Rattle.dds_core.specs.Kept.{WriterKept, CoreKept, WriterIdentity, writer_identity, configured_writer, identity_of, IsPeerOf}
+use Rattle.dds_core.specs.Kept.{WriterKept, PeerKept, WriterIdentity, writer_identity, configured_writer, identity_of, IsPeerOf}
 use Rattle.dds_core.specs.Making.{IsMade, IsNotMade, IsValueOf, entered}
 use Rattle.dds_core.specs.Sending.{AreAnnouncements, AnnounceCopy, AnnouncesAll, SendsChange}
 use Rattle.dds_core.specs.Standing.{WriterStands, StandsFor, Enters}
@@ -58,13 +58,13 @@ set_get (a ∷ xs) zero x y at = refl
 set_get (a ∷ xs) (suc i) x y at = set_get xs i x y at
 
 -- a peer's own writer, as the configuration has it
-pub record IsOwnWriter (config : Config) (kept : CoreKept) (number i : ℕ) (k : WriterKept) : Type 0 where
+pub record IsOwnWriter (config : Config) (kept : PeerKept) (number i : ℕ) (k : WriterKept) : Type 0 where
   pub end : WriterConfig
   pub is : writer_identity k ≡ configured_writer config.peers end
   pub from : IsWriter config kept.prefix k.entity (record { peer = number; number = suc i })
   pub same_topic : from.end.topic ≡ end.topic
 
-pub own_writer_is : (config : Config) (number : ℕ) (kept : CoreKept) (is : IsPeerOf config number (identity_of kept)) (i : ℕ) (k : WriterKept) → slice_get kept.writers i ≡ Some k → IsOwnWriter config kept number i k
+pub own_writer_is : (config : Config) (number : ℕ) (kept : PeerKept) (is : IsPeerOf config number (identity_of kept)) (i : ℕ) (k : WriterKept) → slice_get kept.writers i ≡ Some k → IsOwnWriter config kept number i k
 own_writer_is config number kept is i k at =
     let there = map-get writer_identity kept.writers i k at in
     let f = get-map (configured_writer config.peers) is.own.writers i (writer_identity k) (subst (λ (xs : List WriterIdentity). slice_get xs i ≡ Some (writer_identity k)) is.writers there) in
@@ -93,7 +93,7 @@ abbrev pub made_by : ChangeKind → Key → List ℕ → ℕ → Change
 made_by kind key value moment = record { kind = kind; key = key; value = value; source_timestamp = moment }
 
 -- the change is made
-made_there : (old : CoreKept) (i : ℕ) (k k' : WriterKept) (kind : ChangeKind) (key : Key) (value : List ℕ) (number : ℕ) (content : Result DataContent AllocError) (output : Output) (config : Config) (peer : Peer) → StandsFor old config peer
+made_there : (old : PeerKept) (i : ℕ) (k k' : WriterKept) (kind : ChangeKind) (key : Key) (value : List ℕ) (number : ℕ) (content : Result DataContent AllocError) (output : Output) (config : Config) (peer : Peer) → StandsFor old config peer
     → slice_get old.writers i ≡ Some k → Enters k (Changed (made_by kind key value old.moment)) k'
     → ((w : Writer) (answered : Endpoint → Option ℤ) → WriterStands k w answered → (append_refusal (history_of w) (made_by kind key value old.moment) ≡ None) × (number ≡ length (writer_changes w) + 1)) → IsValueOf kind value
     → IfOk content (λ c. c ≡ content_of (made_by kind key value old.moment)) → output.reply ≡ Done → AnnouncesAll (with_writer old i k') i number content output
@@ -103,7 +103,7 @@ made_there old i k k' kind key value number content output config peer s at ente
     let w : Writer = own_writer peer.part (suc i) in
     let ws : WriterStands k w (peer.known.answered (suc i)) = s.writers.each i k at in
     let a = accepts w (peer.known.answered (suc i)) ws in
-    let new : CoreKept = with_writer old i k' in
+    let new : PeerKept = with_writer old i k' in
     let after : Peer = record peer { part = entered peer.part (suc i) change } in
     let stands : StandsFor new config after =
     own_writer_stepped old i k k' (Changed change) config peer s at enters (tellable_entered peer (suc i) (Changed change) s.tellable (record { empty = valued; early = s.early })) in
@@ -143,7 +143,7 @@ made_there old i k k' kind key value number content output config peer s at ente
     }
 
 -- the same, by the moment of the part
-pub made : (old : CoreKept) (i : ℕ) (k k' : WriterKept) (kind : ChangeKind) (key : Key) (value : List ℕ) (number : ℕ) (content : Result DataContent AllocError) (output : Output) (config : Config) (peer : Peer) → StandsFor old config peer
+pub made : (old : PeerKept) (i : ℕ) (k k' : WriterKept) (kind : ChangeKind) (key : Key) (value : List ℕ) (number : ℕ) (content : Result DataContent AllocError) (output : Output) (config : Config) (peer : Peer) → StandsFor old config peer
     → slice_get old.writers i ≡ Some k → Enters k (Changed (made_by kind key value old.moment)) k'
     → ((w : Writer) (answered : Endpoint → Option ℤ) → WriterStands k w answered → (append_refusal (history_of w) (made_by kind key value old.moment) ≡ None) × (number ≡ length (writer_changes w) + 1)) → IsValueOf kind value
     → IfOk content (λ c. c ≡ content_of (made_by kind key value old.moment)) → output.reply ≡ Done → AnnouncesAll (with_writer old i k') i number content output
@@ -155,7 +155,7 @@ made old i k k' kind key value number content output config peer s at enters acc
     (made_there old i k k' kind key value number content output config peer s at enters accepts valued copied reply all))
 
 -- the change is refused
-pub not_made : (old : CoreKept) (i : ℕ) (k k' : WriterKept) (kind : ChangeKind) (key : Key) (value : List ℕ) (code : Code) (output : Output) (config : Config) (peer : Peer) → StandsFor old config peer → slice_get old.writers i ≡ Some k → k' ≡ k
+pub not_made : (old : PeerKept) (i : ℕ) (k k' : WriterKept) (kind : ChangeKind) (key : Key) (value : List ℕ) (code : Code) (output : Output) (config : Config) (peer : Peer) → StandsFor old config peer → slice_get old.writers i ≡ Some k → k' ≡ k
     → ((w : Writer) (answered : Endpoint → Option ℤ) → WriterStands k w answered → Refuses (append_refusal (history_of w) (made_by kind key value old.moment)) code) → output ≡ record { reply = Refused code; packets = []; unsent = 0 }
     → IsNotMade config peer (i + 1) (change_made peer.part kind key value) output (with_writer old i k')
 not_made old i k k' kind key value code output config peer s at same refuses is =
@@ -165,5 +165,5 @@ not_made old i k k' kind key value code output config peer s at same refuses is 
       cause = subst (λ (n : ℕ). Refuses (change_refusal peer.part n (change_made peer.part kind key value)) code) (sym index)
           (subst (λ (m : ℕ). Refuses (append_refusal (history_of (own_writer peer.part (suc i))) (made_by kind key value m)) code) (sym s.moment) (refuses (own_writer peer.part (suc i)) (peer.known.answered (suc i)) (s.writers.each i k at)));
       output_is = is;
-      stands = subst (λ (x : CoreKept). StandsFor x config peer) (sym (unchanged_with old i k k' at same)) s;
+      stands = subst (λ (x : PeerKept). StandsFor x config peer) (sym (unchanged_with old i k k' at same)) s;
     }

@@ -16,7 +16,7 @@ use Rattle.dds_model.specs.declared.endpoint.Endpoint.{Endpoint}
 use Rattle.dds_model.specs.Claims.{Receiver, IsWriter, IsReader, IsToReader}
 use Rattle.dds_model.specs.Peer.{Peer}
 use Rattle.dds_core.specs.declared.matching.WriterName.{WriterName}
-use Rattle.dds_core.specs.Kept.{ReaderKept, CoreKept}
+use Rattle.dds_core.specs.Kept.{ReaderKept, PeerKept}
 use Rattle.dds_core.specs.Matching.{writer_name}
 use Rattle.dds_core.specs.Receiving.{IsFirstName, IsNamedFor, NamedBy, writer_guid}
 use Rattle.dds_core.specs.Standing.{IsFirstRow, StandsFor}
@@ -25,7 +25,7 @@ use Rattle.dds_core.proofs.Names.{IsNamed, one_guid, guid_as, IsOwnReader, own_r
 -- ---- from a row to the configuration
 
 -- the first row of a name is the first one of its writer
-pub first_row : (config : Config) (peer : Peer) (kept : CoreKept) (s : StandsFor kept config peer) (i : ℕ) (k : ReaderKept) → slice_get kept.readers i ≡ Some k → (guid : Guid) (n : ℕ) (f : IsFirstName k.writers guid n) → IsFirstRow k.writers f.name.writer n
+pub first_row : (config : Config) (peer : Peer) (kept : PeerKept) (s : StandsFor kept config peer) (i : ℕ) (k : ReaderKept) → slice_get kept.readers i ≡ Some k → (guid : Guid) (n : ℕ) (f : IsFirstName k.writers guid n) → IsFirstRow k.writers f.name.writer n
 first_row config peer kept s i k at_k guid n f =
     let own : IsOwnReader config s.is_peer.own i k = own_reader_is config peer.number kept s.is_peer i k at_k in
     record {
@@ -36,7 +36,7 @@ first_row config peer kept s i k at_k guid n f =
     }
 
 -- the submessage is to the reader of this index from the writer of its row
-abbrev pub is_to : (config : Config) (peer : Peer) (kept : CoreKept) (s : StandsFor kept config peer) (i : ℕ) (k : ReaderKept) → slice_get kept.readers i ≡ Some k → (at : Receiver) (reader_id writer_id : EntityId) (n : ℕ)
+abbrev pub is_to : (config : Config) (peer : Peer) (kept : PeerKept) (s : StandsFor kept config peer) (i : ℕ) (k : ReaderKept) → slice_get kept.readers i ≡ Some k → (at : Receiver) (reader_id writer_id : EntityId) (n : ℕ)
     (here : IsNamedFor kept.prefix k at reader_id writer_id n) → IsToReader config kept.prefix at reader_id writer_id here.first.name.writer (record { peer = peer.number; number = suc i })
 is_to config peer kept s i k at_k at reader_id writer_id n here =
     let own : IsOwnReader config s.is_peer.own i k = own_reader_is config peer.number kept s.is_peer i k at_k in
@@ -122,7 +122,7 @@ first_name names guid j name at is none = least j (λ i lt x at_x e. omega (arit
         least fuel (λ i lt x at_x e. none i (record { name = x; at = at_x; named = e; first = λ h y low at_y f. before h (omega (arith, lt, low)) y at_y f }))
 
 -- a writer that is matched with the reader has a row
-pub row_of_writer : (config : Config) (peer : Peer) (kept : CoreKept) (s : StandsFor kept config peer) (i : ℕ) (k : ReaderKept) → slice_get kept.readers i ≡ Some k → (at : Receiver) (reader_id writer_id : EntityId) (w : Endpoint)
+pub row_of_writer : (config : Config) (peer : Peer) (kept : PeerKept) (s : StandsFor kept config peer) (i : ℕ) (k : ReaderKept) → slice_get kept.readers i ≡ Some k → (at : Receiver) (reader_id writer_id : EntityId) (w : Endpoint)
     → IsToReader config kept.prefix at reader_id writer_id w (record { peer = peer.number; number = suc i }) → ((n : ℕ) → IsNamedFor kept.prefix k at reader_id writer_id n → ⊥) → ⊥
 row_of_writer config peer kept s i k at_k at reader_id writer_id w to none =
     let own : IsOwnReader config s.is_peer.own i k = own_reader_is config peer.number kept s.is_peer i k at_k in

@@ -11,7 +11,7 @@ use Rattle.dds_base.specs.declared.guid.GuidPrefix.{GuidPrefix}
 use Rattle.dds_model.specs.declared.endpoint.Endpoint.{Endpoint}
 use Rattle.dds_model.specs.Claims.{IsNumbered}
 use Rattle.dds_core.specs.declared.matching.WriterName.{WriterName}
-use Rattle.dds_core.specs.Kept.{ReaderKept, CoreKept, ReaderIdentity, reader_identity, configured_reader, identity_of, IsPeerOf}
+use Rattle.dds_core.specs.Kept.{ReaderKept, PeerKept, ReaderIdentity, reader_identity, configured_reader, identity_of, IsPeerOf}
 use Rattle.dds_core.specs.Matching.{writer_name, writer_names}
 use Rattle.dds_core.proofs.Lists.{get-map, map-get}
 use Rattle.dds_core.proofs.Numbered.{is_told}
@@ -58,7 +58,7 @@ pub record IsOwnReader (config : Config) (own : PeerConfig) (i : ℕ) (k : Reade
   pub names : (j : ℕ) (name : WriterName) → slice_get k.writers j ≡ Some name → IsNamed config end.topic name
   pub all : k.writers ≡ writer_names end.topic config.peers
 
-pub own_reader_is : (config : Config) (number : ℕ) (kept : CoreKept) (is : IsPeerOf config number (identity_of kept)) (i : ℕ) (k : ReaderKept) → slice_get kept.readers i ≡ Some k → IsOwnReader config is.own i k
+pub own_reader_is : (config : Config) (number : ℕ) (kept : PeerKept) (is : IsPeerOf config number (identity_of kept)) (i : ℕ) (k : ReaderKept) → slice_get kept.readers i ≡ Some k → IsOwnReader config is.own i k
 own_reader_is config number kept is i k at =
     let there = map-get reader_identity kept.readers i k at in
     let f = get-map (configured_reader config.peers) is.own.readers i (reader_identity k) (subst (λ (xs : List ReaderIdentity). slice_get xs i ≡ Some (reader_identity k)) is.readers there) in

@@ -18,7 +18,7 @@ use Rattle.dds_model.proofs.Tables.{same_is}
 use Rattle.dds_core.specs.declared.matching.ReaderName.{ReaderName}
 use Rattle.dds_core.specs.declared.matching.WriterName.{WriterName}
 use Rattle.dds_core.specs.declared.pairing.Pair.{Pair}
-use Rattle.dds_core.specs.Kept.{CoreKept, ReaderKept, WriterKept}
+use Rattle.dds_core.specs.Kept.{PeerKept, ReaderKept, WriterKept}
 use Rattle.dds_core.specs.Matching.{reader_name, reader_names}
 use Rattle.dds_core.specs.Pairs.{IsPair, reader_entity}
 use Rattle.dds_core.specs.Receiving.{IsPlaceAt}
@@ -75,14 +75,14 @@ past_end (x ∷ xs) (suc n) none past = past_end xs n none (omega (arith, past))
 past_last : (n count : ℕ) → (nat_lt 0 (suc n) && nat_le (suc n) count) ≡ false → count ≤ n
 past_last n count none = grind (arith, nat_tests, none)
 
-pub no_writer_pair : (kept : CoreKept) (number : ℕ) (reader : Endpoint) → (nat_lt 0 number && nat_le number (length kept.writers)) ≡ false → (config : Config) (peer : Peer) → StandsFor kept config peer → IsPair config peer number reader None
+pub no_writer_pair : (kept : PeerKept) (number : ℕ) (reader : Endpoint) → (nat_lt 0 number && nat_le number (length kept.writers)) ≡ false → (config : Config) (peer : Peer) → StandsFor kept config peer → IsPair config peer number reader None
 no_writer_pair kept zero reader none config peer s = refl
 no_writer_pair kept (suc n) reader none config peer s =
     let count = s.writers.count in
     let past = past_last n (length kept.writers) none in
     ap (λ (w : Writer). acknowledged_of w.readers reader) (past_end peer.part.rtps.writers n no_writer (omega (arith, count, past)))
 
-pub no_reader_place : (kept : CoreKept) (number : ℕ) (writer : Endpoint) → (nat_lt 0 number && nat_le number (length kept.readers)) ≡ false
+pub no_reader_place : (kept : PeerKept) (number : ℕ) (writer : Endpoint) → (nat_lt 0 number && nat_le number (length kept.readers)) ≡ false
     → (config : Config) (peer : Peer) → StandsFor kept config peer → None ≡ place_of (own_proxies peer.part number) writer
 no_reader_place kept zero writer none config peer s = refl
 no_reader_place kept (suc n) writer none config peer s =
@@ -92,7 +92,7 @@ no_reader_place kept (suc n) writer none config peer s =
 
 -- a writer has this number, and the reader is one of its matched readers, or is not
 
-pub not_among : (kept : CoreKept) (i number : ℕ) (k : WriterKept) (reader : Endpoint) → number ≡ i + 1 → slice_get kept.writers i ≡ Some k → ((j : ℕ) (n : ReaderName) → slice_get k.readers j ≡ Some n → n.reader ≡ reader → ⊥)
+pub not_among : (kept : PeerKept) (i number : ℕ) (k : WriterKept) (reader : Endpoint) → number ≡ i + 1 → slice_get kept.writers i ≡ Some k → ((j : ℕ) (n : ReaderName) → slice_get k.readers j ≡ Some n → n.reader ≡ reader → ⊥)
     → (config : Config) (peer : Peer) → StandsFor kept config peer → IsPair config peer number reader None
 not_among kept i number k reader is at none config peer s =
     let w : Writer = get_or peer.part.rtps.writers i no_writer in
@@ -118,7 +118,7 @@ named_reader config topic j n at =
 abbrev pair_of : WriterKept → EntityId → Bool → ℕ → Pair
 pair_of k entity behind last = record { writer = k.entity; reader = entity; is_behind = behind; last = last }
 
-pub is_among : (kept : CoreKept) (i number : ℕ) (k : WriterKept) (reader : Endpoint) (row : ℕ) (behind : Bool) (last : ℕ)
+pub is_among : (kept : PeerKept) (i number : ℕ) (k : WriterKept) (reader : Endpoint) (row : ℕ) (behind : Bool) (last : ℕ)
     → number ≡ i + 1 → slice_get kept.writers i ≡ Some k
     → (f : IsFirstReader k.readers reader row)
     → ((w : Writer) (answered : Endpoint → Option ℤ) → WriterStands k w answered → behind ≡ nat_le (slice_index (map (λ (p : ReaderProxy). p.acknowledged) w.readers) row) (length (writer_changes w)))
@@ -148,7 +148,7 @@ is_among kept i number k reader row behind last is at f is_behind is_last config
 
 -- a reader has this number, and the writer is one of its matched writers, or is not
 
-pub no_place : (kept : CoreKept) (i number : ℕ) (k : ReaderKept) (writer : Endpoint) → number ≡ i + 1 → slice_get kept.readers i ≡ Some k
+pub no_place : (kept : PeerKept) (i number : ℕ) (k : ReaderKept) (writer : Endpoint) → number ≡ i + 1 → slice_get kept.readers i ≡ Some k
     → ((j : ℕ) (n : WriterName) → slice_get k.writers j ≡ Some n → n.writer ≡ writer → ⊥)
     → (config : Config) (peer : Peer) → StandsFor kept config peer → None ≡ place_of (own_proxies peer.part number) writer
 no_place kept i number k writer is at none config peer s =
@@ -164,7 +164,7 @@ no_place kept i number k writer is at none config peer s =
     let next : suc i ≡ number = omega (arith, is) in
     subst (λ (m : ℕ). None ≡ place_of (own_proxies peer.part m) writer) next (sym nobody)
 
-pub place_found : (kept : CoreKept) (i number : ℕ) (k : ReaderKept) (writer : Endpoint) (row place : ℕ) → number ≡ i + 1
+pub place_found : (kept : PeerKept) (i number : ℕ) (k : ReaderKept) (writer : Endpoint) (row place : ℕ) → number ≡ i + 1
     → slice_get kept.readers i ≡ Some k → IsFirstRow k.writers writer row → ((t : Tracked) → IsPlaceAt k row t place)
     → (config : Config) (peer : Peer) → StandsFor kept config peer → Some place ≡ place_of (own_proxies peer.part number) writer
 place_found kept i number k writer row place is at first is_place config peer s =

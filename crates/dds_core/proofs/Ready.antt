@@ -18,7 +18,7 @@ use Rattle.dds_core.specs.declared.matching.WriterName.{WriterName}
 use Rattle.dds_core.specs.declared.reader_end.Ready.{Ready}
 use Rattle.dds_core.specs.declared.reader_end.Told.{Told}
 use Rattle.dds_core.specs.declared.reader_end.Told.TheVariants as told
-use Rattle.dds_core.specs.Kept.{ReaderKept, CoreKept, ReaderIdentity, Identity, reader_identity, writer_identity, IsPeerOf}
+use Rattle.dds_core.specs.Kept.{ReaderKept, PeerKept, ReaderIdentity, Identity, reader_identity, writer_identity, IsPeerOf}
 use Rattle.dds_core.specs.Receiving.{IsReadyFor, IsReadyWith, AreReady, IsAlike, AreAlike, CanTake, AllCanTake, TookAt, TakesTold, SameReader, TakesSome, TakesAll, ReadersTake, moves_of, IsBounded, IsToldBounded, IsToldBy, StandsAsWell}
 use Rattle.dds_core.specs.Standing.{IsFirstRow, ReaderStands}
 use Rattle.dds_core.proofs.Identities.{same_identity}
@@ -135,7 +135,7 @@ same_identities (a ∷ as') (b ∷ bs) h =
     cons_as : {X : Type 0} (x y : X) (xs ys : List X) → x ≡ y → xs ≡ ys → x ∷ xs ≡ y ∷ ys
     cons_as x y xs ys e f = cc
 
-pub alike_core : (kept : CoreKept) (readers : List ReaderKept) → AreAlike kept.readers readers → StandsAsWell kept (record kept { readers = readers })
+pub alike_core : (kept : PeerKept) (readers : List ReaderKept) → AreAlike kept.readers readers → StandsAsWell kept (record kept { readers = readers })
 alike_core kept readers h config peer s =
     let identity : List ReaderIdentity → Identity = λ rs. record { prefix = kept.prefix; writers = map writer_identity kept.writers; readers = rs } in
     record {
@@ -158,7 +158,7 @@ none_there [] i x is at = cc
 none_there (y ∷ ys) i x is at = cc
 
 -- the reader of this index was told what was ready
-pub took_by : (old : CoreKept) (index : ℕ) (ready : Ready) (k now k' : ReaderKept) (moves : List Move) (sent : Announced) (new : CoreKept) (after : List Move) (gone : Announced) (writer : WriterName) (from : ℕ) (step : Step) → now ≡ k
+pub took_by : (old : PeerKept) (index : ℕ) (ready : Ready) (k now k' : ReaderKept) (moves : List Move) (sent : Announced) (new : PeerKept) (after : List Move) (gone : Announced) (writer : WriterName) (from : ℕ) (step : Step) → now ≡ k
     → slice_get old.readers index ≡ Some k → slice_get now.writers ready.row ≡ Some writer → ((t : Tracked) → Tracks now.reader ready.row t → from ≡ t.place) → {m : ℕ} → m ≡ old.moment → TakesTold now ready m step k'
     → SameReader now k' → new ≡ record old { readers = set old.readers index k' } → after ≡ moves ++ moves_of writer.writer (index + 1) from step → {own : GuidPrefix} → own ≡ old.prefix → {entity : EntityId} → entity ≡ now.entity
     → AddsTo (acknacks_due own writer.guid.prefix writer.writer.peer entity writer.guid.entity step.acknack) sent gone → TookAt old index ready k moves sent new after gone
@@ -180,7 +180,7 @@ took_by old index ready k now k' moves sent new after gone writer from step is a
     }
 
 -- all were told what was ready for them
-pub takes_all : (old now : CoreKept) (ready : List (Option Ready)) (moves after : List Move) (sent gone : Announced) (index : ℕ) → length ready ≤ index → index ≤ length ready → TakesSome old ready index moves sent now after gone
+pub takes_all : (old now : PeerKept) (ready : List (Option Ready)) (moves after : List Move) (sent gone : Announced) (index : ℕ) → length ready ≤ index → index ≤ length ready → TakesSome old ready index moves sent now after gone
     → TakesAll old ready moves sent now after gone
 takes_all old now ready moves after sent gone index low high h = record {
   made = h.made;

@@ -20,7 +20,7 @@ use Rattle.dds_core.specs.declared.matching.ReaderName.{ReaderName}
 use Rattle.dds_core.specs.declared.sending.Announced.{Announced}
 use Rattle.dds_core.specs.Answering.{IsFrom, AreRooms, TakesAckNack, HaveRoom, IsWriterOf, RowTook, RowsTook, TakesRow, TakesRows, acknowledged_moves}
 use Rattle.dds_core.specs.Beating.{AddsTo}
-use Rattle.dds_core.specs.Kept.{WriterKept, CoreKept, WriterIdentity, writer_identity}
+use Rattle.dds_core.specs.Kept.{WriterKept, PeerKept, WriterIdentity, writer_identity}
 use Rattle.dds_core.specs.Receiving.{with_state, TakesOneMore}
 use Rattle.dds_core.specs.Standing.{StandsFor}
 use Rattle.dds_core.proofs.Beating.{adds_none, adds_on}
@@ -103,7 +103,7 @@ turn_named step (n ∷ ns) (p ∷ ps) old new made dues same h =
 
 -- ---- one reader after the other
 
-pub rows_none : (old : CoreKept) (index : ℕ) (a : AckNackBody) (k : WriterKept) (rooms : List (Option Room)) (moves : List Move) (sent : Announced) → slice_get old.writers index ≡ Some k → TakesRows old index a k rooms 0 moves sent old moves sent
+pub rows_none : (old : PeerKept) (index : ℕ) (a : AckNackBody) (k : WriterKept) (rooms : List (Option Room)) (moves : List Move) (sent : Announced) → slice_get old.writers index ≡ Some k → TakesRows old index a k rooms 0 moves sent old moves sent
 rows_none old index a k rooms moves sent at_k = record {
   made = [];
   after_is = sym (append-nil moves);
@@ -115,7 +115,7 @@ rows_none old index a k rooms moves sent at_k = record {
   others = refl;
 }
 
-more_rows : (config : Config) (own : GuidPrefix) (at : Receiver) (a : AckNackBody) (index i : ℕ) (names : List ReaderName) (d : ReaderName) (peer : Peer) (made one : List Move) (due : List Due) (sent mid gone : Announced) (now new : CoreKept) → i < length names
+more_rows : (config : Config) (own : GuidPrefix) (at : Receiver) (a : AckNackBody) (index i : ℕ) (names : List ReaderName) (d : ReaderName) (peer : Peer) (made one : List Move) (due : List Due) (sent mid gone : Announced) (now new : PeerKept) → i < length names
     → (before : RowsTook config own at a index (take i names) peer made sent now mid) (after : State) → WriterTakes config own peer.number at a (suc index) (get_or names i d).reader before.state one due after → StandsFor new config (with_state peer after)
     → AddsTo due mid gone → RowsTook config own at a index (take (i + 1) names) peer (made ++ one) sent new gone
 more_rows config own at a index i names d peer made one due sent mid gone now new lt before after takes stands adds = record {
@@ -128,7 +128,7 @@ more_rows config own at a index i names d peer made one due sent mid gone now ne
 }
 
 -- nobody has room at this row
-pub rows_skip : (old now : CoreKept) (index : ℕ) (a : AckNackBody) (k : WriterKept) (rooms : List (Option Room)) (i : ℕ) (moves after : List Move) (sent gone : Announced) → TakesRows old index a k rooms i moves sent now after gone → i < length k.readers
+pub rows_skip : (old now : PeerKept) (index : ℕ) (a : AckNackBody) (k : WriterKept) (rooms : List (Option Room)) (i : ℕ) (moves after : List Move) (sent gone : Announced) → TakesRows old index a k rooms i moves sent now after gone → i < length k.readers
     → slice_get rooms i ≡ Some None → TakesRows old index a k rooms (i + 1) moves sent now after gone
 rows_skip old now index a k rooms i moves after sent gone h lt none = record {
   made = h.made;
@@ -157,7 +157,7 @@ rows_skip old now index a k rooms i moves after sent gone h lt none = record {
 }
 
 -- this reader was answered
-pub rows_more : (old now new : CoreKept) (index : ℕ) (a : AckNackBody) (k : WriterKept) (rooms : List (Option Room)) (i : ℕ) (room : Room) (moves mid after : List Move) (sent went gone : Announced) → TakesRows old index a k rooms i moves sent now mid went → i < length k.readers
+pub rows_more : (old now new : PeerKept) (index : ℕ) (a : AckNackBody) (k : WriterKept) (rooms : List (Option Room)) (i : ℕ) (room : Room) (moves mid after : List Move) (sent went gone : Announced) → TakesRows old index a k rooms i moves sent now mid went → i < length k.readers
     → slice_get rooms i ≡ Some (Some room) → TakesRow now index i a mid went new after gone → TakesRows old index a k rooms (i + 1) moves sent new after gone
 rows_more old now new index a k rooms i room moves mid after sent went gone h lt is took =
     let found = element k.readers i lt in
@@ -181,16 +181,16 @@ rows_more old now new index a k rooms i room moves mid after sent went gone h lt
           more_rows config old.prefix at a index i k.readers found.0 peer h.made made r.dues sent went gone now new lt before r.state
           (subst (λ (n : ReaderName). WriterTakes config old.prefix peer.number at a (suc index) n.reader before.state made r.dues r.state) named same) r.stands r.adds;
       there = t.writer;
-      at = ap (λ (x : CoreKept). slice_get x.writers index) t.new_is ∙ set_get now.writers index h.there t.writer h.at;
+      at = ap (λ (x : PeerKept). slice_get x.writers index) t.new_is ∙ set_get now.writers index h.there t.writer h.at;
       same = t.same ∙ h.same;
-      prefix = ap (λ (x : CoreKept). x.prefix) t.new_is ∙ h.prefix;
-      others = ap (λ (x : CoreKept). length x.writers) t.new_is ∙ (length-set now.writers index t.writer ∙ h.others);
+      prefix = ap (λ (x : PeerKept). x.prefix) t.new_is ∙ h.prefix;
+      others = ap (λ (x : PeerKept). length x.writers) t.new_is ∙ (length-set now.writers index t.writer ∙ h.others);
     }
 
 -- ---- all writers
 
 -- each of the peer's writers but this one is not named
-abbrev IsNamedAlone : Config → Peer → CoreKept → Receiver → AckNackBody → ℕ → Type 0
+abbrev IsNamedAlone : Config → Peer → PeerKept → Receiver → AckNackBody → ℕ → Type 0
 IsNamedAlone config peer kept at a index = (j : ℕ) → (j ≡ index → ⊥) → (e : Endpoint) → IsToWriter config kept.prefix at a.reader_id a.writer_id (own_end peer j) e → ⊥
 
 idle_writer : (config : Config) (peer : Peer) (own : GuidPrefix) (at : Receiver) (a : AckNackBody) (writer : ℕ) (rows : List ReaderProxy) (s : State) → ((e : Endpoint) → IsToWriter config own at a.reader_id a.writer_id (record { peer = peer.number; number = writer }) e → ⊥)
@@ -199,7 +199,7 @@ idle_writer config peer own at a writer rows s not =
     turn_idle (λ (p : ReaderProxy). WriterTakes config own peer.number at a writer p.reader) rows s (λ k p there. inr ((λ to. absurd (not p.reader to)), (refl, refl, refl)))
 
 -- the writer of this index took it up, and no other one has to
-pub writer_takes : (old new : CoreKept) (index : ℕ) (a : AckNackBody) (k : WriterKept) (rooms : List (Option Room)) (at : Receiver) (moves after : List Move) (sent gone : Announced) → slice_get old.writers index ≡ Some k → k.entity ≡ a.writer_id
+pub writer_takes : (old new : PeerKept) (index : ℕ) (a : AckNackBody) (k : WriterKept) (rooms : List (Option Room)) (at : Receiver) (moves after : List Move) (sent gone : Announced) → slice_get old.writers index ≡ Some k → k.entity ≡ a.writer_id
     → AreRooms old.prefix k.entity at a k.readers rooms → TakesRows old index a k rooms (length k.readers) moves sent new after gone → TakesOneMore old at (AckNack a) moves sent new after gone
 writer_takes old new index a k rooms at moves after sent gone at_k entity are h = record {
   made = h.made;
@@ -232,7 +232,7 @@ writer_takes old new index a k rooms at moves after sent gone at_k entity are h 
     one_on j = omega arith
 
 -- no writer is named
-pub no_writer_takes : (old : CoreKept) (a : AckNackBody) (at : Receiver) (moves : List Move) (sent : Announced) → ((index : ℕ) → IsWriterOf old.writers a.writer_id index → ⊥) → TakesOneMore old at (AckNack a) moves sent old moves sent
+pub no_writer_takes : (old : PeerKept) (a : AckNackBody) (at : Receiver) (moves : List Move) (sent : Announced) → ((index : ℕ) → IsWriterOf old.writers a.writer_id index → ⊥) → TakesOneMore old at (AckNack a) moves sent old moves sent
 no_writer_takes old a at moves sent none = record {
   made = [];
   after_is = sym (append-nil moves);
@@ -259,7 +259,7 @@ no_writer_takes old a at moves sent none = record {
 
 -- ---- what a row does
 
-pub row_took : (old : CoreKept) (index row : ℕ) (a : AckNackBody) (k now k' : WriterKept) (name : ReaderName) (moves : List Move) (sent : Announced) (new : CoreKept) (after : List Move) (gone : Announced) (own : GuidPrefix) (acknowledged : Option ℕ) (reader : Endpoint) → now ≡ k
+pub row_took : (old : PeerKept) (index row : ℕ) (a : AckNackBody) (k now k' : WriterKept) (name : ReaderName) (moves : List Move) (sent : Announced) (new : PeerKept) (after : List Move) (gone : Announced) (own : GuidPrefix) (acknowledged : Option ℕ) (reader : Endpoint) → now ≡ k
     → slice_get k.readers row ≡ Some name → writer_identity k' ≡ writer_identity now → own ≡ old.prefix → TakesAckNack now own row a sent k' acknowledged gone → ((n : ReaderName) → slice_get now.readers row ≡ Some n → reader ≡ n.reader)
     → new ≡ record old { writers = set old.writers index k' } → after ≡ moves ++ acknowledged_moves (index + 1) reader acknowledged → RowTook old index row a k name moves sent new after gone
 row_took old index row a k now k' name moves sent new after gone own acknowledged reader is at_name same prefix takes named new_is after_is =

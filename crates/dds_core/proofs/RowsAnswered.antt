@@ -31,7 +31,7 @@ use Rattle.dds_core.specs.declared.matching.ReaderName.{ReaderName}
 use Rattle.dds_core.specs.declared.sending.Announced.{Announced}
 use Rattle.dds_core.specs.Answering.{IsFrom, RowTook, SendsAnswers, TookAckNack, acknowledged_moves, answer_due}
 use Rattle.dds_core.specs.Beating.{AddsTo, due_to}
-use Rattle.dds_core.specs.Kept.{WriterKept, CoreKept, Identity, WriterIdentity, IsPeerOf, writer_identity}
+use Rattle.dds_core.specs.Kept.{WriterKept, PeerKept, Identity, WriterIdentity, IsPeerOf, writer_identity}
 use Rattle.dds_core.specs.Matching.{reader_name, reader_names}
 use Rattle.dds_core.specs.Receiving.{with_state}
 use Rattle.dds_core.specs.Standing.{StandsFor, WriterStands, state_of}
@@ -61,12 +61,12 @@ reader_named config topic k name at =
     subst (λ (x : ReaderName). IsReaderNamed config topic x) f.told (record { peer = f.peer; at_peer = f.at_peer; same_prefix = refl; end = f.end; at_reader = f.at_end; same_entity = refl; same_topic = f.same_topic })
 
 -- what the configuration says of a writer of the peer, and of the readers that it knows
-pub record IsOwn (config : Config) (kept : CoreKept) (number i : ℕ) (k : WriterKept) : Type 0 where
+pub record IsOwn (config : Config) (kept : PeerKept) (number i : ℕ) (k : WriterKept) : Type 0 where
   pub own : IsOwnWriter config kept number i k
   pub all : k.readers ≡ reader_names own.end.topic config.peers
   pub named : (row : ℕ) (name : ReaderName) → slice_get k.readers row ≡ Some name → IsReaderNamed config own.end.topic name
 
-pub own_is : (config : Config) (peer : Peer) (kept : CoreKept) → StandsFor kept config peer → (i : ℕ) (k : WriterKept) → slice_get kept.writers i ≡ Some k → IsOwn config kept peer.number i k
+pub own_is : (config : Config) (peer : Peer) (kept : PeerKept) → StandsFor kept config peer → (i : ℕ) (k : WriterKept) → slice_get kept.writers i ≡ Some k → IsOwn config kept peer.number i k
 own_is config peer kept s i k at =
     let own : IsOwnWriter config kept peer.number i k = own_writer_is config peer.number kept s.is_peer i k at in
     let all : k.readers ≡ reader_names own.end.topic config.peers = ap (λ (x : WriterIdentity). x.readers) own.is in
@@ -75,7 +75,7 @@ own_is config peer kept s i k at =
 abbrev pub own_end : Peer → ℕ → Endpoint
 own_end peer i = record { peer = peer.number; number = suc i }
 
-abbrev pub to_writer : (config : Config) (peer : Peer) (kept : CoreKept) (i : ℕ) (k : WriterKept) (o : IsOwn config kept peer.number i k) (at : Receiver) (a : AckNackBody) (name : ReaderName) → IsReaderNamed config o.own.end.topic name
+abbrev pub to_writer : (config : Config) (peer : Peer) (kept : PeerKept) (i : ℕ) (k : WriterKept) (o : IsOwn config kept peer.number i k) (at : Receiver) (a : AckNackBody) (name : ReaderName) → IsReaderNamed config o.own.end.topic name
     → IsFrom kept.prefix k.entity at a name → IsToWriter config kept.prefix at a.reader_id a.writer_id (own_end peer i) name.reader
 to_writer config peer kept i k o at a name n f = record {
   entity = name.guid.entity;
@@ -94,7 +94,7 @@ one_entity config prefix other a b e x y =
     let ends : x.end ≡ y.end = same_Some x.end y.end (sym there ∙ y.at_writer.1) in
     sym x.same_entity ∙ (ap (λ (w : WriterConfig). w.entity) ends ∙ y.same_entity)
 
-pub from_reader : (config : Config) (peer : Peer) (kept : CoreKept) (i : ℕ) (k : WriterKept) (o : IsOwn config kept peer.number i k) (at : Receiver) (a : AckNackBody) (name : ReaderName) → IsReaderNamed config o.own.end.topic name
+pub from_reader : (config : Config) (peer : Peer) (kept : PeerKept) (i : ℕ) (k : WriterKept) (o : IsOwn config kept peer.number i k) (at : Receiver) (a : AckNackBody) (name : ReaderName) → IsReaderNamed config o.own.end.topic name
     → IsToWriter config kept.prefix at a.reader_id a.writer_id (own_end peer i) name.reader → IsFrom kept.prefix k.entity at a name
 from_reader config peer kept i k o at a name n to =
     let peers : to.from.peer ≡ n.peer = same_Some to.from.peer n.peer (sym to.from.at_peer.1 ∙ n.at_peer.1) in
@@ -123,7 +123,7 @@ writer_stands_on k w old new same s = record {
     counts (p ∷ ps) = ap (λ (o : Option ℤ). o ∷ map (λ (q : ReaderProxy). new q.reader) ps) (same p.reader) ∙ ap (λ (os : List (Option ℤ)). old p.reader ∷ os) (counts ps)
 
 -- own writer n has become another one, and what is known of its readers has changed
-pub writer_put : (config : Config) (peer : Peer) (kept : CoreKept) → StandsFor kept config peer → (i : ℕ) (k k' : WriterKept) → slice_get kept.writers i ≡ Some k → writer_identity k' ≡ writer_identity k → (w : Writer) (answered : ℕ → Endpoint → Option ℤ)
+pub writer_put : (config : Config) (peer : Peer) (kept : PeerKept) → StandsFor kept config peer → (i : ℕ) (k k' : WriterKept) → slice_get kept.writers i ≡ Some k → writer_identity k' ≡ writer_identity k → (w : Writer) (answered : ℕ → Endpoint → Option ℤ)
     → WriterStands k' w (answered (suc i)) → ((j : ℕ) → (j ≡ i → ⊥) → (r : Endpoint) → answered (suc j) r ≡ peer.known.answered (suc j) r) → AreTellable (at_writer peer.part (suc i) w)
     → StandsFor (with_writer kept i k') config (with_state peer (record { part = at_writer peer.part (suc i) w; known = record peer.known { answered = answered } }))
 writer_put config peer kept s i k k' at same w answered stands others tellable =
@@ -145,7 +145,7 @@ writer_put config peer kept s i k k' at same w answered stands others tellable =
 -- ---- one row
 
 -- what the writer of this index did, by the rules, and what was sent
-pub record RowAnswered (config : Config) (own : GuidPrefix) (at : Receiver) (a : AckNackBody) (writer : ℕ) (reader : Endpoint) (peer : Peer) (made : List Move) (sent : Announced) (new : CoreKept) (gone : Announced) : Type 0 where
+pub record RowAnswered (config : Config) (own : GuidPrefix) (at : Receiver) (a : AckNackBody) (writer : ℕ) (reader : Endpoint) (peer : Peer) (made : List Move) (sent : Announced) (new : PeerKept) (gone : Announced) : Type 0 where
   pub state : State
   pub dues : List Due
   pub takes : WriterTakes config own peer.number at a writer reader (network_of peer) made dues state
@@ -156,7 +156,7 @@ pub record RowAnswered (config : Config) (own : GuidPrefix) (at : Receiver) (a :
 pub record Row : Type 0 where
   pub config : Config
   pub peer : Peer
-  pub kept : CoreKept
+  pub kept : PeerKept
   pub stands : StandsFor kept config peer
   pub i : ℕ
   pub k : WriterKept
@@ -196,7 +196,7 @@ row_is c o =
     }
 
 -- an ACKNACK that is taken
-row_applied : (c : Row) (o : IsOwn c.config c.kept c.peer.number c.i c.k) (at : Receiver) (a : AckNackBody) → IsFrom c.kept.prefix c.k.entity at a c.name → (moves : List Move) (sent : Announced) (new : CoreKept) (after : List Move) (gone : Announced)
+row_applied : (c : Row) (o : IsOwn c.config c.kept c.peer.number c.i c.k) (at : Receiver) (a : AckNackBody) → IsFrom c.kept.prefix c.k.entity at a c.name → (moves : List Move) (sent : Announced) (new : PeerKept) (after : List Move) (gone : Announced)
     → (t : RowTook c.kept c.i c.row a c.k c.name moves sent new after gone) → is_applied (state_of (writer_of c) (answered_of c)) c.row a.reader_sn_state.base a.count ≡ true
     → RowAnswered c.config c.kept.prefix at a (suc c.i) c.name.reader c.peer (acknowledged_moves (c.i + 1) c.name.reader t.acknowledged) sent (with_writer c.kept c.i t.writer) gone
 row_applied c o at a from moves sent new after gone t is = record {
@@ -306,7 +306,7 @@ row_applied c o at a from moves sent new after gone t is = record {
         next n = omega arith
 
 -- one that is not
-row_ignored : (c : Row) (o : IsOwn c.config c.kept c.peer.number c.i c.k) (at : Receiver) (a : AckNackBody) (moves : List Move) (sent : Announced) (new : CoreKept) (after : List Move) (gone : Announced)
+row_ignored : (c : Row) (o : IsOwn c.config c.kept c.peer.number c.i c.k) (at : Receiver) (a : AckNackBody) (moves : List Move) (sent : Announced) (new : PeerKept) (after : List Move) (gone : Announced)
     → (t : RowTook c.kept c.i c.row a c.k c.name moves sent new after gone) → is_applied (state_of (writer_of c) (answered_of c)) c.row a.reader_sn_state.base a.count ≡ false
     → RowAnswered c.config c.kept.prefix at a (suc c.i) c.name.reader c.peer (acknowledged_moves (c.i + 1) c.name.reader t.acknowledged) sent (with_writer c.kept c.i t.writer) gone
 row_ignored c o at a moves sent new after gone t is = record {
@@ -364,11 +364,11 @@ row_ignored c o at a moves sent new after gone t is = record {
       begun = (stood c).begun;
     }
 
-pub row_answered : (c : Row) (o : IsOwn c.config c.kept c.peer.number c.i c.k) (at : Receiver) (a : AckNackBody) → IsFrom c.kept.prefix c.k.entity at a c.name → (moves : List Move) (sent : Announced) (new : CoreKept) (after : List Move) (gone : Announced)
+pub row_answered : (c : Row) (o : IsOwn c.config c.kept c.peer.number c.i c.k) (at : Receiver) (a : AckNackBody) → IsFrom c.kept.prefix c.k.entity at a c.name → (moves : List Move) (sent : Announced) (new : PeerKept) (after : List Move) (gone : Announced)
     → (t : RowTook c.kept c.i c.row a c.k c.name moves sent new after gone)
     → RowAnswered c.config c.kept.prefix at a (suc c.i) c.name.reader c.peer (acknowledged_moves (c.i + 1) c.name.reader t.acknowledged) sent new gone
 row_answered c o at a from moves sent new after gone t =
-    subst (λ (x : CoreKept). RowAnswered c.config c.kept.prefix at a (suc c.i) c.name.reader c.peer (acknowledged_moves (c.i + 1) c.name.reader t.acknowledged) sent x gone) (sym t.new_is)
+    subst (λ (x : PeerKept). RowAnswered c.config c.kept.prefix at a (suc c.i) c.name.reader c.peer (acknowledged_moves (c.i + 1) c.name.reader t.acknowledged) sent x gone) (sym t.new_is)
     (by (is_applied (state_of (writer_of c) (answered_of c)) c.row a.reader_sn_state.base a.count) refl)
   where
     by : (b : Bool) → is_applied (state_of (writer_of c) (answered_of c)) c.row a.reader_sn_state.base a.count ≡ b

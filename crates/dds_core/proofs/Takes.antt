@@ -30,7 +30,7 @@ use Rattle.dds_model.specs.Protocol.{Known, State, Goes, Asserting, TakesHeartbe
 use Rattle.dds_model.proofs.Framing.{tracked_here, tracked_elsewhere, pair_or_not}
 use Rattle.dds_model.proofs.Tables.{numbered-same, place-cases, place-hits, place-heard}
 use Rattle.dds_core.specs.declared.matching.WriterName.{WriterName}
-use Rattle.dds_core.specs.Kept.{ReaderKept, CoreKept, reader_identity}
+use Rattle.dds_core.specs.Kept.{ReaderKept, PeerKept, reader_identity}
 use Rattle.dds_core.specs.Receiving.{SameReader, moves_of, with_state}
 use Rattle.dds_core.specs.Standing.{IsFirstRow, ReaderStands, StandsFor}
 use Rattle.dds_core.specs.Stored.{Holds}
@@ -43,7 +43,7 @@ use Rattle.dds_core.proofs.Rows.{writers_of, proxied, IsFirstOf, is_first_of, on
 pub record Telling : Type 0 where
   pub config : Config
   pub peer : Peer
-  pub kept : CoreKept
+  pub kept : PeerKept
   pub stands : StandsFor kept config peer
   pub i : ℕ
   pub k : ReaderKept

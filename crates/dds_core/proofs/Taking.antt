@@ -35,7 +35,7 @@ use Rattle.dds_model.specs.Protocol.{Due, State, InTurn, ReaderTakes, Takes, Fol
 use Rattle.dds_model.specs.Receipt.{prefix_of, IsNotTaken}
 use Rattle.dds_core.specs.declared.sending.Announced.{Announced}
 use Rattle.dds_core.specs.Beating.{AddsTo}
-use Rattle.dds_core.specs.Kept.{CoreKept}
+use Rattle.dds_core.specs.Kept.{PeerKept}
 use Rattle.dds_core.specs.Receiving.{with_state, StandsAsWell, ReadersTook, TookSubmessage, TellsReaders, TakesOneMore, TookMessage, TakesMessage, TakenTo, TakesTo, ReceivesPacket, IsBounded, AreBounded}
 use Rattle.dds_core.specs.Sending.{AreMessages}
 use Rattle.dds_core.specs.Standing.{StandsFor, IsSound, Steps, StepsBy, SoundSteps, SoundStepsBy}
@@ -44,7 +44,7 @@ use Rattle.dds_core.proofs.Beating.{written_on}
 
 -- ---- what a peer is, said again
 
-pub stands_again : (kept : CoreKept) (config : Config) (peer after : Peer) → after.number ≡ peer.number → after.part ≡ peer.part → after.known ≡ peer.known → StandsFor kept config peer → StandsFor kept config after
+pub stands_again : (kept : PeerKept) (config : Config) (peer after : Peer) → after.number ≡ peer.number → after.part ≡ peer.part → after.known ≡ peer.known → StandsFor kept config peer → StandsFor kept config after
 stands_again kept config peer after number part known s =
     subst (λ n. StandsFor kept config (record { number = n; part = after.part; known = after.known; delivered = after.delivered })) (sym number)
     (subst (λ p. StandsFor kept config (record { number = peer.number; part = p; known = after.known; delivered = after.delivered })) (sym part)
@@ -57,7 +57,7 @@ numbered_prefix ps (suc n) p at =
     let index : suc n - 1 ≡ n = omega arith in
     ap (λ (x : PeerConfig). x.prefix) (get_or_from_slice_get ps n p _ (subst (λ (m : ℕ). slice_get ps m ≡ Some p) index at.1))
 
-pub prefix_is : (old : CoreKept) (config : Config) (peer : Peer) → StandsFor old config peer → prefix_of config peer.number ≡ old.prefix
+pub prefix_is : (old : PeerKept) (config : Config) (peer : Peer) → StandsFor old config peer → prefix_of config peer.number ≡ old.prefix
 prefix_is old config peer s = numbered_prefix config.peers peer.number s.is_peer.own s.is_peer.at ∙ sym s.is_peer.prefix
 
 -- ---- one submessage
@@ -74,7 +74,7 @@ takes_by_readers config own peer at (InfoTs t) other old made dues new h = h
 takes_by_readers config own peer at (Other n) other old made dues new h = h
 takes_by_readers config own peer at Pad other old made dues new h = h
 
-pub readers_take : (old new : CoreKept) (at : Receiver) (s : Submessage) (moves after : List Move) (sent gone : Announced) → ((a : AckNackBody) → s ≡ AckNack a → ⊥) → TellsReaders old at s moves sent new after gone → TakesOneMore old at s moves sent new after gone
+pub readers_take : (old new : PeerKept) (at : Receiver) (s : Submessage) (moves after : List Move) (sent gone : Announced) → ((a : AckNackBody) → s ≡ AckNack a → ⊥) → TellsReaders old at s moves sent new after gone → TakesOneMore old at s moves sent new after gone
 readers_take old new at s moves after sent gone other h = record {
   made = h.made;
   after_is = h.after_is;
@@ -90,7 +90,7 @@ readers_take old new at s moves after sent gone other h = record {
       };
 }
 
-pub readers_take_if : {A B : Type 0} (result : Result A B) (old new : CoreKept) (at : Receiver) (s : Submessage) (moves after : List Move) (sent gone : Announced) → ((a : AckNackBody) → s ≡ AckNack a → ⊥)
+pub readers_take_if : {A B : Type 0} (result : Result A B) (old new : PeerKept) (at : Receiver) (s : Submessage) (moves after : List Move) (sent gone : Announced) → ((a : AckNackBody) → s ≡ AckNack a → ⊥)
     → OnOk result (TellsReaders old at s moves sent new after gone) → OnOk result (TakesOneMore old at s moves sent new after gone)
 readers_take_if (Ok x) old new at s moves after sent gone other h = readers_take old new at s moves after sent gone other h
 readers_take_if (Err e) old new at s moves after sent gone other h = tt
@@ -108,7 +108,7 @@ written_adds a b sent gone h more =
     (subst (λ (n : ℕ). AreSent (a ++ b) (sent.packets.items ++ more.packets) n) (sym more.lost) (written_on a b sent.packets.items more.packets sent.unsent more.unsent h more.written))
 
 -- nothing is taken up at first
-pub takes_none : (old : CoreKept) (message : Message) (at : Receiver) (moves : List Move) (gone : Announced) → at ≡ receiver_of message.prefix → moves ≡ [] → gone.packets.items ≡ [] → gone.unsent ≡ 0 → TakesTo old message 0 at moves old gone
+pub takes_none : (old : PeerKept) (message : Message) (at : Receiver) (moves : List Move) (gone : Announced) → at ≡ receiver_of message.prefix → moves ≡ [] → gone.packets.items ≡ [] → gone.unsent ≡ 0 → TakesTo old message 0 at moves old gone
 takes_none old message at moves gone begins none quiet zero_lost config peer s = record {
   state = state_of peer;
   dues = [];
@@ -120,7 +120,7 @@ takes_none old message at moves gone begins none quiet zero_lost config peer s =
 }
 
 -- one more is taken up
-pub takes_more : (old now new : CoreKept) (message : Message) (index : ℕ) (at : Receiver) (submessage : Submessage) (moves more : List Move) (sent gone : Announced) → TakesTo old message index at moves now sent
+pub takes_more : (old now new : PeerKept) (message : Message) (index : ℕ) (at : Receiver) (submessage : Submessage) (moves more : List Move) (sent gone : Announced) → TakesTo old message index at moves now sent
     → drop index message.submessages ≡ submessage ∷ drop (index + 1) message.submessages → now.prefix ≡ old.prefix → TakesOneMore now at submessage moves sent new more gone
     → TakesTo old message (index + 1) (after_submessage old.prefix at submessage) more new gone
 takes_more old now new message index at submessage moves more sent gone taken here same takes config peer s =
@@ -148,7 +148,7 @@ takes_more old now new message index at submessage moves more sent gone taken he
     r = takes.takes config (with_state peer t.state) t.stands
 
 -- what was taken up is all: what follows does nothing
-ends_here : (old now : CoreKept) (message : Message) (index : ℕ) (at : Receiver) (report : Report) (gone : Announced) (config : Config) (peer : Peer) (t : TakenTo old message index at report.moves now gone config peer)
+ends_here : (old now : PeerKept) (message : Message) (index : ℕ) (at : Receiver) (report : Report) (gone : Announced) (config : Config) (peer : Peer) (t : TakenTo old message index at report.moves now gone config peer)
     → Follows config old.prefix peer.number index at (drop index message.submessages) t.state [] report.refused [] t.state
     → Follows config old.prefix peer.number 0 (receiver_of message.prefix) message.submessages (state_of peer) report.moves report.refused t.dues t.state
 ends_here old now message index at report gone config peer t end =
@@ -157,7 +157,7 @@ ends_here old now message index at report gone config peer t end =
     (t.on [] report.refused [] t.state end))
 
 -- all are taken up, or one finds no memory
-pub takes_all : (old now : CoreKept) (message : Message) (at : Receiver) (report : Report) (gone : Announced) → TakesTo old message (length message.submessages) at report.moves now gone
+pub takes_all : (old now : PeerKept) (message : Message) (at : Receiver) (report : Report) (gone : Announced) → TakesTo old message (length message.submessages) at report.moves now gone
     → drop (length message.submessages) message.submessages ≡ [] → report.refused ≡ None → TakesMessage old message report now gone
 takes_all old now message at report gone taken none fine config peer s =
     let count : ℕ = length message.submessages in
@@ -166,7 +166,7 @@ takes_all old now message at report gone taken none fine config peer s =
     subst (λ (ss : List Submessage). Follows config old.prefix peer.number count at ss t.state [] report.refused [] t.state) (sym none) (fine, (refl, refl, refl)) in
     record { state = t.state; dues = t.dues; follows = ends_here old now message count at report gone config peer t end; stands = t.stands; sent = t.sent }
 
-pub takes_some : (old now new : CoreKept) (message : Message) (index : ℕ) (at : Receiver) (submessage : Submessage) (report : Report) (sent gone : Announced) → TakesTo old message index at report.moves now sent → StandsAsWell now new → gone ≡ sent
+pub takes_some : (old now new : PeerKept) (message : Message) (index : ℕ) (at : Receiver) (submessage : Submessage) (report : Report) (sent gone : Announced) → TakesTo old message index at report.moves now sent → StandsAsWell now new → gone ≡ sent
     → drop index message.submessages ≡ submessage ∷ drop (index + 1) message.submessages → report.refused ≡ Some index → TakesMessage old message report new gone
 takes_some old now new message index at submessage report sent gone taken well same here refused config peer s =
     let t : TakenTo old message index at report.moves now sent config peer = taken config peer s in
@@ -182,7 +182,7 @@ takes_some old now new message index at submessage report sent gone taken well s
 
 -- ---- the whole of a packet
 
-pub receives_message : (old new : CoreKept) (bytes : List ℕ) (read : Read) (report : Report) (gone : Announced) → ReadsMessage bytes read.message read.stop → TakesMessage old read.message report new gone → ReceivesPacket old bytes report new gone
+pub receives_message : (old new : PeerKept) (bytes : List ℕ) (read : Read) (report : Report) (gone : Announced) → ReadsMessage bytes read.message read.stop → TakesMessage old read.message report new gone → ReceivesPacket old bytes report new gone
 receives_message old new bytes read report gone reads takes config peer s =
     let r : TookMessage config peer old.prefix read.message report new gone = takes config peer s in
     record {
@@ -202,7 +202,7 @@ receives_message old new bytes read report gone reads takes config peer s =
 abbrev pub no_move : Option ℕ → Report
 no_move refused = record { moves = []; refused = refused }
 
-unread : (old : CoreKept) (bytes : List ℕ) (refused : Option ℕ) (gone : Announced) → gone.packets.items ≡ [] → gone.unsent ≡ 0 → ((peer : Peer) → IsNotTaken bytes peer.part (no_move refused) peer.part) → ReceivesPacket old bytes (no_move refused) old gone
+unread : (old : PeerKept) (bytes : List ℕ) (refused : Option ℕ) (gone : Announced) → gone.packets.items ≡ [] → gone.unsent ≡ 0 → ((peer : Peer) → IsNotTaken bytes peer.part (no_move refused) peer.part) → ReceivesPacket old bytes (no_move refused) old gone
 unread old bytes refused gone quiet zero_lost not config peer s = record {
   state = state_of peer;
   dues = [];
@@ -211,10 +211,10 @@ unread old bytes refused gone quiet zero_lost not config peer s = record {
   sent = (quiet, zero_lost);
 }
 
-pub receives_nothing : (old : CoreKept) (bytes : List ℕ) (gone : Announced) → gone.packets.items ≡ [] → gone.unsent ≡ 0 → ((message : Message) (offset : ℕ) → ReadsMessage bytes message offset → ⊥) → ReceivesPacket old bytes (no_move None) old gone
+pub receives_nothing : (old : PeerKept) (bytes : List ℕ) (gone : Announced) → gone.packets.items ≡ [] → gone.unsent ≡ 0 → ((message : Message) (offset : ℕ) → ReadsMessage bytes message offset → ⊥) → ReceivesPacket old bytes (no_move None) old gone
 receives_nothing old bytes gone quiet zero_lost none = unread old bytes None gone quiet zero_lost (λ peer. record { moves = refl; after = refl; cause = inl (refl, none) })
 
-pub reads_nothing : (old : CoreKept) (bytes : List ℕ) (gone : Announced) → gone.packets.items ≡ [] → gone.unsent ≡ 0 → HasSubmessage bytes → ReceivesPacket old bytes (no_move (Some 0)) old gone
+pub reads_nothing : (old : PeerKept) (bytes : List ℕ) (gone : Announced) → gone.packets.items ≡ [] → gone.unsent ≡ 0 → HasSubmessage bytes → ReceivesPacket old bytes (no_move (Some 0)) old gone
 reads_nothing old bytes gone quiet zero_lost has = unread old bytes (Some 0) gone quiet zero_lost (λ peer. record { moves = refl; after = refl; cause = inr (refl, has) })
 
 -- an answer that sends nothing
@@ -271,13 +271,13 @@ tick_readers old now Done new h = ap (λ (p : Part). p.rtps.readers) h.1
 tick_readers old now (Refused code) new h = ap (λ (p : Part). p.rtps.readers) h.1
 tick_readers old now reply new h = absurd h
 
-pub sound_call : {tests : Tests} (old new : CoreKept) (call : Call) (output : Output) → StepsBy tests old (event.Call call) output new → SoundStepsBy tests old (event.Call call) output new
+pub sound_call : {tests : Tests} (old new : PeerKept) (call : Call) (output : Output) → StepsBy tests old (event.Call call) output new → SoundStepsBy tests old (event.Call call) output new
 sound_call old new call output steps config peer s sound =
     let r = steps config peer s in
     let readers : r.0.part.rtps.readers ≡ peer.part.rtps.readers = ap (λ (x : Rtps). x.readers) r.1.step.0.rtps ∙ effect_readers peer.part.rtps (effect_of peer.part call output.reply) in
     (r.0, r.1, r.2, sound_still config peer r.0 r.1.same_number r.1.knows r.1.step.1 readers sound, tt)
 
-pub sound_tick : (old new : CoreKept) (now : ℕ) (output : Output) → Steps old (event.Tick now) output new → SoundSteps old (event.Tick now) output new
+pub sound_tick : (old new : PeerKept) (now : ℕ) (output : Output) → Steps old (event.Tick now) output new → SoundSteps old (event.Tick now) output new
 sound_tick old new now output steps config peer s sound =
     let r = steps config peer s in
     (r.0, r.1, r.2, sound_still config peer r.0 r.1.same_number r.1.knows r.1.step.1 (tick_readers peer.part now output.reply r.0.part r.1.step.0) sound, tt)

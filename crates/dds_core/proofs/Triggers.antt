@@ -21,7 +21,7 @@ use Rattle.dds_model.specs.Calls.{AnswersByCondition, AnswersLook, IsAnswered, I
 use Rattle.dds_model.specs.Part.{Part, Dds}
 use Rattle.dds_model.specs.Peer.{Peer}
 use Rattle.dds_model.specs.Watching.{Test, Tests, condition_refusal, condition_selection, condition_test, trigger_value}
-use Rattle.dds_core.specs.Kept.{CoreKept}
+use Rattle.dds_core.specs.Kept.{PeerKept}
 use Rattle.dds_core.specs.Standing.{StandsFor}
 use Rattle.dds_core.proofs.CallSteps.{FollowsBy, unchanging_call}
 use Rattle.dds_core.proofs.Taking.{silent}
@@ -33,14 +33,14 @@ not_by_condition : (entry : List SamplePosition → Happening) (refusal : Option
 not_by_condition entry refusal test part reader selection code some =
     subst (λ (o : Option Code). AnswersByCondition entry o test part reader selection (Refused code) part.dds) (sym some) (refl, refl)
 
-pub no_read_by : {tests : Tests} (kept : CoreKept) (config : Config) (peer : Peer) → StandsFor kept config peer → (reader : ℕ) (scope : Scope) (condition : ℕ) (code : Code)
+pub no_read_by : {tests : Tests} (kept : PeerKept) (config : Config) (peer : Peer) → StandsFor kept config peer → (reader : ℕ) (scope : Scope) (condition : ℕ) (code : Code)
     → condition_refusal peer.part reader scope condition ≡ Some code
     → FollowsBy tests kept config peer (event.Call (call.ReadByCondition reader scope condition)) (silent (Refused code))
 no_read_by {tests} kept config peer s reader scope condition code some =
     unchanging_call kept config peer s (call.ReadByCondition reader scope condition) (Refused code) refl
     (not_by_condition HasRead _ (condition_test tests peer.part condition) peer.part reader (condition_selection peer.part scope condition) code some)
 
-pub no_take_by : {tests : Tests} (kept : CoreKept) (config : Config) (peer : Peer) → StandsFor kept config peer → (reader : ℕ) (scope : Scope) (condition : ℕ) (code : Code)
+pub no_take_by : {tests : Tests} (kept : PeerKept) (config : Config) (peer : Peer) → StandsFor kept config peer → (reader : ℕ) (scope : Scope) (condition : ℕ) (code : Code)
     → condition_refusal peer.part reader scope condition ≡ Some code
     → FollowsBy tests kept config peer (event.Call (call.TakeByCondition reader scope condition)) (silent (Refused code))
 no_take_by {tests} kept config peer s reader scope condition code some =
@@ -102,7 +102,7 @@ look_is_refused (c ∷ cs) timed_out part wait_set code some =
     inl (subst (λ (o : Option Code). IsAnswered o (Active (c ∷ cs)) (with_deadline part.dds.watch wait_set None) part (Refused code) part.dds) (sym some) (refl, refl))
 
 -- the wait goes on
-pub waits_on : {tests : Tests} (kept : CoreKept) (config : Config) (peer : Peer) → StandsFor kept config peer → (wait_set : ℕ)
+pub waits_on : {tests : Tests} (kept : PeerKept) (config : Config) (peer : Peer) → StandsFor kept config peer → (wait_set : ℕ)
     → false ≡ list_any (trigger_value tests peer.part) (conditions_of peer.part.dds.watch wait_set)
     → is_timed_out (made kept.watch.wait_sets wait_set) kept.moment ≡ false → used_by kept.watch wait_set ≡ None
     → FollowsBy tests kept config peer (event.Call (call.WaitLook wait_set)) (silent Waiting)
@@ -114,7 +114,7 @@ waits_on {tests} kept config peer s wait_set none early used =
     (ap (λ (w : Watched). used_by w wait_set) s.watch ∙ used))
 
 -- it ends at its deadline
-pub times_out : {tests : Tests} (kept : CoreKept) (new : Watched) (config : Config) (peer : Peer) → StandsFor kept config peer → (wait_set : ℕ)
+pub times_out : {tests : Tests} (kept : PeerKept) (new : Watched) (config : Config) (peer : Peer) → StandsFor kept config peer → (wait_set : ℕ)
     → false ≡ list_any (trigger_value tests peer.part) (conditions_of peer.part.dds.watch wait_set)
     → is_timed_out (made kept.watch.wait_sets wait_set) kept.moment ≡ true → used_by kept.watch wait_set ≡ None → new ≡ with_deadline kept.watch wait_set None
     → FollowsBy tests (record kept { watch = new }) config peer (event.Call (call.WaitLook wait_set)) (silent (Refused Timeout))
@@ -127,14 +127,14 @@ times_out {tests} kept new config peer s wait_set none late used ended =
     (ended ∙ ap (λ (w : Watched). with_deadline w wait_set None) (sym s.watch)))
 
 -- nobody waits there
-pub no_wait : {tests : Tests} (kept : CoreKept) (config : Config) (peer : Peer) → StandsFor kept config peer → (wait_set : ℕ) (code : Code) → used_by kept.watch wait_set ≡ Some code
+pub no_wait : {tests : Tests} (kept : PeerKept) (config : Config) (peer : Peer) → StandsFor kept config peer → (wait_set : ℕ) (code : Code) → used_by kept.watch wait_set ≡ Some code
     → FollowsBy tests kept config peer (event.Call (call.WaitLook wait_set)) (silent (Refused code))
 no_wait {tests} kept config peer s wait_set code some =
     unchanging_call kept config peer s (call.WaitLook wait_set) (Refused code) refl
     (look_is_refused _ _ peer.part wait_set code (ap (λ (w : Watched). used_by w wait_set) s.watch ∙ some))
 
 -- it ends with the active conditions
-pub is_over_with : {tests : Tests} (kept : CoreKept) (new : Watched) (config : Config) (peer : Peer) → StandsFor kept config peer → (wait_set : ℕ) (active : List Cond)
+pub is_over_with : {tests : Tests} (kept : PeerKept) (new : Watched) (config : Config) (peer : Peer) → StandsFor kept config peer → (wait_set : ℕ) (active : List Cond)
     → true ≡ list_any (trigger_value tests peer.part) (conditions_of peer.part.dds.watch wait_set)
     → active ≡ active_of (trigger_value tests peer.part) (conditions_of peer.part.dds.watch wait_set) → used_by kept.watch wait_set ≡ None → new ≡ with_deadline kept.watch wait_set None
     → FollowsBy tests (record kept { watch = new }) config peer (event.Call (call.WaitLook wait_set)) (silent (Active active))
@@ -146,7 +146,7 @@ is_over_with {tests} kept new config peer s wait_set active some is used ended =
     (ap (λ (cs : List Cond). Active cs) is, ap (λ (w : Watched). record peer.part.dds { watch = w }) (ended ∙ ap (λ (w : Watched). with_deadline w wait_set None) (sym s.watch))))))
 
 -- or finds no memory for them
-pub lacks_memory : {tests : Tests} (kept : CoreKept) (config : Config) (peer : Peer) → StandsFor kept config peer → (wait_set : ℕ)
+pub lacks_memory : {tests : Tests} (kept : PeerKept) (config : Config) (peer : Peer) → StandsFor kept config peer → (wait_set : ℕ)
     → true ≡ list_any (trigger_value tests peer.part) (conditions_of peer.part.dds.watch wait_set) → used_by kept.watch wait_set ≡ None
     → FollowsBy tests kept config peer (event.Call (call.WaitLook wait_set)) (silent (Refused Memory))
 lacks_memory {tests} kept config peer s wait_set some used =

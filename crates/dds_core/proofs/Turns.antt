@@ -28,7 +28,7 @@ use Rattle.dds_core.specs.declared.sending.Announced.{Announced}
 use Rattle.dds_core.specs.declared.reader_end.Ready.{Ready}
 use Rattle.dds_core.specs.declared.reader_end.Told.{Told}
 use Rattle.dds_core.specs.declared.reader_end.Told.TheVariants as told
-use Rattle.dds_core.specs.Kept.{ReaderKept, CoreKept}
+use Rattle.dds_core.specs.Kept.{ReaderKept, PeerKept}
 use Rattle.dds_core.specs.Receiving.{IsReadyWith, IsReadyFor, AreReady, NamedBy, IsToldBy, SameReader, TellsSo, TookAt, moves_of, with_state, ReadersTook, TakesSome, TakesAll, TellsReaders, StandsAsWell, writer_guid}
 use Rattle.dds_core.specs.Beating.{AddsTo}
 use Rattle.dds_core.specs.Standing.{IsFirstRow, StandsFor}
@@ -44,7 +44,7 @@ use Rattle.dds_model.proofs.Framing.{with_same}
 use Rattle.dds_core.proofs.Takes.{Telling, known_of, proxies_of, reader_of, part_of, stood, stands_after, moves_on, heartbeat_on, after_step}
 
 -- what one reader did, by the rules, and what was then due
-pub record ReaderTook (config : Config) (own : GuidPrefix) (at : Receiver) (s : Submessage) (reader : ℕ) (peer : Peer) (made : List Move) (dues : List Due) (new : CoreKept) : Type 0 where
+pub record ReaderTook (config : Config) (own : GuidPrefix) (at : Receiver) (s : Submessage) (reader : ℕ) (peer : Peer) (made : List Move) (dues : List Due) (new : PeerKept) : Type 0 where
   pub state : State
   pub takes : ReaderTakes config own peer.number at s reader (state_of peer) made dues state
   pub stands : StandsFor new config (with_state peer state)
@@ -132,7 +132,7 @@ abbrev pub answer_due : GuidPrefix → ReaderKept → WriterName → Step → Li
 answer_due own k name step = acknacks_due own name.guid.prefix name.writer.peer k.entity name.guid.entity step.acknack
 
 -- the reader of this index took up what was ready for it
-took : (config : Config) (peer : Peer) (kept new : CoreKept) (at : Receiver) (s : Submessage) (i : ℕ) (k : ReaderKept) (ready : Ready) (moves : List Move) (sent : Announced) (after : List Move) (gone : Announced) → StandsFor kept config peer
+took : (config : Config) (peer : Peer) (kept new : PeerKept) (at : Receiver) (s : Submessage) (i : ℕ) (k : ReaderKept) (ready : Ready) (moves : List Move) (sent : Announced) (after : List Move) (gone : Announced) → StandsFor kept config peer
     → slice_get kept.readers i ≡ Some k → IsReadyWith kept.prefix at s k ready → (t : TookAt kept i ready k moves sent new after gone)
     → ReaderTook config kept.prefix at s (suc i) peer (moves_of t.name.writer (i + 1) t.from t.step) (answer_due kept.prefix k t.name t.step) new
 took config peer kept new at s i k ready moves sent after gone stands at_k is t =
@@ -144,7 +144,7 @@ took config peer kept new at s i k ready moves sent after gone stands at_k is t 
     let guid : own_name.guid ≡ writer_guid at is.writer_id = is.named.first.named in
     let there : ReaderTook config kept.prefix at s (suc i) peer (moves_of own_name.writer (i + 1) t.from t.step) (answer_due kept.prefix k own_name t.step) (with_reader kept i t.reader) =
     subst (λ (g : Guid). ReaderTook config kept.prefix at s (suc i) peer (moves_of own_name.writer (i + 1) t.from t.step) (acknacks_due kept.prefix g.prefix own_name.writer.peer k.entity g.entity t.step.acknack) (with_reader kept i t.reader)) (sym guid) r in
-    subst (λ (x : CoreKept). ReaderTook config kept.prefix at s (suc i) peer (moves_of t.name.writer (i + 1) t.from t.step) (answer_due kept.prefix k t.name t.step) x) (sym t.new_is)
+    subst (λ (x : PeerKept). ReaderTook config kept.prefix at s (suc i) peer (moves_of t.name.writer (i + 1) t.from t.step) (answer_due kept.prefix k t.name t.step) x) (sym t.new_is)
     (subst (λ (n : WriterName). ReaderTook config kept.prefix at s (suc i) peer (moves_of n.writer (i + 1) t.from t.step) (answer_due kept.prefix k n t.step) (with_reader kept i t.reader)) same_name there)
   where
     own_name : WriterName
@@ -154,7 +154,7 @@ took config peer kept new at s i k ready moves sent after gone stands at_k is t 
     same_name = same_Some own_name t.name (sym is.named.first.at ∙ t.at_name)
 
 -- nothing is ready for it, and so it has nothing to do
-idles : (config : Config) (peer : Peer) (kept : CoreKept) (at : Receiver) (s : Submessage) (i : ℕ) (k : ReaderKept) → StandsFor kept config peer → slice_get kept.readers i ≡ Some k → IsReadyFor kept.prefix at s k None
+idles : (config : Config) (peer : Peer) (kept : PeerKept) (at : Receiver) (s : Submessage) (i : ℕ) (k : ReaderKept) → StandsFor kept config peer → slice_get kept.readers i ≡ Some k → IsReadyFor kept.prefix at s k None
     → ReaderTakes config kept.prefix peer.number at s (suc i) (state_of peer) [] [] (state_of peer)
 idles config peer kept at (Data d) i k stands at_k none = inr (λ w to. row_of_writer config peer kept stands i k at_k at d.reader_id d.writer_id w to (none d.reader_id d.writer_id (refl, refl)), (refl, refl, refl))
 idles config peer kept at (Gap g) i k stands at_k none = inr (λ w to. row_of_writer config peer kept stands i k at_k at g.reader_id g.writer_id w to (none g.reader_id g.writer_id (refl, refl)), (refl, refl, refl))
@@ -191,7 +191,7 @@ turn_more step (y ∷ ys) x old mid new made one dues due h k = (
 )
 
 -- none has taken it up yet
-pub takes_none : (old : CoreKept) (ready : List (Option Ready)) (moves : List Move) (sent : Announced) → TakesSome old ready 0 moves sent old moves sent
+pub takes_none : (old : PeerKept) (ready : List (Option Ready)) (moves : List Move) (sent : Announced) → TakesSome old ready 0 moves sent old moves sent
 takes_none old ready moves sent = record {
   made = [];
   after_is = sym (append-nil moves);
@@ -200,7 +200,7 @@ takes_none old ready moves sent = record {
   prefix = refl;
 }
 
-more_took : (config : Config) (own : GuidPrefix) (at : Receiver) (s : Submessage) (i : ℕ) (peer : Peer) (made one : List Move) (due : List Due) (sent mid gone : Announced) (now new : CoreKept) (before : ReadersTook config own at s i peer made sent now mid) (after : State)
+more_took : (config : Config) (own : GuidPrefix) (at : Receiver) (s : Submessage) (i : ℕ) (peer : Peer) (made one : List Move) (due : List Due) (sent mid gone : Announced) (now new : PeerKept) (before : ReadersTook config own at s i peer made sent now mid) (after : State)
     → ReaderTakes config own peer.number at s (suc i) before.state one due after → StandsFor new config (with_state peer after) → AddsTo due mid gone → ReadersTook config own at s (suc i) peer (made ++ one) sent new gone
 more_took config own at s i peer made one due sent mid gone now new before after takes stands adds = record {
   state = after;
@@ -218,7 +218,7 @@ next_index : (n : ℕ) → suc n ≡ n + 1
 next_index n = omega arith
 
 -- nothing was ready for this reader
-pub takes_skip : (old now : CoreKept) (ready : List (Option Ready)) (i : ℕ) (moves after : List Move) (sent gone : Announced) → TakesSome old ready i moves sent now after gone → i < length old.readers → slice_get ready i ≡ Some None
+pub takes_skip : (old now : PeerKept) (ready : List (Option Ready)) (i : ℕ) (moves after : List Move) (sent gone : Announced) → TakesSome old ready i moves sent now after gone → i < length old.readers → slice_get ready i ≡ Some None
     → TakesSome old ready (i + 1) moves sent now after gone
 takes_skip old now ready i moves after sent gone h within none =
     subst (λ n. TakesSome old ready n moves sent now after gone) (next_index i) (record {
@@ -238,7 +238,7 @@ takes_skip old now ready i moves after sent gone h within none =
     })
 
 -- this reader took up what was ready for it
-pub takes_more : (old now new : CoreKept) (ready : List (Option Ready)) (i : ℕ) (one : Ready) (moves mid after : List Move) (sent went gone : Announced) → TakesSome old ready i moves sent now mid went → i < length old.readers
+pub takes_more : (old now new : PeerKept) (ready : List (Option Ready)) (i : ℕ) (one : Ready) (moves mid after : List Move) (sent went gone : Announced) → TakesSome old ready i moves sent now mid went → i < length old.readers
     → slice_get ready i ≡ Some (Some one) → ((k : ReaderKept) → slice_get now.readers i ≡ Some k → TookAt now i one k mid went new after gone) → TakesSome old ready (i + 1) moves sent new after gone
 takes_more old now new ready i one moves mid after sent went gone h within is took_at =
     let k = element old.readers i within in
@@ -255,12 +255,12 @@ takes_more old now new ready i one moves mid after sent went gone h within is to
           let dues = answer_due now.prefix k.0 t.name t.step in
           more_took config old.prefix at s i peer h.made made dues sent went gone now new before r.state
           (subst (λ p. ReaderTakes config p peer.number at s (suc i) before.state made dues r.state) h.prefix r.takes) r.stands t.answer;
-      left = ap (λ (c : CoreKept). drop (suc i) c.readers) t.new_is ∙ (drop_set now.readers i t.reader ∙ left_more now.readers old.readers i h.left);
-      prefix = ap (λ (c : CoreKept). c.prefix) t.new_is ∙ h.prefix;
+      left = ap (λ (c : PeerKept). drop (suc i) c.readers) t.new_is ∙ (drop_set now.readers i t.reader ∙ left_more now.readers old.readers i h.left);
+      prefix = ap (λ (c : PeerKept). c.prefix) t.new_is ∙ h.prefix;
     })
 
 -- the readers were told what a submessage says, once it was made ready
-pub tells_readers : (old now new : CoreKept) (at : Receiver) (s : Submessage) (ready : List (Option Ready)) (moves after : List Move) (sent gone : Announced) → StandsAsWell old now → now.prefix ≡ old.prefix → AreReady old.prefix at s now.readers ready
+pub tells_readers : (old now new : PeerKept) (at : Receiver) (s : Submessage) (ready : List (Option Ready)) (moves after : List Move) (sent gone : Announced) → StandsAsWell old now → now.prefix ≡ old.prefix → AreReady old.prefix at s now.readers ready
     → TakesAll now ready moves sent new after gone → length now.readers ≡ length old.readers → TellsReaders old at s moves sent new after gone
 tells_readers old now new at s ready moves after sent gone well prefix are all count = record {
   made = all.made;

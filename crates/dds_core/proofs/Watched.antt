@@ -12,14 +12,14 @@ use Rattle.dds_model.specs.Calls.{Effect, nothing, effect, effect_of, Answers, I
 use Rattle.dds_model.specs.Part.{Part, Dds}
 use Rattle.dds_model.specs.Peer.{Peer}
 use Rattle.dds_model.specs.Watching.{Tests}
-use Rattle.dds_core.specs.Kept.{CoreKept}
+use Rattle.dds_core.specs.Kept.{PeerKept}
 use Rattle.dds_core.specs.Standing.{StandsFor}
 use Rattle.dds_core.specs.Watching.{done_reply}
 use Rattle.dds_core.proofs.CallSteps.{Follows, FollowsBy}
 use Rattle.dds_core.proofs.Taking.{silent}
 
 -- what is kept stands for the state in which this is watched, once it is what is kept of that
-pub watches : (kept : CoreKept) (new : Watched) (config : Config) (peer : Peer) → StandsFor kept config peer
+pub watches : (kept : PeerKept) (new : Watched) (config : Config) (peer : Peer) → StandsFor kept config peer
     → StandsFor (record kept { watch = new }) config (record peer { part = record peer.part { dds = record peer.part.dds { watch = new } } })
 watches kept new config peer s = record {
   is_peer = s.is_peer;
@@ -32,7 +32,7 @@ watches kept new config peer s = record {
 }
 
 -- a call after which this is watched
-pub watched_call : {tests : Tests} (kept : CoreKept) (new : Watched) (config : Config) (peer : Peer) → StandsFor kept config peer → (c : Call) (reply : Reply)
+pub watched_call : {tests : Tests} (kept : PeerKept) (new : Watched) (config : Config) (peer : Peer) → StandsFor kept config peer → (c : Call) (reply : Reply)
     → effect_of peer.part c reply ≡ nothing → Answers tests peer.part c reply (record peer.part.dds { watch = new })
     → FollowsBy tests (record kept { watch = new }) config peer (event.Call c) (silent reply)
 watched_call kept new config peer s c reply none is = (
@@ -59,7 +59,7 @@ refused_so refusal answer after part code reply new some is same =
     (is, ap (λ (w : Watched). record part.dds { watch = w }) same)
 
 -- a call that is done or refused
-pub done_call : (refusal : Watched → Option Code) (after : Watched → Watched) (kept : CoreKept) (new : Watched) (result : Result (Unit {0}) Code) (reply : Reply) (config : Config) (peer : Peer)
+pub done_call : (refusal : Watched → Option Code) (after : Watched → Watched) (kept : PeerKept) (new : Watched) (result : Result (Unit {0}) Code) (reply : Reply) (config : Config) (peer : Peer)
     → StandsFor kept config peer → (c : Call)
     → ((dds : Dds) → IsAnswered (refusal peer.part.dds.watch) Done (after peer.part.dds.watch) peer.part reply dds → Answers no_filters peer.part c reply dds)
     → effect_of peer.part c reply ≡ nothing → reply ≡ done_reply result
@@ -73,7 +73,7 @@ done_call refusal after kept new (Err code) reply config peer s c answers none i
     (answers _ (refused_so _ _ _ peer.part code reply new (ap refusal s.watch ∙ refused) is (err ∙ sym s.watch)))
 
 -- one that may want memory too
-pub done_in_memory : (needs : Watched → Bool) (refusal : Watched → Option Code) (after : Watched → Watched) (kept : CoreKept) (new : Watched) (result : Result (Unit {0}) Code) (reply : Reply) (config : Config) (peer : Peer)
+pub done_in_memory : (needs : Watched → Bool) (refusal : Watched → Option Code) (after : Watched → Watched) (kept : PeerKept) (new : Watched) (result : Result (Unit {0}) Code) (reply : Reply) (config : Config) (peer : Peer)
     → StandsFor kept config peer → (c : Call)
     → ((dds : Dds) → IsAnsweredInMemory (needs peer.part.dds.watch) (refusal peer.part.dds.watch) Done (after peer.part.dds.watch) peer.part reply dds → Answers no_filters peer.part c reply dds)
     → effect_of peer.part c reply ≡ nothing → reply ≡ done_reply result
@@ -99,7 +99,7 @@ done_in_memory needs refusal after kept new (Err code) reply config peer s c ans
 
 -- one that gives something, which it tells, and may want memory
 pub given_in_memory : {X : Type 0} (tells : X → Reply) (told : Result X Code → Reply) → ((x : X) → told (Ok x) ≡ tells x) → ((code : Code) → told (Err code) ≡ Refused code)
-    → (refusal : Watched → Option Code) (gives : Watched → X) (after : Watched → Watched) (kept : CoreKept) (new : Watched) (result : Result X Code) (reply : Reply) (config : Config) (peer : Peer)
+    → (refusal : Watched → Option Code) (gives : Watched → X) (after : Watched → Watched) (kept : PeerKept) (new : Watched) (result : Result X Code) (reply : Reply) (config : Config) (peer : Peer)
     → StandsFor kept config peer → (c : Call)
     → ((dds : Dds) → IsAnsweredInMemory true (refusal peer.part.dds.watch) (tells (gives peer.part.dds.watch)) (after peer.part.dds.watch) peer.part reply dds → Answers no_filters peer.part c reply dds)
     → effect_of peer.part c reply ≡ nothing → reply ≡ told result
@@ -122,7 +122,7 @@ given_in_memory tells told on_ok on_err refusal gives after kept new (Err code) 
         inr (refl, refl, told ∙ ap (λ (x : Code). Refused x) is, ap (λ (w : Watched). record part.dds { watch = w }) same)
 
 -- a call that tells something, and changes nothing
-pub told_call : {tests : Tests} (kept : CoreKept) (config : Config) (peer : Peer) → StandsFor kept config peer → (refusal : Option Code) (answer : Reply) (c : Call) (reply : Reply)
+pub told_call : {tests : Tests} (kept : PeerKept) (config : Config) (peer : Peer) → StandsFor kept config peer → (refusal : Option Code) (answer : Reply) (c : Call) (reply : Reply)
     → ((dds : Dds) → IsAnswered refusal answer peer.part.dds.watch peer.part reply dds → Answers tests peer.part c reply dds)
     → effect_of peer.part c reply ≡ nothing → refusal ≡ None → reply ≡ answer
     → FollowsBy tests kept config peer (event.Call c) (silent reply)
@@ -131,7 +131,7 @@ told_call {tests} kept config peer s refusal answer c reply answers none taken i
     (watched_call kept peer.part.dds.watch config peer s c reply none (answers _ (answered_so refusal answer _ peer.part reply _ taken is refl)))
 
 -- one that is refused
-pub not_told : {tests : Tests} (kept : CoreKept) (config : Config) (peer : Peer) → StandsFor kept config peer → (refusal : Option Code) (answer : Reply) (after : Watched) (code : Code) (c : Call)
+pub not_told : {tests : Tests} (kept : PeerKept) (config : Config) (peer : Peer) → StandsFor kept config peer → (refusal : Option Code) (answer : Reply) (after : Watched) (code : Code) (c : Call)
     → ((dds : Dds) → IsAnswered refusal answer after peer.part (Refused code) dds → Answers tests peer.part c (Refused code) dds)
     → effect_of peer.part c (Refused code) ≡ nothing → refusal ≡ Some code
     → FollowsBy tests kept config peer (event.Call c) (silent (Refused code))

@@ -30,7 +30,7 @@ use Rattle.dds_core.specs.declared.answering.Room.{Room}
 use Rattle.dds_core.specs.declared.matching.ReaderName.{ReaderName}
 use Rattle.dds_core.specs.declared.sending.Announced.{Announced}
 use Rattle.dds_core.specs.Beating.{AddsTo, due_to}
-use Rattle.dds_core.specs.Kept.{WriterKept, CoreKept, writer_identity}
+use Rattle.dds_core.specs.Kept.{WriterKept, PeerKept, writer_identity}
 use Rattle.dds_core.specs.Receiving.{with_state}
 use Rattle.dds_core.specs.Standing.{StandsFor}
 
@@ -126,7 +126,7 @@ acknowledged_moves writer reader None = []
 acknowledged_moves writer reader (Some to) = Acknowledged writer reader to ∷ []
 
 -- the writer of this index, which keeps this, took the ACKNACK of its reader of this row
-pub record RowTook (old : CoreKept) (index row : ℕ) (a : AckNackBody) (k : WriterKept) (name : ReaderName) (moves : List Move) (sent : Announced) (new : CoreKept) (after : List Move) (gone : Announced) : Type 0 where
+pub record RowTook (old : PeerKept) (index row : ℕ) (a : AckNackBody) (k : WriterKept) (name : ReaderName) (moves : List Move) (sent : Announced) (new : PeerKept) (after : List Move) (gone : Announced) : Type 0 where
   pub acknowledged : Option ℕ
   pub writer : WriterKept
   pub same : writer_identity writer ≡ writer_identity k
@@ -134,11 +134,11 @@ pub record RowTook (old : CoreKept) (index row : ℕ) (a : AckNackBody) (k : Wri
   pub new_is : new ≡ record old { writers = set old.writers index writer }
   pub after_is : after ≡ moves ++ acknowledged_moves (index + 1) name.reader acknowledged
 
-abbrev pub TakesRow : CoreKept → ℕ → ℕ → AckNackBody → List Move → Announced → CoreKept → List Move → Announced → Type 0
+abbrev pub TakesRow : PeerKept → ℕ → ℕ → AckNackBody → List Move → Announced → PeerKept → List Move → Announced → Type 0
 TakesRow old index row a moves sent new after gone = (k : WriterKept) (name : ReaderName) → slice_get old.writers index ≡ Some k → slice_get k.readers row ≡ Some name → RowTook old index row a k name moves sent new after gone
 
 -- for each state that the old values stand for, the writer of this index took the ACKNACK as to each of these readers
-pub record RowsTook (config : Config) (own : GuidPrefix) (at : Receiver) (a : AckNackBody) (index : ℕ) (names : List ReaderName) (peer : Peer) (made : List Move) (sent : Announced) (new : CoreKept) (gone : Announced) : Type 0 where
+pub record RowsTook (config : Config) (own : GuidPrefix) (at : Receiver) (a : AckNackBody) (index : ℕ) (names : List ReaderName) (peer : Peer) (made : List Move) (sent : Announced) (new : PeerKept) (gone : Announced) : Type 0 where
   pub state : State
   pub dues : List Due
   pub turn : InTurn (λ (n : ReaderName). WriterTakes config own peer.number at a (suc index) n.reader) names (state_of peer) made dues state
@@ -146,7 +146,7 @@ pub record RowsTook (config : Config) (own : GuidPrefix) (at : Receiver) (a : Ac
   pub adds : AddsTo dues sent gone
 
 -- so many of the readers of the writer of this index, which keeps this, were answered
-pub record TakesRows (old : CoreKept) (index : ℕ) (a : AckNackBody) (k : WriterKept) (rooms : List (Option Room)) (count : ℕ) (moves : List Move) (sent : Announced) (now : CoreKept) (after : List Move) (gone : Announced) : Type 0 where
+pub record TakesRows (old : PeerKept) (index : ℕ) (a : AckNackBody) (k : WriterKept) (rooms : List (Option Room)) (count : ℕ) (moves : List Move) (sent : Announced) (now : PeerKept) (after : List Move) (gone : Announced) : Type 0 where
   pub made : List Move
   pub after_is : after ≡ moves ++ made
   pub takes : (at : Receiver) → AreRooms old.prefix k.entity at a k.readers rooms → (config : Config) (peer : Peer) → StandsFor old config peer
@@ -157,5 +157,5 @@ pub record TakesRows (old : CoreKept) (index : ℕ) (a : AckNackBody) (k : Write
   pub prefix : now.prefix ≡ old.prefix
   pub others : length now.writers ≡ length old.writers
 
-abbrev pub TakesAllRows : CoreKept → ℕ → AckNackBody → List (Option Room) → List Move → Announced → CoreKept → List Move → Announced → Type 0
+abbrev pub TakesAllRows : PeerKept → ℕ → AckNackBody → List (Option Room) → List Move → Announced → PeerKept → List Move → Announced → Type 0
 TakesAllRows old index a rooms moves sent new after gone = (k : WriterKept) → slice_get old.writers index ≡ Some k → TakesRows old index a k rooms (length k.readers) moves sent new after gone

@@ -41,7 +41,7 @@ pub record FitsWriters (names : List WriterName) (reader : Proxies) (store : Sto
   pub fits : length names ≤ length (qos_of store.cache).writers
   pub many : length (qos_of store.cache).writers ≤ 256
 
-pub record CoreKept : Type 0 where
+pub record PeerKept : Type 0 where
   pub prefix : GuidPrefix
   pub moment : ℕ
   pub writers : List WriterKept
@@ -70,7 +70,7 @@ writer_identity w = record { entity = w.entity; autodispose = w.autodispose; des
 abbrev pub reader_identity : ReaderKept → ReaderIdentity
 reader_identity r = record { entity = r.entity; writers = r.writers }
 
-abbrev pub identity_of : CoreKept → Identity
+abbrev pub identity_of : PeerKept → Identity
 identity_of kept = record { prefix = kept.prefix; writers = map writer_identity kept.writers; readers = map reader_identity kept.readers }
 
 -- the same, as the configuration says it

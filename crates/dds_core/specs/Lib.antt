@@ -11,3 +11,4 @@ pub mod Answering
 pub mod Pairs
 pub mod Expiring
 pub mod Watching
+pub mod Filtering

@@ -15,7 +15,7 @@ use Rattle.dds_model.specs.Part.{Part}
 use Rattle.dds_model.specs.Calls.{writes, effect, change_made, change_refusal}
 use Rattle.dds_model.specs.Claims.{Claim, Claims}
 use Rattle.dds_model.specs.Peer.{Peer, IsTrueAt}
-use Rattle.dds_core.specs.Kept.{CoreKept}
+use Rattle.dds_core.specs.Kept.{PeerKept}
 use Rattle.dds_core.specs.Standing.{StandsFor}
 use Rattle.dds_core.specs.Sending.{SendsFor}
 
@@ -28,14 +28,14 @@ abbrev pub IsValueOf : ChangeKind → List ℕ → Type 0
 IsValueOf k value = k ≢ kind.Write → value ≡ []
 
 -- the change is refused, as the history says or for want of memory, and that is all
-pub record IsNotMade (config : Config) (peer : Peer) (writer : ℕ) (change : Change) (output : Output) (new : CoreKept) : Type 0 where
+pub record IsNotMade (config : Config) (peer : Peer) (writer : ℕ) (change : Change) (output : Output) (new : PeerKept) : Type 0 where
   pub code : Code
   pub cause : Refuses (change_refusal peer.part writer change) code
   pub output_is : output ≡ record { reply = Refused code; packets = []; unsent = 0 }
   pub stands : StandsFor new config peer
 
 -- the change is made and announced, and what is sent claims the truth
-pub record IsMade (config : Config) (peer : Peer) (writer : ℕ) (change : Change) (output : Output) (new : CoreKept) : Type 0 where
+pub record IsMade (config : Config) (peer : Peer) (writer : ℕ) (change : Change) (output : Output) (new : PeerKept) : Type 0 where
   pub accepted : change_refusal peer.part writer change ≡ None
   pub reply : output.reply ≡ Done
   pub sends : SendsFor config peer (writes writer (Changed change)) output
@@ -43,6 +43,6 @@ pub record IsMade (config : Config) (peer : Peer) (writer : ℕ) (change : Chang
   pub stands : StandsFor new config (record peer { part = entered peer.part writer change })
 
 -- one or the other, for each state that the old values stand for
-abbrev pub Makes : CoreKept → ℕ → ChangeKind → Key → List ℕ → Output → CoreKept → Type 0
+abbrev pub Makes : PeerKept → ℕ → ChangeKind → Key → List ℕ → Output → PeerKept → Type 0
 Makes old index k key value output new = (config : Config) (peer : Peer) → StandsFor old config peer
     → IsMade config peer (index + 1) (change_made peer.part k key value) output new ⊎ IsNotMade config peer (index + 1) (change_made peer.part k key value) output new

@@ -13,7 +13,7 @@ use Rattle.dds_model.specs.Opening.{opening_writer, matched_writers, reader_qos,
 use Rattle.dds_model.specs.Part.{nothing_seen}
 use Rattle.dds_model.specs.Peer.{Peer}
 use Rattle.dds_model.specs.World.{peer_at}
-use Rattle.dds_core.specs.Kept.{WriterKept, ReaderKept, CoreKept, writer_identity, reader_identity, configured_writer, configured_reader}
+use Rattle.dds_core.specs.Kept.{WriterKept, ReaderKept, PeerKept, writer_identity, reader_identity, configured_writer, configured_reader}
 use Rattle.dds_core.specs.Standing.{WriterStands, ReaderStands, StandsFor}
 
 -- why there is no peer of this number: the configuration is refused, or has none
@@ -43,5 +43,5 @@ pub record OpenReaders (peers : List PeerConfig) (configs : List ReaderConfig) (
   pub each : (i : ℕ) (r : ReaderConfig) (k : ReaderKept) → slice_get configs i ≡ Some r → slice_get kept i ≡ Some k → OpensReader peers r k
 
 -- the peer of this index stands for its opening
-abbrev pub OpensCore : List PeerConfig → ℕ → CoreKept → Type 0
+abbrev pub OpensCore : List PeerConfig → ℕ → PeerKept → Type 0
 OpensCore peers index kept = StandsFor kept (record { peers = peers }) (opening_peer (record { peers = peers }) (index + 1))

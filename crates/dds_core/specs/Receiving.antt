@@ -48,7 +48,7 @@ use Rattle.dds_core.specs.declared.reader_end.Told.TheVariants as told
 use Rattle.dds_core.specs.declared.receiver.MessageReceiver.{MessageReceiver}
 use Rattle.dds_core.specs.declared.sending.Announced.{Announced}
 use Rattle.dds_core.specs.Beating.{AddsTo}
-use Rattle.dds_core.specs.Kept.{ReaderKept, CoreKept}
+use Rattle.dds_core.specs.Kept.{ReaderKept, PeerKept}
 use Rattle.dds_core.specs.Stored.{Holds}
 use Rattle.dds_core.specs.Standing.{ReaderStands, StandsFor}
 
@@ -193,7 +193,7 @@ abbrev pub AllCanTake : List ReaderKept → List (Option Ready) → Type 0
 AllCanTake readers ready = (i : ℕ) (one : Ready) → slice_get ready i ≡ Some (Some one) → CanTakeAt readers i one
 
 -- the reader of this index was told what was ready, and the ACKNACK that is then due was sent
-pub record TookAt (old : CoreKept) (index : ℕ) (ready : Ready) (k : ReaderKept) (moves : List Move) (sent : Announced) (new : CoreKept) (after : List Move) (gone : Announced) : Type 0 where
+pub record TookAt (old : PeerKept) (index : ℕ) (ready : Ready) (k : ReaderKept) (moves : List Move) (sent : Announced) (new : PeerKept) (after : List Move) (gone : Announced) : Type 0 where
   pub name : WriterName
   pub at_name : slice_get k.writers ready.row ≡ Some name
   pub from : ℕ
@@ -206,7 +206,7 @@ pub record TookAt (old : CoreKept) (index : ℕ) (ready : Ready) (k : ReaderKept
   pub after_is : after ≡ moves ++ moves_of name.writer (index + 1) from step
   pub answer : AddsTo (acknacks_due old.prefix name.guid.prefix name.writer.peer k.entity name.guid.entity step.acknack) sent gone
 
-abbrev pub TakesAt : CoreKept → ℕ → Ready → List Move → Announced → CoreKept → List Move → Announced → Type 0
+abbrev pub TakesAt : PeerKept → ℕ → Ready → List Move → Announced → PeerKept → List Move → Announced → Type 0
 TakesAt old index ready moves sent new after gone = (k : ReaderKept) → slice_get old.readers index ≡ Some k → TookAt old index ready k moves sent new after gone
 
 -- what this state of a peer is with another part, and other knowledge
@@ -214,24 +214,24 @@ abbrev pub with_state : Peer → State → Peer
 with_state peer state = record peer { part = state.part; known = state.known }
 
 -- for each state that the old values stand for, so many of its readers took the submessage up, one after the other
-pub record ReadersTook (config : Config) (own : GuidPrefix) (at : Receiver) (submessage : Submessage) (count : ℕ) (peer : Peer) (made : List Move) (sent : Announced) (new : CoreKept) (gone : Announced) : Type 0 where
+pub record ReadersTook (config : Config) (own : GuidPrefix) (at : Receiver) (submessage : Submessage) (count : ℕ) (peer : Peer) (made : List Move) (sent : Announced) (new : PeerKept) (gone : Announced) : Type 0 where
   pub state : State
   pub dues : List Due
   pub turn : InTurn (ReaderTakes config own peer.number at submessage) (numbers_from 1 count) (state_of peer) made dues state
   pub stands : StandsFor new config (with_state peer state)
   pub adds : AddsTo dues sent gone
 
-abbrev pub ReadersTake : CoreKept → Receiver → Submessage → ℕ → List Move → Announced → CoreKept → Announced → Type 0
+abbrev pub ReadersTake : PeerKept → Receiver → Submessage → ℕ → List Move → Announced → PeerKept → Announced → Type 0
 ReadersTake old at submessage count made sent new gone = (config : Config) (peer : Peer) → StandsFor old config peer → ReadersTook config old.prefix at submessage count peer made sent new gone
 
 -- each reader is told what was ready for it
-pub record TakesAll (old : CoreKept) (ready : List (Option Ready)) (moves : List Move) (sent : Announced) (new : CoreKept) (after : List Move) (gone : Announced) : Type 0 where
+pub record TakesAll (old : PeerKept) (ready : List (Option Ready)) (moves : List Move) (sent : Announced) (new : PeerKept) (after : List Move) (gone : Announced) : Type 0 where
   pub made : List Move
   pub after_is : after ≡ moves ++ made
   pub takes : (at : Receiver) (submessage : Submessage) → AreReady old.prefix at submessage old.readers ready → ReadersTake old at submessage (length old.readers) made sent new gone
 
 -- the same of the readers before this index; the others are as they were
-pub record TakesSome (old : CoreKept) (ready : List (Option Ready)) (index : ℕ) (moves : List Move) (sent : Announced) (now : CoreKept) (after : List Move) (gone : Announced) : Type 0 where
+pub record TakesSome (old : PeerKept) (ready : List (Option Ready)) (index : ℕ) (moves : List Move) (sent : Announced) (now : PeerKept) (after : List Move) (gone : Announced) : Type 0 where
   pub made : List Move
   pub after_is : after ≡ moves ++ made
   pub takes : (at : Receiver) (submessage : Submessage) → AreReady old.prefix at submessage old.readers ready → ReadersTake old at submessage index made sent now gone
@@ -239,13 +239,13 @@ pub record TakesSome (old : CoreKept) (ready : List (Option Ready)) (index : ℕ
   pub prefix : now.prefix ≡ old.prefix
 
 -- the readers are told what a submessage says, after other moves
-pub record TellsReaders (old : CoreKept) (at : Receiver) (submessage : Submessage) (moves : List Move) (sent : Announced) (new : CoreKept) (after : List Move) (gone : Announced) : Type 0 where
+pub record TellsReaders (old : PeerKept) (at : Receiver) (submessage : Submessage) (moves : List Move) (sent : Announced) (new : PeerKept) (after : List Move) (gone : Announced) : Type 0 where
   pub made : List Move
   pub after_is : after ≡ moves ++ made
   pub takes : ReadersTake old at submessage (length old.readers) made sent new gone
 
 -- for each state that the old values stand for, a submessage was taken up, and what was then due was sent
-pub record TookSubmessage (config : Config) (own : GuidPrefix) (at : Receiver) (submessage : Submessage) (peer : Peer) (made : List Move) (sent : Announced) (new : CoreKept) (gone : Announced) : Type 0 where
+pub record TookSubmessage (config : Config) (own : GuidPrefix) (at : Receiver) (submessage : Submessage) (peer : Peer) (made : List Move) (sent : Announced) (new : PeerKept) (gone : Announced) : Type 0 where
   pub state : State
   pub dues : List Due
   pub takes : Takes config own peer.number at submessage (state_of peer) made dues state
@@ -253,29 +253,29 @@ pub record TookSubmessage (config : Config) (own : GuidPrefix) (at : Receiver) (
   pub adds : AddsTo dues sent gone
 
 -- the same, after other moves
-pub record TakesOneMore (old : CoreKept) (at : Receiver) (submessage : Submessage) (moves : List Move) (sent : Announced) (new : CoreKept) (after : List Move) (gone : Announced) : Type 0 where
+pub record TakesOneMore (old : PeerKept) (at : Receiver) (submessage : Submessage) (moves : List Move) (sent : Announced) (new : PeerKept) (after : List Move) (gone : Announced) : Type 0 where
   pub made : List Move
   pub after_is : after ≡ moves ++ made
   pub takes : (config : Config) (peer : Peer) → StandsFor old config peer → TookSubmessage config old.prefix at submessage peer made sent new gone
 
 -- the new values stand for what the old ones stood for
-abbrev pub StandsAsWell : CoreKept → CoreKept → Type 0
+abbrev pub StandsAsWell : PeerKept → PeerKept → Type 0
 StandsAsWell old new = (config : Config) (peer : Peer) → StandsFor old config peer → StandsFor new config peer
 
 -- for each state that the old values stand for, the message's submessages are taken up with this report, and what is then
 -- due is sent
-pub record TookMessage (config : Config) (peer : Peer) (own : GuidPrefix) (message : Message) (report : Report) (new : CoreKept) (gone : Announced) : Type 0 where
+pub record TookMessage (config : Config) (peer : Peer) (own : GuidPrefix) (message : Message) (report : Report) (new : PeerKept) (gone : Announced) : Type 0 where
   pub state : State
   pub dues : List Due
   pub follows : Follows config own peer.number 0 (receiver_of message.prefix) message.submessages (state_of peer) report.moves report.refused dues state
   pub stands : StandsFor new config (with_state peer state)
   pub sent : AreSent dues gone.packets.items gone.unsent
 
-abbrev pub TakesMessage : CoreKept → Message → Report → CoreKept → Announced → Type 0
+abbrev pub TakesMessage : PeerKept → Message → Report → PeerKept → Announced → Type 0
 TakesMessage old message report new gone = (config : Config) (peer : Peer) → StandsFor old config peer → TookMessage config peer old.prefix message report new gone
 
 -- the same, up to the submessage of this index
-pub record TakenTo (old : CoreKept) (message : Message) (index : ℕ) (at : Receiver) (moves : List Move) (now : CoreKept) (gone : Announced) (config : Config) (peer : Peer) : Type 0 where
+pub record TakenTo (old : PeerKept) (message : Message) (index : ℕ) (at : Receiver) (moves : List Move) (now : PeerKept) (gone : Announced) (config : Config) (peer : Peer) : Type 0 where
   pub state : State
   pub dues : List Due
   pub stands : StandsFor now config (with_state peer state)
@@ -284,18 +284,18 @@ pub record TakenTo (old : CoreKept) (message : Message) (index : ℕ) (at : Rece
       → Follows config old.prefix peer.number index at (drop index message.submessages) state later refused last after
       → Follows config old.prefix peer.number 0 (receiver_of message.prefix) message.submessages (state_of peer) (moves ++ later) refused (dues ++ last) after
 
-abbrev pub TakesTo : CoreKept → Message → ℕ → Receiver → List Move → CoreKept → Announced → Type 0
+abbrev pub TakesTo : PeerKept → Message → ℕ → Receiver → List Move → PeerKept → Announced → Type 0
 TakesTo old message index at moves now gone = (config : Config) (peer : Peer) → StandsFor old config peer → TakenTo old message index at moves now gone config peer
 
 -- for each state that the old values stand for, this is what is done with a packet
-pub record ReceivedPacket (config : Config) (peer : Peer) (bytes : List ℕ) (report : Report) (new : CoreKept) (gone : Announced) : Type 0 where
+pub record ReceivedPacket (config : Config) (peer : Peer) (bytes : List ℕ) (report : Report) (new : PeerKept) (gone : Announced) : Type 0 where
   pub state : State
   pub dues : List Due
   pub takes : TakesPacket config peer.number bytes (state_of peer) report dues state
   pub stands : StandsFor new config (with_state peer state)
   pub sent : AreSent dues gone.packets.items gone.unsent
 
-abbrev pub ReceivesPacket : CoreKept → List ℕ → Report → CoreKept → Announced → Type 0
+abbrev pub ReceivesPacket : PeerKept → List ℕ → Report → PeerKept → Announced → Type 0
 ReceivesPacket old bytes report new gone = (config : Config) (peer : Peer) → StandsFor old config peer → ReceivedPacket config peer bytes report new gone
 
 -- the reply to an access that its cache answers so

@@ -26,7 +26,7 @@ use Rattle.dds_model.specs.declared.reply.Reply.TheVariants.{Done}
 use Rattle.dds_model.specs.Protocol.{Due, AreSent, changes_due, heartbeats_due, assertions_due}
 use Rattle.dds_core.specs.declared.matching.Destination.{Destination}
 use Rattle.dds_core.specs.declared.sending.Sender.{Sender}
-use Rattle.dds_core.specs.Kept.{CoreKept, WriterKept}
+use Rattle.dds_core.specs.Kept.{PeerKept, WriterKept}
 use Rattle.dds_core.specs.Standing.{StandsFor}
 
 -- nothing is sent, and nothing found no memory
@@ -62,7 +62,7 @@ due_at_tick config peer reply = []
 
 -- for each state that the values stand for, this is what is sent at a call or a tick; what is sent at a delivery is said by
 -- the rules of the protocol
-abbrev pub Sends : CoreKept → Event → Output → Type 0
+abbrev pub Sends : PeerKept → Event → Output → Type 0
 Sends old (event.Call call) output = (config : Config) (peer : Peer) → StandsFor old config peer → SendsFor config peer (effect_of peer.part call output.reply) output
 Sends old (event.Tick now) output = (config : Config) (peer : Peer) → StandsFor old config peer → AreSent (due_at_tick config peer output.reply) output.packets output.unsent
 Sends old (event.Deliver packet) output = Unit {0}
@@ -110,7 +110,7 @@ abbrev pub AddsPacket : List Packet → Message → ℕ → List Packet → Type
 AddsPacket old message to new = (new ≡ old) ⊎ (new ≡ old ++ record { to = to; bytes = spelling_of message } ∷ [])
 
 -- a writer of the peer, of this index, announces the change of this number, as it was copied, to each of its destinations
-pub record AnnouncesAll (kept : CoreKept) (index number : ℕ) (content : Result DataContent AllocError) (output : Output) : Type 0 where
+pub record AnnouncesAll (kept : PeerKept) (index number : ℕ) (content : Result DataContent AllocError) (output : Output) : Type 0 where
   pub writer : WriterKept
   pub at : slice_get kept.writers index ≡ Some writer
   pub counted : length output.packets + output.unsent ≡ length writer.destinations

@@ -29,7 +29,7 @@ use Rattle.dds_core.specs.declared.matching.Destination.{Destination}
 use Rattle.dds_core.specs.declared.matching.ReaderName.{ReaderName}
 use Rattle.dds_core.specs.declared.matching.WriterName.{WriterName}
 use Rattle.dds_core.specs.Stored.{Holds}
-use Rattle.dds_core.specs.Kept.{WriterKept, ReaderKept, CoreKept, writer_identity, identity_of, IsPeerOf}
+use Rattle.dds_core.specs.Kept.{WriterKept, ReaderKept, PeerKept, writer_identity, identity_of, IsPeerOf}
 
 -- the state of a writer of the machine, with the count of the last ACKNACK that it took of each matched reader
 abbrev pub state_of : Writer → (Endpoint → Option ℤ) → WriterState
@@ -99,7 +99,7 @@ pub record ReadersStand (kept : List ReaderKept) (proxies : List (List WriterPro
   pub each : (i : ℕ) (k : ReaderKept) → slice_get kept i ≡ Some k → ReaderStands k (get_or proxies i []) (get_or rs i no_reader) (λ w. known.tracked w (suc i))
 
 -- a state of the peer for which what is kept stands
-pub record StandsFor (kept : CoreKept) (config : Config) (peer : Peer) : Type 0 where
+pub record StandsFor (kept : PeerKept) (config : Config) (peer : Peer) : Type 0 where
   pub is_peer : IsPeerOf config peer.number (identity_of kept)
   pub moment : peer.part.dds.moment ≡ kept.moment
   pub early : kept.moment < 2 ^ 63
@@ -109,12 +109,12 @@ pub record StandsFor (kept : CoreKept) (config : Config) (peer : Peer) : Type 0 
   pub watch : peer.part.dds.watch ≡ kept.watch
 
 -- for each state that the old values stand for, the event is a step by these filters to one that the new values stand for
-abbrev pub StepsBy : Tests → CoreKept → Event → Output → CoreKept → Type 0
+abbrev pub StepsBy : Tests → PeerKept → Event → Output → PeerKept → Type 0
 StepsBy tests old event output new = (config : Config) (peer : Peer) → StandsFor old config peer
     → (after : Peer) × PeerStep config tests peer event output after × StandsFor new config after
 
 -- the same of an event in which no filter has a say
-abbrev pub Steps : CoreKept → Event → Output → CoreKept → Type 0
+abbrev pub Steps : PeerKept → Event → Output → PeerKept → Type 0
 Steps old event output new = StepsBy no_filters old event output new
 
 -- all that the peer knows is claimed by what was delivered to it
@@ -136,13 +136,13 @@ KeepsRules config old other output new = Unit {0}
 
 -- For each state that the old values stand for, and of which all that is known was claimed, the event is a step to one that
 -- the new values stand for, and of which all that is known was claimed; a delivery follows the rules of the protocol.
-abbrev pub SoundStepsBy : Tests → CoreKept → Event → Output → CoreKept → Type 0
+abbrev pub SoundStepsBy : Tests → PeerKept → Event → Output → PeerKept → Type 0
 SoundStepsBy tests old event output new = (config : Config) (peer : Peer) → StandsFor old config peer → IsSound config peer
     → (after : Peer) × PeerStep config tests peer event output after × StandsFor new config after × IsSound config after
     × KeepsRules config peer event output after
 
 -- the same without filters
-abbrev pub SoundSteps : CoreKept → Event → Output → CoreKept → Type 0
+abbrev pub SoundSteps : PeerKept → Event → Output → PeerKept → Type 0
 SoundSteps old event output new = SoundStepsBy no_filters old event output new
 
 -- a writer whose peer's time went on to this moment, and nothing else

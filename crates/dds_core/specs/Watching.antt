@@ -1,6 +1,6 @@
 -- What a peer tells of its statuses and its conditions, by what it keeps. Inner functions alone cite this, so nothing here has
--- to be believed, but what one filter more is (`AddsFilter`, `Tells`).
-use Rattle.std.specs.Prelude.{◌≡◌, ℕ, Bool, List, Option, Some, None, Result, Ok, Err, ◌==◌, ◌+◌, if◌then◌else◌}
+-- to be believed.
+use Rattle.std.specs.Prelude.{◌≡◌, ℕ, Bool, List, Option, Some, None, Result, Ok, Err, ◌==◌, if◌then◌else◌}
 use Rattle.dds_base.specs.declared.code.Code.{Code}
 use Rattle.dds_base.specs.declared.code.Code.TheVariants.{BadParameter, PreconditionNotMet}
 use Rattle.dds_base.specs.declared.config.Config.{Config}
@@ -13,14 +13,14 @@ use Rattle.dds_conditions.specs.declared.condition.Condition.{Condition}
 use Rattle.dds_conditions.specs.declared.condition.Condition.TheVariants.{Guard, Samples}
 use Rattle.std.specs.List.{list_any}
 use Rattle.dds_conditions.specs.Attached.{active_of}
-use Rattle.dds_conditions.specs.Watched.{conditions_of, made, with_filter}
+use Rattle.dds_conditions.specs.Watched.{conditions_of, made}
 use Rattle.dds_model.specs.declared.reply.Reply.{Reply}
 use Rattle.dds_model.specs.declared.reply.Reply.TheVariants.{Done, Created, Conditions, Refused}
 use Rattle.dds_model.specs.Peer.{Peer}
 use Rattle.dds_model.specs.Watching.{Tests, condition_refusal, condition_selection, filter_of, status_changes, trigger_value, value_of}
 use Rattle.dds_core.specs.declared.watching.Asked.{Asked}
-use Rattle.dds_core.specs.Kept.{CoreKept}
-use Rattle.dds_core.specs.Standing.{IsSound, StandsFor}
+use Rattle.dds_core.specs.Kept.{PeerKept}
+use Rattle.dds_core.specs.Standing.{StandsFor}
 use Rattle.dds_model.specs.Part.{Part}
 
 -- the reply to a call that is done or refused
@@ -39,44 +39,33 @@ conditions_reply (Ok conditions) = Conditions conditions
 conditions_reply (Err code) = Refused code
 
 -- so it is of the part of each state that stands for what is kept
-abbrev pub Tells : CoreKept → (Part → Type 0) → Type 0
+abbrev pub Tells : PeerKept → (Part → Type 0) → Type 0
 Tells kept Is = (config : Config) (peer : Peer) → StandsFor kept config peer → Is peer.part
 
--- a peer with one filter more
-abbrev pub with_filter_at : Peer → Peer
-with_filter_at peer = record peer { part = record peer.part { dds = record peer.part.dds { watch = with_filter peer.part.dds.watch } } }
-
--- for each state that the old values stand for, this is the number of the next filter, and the new values stand for that
--- state with one filter more; and what it knows was claimed, if it was before
-abbrev pub AddsFilter : CoreKept → ℕ → CoreKept → Type 0
-AddsFilter old number new = (config : Config) (peer : Peer) → StandsFor old config peer
-    → (number ≡ peer.part.dds.watch.filters + 1) × StandsFor new config (with_filter_at peer)
-    × (IsSound config peer → IsSound config (with_filter_at peer))
-
 -- the flagged statuses of an entity
-abbrev pub TellsStatuses : CoreKept → Entity → StatusMask → Type 0
+abbrev pub TellsStatuses : PeerKept → Entity → StatusMask → Type 0
 TellsStatuses kept entity mask = Tells kept (λ part. mask ≡ status_changes part entity)
 
 -- the trigger value of a condition that may have been made
-abbrev pub TellsValue : Tests → CoreKept → Option Condition → Bool → Type 0
+abbrev pub TellsValue : Tests → PeerKept → Option Condition → Bool → Type 0
 TellsValue tests kept condition answer = Tells kept (λ part. answer ≡ value_of tests part condition)
 
 -- the trigger value of a condition
-abbrev pub TellsTrigger : Tests → CoreKept → Cond → Bool → Type 0
+abbrev pub TellsTrigger : Tests → PeerKept → Cond → Bool → Type 0
 TellsTrigger tests kept condition answer = Tells kept (λ part. answer ≡ trigger_value tests part condition)
 
 -- whether a condition of a WaitSet is true
-abbrev pub TellsActive : Tests → CoreKept → ℕ → Bool → Type 0
+abbrev pub TellsActive : Tests → PeerKept → ℕ → Bool → Type 0
 TellsActive tests kept wait_set answer =
     Tells kept (λ part. answer ≡ list_any (trigger_value tests part) (conditions_of part.dds.watch wait_set))
 
 -- the conditions of a WaitSet that are true
-abbrev pub AreActive : Tests → CoreKept → ℕ → List Cond → Type 0
+abbrev pub AreActive : Tests → PeerKept → ℕ → List Cond → Type 0
 AreActive tests kept wait_set active =
     Tells kept (λ part. active ≡ active_of (trigger_value tests part) (conditions_of part.dds.watch wait_set))
 
 -- what an access by a condition asks for, or why it is refused
-abbrev pub AsksBy : CoreKept → ℕ → Scope → ℕ → Result Asked Code → Type 0
+abbrev pub AsksBy : PeerKept → ℕ → Scope → ℕ → Result Asked Code → Type 0
 AsksBy kept reader scope condition (Ok asked) =
     Tells kept (λ part. (condition_refusal part reader scope condition ≡ None)
     × (asked.selection ≡ condition_selection part scope condition)

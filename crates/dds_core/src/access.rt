@@ -10,12 +10,12 @@ ghost use Rattle.dds_core.specs.Sending.{SendsNothing};
 
 use crate::calls::index_of;
 use crate::output::{answered, reply_to_access};
-use crate::peer::Core;
+use crate::peer::Peer;
 use dds_base::{Code, Handle, Key, Selection};
 use dds_cache::Everything;
 use dds_model::{Output, Reply};
 
-impl Core {
+impl Peer {
     pub(crate) fn read(&mut self, reader: u8, selection: Selection) -> Output
         ensures step { Steps self.old (event.Call (call.Read reader selection)) result self.new }
         ensures sends { SendsNothing result }

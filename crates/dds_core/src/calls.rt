@@ -13,7 +13,7 @@ ghost use Rattle.dds_core.specs.Making.{Makes, IsValueOf};
 ghost use Rattle.dds_core.specs.Sending.{Sends, SendsNothing, AnnouncesAll, AreMessages};
 
 use crate::output::answered;
-use crate::peer::Core;
+use crate::peer::Peer;
 use crate::sending::{Announced, Sender, announce};
 use dds_base::{Change, ChangeKind, Code, Key, MAX_VALUE, Octets, Sequence, Sn};
 use dds_conditions::Filters;
@@ -32,7 +32,7 @@ pub fn index_of(number: u8, count: usize) -> Option<usize>
     }
 }
 
-impl Core {
+impl Peer {
     pub(crate) fn call<T: Filters>(&mut self, filters: &T, call: Call) -> Output
         ensures step { StepsBy (T.meaning filters.now) self.old (event.Call call) result self.new }
         ensures sends { Sends self.old (event.Call call) result }

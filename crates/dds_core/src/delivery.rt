@@ -11,7 +11,7 @@ ghost use Rattle.dds_core.specs.Receiving.{receiver_at, IsBounded, AreBounded, A
 
 use crate::acknack::send_acknack;
 use crate::output::unmoved;
-use crate::peer::Core;
+use crate::peer::Peer;
 use crate::reader_end::{ReaderEnd, Ready};
 use crate::receiver::{MessageReceiver, receiver_after, receiver_for};
 use crate::sending::Announced;
@@ -66,7 +66,7 @@ fn push_moves(moves: &mut Vec<Move>, writer: Endpoint, reader: u8, from: Sn, ste
     }
 }
 
-impl Core {
+impl Peer {
     /// The reader of this index is told what is ready for it, and sends the ACKNACK that is then due. Adds the moves, for
     /// which there is room.
     fn take_at(&mut self, moves: &mut Vec<Move>, sent: &mut Announced, index: usize, ready: Ready)

@@ -7,6 +7,7 @@
 mod access;
 mod acknack;
 mod answering;
+mod application;
 mod by_filter;
 mod calls;
 mod delivery;
@@ -28,5 +29,5 @@ mod store;
 mod watching;
 mod writer_end;
 
+pub use application::Core;
 pub use pairing::Pair;
-pub use peer::Core;

@@ -7,7 +7,7 @@ ghost use Rattle.dds_core.specs.Opening.{core_refusal, opening_peer, OpenWriters
 ghost use Rattle.dds_core.specs.Standing.{StandsFor};
 
 use crate::calls::index_of;
-use crate::peer::Core;
+use crate::peer::Peer;
 use crate::reader_end::ReaderEnd;
 use crate::writer_end::WriterEnd;
 use dds_base::{Code, Config, Moment, PeerConfig, ReaderConfig, WriterConfig};
@@ -47,7 +47,7 @@ fn open_readers(
 }
 
 /// A peer of a checked configuration, by its index.
-fn open(alloc: Global, peers: &[PeerConfig], index: usize) -> Result<Core, AllocError>
+fn open(alloc: Global, peers: &[PeerConfig], index: usize) -> Result<Peer, AllocError>
     requires within { index < length peers.now }
     requires checked { check_refusal peers.now ≡ None }
     ensures { IfOk result (OpensCore peers.now index) }
@@ -56,7 +56,7 @@ fn open(alloc: Global, peers: &[PeerConfig], index: usize) -> Result<Core, Alloc
     let writers = open_writers(alloc, peers, own.writers.as_slice())?;
     let readers = open_readers(alloc, peers, own.readers.as_slice())?;
     let watch = Watch::open(alloc, writers.len(), readers.len())?;
-    Ok(Core {
+    Ok(Peer {
         alloc,
         prefix: own.prefix,
         moment: Moment::new(0),
@@ -66,14 +66,14 @@ fn open(alloc: Global, peers: &[PeerConfig], index: usize) -> Result<Core, Alloc
     })
 }
 
-impl Core {
+impl Peer {
     /// The peer of this number, at its opening. Its writers and readers are matched with those of equal topic.
     ///
     /// # Errors
     ///
     /// The first of these: what `Config::check` answers; `BadParameter` where the configuration has no peer of this
     /// number; `Memory` where a growth was refused.
-    pub fn open(alloc: Global, config: &Config, peer: u8) -> Result<Core, Code>
+    pub fn open(alloc: Global, config: &Config, peer: u8) -> Result<Peer, Code>
         // The peer stands for its opening in the configuration.
         ensures opening { IfOk result (λ core. StandsFor core config.now (opening_peer config.now peer)) }
         // Against what is opened there is no cause.

@@ -4,7 +4,7 @@
 ghost use Rattle.std.specs.Prelude.{◌≡◌, ℕ, slice_get, Some, MatchOption};
 ghost use Rattle.dds_base.specs.declared.config.Config.{Config};
 ghost use Rattle.dds_model.specs.Part.{own_proxies, place_of};
-ghost use Rattle.dds_model.specs.Peer.{Peer};
+ghost use Rattle.dds_model.specs.Peer.{Peer as PeerState};
 ghost use Rattle.dds_core.specs.declared.matching.ReaderName.{ReaderName as NameOf};
 ghost use Rattle.dds_core.specs.declared.matching.WriterName.{WriterName as WriterNameOf};
 ghost use Rattle.dds_core.specs.Pairs.{IsPair};
@@ -12,7 +12,7 @@ ghost use Rattle.dds_core.specs.Standing.{StandsFor, IsFirstReader, IsFirstRow};
 
 use crate::calls::index_of;
 use crate::matching::{ReaderName, WriterName};
-use crate::peer::Core;
+use crate::peer::Peer;
 use dds_base::{EntityId, Moment, Sn};
 use dds_model::Endpoint;
 
@@ -55,11 +55,11 @@ fn writer_row_among(names: &[WriterName], writer: Endpoint) -> Option<usize>
     None
 }
 
-impl Core {
+impl Peer {
     /// The peer's moment: 0, or that of the last tick that was done.
     pub fn moment(&self) -> Moment
         // It is the moment of each state that the peer stands for.
-        ensures moment { (config : Config) (peer : Peer) → StandsFor self.now config peer
+        ensures moment { (config : Config) (peer : PeerState) → StandsFor self.now config peer
             → result ≡ peer.part.dds.moment }
     {
         self.moment
@@ -72,7 +72,7 @@ impl Core {
     pub fn pair(&self, writer: u8, reader: Endpoint) -> Option<Pair>
         // They are matched exactly if a pair is found, and the ids are those of the configuration; the reader is behind
         // exactly where it has not acknowledged some change, and the last number is how many changes the writer has made.
-        ensures pair { (config : Config) (peer : Peer) → StandsFor self.now config peer
+        ensures pair { (config : Config) (peer : PeerState) → StandsFor self.now config peer
             → IsPair config peer writer reader result }
     {
         let Some(index) = index_of(writer, self.writers.len()) else {
@@ -96,7 +96,7 @@ impl Core {
     /// RTPS 2.5, 8.4.10 (StatefulReader, WriterProxy).
     pub fn place(&self, reader: u8, writer: Endpoint) -> Option<Sn>
         // It is the place in each state that the peer stands for, and there is one exactly if they are matched.
-        ensures place { (config : Config) (peer : Peer) → StandsFor self.now config peer
+        ensures place { (config : Config) (peer : PeerState) → StandsFor self.now config peer
             → result ≡ place_of (own_proxies peer.part reader) writer }
     {
         let Some(index) = index_of(reader, self.readers.len()) else {

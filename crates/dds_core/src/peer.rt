@@ -2,7 +2,7 @@
 
 ghost use Rattle.std.specs.Prelude.{◌≡◌};
 ghost use Rattle.dds_model.specs.declared.event.Event.TheVariants as event;
-ghost use Rattle.dds_core.specs.Standing.{Steps, SoundSteps, SoundStepsBy};
+ghost use Rattle.dds_core.specs.Standing.{Steps, SoundStepsBy};
 ghost use Rattle.dds_core.specs.Sending.{Sends, AreMessages};
 
 use crate::expiring::expire_all;
@@ -12,7 +12,7 @@ use crate::receiver::NO_MOMENT;
 use crate::sending::Announced;
 use crate::writer_end::{WriterEnd, tick_all};
 use dds_base::{Code, GuidPrefix, Moment, Sequence};
-use dds_conditions::{Filters, NoFilters, Watch};
+use dds_conditions::{Filters, Watch};
 use dds_model::{Event, Output, Reply};
 use std::alloc::Global;
 use std::marker::Model;
@@ -24,7 +24,7 @@ use std::marker::Model;
 /// longer present; what a reader knows of an instance stays. A call costs what its writer or reader does; a delivery
 /// looks at each of the peer's readers once for each DATA.
 #[derive(Drop)]
-pub struct Core {
+pub struct Peer {
     pub(crate) alloc: Global,
     pub(crate) prefix: GuidPrefix,
     pub(crate) moment: Moment,
@@ -33,11 +33,11 @@ pub struct Core {
     pub(crate) watch: Watch,
 }
 
-impl Model for Core {
+impl Model for Peer {
     ghost use Rattle.std.specs.Prelude.{length, ◌≤◌};
-    ghost use Rattle.dds_core.specs.Kept.{CoreKept};
+    ghost use Rattle.dds_core.specs.Kept.{PeerKept};
 
-    ghost Value = { CoreKept };
+    ghost Value = { PeerKept };
 
     ghost view = { λ c. record {
       prefix = c.prefix;
@@ -50,33 +50,9 @@ impl Model for Core {
     ghost invariant = { λ c. (length c.writers.items ≤ 16) × (length c.readers.items ≤ 16) };
 }
 
-impl Core {
-    /// One event: a call, the peer's time that goes on, or the bytes of a packet that come.
-    ///
-    /// A call is answered as `Call` says, a tick as `Event::Tick`, and a packet by a report of what it moved, whatever its
-    /// bytes are. At a tick those whose lease is over die at the peer's readers, then its writers lose their liveliness
-    /// whose own lease is over, and then HEARTBEATs are sent. What is refused changes nothing, but for `NoData`: an access
-    /// that found nothing is entered. The peer has no filters.
-    /// Packets go out for a change that was made and for an assertion, one for each peer with a matched reader, and at a tick
-    /// for each writer, a HEARTBEAT for each peer with a reader that is behind; or they are counted in `unsent` for want of
-    /// memory.
-    ///
-    /// DDS 1.4, 2.2.2.4 and 2.2.2.5 (DataWriter, DataReader); RTPS 2.5, 8.4 (behaviour).
-    pub fn step(&mut self, event: Event) -> Output
-        // For each state that the peer stands for, the event is a step to one that it stands for afterwards; a delivered
-        // packet is taken up by the rules of the protocol, and what is due by them is sent.
-        ensures step { SoundSteps self.old event result self.new }
-        // What goes out at a call or a tick, and what is counted as unsent.
-        ensures sends { Sends self.old event result }
-        // What goes out is the written form of a message.
-        ensures messages { AreMessages result.packets }
-    {
-        self.step_by(&NoFilters, event)
-    }
-
-    /// The same of a peer with filters: they tell which samples its query conditions match, by their numbers.
-    ///
-    /// DDS 1.4, 2.2.2.5 (QueryCondition).
+impl Peer {
+    /// One event: a call, the peer's time that goes on, or the bytes of a packet that come. The filters tell which samples
+    /// its query conditions match, by their numbers.
     pub fn step_by<T: Filters>(&mut self, filters: &T, event: Event) -> Output
         // For each state that the peer stands for, the event is a step by what the filters mean.
         ensures step { SoundStepsBy (T.meaning filters.now) self.old event result self.new }

@@ -10,7 +10,7 @@ ghost use Rattle.dds_core.specs.Receiving.{receiver_at, TakesOneMore, StandsAsWe
 ghost use Rattle.dds_core.specs.Sending.{AreMessages};
 
 use crate::answering::Room;
-use crate::peer::Core;
+use crate::peer::Peer;
 use crate::receiver::MessageReceiver;
 use crate::sending::Announced;
 use crate::writer_end::WriterEnd;
@@ -25,7 +25,7 @@ fn has_entity(writer: &WriterEnd, entity: &EntityId) -> bool
     writer.entity() == *entity
 }
 
-impl Core {
+impl Peer {
     /// The first writer of this entity.
     fn writer_of(&self, entity: &EntityId) -> Option<usize>
         ensures found { IfSome result (λ index. IsWriterOf self.now.writers entity.now index) }

@@ -2,21 +2,21 @@
 //!
 //! DDS 1.4, 2.2.2.1 (Condition, WaitSet), 2.2.2.5 (ReadCondition).
 
-ghost use Rattle.std.specs.Prelude.{◌≡◌, true, None, Some, IfOk, IfErr, OnErr, OnOk};
+ghost use Rattle.std.specs.Prelude.{◌≡◌, ◌+◌, true, None, Some, IfOk, IfErr, OnErr, OnOk};
 ghost use Rattle.dds_base.specs.declared.code.Code.TheVariants.{Memory};
 ghost use Rattle.dds_base.specs.Checked.{is_maximum};
 ghost use Rattle.dds_base.specs.Selection.{max_in};
-ghost use Rattle.dds_conditions.specs.Watched.{filter_refusal, made, use_refusal};
+ghost use Rattle.dds_conditions.specs.Watched.{filter_refusal, made, use_refusal, with_filter};
 ghost use Rattle.dds_model.specs.declared.call.Call.TheVariants as call;
 ghost use Rattle.dds_model.specs.declared.event.Event.TheVariants as event;
 ghost use Rattle.dds_core.specs.Standing.{Steps, StepsBy};
 ghost use Rattle.dds_core.specs.Sending.{SendsNothing};
-ghost use Rattle.dds_core.specs.Watching.{AddsFilter, AreActive, AsksBy, Tells, TellsActive, TellsStatuses, TellsTrigger, TellsValue, asked_of, conditions_reply, done_reply, made_reply};
+ghost use Rattle.dds_core.specs.Watching.{AreActive, AsksBy, Tells, TellsActive, TellsStatuses, TellsTrigger, TellsValue, asked_of, conditions_reply, done_reply, made_reply};
 
 use crate::by_filter::ByFilter;
 use crate::calls::index_of;
 use crate::output::{answered, reply_to_access};
-use crate::peer::Core;
+use crate::peer::Peer;
 use bitflags::Flags;
 use dds_base::{Code, Entity, Masks, Moment, Scope, Selection, Sequence};
 use dds_conditions::{Cond, Condition, Filters};
@@ -93,7 +93,7 @@ fn asked_for(reader: u8, scope: Scope, condition: Option<Condition>) -> Result<A
     }
 }
 
-impl Core {
+impl Peer {
     pub(crate) fn create_read_condition(&mut self, reader: u8, masks: Masks) -> Output
         ensures step { Steps self.old (event.Call (call.CreateReadCondition reader masks)) result self.new }
         ensures sends { SendsNothing result }
@@ -127,19 +127,19 @@ impl Core {
         answered(self.alloc, reply_to_made(made))
     }
 
-    /// One filter more can be named, by the next number: what it answers is what the filters of `step_by` mean by that.
-    ///
-    /// # Errors
-    ///
-    /// `OutOfResources` where 2^32 - 1 filters were added; nothing changes then.
-    ///
-    /// DDS 1.4, 2.2.2.5 (QueryCondition).
-    pub fn add_filter(&mut self) -> Result<u32, Code>
-        // It is the last one, by the next number, and nothing else changes.
-        ensures ok { IfOk result (λ number. AddsFilter self.old number self.new) }
-        // A refusal is for want of a number, exactly then, and changes nothing.
-        ensures taken { OnOk result (Tells self.old (λ part. filter_refusal part.dds.watch ≡ None)) }
-        ensures refused { IfErr result (λ code. Tells self.old (λ part. filter_refusal part.dds.watch ≡ Some code)) }
+    /// The number of the next filter.
+    pub(crate) fn next_filter(&self) -> Result<u32, Code>
+        ensures taken { OnOk result (filter_refusal self.now.watch ≡ None) }
+        ensures refused { IfErr result (λ code. filter_refusal self.now.watch ≡ Some code) }
+    {
+        self.watch.next_filter()
+    }
+
+    /// One filter more can be named, by the next number.
+    pub(crate) fn add_filter(&mut self) -> Result<u32, Code>
+        ensures ok { OnOk result (self.new ≡ record self.old { watch = with_filter self.old.watch }) }
+        ensures number { IfOk result (λ number. number ≡ self.old.watch.filters + 1) }
+        ensures refused { IfErr result (λ code. filter_refusal self.old.watch ≡ Some code) }
         ensures err { OnErr result (self.new ≡ self.old) }
     {
         self.watch.add_filter()

@@ -1,8 +1,7 @@
 //! A peer, asked line by line.
 
 use crate::line::{Line, line_of};
-use dds_base::{Code, Octets};
-use dds_conditions::FilterList;
+use dds_base::Octets;
 use dds_core::Core;
 use dds_model::{Event, Output, Packet, Reply};
 use dds_script::{Fault, Lines, Prefix, Setup, SetupLine, Status, TranscriptLine, print};
@@ -18,8 +17,7 @@ struct Session {
     alloc: Global,
     setup: Setup,
     is_open: bool,
-    core: Option<Core>,
-    filters: FilterList<Prefix>,
+    core: Option<Core<Prefix>>,
 }
 
 fn packet_line(alloc: Global, packet: &Packet) -> Result<String, AllocError> {
@@ -54,7 +52,6 @@ impl Session {
             setup: Setup::new(alloc),
             is_open: false,
             core: None,
-            filters: FilterList::new(alloc),
         }
     }
 
@@ -87,7 +84,7 @@ impl Session {
     /// An event at the peer, which needs to be open.
     fn step(&mut self, event: Event, line: u64) -> Result<Output, Fault> {
         match &mut self.core {
-            Some(core) => Ok(core.step_by(&self.filters, event)),
+            Some(core) => Ok(core.step(event)),
             None => Err(Fault::NotACommand { line }),
         }
     }
@@ -97,12 +94,9 @@ impl Session {
         let Some(core) = &mut self.core else {
             return Err(Fault::NotACommand { line });
         };
-        if self.filters.add(Prefix::new(octets)).is_err() {
-            return Ok(Reply::Refused(Code::Memory));
-        }
-        match core.add_filter() {
+        match core.add_filter(Prefix::new(octets)) {
             Ok(number) => Ok(Reply::Created(number)),
-            Err(code) => Ok(Reply::Refused(code)),
+            Err((code, _)) => Ok(Reply::Refused(code)),
         }
     }
 

@@ -24,7 +24,7 @@ use Rattle.dds_model.specs.declared.reply.Reply.TheVariants.{Done}
 use Rattle.dds_model.specs.Claims.{IsReader, every_reader}
 use Rattle.dds_model.specs.Dues.{IsPartOf}
 use Rattle.dds_model.specs.Fresh.{HasHeartbeat, HasAckNack, heartbeats_used_at, acknacks_used_at}
-use Rattle.dds_model.specs.Machine.{no_tests, place_at, writer_at}
+use Rattle.dds_model.specs.Machine.{AllTests, place_at, writer_at}
 use Rattle.dds_model.specs.Numbered.{numbered, HasNumber}
 use Rattle.dds_model.specs.Part.{Part, ReaderProxy, Writer, WriterProxy, NoLess, IsAtMost, own_writer, acknowledged_of, place_of, writer_changes}
 use Rattle.dds_model.specs.Protocol.{Known, writer_entity}
@@ -66,6 +66,7 @@ entity_is config prefix entity r is =
 
 -- a tick of the writer's peer, for which memory was found and at which nothing was lost
 record Tick : Type 0 where
+  tests : AllTests
   config : Config
   network : WorldState
   old : WorldKept
@@ -76,22 +77,22 @@ record Tick : Type 0 where
   s : StandsFor old config network
   at : place_at (machine_of network) m.reader m.writer ≡ Some place
   known : Knows config network m
-  step : IsStep old (world.Tick m.writer.peer m.moment) ticked mid
+  step : IsStep tests old (world.Tick m.writer.peer m.moment) ticked mid
   whole : is_whole ticked.reply ≡ true
   same : mid.unsent ≤ old.unsent
   below : old.unsent < 2 ^ 64 - 1
 
-w0 : (t : Tick) → Went t.config t.network t.old (world.Tick t.m.writer.peer t.m.moment) t.ticked.reply t.mid
+w0 : (t : Tick) → Went t.tests t.config t.network t.old (world.Tick t.m.writer.peer t.m.moment) t.ticked.reply t.mid
 w0 t = went t.config t.network t.old (world.Tick t.m.writer.peer t.m.moment) t.ticked t.mid t.step t.s
 
 abbrev after_tick : Tick → WorldState
 after_tick t = (w0 t).after
 
-ruled0 : (t : Tick) → RuledStep t.config no_tests t.network (world.Tick t.m.writer.peer t.m.moment) Done 0 (after_tick t)
+ruled0 : (t : Tick) → RuledStep t.config t.tests t.network (world.Tick t.m.writer.peer t.m.moment) Done 0 (after_tick t)
 ruled0 t =
-    subst (λ (n : ℕ). RuledStep t.config no_tests t.network (world.Tick t.m.writer.peer t.m.moment) Done n (after_tick t)) (none_lost t.old.unsent (w0 t).step.lost t.mid.unsent (w0 t).step.counted t.same t.below)
-    (subst (λ (r : Reply). RuledStep t.config no_tests t.network (world.Tick t.m.writer.peer t.m.moment) r (w0 t).step.lost (after_tick t))
-    (whole_tick t.config t.network t.m.writer.peer t.m.moment t.ticked.reply (after_tick t) t.whole (w0 t).step.ruled.step) (w0 t).step.ruled)
+    subst (λ (n : ℕ). RuledStep t.config t.tests t.network (world.Tick t.m.writer.peer t.m.moment) Done n (after_tick t)) (none_lost t.old.unsent (w0 t).step.lost t.mid.unsent (w0 t).step.counted t.same t.below)
+    (subst (λ (r : Reply). RuledStep t.config t.tests t.network (world.Tick t.m.writer.peer t.m.moment) r (w0 t).step.lost (after_tick t))
+    (whole_tick t.tests t.config t.network t.m.writer.peer t.m.moment t.ticked.reply (after_tick t) t.whole (w0 t).step.ruled.step) (w0 t).step.ruled)
 
 sent0 : (t : Tick) → t.mid.sent ≡ t.old.sent ++ (ruled0 t).packets
 sent0 t = sent_by t.config t.network t.old (world.Tick t.m.writer.peer t.m.moment) Done 0 (after_tick t) t.mid t.s (w0 t).stands (ruled0 t)
@@ -100,7 +101,7 @@ abbrev part : Tick → Part
 part t = (peer_at t.network t.m.writer.peer).part
 
 there : (t : Tick) → HasNumber t.network.peers t.m.writer.peer
-there t = ticks_there t.config no_tests t.network t.m.writer.peer t.m.moment (after_tick t) (ruled0 t).step
+there t = ticks_there t.config t.tests t.network t.m.writer.peer t.m.moment (after_tick t) (ruled0 t).step
 
 core : (t : Tick) → CoreAt t.config t.network t.m.writer.peer
 core t = core_at t.old t.config t.network t.m.writer.peer t.s (there t)
@@ -151,14 +152,14 @@ answer_of old m from to replies = record {
 }
 
 -- what hindered it is shown without the place after it
-abbrev EndsSo : Config → WorldState → WorldKept → Matched → ℕ → List WorldEvent → List RoundReply → WorldKept → Type 0
-EndsSo config network old m place events replies new =
-    (after : WorldState) × RuledRun config no_tests network old.unsent events (replies_of replies) after new.unsent × StandsFor new config after
+abbrev EndsSo : AllTests → Config → WorldState → WorldKept → Matched → ℕ → List WorldEvent → List RoundReply → WorldKept → Type 0
+EndsSo tests config network old m place events replies new =
+    (after : WorldState) × RuledRun config tests network old.unsent events (replies_of replies) after new.unsent × StandsFor new config after
     × (IsHindered network m.writer m.reader (answer_of old m place place replies)
     ⊎ HasCaughtUp after m.writer m.reader place (length (writer_changes (writer_at (machine_of network) m.writer))))
 
 abbrev Ends : Tick → List WorldEvent → List RoundReply → WorldKept → Type 0
-Ends t events replies new = EndsSo t.config t.network t.old t.m t.place events replies new
+Ends t events replies new = EndsSo t.tests t.config t.network t.old t.m t.place events replies new
 
 ends_as : (t : Tick) (events events' : List WorldEvent) (replies replies' : List RoundReply) (new new' : WorldKept) → events ≡ events' → replies ≡ replies' → new ≡ new' → Ends t events' replies' new' → Ends t events replies new
 ends_as t events events' replies replies' new new' e r n h =
@@ -186,7 +187,7 @@ not_behind t past =
     }
   where
     left : (p : ℕ) → TickLeaves t.network (after_tick t) p
-    left p = tick_leaves t.config no_tests t.network t.m.writer.peer t.m.moment (after_tick t) (ruled0 t).step p
+    left p = tick_leaves t.config t.tests t.network t.m.writer.peer t.m.moment (after_tick t) (ruled0 t).step p
 
     numbered_rows : List (List WriterProxy) → List WriterProxy
     numbered_rows rows = numbered rows t.m.reader.number []
@@ -203,7 +204,7 @@ not_behind t past =
 beat_is_found : (t : Tick) → acknowledged t ≤ the_last t → heartbeats_used_at t.network t.m.writer < 2 ^ 31 - 1
     → HasNone (IsTo t.m.reader.peer (sought.Heartbeat t.m.pair.writer)) t.mid.sent (length t.old.sent) (length t.mid.sent) → ⊥
 beat_is_found t behind left none =
-    let beat = beats_are_sent t.config no_tests t.m.writer t.m.reader (acknowledged t) t.m.moment t.network (after_tick t) (core t).stands.is_peer.checked t.s.used (row t) behind left (ruled0 t) in
+    let beat = beats_are_sent t.config t.tests t.m.writer t.m.reader (acknowledged t) t.m.moment t.network (after_tick t) (core t).stands.is_peer.checked t.s.used (row t) behind left (ruled0 t) in
     let name = own_name t.config t.m.writer.peer (part t) (of t) t.m.writer.number (here t) in
     let has : Has beat.packet.bytes (sought.Heartbeat t.m.pair.writer) =
     subst (λ (e : EntityId). Has beat.packet.bytes (sought.Heartbeat e)) (sym t.known.writer)
@@ -240,18 +241,18 @@ record Hear : Type 0 where
   heard : RoundReply
   mid : WorldKept
   first : IsFirst (IsTo t.m.reader.peer (sought.Heartbeat t.m.pair.writer)) t.mid.sent (length t.old.sent) (length t.mid.sent) k
-  step : IsStep t.mid (world.Deliver t.m.reader.peer k) heard mid
+  step : IsStep t.tests t.mid (world.Deliver t.m.reader.peer k) heard mid
   whole : is_whole heard.reply ≡ true
   same : mid.unsent ≤ t.old.unsent
   more : t.old.unsent ≤ t.mid.unsent
 
-w1 : (h : Hear) → Went h.t.config (after_tick h.t) h.t.mid (world.Deliver h.t.m.reader.peer h.k) h.heard.reply h.mid
+w1 : (h : Hear) → Went h.t.tests h.t.config (after_tick h.t) h.t.mid (world.Deliver h.t.m.reader.peer h.k) h.heard.reply h.mid
 w1 h = went h.t.config (after_tick h.t) h.t.mid (world.Deliver h.t.m.reader.peer h.k) h.heard h.mid h.step (w0 h.t).stands
 
 abbrev after_beat : Hear → WorldState
 after_beat h = (w1 h).after
 
-hears : (h : Hear) → Delivers h.t.config no_tests (after_tick h.t) h.t.m.reader.peer h.first.packet (w1 h).step.lost (after_beat h)
+hears : (h : Hear) → Delivers h.t.config h.t.tests (after_tick h.t) h.t.m.reader.peer h.first.packet (w1 h).step.lost (after_beat h)
 hears h = delivers h.t.config (after_tick h.t) h.t.mid h.t.m.reader.peer h.k h.first.packet h.heard.reply h.mid (w0 h.t).stands h.first.at.1 h.whole (w1 h)
 
 among1 : (h : Hear) → Contains (ruled0 h.t).packets h.first.packet
@@ -262,10 +263,10 @@ among1 h =
 
 beat_has : (h : Hear) → (count : ℤ) × HasHeartbeat h.t.config h.first.packet.bytes h.t.m.writer count
 beat_has h =
-    beat_found h.t.config no_tests h.t.network h.t.m.moment 0 (after_tick h.t) h.t.m.writer h.first.packet (of h.t) (here h.t) (ruled0 h.t) (among1 h)
+    beat_found h.t.config h.t.tests h.t.network h.t.m.moment 0 (after_tick h.t) h.t.m.writer h.first.packet (of h.t) (here h.t) (ruled0 h.t) (among1 h)
     (subst (λ (e : EntityId). Has h.first.packet.bytes (sought.Heartbeat e)) h.t.known.writer h.first.is.1)
 
-begins : (h : Hear) → BeginsRound h.t.config no_tests h.t.m.writer h.t.m.reader h.t.network (after_beat h)
+begins : (h : Hear) → BeginsRound h.t.config h.t.tests h.t.m.writer h.t.m.reader h.t.network (after_beat h)
 begins h = record {
   now = h.t.m.moment;
   ticked = after_tick h.t;
@@ -283,7 +284,7 @@ begins h = record {
 begun : Hear → Begun
 begun h = record {
   config = h.t.config;
-  tests = no_tests;
+  tests = h.t.tests;
   writer = h.t.m.writer;
   reader = h.t.m.reader;
   place = h.t.place;
@@ -350,12 +351,12 @@ record Ask : Type 0 where
   asked : RoundReply
   mid : WorldKept
   first : IsFirst (IsTo h.t.m.writer.peer (ask_of h)) h.mid.sent (length h.t.mid.sent) (length h.mid.sent) k
-  step : IsStep h.mid (world.Deliver h.t.m.writer.peer k) asked mid
+  step : IsStep h.t.tests h.mid (world.Deliver h.t.m.writer.peer k) asked mid
   whole : is_whole asked.reply ≡ true
   same : mid.unsent ≤ h.t.old.unsent
   more : h.t.old.unsent ≤ h.mid.unsent
 
-w2 : (a : Ask) → Went a.h.t.config (after_beat a.h) a.h.mid (world.Deliver a.h.t.m.writer.peer a.k) a.asked.reply a.mid
+w2 : (a : Ask) → Went a.h.t.tests a.h.t.config (after_beat a.h) a.h.mid (world.Deliver a.h.t.m.writer.peer a.k) a.asked.reply a.mid
 w2 a = went a.h.t.config (after_beat a.h) a.h.mid (world.Deliver a.h.t.m.writer.peer a.k) a.asked a.mid a.step (w1 a.h).stands
 
 abbrev after_ask : Ask → WorldState
@@ -369,9 +370,9 @@ none2 a =
     let first = a.h.same in
     none_lost a.h.mid.unsent (w2 a).step.lost a.mid.unsent (w2 a).step.counted (omega (arith, same, more)) (omega (arith, below, first))
 
-takes : (a : Ask) → Delivers a.h.t.config no_tests (after_beat a.h) a.h.t.m.writer.peer a.first.packet 0 (after_ask a)
+takes : (a : Ask) → Delivers a.h.t.config a.h.t.tests (after_beat a.h) a.h.t.m.writer.peer a.first.packet 0 (after_ask a)
 takes a =
-    subst (λ (n : ℕ). Delivers a.h.t.config no_tests (after_beat a.h) a.h.t.m.writer.peer a.first.packet n (after_ask a)) (none2 a)
+    subst (λ (n : ℕ). Delivers a.h.t.config a.h.t.tests (after_beat a.h) a.h.t.m.writer.peer a.first.packet n (after_ask a)) (none2 a)
     (delivers a.h.t.config (after_beat a.h) a.h.mid a.h.t.m.writer.peer a.k a.first.packet a.asked.reply a.mid (w1 a.h).stands a.first.at.1 a.whole (w2 a))
 
 among2 : (a : Ask) → Contains (hears a.h).step.packets a.first.packet
@@ -384,7 +385,7 @@ ask_has : (a : Ask) → (count : ℤ) × HasAckNack a.h.t.config a.first.packet.
 unfolding begun begins hears
 ask_has a = ask_found_among (begun a.h) a.first.packet (among2 a) (subst (λ (x : Sought). Has a.first.packet.bytes x) (sym (ask_is a.h)) a.first.is.1)
 
-asks : (a : Ask) → AsksInRound a.h.t.config no_tests a.h.t.m.writer a.h.t.m.reader a.h.t.network (after_ask a)
+asks : (a : Ask) → AsksInRound a.h.t.config a.h.t.tests a.h.t.m.writer a.h.t.m.reader a.h.t.network (after_ask a)
 unfolding begins hears
 asks a = record {
   heard = after_beat a.h;
@@ -408,27 +409,27 @@ unfolding asks
 all_answers a =
     let c = a.h.t in
     let most : length (answers a) ≤ 32 =
-    answers_are_few c.config no_tests c.m.writer c.m.reader c.place (acknowledged c) c.network (after_ask a) (core c).stands.is_peer.checked c.s.sound c.s.used c.s.bounded (pair c).pair (stands c) (asks a) in
+    answers_are_few c.config a.h.t.tests c.m.writer c.m.reader c.place (acknowledged c) c.network (after_ask a) (core c).stands.is_peer.checked c.s.sound c.s.used c.s.bounded (pair c).pair (stands c) (asks a) in
     let size = ap (λ (ps : List Packet). length ps) (sent2 a) in
     let parts = length-append a.h.mid.sent (answers a) in
     let count : min 32 (length a.mid.sent - length a.h.mid.sent) ≡ length (answers a) = omega (arith, most, size, parts) in
     ap (λ (n : ℕ). map (λ k. world.Deliver c.m.reader.peer k) (numbers_from (length a.h.mid.sent + 1) n)) count
 
-answered : (a : Ask) (later : List WorldEvent) (rest : List RoundReply) (new : WorldKept) → are_whole rest ≡ true → Answering a.h.t.m (length a.h.mid.sent) a.mid later rest new
+answered : (a : Ask) (later : List WorldEvent) (rest : List RoundReply) (new : WorldKept) → are_whole rest ≡ true → Answering a.h.t.tests a.h.t.m (length a.h.mid.sent) a.mid later rest new
     → Ends a.h.t (world.Tick a.h.t.m.writer.peer a.h.t.m.moment ∷ world.Deliver a.h.t.m.reader.peer a.h.k ∷ world.Deliver a.h.t.m.writer.peer a.k ∷ later) (a.h.t.ticked ∷ a.h.heard ∷ a.asked ∷ rest) new
 unfolding asks
 answered a later rest new whole next = (
   all.after,
   (after_tick c, c.mid.unsent, (w0 c).step, (after_beat a.h, a.h.mid.unsent, (w1 a.h).step, (after_ask a, a.mid.unsent, (w2 a).step, run))),
   all.stands,
-  inr (pair_catches_up c.config no_tests c.m.writer c.m.reader c.place (acknowledged c) c.network all.after (core c).stands.is_peer.checked c.s.sound c.s.used c.s.bounded (pair c).pair (stands c) round),
+  inr (pair_catches_up c.config a.h.t.tests c.m.writer c.m.reader c.place (acknowledged c) c.network all.after (core c).stands.is_peer.checked c.s.sound c.s.used c.s.bounded (pair c).pair (stands c) round),
 )
   where
     c : Tick
     c = a.h.t
 
-    steps : AreSteps a.mid (map (λ k. world.Deliver c.m.reader.peer k) (numbers_from (length a.h.mid.sent + 1) (length (answers a)))) rest new
-    steps = subst (λ (es : List WorldEvent). AreSteps a.mid es rest new) (next.0 ∙ all_answers a) next.1
+    steps : AreSteps a.h.t.tests a.mid (map (λ k. world.Deliver c.m.reader.peer k) (numbers_from (length a.h.mid.sent + 1) (length (answers a)))) rest new
+    steps = subst (λ (es : List WorldEvent). AreSteps a.h.t.tests a.mid es rest new) (next.0 ∙ all_answers a) next.1
 
     at : (k : ℕ) (p : Packet) → slice_get (answers a) k ≡ Some p → slice_get a.mid.sent (length a.h.mid.sent + 1 + k - 1) ≡ Some p
     at k p is =
@@ -436,13 +437,13 @@ answered a later rest new whole next = (
         subst (λ (i : ℕ). slice_get a.mid.sent i ≡ Some p) index
         (subst (λ (ps : List Packet). slice_get ps (length a.h.mid.sent + k) ≡ Some p) (sym (sent2 a)) (get_later a.h.mid.sent (answers a) k p is))
 
-    all : Ran c.config (after_ask a) a.mid (map (λ k. world.Deliver c.m.reader.peer k) (numbers_from (length a.h.mid.sent + 1) (length (answers a)))) rest new (λ x. DeliversAll c.config no_tests (after_ask a) c.m.reader.peer (answers a) x)
+    all : Ran a.h.t.tests c.config (after_ask a) a.mid (map (λ k. world.Deliver c.m.reader.peer k) (numbers_from (length a.h.mid.sent + 1) (length (answers a)))) rest new (λ x. DeliversAll c.config a.h.t.tests (after_ask a) c.m.reader.peer (answers a) x)
     all = deliver_all c.config c.m.reader.peer (length a.h.mid.sent + 1) (answers a) (after_ask a) a.mid rest new (omega arith) at whole steps (w2 a).stands
 
-    run : RuledRun c.config no_tests (after_ask a) a.mid.unsent later (replies_of rest) all.after new.unsent
-    run = subst (λ (es : List WorldEvent). RuledRun c.config no_tests (after_ask a) a.mid.unsent es (replies_of rest) all.after new.unsent) (sym (next.0 ∙ all_answers a)) all.run
+    run : RuledRun c.config a.h.t.tests (after_ask a) a.mid.unsent later (replies_of rest) all.after new.unsent
+    run = subst (λ (es : List WorldEvent). RuledRun c.config a.h.t.tests (after_ask a) a.mid.unsent es (replies_of rest) all.after new.unsent) (sym (next.0 ∙ all_answers a)) all.run
 
-    round : IsRepairRound c.config no_tests c.m.writer c.m.reader c.network all.after
+    round : IsRepairRound c.config a.h.t.tests c.m.writer c.m.reader c.network all.after
     round = record { asked = after_ask a; asks = asks a; repairs = all.then }
 
 -- ---- the stages
@@ -452,7 +453,7 @@ whole_as : (replies rest : List RoundReply) (r : RoundReply) → replies ≡ r �
 whole_as replies rest r is whole = both_are (is_whole r.reply) (are_whole rest) (subst (λ (rs : List RoundReply). are_whole rs ≡ true) is whole)
 
 after_hearing : (h : Hear) (events : List WorldEvent) (replies : List RoundReply) (new : WorldKept) → are_whole replies ≡ true → new.unsent ≤ h.t.old.unsent → h.t.old.unsent ≤ h.mid.unsent
-    → Acknowledging h.t.m (length h.t.mid.sent) h.mid events replies new
+    → Acknowledging h.t.tests h.t.m (length h.t.mid.sent) h.mid events replies new
     → Ends h.t (world.Tick h.t.m.writer.peer h.t.m.moment ∷ world.Deliver h.t.m.reader.peer h.k ∷ events) (h.t.ticked ∷ h.heard ∷ replies) new
 after_hearing h events replies new whole same more next =
     ⊎_elim
@@ -461,7 +462,7 @@ after_hearing h events replies new whole same more next =
     (λ f.
     let all = whole_as replies f.4 f.1 f.8 whole in
     let w = went h.t.config (after_beat h) h.mid (world.Deliver h.t.m.writer.peer f.0) f.1 f.2 f.6 (w1 h).stands in
-    let rest = unsent_on h.t.config w.after f.2 f.3 f.4 new f.9.1 w.stands in
+    let rest = unsent_on h.t.tests h.t.config w.after f.2 f.3 f.4 new f.9.1 w.stands in
     let a : Ask = record { h = h; k = f.0; asked = f.1; mid = f.2; first = f.5; step = f.6; whole = all.0; same = omega (arith, rest, same); more = more } in
     ends_as h.t (before ++ events) (before ++ world.Deliver h.t.m.writer.peer f.0 ∷ f.3) (h.t.ticked ∷ h.heard ∷ replies) (h.t.ticked ∷ h.heard ∷ f.1 ∷ f.4) new new
     (ap (λ (es : List WorldEvent). before ++ es) f.7) (ap (λ (rs : List RoundReply). h.t.ticked ∷ h.heard ∷ rs) f.8) refl (answered a f.3 f.4 new all.1 f.9))
@@ -471,7 +472,7 @@ after_hearing h events replies new whole same more next =
     before = world.Tick h.t.m.writer.peer h.t.m.moment ∷ world.Deliver h.t.m.reader.peer h.k ∷ []
 
 after_ticking : (t : Tick) (events : List WorldEvent) (replies : List RoundReply) (new : WorldKept) → are_whole replies ≡ true → new.unsent ≤ t.old.unsent → t.old.unsent ≤ t.mid.unsent
-    → Beating t.m (length t.old.sent) t.mid events replies new → Ends t (world.Tick t.m.writer.peer t.m.moment ∷ events) (t.ticked ∷ replies) new
+    → Beating t.tests t.m (length t.old.sent) t.mid events replies new → Ends t (world.Tick t.m.writer.peer t.m.moment ∷ events) (t.ticked ∷ replies) new
 after_ticking t events replies new whole same more next =
     ⊎_elim
     (λ f. ends_as t (tick ∷ events) (tick ∷ []) (t.ticked ∷ replies) (t.ticked ∷ []) new t.mid
@@ -479,9 +480,9 @@ after_ticking t events replies new whole same more next =
     (λ f.
     let all = whole_as replies f.4 f.1 f.8 whole in
     let w = went t.config (after_tick t) t.mid (world.Deliver t.m.reader.peer f.0) f.1 f.2 f.6 (w0 t).stands in
-    let steps : AreSteps f.2 f.3 f.4 new = acks_steps t.m (length t.mid.sent) f.2 f.3 f.4 new f.9 in
-    let rest = unsent_on t.config w.after f.2 f.3 f.4 new steps w.stands in
-    let one = unsent_on t.config (after_tick t) t.mid (world.Deliver t.m.reader.peer f.0 ∷ []) (f.1 ∷ []) f.2 (f.2, f.6, refl) (w0 t).stands in
+    let steps : AreSteps t.tests f.2 f.3 f.4 new = acks_steps t.m (length t.mid.sent) f.2 f.3 f.4 new f.9 in
+    let rest = unsent_on t.tests t.config w.after f.2 f.3 f.4 new steps w.stands in
+    let one = unsent_on t.tests t.config (after_tick t) t.mid (world.Deliver t.m.reader.peer f.0 ∷ []) (f.1 ∷ []) f.2 (f.2, f.6, refl) (w0 t).stands in
     let h : Hear = record { t = t; k = f.0; heard = f.1; mid = f.2; first = f.5; step = f.6; whole = all.0; same = omega (arith, rest, same); more = more } in
     ends_as t (tick ∷ events) (tick ∷ world.Deliver t.m.reader.peer f.0 ∷ f.3) (t.ticked ∷ replies) (t.ticked ∷ f.1 ∷ f.4) new new
     (ap (λ (es : List WorldEvent). tick ∷ es) f.7) (ap (λ (rs : List RoundReply). t.ticked ∷ rs) f.8) refl
@@ -493,31 +494,32 @@ after_ticking t events replies new whole same more next =
 
 -- ---- the round
 
-ends : (old : WorldKept) (m : Matched) (ticked : RoundReply) (mid : WorldKept) (events : List WorldEvent) (replies : List RoundReply) (new : WorldKept) → IsKnown old m
-    → IsStep old (world.Tick m.writer.peer m.moment) ticked mid → Beating m (length old.sent) mid events replies new
+ends : {tests : AllTests} → (old : WorldKept) (m : Matched) (ticked : RoundReply) (mid : WorldKept) (events : List WorldEvent) (replies : List RoundReply) (new : WorldKept) → IsKnown old m
+    → IsStep tests old (world.Tick m.writer.peer m.moment) ticked mid → Beating tests m (length old.sent) mid events replies new
     → (config : Config) (network : WorldState) (place : ℕ) → StandsFor old config network → place_at (machine_of network) m.reader m.writer ≡ Some place
-    → EndsSo config network old m place (world.Tick m.writer.peer m.moment ∷ events) (ticked ∷ replies) new
-ends old m ticked mid events replies new known tick beats config network place s at = by (are_whole (ticked ∷ replies)) refl
+    → EndsSo tests config network old m place (world.Tick m.writer.peer m.moment ∷ events) (ticked ∷ replies) new
+ends {tests} old m ticked mid events replies new known tick beats config network place s at = by (are_whole (ticked ∷ replies)) refl
   where
-    steps : AreSteps mid events replies new
+    steps : AreSteps tests mid events replies new
     steps = beats_steps m (length old.sent) mid events replies new beats
 
-    w : Went config network old (world.Tick m.writer.peer m.moment) ticked.reply mid
+    w : Went tests config network old (world.Tick m.writer.peer m.moment) ticked.reply mid
     w = went config network old (world.Tick m.writer.peer m.moment) ticked mid tick s
 
     hindered : IsHindered network m.writer m.reader (answer_of old m place place (ticked ∷ replies))
-        → EndsSo config network old m place (world.Tick m.writer.peer m.moment ∷ events) (ticked ∷ replies) new
+        → EndsSo tests config network old m place (world.Tick m.writer.peer m.moment ∷ events) (ticked ∷ replies) new
     hindered why =
         let r = ran config network old (world.Tick m.writer.peer m.moment ∷ events) (ticked ∷ replies) new (mid, tick, steps) s in
         (r.after, r.run, r.stands, inl why)
 
     good : are_whole (ticked ∷ replies) ≡ true → new.unsent ≤ old.unsent → old.unsent < 2 ^ 64 - 1
-        → EndsSo config network old m place (world.Tick m.writer.peer m.moment ∷ events) (ticked ∷ replies) new
+        → EndsSo tests config network old m place (world.Tick m.writer.peer m.moment ∷ events) (ticked ∷ replies) new
     good whole same below =
         let all = both_are (is_whole ticked.reply) (are_whole replies) whole in
-        let rest = unsent_on config w.after mid events replies new steps w.stands in
-        let one = unsent_on config network old (world.Tick m.writer.peer m.moment ∷ []) (ticked ∷ []) mid (mid, tick, refl) s in
+        let rest = unsent_on tests config w.after mid events replies new steps w.stands in
+        let one = unsent_on tests config network old (world.Tick m.writer.peer m.moment ∷ []) (ticked ∷ []) mid (mid, tick, refl) s in
         let t : Tick = record {
+          tests = tests;
           config = config;
           network = network;
           old = old;
@@ -536,14 +538,14 @@ ends old m ticked mid events replies new known tick beats config network place s
         after_ticking t events replies new all.1 same one beats
 
     all_sent : are_whole (ticked ∷ replies) ≡ true → (b : Bool) → has_unsent old.unsent (ticked ∷ replies) ≡ b
-        → EndsSo config network old m place (world.Tick m.writer.peer m.moment ∷ events) (ticked ∷ replies) new
+        → EndsSo tests config network old m place (world.Tick m.writer.peer m.moment ∷ events) (ticked ∷ replies) new
     all_sent whole true e = hindered (inr (inl e))
     all_sent whole false e =
         let all : List WorldEvent = world.Tick m.writer.peer m.moment ∷ events in
-        let same = unsent_shown old.unsent old all (ticked ∷ replies) new (mid, tick, steps) (omega arith) e in
+        let same = unsent_shown tests old.unsent old all (ticked ∷ replies) new (mid, tick, steps) (omega arith) e in
         ⊎_elim (λ below. good whole same below) (λ full. hindered (inr (inr (inl full)))) (cases_lt old.unsent (2 ^ 64 - 1))
 
-    by : (b : Bool) → are_whole (ticked ∷ replies) ≡ b → EndsSo config network old m place (world.Tick m.writer.peer m.moment ∷ events) (ticked ∷ replies) new
+    by : (b : Bool) → are_whole (ticked ∷ replies) ≡ b → EndsSo tests config network old m place (world.Tick m.writer.peer m.moment ∷ events) (ticked ∷ replies) new
     by false e = hindered (inl e)
     by true e = all_sent e (has_unsent old.unsent (ticked ∷ replies)) refl
 
@@ -552,11 +554,11 @@ still_there : (o : Option ℕ) (from : ℕ) → IsAtMost from o → o ≡ Some (
 still_there (Some to) from h = refl
 still_there None from h = absurd h
 
-rounds_of : (old : WorldKept) (m : Matched) (ticked : RoundReply) (mid : WorldKept) (events : List WorldEvent) (replies : List RoundReply) (new : WorldKept)
-    (from : ℕ) (to : Option ℕ) → IsKnown old m → IsStep old (world.Tick m.writer.peer m.moment) ticked mid → Beating m (length old.sent) mid events replies new
+rounds_of : {tests : AllTests} → (old : WorldKept) (m : Matched) (ticked : RoundReply) (mid : WorldKept) (events : List WorldEvent) (replies : List RoundReply) (new : WorldKept)
+    (from : ℕ) (to : Option ℕ) → IsKnown old m → IsStep tests old (world.Tick m.writer.peer m.moment) ticked mid → Beating tests m (length old.sent) mid events replies new
     → IsPlace old m.reader m.writer (Some from) → IsPlace new m.reader m.writer to
-    → Rounds old m.writer m.reader (answer_of old m from (unwrap_or to from) (ticked ∷ replies)) new
-rounds_of old m ticked mid events replies new from to known tick beats from_is to_is = record {
+    → Rounds tests old m.writer m.reader (answer_of old m from (unwrap_or to from) (ticked ∷ replies)) new
+rounds_of {tests} old m ticked mid events replies new from to known tick beats from_is to_is = record {
   events = world.Tick m.writer.peer m.moment ∷ events;
   steps = (mid, tick, beats_steps m (length old.sent) mid events replies new beats);
   round = λ config network s.
@@ -564,7 +566,7 @@ rounds_of old m ticked mid events replies new from to known tick beats from_is t
       let before : place_at (machine_of network) m.reader m.writer ≡ Some from = sym (from_is config network s) in
       let end = ends old m ticked mid events replies new known tick beats config network from s before in
       let all : List WorldEvent = world.Tick m.writer.peer m.moment ∷ events in
-      let no_less = places_after config no_tests network old.unsent all (replies_of (ticked ∷ replies)) end.0 new.unsent end.1 m.reader m.writer in
+      let no_less = places_after config tests network old.unsent all (replies_of (ticked ∷ replies)) end.0 new.unsent end.1 m.reader m.writer in
       let at_most = subst (λ (o : Option ℕ). NoLess o (place_at (machine_of end.0) m.reader m.writer)) before no_less in
       let after : to ≡ place_at (machine_of end.0) m.reader m.writer = to_is config end.0 end.2 in
       let there : to ≡ Some (unwrap_or to from) = still_there to from (subst (λ (o : Option ℕ). IsAtMost from o) (sym after) at_most) in
@@ -572,7 +574,7 @@ rounds_of old m ticked mid events replies new from to known tick beats from_is t
         is_round = round_is old m ticked mid events replies new known tick beats config network s;
         after = end.0;
         run = end.1;
-        machine = runs_so old new all (replies_of (ticked ∷ replies)) config network end.0 s end.2 end.1;
+        machine = runs_so tests old new all (replies_of (ticked ∷ replies)) config network end.0 s end.2 end.1;
         stands = end.2;
         was_behind = k.behind;
         unsent_before = refl;
@@ -584,14 +586,14 @@ rounds_of old m ticked mid events replies new from to known tick beats from_is t
       };
 }
 
-pub rounds_are : (old : WorldKept) (writer reader : Endpoint) (m : Matched) (ticked : RoundReply) (mid : WorldKept) (replies all : List RoundReply) (new : WorldKept)
+pub rounds_are : {tests : AllTests} → (old : WorldKept) (writer reader : Endpoint) (m : Matched) (ticked : RoundReply) (mid : WorldKept) (replies all : List RoundReply) (new : WorldKept)
     (events : List WorldEvent) (from : ℕ) (to : Option ℕ) → m.writer ≡ writer → m.reader ≡ reader → all ≡ ticked ∷ replies → IsKnown old m
-    → IsStep old (world.Tick m.writer.peer m.moment) ticked mid → Beating m (length old.sent) mid events replies new
-    → IsPlace old reader writer (Some from) → IsPlace new reader writer to → Rounds old writer reader (answer_of old m from (unwrap_or to from) all) new
-rounds_are old writer reader m ticked mid replies all new events from to w r is known tick beats =
-    subst (λ (e : Endpoint). IsPlace old reader e (Some from) → IsPlace new reader e to → Rounds old e reader (answer all) new) w
-    (subst (λ (e : Endpoint). IsPlace old e m.writer (Some from) → IsPlace new e m.writer to → Rounds old m.writer e (answer all) new) r
-    (subst (λ (rs : List RoundReply). IsPlace old m.reader m.writer (Some from) → IsPlace new m.reader m.writer to → Rounds old m.writer m.reader (answer rs) new) (sym is)
+    → IsStep tests old (world.Tick m.writer.peer m.moment) ticked mid → Beating tests m (length old.sent) mid events replies new
+    → IsPlace old reader writer (Some from) → IsPlace new reader writer to → Rounds tests old writer reader (answer_of old m from (unwrap_or to from) all) new
+rounds_are {tests} old writer reader m ticked mid replies all new events from to w r is known tick beats =
+    subst (λ (e : Endpoint). IsPlace old reader e (Some from) → IsPlace new reader e to → Rounds tests old e reader (answer all) new) w
+    (subst (λ (e : Endpoint). IsPlace old e m.writer (Some from) → IsPlace new e m.writer to → Rounds tests old m.writer e (answer all) new) r
+    (subst (λ (rs : List RoundReply). IsPlace old m.reader m.writer (Some from) → IsPlace new m.reader m.writer to → Rounds tests old m.writer m.reader (answer rs) new) (sym is)
     (λ from_is to_is. rounds_of old m ticked mid events replies new from to known tick beats from_is to_is)))
   where
     answer : List RoundReply → Round

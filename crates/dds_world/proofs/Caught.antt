@@ -15,7 +15,7 @@ use Rattle.dds_model.specs.declared.reply.Reply.{Reply}
 use Rattle.dds_model.specs.declared.reply.Reply.TheVariants.{Done, Reported}
 use Rattle.dds_model.specs.declared.reply.Report.{Report}
 use Rattle.dds_model.specs.Numbered.{numbered, HasNumber}
-use Rattle.dds_model.specs.Machine.{AllTests, no_tests, place_at}
+use Rattle.dds_model.specs.Machine.{AllTests, place_at}
 use Rattle.dds_model.specs.Part.{NoLess, own_writer, own_proxies, place_of, writer_changes}
 use Rattle.dds_model.specs.Calls.{TickStep}
 use Rattle.dds_model.specs.Peer.{Peer, EventStep, no_peer}
@@ -28,7 +28,7 @@ use Rattle.dds_model.proofs.Framing.{has_reader}
 use Rattle.dds_model.proofs.FreshCounts.{stays_same, steps_stays}
 use Rattle.dds_model.proofs.PairBegun.{place_is}
 use Rattle.dds_model.proofs.Tables.{no_less_on, no_less_same, slice_get-append}
-use Rattle.dds_core.specs.Kept.{CoreKept}
+use Rattle.dds_core.specs.Kept.{PeerKept}
 use Rattle.dds_core.specs.Standing.{StandsFor as CoreStandsFor, IsSound}
 use Rattle.dds_core.proofs.Lists.{element}
 use Rattle.dds_world.specs.declared.round.RoundReply.{RoundReply}
@@ -40,7 +40,7 @@ use Rattle.dds_world.proofs.RunSteps.{Went, went_by}
 
 -- what a network keeps of a peer
 pub record CoreAt (config : Config) (network : WorldState) (n : ℕ) : Type 0 where
-  pub core : CoreKept
+  pub core : PeerKept
   pub stands : CoreStandsFor core config (peer_at network n)
   pub known : IsSound config (peer_at network n)
 
@@ -80,7 +80,7 @@ place_known kept config network writer reader place s at =
     record { here = (omega (arith, low), omega (arith, high, rows, count)); known = c.known.place writer reader.number place row }
 
 -- a writer has far fewer changes than there are numbers
-pub few_changes : (core : CoreKept) (config : Config) (peer : Peer) (n : ℕ) → CoreStandsFor core config peer → HasNumber peer.part.rtps.writers n → length (writer_changes (own_writer peer.part n)) < 2 ^ 62
+pub few_changes : (core : PeerKept) (config : Config) (peer : Peer) (n : ℕ) → CoreStandsFor core config peer → HasNumber peer.part.rtps.writers n → length (writer_changes (own_writer peer.part n)) < 2 ^ 62
 few_changes core config peer zero s has = let low = has.0 in absurd (omega (arith, low))
 few_changes core config peer (suc i) s has =
     let count = s.writers.count in
@@ -93,22 +93,22 @@ few_changes core config peer (suc i) s has =
 
 -- ---- one step
 
-pub went : (config : Config) (network : WorldState) (old : WorldKept) (ev : WorldEvent) (reply : RoundReply) (new : WorldKept) → IsStep old ev reply new → StandsFor old config network
-    → Went config network old ev reply.reply new
+pub went : {tests : AllTests} → (config : Config) (network : WorldState) (old : WorldKept) (ev : WorldEvent) (reply : RoundReply) (new : WorldKept) → IsStep tests old ev reply new → StandsFor old config network
+    → Went tests config network old ev reply.reply new
 went config network old ev reply new step s = went_by config network old ev reply.reply new step.rules step.sends s
 
 -- the packets that were sent at it follow those before
-pub sent_by : (config : Config) (network : WorldState) (old : WorldKept) (ev : WorldEvent) (reply : Reply) (lost : ℕ) (after : WorldState) (new : WorldKept) → StandsFor old config network → StandsFor new config after
-    → (r : RuledStep config no_tests network ev reply lost after) → new.sent ≡ old.sent ++ r.packets
+pub sent_by : {tests : AllTests} → (config : Config) (network : WorldState) (old : WorldKept) (ev : WorldEvent) (reply : Reply) (lost : ℕ) (after : WorldState) (new : WorldKept) → StandsFor old config network → StandsFor new config after
+    → (r : RuledStep config tests network ev reply lost after) → new.sent ≡ old.sent ++ r.packets
 sent_by config network old ev reply lost after new s stands r = sym stands.sent ∙ (r.sent ∙ ap (λ (ps : List Packet). ps ++ r.packets) s.sent)
 
 -- a tick for which memory was found is done
-pub whole_tick : (config : Config) (old : WorldState) (peer now : ℕ) (reply : Reply) (new : WorldState) → is_whole reply ≡ true → WorldStep config no_tests old (world.Tick peer now) reply new → reply ≡ Done
-whole_tick config old peer now Done new whole step = refl
-whole_tick config old peer now (Reported report) new whole (inl h) =
+pub whole_tick : (tests : AllTests) → (config : Config) (old : WorldState) (peer now : ℕ) (reply : Reply) (new : WorldState) → is_whole reply ≡ true → WorldStep config tests old (world.Tick peer now) reply new → reply ≡ Done
+whole_tick tests config old peer now Done new whole step = refl
+whole_tick tests config old peer now (Reported report) new whole (inl h) =
     absurd (subst (λ (r : Reply). TickStep (peer_at old peer).part now r h.after.part) h.replies h.step.step.0)
-whole_tick config old peer now (Reported report) new whole (inr h) = let r = h.1.is_refused in absurd cc
-whole_tick config old peer now reply new whole step = absurd cc
+whole_tick tests config old peer now (Reported report) new whole (inr h) = let r = h.1.is_refused in absurd cc
+whole_tick tests config old peer now reply new whole step = absurd cc
 
 -- a delivery for which memory was found is reported as whole
 record WholeReport (reply : Reply) : Type 0 where
@@ -120,23 +120,23 @@ not_some : (o : Option ℕ) → not (is_some o) ≡ true → o ≡ None
 not_some None h = refl
 not_some (Some n) h = absurd cc
 
-whole_report : (config : Config) (old : WorldState) (peer k : ℕ) (reply : Reply) (new : WorldState) → is_whole reply ≡ true → WorldStep config no_tests old (world.Deliver peer k) reply new → WholeReport reply
-whole_report config old peer k Done new whole (inl h) =
-    absurd (subst (λ (r : Reply). EventStep config (no_tests peer) (peer_at old peer) (event.Deliver h.0.bytes) r h.3.after) h.3.replies h.3.step.step)
-whole_report config old peer k Done new whole (inr h) = let r = h.1.is_refused in absurd cc
-whole_report config old peer k (Reported report) new whole step = record { report = report; is = refl; none = not_some report.refused whole }
-whole_report config old peer k reply new whole step = absurd cc
+whole_report : (tests : AllTests) → (config : Config) (old : WorldState) (peer k : ℕ) (reply : Reply) (new : WorldState) → is_whole reply ≡ true → WorldStep config tests old (world.Deliver peer k) reply new → WholeReport reply
+whole_report tests config old peer k Done new whole (inl h) =
+    absurd (subst (λ (r : Reply). EventStep config (tests peer) (peer_at old peer) (event.Deliver h.0.bytes) r h.3.after) h.3.replies h.3.step.step)
+whole_report tests config old peer k Done new whole (inr h) = let r = h.1.is_refused in absurd cc
+whole_report tests config old peer k (Reported report) new whole step = record { report = report; is = refl; none = not_some report.refused whole }
+whole_report tests config old peer k reply new whole step = absurd cc
 
-pub delivers : (config : Config) (network : WorldState) (old : WorldKept) (peer k : ℕ) (packet : Packet) (reply : Reply) (new : WorldKept) → StandsFor old config network → slice_get old.sent (k - 1) ≡ Some packet → is_whole reply ≡ true
-    → (w : Went config network old (world.Deliver peer k) reply new) → Delivers config no_tests network peer packet w.step.lost w.after
-delivers config network old peer k packet reply new s at whole w =
-    let r = whole_report config network peer k reply w.after whole w.step.ruled.step in
+pub delivers : {tests : AllTests} → (config : Config) (network : WorldState) (old : WorldKept) (peer k : ℕ) (packet : Packet) (reply : Reply) (new : WorldKept) → StandsFor old config network → slice_get old.sent (k - 1) ≡ Some packet → is_whole reply ≡ true
+    → (w : Went tests config network old (world.Deliver peer k) reply new) → Delivers config tests network peer packet w.step.lost w.after
+delivers {tests} config network old peer k packet reply new s at whole w =
+    let r = whole_report tests config network peer k reply w.after whole w.step.ruled.step in
     record {
       number = k;
       at = subst (λ (ps : List Packet). slice_get ps (k - 1) ≡ Some packet) (sym s.sent) at;
       report = r.report;
       whole = r.none;
-      step = subst (λ (x : Reply). RuledStep config no_tests network (world.Deliver peer k) x w.step.lost w.after) r.is w.step.ruled;
+      step = subst (λ (x : Reply). RuledStep config tests network (world.Deliver peer k) x w.step.lost w.after) r.is w.step.ruled;
     }
 
 -- ---- steps one after the other
@@ -146,14 +146,14 @@ both_are true b h = (refl, h)
 both_are false b h = absurd cc
 
 -- a run by the rules, and what is so after it
-pub record Ran (config : Config) (network : WorldState) (old : WorldKept) (events : List WorldEvent) (replies : List RoundReply) (new : WorldKept) (Then : WorldState → Type 0) : Type 0 where
+pub record Ran (tests : AllTests) (config : Config) (network : WorldState) (old : WorldKept) (events : List WorldEvent) (replies : List RoundReply) (new : WorldKept) (Then : WorldState → Type 0) : Type 0 where
   pub after : WorldState
-  pub run : RuledRun config no_tests network old.unsent events (replies_of replies) after new.unsent
+  pub run : RuledRun config tests network old.unsent events (replies_of replies) after new.unsent
   pub stands : StandsFor new config after
   pub then : Then after
 
-pub ran : (config : Config) (network : WorldState) (old : WorldKept) (events : List WorldEvent) (replies : List RoundReply) (new : WorldKept) → AreSteps old events replies new → StandsFor old config network
-    → Ran config network old events replies new (λ x. Unit {0})
+pub ran : {tests : AllTests} → (config : Config) (network : WorldState) (old : WorldKept) (events : List WorldEvent) (replies : List RoundReply) (new : WorldKept) → AreSteps tests old events replies new → StandsFor old config network
+    → Ran tests config network old events replies new (λ x. Unit {0})
 ran config network old [] [] new same s =
     record { after = network; run = (refl, ap (λ (k : WorldKept). k.unsent) same); stands = subst (λ (k : WorldKept). StandsFor k config network) (sym same) s; then = tt }
 ran config network old (e ∷ es) (r ∷ rs) new h s =
@@ -167,42 +167,42 @@ ran config network old (e ∷ es) [] new h s = absurd h
 no_less : (old lost new : ℕ) → new ≡ min (old + lost) (2 ^ 64 - 1) → old ≤ 2 ^ 64 - 1 → old ≤ new
 no_less old lost new is few = omega (arith, is, few)
 
-pub unsent_on : (config : Config) (network : WorldState) (old : WorldKept) (events : List WorldEvent) (replies : List RoundReply) (new : WorldKept) → AreSteps old events replies new → StandsFor old config network
+pub unsent_on : (tests : AllTests) → (config : Config) (network : WorldState) (old : WorldKept) (events : List WorldEvent) (replies : List RoundReply) (new : WorldKept) → AreSteps tests old events replies new → StandsFor old config network
     → old.unsent ≤ new.unsent
-unsent_on config network old [] [] new same s = let e = ap (λ (k : WorldKept). k.unsent) same in omega (arith, e)
-unsent_on config network old (e ∷ es) (r ∷ rs) new h s =
+unsent_on tests config network old [] [] new same s = let e = ap (λ (k : WorldKept). k.unsent) same in omega (arith, e)
+unsent_on tests config network old (e ∷ es) (r ∷ rs) new h s =
     let w = went config network old e r h.0 h.1 s in
     let first = no_less old.unsent w.step.lost h.0.unsent w.step.counted s.few in
-    let rest = unsent_on config w.after h.0 es rs new h.2 w.stands in
+    let rest = unsent_on tests config w.after h.0 es rs new h.2 w.stands in
     omega (arith, first, rest)
-unsent_on config network old [] (r ∷ rs) new h s = absurd h
-unsent_on config network old (e ∷ es) [] new h s = absurd h
+unsent_on tests config network old [] (r ∷ rs) new h s = absurd h
+unsent_on tests config network old (e ∷ es) [] new h s = absurd h
 
 -- where no reply counts more, no more are counted in the end
 none_of : (a b : Bool) → (a || b) ≡ false → (a ≡ false) × (b ≡ false)
 none_of true b h = absurd cc
 none_of false b h = (refl, h)
 
-pub unsent_shown : (before : ℕ) (old : WorldKept) (events : List WorldEvent) (replies : List RoundReply) (new : WorldKept)
-    → AreSteps old events replies new → old.unsent ≤ before → has_unsent before replies ≡ false → new.unsent ≤ before
-unsent_shown before old [] [] new same low none = let e = ap (λ (k : WorldKept). k.unsent) same in omega (arith, e, low)
-unsent_shown before old (e ∷ es) (r ∷ rs) new h low none =
+pub unsent_shown : (tests : AllTests) → (before : ℕ) (old : WorldKept) (events : List WorldEvent) (replies : List RoundReply) (new : WorldKept)
+    → AreSteps tests old events replies new → old.unsent ≤ before → has_unsent before replies ≡ false → new.unsent ≤ before
+unsent_shown tests before old [] [] new same low none = let e = ap (λ (k : WorldKept). k.unsent) same in omega (arith, e, low)
+unsent_shown tests before old (e ∷ es) (r ∷ rs) new h low none =
     let parts = none_of (nat_lt before r.unsent) (has_unsent before rs) none in
     let here = parts.0 in
     let counted = h.1.unsent in
-    unsent_shown before h.0 es rs new h.2 (grind (arith, nat_tests, here, counted)) parts.1
-unsent_shown before old [] (r ∷ rs) new h low none = absurd h
-unsent_shown before old (e ∷ es) [] new h low none = absurd h
+    unsent_shown tests before h.0 es rs new h.2 (grind (arith, nat_tests, here, counted)) parts.1
+unsent_shown tests before old [] (r ∷ rs) new h low none = absurd h
+unsent_shown tests before old (e ∷ es) [] new h low none = absurd h
 
 -- where it stays below its greatest value nothing is lost
 pub none_lost : (old lost new : ℕ) → new ≡ min (old + lost) (2 ^ 64 - 1) → new ≤ old → old < 2 ^ 64 - 1 → lost ≡ 0
 none_lost old lost new is same few = omega (arith, is, same, few)
 
 -- packets are delivered in turn, with memory for all of them
-pub deliver_all : (config : Config) (peer first : ℕ) (packets : List Packet) (network : WorldState) (old : WorldKept) (replies : List RoundReply) (new : WorldKept) → 1 ≤ first
+pub deliver_all : {tests : AllTests} → (config : Config) (peer first : ℕ) (packets : List Packet) (network : WorldState) (old : WorldKept) (replies : List RoundReply) (new : WorldKept) → 1 ≤ first
     → ((k : ℕ) (p : Packet) → slice_get packets k ≡ Some p → slice_get old.sent (first + k - 1) ≡ Some p) → are_whole replies ≡ true
-    → AreSteps old (map (λ k. world.Deliver peer k) (numbers_from first (length packets))) replies new → StandsFor old config network
-    → Ran config network old (map (λ k. world.Deliver peer k) (numbers_from first (length packets))) replies new (λ x. DeliversAll config no_tests network peer packets x)
+    → AreSteps tests old (map (λ k. world.Deliver peer k) (numbers_from first (length packets))) replies new → StandsFor old config network
+    → Ran tests config network old (map (λ k. world.Deliver peer k) (numbers_from first (length packets))) replies new (λ x. DeliversAll config tests network peer packets x)
 deliver_all config peer first [] network old [] new low there whole same s =
     record { after = network; run = (refl, ap (λ (k : WorldKept). k.unsent) same); stands = subst (λ (k : WorldKept). StandsFor k config network) (sym same) s; then = refl }
 deliver_all config peer first [] network old (r ∷ rs) new low there whole h s = absurd h

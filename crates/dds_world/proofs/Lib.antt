@@ -7,3 +7,4 @@ pub mod Opened
 pub mod Rounds
 pub mod Caught
 pub mod CatchingUp
+pub mod Holding

@@ -1,8 +1,9 @@
 -- What the peers of a configuration that is taken stand for at the opening.
-use Rattle.std.proofs.Common.{◌≡◌, ◌⊎◌, ℕ, zero, suc, ◌+◌, ◌<◌, ◌≤◌, Bool, true, false, List, [], ◌∷◌, ◌++◌, Option, Some, None, length, get_or, slice_get, Contains, refl, ap, sym, ◌∙◌, subst, inl, inr, ⊎_elim, arith, length-append}
+use Rattle.std.proofs.Common.{◌≡◌, ◌⊎◌, ℕ, zero, suc, ◌+◌, ◌<◌, ◌≤◌, Bool, true, false, List, [], ◌∷◌, ◌++◌, Option, Some, None, map, length, get_or, slice_get, Contains, refl, ap, sym, ◌∙◌, subst, inl, inr, ⊎_elim, arith, length-append}
 use Rattle.std.specs.Prelude.{if◌then◌else◌, ◌&&◌, ◌||◌, ◌==◌, nat_lt, nat_le, is_some, Result, Ok, Err, IfOk, IfErr}
 use Rattle.std.proofs.lemmas.Bool.{or_parts, ltb-false}
 use Rattle.std.proofs.lemmas.Bool.Decides.{nat_tests}
+use Rattle.std.proofs.lemmas.List.{length-map}
 use Rattle.std.proofs.lemmas.Option.{same_Some}
 use Rattle.dds_base.specs.declared.code.Code.{Code}
 use Rattle.dds_base.specs.declared.code.Code.TheVariants.{BadParameter, InconsistentPolicy, Memory}
@@ -11,17 +12,20 @@ use Rattle.dds_base.specs.declared.config.PeerConfig.{PeerConfig}
 use Rattle.dds_base.specs.Checked.{has_bad_parameter, has_inconsistent_policy, check_refusal}
 use Rattle.dds_base.specs.Refusal.{Refuses}
 use Rattle.dds_model.specs.declared.event.Packet.{Packet}
-use Rattle.dds_model.specs.Numbered.{has_number}
+use Rattle.dds_model.specs.Numbered.{has_number, numbered}
 use Rattle.dds_model.specs.Opening.{opening_peers, opening_world}
 use Rattle.dds_model.specs.Peer.{no_peer}
 use Rattle.dds_model.proofs.Bounded.{opens_bounded}
 use Rattle.dds_model.proofs.CountsOpened.{opens_used}
 use Rattle.dds_model.proofs.Opened.{opens_sound}
 use Rattle.dds_model.proofs.OpenedPeers.{opens_known}
-use Rattle.dds_core.specs.Kept.{CoreKept}
+use Rattle.dds_core.specs.Kept.{PeerKept}
 use Rattle.dds_core.specs.Opening.{core_refusal, opening_peer}
-use Rattle.dds_core.specs.Standing.{StandsFor as CoreStandsFor}
-use Rattle.dds_world.specs.WorldStanding.{WorldKept, StandsFor}
+use Rattle.dds_core.specs.Filtering.{CoreKept, StandsFor as CoreStands}
+use Rattle.dds_core.specs.Standing.{StandsFor as PeerStandsFor}
+use Rattle.dds_model.proofs.FiltersKept.{opens_no_filters_at}
+use Rattle.dds_world.specs.Holding.{Held, filters_of, kept_of}
+use Rattle.dds_world.specs.WorldStanding.{StandsFor}
 use Rattle.dds_world.specs.Acting.{OpensFirst}
 
 -- how many peers a configuration has that is not refused
@@ -72,11 +76,11 @@ peer_taken peers i n is within h = sym (same_refusal peers n (omega (arith, is))
 
 -- what a peer answers at its opening, as the network answers it
 
-pub taken_so : (peers : List PeerConfig) (i : ℕ) (r : Result CoreKept Code) → i < length peers → IfOk r (λ core. core_refusal peers (i + 1) ≡ None) → IfOk r (λ core. check_refusal peers ≡ None)
+pub taken_so : {X : Type 0} (peers : List PeerConfig) (i : ℕ) (r : Result X Code) → i < length peers → IfOk r (λ core. core_refusal peers (i + 1) ≡ None) → IfOk r (λ core. check_refusal peers ≡ None)
 taken_so peers i (Ok core) within h = peer_taken peers i (i + 1) refl within h
 taken_so peers i (Err code) within h = tt
 
-pub refused_so : (peers : List PeerConfig) (i : ℕ) (r : Result CoreKept Code) → i < length peers → IfErr r (Refuses (core_refusal peers (i + 1))) → IfErr r (Refuses (check_refusal peers))
+pub refused_so : {X : Type 0} (peers : List PeerConfig) (i : ℕ) (r : Result X Code) → i < length peers → IfErr r (Refuses (core_refusal peers (i + 1))) → IfErr r (Refuses (check_refusal peers))
 refused_so peers i (Ok core) within h = tt
 refused_so peers i (Err code) within h = peer_refuses peers i (i + 1) code refl within h
 
@@ -86,8 +90,10 @@ memory_refuses peers none = subst (λ (o : Option Code). Refuses o Memory) (sym 
 
 -- the peers, one after the other
 
-pub opens_none : (config : Config) (kept : List CoreKept) → kept ≡ [] → OpensFirst config 0 kept
-opens_none config kept none = subst (λ (ks : List CoreKept). OpensFirst config 0 ks) (sym none) (record { counted = refl; each = λ i k at. absurd cc; taken = λ low. absurd (omega (arith, low)) })
+pub opens_none : {F : Type 0} (config : Config) (kept : List (CoreKept F)) → kept ≡ [] → OpensFirst config 0 kept
+opens_none {F} config kept none =
+    subst (λ (ks : List (CoreKept F)). OpensFirst config 0 ks) (sym none)
+    (record { counted = refl; each = λ i k at. absurd cc; none = λ i k at. absurd cc; taken = λ low. absurd (omega (arith, low)) })
 
 -- an element of a list with one more at its end
 at_end : {X : Type 0} (xs : List X) (y : X) (j : ℕ) (x : X) → slice_get (xs ++ y ∷ []) j ≡ Some x → (slice_get xs j ≡ Some x) ⊎ ((j ≡ length xs) × (y ≡ x))
@@ -96,20 +102,27 @@ at_end [] y (suc j) x at = absurd cc
 at_end (z ∷ zs) y zero x at = inl at
 at_end (z ∷ zs) y (suc j) x at = ⊎_elim (λ e. inl e) (λ e. inr (ap suc e.0, e.1)) (at_end zs y j x at)
 
-pub opens_more : (config : Config) (i n : ℕ) (old new : List CoreKept) (core : CoreKept) → n ≡ i + 1 → OpensFirst config i old → CoreStandsFor core config (opening_peer config n) → check_refusal config.peers ≡ None → new ≡ old ++ core ∷ []
-    → OpensFirst config (i + 1) new
-opens_more config i n old new core is so stands taken items =
+pub opens_more : {F : Type 0} (config : Config) (i n : ℕ) (old new : List (CoreKept F)) (core : CoreKept F) → n ≡ i + 1 → OpensFirst config i old → CoreStands core config (opening_peer config n) → core.filters ≡ []
+    → check_refusal config.peers ≡ None → new ≡ old ++ core ∷ [] → OpensFirst config (i + 1) new
+opens_more {F} config i n old new core is so stands none taken items =
     let counted = so.counted in
     let total = length-append old (core ∷ []) in
-    let length_is = ap (λ (ks : List CoreKept). length ks) items in
-    let each : (j : ℕ) (k : CoreKept) → slice_get new j ≡ Some k → CoreStandsFor k config (opening_peer config (j + 1)) = λ j k at.
-    ⊎_elim (λ before. so.each j k before)
+    let length_is = ap (λ (ks : List (CoreKept F)). length ks) items in
+    let before : (j : ℕ) (k : CoreKept F) → slice_get new j ≡ Some k → (slice_get old j ≡ Some k) ⊎ ((j ≡ length old) × (core ≡ k)) =
+    λ j k at. at_end old core j k (subst (λ (ks : List (CoreKept F)). slice_get ks j ≡ Some k) items at) in
+    let each : (j : ℕ) (k : CoreKept F) → slice_get new j ≡ Some k → CoreStands k config (opening_peer config (j + 1)) = λ j k at.
+    ⊎_elim (λ o. so.each j k o)
     (λ last.
     let j_is = last.0 in
     let same : n ≡ j + 1 = omega (arith, is, j_is, counted) in
-    subst (λ (m : ℕ). CoreStandsFor k config (opening_peer config m)) same (subst (λ (x : CoreKept). CoreStandsFor x config (opening_peer config n)) last.1 stands))
-    (at_end old core j k (subst (λ (ks : List CoreKept). slice_get ks j ≡ Some k) items at)) in
-    record { counted = omega (arith, counted, total, length_is); each = each; taken = λ low. taken }
+    subst (λ (m : ℕ). CoreStands k config (opening_peer config m)) same (subst (λ (x : CoreKept F). CoreStands x config (opening_peer config n)) last.1 stands))
+    (before j k at) in
+    record {
+      counted = omega (arith, counted, total, length_is);
+      each = each;
+      none = λ j k at. ⊎_elim (λ o. so.none j k o) (λ last. subst (λ (x : CoreKept F). x.filters ≡ []) last.1 none) (before j k at);
+      taken = λ low. taken;
+    }
 
 -- all of them are the network
 
@@ -117,15 +130,49 @@ peers_count : (peers : List PeerConfig) (n : ℕ) (ps : List PeerConfig) → len
 peers_count peers n [] = refl
 peers_count peers n (p ∷ ps) = let rest = peers_count peers (n + 1) ps in omega (arith, rest)
 
-pub opened : (config : Config) (kept : WorldKept) → OpensFirst config (length config.peers) kept.peers → kept.sent ≡ [] → kept.unsent ≡ 0 → StandsFor kept config (opening_world config)
-opened config kept all none quiet = record {
-  count = peers_count config.peers 1 config.peers ∙ sym all.counted;
-  each = λ i k at. let next : i + 1 ≡ suc i = omega arith in subst (λ (n : ℕ). CoreStandsFor k config (opening_peer config n)) next (all.each i k at);
-  known = λ i k at. opens_known config i (get_or (opening_peers config.peers 1 config.peers) i no_peer).number;
-  sent = sym none;
-  sound = opens_sound config;
-  messages = λ packet c. let nowhere = subst (λ (ps : List Packet). Contains ps packet) none c in absurd (omega (arith, nowhere.1));
-  few = omega (arith, quiet);
-  used = opens_used config;
-  bounded = opens_bounded config;
-}
+-- an element of a list of what is seen of others is seen of one of them
+seen_of : {X Y : Type 0} (f : X → Y) (xs : List X) (i : ℕ) (y : Y) → slice_get (map f xs) i ≡ Some y → (x : X) × (slice_get xs i ≡ Some x) × (f x ≡ y)
+seen_of f [] i y at = absurd cc
+seen_of f (x ∷ xs) zero y at = (x, refl, same_Some (f x) y at)
+seen_of f (x ∷ xs) (suc i) y at = seen_of f xs i y at
+
+get_or-none : {X : Type 0} (i : ℕ) (x : X) → get_or [] i x ≡ x
+get_or-none zero x = refl
+get_or-none (suc i) x = refl
+
+-- no peer has a filter
+none_at : {F : Type 0} (cores : List (CoreKept F)) → ((i : ℕ) (k : CoreKept F) → slice_get cores i ≡ Some k → k.filters ≡ []) → (i : ℕ)
+    → get_or (map (λ (c : CoreKept F). c.filters) cores) i [] ≡ []
+none_at [] none i = get_or-none i []
+none_at (c ∷ cs) none zero = none zero c refl
+none_at (c ∷ cs) none (suc i) = none_at cs (λ j k at. none (suc j) k at) i
+
+none_counted : {F : Type 0} (cores : List (CoreKept F)) → ((i : ℕ) (k : CoreKept F) → slice_get cores i ≡ Some k → k.filters ≡ []) → (i : ℕ)
+    → get_or (map (λ (c : CoreKept F). length c.filters) cores) i 0 ≡ 0
+none_counted [] none i = get_or-none i 0
+none_counted (c ∷ cs) none zero = ap (λ fs. length fs) (none zero c refl)
+none_counted (c ∷ cs) none (suc i) = none_counted cs (λ j k at. none (suc j) k at) i
+
+pub no_filters_at : {F : Type 0} (config : Config) (count : ℕ) (held : Held F) → OpensFirst config count held.cores → (peer : ℕ) → numbered (filters_of held) peer [] ≡ []
+no_filters_at config count held all zero = refl
+no_filters_at config count held all (suc i) = none_at held.cores all.none i
+
+pub opened : {F : Type 0} (config : Config) (held : Held F) → OpensFirst config (length config.peers) held.cores → held.sent ≡ [] → held.unsent ≡ 0 → StandsFor (kept_of held) config (opening_world config)
+opened {F} config held all none quiet =
+    let f : CoreKept F → PeerKept = λ c. c.peer in
+    record {
+      count = peers_count config.peers 1 config.peers ∙ (sym all.counted ∙ sym (length-map held.cores f));
+      each = λ i k at.
+          let next : i + 1 ≡ suc i = omega arith in
+          let own = seen_of f held.cores i k at in
+          subst (λ (x : PeerKept). PeerStandsFor x config (opening_peer config (suc i))) own.2
+          (subst (λ (n : ℕ). PeerStandsFor own.0.peer config (opening_peer config n)) next (all.each i own.0 own.1).stands);
+      known = λ i k at. opens_known config i (get_or (opening_peers config.peers 1 config.peers) i no_peer).number;
+      filters = λ i. opens_no_filters_at config i ∙ sym (none_counted held.cores all.none i);
+      sent = sym none;
+      sound = opens_sound config;
+      messages = λ packet c. let nowhere = subst (λ (ps : List Packet). Contains ps packet) none c in absurd (omega (arith, nowhere.1));
+      few = omega (arith, quiet);
+      used = opens_used config;
+      bounded = opens_bounded config;
+    }

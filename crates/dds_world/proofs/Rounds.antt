@@ -12,14 +12,14 @@ use Rattle.dds_model.specs.declared.event.Packet.{Packet}
 use Rattle.dds_model.specs.declared.event.WorldEvent.{WorldEvent}
 use Rattle.dds_model.specs.declared.event.WorldEvent.TheVariants as world
 use Rattle.dds_model.specs.declared.reply.Reply.{Reply}
-use Rattle.dds_model.specs.Machine.{AllTests, no_tests, part_at, place_at}
+use Rattle.dds_model.specs.Machine.{AllTests, part_at, place_at}
 use Rattle.dds_model.specs.Part.{Part, own_proxies, own_writer, acknowledged_of, is_reader_behind, place_of, writer_changes}
 use Rattle.dds_model.specs.Peer.{Peer, no_peer}
 use Rattle.dds_model.specs.Protocol.{writer_entity}
 use Rattle.dds_model.specs.World.{WorldState, WorldStep, machine_of}
 use Rattle.dds_model.proofs.Tables.{numbered-map, slice_get-append}
 use Rattle.dds_core.specs.declared.pairing.Pair.{Pair}
-use Rattle.dds_core.specs.Kept.{CoreKept}
+use Rattle.dds_core.specs.Kept.{PeerKept}
 use Rattle.dds_core.specs.Pairs.{IsPair}
 use Rattle.dds_core.specs.Standing.{StandsFor as CoreStandsFor}
 use Rattle.dds_core.proofs.Lists.{get-within}
@@ -53,24 +53,24 @@ record GoesOn (config : Config) (old new : WorldKept) : Type 0 where
   stands : StandsFor new config after
   grows : Grows old.sent new.sent
 
-step_on : (config : Config) (network : WorldState) (old : WorldKept) (ev : WorldEvent) (reply : Reply) (new : WorldKept) → Steps old ev reply new → StandsFor old config network → GoesOn config old new
-step_on config network old ev reply new steps s =
+step_on : (tests : AllTests) → (config : Config) (network : WorldState) (old : WorldKept) (ev : WorldEvent) (reply : Reply) (new : WorldKept) → Steps tests old ev reply new → StandsFor old config network → GoesOn config old new
+step_on tests config network old ev reply new steps s =
     let t = steps config network s in
-    let g = world_grows config no_tests network ev reply t.0 t.1 in
+    let g = world_grows config tests network ev reply t.0 t.1 in
     record { after = t.0; stands = t.3; grows = (g.0, sym t.3.sent ∙ (g.1 ∙ ap (λ (ps : List Packet). ps ++ g.0) s.sent)) }
 
-steps_on : (config : Config) (network : WorldState) (old : WorldKept) (events : List WorldEvent) (replies : List RoundReply) (new : WorldKept) → AreSteps old events replies new → StandsFor old config network → GoesOn config old new
-steps_on config network old [] [] new same s = record {
+steps_on : (tests : AllTests) → (config : Config) (network : WorldState) (old : WorldKept) (events : List WorldEvent) (replies : List RoundReply) (new : WorldKept) → AreSteps tests old events replies new → StandsFor old config network → GoesOn config old new
+steps_on tests config network old [] [] new same s = record {
   after = network;
   stands = subst (λ (k : WorldKept). StandsFor k config network) (sym same) s;
   grows = grows_same old.sent new.sent (ap (λ (k : WorldKept). k.sent) same);
 }
-steps_on config network old (e ∷ es) (r ∷ rs) new h s =
-    let first = step_on config network old e r.reply h.0 h.1.step s in
-    let rest = steps_on config first.after h.0 es rs new h.2 first.stands in
+steps_on tests config network old (e ∷ es) (r ∷ rs) new h s =
+    let first = step_on tests config network old e r.reply h.0 h.1.step s in
+    let rest = steps_on tests config first.after h.0 es rs new h.2 first.stands in
     record { after = rest.after; stands = rest.stands; grows = grows_on old.sent h.0.sent new.sent first.grows rest.grows }
-steps_on config network old [] (r ∷ rs) new h s = absurd h
-steps_on config network old (e ∷ es) [] new h s = absurd h
+steps_on tests config network old [] (r ∷ rs) new h s = absurd h
+steps_on tests config network old (e ∷ es) [] new h s = absurd h
 
 get_back : (xs ys : List Packet) (i : ℕ) (p : Packet) → i < length xs → slice_get (xs ++ ys) i ≡ Some p → slice_get xs i ≡ Some p
 get_back [] ys i p low at = absurd (omega (arith, low))
@@ -97,31 +97,31 @@ first_on Is old new from to k g high f =
 -- ---- steps one after the other
 
 -- one more step
-pub steps_more : (old : WorldKept) (events : List WorldEvent) (replies : List RoundReply) (mid : WorldKept) (ev : WorldEvent) (reply : RoundReply) (new : WorldKept) → AreSteps old events replies mid → IsStep mid ev reply new
-    → AreSteps old (events ++ ev ∷ []) (replies ++ reply ∷ []) new
-steps_more old [] [] mid ev reply new same step = (new, subst (λ (k : WorldKept). IsStep k ev reply new) same step, refl)
+pub steps_more : {tests : AllTests} → (old : WorldKept) (events : List WorldEvent) (replies : List RoundReply) (mid : WorldKept) (ev : WorldEvent) (reply : RoundReply) (new : WorldKept) → AreSteps tests old events replies mid → IsStep tests mid ev reply new
+    → AreSteps tests old (events ++ ev ∷ []) (replies ++ reply ∷ []) new
+steps_more {tests} old [] [] mid ev reply new same step = (new, subst (λ (k : WorldKept). IsStep tests k ev reply new) same step, refl)
 steps_more old (e ∷ es) (r ∷ rs) mid ev reply new h step = (h.0, h.1, steps_more h.0 es rs mid ev reply new h.2 step)
 steps_more old [] (r ∷ rs) mid ev reply new h step = absurd h
 steps_more old (e ∷ es) [] mid ev reply new h step = absurd h
 
-steps_as : (old : WorldKept) (events later : List WorldEvent) (replies rest : List RoundReply) (new : WorldKept) → events ≡ later → replies ≡ rest → AreSteps old later rest new → AreSteps old events replies new
-steps_as old events later replies rest new e r h =
-    subst (λ (es : List WorldEvent). AreSteps old es replies new) (sym e) (subst (λ (rs : List RoundReply). AreSteps old later rs new) (sym r) h)
+steps_as : (tests : AllTests) → (old : WorldKept) (events later : List WorldEvent) (replies rest : List RoundReply) (new : WorldKept) → events ≡ later → replies ≡ rest → AreSteps tests old later rest new → AreSteps tests old events replies new
+steps_as tests old events later replies rest new e r h =
+    subst (λ (es : List WorldEvent). AreSteps tests old es replies new) (sym e) (subst (λ (rs : List RoundReply). AreSteps tests old later rs new) (sym r) h)
 
-stage_steps : (Is : Packet → Type 0) (from peer : ℕ) (Next : WorldKept → List WorldEvent → List RoundReply → WorldKept → Type 0) (old : WorldKept) (events : List WorldEvent) (replies : List RoundReply) (new : WorldKept)
-    → ((mid : WorldKept) (es : List WorldEvent) (rs : List RoundReply) → Next mid es rs new → AreSteps mid es rs new) → Stage Is from peer Next old events replies new → AreSteps old events replies new
-stage_steps Is from peer Next old events replies new next h =
-    ⊎_elim (λ f. steps_as old events [] replies [] new f.0 f.1 f.2)
-    (λ f. steps_as old events (world.Deliver peer f.0 ∷ f.3) replies (f.1 ∷ f.4) new f.7 f.8 (f.2, f.6, next f.2 f.3 f.4 f.9)) h
+stage_steps : {tests : AllTests} → (Is : Packet → Type 0) (from peer : ℕ) (Next : WorldKept → List WorldEvent → List RoundReply → WorldKept → Type 0) (old : WorldKept) (events : List WorldEvent) (replies : List RoundReply) (new : WorldKept)
+    → ((mid : WorldKept) (es : List WorldEvent) (rs : List RoundReply) → Next mid es rs new → AreSteps tests mid es rs new) → Stage tests Is from peer Next old events replies new → AreSteps tests old events replies new
+stage_steps {tests} Is from peer Next old events replies new next h =
+    ⊎_elim (λ f. steps_as tests old events [] replies [] new f.0 f.1 f.2)
+    (λ f. steps_as tests old events (world.Deliver peer f.0 ∷ f.3) replies (f.1 ∷ f.4) new f.7 f.8 (f.2, f.6, next f.2 f.3 f.4 f.9)) h
 
-pub acks_steps : (m : Matched) (from : ℕ) (old : WorldKept) (events : List WorldEvent) (replies : List RoundReply) (new : WorldKept) → Acknowledging m from old events replies new → AreSteps old events replies new
-acks_steps m from old events replies new h =
-    stage_steps (IsTo m.writer.peer (sought.AckNack m.pair.reader m.pair.writer)) from m.writer.peer (Answering m (length old.sent)) old events replies new
+pub acks_steps : {tests : AllTests} → (m : Matched) (from : ℕ) (old : WorldKept) (events : List WorldEvent) (replies : List RoundReply) (new : WorldKept) → Acknowledging tests m from old events replies new → AreSteps tests old events replies new
+acks_steps {tests} m from old events replies new h =
+    stage_steps (IsTo m.writer.peer (sought.AckNack m.pair.reader m.pair.writer)) from m.writer.peer (Answering tests m (length old.sent)) old events replies new
     (λ mid es rs a. a.1) h
 
-pub beats_steps : (m : Matched) (from : ℕ) (old : WorldKept) (events : List WorldEvent) (replies : List RoundReply) (new : WorldKept) → Beating m from old events replies new → AreSteps old events replies new
-beats_steps m from old events replies new h =
-    stage_steps (IsTo m.reader.peer (sought.Heartbeat m.pair.writer)) from m.reader.peer (Acknowledging m (length old.sent)) old events replies new
+pub beats_steps : {tests : AllTests} → (m : Matched) (from : ℕ) (old : WorldKept) (events : List WorldEvent) (replies : List RoundReply) (new : WorldKept) → Beating tests m from old events replies new → AreSteps tests old events replies new
+beats_steps {tests} m from old events replies new h =
+    stage_steps (IsTo m.reader.peer (sought.Heartbeat m.pair.writer)) from m.reader.peer (Acknowledging tests m (length old.sent)) old events replies new
     (λ mid es rs a. acks_steps m (length old.sent) mid es rs new a) h
 
 -- one more answer
@@ -132,16 +132,16 @@ answer_more peer first (suc count) =
     ap (λ (es : List WorldEvent). world.Deliver peer first ∷ es) (answer_more peer (first + 1) count)
     ∙ ap (λ (k : ℕ). world.Deliver peer first ∷ (map (λ k. world.Deliver peer k) (numbers_from (first + 1) count) ++ world.Deliver peer k ∷ [])) next
 
-pub answered_more : (old : WorldKept) (peer from index count packet : ℕ) (replies : List RoundReply) (mid : WorldKept) (reply : RoundReply) (new : WorldKept) → count ≡ index + 1 → packet ≡ from + index + 1
-    → AreSteps old (map (λ k. world.Deliver peer k) (numbers_from (from + 1) index)) replies mid → IsStep mid (world.Deliver peer packet) reply new
-    → AreSteps old (map (λ k. world.Deliver peer k) (numbers_from (from + 1) count)) (replies ++ reply ∷ []) new
-answered_more old peer from index count packet replies mid reply new is number steps step =
+pub answered_more : {tests : AllTests} → (old : WorldKept) (peer from index count packet : ℕ) (replies : List RoundReply) (mid : WorldKept) (reply : RoundReply) (new : WorldKept) → count ≡ index + 1 → packet ≡ from + index + 1
+    → AreSteps tests old (map (λ k. world.Deliver peer k) (numbers_from (from + 1) index)) replies mid → IsStep tests mid (world.Deliver peer packet) reply new
+    → AreSteps tests old (map (λ k. world.Deliver peer k) (numbers_from (from + 1) count)) (replies ++ reply ∷ []) new
+answered_more {tests} old peer from index count packet replies mid reply new is number steps step =
     let same : packet ≡ from + 1 + index = omega (arith, number) in
     let next : suc index ≡ count = omega (arith, is) in
     let all = steps_more old (map (λ k. world.Deliver peer k) (numbers_from (from + 1) index)) replies mid (world.Deliver peer (from + 1 + index)) reply new steps
-    (subst (λ (k : ℕ). IsStep mid (world.Deliver peer k) reply new) same step) in
-    subst (λ (c : ℕ). AreSteps old (map (λ k. world.Deliver peer k) (numbers_from (from + 1) c)) (replies ++ reply ∷ []) new) next
-    (subst (λ (es : List WorldEvent). AreSteps old es (replies ++ reply ∷ []) new) (sym (answer_more peer (from + 1) index)) all)
+    (subst (λ (k : ℕ). IsStep tests mid (world.Deliver peer k) reply new) same step) in
+    subst (λ (c : ℕ). AreSteps tests old (map (λ k. world.Deliver peer k) (numbers_from (from + 1) c)) (replies ++ reply ∷ []) new) next
+    (subst (λ (es : List WorldEvent). AreSteps tests old es (replies ++ reply ∷ []) new) (sym (answer_more peer (from + 1) index)) all)
 
 -- ---- the stages are those of a round
 
@@ -156,11 +156,11 @@ after_as : (config : Config) (writer reader : Endpoint) (sent : List Packet) (fr
 after_as config writer reader sent from to events later replies rest e r h =
     subst (λ (es : List WorldEvent). AfterHeartbeat config writer reader sent from to es replies) (sym e) (subst (λ (rs : List RoundReply). AfterHeartbeat config writer reader sent from to later rs) (sym r) h)
 
-after_heartbeat : (config : Config) (network known : WorldState) (m : Matched) (from : ℕ) (old : WorldKept) (events : List WorldEvent) (replies : List RoundReply) (new : WorldKept) → Knows config known m → StandsFor old config network
-    → Acknowledging m from old events replies new → AfterHeartbeat config m.writer m.reader new.sent from (length old.sent) events replies
-after_heartbeat config network known m from old events replies new k s h =
+after_heartbeat : {tests : AllTests} → (config : Config) (network known : WorldState) (m : Matched) (from : ℕ) (old : WorldKept) (events : List WorldEvent) (replies : List RoundReply) (new : WorldKept) → Knows config known m → StandsFor old config network
+    → Acknowledging tests m from old events replies new → AfterHeartbeat config m.writer m.reader new.sent from (length old.sent) events replies
+after_heartbeat {tests} config network known m from old events replies new k s h =
     let high : length old.sent ≤ length old.sent = omega arith in
-    let grows = (steps_on config network old events replies new (acks_steps m from old events replies new h) s).grows in
+    let grows = (steps_on tests config network old events replies new (acks_steps m from old events replies new h) s).grows in
     let is = acknack_is config known m k in
     ⊎_elim
     (λ f.
@@ -178,11 +178,11 @@ tick_as : (config : Config) (writer reader : Endpoint) (sent : List Packet) (fro
 tick_as config writer reader sent from to events later replies rest e r h =
     subst (λ (es : List WorldEvent). AfterTick config writer reader sent from to es replies) (sym e) (subst (λ (rs : List RoundReply). AfterTick config writer reader sent from to later rs) (sym r) h)
 
-after_tick : (config : Config) (network known : WorldState) (m : Matched) (from : ℕ) (old : WorldKept) (events : List WorldEvent) (replies : List RoundReply) (new : WorldKept) → Knows config known m → StandsFor old config network
-    → Beating m from old events replies new → AfterTick config m.writer m.reader new.sent from (length old.sent) events replies
-after_tick config network known m from old events replies new k s h =
+after_tick : {tests : AllTests} → (config : Config) (network known : WorldState) (m : Matched) (from : ℕ) (old : WorldKept) (events : List WorldEvent) (replies : List RoundReply) (new : WorldKept) → Knows config known m → StandsFor old config network
+    → Beating tests m from old events replies new → AfterTick config m.writer m.reader new.sent from (length old.sent) events replies
+after_tick {tests} config network known m from old events replies new k s h =
     let high : length old.sent ≤ length old.sent = omega arith in
-    let grows = (steps_on config network old events replies new (beats_steps m from old events replies new h) s).grows in
+    let grows = (steps_on tests config network old events replies new (beats_steps m from old events replies new h) s).grows in
     let is = heartbeat_is config known m k in
     ⊎_elim
     (λ f.
@@ -190,7 +190,7 @@ after_tick config network known m from old events replies new k s h =
     tick_as config m.writer m.reader new.sent from (length old.sent) events [] replies [] f.0 f.1 (subst (λ (x : Sought). HasNone (IsTo m.reader.peer x) new.sent from (length old.sent)) is none))
     (λ f.
     let first = first_on (IsTo m.reader.peer (sought.Heartbeat m.pair.writer)) old.sent new.sent from (length old.sent) f.0 grows high f.5 in
-    let on = step_on config network old (world.Deliver m.reader.peer f.0) f.1.reply f.2 f.6.step s in
+    let on = step_on tests config network old (world.Deliver m.reader.peer f.0) f.1.reply f.2 f.6.step s in
     let later = after_heartbeat config on.after known m (length old.sent) f.2 f.3 f.4 new k on.stands f.9 in
     tick_as config m.writer m.reader new.sent from (length old.sent) events (world.Deliver m.reader.peer f.0 ∷ f.3) replies (f.1 ∷ f.4) f.7 f.8 (
       refl,
@@ -199,12 +199,12 @@ after_tick config network known m from old events replies new k s h =
     ))
     h
 
-pub round_is : (old : WorldKept) (m : Matched) (ticked : RoundReply) (mid : WorldKept) (events : List WorldEvent) (replies : List RoundReply) (new : WorldKept) → IsKnown old m → IsStep old (world.Tick m.writer.peer m.moment) ticked mid
-    → Beating m (length old.sent) mid events replies new → (config : Config) (network : WorldState) → StandsFor old config network
+pub round_is : {tests : AllTests} → (old : WorldKept) (m : Matched) (ticked : RoundReply) (mid : WorldKept) (events : List WorldEvent) (replies : List RoundReply) (new : WorldKept) → IsKnown old m → IsStep tests old (world.Tick m.writer.peer m.moment) ticked mid
+    → Beating tests m (length old.sent) mid events replies new → (config : Config) (network : WorldState) → StandsFor old config network
     → IsRound config network m.writer m.reader new.sent (world.Tick m.writer.peer m.moment ∷ events) (ticked ∷ replies)
-round_is old m ticked mid events replies new known tick beats config network s =
+round_is {tests} old m ticked mid events replies new known tick beats config network s =
     let k = known config network s in
-    let on = step_on config network old (world.Tick m.writer.peer m.moment) ticked.reply mid tick.step s in
+    let on = step_on tests config network old (world.Tick m.writer.peer m.moment) ticked.reply mid tick.step s in
     let after = after_tick config on.after network m (length old.sent) mid events replies new k on.stands beats in
     let counted = subst (λ (n : ℕ). AfterTick config m.writer m.reader new.sent (length old.sent) n events replies) (sym tick.sent) after in
     (refl, k.moment, subst (λ (ps : List Packet). AfterTick config m.writer m.reader new.sent (length ps) ticked.sent events replies) (sym s.sent) counted)
@@ -212,13 +212,13 @@ round_is old m ticked mid events replies new known tick beats config network s =
 -- ---- who is matched
 
 -- the peer of this index, in a state of the network
-record IsPeerAt (config : Config) (network : WorldState) (kept : CoreKept) (number : ℕ) : Type 0 where
+record IsPeerAt (config : Config) (network : WorldState) (kept : PeerKept) (number : ℕ) : Type 0 where
   peer : Peer
   stands : CoreStandsFor kept config peer
   numbered : peer.number ≡ number
   part : part_at (machine_of network) number ≡ peer.part
 
-peer_is : (kept : WorldKept) (i number : ℕ) (core : CoreKept) (config : Config) (network : WorldState) → StandsFor kept config network → number ≡ i + 1 → slice_get kept.peers i ≡ Some core → IsPeerAt config network core number
+peer_is : (kept : WorldKept) (i number : ℕ) (core : PeerKept) (config : Config) (network : WorldState) → StandsFor kept config network → number ≡ i + 1 → slice_get kept.peers i ≡ Some core → IsPeerAt config network core number
 peer_is kept i number core config network s is at =
     let count = s.count in
     let low = get-within kept.peers i core at in
@@ -232,20 +232,20 @@ peer_is kept i number core config network s is at =
     subst (λ (n : ℕ). IsPeerAt config network core n) next here
 
 -- a peer that is kept at this index
-pub peer_kept : (inside peers : List CoreKept) (i count : ℕ) (core : CoreKept) → inside ≡ peers → core ≡ get_or inside i core
+pub peer_kept : (inside peers : List PeerKept) (i count : ℕ) (core : PeerKept) → inside ≡ peers → core ≡ get_or inside i core
     → count ≡ length peers → i < count → slice_get peers i ≡ Some core
 peer_kept inside peers i count core same is counted low =
     let within : i < length peers = omega (arith, counted, low) in
-    let here = subst (λ (ps : List CoreKept). core ≡ get_or ps i core) same is in
-    slice_get-get_or peers i core within ∙ ap (λ (x : CoreKept). Some x) (sym here)
+    let here = subst (λ (ps : List PeerKept). core ≡ get_or ps i core) same is in
+    slice_get-get_or peers i core within ∙ ap (λ (x : PeerKept). Some x) (sym here)
 
-pub no_pair_matched : (kept : WorldKept) (i : ℕ) (core : CoreKept) (writer reader : Endpoint) → writer.peer ≡ i + 1 → slice_get kept.peers i ≡ Some core
+pub no_pair_matched : (kept : WorldKept) (i : ℕ) (core : PeerKept) (writer reader : Endpoint) → writer.peer ≡ i + 1 → slice_get kept.peers i ≡ Some core
     → ((config : Config) (peer : Peer) → CoreStandsFor core config peer → IsPair config peer writer.number reader None) → NotMatched kept writer reader
 no_pair_matched kept i core writer reader is at none = λ config network s.
     let p = peer_is kept i writer.peer core config network s is at in
     subst (λ (part : Part). acknowledged_of (own_writer part writer.number).readers reader ≡ None) (sym p.part) (none config p.peer p.stands)
 
-pub pair_matched : (kept : WorldKept) (i : ℕ) (core : CoreKept) (writer reader : Endpoint) (pair : Pair) (now : ℕ) → writer.peer ≡ i + 1 → slice_get kept.peers i ≡ Some core
+pub pair_matched : (kept : WorldKept) (i : ℕ) (core : PeerKept) (writer reader : Endpoint) (pair : Pair) (now : ℕ) → writer.peer ≡ i + 1 → slice_get kept.peers i ≡ Some core
     → ((config : Config) (peer : Peer) → CoreStandsFor core config peer → IsPair config peer writer.number reader (Some pair)) → ((config : Config) (peer : Peer) → CoreStandsFor core config peer → now ≡ peer.part.dds.moment)
     → IsKnown kept (record { writer = writer; reader = reader; pair = pair; moment = now })
 pair_matched kept i core writer reader pair now is at found moment = λ config network s.
@@ -267,7 +267,7 @@ abbrev pub IsPlace : WorldKept → Endpoint → Endpoint → Option ℕ → Type
 IsPlace kept reader writer place =
     (config : Config) (network : WorldState) → StandsFor kept config network → place ≡ place_at (machine_of network) reader writer
 
-pub place_kept : (kept : WorldKept) (i : ℕ) (core : CoreKept) (reader writer : Endpoint) (place : Option ℕ) → reader.peer ≡ i + 1
+pub place_kept : (kept : WorldKept) (i : ℕ) (core : PeerKept) (reader writer : Endpoint) (place : Option ℕ) → reader.peer ≡ i + 1
     → slice_get kept.peers i ≡ Some core
     → ((config : Config) (peer : Peer) → CoreStandsFor core config peer → place ≡ place_of (own_proxies peer.part reader.number) writer)
     → IsPlace kept reader writer place

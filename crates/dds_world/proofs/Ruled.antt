@@ -18,23 +18,24 @@ use Rattle.dds_model.specs.Peer.{Peer, no_peer, state_of}
 use Rattle.dds_model.specs.Protocol.{Due, State, TakesPacket, AreSent, heartbeats_due}
 use Rattle.dds_model.specs.Rules.{AreDue, announcements_due}
 use Rattle.dds_model.specs.World.{WorldState, peer_at}
-use Rattle.dds_core.specs.Kept.{CoreKept}
+use Rattle.dds_core.specs.Kept.{PeerKept}
 use Rattle.dds_core.specs.Sending.{SendsFor, due_at_tick}
 use Rattle.dds_core.proofs.Lists.{element, get-within}
 use Rattle.dds_world.specs.WorldStanding.{WorldKept, StandsFor, Steps, KeepsRules}
 use Rattle.dds_world.specs.Acting.{Acts, IsCopy, RuledSteps}
 use Rattle.dds_world.proofs.WorldSteps.{SendsItsDues, acts_ruled, calls_at, comes_to_nothing, contains_at, delivers_at, found_at, nothing_moved, posts_none, set_same, ticks_at}
+use Rattle.dds_model.specs.Machine.{AllTests}
 
 -- a step by the rules is a step
 
-pub steps_of : (old new : WorldKept) (ev : WorldEvent) (reply : Reply) → RuledSteps old ev reply new → Steps old ev reply new
+pub steps_of : {tests : AllTests} → (old new : WorldKept) (ev : WorldEvent) (reply : Reply) → RuledSteps tests old ev reply new → Steps tests old ev reply new
 steps_of old new ev reply steps config network s = let t = steps config network s in (t.0, t.2.step, t.4, t.5)
 
-pub rules_of : (old new : WorldKept) (ev : WorldEvent) (reply : Reply) → RuledSteps old ev reply new → KeepsRules old ev reply new
+pub rules_of : {tests : AllTests} → (old new : WorldKept) (ev : WorldEvent) (reply : Reply) → RuledSteps tests old ev reply new → KeepsRules tests old ev reply new
 rules_of old new ev reply steps config network s = let t = steps config network s in (t.0, t.1, t.2, t.3, t.5)
 
 -- the number of the peer of this index
-numbered_so : (kept : WorldKept) (config : Config) (network : WorldState) (i : ℕ) (core : CoreKept) → StandsFor kept config network → slice_get kept.peers i ≡ Some core → (get_or network.peers i no_peer).number ≡ suc i
+numbered_so : (kept : WorldKept) (config : Config) (network : WorldState) (i : ℕ) (core : PeerKept) → StandsFor kept config network → slice_get kept.peers i ≡ Some core → (get_or network.peers i no_peer).number ≡ suc i
 numbered_so kept config network i core s at =
     let count = s.count in
     let low = get-within kept.peers i core at in s.sound.number (suc i) (omega arith, omega (arith, count, low))
@@ -52,7 +53,7 @@ effect_due config peer (writes w LookedAt) output none = (none.packets, none.uns
 effect_due config peer (writes w (Ticked now behind)) output none = (none.packets, none.unsent)
 effect_due config peer nothing output none = (none.packets, none.unsent)
 
-call_dues : (kept new : WorldKept) (i : ℕ) (call : Call) (reply : Reply) (a : Acts kept i (event.Call call) reply new) → SendsItsDues kept i (event.Call call) (world.Call (suc i) call) reply new a
+call_dues : {tests : AllTests} → (kept new : WorldKept) (i : ℕ) (call : Call) (reply : Reply) (a : Acts tests kept i (event.Call call) reply new) → SendsItsDues tests kept i (event.Call call) (world.Call (suc i) call) reply new a
 call_dues kept new i call reply a config network next s rules =
     let peer : Peer = get_or network.peers i no_peer in
     let output : Output = a.acts.output in
@@ -65,10 +66,10 @@ call_dues kept new i call reply a config network next s rules =
           (numbered_so kept config network i a.acts.core s a.acts.at) replied,
     )
 
-pub called : (kept new : WorldKept) (i peer : ℕ) (call : Call) (reply : Reply) → peer ≡ i + 1 → Acts kept i (event.Call call) reply new → RuledSteps kept (world.Call peer call) reply new
-called kept new i peer call reply is a =
-    subst (λ (n : ℕ). RuledSteps kept (world.Call n call) reply new) (next_number i peer is)
-    (acts_ruled kept new i (event.Call call) (world.Call (suc i) call) reply (calls_at kept.sent (suc i) call) a (call_dues kept new i call reply a))
+pub called : {tests : AllTests} → (kept new : WorldKept) (i peer : ℕ) (call : Call) (reply : Reply) → peer ≡ i + 1 → Acts tests kept i (event.Call call) reply new → RuledSteps tests kept (world.Call peer call) reply new
+called {tests} kept new i peer call reply is a =
+    subst (λ (n : ℕ). RuledSteps tests kept (world.Call n call) reply new) (next_number i peer is)
+    (acts_ruled kept new i (event.Call call) (world.Call (suc i) call) reply (calls_at tests kept.sent (suc i) call) a (call_dues kept new i call reply a))
 
 -- ---- a tick
 
@@ -85,7 +86,7 @@ are_due_so : (config : Config) (network next : WorldState) (i now : ℕ) (reply 
 are_due_so config network next i now Done = refl
 are_due_so config network next i now reply = refl
 
-tick_dues : (kept new : WorldKept) (i now : ℕ) (reply : Reply) (a : Acts kept i (event.Tick now) reply new) → SendsItsDues kept i (event.Tick now) (world.Tick (suc i) now) reply new a
+tick_dues : {tests : AllTests} → (kept new : WorldKept) (i now : ℕ) (reply : Reply) (a : Acts tests kept i (event.Tick now) reply new) → SendsItsDues tests kept i (event.Tick now) (world.Tick (suc i) now) reply new a
 tick_dues kept new i now reply a config network next s rules =
     let peer : Peer = get_or network.peers i no_peer in
     let output : Output = a.acts.output in
@@ -99,10 +100,10 @@ tick_dues kept new i now reply a config network next s rules =
           (numbered_so kept config network i a.acts.core s a.acts.at) replied,
     )
 
-pub ticked : (kept new : WorldKept) (i peer now : ℕ) (reply : Reply) → peer ≡ i + 1 → Acts kept i (event.Tick now) reply new → RuledSteps kept (world.Tick peer now) reply new
-ticked kept new i peer now reply is a =
-    subst (λ (n : ℕ). RuledSteps kept (world.Tick n now) reply new) (next_number i peer is)
-    (acts_ruled kept new i (event.Tick now) (world.Tick (suc i) now) reply (ticks_at kept.sent (suc i) now) a (tick_dues kept new i now reply a))
+pub ticked : {tests : AllTests} → (kept new : WorldKept) (i peer now : ℕ) (reply : Reply) → peer ≡ i + 1 → Acts tests kept i (event.Tick now) reply new → RuledSteps tests kept (world.Tick peer now) reply new
+ticked {tests} kept new i peer now reply is a =
+    subst (λ (n : ℕ). RuledSteps tests kept (world.Tick n now) reply new) (next_number i peer is)
+    (acts_ruled kept new i (event.Tick now) (world.Tick (suc i) now) reply (ticks_at tests kept.sent (suc i) now) a (tick_dues kept new i now reply a))
 
 -- ---- a delivery
 
@@ -112,8 +113,8 @@ reported_due : (config : Config) (network next : WorldState) (peer number : ℕ)
 reported_due config network next peer number packet reply report dues is at takes =
     subst (λ (r : Reply). AreDue config network (world.Deliver peer number) r next dues) (sym is) (packet, at, takes)
 
-delivery_dues : (kept new : WorldKept) (i j : ℕ) (packet : Packet) (reply : Reply) → slice_get kept.sent j ≡ Some packet → (a : Acts kept i (event.Deliver packet.bytes) reply new)
-    → SendsItsDues kept i (event.Deliver packet.bytes) (world.Deliver (suc i) (j + 1)) reply new a
+delivery_dues : {tests : AllTests} → (kept new : WorldKept) (i j : ℕ) (packet : Packet) (reply : Reply) → slice_get kept.sent j ≡ Some packet → (a : Acts tests kept i (event.Deliver packet.bytes) reply new)
+    → SendsItsDues tests kept i (event.Deliver packet.bytes) (world.Deliver (suc i) (j + 1)) reply new a
 delivery_dues kept new i j packet reply at a config network next s rules =
     let before : State = state_of (get_or network.peers i no_peer) in
     let later : State = state_of (get_or next.peers i no_peer) in
@@ -126,27 +127,27 @@ delivery_dues kept new i j packet reply at a config network next s rules =
     )
 
 -- a packet that was sent is taken up by the rules
-taken_up : (kept new : WorldKept) (i j : ℕ) (packet : Packet) (reply : Reply) → slice_get kept.sent j ≡ Some packet → Acts kept i (event.Deliver packet.bytes) reply new → RuledSteps kept (world.Deliver (suc i) (j + 1)) reply new
-taken_up kept new i j packet reply at a =
-    acts_ruled kept new i (event.Deliver packet.bytes) (world.Deliver (suc i) (j + 1)) reply (delivers_at kept.sent (suc i) (j + 1) packet (omega arith) (found_at kept.sent j packet at)) a
+taken_up : {tests : AllTests} → (kept new : WorldKept) (i j : ℕ) (packet : Packet) (reply : Reply) → slice_get kept.sent j ≡ Some packet → Acts tests kept i (event.Deliver packet.bytes) reply new → RuledSteps tests kept (world.Deliver (suc i) (j + 1)) reply new
+taken_up {tests} kept new i j packet reply at a =
+    acts_ruled kept new i (event.Deliver packet.bytes) (world.Deliver (suc i) (j + 1)) reply (delivers_at tests kept.sent (suc i) (j + 1) packet (omega arith) (found_at kept.sent j packet at)) a
     (delivery_dues kept new i j packet reply at a)
 
-pub delivered : (kept new : WorldKept) (i j : ℕ) (bytes : List ℕ) (reply : Reply) → IsCopy kept.sent j bytes → Acts kept i (event.Deliver bytes) reply new → RuledSteps kept (world.Deliver (i + 1) (j + 1)) reply new
-delivered kept new i j bytes reply copy a =
+pub delivered : {tests : AllTests} → (kept new : WorldKept) (i j : ℕ) (bytes : List ℕ) (reply : Reply) → IsCopy kept.sent j bytes → Acts tests kept i (event.Deliver bytes) reply new → RuledSteps tests kept (world.Deliver (i + 1) (j + 1)) reply new
+delivered {tests} kept new i j bytes reply copy a =
     let packet = copy.packet in
-    let own : Acts kept i (event.Deliver packet.bytes) reply new = subst (λ (b : List ℕ). Acts kept i (event.Deliver b) reply new) copy.same a in
+    let own : Acts tests kept i (event.Deliver packet.bytes) reply new = subst (λ (b : List ℕ). Acts tests kept i (event.Deliver b) reply new) copy.same a in
     let next : suc i ≡ i + 1 = omega arith in
-    subst (λ (n : ℕ). RuledSteps kept (world.Deliver n (j + 1)) reply new) next (taken_up kept new i j packet reply copy.at own)
+    subst (λ (n : ℕ). RuledSteps tests kept (world.Deliver n (j + 1)) reply new) next (taken_up kept new i j packet reply copy.at own)
 
 -- a packet that finds no memory
-pub not_delivered : (kept : WorldKept) (i j : ℕ) → i < length kept.peers → j < length kept.sent → RuledSteps kept (world.Deliver (i + 1) (j + 1)) (Reported (record { moves = []; refused = Some 0 })) kept
-not_delivered kept i j low high config network s =
+pub not_delivered : {tests : AllTests} → (kept : WorldKept) (i j : ℕ) → i < length kept.peers → j < length kept.sent → RuledSteps tests kept (world.Deliver (i + 1) (j + 1)) (Reported (record { moves = []; refused = Some 0 })) kept
+not_delivered {tests} kept i j low high config network s =
     let few = s.few in
     let core = element kept.peers i low in
     let packet = element kept.sent j high in
     let some : HasSubmessage packet.0.bytes = s.messages packet.0 (contains_at kept.sent j packet.0 packet.1) in
     let reply : Reply = Reported (record { moves = []; refused = Some 0 }) in
-    let acts : Acts kept i (event.Deliver packet.0.bytes) reply kept = record {
+    let acts : Acts tests kept i (event.Deliver packet.0.bytes) reply kept = record {
       acts = record {
         core = core.0;
         at = core.1;
@@ -156,6 +157,7 @@ not_delivered kept i j low high config network s =
         messages = λ p c. absurd (omega (arith, c.1));
         replies = refl;
         peers = set_same kept.peers i core.0 core.1;
+        filters = refl;
         posts = posts_none kept.sent;
       };
       sends = tt;

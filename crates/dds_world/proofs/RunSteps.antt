@@ -4,7 +4,7 @@ use Rattle.dds_base.specs.declared.config.Config.{Config}
 use Rattle.dds_model.specs.declared.event.WorldEvent.{WorldEvent}
 use Rattle.dds_model.specs.declared.event.Packet.{Packet}
 use Rattle.dds_model.specs.declared.reply.Reply.{Reply}
-use Rattle.dds_model.specs.Machine.{AllTests, no_tests}
+use Rattle.dds_model.specs.Machine.{AllTests}
 use Rattle.dds_model.specs.Rules.{CountedStep, RuledRun, traffic_of}
 use Rattle.dds_model.specs.Runs.{Traffic, Sends, Run}
 use Rattle.dds_model.specs.World.{WorldState, machine_of}
@@ -29,21 +29,21 @@ sent_is : (kept : WorldKept) (config : Config) (network : WorldState) (s : Stand
 sent_is kept config network s = ap (λ (ps : List Packet). let t : Traffic = record { sent = ps; unsent = kept.unsent } in t) s.sent
 
 -- a run of the peers is one of the machine
-pub runs_so : (kept new : WorldKept) (events : List WorldEvent) (replies : List Reply) (config : Config) (network after : WorldState) (s : StandsFor kept config network) (t : StandsFor new config after)
-    → RuledRun config no_tests network kept.unsent events replies after new.unsent → Run config no_tests (traffic kept) (machine_of network) events replies (traffic new) (machine_of after)
-runs_so kept new events replies config network after s t run =
-    let r = composes_runs config no_tests network after kept.unsent new.unsent events replies s.sound (run_by_rules config no_tests network after kept.unsent new.unsent events replies run) in
-    subst (λ (first : Traffic). Run config no_tests first (machine_of network) events replies (traffic new) (machine_of after)) (sent_is kept config network s)
-    (subst (λ (last : Traffic). Run config no_tests (traffic_of network kept.unsent) (machine_of network) events replies last (machine_of after)) (sent_is new config after t) r.0)
+pub runs_so : (tests : AllTests) → (kept new : WorldKept) (events : List WorldEvent) (replies : List Reply) (config : Config) (network after : WorldState) (s : StandsFor kept config network) (t : StandsFor new config after)
+    → RuledRun config tests network kept.unsent events replies after new.unsent → Run config tests (traffic kept) (machine_of network) events replies (traffic new) (machine_of after)
+runs_so tests kept new events replies config network after s t run =
+    let r = composes_runs config tests network after kept.unsent new.unsent events replies s.sound (run_by_rules config tests network after kept.unsent new.unsent events replies run) in
+    subst (λ (first : Traffic). Run config tests first (machine_of network) events replies (traffic new) (machine_of after)) (sent_is kept config network s)
+    (subst (λ (last : Traffic). Run config tests (traffic_of network kept.unsent) (machine_of network) events replies last (machine_of after)) (sent_is new config after t) r.0)
 
 -- a step by the rules, of a network that stands for this state
-pub record Went (config : Config) (network : WorldState) (old : WorldKept) (ev : WorldEvent) (reply : Reply) (new : WorldKept) : Type 0 where
+pub record Went (tests : AllTests) (config : Config) (network : WorldState) (old : WorldKept) (ev : WorldEvent) (reply : Reply) (new : WorldKept) : Type 0 where
   pub after : WorldState
-  pub step : CountedStep config no_tests network old.unsent ev reply after new.unsent
+  pub step : CountedStep config tests network old.unsent ev reply after new.unsent
   pub stands : StandsFor new config after
 
-pub went_by : (config : Config) (network : WorldState) (old : WorldKept) (ev : WorldEvent) (reply : Reply) (new : WorldKept) → KeepsRules old ev reply new → Announces old ev reply new → StandsFor old config network
-    → Went config network old ev reply new
+pub went_by : {tests : AllTests} → (config : Config) (network : WorldState) (old : WorldKept) (ev : WorldEvent) (reply : Reply) (new : WorldKept) → KeepsRules tests old ev reply new → Announces old ev reply new → StandsFor old config network
+    → Went tests config network old ev reply new
 went_by config network old ev reply new rules announces s =
     let t = rules config network s in
     let sends : Sends config (traffic_of network old.unsent) (machine_of network) ev reply (traffic_of t.0 new.unsent) =
@@ -51,15 +51,15 @@ went_by config network old ev reply new rules announces s =
     (subst (λ (x : Traffic). Sends config (traffic old) (machine_of network) ev reply x) (sym (sent_is new config t.0 t.4)) (announces config network s)) in
     record { after = t.0; step = record { lost = t.1; ruled = t.2; counted = t.3; sends = sends }; stands = t.4 }
 
-pub runs_none : (kept : WorldKept) → Runs kept [] [] kept
+pub runs_none : {tests : AllTests} → (kept : WorldKept) → Runs tests kept [] [] kept
 runs_none kept = record { run = λ config network s. (network, (refl, refl), (refl, refl), s) }
 
-pub runs_more : (kept mid new : WorldKept) (events : List WorldEvent) (replies : List Reply) (ev : WorldEvent) (reply : Reply) → Runs kept events replies mid → KeepsRules mid ev reply new → Announces mid ev reply new
-    → Runs kept (events ++ ev ∷ []) (replies ++ reply ∷ []) new
-runs_more kept mid new events replies ev reply runs rules announces = record {
+pub runs_more : {tests : AllTests} → (kept mid new : WorldKept) (events : List WorldEvent) (replies : List Reply) (ev : WorldEvent) (reply : Reply) → Runs tests kept events replies mid → KeepsRules tests mid ev reply new → Announces mid ev reply new
+    → Runs tests kept (events ++ ev ∷ []) (replies ++ reply ∷ []) new
+runs_more {tests} kept mid new events replies ev reply runs rules announces = record {
   run = λ config network s.
       let r = runs.run config network s in
       let w = went_by config r.0 mid ev reply new rules announces r.3 in
-      let run = run_more config no_tests network r.0 w.after kept.unsent mid.unsent new.unsent events replies ev reply r.1 w.step in
-      (w.after, run, runs_so kept new (events ++ ev ∷ []) (replies ++ reply ∷ []) config network w.after s w.stands run, w.stands);
+      let run = run_more config tests network r.0 w.after kept.unsent mid.unsent new.unsent events replies ev reply r.1 w.step in
+      (w.after, run, runs_so tests kept new (events ++ ev ∷ []) (replies ++ reply ∷ []) config network w.after s w.stands run, w.stands);
 }

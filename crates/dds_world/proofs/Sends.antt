@@ -15,7 +15,7 @@ use Rattle.dds_model.specs.declared.reply.Reply.TheVariants.{Done, Refused, Repo
 use Rattle.dds_base.specs.declared.code.Code.TheVariants.{BadParameter}
 use Rattle.dds_model.specs.Part.{Part, ReaderProxy, own_writer, writer_changes}
 use Rattle.dds_model.specs.Calls.{Effect, nothing, writes, effect_of}
-use Rattle.dds_model.specs.Machine.{part_at}
+use Rattle.dds_model.specs.Machine.{AllTests, part_at}
 use Rattle.dds_model.specs.Peer.{Peer, no_peer}
 use Rattle.dds_model.specs.Protocol.{Due, AreSent, assertions_due, changes_due, heartbeats_due}
 use Rattle.dds_model.specs.Runs.{Traffic, Announced, Sends, SendsDues, SendsOf}
@@ -91,7 +91,7 @@ machine_sends config old new network peer (writes w (Ticked now behind)) h = h
 machine_sends config old new network peer nothing h = h
 
 -- what is sent at a call of the peer of this index
-call_sends : (kept new : WorldKept) (i : ℕ) (c : Call) (reply : Reply) → Acts kept i (event.Call c) reply new → Announces kept (world.Call (suc i) c) reply new
+call_sends : {tests : AllTests} → (kept new : WorldKept) (i : ℕ) (c : Call) (reply : Reply) → Acts tests kept i (event.Call c) reply new → Announces kept (world.Call (suc i) c) reply new
 call_sends kept new i c reply a config network s =
     let acts = a.acts in
     let old : Traffic = traffic kept in
@@ -115,7 +115,7 @@ call_sends kept new i c reply a config network s =
 number_of : (i n : ℕ) → n ≡ i + 1 → suc i ≡ n
 number_of i n is = omega (arith, is)
 
-pub called_sends : (kept new : WorldKept) (i peer : ℕ) (c : Call) (reply : Reply) → peer ≡ i + 1 → Acts kept i (event.Call c) reply new → Announces kept (world.Call peer c) reply new
+pub called_sends : {tests : AllTests} → (kept new : WorldKept) (i peer : ℕ) (c : Call) (reply : Reply) → peer ≡ i + 1 → Acts tests kept i (event.Call c) reply new → Announces kept (world.Call peer c) reply new
 called_sends kept new i peer c reply is a = subst (λ (n : ℕ). Announces kept (world.Call n c) reply new) (number_of i peer is) (call_sends kept new i c reply a)
 
 -- a tick sends what is due
@@ -135,7 +135,7 @@ machine_ticks : (config : Config) (old new : Traffic) (network : WorldState) (pe
 machine_ticks config old new network peer now Done h = h
 machine_ticks config old new network peer now reply h = h
 
-ticks_sent : (kept new : WorldKept) (i now : ℕ) (reply : Reply) → Acts kept i (event.Tick now) reply new → Announces kept (world.Tick (suc i) now) reply new
+ticks_sent : {tests : AllTests} → (kept new : WorldKept) (i now : ℕ) (reply : Reply) → Acts tests kept i (event.Tick now) reply new → Announces kept (world.Tick (suc i) now) reply new
 ticks_sent kept new i now reply a config network s =
     let acts = a.acts in
     let old : Traffic = traffic kept in
@@ -150,7 +150,7 @@ ticks_sent kept new i now reply a config network s =
     machine_ticks config old (traffic new) network (suc i) now reply
     (subst (λ (p : Part). TicksAt config old (suc i) p reply (traffic new)) (sym part) (subst (λ (n : ℕ). TicksAt config old n peer.part reply (traffic new)) number replied))
 
-pub ticked_sends : (kept new : WorldKept) (i peer now : ℕ) (reply : Reply) → peer ≡ i + 1 → Acts kept i (event.Tick now) reply new → Announces kept (world.Tick peer now) reply new
+pub ticked_sends : {tests : AllTests} → (kept new : WorldKept) (i peer now : ℕ) (reply : Reply) → peer ≡ i + 1 → Acts tests kept i (event.Tick now) reply new → Announces kept (world.Tick peer now) reply new
 ticked_sends kept new i peer now reply is a = subst (λ (n : ℕ). Announces kept (world.Tick n now) reply new) (number_of i peer is) (ticks_sent kept new i now reply a)
 
 -- a delivery sends what is then due
@@ -160,7 +160,7 @@ reported : (config : Config) (old new : Traffic) (network : WorldState) (peer nu
 reported config old new network peer number (Reported r) report is dues h = inl (dues, h)
 reported config old new network peer number reply report is dues h = absurd cc
 
-pub delivered_sends : (kept new : WorldKept) (i peer number : ℕ) (bytes : List ℕ) (reply : Reply) → Acts kept i (event.Deliver bytes) reply new → Announces kept (world.Deliver peer number) reply new
+pub delivered_sends : {tests : AllTests} → (kept new : WorldKept) (i peer number : ℕ) (bytes : List ℕ) (reply : Reply) → Acts tests kept i (event.Deliver bytes) reply new → Announces kept (world.Deliver peer number) reply new
 delivered_sends kept new i peer number bytes reply a config network s =
     let acts = a.acts in
     let at_peer : Peer = get_or network.peers i no_peer in

@@ -19,8 +19,9 @@ use Rattle.dds_model.specs.declared.event.WorldEvent.{WorldEvent}
 use Rattle.dds_model.specs.declared.event.WorldEvent.TheVariants as world
 use Rattle.dds_model.specs.declared.reply.Reply.{Reply}
 use Rattle.dds_model.specs.declared.reply.Reply.TheVariants.{Reported, Refused}
-use Rattle.dds_conditions.specs.Watched.{no_filters}
-use Rattle.dds_model.specs.Machine.{no_tests, Step}
+use Rattle.dds_model.specs.Watching.{Tests}
+use Rattle.dds_model.proofs.FiltersKept.{keeps_filters}
+use Rattle.dds_model.specs.Machine.{AllTests, Step}
 use Rattle.dds_model.specs.Numbered.{HasNumber}
 use Rattle.dds_model.specs.Peer.{Peer, Delivery, PeerStep, no_peer, state_of}
 use Rattle.dds_model.specs.Progress.{Progresses}
@@ -33,8 +34,8 @@ use Rattle.dds_model.proofs.Composed.{composes}
 use Rattle.dds_model.proofs.FreshCounts.{steps_used}
 use Rattle.dds_model.proofs.RuledPackets.{unread_backed}
 use Rattle.dds_model.proofs.Tables.{append_nothing}
-use Rattle.dds_core.specs.Kept.{CoreKept}
-use Rattle.dds_core.specs.Standing.{StandsFor as CoreStandsFor, IsSound, SoundSteps as CoreSteps, KeepsRules as CoreKeepsRules}
+use Rattle.dds_core.specs.Kept.{PeerKept}
+use Rattle.dds_core.specs.Standing.{StandsFor as CoreStandsFor, IsSound, SoundStepsBy, KeepsRules as CoreKeepsRules}
 use Rattle.dds_core.proofs.CallSteps.{refused_nothing}
 use Rattle.dds_core.proofs.Lists.{each_set, get-within}
 use Rattle.dds_world.specs.WorldStanding.{WorldKept, StandsFor, Steps, MovesOn, ArePosted, Posts}
@@ -113,45 +114,54 @@ posts_more old packets now new packet false h is =
     }
 
 -- what is delivered is taken up, since claims are true
-pub progresses : (kept new : WorldKept) (ev : WorldEvent) (reply : Reply) → Steps kept ev reply new → MovesOn kept ev reply
-progresses kept new ev reply steps config network s =
+pub progresses : (tests : AllTests) → (kept new : WorldKept) (ev : WorldEvent) (reply : Reply) → Steps tests kept ev reply new → MovesOn kept ev reply
+progresses tests kept new ev reply steps config network s =
     let t = steps config network s in
-    subst (λ (ps : List Packet). Progresses config ps (machine_of network) ev reply) s.sent (composes config no_tests network t.0 ev reply s.sound t.1).1
+    subst (λ (ps : List Packet). Progresses config ps (machine_of network) ev reply) s.sent (composes config tests network t.0 ev reply s.sound t.1).1
 
 -- how an event of a peer of this number is one of the network
-abbrev pub IsEventOf : List Packet → Event → ℕ → WorldEvent → Type 0
-IsEventOf sent ev peer whole = (config : Config) (old new : WorldState) (reply : Reply) → old.sent ≡ sent → PeerSteps config no_filters old peer ev reply new → WorldStep config no_tests old whole reply new
+abbrev pub IsEventOf : AllTests → List Packet → Event → ℕ → WorldEvent → Type 0
+IsEventOf tests sent ev peer whole = (config : Config) (old new : WorldState) (reply : Reply) → old.sent ≡ sent → PeerSteps config (tests peer) old peer ev reply new → WorldStep config tests old whole reply new
 
-pub calls_at : (sent : List Packet) (peer : ℕ) (call : Call) → IsEventOf sent (event.Call call) peer (world.Call peer call)
-calls_at sent peer call config old new reply same step = inl step
+pub calls_at : (tests : AllTests) → (sent : List Packet) (peer : ℕ) (call : Call) → IsEventOf tests sent (event.Call call) peer (world.Call peer call)
+calls_at tests sent peer call config old new reply same step = inl step
 
-pub ticks_at : (sent : List Packet) (peer now : ℕ) → IsEventOf sent (event.Tick now) peer (world.Tick peer now)
-ticks_at sent peer now config old new reply same step = inl step
+pub ticks_at : (tests : AllTests) → (sent : List Packet) (peer now : ℕ) → IsEventOf tests sent (event.Tick now) peer (world.Tick peer now)
+ticks_at tests sent peer now config old new reply same step = inl step
 
-pub delivers_at : (sent : List Packet) (peer number : ℕ) (packet : Packet) → 1 ≤ number → slice_get sent (number - 1) ≡ Some packet → IsEventOf sent (event.Deliver packet.bytes) peer (world.Deliver peer number)
-delivers_at sent peer number packet low found config old new reply same step = inl (packet, low, subst (λ (ps : List Packet). slice_get ps (number - 1) ≡ Some packet) (sym same) found, step)
+pub delivers_at : (tests : AllTests) → (sent : List Packet) (peer number : ℕ) (packet : Packet) → 1 ≤ number → slice_get sent (number - 1) ≡ Some packet → IsEventOf tests sent (event.Deliver packet.bytes) peer (world.Deliver peer number)
+delivers_at tests sent peer number packet low found config old new reply same step = inl (packet, low, subst (λ (ps : List Packet). slice_get ps (number - 1) ≡ Some packet) (sym same) found, step)
 
 -- the network in which one peer is another, and these packets were sent
 abbrev with_peer : WorldState → ℕ → Peer → List Packet → WorldState
 with_peer network i after sent = record { peers = set network.peers i after; sent = sent }
 
+-- a step of the peer of this index adds no filter at any peer
+filters_stay : (config : Config) (tests : Tests) (i : ℕ) (ev : Event) (output : Output) (after : Peer) (peers : List Peer) → PeerStep config tests (get_or peers i no_peer) ev output after
+    → (j : ℕ) → (get_or (set peers i after) j no_peer).part.dds.watch.filters ≡ (get_or peers j no_peer).part.dds.watch.filters
+filters_stay config tests i ev output after [] step j = refl
+filters_stay config tests zero ev output after (p ∷ ps) step zero = keeps_filters config tests p ev output after step
+filters_stay config tests zero ev output after (p ∷ ps) step (suc j) = refl
+filters_stay config tests (suc i) ev output after (p ∷ ps) step zero = refl
+filters_stay config tests (suc i) ev output after (p ∷ ps) step (suc j) = filters_stay config tests i ev output after ps step j
+
 -- what the peer of this index sends at an event is what is due at it
-abbrev pub SendsItsDues : (kept : WorldKept) (i : ℕ) (ev : Event) (whole : WorldEvent) (reply : Reply) (new : WorldKept) → Acts kept i ev reply new → Type 0
-SendsItsDues kept i ev whole reply new a = (config : Config) (network next : WorldState) → StandsFor kept config network
+abbrev pub SendsItsDues : (tests : AllTests) → (kept : WorldKept) (i : ℕ) (ev : Event) (whole : WorldEvent) (reply : Reply) (new : WorldKept) → Acts tests kept i ev reply new → Type 0
+SendsItsDues tests kept i ev whole reply new a = (config : Config) (network next : WorldState) → StandsFor kept config network
     → CoreKeepsRules config (get_or network.peers i no_peer) ev a.acts.output (get_or next.peers i no_peer)
     → (dues : List Due) × AreDue config network whole reply next dues × AreSent dues a.acts.output.packets a.acts.output.unsent
 
 -- an event of the peer of this index is one of the network by the rules of the protocol
-pub acts_ruled : (kept new : WorldKept) (i : ℕ) (ev : Event) (whole : WorldEvent) (reply : Reply) → IsEventOf kept.sent ev (suc i) whole → (a : Acts kept i ev reply new) → SendsItsDues kept i ev whole reply new a
-    → RuledSteps kept whole reply new
-acts_ruled kept new i ev whole reply into acts sends config network s =
+pub acts_ruled : {tests : AllTests} → (kept new : WorldKept) (i : ℕ) (ev : Event) (whole : WorldEvent) (reply : Reply) → IsEventOf tests kept.sent ev (suc i) whole → (a : Acts tests kept i ev reply new) → SendsItsDues tests kept i ev whole reply new a
+    → RuledSteps tests kept whole reply new
+acts_ruled {tests} kept new i ev whole reply into acts sends config network s =
     let a = acts.acts in
     let core : CoreStandsFor a.core config (get_or network.peers i no_peer) = s.each i a.core a.at in
     let r = a.steps config (get_or network.peers i no_peer) core (s.known i a.core a.at) in
     let next : WorldState = with_peer network i r.0 new.sent in
     let low : i < length kept.peers = get-within kept.peers i a.core a.at in
     let count = s.count in
-    let step : PeerSteps config no_filters network (suc i) ev reply next = record {
+    let step : PeerSteps config (tests (suc i)) network (suc i) ev reply next = record {
       within = (omega arith, omega (arith, count, low));
       output = a.output;
       replies = sym a.replies;
@@ -161,14 +171,14 @@ acts_ruled kept new i ev whole reply into acts sends config network s =
       of_packets = a.posts.of_packets;
       changed = ap (λ (ps : List Packet). with_peer network i r.0 ps) (a.posts.sent ∙ ap (λ (ps : List Packet). ps ++ a.posts.posted) (sym s.sent));
     } in
-    let whole_step : WorldStep config no_tests network whole reply next = into config network next reply s.sent step in
+    let whole_step : WorldStep config tests network whole reply next = into config network next reply s.sent step in
     let low' : i < length network.peers = omega (arith, count, low) in
     let there : get_or next.peers i no_peer ≡ r.0 = get_or-set_same network.peers i r.0 no_peer low' in
     let rules : CoreKeepsRules config (get_or network.peers i no_peer) ev a.output (get_or next.peers i no_peer) =
     subst (λ (p : Peer). CoreKeepsRules config (get_or network.peers i no_peer) ev a.output p) (sym there) r.4 in
     let due = sends config network next s rules in
     let lost : ℕ = a.output.unsent + a.posts.lost in
-    let ruled : RuledStep config no_tests network whole reply lost next = record {
+    let ruled : RuledStep config tests network whole reply lost next = record {
       step = whole_step;
       dues = due.0;
       due = due.1;
@@ -176,25 +186,26 @@ acts_ruled kept new i ev whole reply into acts sends config network s =
       sent = a.posts.sent ∙ ap (λ (ps : List Packet). ps ++ a.posts.posted) (sym s.sent);
       are_sent = posted_on due.0 a.output.packets a.posts.posted a.output.unsent a.posts.lost due.2 a.posts.are_posted;
     } in
-    let c = composes config no_tests network next whole reply s.sound whole_step in
+    let c = composes config tests network next whole reply s.sound whole_step in
     let unsent = lost_is kept new a.output a.posts acts.counts in
     let c1 = length-set network.peers i r.0 in
     let c2 = length-set kept.peers i a.after in
-    let c3 = ap (λ (ks : List CoreKept). length ks) a.peers in
+    let c3 = ap (λ (ks : List PeerKept). length ks) a.peers in
     let stands : StandsFor new config next = record {
       count = omega (arith, c1, c2, c3, count);
-      each = λ j k at. each_set (λ (x : CoreKept) (p : Peer). CoreStandsFor x config p) kept.peers network.peers i a.after r.0 no_peer s.count s.each r.2 j k (subst (λ (ks : List CoreKept). slice_get ks j ≡ Some k) a.peers at);
-      known = λ j k at. each_set (λ (x : CoreKept) (p : Peer). IsSound config p) kept.peers network.peers i a.after r.0 no_peer s.count s.known r.3 j k (subst (λ (ks : List CoreKept). slice_get ks j ≡ Some k) a.peers at);
+      each = λ j k at. each_set (λ (x : PeerKept) (p : Peer). CoreStandsFor x config p) kept.peers network.peers i a.after r.0 no_peer s.count s.each r.2 j k (subst (λ (ks : List PeerKept). slice_get ks j ≡ Some k) a.peers at);
+      known = λ j k at. each_set (λ (x : PeerKept) (p : Peer). IsSound config p) kept.peers network.peers i a.after r.0 no_peer s.count s.known r.3 j k (subst (λ (ks : List PeerKept). slice_get ks j ≡ Some k) a.peers at);
+      filters = λ j. filters_stay config (tests (suc i)) i ev a.output r.0 network.peers r.1 j ∙ (s.filters j ∙ ap (λ (ns : List ℕ). get_or ns j 0) (sym a.filters));
       sent = refl;
       sound = c.2;
       messages = λ packet m.
           ⊎_elim (λ o. s.messages packet o) (λ o. a.messages packet (a.posts.of_packets packet o))
           (Contains-append_cases kept.sent a.posts.posted packet (subst (λ (ps : List Packet). Contains ps packet) a.posts.sent m));
       few = omega (arith, unsent);
-      used = steps_used config no_tests network whole reply lost next core.is_peer.checked s.used ruled;
-      bounded = steps_bounded no_tests (length network.sent) (machine_of network) whole reply (machine_of next) s.bounded c.0;
+      used = steps_used config tests network whole reply lost next core.is_peer.checked s.used ruled;
+      bounded = steps_bounded tests (length network.sent) (machine_of network) whole reply (machine_of next) s.bounded c.0;
     } in
-    (next, lost, ruled, unsent, subst (λ (ps : List Packet). Step no_tests (length ps) (machine_of network) whole reply (machine_of next)) s.sent c.0, stands)
+    (next, lost, ruled, unsent, subst (λ (ps : List Packet). Step tests (length ps) (machine_of network) whole reply (machine_of next)) s.sent c.0, stands)
 
 -- the packet of an index, by its number
 pub found_at : (sent : List Packet) (j : ℕ) (packet : Packet) → slice_get sent j ≡ Some packet → slice_get sent ((j + 1) - 1) ≡ Some packet
@@ -205,11 +216,11 @@ found_at sent j packet at = let same : (j + 1) - 1 ≡ j = omega arith in subst 
 abbrev pub nothing_moved : Output
 nothing_moved = record { reply = Reported (record { moves = []; refused = Some 0 }); packets = []; unsent = 0 }
 
-pub comes_to_nothing : (core : CoreKept) (bytes : List ℕ) → HasSubmessage bytes → CoreSteps core (event.Deliver bytes) nothing_moved core
-comes_to_nothing core bytes some config peer s sound =
+pub comes_to_nothing : {tests : Tests} → (core : PeerKept) (bytes : List ℕ) → HasSubmessage bytes → SoundStepsBy tests core (event.Deliver bytes) nothing_moved core
+comes_to_nothing {tests} core bytes some config peer s sound =
     let delivery : Delivery = record { packet = bytes; report = record { moves = []; refused = Some 0 } } in
     let after : Peer = record { number = peer.number; part = peer.part; known = peer.known; delivered = delivery ∷ peer.delivered } in
-    let step : PeerStep config no_filters peer (event.Deliver bytes) nothing_moved after = record {
+    let step : PeerStep config tests peer (event.Deliver bytes) nothing_moved after = record {
       same_number = refl;
       knows = tt;
       step = (inr (record { moves = refl; after = refl; cause = inr (refl, some) }), refl);
@@ -243,14 +254,14 @@ nobody kept config network peer s none has =
     ⊎_elim (λ z. omega (arith, z, low)) (λ past. omega (arith, past, high, count)) (no_such peer (length kept.peers) none)
 
 -- what is refused changes nothing, and nothing is due
-stays : (kept : WorldKept) (config : Config) (network : WorldState) (ev : WorldEvent) → StandsFor kept config network → WorldStep config no_tests network ev (Refused BadParameter) network
+stays : {tests : AllTests} → (kept : WorldKept) (config : Config) (network : WorldState) (ev : WorldEvent) → StandsFor kept config network → WorldStep config tests network ev (Refused BadParameter) network
     → AreDue config network ev (Refused BadParameter) network []
-    → (after : WorldState) × (lost : ℕ) × RuledStep config no_tests network ev (Refused BadParameter) lost after × (kept.unsent ≡ min (kept.unsent + lost) (2 ^ 64 - 1))
-    × Step no_tests (length kept.sent) (machine_of network) ev (Refused BadParameter) (machine_of after) × StandsFor kept config after
-stays kept config network ev s step none =
+    → (after : WorldState) × (lost : ℕ) × RuledStep config tests network ev (Refused BadParameter) lost after × (kept.unsent ≡ min (kept.unsent + lost) (2 ^ 64 - 1))
+    × Step tests (length kept.sent) (machine_of network) ev (Refused BadParameter) (machine_of after) × StandsFor kept config after
+stays {tests} kept config network ev s step none =
     let few = s.few in
-    let c = composes config no_tests network network ev (Refused BadParameter) s.sound step in
-    let ruled : RuledStep config no_tests network ev (Refused BadParameter) 0 network = record {
+    let c = composes config tests network network ev (Refused BadParameter) s.sound step in
+    let ruled : RuledStep config tests network ev (Refused BadParameter) 0 network = record {
       step = step;
       dues = [];
       due = none;
@@ -258,22 +269,22 @@ stays kept config network ev s step none =
       sent = sym (append_nothing network.sent);
       are_sent = (refl, refl);
     } in
-    (network, 0, ruled, omega (arith, few), subst (λ (ps : List Packet). Step no_tests (length ps) (machine_of network) ev (Refused BadParameter) (machine_of network)) s.sent c.0, s)
+    (network, 0, ruled, omega (arith, few), subst (λ (ps : List Packet). Step tests (length ps) (machine_of network) ev (Refused BadParameter) (machine_of network)) s.sent c.0, s)
 
-pub unknown_call : (kept : WorldKept) (peer : ℕ) (call : Call) → (nat_lt 0 peer && nat_le peer (length kept.peers)) ≡ false → RuledSteps kept (world.Call peer call) (Refused BadParameter) kept
+pub unknown_call : {tests : AllTests} → (kept : WorldKept) (peer : ℕ) (call : Call) → (nat_lt 0 peer && nat_le peer (length kept.peers)) ≡ false → RuledSteps tests kept (world.Call peer call) (Refused BadParameter) kept
 unknown_call kept peer call none config network s =
     stays kept config network (world.Call peer call) s (inr (λ has. nobody kept config network peer s none has, record { is_refused = refl; after = refl }))
     (sym (ap (λ (e : Effect). announcements_due config peer (peer_at network peer).part e) (refused_nothing (peer_at network peer).part call BadParameter)))
 
-pub unknown_tick : (kept : WorldKept) (peer now : ℕ) → (nat_lt 0 peer && nat_le peer (length kept.peers)) ≡ false → RuledSteps kept (world.Tick peer now) (Refused BadParameter) kept
+pub unknown_tick : {tests : AllTests} → (kept : WorldKept) (peer now : ℕ) → (nat_lt 0 peer && nat_le peer (length kept.peers)) ≡ false → RuledSteps tests kept (world.Tick peer now) (Refused BadParameter) kept
 unknown_tick kept peer now none config network s =
     stays kept config network (world.Tick peer now) s (inr (λ has. nobody kept config network peer s none has, record { is_refused = refl; after = refl })) refl
 
-pub unknown_delivery : (kept : WorldKept) (peer number : ℕ) → (nat_lt 0 peer && nat_le peer (length kept.peers)) ≡ false → RuledSteps kept (world.Deliver peer number) (Refused BadParameter) kept
+pub unknown_delivery : {tests : AllTests} → (kept : WorldKept) (peer number : ℕ) → (nat_lt 0 peer && nat_le peer (length kept.peers)) ≡ false → RuledSteps tests kept (world.Deliver peer number) (Refused BadParameter) kept
 unknown_delivery kept peer number none config network s =
     stays kept config network (world.Deliver peer number) s (inr (inr (inr (λ has. nobody kept config network peer s none has)), record { is_refused = refl; after = refl })) refl
 
-pub unknown_packet : (kept : WorldKept) (peer number : ℕ) → (nat_lt 0 number && nat_le number (length kept.sent)) ≡ false → RuledSteps kept (world.Deliver peer number) (Refused BadParameter) kept
+pub unknown_packet : {tests : AllTests} → (kept : WorldKept) (peer number : ℕ) → (nat_lt 0 number && nat_le number (length kept.sent)) ≡ false → RuledSteps tests kept (world.Deliver peer number) (Refused BadParameter) kept
 unknown_packet kept peer number none config network s =
     let count = ap (λ (ps : List Packet). length ps) s.sent in
     let why : (number ≡ 0) ⊎ (length network.sent < number) ⊎ (HasNumber network.peers peer → ⊥) = ⊎_elim (λ z. inl z) (λ past. inr (inl (omega (arith, past, count)))) (no_such number (length kept.sent) none) in

@@ -1,6 +1,6 @@
 -- What an event of one peer does to the network, and how the peers are opened. Inner functions alone cite this: nothing
 -- here has to be believed.
-use Rattle.std.specs.Prelude.{◌≡◌, ℕ, ◌+◌, ◌-◌, ◌^◌, ◌≤◌, min, List, length, set, slice_get, Some, None}
+use Rattle.std.specs.Prelude.{◌≡◌, ℕ, suc, ◌+◌, ◌-◌, ◌^◌, ◌≤◌, min, List, length, set, slice_get, Some, None, []}
 use Rattle.dds_base.specs.declared.config.Config.{Config}
 use Rattle.dds_base.specs.Checked.{check_refusal}
 use Rattle.dds_model.specs.declared.event.Event.{Event}
@@ -8,13 +8,14 @@ use Rattle.dds_model.specs.declared.event.Output.{Output}
 use Rattle.dds_model.specs.declared.event.Packet.{Packet}
 use Rattle.dds_model.specs.declared.event.WorldEvent.{WorldEvent}
 use Rattle.dds_model.specs.declared.reply.Reply.{Reply}
-use Rattle.dds_model.specs.Machine.{no_tests, Step}
+use Rattle.dds_model.specs.Machine.{AllTests, Step}
 use Rattle.dds_model.specs.Rules.{RuledStep}
 use Rattle.dds_model.specs.World.{WorldState, machine_of}
-use Rattle.dds_core.specs.Kept.{CoreKept}
+use Rattle.dds_core.specs.Kept.{PeerKept}
 use Rattle.dds_core.specs.Opening.{opening_peer}
 use Rattle.dds_core.specs.Sending.{Sends as CoreSends, SendsNothing, AreMessages}
-use Rattle.dds_core.specs.Standing.{StandsFor as CoreStandsFor, SoundSteps as CoreSteps}
+use Rattle.dds_core.specs.Filtering.{CoreKept, StandsFor as CoreStands}
+use Rattle.dds_core.specs.Standing.{SoundStepsBy}
 use Rattle.dds_world.specs.WorldStanding.{WorldKept, StandsFor, Posts}
 
 -- how many packets were counted as unsent: those of the peer, and those that found no memory in the network
@@ -26,20 +27,21 @@ abbrev pub IsQuiet : WorldKept → Output → WorldKept → Type 0
 IsQuiet old output new = SendsNothing output → (new.sent ≡ old.sent) × (new.unsent ≡ old.unsent)
 
 -- the peer of this index has the event, and the other peers are as they were; of its packets some are sent
-pub record ActsAt (old : WorldKept) (index : ℕ) (event : Event) (reply : Reply) (new : WorldKept) : Type 0 where
-  pub core : CoreKept
+pub record ActsAt (tests : AllTests) (old : WorldKept) (index : ℕ) (event : Event) (reply : Reply) (new : WorldKept) : Type 0 where
+  pub core : PeerKept
   pub at : slice_get old.peers index ≡ Some core
   pub output : Output
-  pub after : CoreKept
-  pub steps : CoreSteps core event output after
+  pub after : PeerKept
+  pub steps : SoundStepsBy (tests (suc index)) core event output after
   pub messages : AreMessages output.packets
   pub replies : reply ≡ output.reply
   pub peers : new.peers ≡ set old.peers index after
+  pub filters : new.filters ≡ old.filters
   pub posts : Posts old.sent output.packets new.sent
 
 -- so it is, and what it sends is said, and counted
-pub record Acts (old : WorldKept) (index : ℕ) (event : Event) (reply : Reply) (new : WorldKept) : Type 0 where
-  pub acts : ActsAt old index event reply new
+pub record Acts (tests : AllTests) (old : WorldKept) (index : ℕ) (event : Event) (reply : Reply) (new : WorldKept) : Type 0 where
+  pub acts : ActsAt tests old index event reply new
   pub sends : CoreSends acts.core event acts.output
   pub counts : Counts old acts.output new
   pub quiet : IsQuiet old acts.output new
@@ -50,15 +52,16 @@ pub record IsCopy (sent : List Packet) (index : ℕ) (bytes : List ℕ) : Type 0
   pub at : slice_get sent index ≡ Some packet
   pub same : bytes ≡ packet.bytes
 
--- the first peers of a configuration, at their opening; where there is one, the configuration is taken
-pub record OpensFirst (config : Config) (count : ℕ) (kept : List CoreKept) : Type 0 where
+-- the first peers of a configuration, at their opening, without filters; where there is one, the configuration is taken
+pub record OpensFirst {F : Type 0} (config : Config) (count : ℕ) (kept : List (CoreKept F)) : Type 0 where
   pub counted : length kept ≡ count
-  pub each : (i : ℕ) (k : CoreKept) → slice_get kept i ≡ Some k → CoreStandsFor k config (opening_peer config (i + 1))
+  pub each : (i : ℕ) (k : CoreKept F) → slice_get kept i ≡ Some k → CoreStands k config (opening_peer config (i + 1))
+  pub none : (i : ℕ) (k : CoreKept F) → slice_get kept i ≡ Some k → k.filters ≡ []
   pub taken : 1 ≤ count → check_refusal config.peers ≡ None
 
 -- a step of the network's peers by the rules of the protocol, and of its machine, to one state
-abbrev pub RuledSteps : WorldKept → WorldEvent → Reply → WorldKept → Type 0
-RuledSteps old event reply new = (config : Config) (network : WorldState) → StandsFor old config network
-    → (after : WorldState) × (lost : ℕ) × RuledStep config no_tests network event reply lost after
+abbrev pub RuledSteps : AllTests → WorldKept → WorldEvent → Reply → WorldKept → Type 0
+RuledSteps tests old event reply new = (config : Config) (network : WorldState) → StandsFor old config network
+    → (after : WorldState) × (lost : ℕ) × RuledStep config tests network event reply lost after
     × (new.unsent ≡ min (old.unsent + lost) (2 ^ 64 - 1))
-    × Step no_tests (length old.sent) (machine_of network) event reply (machine_of after) × StandsFor new config after
+    × Step tests (length old.sent) (machine_of network) event reply (machine_of after) × StandsFor new config after

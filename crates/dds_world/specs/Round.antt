@@ -20,7 +20,7 @@ use Rattle.dds_model.specs.Claims.{IsNumbered}
 use Rattle.dds_model.specs.declared.reply.Reply.{Reply}
 use Rattle.dds_model.specs.declared.reply.Reply.TheVariants.{Done, Reported}
 use Rattle.dds_model.specs.Fresh.{heartbeats_used_at, acknacks_used_at}
-use Rattle.dds_model.specs.Machine.{Machine, no_tests, part_at, place_at, writer_at}
+use Rattle.dds_model.specs.Machine.{Machine, AllTests, part_at, place_at, writer_at}
 use Rattle.dds_model.specs.Part.{acknowledged_of, is_reader_behind, writer_changes}
 use Rattle.dds_model.specs.Repair.{HasCaughtUp}
 use Rattle.dds_model.specs.Rules.{RuledRun}
@@ -45,20 +45,20 @@ abbrev pub AreMatched : WorldKept → Endpoint → Endpoint → Type 0
 AreMatched kept writer reader = (config : Config) (network : WorldState) → StandsFor kept config network → round_refusal (machine_of network) writer reader ≡ None
 
 -- one event, as a step of the network answers it, with the counts of packets sent and not sent after it
-pub record IsStep (old : WorldKept) (event : WorldEvent) (reply : RoundReply) (new : WorldKept) : Type 0 where
-  pub step : Steps old event reply.reply new
+pub record IsStep (tests : AllTests) (old : WorldKept) (event : WorldEvent) (reply : RoundReply) (new : WorldKept) : Type 0 where
+  pub step : Steps tests old event reply.reply new
   pub sends : Announces old event reply.reply new
   pub progress : MovesOn old event reply.reply
-  pub rules : KeepsRules old event reply.reply new
+  pub rules : KeepsRules tests old event reply.reply new
   pub sent : reply.sent ≡ length new.sent
   pub unsent : reply.unsent ≡ new.unsent
 
 -- the same of events one after the other
-abbrev pub AreSteps : WorldKept → List WorldEvent → List RoundReply → WorldKept → Type 0
-AreSteps old [] [] new = new ≡ old
-AreSteps old (event ∷ events) (reply ∷ replies) new = (mid : WorldKept) × IsStep old event reply mid × AreSteps mid events replies new
-AreSteps old [] (reply ∷ replies) new = ⊥
-AreSteps old (event ∷ events) [] new = ⊥
+abbrev pub AreSteps : AllTests → WorldKept → List WorldEvent → List RoundReply → WorldKept → Type 0
+AreSteps tests old [] [] new = new ≡ old
+AreSteps tests old (event ∷ events) (reply ∷ replies) new = (mid : WorldKept) × IsStep tests old event reply mid × AreSteps tests mid events replies new
+AreSteps tests old [] (reply ∷ replies) new = ⊥
+AreSteps tests old (event ∷ events) [] new = ⊥
 
 -- the packet is sent to this peer, and is a message with such a submessage
 abbrev pub IsTo : ℕ → Sought → Packet → Type 0
@@ -141,12 +141,12 @@ replies_of replies = map (λ (r : RoundReply). r.reply) replies
 -- stood before it, and the reader's place after it. There the reader has gone on by 256 numbers, or to the end of the writer's
 -- list, or to a change that has no room, and the writer knows of all that the reader had before, unless something hindered
 -- the round.
-pub record RoundFrom (config : Config) (network : WorldState) (old : WorldKept) (writer reader : Endpoint)
+pub record RoundFrom (tests : AllTests) (config : Config) (network : WorldState) (old : WorldKept) (writer reader : Endpoint)
     (events : List WorldEvent) (answer : Round) (new : WorldKept) : Type 0 where
   pub is_round : IsRound config network writer reader new.sent events answer.replies
   pub after : WorldState
-  pub run : RuledRun config no_tests network old.unsent events (replies_of answer.replies) after new.unsent
-  pub machine : Run config no_tests (traffic old) (machine_of network) events (replies_of answer.replies) (traffic new)
+  pub run : RuledRun config tests network old.unsent events (replies_of answer.replies) after new.unsent
+  pub machine : Run config tests (traffic old) (machine_of network) events (replies_of answer.replies) (traffic new)
       (machine_of after)
   pub stands : StandsFor new config after
   pub was_behind : answer.was_behind ≡ is_reader_behind (writer_at (machine_of network) writer) reader
@@ -158,8 +158,8 @@ pub record RoundFrom (config : Config) (network : WorldState) (old : WorldKept) 
 
 -- One round: each reply is that of a step of the network, with the counts as they stood after it; and from each state that the
 -- old network stands for it is a round.
-pub record Rounds (old : WorldKept) (writer reader : Endpoint) (answer : Round) (new : WorldKept) : Type 0 where
+pub record Rounds (tests : AllTests) (old : WorldKept) (writer reader : Endpoint) (answer : Round) (new : WorldKept) : Type 0 where
   pub events : List WorldEvent
-  pub steps : AreSteps old events answer.replies new
+  pub steps : AreSteps tests old events answer.replies new
   pub round : (config : Config) (network : WorldState) → StandsFor old config network
-      → RoundFrom config network old writer reader events answer new
+      → RoundFrom tests config network old writer reader events answer new

@@ -4,7 +4,7 @@ use Rattle.dds_base.specs.declared.config.Config.{Config}
 use Rattle.dds_model.specs.declared.event.Packet.{Packet}
 use Rattle.dds_model.specs.declared.event.WorldEvent.{WorldEvent}
 use Rattle.dds_model.specs.declared.reply.Reply.{Reply}
-use Rattle.dds_model.specs.Machine.{no_tests, Step}
+use Rattle.dds_model.specs.Machine.{AllTests, Step}
 use Rattle.dds_model.specs.Progress.{Progresses}
 use Rattle.dds_model.specs.Bounds.{IsBounded}
 use Rattle.dds_model.specs.Fresh.{HasUsedCounts}
@@ -12,23 +12,26 @@ use Rattle.dds_model.specs.Rules.{RuledStep, RuledRun}
 use Rattle.dds_model.specs.Runs.{Traffic, Sends, Run}
 use Rattle.dds_model.specs.Peer.{no_peer}
 use Rattle.dds_model.specs.World.{WorldState, WorldStep, machine_of, Sound}
-use Rattle.dds_core.specs.Kept.{CoreKept}
+use Rattle.dds_core.specs.Kept.{PeerKept}
 use Rattle.dds_core.specs.Sending.{AreMessages}
 use Rattle.dds_core.specs.Standing.{StandsFor as CoreStandsFor, IsSound}
 
--- the peers, every packet that was sent, and how many found no memory
+-- the peers, how many filters were added to each, every packet that was sent, and how many found no memory
 pub record WorldKept : Type 0 where
-  pub peers : List CoreKept
+  pub peers : List PeerKept
+  pub filters : List ℕ
   pub sent : List Packet
   pub unsent : ℕ
 
--- A state of the network for which what it keeps stands: so its peers stand, and know what was claimed to them alone; all that
+-- A state of the network for which what it keeps stands: so its peers stand, have as many filters, and know what was claimed to
+-- them alone; all that
 -- packets claim is true, and each packet is a message; what is counted as unsent keeps to its bound; the counts that were sent or
 -- taken were used by their senders; and no reader's place is past the end of a list.
 pub record StandsFor (kept : WorldKept) (config : Config) (network : WorldState) : Type 0 where
   pub count : length network.peers ≡ length kept.peers
-  pub each : (i : ℕ) (k : CoreKept) → slice_get kept.peers i ≡ Some k → CoreStandsFor k config (get_or network.peers i no_peer)
-  pub known : (i : ℕ) (k : CoreKept) → slice_get kept.peers i ≡ Some k → IsSound config (get_or network.peers i no_peer)
+  pub each : (i : ℕ) (k : PeerKept) → slice_get kept.peers i ≡ Some k → CoreStandsFor k config (get_or network.peers i no_peer)
+  pub known : (i : ℕ) (k : PeerKept) → slice_get kept.peers i ≡ Some k → IsSound config (get_or network.peers i no_peer)
+  pub filters : (i : ℕ) → (get_or network.peers i no_peer).part.dds.watch.filters ≡ get_or kept.filters i 0
   pub sent : network.sent ≡ kept.sent
   pub sound : Sound config network
   pub messages : AreMessages kept.sent
@@ -56,9 +59,9 @@ pub record Posts (old : List Packet) (packets : List Packet) (new : List Packet)
 -- For each state that the old network stands for, the event is a step of its peers, each of which rests on what was
 -- delivered to it; it is a step of the machine that they are the parts of; and the new network stands for the state
 -- afterwards.
-abbrev pub Steps : WorldKept → WorldEvent → Reply → WorldKept → Type 0
-Steps old event reply new = (config : Config) (network : WorldState) → StandsFor old config network
-    → (after : WorldState) × WorldStep config no_tests network event reply after × Step no_tests (length old.sent) (machine_of network) event reply (machine_of after) × StandsFor new config after
+abbrev pub Steps : AllTests → WorldKept → WorldEvent → Reply → WorldKept → Type 0
+Steps tests old event reply new = (config : Config) (network : WorldState) → StandsFor old config network
+    → (after : WorldState) × WorldStep config tests network event reply after × Step tests (length old.sent) (machine_of network) event reply (machine_of after) × StandsFor new config after
 
 -- the packets that were sent, and how many were not
 abbrev pub traffic : WorldKept → Traffic
@@ -70,9 +73,9 @@ Announces old event reply new = (config : Config) (network : WorldState) → Sta
 
 -- For each state that the old network stands for, the event is a step of its peers by the rules of the protocol, to one that
 -- the new network stands for: they say which messages are due, and of these each is sent, in their order, or counted.
-abbrev pub KeepsRules : WorldKept → WorldEvent → Reply → WorldKept → Type 0
-KeepsRules old event reply new = (config : Config) (network : WorldState) → StandsFor old config network
-    → (after : WorldState) × (lost : ℕ) × RuledStep config no_tests network event reply lost after
+abbrev pub KeepsRules : AllTests → WorldKept → WorldEvent → Reply → WorldKept → Type 0
+KeepsRules tests old event reply new = (config : Config) (network : WorldState) → StandsFor old config network
+    → (after : WorldState) × (lost : ℕ) × RuledStep config tests network event reply lost after
     × (new.unsent ≡ min (old.unsent + lost) (2 ^ 64 - 1)) × StandsFor new config after
 
 -- For each state that the old network stands for, a delivered packet is taken up, submessage by submessage.
@@ -81,7 +84,7 @@ MovesOn old event reply = (config : Config) (network : WorldState) → StandsFor
 
 -- For each state that the old network stands for, these replies are a run of its peers by the rules of the protocol, and of
 -- its machine, over the events, with what is sent meanwhile, and the new network stands for the state afterwards.
-pub record Runs (old : WorldKept) (events : List WorldEvent) (replies : List Reply) (new : WorldKept) : Type 0 where
+pub record Runs (tests : AllTests) (old : WorldKept) (events : List WorldEvent) (replies : List Reply) (new : WorldKept) : Type 0 where
   pub run : (config : Config) (network : WorldState) → StandsFor old config network
-      → (after : WorldState) × RuledRun config no_tests network old.unsent events replies after new.unsent
-      × Run config no_tests (traffic old) (machine_of network) events replies (traffic new) (machine_of after) × StandsFor new config after
+      → (after : WorldState) × RuledRun config tests network old.unsent events replies after new.unsent
+      × Run config tests (traffic old) (machine_of network) events replies (traffic new) (machine_of after) × StandsFor new config after

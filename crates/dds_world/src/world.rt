@@ -1,6 +1,6 @@
 //! The network.
 
-ghost use Rattle.std.specs.Prelude.{◌≡◌, ◌&&◌, ◌+◌, ◌-◌, ◌^◌, ◌<◌, ◌≤◌, false, nat_lt, nat_le, IfOk, IfErr, OnErr, MatchOption, length, slice_get, None, Some, []};
+ghost use Rattle.std.specs.Prelude.{◌≡◌, ℕ, ◌&&◌, ◌+◌, ◌-◌, ◌^◌, ◌<◌, ◌≤◌, false, nat_lt, nat_le, IfOk, IfErr, OnErr, MatchOption, length, slice_get, None, Some, []};
 ghost use Rattle.std.specs.Option.{option_copied};
 ghost use Rattle.dds_base.specs.Checked.{check_refusal};
 ghost use Rattle.dds_base.specs.declared.config.Config.{Config as ConfigOf};
@@ -9,35 +9,39 @@ ghost use Rattle.dds_base.specs.declared.code.Code.TheVariants.{Memory};
 ghost use Rattle.dds_model.specs.declared.event.WorldEvent.TheVariants as event;
 ghost use Rattle.dds_model.specs.InOrder.{no_traffic};
 ghost use Rattle.dds_model.specs.Machine.{place_at};
+ghost use Rattle.dds_model.specs.Numbered.{numbered};
 ghost use Rattle.dds_model.specs.Opening.{opening_world};
 ghost use Rattle.dds_model.specs.World.{WorldState, machine_of};
 ghost use Rattle.dds_core.specs.Opening.{opening_peer};
-ghost use Rattle.dds_core.specs.Standing.{StandsFor as CoreStandsFor};
+ghost use Rattle.dds_core.specs.Filtering.{StandsFor as CoreStandsFor};
 ghost use Rattle.dds_world.specs.WorldStanding.{traffic, Announces, KeepsRules, MovesOn, Posts, Runs, StandsFor, Steps};
-ghost use Rattle.dds_world.specs.Acting.{Acts, Counts, IsCopy, IsQuiet, OpensFirst, RuledSteps};
+ghost use Rattle.dds_world.specs.Acting.{Counts, IsCopy, IsQuiet, OpensFirst};
+ghost use Rattle.dds_world.specs.Holding.{ActsIn, Adds, RefusesFilter, StepsIn, filters_of, kept_of, tests_in};
 
 use dds_base::{Code, Config, Moment, Octets, Sequence, Sn};
+use dds_conditions::Filter;
 use dds_core::Core;
 use dds_model::{Call, Endpoint, Event, Output, Packet, Reply, Report, WorldEvent};
 use std::alloc::{AllocError, Global};
 use std::marker::Model;
 
-/// Peers, which are numbered from 1, and all packets that they ever sent.
+/// Peers, which are numbered from 1, and all packets that they ever sent. Their filters are boxes, unless `F` names a type of
+/// the application's own.
 #[derive(Drop)]
-pub struct World {
+pub struct World<F = Box<dyn Filter + Send>> {
     pub(crate) alloc: Global,
-    pub(crate) peers: Vec<Core>,
+    pub(crate) peers: Vec<Core<F>>,
     pub(crate) sent: Vec<Packet>,
     pub(crate) unsent: u64,
 }
 
-impl Model for World {
+impl<F> Model for World<F> {
     ghost use Rattle.std.specs.Prelude.{◌<◌, ◌^◌};
-    ghost use Rattle.dds_world.specs.WorldStanding.{WorldKept};
+    ghost use Rattle.dds_world.specs.Holding.{Held};
 
-    ghost Value = { WorldKept };
+    ghost Value = { Held F };
 
-    ghost view = { λ w. record { peers = w.peers.items; sent = w.sent.items; unsent = w.unsent } };
+    ghost view = { λ w. record { cores = w.peers.items; sent = w.sent.items; unsent = w.unsent } };
 
     ghost invariant = { λ w. w.unsent < 2 ^ 64 };
 }
@@ -78,10 +82,11 @@ fn packet_index(number: u64, count: u64) -> Option<usize>
 }
 
 /// The peer of this index, at its opening.
-fn open_peer(alloc: Global, config: &Config, index: usize) -> Result<Core, Code>
+fn open_peer<F: Filter>(alloc: Global, config: &Config, index: usize) -> Result<Core<F>, Code>
     requires within { index < length config.now.peers }
     requires few { length config.now.peers ≤ 16 }
     ensures opening { IfOk result (λ core. CoreStandsFor core config.now (opening_peer config.now (index + 1))) }
+    ensures none { IfOk result (λ core. core.filters ≡ []) }
     ensures taken { IfOk result (λ core. check_refusal config.now.peers ≡ None) }
     ensures refused { IfErr result (Refuses (check_refusal config.now.peers)) }
 {
@@ -89,7 +94,7 @@ fn open_peer(alloc: Global, config: &Config, index: usize) -> Result<Core, Code>
 }
 
 /// The peers of a checked configuration, at their opening.
-fn open_peers(alloc: Global, config: &Config) -> Result<Vec<Core>, Code>
+fn open_peers<F: Filter>(alloc: Global, config: &Config) -> Result<Vec<Core<F>>, Code>
     requires checked { check_refusal config.now.peers ≡ None }
     requires some { 1 ≤ length config.now.peers }
     requires few { length config.now.peers ≤ 16 }
@@ -104,17 +109,19 @@ fn open_peers(alloc: Global, config: &Config) -> Result<Vec<Core>, Code>
     Ok(peers)
 }
 
-impl World {
-    /// The network of a configuration, at its opening: its peers, 1 to 16, in their order.
+impl<F: Filter> World<F> {
+    /// The network of a configuration, at its opening: its peers, 1 to 16, in their order, without filters.
     ///
     /// # Errors
     ///
     /// What `Config::check` answers, else `Memory` where a growth was refused.
-    pub fn open(alloc: Global, config: &Config) -> Result<World, Code>
+    pub fn open(alloc: Global, config: &Config) -> Result<World<F>, Code>
         // The network stands for the opening of its configuration.
-        ensures opening { IfOk result (λ world. StandsFor world config.now (opening_world config.now)) }
+        ensures opening { IfOk result (λ world. StandsFor (kept_of world) config.now (opening_world config.now)) }
+        // No peer has a filter.
+        ensures none { IfOk result (λ world. (peer : ℕ) → numbered (filters_of world) peer [] ≡ []) }
         // Nothing was sent, and nothing is counted.
-        ensures quiet { IfOk result (λ world. traffic world ≡ no_traffic) }
+        ensures quiet { IfOk result (λ world. traffic (kept_of world) ≡ no_traffic) }
         // Against what is opened there is no cause.
         ensures taken { IfOk result (λ world. check_refusal config.now.peers ≡ None) }
         // A refusal is by the first cause that there is, or for want of memory.
@@ -136,15 +143,17 @@ impl World {
     /// `BadParameter`. A call is answered as `Call` says, and a tick as `Event::Tick`: at it writers die whose lease is
     /// over. What is refused changes nothing, but for `NoData`: an access that found nothing is entered.
     pub fn step(&mut self, event: WorldEvent) -> Reply
-        // For each state that the network stands for, the reply is one that the machine without packets gives, and the
-        // network stands for the state afterwards: this is the theorem.
-        ensures step { Steps self.old event result self.new }
+        // For each state that the network stands for, the reply is one that the machine without packets gives, by what the
+        // filters mean, and the network stands for the state afterwards: this is the theorem.
+        ensures step { Steps (tests_in F.meaning self.old) (kept_of self.old) event result (kept_of self.new) }
         // What is sent at the event, and what is counted as unsent.
-        ensures sends { Announces self.old event result self.new }
+        ensures sends { Announces (kept_of self.old) event result (kept_of self.new) }
         // A delivered packet is taken up, submessage by submessage: what it brings that is due is not left out.
-        ensures progress { MovesOn self.old event result }
+        ensures progress { MovesOn (kept_of self.old) event result }
         // The event is one by the rules of the protocol: each message that they make due is sent, or counted.
-        ensures rules { KeepsRules self.old event result self.new }
+        ensures rules { KeepsRules (tests_in F.meaning self.old) (kept_of self.old) event result (kept_of self.new) }
+        // No filter is added.
+        ensures filters { filters_of self.new ≡ filters_of self.old }
     {
         match event {
             WorldEvent::Call { peer, call } => self.call(peer, call),
@@ -160,7 +169,9 @@ impl World {
     /// `Memory` where no memory was found for the replies; nothing was done then. No events need none.
     pub fn run(&mut self, events: Vec<WorldEvent>) -> Result<Sequence<Reply>, Code>
         // The replies are a run of the network's peers, and of the machine without packets.
-        ensures run { IfOk result (λ replies. Runs self.old events.items replies self.new) }
+        ensures run { IfOk result (λ replies. Runs (tests_in F.meaning self.old) (kept_of self.old) events.items replies (kept_of self.new)) }
+        // No filter is added.
+        ensures filters { filters_of self.new ≡ filters_of self.old }
         // It is refused for want of memory alone, and never where there are no events.
         ensures memory { IfErr result (λ code. (code ≡ Memory) × (1 ≤ length events.items)) }
         // A refusal leaves the network as it was.
@@ -176,16 +187,40 @@ impl World {
         Ok(Sequence::from_vec(replies))
     }
 
+    /// Adds a filter at a peer, by the next number there, from 1: query conditions of the peer can name it from then on. What
+    /// it answers is what it means, for every key and value.
+    ///
+    /// # Errors
+    ///
+    /// `BadParameter` where there is no such peer, `OutOfResources` where 2^32 - 1 filters were added there, else `Memory`
+    /// where a growth was refused. The filter comes back, and nothing changes.
+    ///
+    /// DDS 1.4, 2.2.2.5 (QueryCondition).
+    pub fn add_filter(&mut self, peer: u8, filter: F) -> Result<u32, (Code, F)>
+        // It is the last one there, by the next number, and nothing else changes.
+        ensures ok { IfOk result (λ number. Adds self.old peer filter number self.new) }
+        // A refusal is by the first cause that there is, or for want of memory.
+        ensures refused { IfErr result (λ e. RefusesFilter self.old peer e.0) }
+        // What is refused comes back, and changes nothing.
+        ensures back { IfErr result (λ e. e.1 ≡ filter) }
+        ensures err { OnErr result (self.new ≡ self.old) }
+    {
+        match index_of(peer, self.count()) {
+            Some(index) => self.peers[index].add_filter(filter),
+            None => Err((Code::BadParameter, filter)),
+        }
+    }
+
     /// How many peers there are.
     pub(crate) fn count(&self) -> usize
-        ensures { result ≡ length self.now.peers }
+        ensures { result ≡ length self.now.cores }
     {
         self.peers.len()
     }
 
     fn call(&mut self, peer: u8, call: Call) -> Reply
-        ensures step { RuledSteps self.old (event.Call peer call) result self.new }
-        ensures sends { Announces self.old (event.Call peer call) result self.new }
+        ensures step { StepsIn F.meaning self.old (event.Call peer call) result self.new }
+        ensures sends { Announces (kept_of self.old) (event.Call peer call) result (kept_of self.new) }
     {
         match index_of(peer, self.count()) {
             Some(index) => self.happen_at(index, Event::Call(call)),
@@ -194,8 +229,8 @@ impl World {
     }
 
     fn tick(&mut self, peer: u8, now: Moment) -> Reply
-        ensures step { RuledSteps self.old (event.Tick peer now) result self.new }
-        ensures sends { Announces self.old (event.Tick peer now) result self.new }
+        ensures step { StepsIn F.meaning self.old (event.Tick peer now) result self.new }
+        ensures sends { Announces (kept_of self.old) (event.Tick peer now) result (kept_of self.new) }
     {
         match index_of(peer, self.count()) {
             Some(index) => self.happen_at(index, Event::Tick(now)),
@@ -204,8 +239,8 @@ impl World {
     }
 
     fn deliver(&mut self, peer: u8, packet: u64) -> Reply
-        ensures step { RuledSteps self.old (event.Deliver peer packet) result self.new }
-        ensures sends { Announces self.old (event.Deliver peer packet) result self.new }
+        ensures step { StepsIn F.meaning self.old (event.Deliver peer packet) result self.new }
+        ensures sends { Announces (kept_of self.old) (event.Deliver peer packet) result (kept_of self.new) }
     {
         match packet_index(packet, self.sent()) {
             Some(sent) => self.deliver_sent(peer, sent),
@@ -216,8 +251,8 @@ impl World {
     /// Delivers the packet of this index.
     fn deliver_sent(&mut self, peer: u8, sent: usize) -> Reply
         requires sent { sent < length self.old.sent }
-        ensures step { RuledSteps self.old (event.Deliver peer (sent + 1)) result self.new }
-        ensures sends { Announces self.old (event.Deliver peer (sent + 1)) result self.new }
+        ensures step { StepsIn F.meaning self.old (event.Deliver peer (sent + 1)) result self.new }
+        ensures sends { Announces (kept_of self.old) (event.Deliver peer (sent + 1)) result (kept_of self.new) }
     {
         match index_of(peer, self.count()) {
             Some(index) => self.deliver_at(index, sent),
@@ -228,10 +263,10 @@ impl World {
     /// Delivers the packet of this index to the peer of this index. A packet for whose bytes there is no memory moves
     /// nothing, as one whose first submessage finds none.
     fn deliver_at(&mut self, index: usize, sent: usize) -> Reply
-        requires within { index < length self.old.peers }
+        requires within { index < length self.old.cores }
         requires sent { sent < length self.old.sent }
-        ensures step { RuledSteps self.old (event.Deliver (index + 1) (sent + 1)) result self.new }
-        ensures sends { Announces self.old (event.Deliver (index + 1) (sent + 1)) result self.new }
+        ensures step { StepsIn F.meaning self.old (event.Deliver (index + 1) (sent + 1)) result self.new }
+        ensures sends { Announces (kept_of self.old) (event.Deliver (index + 1) (sent + 1)) result (kept_of self.new) }
     {
         match self.copied(sent) {
             Ok(bytes) => self.happen_at(index, Event::Deliver(bytes)),
@@ -260,8 +295,8 @@ impl World {
 
     /// One event of the peer of this index. Sends what the peer gives back, and gives its answer.
     fn happen_at(&mut self, index: usize, event: Event) -> Reply
-        requires { index < length self.old.peers }
-        ensures { Acts self.old index event result self.new }
+        requires { index < length self.old.cores }
+        ensures { ActsIn F.meaning self.old index event result self.new }
     {
         let output = self.peers[index].step(event);
         self.posted(output)
@@ -270,10 +305,10 @@ impl World {
     /// Sends what a peer gives back, and gives its answer.
     fn posted(&mut self, output: Output) -> Reply
         ensures reply { result ≡ output.reply }
-        ensures peers { self.new.peers ≡ self.old.peers }
+        ensures cores { self.new.cores ≡ self.old.cores }
         ensures posted { Posts self.old.sent output.packets self.new.sent }
-        ensures unsent { Counts self.old output self.new }
-        ensures quiet { IsQuiet self.old output self.new }
+        ensures unsent { Counts (kept_of self.old) output (kept_of self.new) }
+        ensures quiet { IsQuiet (kept_of self.old) output (kept_of self.new) }
     {
         let Output {
             reply,
@@ -318,7 +353,7 @@ impl World {
     /// RTPS 2.5, 8.4.10 (StatefulReader, WriterProxy).
     pub fn place(&self, reader: Endpoint, writer: Endpoint) -> Option<Sn>
         // It is the place in each state that the network stands for, and there is one exactly if they are matched.
-        ensures place { (config : ConfigOf) (network : WorldState) → StandsFor self.now config network
+        ensures place { (config : ConfigOf) (network : WorldState) → StandsFor (kept_of self.now) config network
             → result ≡ place_at (machine_of network) reader writer }
     {
         let Some(index) = index_of(reader.peer, self.count()) else {

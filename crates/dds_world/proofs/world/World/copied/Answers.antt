@@ -1,14 +1,14 @@
 use Rattle.std.proofs.Common.{◌≡◌, ◌<◌, List, Some, length, slice_get, subst, sym, ◌∙◌, ap, arith}
 use Rattle.std.proofs.lemmas.Option.{slice_get-get_or}
 use Rattle.dds_model.specs.declared.event.Packet.{Packet}
-use Rattle.dds_world.specs.WorldStanding.{WorldKept}
+use Rattle.dds_world.specs.Holding.{Held}
 use Rattle.dds_world.proofs.world.World.copied.Goals as goal
 
 pub returns : goal.returns
-returns c =
+returns g c =
     let sent : List Packet = c.self.inside.sent.items in
     let packet : Packet = c.index.result.now in
-    let whole : sent ≡ c.args.self.now.sent = ap (λ (k : WorldKept). k.sent) c.self.view_is in
+    let whole : sent ≡ c.args.self.now.sent = ap (λ (k : Held g.row.F.Denot). k.sent) c.self.view_is in
     let count = ap (λ (ps : List Packet). length ps) whole in
     let within : c.args.index < length sent = omega (arith, count) in
     let found : slice_get sent c.args.index ≡ Some packet = slice_get-get_or sent c.args.index packet within ∙ ap (λ (p : Packet). Some p) (sym c.index.ensures) in

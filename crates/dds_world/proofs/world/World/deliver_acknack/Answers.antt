@@ -3,20 +3,34 @@ use Rattle.std.proofs.lemmas.List.{append-nil}
 use Rattle.dds_model.specs.declared.event.WorldEvent.{WorldEvent}
 use Rattle.dds_model.specs.declared.event.WorldEvent.TheVariants as world
 use Rattle.dds_world.specs.declared.round.RoundReply.{RoundReply}
+use Rattle.dds_world.specs.Holding.{kept_of}
 use Rattle.dds_world.specs.Round.{answers_at}
+use Rattle.dds_world.proofs.Holding.{same_steps}
 use Rattle.dds_world.proofs.world.World.deliver_acknack.Goals as goal
 
-pub returns : goal.returns
-returns c =
+pub returns-clause-adds : goal.returns-clause-adds
+returns-clause-adds g c =
     let a = c.add_step.ensures.step in
-    let d = c.deliver_answers.ensures in
-    let later : List WorldEvent = answers_at c.args.m.now.reader.peer c.sent-sent.result (length c.add_step.new.self.sent) in
-    let counted = ap (λ (n : ℕ). answers_at c.args.m.now.reader.peer n (length c.add_step.new.self.sent)) c.sent-sent.ensures in (
+    let d = c.deliver_answers.ensures.steps in
+    let mid = c.add_step.new.self in
+    let later : List WorldEvent = answers_at c.args.m.now.reader.peer c.sent-sent.result (length mid.sent) in
+    let counted = ap (λ (n : ℕ). answers_at c.args.m.now.reader.peer n (length mid.sent)) c.sent-sent.ensures in (
       world.Deliver c.args.m.now.writer.peer c.in-Some.packet ∷ later,
       a.0 ∷ d.0,
       d.1 ∙ (ap (λ (rs : List RoundReply). rs ++ d.0) a.1 ∙ append_assoc c.args.replies.now.items (a.0 ∷ []) d.0),
-      inr (c.in-Some.packet, a.0, c.add_step.new.self, later, d.0, c.in-Some.ensures, a.2, refl, refl, (counted, d.2)),
+      inr (
+        c.in-Some.packet,
+        a.0,
+        kept_of mid,
+        later,
+        d.0,
+        c.in-Some.ensures,
+        a.2,
+        refl,
+        refl,
+        (counted, same_steps g.F.Filter.meaning c.args.self.now mid c.deliver_answers.new.self later d.0 c.add_step.ensures.filters d.2),
+      ),
     )
 
-pub returns-in_default : goal.returns-in_default
-returns-in_default c = ([], [], sym (append-nil c.args.replies.now.items), inl (refl, refl, refl, c.in_default.ensures))
+pub returns-in_default-clause-adds : goal.returns-in_default-clause-adds
+returns-in_default-clause-adds g c = ([], [], sym (append-nil c.args.replies.now.items), inl (refl, refl, refl, c.in_default.ensures))

@@ -2,19 +2,24 @@ use Rattle.std.proofs.Common.{ℕ, List, [], ◌∷◌, ◌++◌, refl, ap, sym,
 use Rattle.std.proofs.lemmas.List.{append-nil}
 use Rattle.dds_model.specs.declared.event.WorldEvent.TheVariants as world
 use Rattle.dds_world.specs.declared.round.RoundReply.{RoundReply}
+use Rattle.dds_world.specs.Holding.{kept_of, tests_in}
 use Rattle.dds_world.specs.Repairing.{Acknowledging}
+use Rattle.dds_world.proofs.Holding.{same_acks}
 use Rattle.dds_world.proofs.world.World.deliver_heartbeat.Goals as goal
 
-pub returns : goal.returns
-returns c =
+pub returns-clause-adds : goal.returns-clause-adds
+returns-clause-adds g c =
     let a = c.add_step.ensures.step in
-    let d = c.deliver_acknack.ensures in
-    let later = subst (λ (n : ℕ). Acknowledging c.args.m.now n c.add_step.new.self d.0 d.1 c.deliver_acknack.new.self) c.sent-sent.ensures d.3 in (
+    let d = c.deliver_acknack.ensures.adds in
+    let mid = c.add_step.new.self in
+    let new = c.deliver_acknack.new.self in
+    let next = subst (λ (n : ℕ). Acknowledging (tests_in g.F.Filter.meaning mid) c.args.m.now n (kept_of mid) d.0 d.1 (kept_of new)) c.sent-sent.ensures d.3 in
+    let later = same_acks g.F.Filter.meaning c.args.self.now mid new c.args.m.now _ d.0 d.1 c.add_step.ensures.filters next in (
       world.Deliver c.args.m.now.reader.peer c.in-Some.packet ∷ d.0,
       a.0 ∷ d.1,
       d.2 ∙ (ap (λ (rs : List RoundReply). rs ++ d.1) a.1 ∙ append_assoc c.args.replies.now.items (a.0 ∷ []) d.1),
-      inr (c.in-Some.packet, a.0, c.add_step.new.self, d.0, d.1, c.in-Some.ensures, a.2, refl, refl, later),
+      inr (c.in-Some.packet, a.0, kept_of mid, d.0, d.1, c.in-Some.ensures, a.2, refl, refl, later),
     )
 
-pub returns-in_default : goal.returns-in_default
-returns-in_default c = ([], [], sym (append-nil c.args.replies.now.items), inl (refl, refl, refl, c.in_default.ensures))
+pub returns-in_default-clause-adds : goal.returns-in_default-clause-adds
+returns-in_default-clause-adds g c = ([], [], sym (append-nil c.args.replies.now.items), inl (refl, refl, refl, c.in_default.ensures))

@@ -1,16 +1,16 @@
 use Rattle.std.proofs.Common.{◌≡◌, ◌<◌, ◌≤◌, false, true, List, length, get_or, refl, ap, subst, arith}
 use Rattle.dds_model.specs.declared.event.Packet.{Packet}
 use Rattle.dds_world.specs.Round.{IsTo}
-use Rattle.dds_world.specs.WorldStanding.{WorldKept}
+use Rattle.dds_world.specs.Holding.{Held}
 use Rattle.dds_world.proofs.Rounds.{none_yet, none_within, none_more, found_here}
 use Rattle.dds_world.proofs.world.World.find.Goals as goal
 
 pub loop-index-init : goal.loop-index-init
-loop-index-init c = none_yet (IsTo c.args.peer c.args.wanted.now) c.args.self.now.sent c.args.from c.args.from (omega arith)
+loop-index-init g c = none_yet (IsTo c.args.peer c.args.wanted.now) c.args.self.now.sent c.args.from c.args.from (omega arith)
 
 pub loop-index-preserved : goal.loop-index-preserved
-loop-index-preserved c =
-    let sent_is = ap (λ (k : WorldKept). k.sent) c.self.view_is in
+loop-index-preserved g c =
+    let sent_is = ap (λ (k : Held g.row.F.Denot). k.sent) c.self.view_is in
     let count = ap (λ (ps : List Packet). length ps) sent_is in
     let packet : Packet = c.index.result.now in
     let low : c.loop-index.index < length c.args.self.now.sent = omega (arith, count) in
@@ -18,8 +18,8 @@ loop-index-preserved c =
     none_more (IsTo c.args.peer c.args.wanted.now) c.args.self.now.sent c.args.from c.loop-index.index _ packet refl low here (λ x. let t : false ≡ true = c.if-is_to.ensures.1 x in cc) c.loop-index.invariant
 
 pub returns-then-is_to : goal.returns-then-is_to
-returns-then-is_to c =
-    let sent_is = ap (λ (k : WorldKept). k.sent) c.self.view_is in
+returns-then-is_to g c =
+    let sent_is = ap (λ (k : Held g.row.F.Denot). k.sent) c.self.view_is in
     let count = ap (λ (ps : List Packet). length ps) sent_is in
     let packet : Packet = c.index.result.now in
     let low : c.loop-index.index < length c.args.self.now.sent = omega (arith, count) in
@@ -27,8 +27,8 @@ returns-then-is_to c =
     found_here (IsTo c.args.peer c.args.wanted.now) c.args.self.now.sent c.args.from c.loop-index.index _ packet refl (omega arith) low here (c.if-is_to.ensures.0 refl) c.loop-index.invariant
 
 pub returns : goal.returns
-returns c =
-    let sent_is = ap (λ (k : WorldKept). k.sent) c.self.view_is in
+returns g c =
+    let sent_is = ap (λ (k : Held g.row.F.Denot). k.sent) c.self.view_is in
     let count = ap (λ (ps : List Packet). length ps) sent_is in
     let past : length c.args.self.now.sent ≤ c.loop-index.index = omega (arith, count) in
     none_within (IsTo c.args.peer c.args.wanted.now) c.args.self.now.sent c.args.from _ c.loop-index.index past c.loop-index.invariant

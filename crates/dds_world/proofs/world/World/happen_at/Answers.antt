@@ -1,32 +1,17 @@
-use Rattle.std.proofs.Common.{◌≡◌, ◌<◌, Some, length, slice_get, subst, sym, ◌∙◌, ap, arith}
-use Rattle.std.proofs.lemmas.Option.{slice_get-get_or}
-use Rattle.dds_core.specs.Kept.{CoreKept}
-use Rattle.dds_world.specs.WorldStanding.{WorldKept}
-use Rattle.dds_world.specs.Acting.{Acts}
+use Rattle.std.proofs.Common.{◌<◌, length, subst, ap, arith}
+use Rattle.dds_core.specs.Filtering.{CoreKept}
+use Rattle.dds_world.specs.Holding.{ActsIn, Held}
+use Rattle.dds_world.proofs.Holding.{acts_in}
 use Rattle.dds_world.proofs.world.World.happen_at.Goals as goal
 
 pub returns : goal.returns
-returns c =
+returns g c =
     let inside = c.self.inside in
-    let kept : WorldKept = record { peers = inside.peers.items; sent = inside.sent.items; unsent = inside.unsent } in
-    let core : CoreKept = c.index_mut.result.now in
-    let count = ap (λ (k : WorldKept). length k.peers) c.self.view_is in
-    let within : c.args.index < length kept.peers = omega (arith, count) in
-    let found : slice_get kept.peers c.args.index ≡ Some core = slice_get-get_or kept.peers c.args.index core within ∙ ap (λ (x : CoreKept). Some x) (sym c.index_mut.ensures.value) in
-    let acts : Acts kept c.args.index c.args.event c.posted.result c.posted.new.self = record {
-      acts = record {
-        core = core;
-        at = found;
-        output = c.step-output.result;
-        after = c.step-output.new.self;
-        steps = c.step-output.ensures.step;
-        messages = c.step-output.ensures.messages;
-        replies = c.posted.ensures.reply;
-        peers = c.posted.ensures.peers;
-        posts = c.posted.ensures.posted;
-      };
-      sends = c.step-output.ensures.sends;
-      counts = c.posted.ensures.unsent;
-      quiet = c.posted.ensures.quiet;
-    } in
-    subst (λ (k : WorldKept). Acts k c.args.index c.args.event c.posted.result c.posted.new.self) c.self.view_is acts
+    let kept : Held g.row.F.Denot = record { cores = inside.peers.items; sent = inside.sent.items; unsent = inside.unsent } in
+    let core : CoreKept g.row.F.Denot = c.index_mut.result.now in
+    let count = ap (λ (k : Held g.row.F.Denot). length k.cores) c.self.view_is in
+    let within : c.args.index < length kept.cores = omega (arith, count) in
+    subst (λ (k : Held g.row.F.Denot). ActsIn g.F.Filter.meaning k c.args.index c.args.event c.posted.result c.posted.new.self) c.self.view_is
+    (acts_in g.F.Filter.meaning kept c.args.index c.args.event core c.step-output.new.self c.step-output.result c.posted.result c.posted.new.self within c.index_mut.ensures.value
+    c.step-output.ensures.peer c.step-output.ensures.step.filters c.step-output.ensures.sends c.step-output.ensures.messages c.posted.ensures.reply c.posted.ensures.cores c.posted.ensures.posted c.posted.ensures.unsent
+    c.posted.ensures.quiet)

@@ -1,21 +1,20 @@
-use Rattle.std.proofs.Common.{refl, ap}
-use Rattle.dds_core.specs.Kept.{CoreKept}
-use Rattle.dds_world.specs.WorldStanding.{WorldKept}
-use Rattle.dds_world.proofs.Rounds.{no_pair_matched, pair_matched, peer_kept}
+use Rattle.std.proofs.Common.{refl}
+use Rattle.dds_core.specs.Filtering.{CoreKept}
+use Rattle.dds_world.specs.Holding.{kept_of}
+use Rattle.dds_world.proofs.Holding.{core_kept}
+use Rattle.dds_world.proofs.Rounds.{no_pair_matched, pair_matched}
 use Rattle.dds_world.proofs.world.World.matched.Goals as goal
 
 pub returns-in-Some-pair : goal.returns-in-Some-pair
-returns-in-Some-pair c =
+returns-in-Some-pair g c =
     let i = c.in-Some.index in
-    let core : CoreKept = c.index-core.result.now in
-    let same = ap (λ (k : WorldKept). k.peers) c.self.view_is in
-    let at = peer_kept _ c.args.self.now.peers i c.count.result core same c.index-core.ensures c.count.ensures c.in-Some.ensures.1 in
-    (refl, refl, pair_matched c.args.self.now i core c.args.writer c.args.reader c.in-Some-pair.pair c.moment.result c.in-Some.ensures.0 at c.in-Some-pair.ensures.pair c.moment.ensures.moment)
+    let core : CoreKept g.row.F.Denot = c.index-core.result.now in
+    let at = core_kept _ c.args.self.now i c.count.result core c.self.view_is c.index-core.ensures c.count.ensures c.in-Some.ensures.1 in
+    (refl, refl, pair_matched (kept_of c.args.self.now) i core.peer c.args.writer c.args.reader c.in-Some-pair.pair c.moment.result c.in-Some.ensures.0 at c.in-Some-pair.ensures.pair c.moment.ensures.moment)
 
 pub returns-in-None : goal.returns-in-None
-returns-in-None c =
+returns-in-None g c =
     let i = c.in-Some.index in
-    let core : CoreKept = c.index-core.result.now in
-    let same = ap (λ (k : WorldKept). k.peers) c.self.view_is in
-    let at = peer_kept _ c.args.self.now.peers i c.count.result core same c.index-core.ensures c.count.ensures c.in-Some.ensures.1 in
-    no_pair_matched c.args.self.now i core c.args.writer c.args.reader c.in-Some.ensures.0 at c.in-None.ensures.pair
+    let core : CoreKept g.row.F.Denot = c.index-core.result.now in
+    let at = core_kept _ c.args.self.now i c.count.result core c.self.view_is c.index-core.ensures c.count.ensures c.in-Some.ensures.1 in
+    no_pair_matched (kept_of c.args.self.now) i core.peer c.args.writer c.args.reader c.in-Some.ensures.0 at c.in-None.ensures.pair

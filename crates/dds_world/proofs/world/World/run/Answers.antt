@@ -1,13 +1,23 @@
-use Rattle.std.proofs.Common.{◌≡◌, List, [], ◌∷◌, ◌++◌, sym, subst, arith}
+use Rattle.std.proofs.Common.{◌≡◌, List, [], ◌∷◌, ◌++◌, sym, subst, ◌∙◌, arith}
 use Rattle.std.proofs.lemmas.Grind.{common_steps}
 use Rattle.dds_model.specs.declared.reply.Reply.{Reply}
+use Rattle.dds_world.specs.Holding.{kept_of, tests_in}
 use Rattle.dds_world.specs.WorldStanding.{Runs}
+use Rattle.dds_world.proofs.Holding.{same_rules}
 use Rattle.dds_world.proofs.RunSteps.{runs_more}
 use Rattle.dds_world.proofs.world.World.run.Goals as goal
 
 pub loop-event-preserved : goal.loop-event-preserved
-loop-event-preserved c =
+loop-event-preserved g c =
+    let first = c.args.self.now in
+    let tests = tests_in g.F.Filter.meaning first in
+    let i = c.loop-event.invariant in
     let items : c.push.new.self.items ≡ c.loop-event.replies.items ++ c.step-reply.result ∷ [] = grind (arith, common_steps) in
-    let runs : Runs c.args.self.now (c.loop-event.yielded ++ c.in-Some.event ∷ []) (c.loop-event.replies.items ++ c.step-reply.result ∷ []) c.step-reply.new.self =
-    runs_more c.args.self.now c.loop-event.self c.step-reply.new.self c.loop-event.yielded c.loop-event.replies.items c.in-Some.event c.step-reply.result c.loop-event.invariant.0 c.step-reply.ensures.rules c.step-reply.ensures.sends in
-    (subst (λ (rs : List Reply). Runs c.args.self.now (c.loop-event.yielded ++ c.in-Some.event ∷ []) rs c.step-reply.new.self) (sym items) runs, grind (arith, common_steps), grind (arith, common_steps))
+    let runs : Runs tests (kept_of first) (c.loop-event.yielded ++ c.in-Some.event ∷ []) (c.loop-event.replies.items ++ c.step-reply.result ∷ []) (kept_of c.step-reply.new.self) =
+    runs_more (kept_of first) (kept_of c.loop-event.self) (kept_of c.step-reply.new.self) c.loop-event.yielded c.loop-event.replies.items c.in-Some.event c.step-reply.result i.0
+    (same_rules g.F.Filter.meaning first c.loop-event.self c.step-reply.new.self c.in-Some.event c.step-reply.result i.1 c.step-reply.ensures.rules) c.step-reply.ensures.sends in (
+      subst (λ (rs : List Reply). Runs tests (kept_of first) (c.loop-event.yielded ++ c.in-Some.event ∷ []) rs (kept_of c.step-reply.new.self)) (sym items) runs,
+      c.step-reply.ensures.filters ∙ i.1,
+      grind (arith, common_steps),
+      grind (arith, common_steps),
+    )

@@ -1,7 +1,11 @@
 use Rattle.std.proofs.Common.{◌≡◌, ◌≤◌, length, vec_len}
 use Rattle.std.specs.Prelude.{vec_capacity}
+use Rattle.dds_world.specs.Holding.{filters_of, kept_of, tests_in}
 use Rattle.dds_world.specs.WorldStanding.{Runs}
 use Rattle.dds_world.proofs.world.World.run.Given as goal
 
 abbrev pub invariant-loop-event : goal.invariant-loop-event
-invariant-loop-event l = Runs l.initial.self l.yielded l.replies.items l.self × (vec_len l.replies ≡ length l.yielded) × (length l.fn.events.items ≤ vec_capacity l.replies)
+invariant-loop-event g l =
+    Runs (tests_in g.F.Filter.meaning l.initial.self) (kept_of l.initial.self) l.yielded l.replies.items (kept_of l.self)
+    × (filters_of l.self ≡ filters_of l.initial.self)
+    × (vec_len l.replies ≡ length l.yielded) × (length l.fn.events.items ≤ vec_capacity l.replies)

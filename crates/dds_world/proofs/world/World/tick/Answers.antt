@@ -1,20 +1,17 @@
-use Rattle.std.proofs.Common.{◌≡◌, ℕ, false, length, subst}
-use Rattle.std.specs.Prelude.{◌&&◌, nat_lt, nat_le}
+use Rattle.dds_world.specs.Holding.{kept_of}
+use Rattle.dds_world.proofs.Holding.{no_tick_in, ticked_in}
 use Rattle.dds_world.proofs.Sends.{ticked_sends, refused_tick_sends}
-use Rattle.dds_world.proofs.Ruled.{ticked}
-use Rattle.dds_world.proofs.WorldSteps.{unknown_tick}
 use Rattle.dds_world.proofs.world.World.tick.Goals as goal
 
 pub returns-in-Some-clause-step : goal.returns-in-Some-clause-step
-returns-in-Some-clause-step c = ticked c.args.self.now c.happen_at.new.self c.in-Some.index c.args.peer c.args.now c.happen_at.result c.in-Some.ensures.0 c.happen_at.ensures
+returns-in-Some-clause-step g c = ticked_in g.F.Filter.meaning c.args.self.now c.happen_at.new.self c.in-Some.index c.args.peer c.args.now c.happen_at.result c.in-Some.ensures.0 c.happen_at.ensures
 
 pub returns-in-Some-clause-sends : goal.returns-in-Some-clause-sends
-returns-in-Some-clause-sends c = ticked_sends c.args.self.now c.happen_at.new.self c.in-Some.index c.args.peer c.args.now c.happen_at.result c.in-Some.ensures.0 c.happen_at.ensures
+returns-in-Some-clause-sends g c =
+    ticked_sends (kept_of c.args.self.now) (kept_of c.happen_at.new.self) c.in-Some.index c.args.peer c.args.now c.happen_at.result c.in-Some.ensures.0 c.happen_at.ensures.acts
 
 pub returns-in-None-clause-step : goal.returns-in-None-clause-step
-returns-in-None-clause-step c =
-    let none : (nat_lt 0 c.args.peer && nat_le c.args.peer (length c.args.self.now.peers)) ≡ false = subst (λ (n : ℕ). (nat_lt 0 c.args.peer && nat_le c.args.peer n) ≡ false) c.count.ensures c.in-None.ensures in
-    unknown_tick c.args.self.now c.args.peer c.args.now none
+returns-in-None-clause-step g c = no_tick_in g.F.Filter.meaning c.args.self.now c.args.peer c.count.result c.args.now c.count.ensures c.in-None.ensures
 
 pub returns-in-None-clause-sends : goal.returns-in-None-clause-sends
-returns-in-None-clause-sends c = refused_tick_sends c.args.self.now c.args.peer c.args.now
+returns-in-None-clause-sends g c = refused_tick_sends (kept_of c.args.self.now) c.args.peer c.args.now

@@ -1,0 +1,38 @@
+use Rattle.std.proofs.Common.{◌≡◌, ℕ, ◌∙◌, ◌+◌, ◌<◌, Bool, true, not, Option, Some, length, refl, sym, subst, ap, arith, rules}
+use Rattle.dds_model.specs.declared.call.Call.TheVariants as call
+use Rattle.dds_core.specs.Kept.{PeerKept}
+use Rattle.dds_core.specs.Standing.{StandsFor}
+use Rattle.std.specs.Prelude.{if◌then◌else◌}
+use Rattle.dds_base.specs.declared.code.Code.{Code}
+use Rattle.dds_base.specs.declared.code.Code.TheVariants.{BadParameter}
+use Rattle.dds_conditions.specs.declared.condition.Condition.TheVariants.{Samples}
+use Rattle.dds_conditions.specs.Watched.{Watched, has_filter, number_refusal, with_condition}
+use Rattle.dds_model.specs.declared.reply.Reply.TheVariants.{Created}
+use Rattle.dds_model.specs.Calls.{IsAnsweredInMemory}
+use Rattle.dds_model.specs.Numbered.{has_number}
+use Rattle.dds_model.specs.Watching.{query_condition_refusal, read_condition_refusal}
+use Rattle.dds_core.specs.Watching.{made_reply}
+use Rattle.dds_core.proofs.CallSteps.{follows_as, number_is, there_is}
+use Rattle.dds_core.proofs.Watched.{given_in_memory}
+use Rattle.dds_core.proofs.peer.Peer.create_query_condition.Goals as goal
+
+pub returns-clause-step : goal.returns-clause-step
+returns-clause-step c = λ config peer given.
+    let s = subst (λ (k : PeerKept). StandsFor k config peer) (sym c.self.view_is) given in
+    let i = c.in-Some._reader in
+    let within : i < length c.self.inside.readers.items = search rules in
+    let count = s.readers.count in
+    let known : has_number peer.part.dds.readers c.args.reader ≡ true =
+    subst (λ (n : ℕ). has_number peer.part.dds.readers n ≡ true) (number_is c.args.reader i c.in-Some.ensures.0)
+    (there_is peer.part.dds.readers i (omega (arith, within, count))) in
+    let here : has_filter c.self.inside.watch c.args.filter ≡ true = search rules in
+    let there : has_filter peer.part.dds.watch c.args.filter ≡ true = ap (λ (w : Watched). has_filter w c.args.filter) s.watch ∙ here in
+    let free : query_condition_refusal peer.part c.args.reader c.args.filter ≡ number_refusal peer.part.dds.watch.conditions =
+    ap (λ (b : Bool). if b then read_condition_refusal peer.part c.args.reader else Some BadParameter) there
+    ∙ ap (λ (b : Bool). if not b then Some BadParameter else number_refusal peer.part.dds.watch.conditions) known in
+    follows_as _ config peer _ _ _ c.answered.ensures
+    (given_in_memory (λ n. Created n) made_reply (λ n. refl) (λ code. refl) (λ w. number_refusal w.conditions) (λ w. length w.conditions + 1) (λ w. with_condition w (Samples c.args.reader c.args.masks (Some c.args.filter))) _
+    c.create-made.new.self c.create-made.result c.reply_to_made.result config peer s (call.CreateQueryCondition c.args.reader c.args.masks c.args.filter)
+    (λ dds h. subst (λ (o : Option Code). IsAnsweredInMemory true o (Created (length peer.part.dds.watch.conditions + 1)) (with_condition peer.part.dds.watch (Samples c.args.reader c.args.masks (Some c.args.filter))) peer.part c.reply_to_made.result dds)
+    (sym free) h) refl c.reply_to_made.ensures
+    c.create-made.ensures.ok c.create-made.ensures.number c.create-made.ensures.taken c.create-made.ensures.refused c.create-made.ensures.err)

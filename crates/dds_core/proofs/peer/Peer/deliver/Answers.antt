@@ -1,0 +1,13 @@
+use Rattle.std.proofs.Common.{List, sym, subst}
+use Rattle.dds_model.specs.declared.event.Event.TheVariants as event
+use Rattle.dds_model.specs.declared.event.Packet.{Packet}
+use Rattle.dds_model.specs.declared.reply.Reply.TheVariants.{Reported}
+use Rattle.dds_core.specs.Standing.{SoundSteps}
+use Rattle.dds_core.proofs.Delivering.{delivers}
+use Rattle.dds_core.proofs.peer.Peer.deliver.Goals as goal
+
+pub returns-clause-step : goal.returns-clause-step
+returns-clause-step c =
+    let sent = c.receive-report.new.sent in
+    subst (λ (ps : List Packet). SoundSteps c.args.self.now (event.Deliver c.args.packet.now) (record { reply = Reported c.receive-report.result; packets = ps; unsent = sent.unsent }) c.receive-report.new.self) (sym c.from_vec.ensures)
+    (delivers c.args.self.now c.receive-report.new.self c.args.packet.now c.receive-report.result sent c.receive-report.ensures.receives)

@@ -1,0 +1,13 @@
+use Rattle.std.proofs.Common.{◌≡◌, ◌≤◌, ◌*◌, ◌^◌}
+use Rattle.dds_core.specs.Receiving.{receiver_at, TakesTo}
+use Rattle.dds_core.specs.Sending.{AreMessages}
+use Rattle.dds_core.proofs.peer.Peer.take_message.Given as goal
+
+abbrev pub invariant-loop-index : goal.invariant-loop-index
+invariant-loop-index l = record {
+  taken : TakesTo l.initial.self l.message l.index (receiver_at l.receiver) l.moves.items l.self l.sent;
+  few : l.sent.unsent ≤ 2 ^ 16 * l.index;
+  messages : AreMessages l.sent.packets.items;
+  same : l.self.prefix ≡ l.initial.self.prefix;
+  whole : l.submessage-items ≡ l.message.submessages;
+}

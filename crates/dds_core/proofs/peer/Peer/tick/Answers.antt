@@ -1,0 +1,49 @@
+use Rattle.std.proofs.Common.{◌∙◌, List, refl, sym, subst, rules}
+use Rattle.std.proofs.lemmas.List.{with_items_is}
+use Rattle.dds_model.specs.declared.event.Packet.{Packet}
+use Rattle.dds_core.specs.Beating.{BeatsOfAll}
+use Rattle.dds_core.specs.Expiring.{AllExpire, HasDeadly}
+use Rattle.dds_core.specs.Kept.{PeerKept, ReaderKept, WriterKept}
+use Rattle.dds_core.specs.Receiving.{AreAlike}
+use Rattle.dds_core.specs.Standing.{StandsFor, AllTick}
+use Rattle.dds_core.proofs.BeatsDue.{due_sent}
+use Rattle.dds_core.proofs.CallSteps.{follows_as, tick_without_memory, ticks}
+use Rattle.dds_core.proofs.Lists.{written_back}
+use Rattle.dds_core.proofs.peer.Peer.tick.Goals as goal
+
+-- nobody has died, and all stands as before
+pub returns-in-Err-clause-step : goal.returns-in-Err-clause-step
+returns-in-Err-clause-step c = λ config peer given.
+    let s = subst (λ (k : PeerKept). StandsFor k config peer) (sym c.self.view_is) given in
+    let alike : AreAlike c.self.inside.readers.items c.expire_all.new.readers =
+    subst (λ (ks : List ReaderKept). AreAlike ks c.expire_all.new.readers) c.as_mut_slice.ensures.value c.in-Err.ensures.alike in
+    let same = with_items_is c.self.inside.readers c.expire_all.new.readers (c.in-Err.ensures.alike.count ∙ c.as_mut_slice.ensures.len) in
+    let refused = c.in-Err.ensures.refused in
+    let deadly : HasDeadly c.self.inside.readers.items c.args.now =
+    subst (λ (ks : List ReaderKept). HasDeadly ks c.args.now) c.as_mut_slice.ensures.value refused.1 in
+    follows_as _ config peer _ _ _ c.answered-in-Err.ensures
+    (tick_without_memory _ _ c.in-Err.code config peer s c.args.now (search rules) (search rules)
+    (subst (λ (ks : List ReaderKept). AreAlike c.self.inside.readers.items ks) (sym same) alike) (refused.0, deadly))
+
+-- what goes out, by what the peer keeps
+beats : (c : goal.After-from_vec) → BeatsOfAll c.self.inside.prefix c.self.inside.writers.items c.from_vec.result c.tick_all-packets.result.unsent
+beats c =
+    subst (λ (ps : List Packet). BeatsOfAll c.self.inside.prefix c.self.inside.writers.items ps c.tick_all-packets.result.unsent) (sym c.from_vec.ensures)
+    (subst (λ (ks : List WriterKept). BeatsOfAll c.self.inside.prefix ks c.tick_all-packets.result.packets.items c.tick_all-packets.result.unsent) c.as_mut_slice-2.ensures.value c.tick_all-packets.ensures.beats)
+
+pub returns-clause-step : goal.returns-clause-step
+returns-clause-step c = λ config peer given.
+    let s = subst (λ (k : PeerKept). StandsFor k config peer) (sym c.self.view_is) given in
+    let all : AllTick c.self.inside.writers.items c.args.now c.tick_all-packets.new.writers =
+    subst (λ (ks : List WriterKept). AllTick ks c.args.now c.tick_all-packets.new.writers) c.as_mut_slice-2.ensures.value c.tick_all-packets.ensures.ticks in
+    let expired : AllExpire c.self.inside.readers.items c.args.now c.expire_all.new.readers =
+    subst (λ (ks : List ReaderKept). AllExpire ks c.args.now c.expire_all.new.readers) c.as_mut_slice.ensures.value c.in_default.ensures.expires in
+    let same = with_items_is c.self.inside.readers c.expire_all.new.readers (c.in_default.ensures.expires.count ∙ c.as_mut_slice.ensures.len) in
+    ticks _ _ _ config peer s c.args.now (search rules) (search rules)
+    (subst (λ (ks : List WriterKept). AllTick c.self.inside.writers.items c.args.now ks) (sym (written_back c.tick_all-packets.new.writers c.self.inside.writers.items c.self.inside.writers.len (search rules) (search rules))) all)
+    (subst (λ (ks : List ReaderKept). AllExpire c.self.inside.readers.items c.args.now ks) (sym same) expired) _ refl (beats c)
+
+pub returns-clause-sends : goal.returns-clause-sends
+returns-clause-sends c = λ config peer given.
+    let s = subst (λ (k : PeerKept). StandsFor k config peer) (sym c.self.view_is) given in
+    due_sent config peer _ c.from_vec.result c.tick_all-packets.result.unsent s (beats c)
