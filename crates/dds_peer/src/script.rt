@@ -1,10 +1,10 @@
 //! The lines of a script.
 
 use crate::setup::SetupPart;
-use dds_base::Moment;
+use dds_base::{Moment, Octets};
 use dds_model::{Endpoint, WorldEvent};
 use dds_script::{
-    call_of, decimal, decimal_u8, reader_number, reader_options, words_of, writer_number,
+    call_of, decimal, decimal_u8, reader_number, reader_options, value, words_of, writer_number,
     writer_options,
 };
 use std::alloc::{AllocError, Global};
@@ -17,6 +17,8 @@ pub enum Line {
     Setup(SetupPart),
     /// Something happens to the network.
     Event(WorldEvent),
+    /// A peer has a filter more, by the octets with which a value begins.
+    Filter { peer: u8, octets: Octets },
     /// A round of repair for a writer and a reader.
     Round { writer: Endpoint, reader: Endpoint },
     /// The bytes of a packet are asked for.
@@ -87,14 +89,29 @@ fn command(first: &str, words: &[&str]) -> Option<Line> {
     }
 }
 
-/// What a peer is told to do.
-fn operation(alloc: Global, peer: u8, words: &[&str]) -> Result<Option<Line>, AllocError> {
-    if let ["tick", operands @ ..] = words {
-        return Ok(tick(peer, operands));
+fn filter(alloc: Global, peer: u8, words: &[&str]) -> Result<Option<Line>, AllocError> {
+    let [octets] = words else {
+        return Ok(None);
+    };
+    match value(alloc, octets)? {
+        Some(octets) => Ok(Some(Line::Filter { peer, octets })),
+        None => Ok(None),
     }
+}
+
+fn call(alloc: Global, peer: u8, words: &[&str]) -> Result<Option<Line>, AllocError> {
     match call_of(alloc, words)? {
         Some(call) => Ok(Some(Line::Event(WorldEvent::Call { peer, call }))),
         None => Ok(None),
+    }
+}
+
+/// What a peer is told to do.
+fn operation(alloc: Global, peer: u8, words: &[&str]) -> Result<Option<Line>, AllocError> {
+    match words {
+        ["tick", operands @ ..] => Ok(tick(peer, operands)),
+        ["filter", operands @ ..] => filter(alloc, peer, operands),
+        words => call(alloc, peer, words),
     }
 }
 

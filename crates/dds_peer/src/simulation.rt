@@ -3,12 +3,15 @@
 use crate::script::Line;
 use crate::setup::{NumberedSetup, SetupPart};
 use crate::stream::Script;
-use dds_base::Code;
+use dds_base::{Code, Octets};
 use dds_model::{Endpoint, Reply, WorldEvent};
-use dds_script::{Fault, Status, Traffic, TranscriptLine, print};
-use dds_world::World;
+use dds_script::{Fault, Prefix, Status, Traffic, TranscriptLine, print};
+use dds_world::World as WorldOf;
 use std::alloc::{AllocError, Global};
 use std::io::{Read, Write};
+
+/// A network whose filters are those that lines ask for.
+type World = WorldOf<Prefix>;
 
 /// The network of a script: its set-up, and the world that this gives once another line follows.
 #[derive(Drop)]
@@ -66,6 +69,13 @@ fn push_round(text: &mut TranscriptLine, world: &mut World, writer: Endpoint, re
     }
 }
 
+fn push_filter(text: &mut TranscriptLine, world: &mut World, peer: u8, octets: Octets) {
+    match world.add_filter(peer, Prefix::new(octets)) {
+        Ok(number) => text.push_reply(&Reply::Created(number)),
+        Err((code, _)) => text.push_reply(&Reply::Refused(code)),
+    }
+}
+
 fn push_packet(text: &mut TranscriptLine, world: &World, number: u64) {
     let packet = world.packet(number).map(|packet| packet.bytes.as_slice());
     text.push_packet(number, packet);
@@ -76,6 +86,7 @@ fn transcript_of(alloc: Global, world: &mut World, line: Line) -> Result<String,
     let mut text = TranscriptLine::new(alloc);
     match line {
         Line::Event(event) => push_event(&mut text, world, event),
+        Line::Filter { peer, octets } => push_filter(&mut text, world, peer, octets),
         Line::Round { writer, reader } => push_round(&mut text, world, writer, reader),
         Line::Packet(number) => push_packet(&mut text, world, number),
         Line::Skipped | Line::Setup(_) => {}

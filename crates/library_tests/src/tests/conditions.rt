@@ -104,8 +104,8 @@ impl Subject for WaitSet {
 
 /// A filter of an application's own: values of so many octets pass.
 #[derive(Drop)]
-struct OfLength {
-    octets: usize,
+pub struct OfLength {
+    pub octets: usize,
 }
 
 impl Filter for OfLength {

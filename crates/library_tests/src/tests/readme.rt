@@ -29,7 +29,7 @@ fn two_peers(alloc: Global) -> Result<Config, Code> {
 /// A sample that is written, delivered and taken.
 fn first_sample(alloc: Global) -> Result<Reply, Code> {
     let config = two_peers(alloc)?;
-    let mut world = World::open(alloc, &config)?;
+    let mut world: World = World::open(alloc, &config)?;
     let call = Call::Write {
         writer: 1,
         key: Key([7; 16]),

@@ -2,14 +2,19 @@
 
 mod scripts;
 
+use crate::tests::conditions::OfLength;
 use crate::tests::rows::{Subject, Words, expect_rows, number_of, octets_of, words_of};
 use dds_base::{
     Code, Config, EntityId, GuidPrefix, HistoryQos, Key, Masks, Moment, Octets, OwnershipQos,
     PeerConfig, ReaderConfig, Selection, Sequence, WriterConfig,
 };
-use dds_world::{Call, Endpoint, Round, World, WorldEvent};
+use dds_conditions::{Cond, Filter};
+use dds_world::{Call, Endpoint, Round, World as WorldOf, WorldEvent};
 use scripts::SCRIPTS;
 use std::alloc::Global;
+
+/// A network with filters of an application's own.
+type World = WorldOf<OfLength>;
 
 const KEY: Key = Key([0, 0, 0, 0, 0, 0, 0, 0, 0, 0, 0, 0, 0, 0, 0, 1]);
 
@@ -92,6 +97,14 @@ fn call_of(alloc: Global, name: &str, words: Words<'_>) -> Call {
             writer: number,
             key: KEY,
         },
+        "query" => Call::CreateQueryCondition {
+            reader: number,
+            masks: Masks::ANY,
+            filter: words.third.parse().unwrap_or(0),
+        },
+        "trigger" => Call::GetTriggerValue {
+            condition: Cond::Made(number.into()),
+        },
         _ => Call::Take {
             reader: number,
             selection: Selection::Any {
@@ -131,6 +144,14 @@ fn events_of(alloc: Global, lines: &str) -> Vec<WorldEvent> {
         push_event(alloc, &mut events, line);
     }
     events
+}
+
+fn push_filter<F: Filter>(text: &mut String, world: &mut WorldOf<F>, peer: u8, filter: F) {
+    let added = match world.add_filter(peer, filter) {
+        Ok(number) => Ok(number),
+        Err((code, _)) => Err(code),
+    };
+    let _ = write!(text, "{added:?}");
 }
 
 fn push_packet(text: &mut String, world: &World, number: u64) {
@@ -222,6 +243,12 @@ impl Network {
         let _ = writeln!(self.events, "{name} {operands}");
     }
 
+    fn add_filter(&mut self, text: &mut String, words: Words<'_>) {
+        let octets = words.second.parse().unwrap_or(0);
+        let peer = words.first.parse().unwrap_or(0);
+        push_filter(text, &mut self.world, peer, OfLength { octets });
+    }
+
     fn run(&mut self, alloc: Global, text: &mut String) {
         let mut replies = String::new(alloc);
         push_run(alloc, &mut replies, self.events.as_str());
@@ -238,6 +265,7 @@ impl Subject for Network {
     fn answer(&mut self, alloc: Global, text: &mut String, name: &str, operands: &str) {
         match name {
             "open" => self.begin(alloc, text, operands.parse().unwrap_or(-1)),
+            "filter" => self.add_filter(text, words_of(operands)),
             "packet" => push_packet(text, &self.world, number_of(operands)),
             "place" => push_place(text, &self.world, words_of(operands)),
             "round" => push_round(text, &mut self.world, words_of(operands)),
@@ -259,4 +287,22 @@ fn networks_answer(rt: HostRuntime) {
         replies: String::new(alloc),
     };
     expect_rows(&rt, alloc, &mut network, SCRIPTS);
+}
+
+#[test]
+fn a_network_takes_boxed_filters(rt: HostRuntime) {
+    let alloc = rt.alloc();
+    let Ok(mut world) = WorldOf::<Box<dyn Filter + Send>>::open(alloc, &config(alloc, -1)) else {
+        panic!(rt; "no network");
+    };
+    for (peer, wanted) in [(2, "Ok(1)"), (2, "Ok(2)"), (1, "Ok(1)"), (3, "Err(BadParameter)")] {
+        let boxed = Box::new(alloc, OfLength { octets: 2 });
+        assert!(rt; boxed.is_ok(), "no memory");
+        if let Ok(own) = boxed {
+            let filter: Box<dyn Filter + Send> = own;
+            let mut text = String::new(alloc);
+            push_filter(&mut text, &mut world, peer, filter);
+            assert!(rt; text.as_str() == wanted, "{text}");
+        }
+    }
 }

@@ -4,6 +4,9 @@
 /// call names its peer and its writer or reader there, and is of key 1; a write has its value in hex digits; a tick is at a peer
 /// and names its moment; a delivery is at a peer and names the packet.
 ///
+/// `filter` names a peer and how many octets the values have that pass: its number, or why there is none. `query` names a peer, a
+/// reader and a filter, and `trigger` a peer and a condition.
+///
 /// `place` names a reader and a writer, each by its peer and its number, and `round` a writer and a reader, for a round of repair.
 ///
 /// `open` begins anew, with a reader that may hold any number of samples, or so many, and `run` does all events since then once
@@ -120,6 +123,21 @@ place 2 1 1 1 => Some(Sn { number: 3 })
 round 1 1 2 1 => replies 3, was_behind true, unsent_before 0, last 2, from 3 to 3, has_caught_up true
 round 1 1 2 1 => replies 1, was_behind false, unsent_before 0, last 2, from 3 to 3, has_caught_up true
 round 2 1 1 1 => BadParameter
+
+# Filters are numbered at each peer, from 1, and no peer has those of another. A query condition asks its own one.
+open => opened
+filter 2 1 => Ok(1)
+filter 2 2 => Ok(2)
+filter 1 3 => Ok(1)
+filter 3 1 => Err(BadParameter)
+filter 0 1 => Err(BadParameter)
+query 2 1 1 => Created(1) 0 0
+query 2 1 2 => Created(2) 0 0
+query 2 1 3 => Refused(BadParameter) 0 0
+write 1 1 6162 => Done 1 0
+deliver 2 1 => Reported(Report { moves: Sequence { items: [Place { writer: Endpoint { peer: 1, number: 1 }, reader: 1, to: Sn { number: 2 }, passed: Sequence { items: [] } }] }, refused: None }) 1 0
+trigger 2 1 => TriggerValue(false) 1 0
+trigger 2 2 => TriggerValue(true) 1 0
 
 # A reader without room for the second change: nothing else kept the round from its end.
 open 1 => opened
