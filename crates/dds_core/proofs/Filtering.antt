@@ -45,8 +45,7 @@ adds old filter number new filters left is kept more = record {
       let before = s.filters in
       let stands : PeerStandsFor (record old.peer { watch = with_filter old.peer.watch }) config (peer_with_filter peer) =
       subst (λ (w : Watched). PeerStandsFor (record old.peer { watch = with_filter old.peer.watch }) config (record peer { part = record peer.part { dds = record peer.part.dds { watch = w } } }))
-      (ap (λ (w : Watched). with_filter w) (sym s.stands.watch)) (watches old.peer (with_filter old.peer.watch) config peer s.stands) in
-      (
+      (ap (λ (w : Watched). with_filter w) (sym s.stands.watch)) (watches old.peer (with_filter old.peer.watch) config peer s.stands) in (
         ap (λ (w : Watched). filter_refusal w) s.stands.watch ∙ left,
         omega (arith, is, counted, before),
         record { stands = subst (λ (k : PeerKept). PeerStandsFor k config (peer_with_filter peer)) (sym kept) stands; filters = omega (arith, before, total, longer) },

@@ -295,7 +295,12 @@ fn a_network_takes_boxed_filters(rt: HostRuntime) {
     let Ok(mut world) = WorldOf::<Box<dyn Filter + Send>>::open(alloc, &config(alloc, -1)) else {
         panic!(rt; "no network");
     };
-    for (peer, wanted) in [(2, "Ok(1)"), (2, "Ok(2)"), (1, "Ok(1)"), (3, "Err(BadParameter)")] {
+    for (peer, wanted) in [
+        (2, "Ok(1)"),
+        (2, "Ok(2)"),
+        (1, "Ok(1)"),
+        (3, "Err(BadParameter)"),
+    ] {
         let boxed = Box::new(alloc, OfLength { octets: 2 });
         assert!(rt; boxed.is_ok(), "no memory");
         if let Ok(own) = boxed {
