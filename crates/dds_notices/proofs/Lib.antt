@@ -1,0 +1,2 @@
+mod Standings
+pub mod ListenerLaws

@@ -1,2 +1,4 @@
 pub mod Masks
 pub mod Notices
+pub mod Listeners
+pub mod Slotted

@@ -1,7 +1,7 @@
-//! What a listener is told, and what it keeps of it.
+//! What a listener is told and keeps of it, and which listener is told.
 //!
 //! DDS 1.4, 2.2.4.1 (communication statuses), 2.2.4.2 (listeners).
-//! Not here: when a status is raised, and which listener is told of it.
+//! Not here: when a status is raised.
 #![tactic(auto)]
 
 mod laws;
@@ -9,9 +9,12 @@ mod listener;
 mod mask;
 mod notice;
 mod recorder;
+mod slot;
+mod slots;
 
 pub use laws::the_last_notices_stay;
 pub use listener::Listener;
 pub use mask::StatusMask;
 pub use notice::{Notice, Status};
 pub use recorder::{MAX_ROOM, Recorder};
+pub use slots::Slots;

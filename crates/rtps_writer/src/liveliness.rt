@@ -69,6 +69,17 @@ impl Liveliness {
         }
     }
 
+    /// What LIVELINESS_LOST says.
+    pub fn status(&self) -> LivelinessLostStatus
+        ensures { (lease : Option ℕ) (c : List Written) → IsLiveliness self.now lease c
+            → result ≡ liveliness_lost_status lease c }
+    {
+        LivelinessLostStatus {
+            total_count: self.losses,
+            total_count_change: self.losses.saturating_sub(self.losses_seen),
+        }
+    }
+
     /// What LIVELINESS_LOST says; its change is told once.
     pub fn look(&mut self) -> LivelinessLostStatus
         ensures status { (lease : Option ℕ) (c : List Written) → IsLiveliness self.old lease c
@@ -76,10 +87,7 @@ impl Liveliness {
         ensures looked { (lease : Option ℕ) (c : List Written) → IsLiveliness self.old lease c
             → IsLiveliness self.new lease (LookedAt ∷ c) }
     {
-        let status = LivelinessLostStatus {
-            total_count: self.losses,
-            total_count_change: self.losses.saturating_sub(self.losses_seen),
-        };
+        let status = self.status();
         self.losses_seen = self.losses;
         status
     }

@@ -303,6 +303,16 @@ impl StatefulWriter {
         Ok(Some(self.next_heartbeat()))
     }
 
+    /// What LIVELINESS_LOST says of the writer. This does not look at it: the change is told again.
+    ///
+    /// DDS 1.4, 2.2.4.1 (LIVELINESS_LOST, LivelinessLostStatus).
+    pub fn liveliness_status(&self) -> LivelinessLostStatus
+        // It is the status of the definitions.
+        ensures status { (s : WriterState) → StandsFor self.now s → result ≡ liveliness_lost_status s.lease s.written }
+    {
+        self.liveliness.status()
+    }
+
     /// What LIVELINESS_LOST says of the writer; it is looked at by this, so the next change is told against it.
     ///
     /// DDS 1.4, 2.2.4.1 (LIVELINESS_LOST, LivelinessLostStatus).

@@ -1,0 +1,164 @@
+-- The listeners of a peer's entities: of which statuses each is told, and what it was told.
+--
+-- DDS 1.4, 2.2.2.1 (Entity, set_listener), 2.2.4.2 (listeners: the one of the entity, or else of what contains it).
+use Rattle.std.specs.Prelude.{◌≡◌, ℕ, ◌-◌, Bool, true, false, ◌==◌, ◌&&◌, ◌||◌, not, nat_lt, nat_le, List, [], ◌∷◌, ◌++◌, length, get_or, set, replicate, Option, None, Some, is_some, if◌then◌else◌}
+use Rattle.std.specs.List.{list_any}
+use Rattle.dds_base.specs.declared.code.Code.{Code}
+use Rattle.dds_base.specs.declared.code.Code.TheVariants.{BadParameter, PreconditionNotMet}
+use Rattle.dds_base.specs.declared.entity.Entity.{Entity}
+use Rattle.dds_base.specs.declared.entity.Entity.TheVariants.{Participant, Writer, Reader}
+use Rattle.dds_notices.specs.declared.mask.StatusMask.{StatusMask}
+use Rattle.dds_notices.specs.declared.notice.Notice.{Notice}
+use Rattle.dds_notices.specs.declared.notice.Status.{Status}
+use Rattle.dds_notices.specs.Masks.{names}
+use Rattle.dds_notices.specs.Notices.{keep_last}
+
+-- ---- by entity
+
+-- what stands at the participant, at each writer and at each reader, if anything
+pub record ByEntity (X : Type 0) : Type 0 where
+  pub participant : Option X
+  pub writers : List (Option X)
+  pub readers : List (Option X)
+
+-- there is something of this number among so many
+abbrev pub is_number : ℕ → ℕ → Bool
+is_number n count = nat_lt 0 n && nat_le n count
+
+-- there is such an entity
+abbrev pub has_entity : {X : Type 0} → ByEntity X → Entity → Bool
+has_entity all Participant = true
+has_entity all (Writer n) = is_number n (length all.writers)
+has_entity all (Reader n) = is_number n (length all.readers)
+
+-- what stands with this number, from 1
+abbrev pub at_number : {X : Type 0} → List (Option X) → ℕ → Option X
+at_number xs n = if n == 0 then None else get_or xs (n - 1) None
+
+-- what stands at an entity
+abbrev pub at_entity : {X : Type 0} → ByEntity X → Entity → Option X
+at_entity all Participant = all.participant
+at_entity all (Writer n) = at_number all.writers n
+at_entity all (Reader n) = at_number all.readers n
+
+-- another one, or none, stands at an entity which is there
+abbrev pub with_entity : {X : Type 0} → ByEntity X → Entity → Option X → ByEntity X
+with_entity all Participant x = record all { participant = x }
+with_entity all (Writer n) x = record all { writers = set all.writers (n - 1) x }
+with_entity all (Reader n) x = record all { readers = set all.readers (n - 1) x }
+
+-- nothing stands at so many writers and so many readers
+abbrev pub nobody : {X : Type 0} → ℕ → ℕ → ByEntity X
+nobody writers readers = record { participant = None; writers = replicate writers None; readers = replicate readers None }
+
+-- something stands somewhere
+abbrev pub is_any : {X : Type 0} → ByEntity X → Bool
+is_any all = is_some all.participant || (list_any is_some all.writers || list_any is_some all.readers)
+
+-- ---- what listeners are told
+
+-- a listener's place: the statuses that it is told of, how many notices it can keep, and all that it was told, the oldest first
+pub record Place : Type 0 where
+  pub mask : StatusMask
+  pub room : ℕ
+  pub sent : List Notice
+
+-- the places of a peer's listeners
+abbrev pub Places : Type 0
+Places = ByEntity Place
+
+-- a listener is told of the status
+abbrev pub takes : Option Place → Status → Bool
+takes None status = false
+takes (Some place) status = names place.mask status
+
+-- Whose listener is told of an entity's status: that of the entity if it takes the status, else that of the participant, if
+-- that does (2.2.4.2).
+abbrev pub taker_of : Places → Entity → Status → Option Entity
+taker_of places entity status =
+    if takes (at_entity places entity) status then Some entity
+    else (if takes places.participant status then Some Participant else None)
+
+-- a place whose listener was told of one more
+abbrev pub with_notice : Option Place → Notice → Option Place
+with_notice None notice = None
+with_notice (Some place) notice = Some (record place { sent = place.sent ++ notice ∷ [] })
+
+-- the places once this one's listener, if there is one, was told
+abbrev pub told_at : Places → Option Entity → Notice → Places
+told_at places None notice = places
+told_at places (Some entity) notice = with_entity places entity (with_notice (at_entity places entity) notice)
+
+-- the places after a notice: one listener was told, or nobody takes it
+abbrev pub after_notice : Places → Notice → Places
+after_notice places notice = told_at places (taker_of places notice.entity notice.status) notice
+
+-- ---- listeners that are set
+
+-- a listener, with the statuses that it is told of
+pub record Slot (L : Type 0) : Type 0 where
+  pub mask : StatusMask
+  pub listener : L
+
+-- the listeners of a peer
+abbrev pub Slotted : Type 0 → Type 0
+Slotted L = ByEntity (Slot L)
+
+-- there are no notices
+abbrev pub is_empty : List Notice → Bool
+is_empty [] = true
+is_empty (n ∷ ns) = false
+
+-- a listener that may be there keeps no notices
+abbrev pub is_fresh : {L : Type 0} → (L → List Notice) → Option L → Bool
+is_fresh notices None = true
+is_fresh notices (Some listener) = is_empty (notices listener)
+
+-- why a listener is not set: no such entity, or it keeps notices already (set_listener)
+abbrev pub listener_refusal : {L X : Type 0} → (L → List Notice) → ByEntity X → Entity → Option L → Option Code
+listener_refusal notices all entity listener =
+    if not (has_entity all entity) then Some BadParameter
+    else (if is_fresh notices listener then None else Some PreconditionNotMet)
+
+-- the listener that is set, with its statuses; none where it is taken away
+abbrev pub slot_of : {L : Type 0} → StatusMask → Option L → Option (Slot L)
+slot_of mask None = None
+slot_of mask (Some listener) = Some (record { mask = mask; listener = listener })
+
+-- its place: nothing was told yet
+abbrev pub place_of : {L : Type 0} → (L → ℕ) → StatusMask → Option L → Option Place
+place_of capacity mask None = None
+place_of capacity mask (Some listener) = Some (record { mask = mask; room = capacity listener; sent = [] })
+
+-- a listener has the room of its place, and keeps the last ones of all that it was told
+pub record Keeps {L : Type 0} (notices : L → List Notice) (capacity : L → ℕ) (listener : L) (place : Place) : Type 0 where
+  pub room : capacity listener ≡ place.room
+  pub kept : notices listener ≡ keep_last place.room place.sent
+
+-- a listener that may be there stands for the place that may be there
+abbrev pub StandsAt : {L : Type 0} → (L → List Notice) → (L → ℕ) → Option (Slot L) → Option Place → Type 0
+StandsAt notices capacity None None = Unit {0}
+StandsAt notices capacity (Some slot) (Some place) = (slot.mask ≡ place.mask) × Keeps notices capacity slot.listener place
+StandsAt notices capacity _ _ = ⊥
+
+-- the listeners of a peer stand for these places
+pub record StandsFor {L : Type 0} (notices : L → List Notice) (capacity : L → ℕ) (kept : Slotted L) (places : Places) : Type 0 where
+  pub writers : length places.writers ≡ length kept.writers
+  pub readers : length places.readers ≡ length kept.readers
+  pub each : (entity : Entity) → StandsAt notices capacity (at_entity kept entity) (at_entity places entity)
+
+-- the one that is handed back is the one of this place, and keeps the last ones of all that it was told
+abbrev pub HandedBack : {L : Type 0} → (L → List Notice) → (L → ℕ) → Option L → Option Place → Type 0
+HandedBack notices capacity None None = Unit {0}
+HandedBack notices capacity (Some listener) (Some place) = Keeps notices capacity listener place
+HandedBack notices capacity _ _ = ⊥
+
+-- a listener was set at an entity, or taken away there; for each of the places that they stand for, that of before is handed
+-- back
+pub record Sets {L : Type 0} (notices : L → List Notice) (capacity : L → ℕ) (old : Slotted L) (entity : Entity) (mask : StatusMask)
+    (listener handed : Option L) (new : Slotted L) : Type 0 where
+  pub accepted : listener_refusal notices old entity listener ≡ None
+  pub set : new ≡ with_entity old entity (slot_of mask listener)
+  pub back : (places : Places) → StandsFor notices capacity old places
+      → HandedBack notices capacity handed (at_entity places entity)
+      × StandsFor notices capacity new (with_entity places entity (place_of capacity mask listener))

@@ -1,0 +1,79 @@
+//! One listener, with the statuses that it is told of.
+
+ghost use Rattle.std.specs.Prelude.{◌≡◌, true, Option, is_some};
+ghost use Rattle.std.specs.Option.{option_copied};
+ghost use Rattle.dds_notices.specs.Listeners.{Place, StandsAt, is_fresh, slot_of, takes, with_notice};
+ghost use Rattle.dds_notices.specs.Slotted.{listener_of};
+
+use crate::listener::Listener;
+use crate::mask::StatusMask;
+use crate::notice::{Notice, Status};
+use std::marker::Model;
+
+/// A listener, with the statuses that it is told of.
+#[derive(Drop)]
+pub(crate) struct Slot<L> {
+    mask: StatusMask,
+    listener: L,
+}
+
+impl<L> Model for Slot<L> {
+    ghost use Rattle.dds_notices.specs.Listeners.{Slot};
+
+    ghost Value = { Slot L };
+
+    ghost view = { λ s. record { mask = s.mask; listener = s.listener } };
+}
+
+/// Whether a listener is there, and is told of the status.
+pub(crate) fn takes<L: Listener>(slot: Option<&Slot<L>>, status: &Status) -> bool
+    ensures takes { (place : Option Place) → StandsAt L.notices L.capacity (option_copied slot.entry) place
+        → result ≡ takes place status.now }
+    ensures there { result ≡ true → is_some (option_copied slot.entry) ≡ true }
+{
+    match slot {
+        Some(slot) => slot.mask.names(status),
+        None => false,
+    }
+}
+
+/// Tells the listener, if one is there.
+pub(crate) fn tell<L: Listener>(slot: &mut Option<Slot<L>>, notice: &Notice)
+    ensures { (place : Option Place) → StandsAt L.notices L.capacity slot.old place
+        → StandsAt L.notices L.capacity slot.new (with_notice place notice.now) }
+{
+    match slot {
+        Some(slot) => slot.listener.on_notice(notice),
+        None => {}
+    }
+}
+
+/// Whether the listener keeps nothing, if one is there.
+pub(crate) fn is_fresh<L: Listener>(listener: &Option<L>) -> bool
+    ensures { result ≡ is_fresh L.notices listener.now }
+{
+    match listener {
+        Some(listener) => listener.is_fresh(),
+        None => true,
+    }
+}
+
+/// The listener, if one is there, with these statuses.
+pub(crate) fn slot_of<L>(mask: StatusMask, listener: Option<L>) -> Option<Slot<L>>
+    ensures { result ≡ slot_of mask listener }
+{
+    match listener {
+        Some(listener) => Some(Slot { mask, listener }),
+        None => None,
+    }
+}
+
+/// The listener alone, if one is there.
+pub(crate) fn listener_of<L>(slot: Option<Slot<L>>) -> Option<L>
+    ensures { result ≡ listener_of slot }
+{
+    match slot {
+        Some(slot) => Some(slot.listener),
+        None => None,
+    }
+}

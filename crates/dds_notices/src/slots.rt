@@ -1,0 +1,226 @@
+//! The listeners of a peer's entities.
+
+ghost use Rattle.std.specs.Prelude.{◌≡◌, ◌-◌, true, Option, set, replicate, length, is_some, None, Some, IfOk, IfErr, OnErr};
+ghost use Rattle.std.specs.List.{list_any};
+ghost use Rattle.std.specs.Option.{option_copied};
+ghost use Rattle.dds_notices.specs.Listeners.{Place, Places, Sets, StandsAt, StandsFor, after_notice, at_entity, at_number, has_entity, is_any, is_number, listener_refusal, nobody, taker_of, with_entity, with_notice};
+ghost use Rattle.dds_notices.specs.Slotted.{ToldAt};
+
+use crate::listener::Listener;
+use crate::mask::StatusMask;
+use crate::notice::{Notice, Status};
+use crate::slot::{Slot, is_fresh, listener_of, slot_of, takes, tell};
+use dds_base::{Code, Entity};
+use std::alloc::{AllocError, Global};
+use std::marker::Model;
+use std::mem::replace;
+
+/// The listeners of a peer's entities: at most one at the participant, at each writer and at each reader.
+///
+/// DDS 1.4, 2.2.2.1 (Entity: set_listener), 2.2.4.2 (listeners).
+#[derive(Drop)]
+pub struct Slots<L> {
+    participant: Option<Slot<L>>,
+    writers: Vec<Option<Slot<L>>>,
+    readers: Vec<Option<Slot<L>>>,
+}
+
+impl<L> Model for Slots<L> {
+    ghost use Rattle.dds_notices.specs.Listeners.{Slotted};
+
+    ghost Value = { Slotted L };
+
+    ghost view = { λ s. record { participant = s.participant; writers = s.writers.items; readers = s.readers.items } };
+}
+
+/// Whether there is something of this number among so many.
+fn is_number(number: u8, count: usize) -> bool
+    ensures { result ≡ is_number number count }
+{
+    0 < number && usize::from(number) <= count
+}
+
+/// So many places with nobody in them.
+fn empty<L: Listener>(alloc: Global, count: usize) -> Result<Vec<Option<Slot<L>>>, AllocError>
+    ensures { IfOk result (λ slots. slots.items ≡ replicate count None) }
+{
+    let mut slots = Vec::with_capacity(alloc, count)?;
+    for _ in 0..count {
+        slots.push(None)?;
+    }
+    Ok(slots)
+}
+
+/// Whether somebody is there.
+fn is_any<L: Listener>(slots: &[Option<Slot<L>>]) -> bool
+    ensures { result ≡ list_any is_some slots.now }
+{
+    slots.iter().any(|slot| slot.is_some())
+}
+
+/// Who has this number.
+fn at_number<L: Listener>(slots: &[Option<Slot<L>>], number: u8) -> Option<&Slot<L>>
+    ensures { option_copied result ≡ at_number slots.now number }
+{
+    if number == 0 {
+        return None;
+    }
+    match slots.get(usize::from(number) - 1) {
+        Some(Some(slot)) => Some(slot),
+        _ => None,
+    }
+}
+
+/// Tells the one that has this number.
+fn tell_number<L: Listener>(slots: &mut Vec<Option<Slot<L>>>, number: u8, notice: &Notice)
+    requires { is_number number (length slots.old.items) ≡ true }
+    ensures { (place : Option Place) → StandsAt L.notices L.capacity (at_number slots.old.items number) place
+        → ToldAt L.notices L.capacity slots.old.items number notice.now place slots.new.items }
+{
+    tell(&mut slots[usize::from(number) - 1], notice);
+}
+
+/// Puts another one where this number is, and hands out the one that was there.
+fn replace_number<L: Listener>(
+    slots: &mut Vec<Option<Slot<L>>>,
+    number: u8,
+    slot: Option<Slot<L>>,
+) -> Option<Slot<L>>
+    requires { is_number number (length slots.old.items) ≡ true }
+    ensures old { result ≡ at_number slots.old.items number }
+    ensures new { slots.new.items ≡ set slots.old.items (number - 1) slot }
+{
+    replace(&mut slots[usize::from(number) - 1], slot)
+}
+
+impl<L: Listener> Slots<L> {
+    /// No listeners yet, of a peer with so many writers and readers. Makes all the room that there will be.
+    ///
+    /// # Errors
+    ///
+    /// Where a growth was refused.
+    pub fn open(alloc: Global, writers: usize, readers: usize) -> Result<Slots<L>, AllocError>
+        // There is a place at each entity, and nobody in it.
+        ensures nobody { IfOk result (λ slots. slots ≡ nobody writers readers) }
+    {
+        Ok(Slots {
+            participant: None,
+            writers: empty(alloc, writers)?,
+            readers: empty(alloc, readers)?,
+        })
+    }
+
+    /// Whether a listener is set at some entity.
+    pub fn has_listeners(&self) -> bool
+        ensures { result ≡ is_any self.now }
+    {
+        self.participant.is_some() || is_any(&self.writers) || is_any(&self.readers)
+    }
+
+    /// Whether there is such an entity.
+    fn has(&self, entity: Entity) -> bool
+        ensures { result ≡ has_entity self.now entity }
+    {
+        match entity {
+            Entity::Participant => true,
+            Entity::Writer(number) => is_number(number, self.writers.len()),
+            Entity::Reader(number) => is_number(number, self.readers.len()),
+        }
+    }
+
+    /// Who is at an entity.
+    fn at(&self, entity: Entity) -> Option<&Slot<L>>
+        ensures { option_copied result ≡ at_entity self.now entity }
+    {
+        match entity {
+            Entity::Participant => self.participant.as_ref(),
+            Entity::Writer(number) => at_number(&self.writers, number),
+            Entity::Reader(number) => at_number(&self.readers, number),
+        }
+    }
+
+    /// Whether a listener is told of this status of the entity: its own, or else the participant's.
+    ///
+    /// DDS 1.4, 2.2.4.2 (listeners: the one of the entity, or else of what contains it).
+    pub fn takes(&self, entity: Entity, status: &Status) -> bool
+        // Some listener takes the status.
+        ensures taker { (places : Places) → StandsFor L.notices L.capacity self.now places
+            → result ≡ is_some (taker_of places entity status.now) }
+    {
+        takes(self.at(entity), status) || takes(self.participant.as_ref(), status)
+    }
+
+    /// Tells the listener at an entity that there is.
+    fn tell_at(&mut self, entity: Entity, notice: &Notice)
+        requires { has_entity self.old entity ≡ true }
+        ensures { (places : Places) → StandsFor L.notices L.capacity self.old places
+            → StandsFor L.notices L.capacity self.new (with_entity places entity (with_notice (at_entity places entity) notice.now)) }
+    {
+        match entity {
+            Entity::Participant => tell(&mut self.participant, notice),
+            Entity::Writer(number) => tell_number(&mut self.writers, number, notice),
+            Entity::Reader(number) => tell_number(&mut self.readers, number, notice),
+        }
+    }
+
+    /// Tells the listener that takes the status of the notice, if one does: the entity's own, or else the participant's.
+    ///
+    /// DDS 1.4, 2.2.4.2 (listeners: the one of the entity, or else of what contains it).
+    pub fn tell(&mut self, notice: &Notice)
+        // The one that takes it is told, once.
+        ensures told { (places : Places) → StandsFor L.notices L.capacity self.old places
+            → StandsFor L.notices L.capacity self.new (after_notice places notice.now) }
+    {
+        if takes(self.at(notice.entity), &notice.status) {
+            self.tell_at(notice.entity, notice);
+        } else if takes(self.participant.as_ref(), &notice.status) {
+            self.tell_at(Entity::Participant, notice);
+        }
+    }
+
+    /// Puts another one at an entity that there is, and hands out the one that was there.
+    fn put(&mut self, entity: Entity, slot: Option<Slot<L>>) -> Option<Slot<L>>
+        requires { has_entity self.old entity ≡ true }
+        ensures old { result ≡ at_entity self.old entity }
+        ensures new { self.new ≡ with_entity self.old entity slot }
+    {
+        match entity {
+            Entity::Participant => replace(&mut self.participant, slot),
+            Entity::Writer(number) => replace_number(&mut self.writers, number, slot),
+            Entity::Reader(number) => replace_number(&mut self.readers, number, slot),
+        }
+    }
+
+    /// Sets the listener of an entity, with the statuses that it is told of, and hands back the one that was set before;
+    /// `None` takes the listener away. It takes no memory.
+    ///
+    /// DDS 1.4, 2.2.2.1 (Entity: set_listener).
+    ///
+    /// # Errors
+    ///
+    /// `BadParameter` for an entity that there isn't, else `PreconditionNotMet` for a listener that keeps notices already.
+    /// The listener is handed back with the code.
+    pub fn set(
+        &mut self,
+        entity: Entity,
+        mask: StatusMask,
+        listener: Option<L>,
+    ) -> Result<Option<L>, (Code, Option<L>)>
+        // It is set, and the one of before is handed back with the last notices that it was told of.
+        ensures ok { IfOk result (λ back. Sets L.notices L.capacity self.old entity mask listener back self.new) }
+        // A refusal is for its cause.
+        ensures refused { IfErr result (λ e. listener_refusal L.notices self.old entity listener ≡ Some e.0) }
+        // A refused listener is handed back.
+        ensures back { IfErr result (λ e. e.1 ≡ listener) }
+        // A refusal changes nothing.
+        ensures err { OnErr result (self.new ≡ self.old) }
+    {
+        if !self.has(entity) {
+            return Err((Code::BadParameter, listener));
+        }
+        if !is_fresh(&listener) {
+            return Err((Code::PreconditionNotMet, listener));
+        }
+        Ok(listener_of(self.put(entity, slot_of(mask, listener))))
+    }
+}
