@@ -140,7 +140,7 @@ deadly_before olds news now i k alike at dies =
     }
 
 -- what lies before the next index, and is not this one, lies before it
-below : (i index : ℕ) → i < index + 1 → (i ≡ index → ⊥) → i < index
+pub below : (i index : ℕ) → i < index + 1 → (i ≡ index → ⊥) → i < index
 below i index lt other = by (nat_lt i index) refl
   where
     by : (b : Bool) → nat_lt i index ≡ b → i < index

@@ -1,6 +1,6 @@
 -- A peer with the filters of its application: how it opens, steps, and has a filter more.
-use Rattle.std.proofs.Common.{◌≡◌, ℕ, zero, suc, ◌+◌, List, [], ◌∷◌, ◌++◌, Some, None, Result, Ok, Err, length, length-append, arith, ap, sym, ◌∙◌, refl, subst}
-use Rattle.std.specs.Prelude.{OnOk, IfOk, IfErr, Option}
+use Rattle.std.proofs.Common.{◌≡◌, ℕ, ◌+◌, List, [], ◌∷◌, ◌++◌, Some, None, length, length-append, arith, ap, sym, ◌∙◌, refl, subst}
+use Rattle.std.specs.Prelude.{Option}
 use Rattle.dds_base.specs.declared.code.Code.{Code}
 use Rattle.dds_base.specs.declared.code.Code.TheVariants.{Memory}
 use Rattle.dds_base.specs.declared.config.Config.{Config}
@@ -9,13 +9,12 @@ use Rattle.dds_conditions.specs.Watched.{Watched, filter_refusal, with_filter}
 use Rattle.dds_model.specs.declared.event.Event.{Event}
 use Rattle.dds_model.specs.declared.event.Output.{Output}
 use Rattle.dds_model.specs.Filters.{peer_with_filter}
-use Rattle.dds_model.specs.Peer.{Peer}
 use Rattle.dds_model.specs.Watching.{Tests}
 use Rattle.dds_model.proofs.FiltersKept.{keeps_filters, opens_no_filters}
 use Rattle.dds_core.specs.Kept.{PeerKept}
-use Rattle.dds_core.specs.Filtering.{Adds, CoreKept, RefusesFilter, StandsFor, Steps}
+use Rattle.dds_core.specs.Filtering.{Adds, FilteredKept, RefusesFilter, StandsFor, Steps}
 use Rattle.dds_core.specs.Opening.{opening_peer}
-use Rattle.dds_core.specs.Standing.{IsSound, SoundStepsBy, StandsFor as PeerStandsFor}
+use Rattle.dds_core.specs.Standing.{SoundStepsBy, StandsFor as PeerStandsFor}
 use Rattle.dds_core.proofs.Watched.{watches}
 
 -- a peer without filters, at its opening
@@ -24,7 +23,7 @@ pub opens : {F : Type 0} (kept : PeerKept) (filters : List F) (config : Config) 
 opens kept filters config n s none = record { stands = s; filters = opens_no_filters config n ∙ ap (λ fs. length fs) (sym none) }
 
 -- a step adds no filter
-pub steps : {F : Type 0} (tests : Tests) (old : CoreKept F) (ev : Event) (output : Output) (new : PeerKept) → SoundStepsBy tests old.peer ev output new
+pub steps : {F : Type 0} (tests : Tests) (old : FilteredKept F) (ev : Event) (output : Output) (new : PeerKept) → SoundStepsBy tests old.peer ev output new
     → Steps tests old ev output (record { peer = new; filters = old.filters })
 steps tests old ev output new h = record {
   step = λ config peer s sound.
@@ -34,7 +33,7 @@ steps tests old ev output new h = record {
 }
 
 -- one filter more
-pub adds : {F : Type 0} (old : CoreKept F) (filter : F) (number : ℕ) (new : PeerKept) (filters : List F) → filter_refusal old.peer.watch ≡ None → number ≡ old.peer.watch.filters + 1
+pub adds : {F : Type 0} (old : FilteredKept F) (filter : F) (number : ℕ) (new : PeerKept) (filters : List F) → filter_refusal old.peer.watch ≡ None → number ≡ old.peer.watch.filters + 1
     → new ≡ record old.peer { watch = with_filter old.peer.watch } → filters ≡ old.filters ++ filter ∷ [] → Adds old filter number (record { peer = new; filters = filters })
 adds old filter number new filters left is kept more = record {
   filters = more;
@@ -54,9 +53,9 @@ adds old filter number new filters left is kept more = record {
 }
 
 -- no number is left
-pub no_number : {F : Type 0} (old : CoreKept F) (code : Code) → filter_refusal old.peer.watch ≡ Some code → RefusesFilter old code
+pub no_number : {F : Type 0} (old : FilteredKept F) (code : Code) → filter_refusal old.peer.watch ≡ Some code → RefusesFilter old code
 no_number old code none config peer s = subst (λ (o : Option Code). Refuses o code) (sym (ap (λ (w : Watched). filter_refusal w) s.stands.watch ∙ none)) refl
 
 -- no memory is left for it
-pub no_room : {F : Type 0} (old : CoreKept F) → filter_refusal old.peer.watch ≡ None → RefusesFilter old Memory
+pub no_room : {F : Type 0} (old : FilteredKept F) → filter_refusal old.peer.watch ≡ None → RefusesFilter old Memory
 no_room old left config peer s = subst (λ (o : Option Code). Refuses o Memory) (sym (ap (λ (w : Watched). filter_refusal w) s.stands.watch ∙ left)) refl

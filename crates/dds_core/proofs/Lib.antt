@@ -43,3 +43,7 @@ pub mod RowsAnswered
 pub mod Requesting
 pub mod Pairs
 pub mod Filtering
+pub mod Marked
+pub mod Results
+pub mod Notified
+pub mod Ended

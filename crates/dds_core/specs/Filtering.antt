@@ -15,19 +15,19 @@ use Rattle.dds_core.specs.Kept.{PeerKept}
 use Rattle.dds_core.specs.Standing.{IsSound, KeepsRules, StandsFor as PeerStandsFor}
 
 -- what a peer keeps, and the filters that were added to it, in their order
-pub record CoreKept (F : Type 0) : Type 0 where
+pub record FilteredKept (F : Type 0) : Type 0 where
   pub peer : PeerKept
   pub filters : List F
 
 -- a state of the peer for which this stands: it has as many filters, so that each has the number of its place, from 1
-pub record StandsFor {F : Type 0} (kept : CoreKept F) (config : Config) (peer : Peer) : Type 0 where
+pub record StandsFor {F : Type 0} (kept : FilteredKept F) (config : Config) (peer : Peer) : Type 0 where
   pub stands : PeerStandsFor kept.peer config peer
   pub filters : peer.part.dds.watch.filters ≡ length kept.filters
 
 -- For each state that the old values stand for, and of which all that is known was claimed, the event is a step by what the
 -- filters mean to one that the new values stand for, and of which all that is known was claimed; a delivery follows the rules
 -- of the protocol. The filters stay.
-pub record Steps {F : Type 0} (tests : Tests) (old : CoreKept F) (event : Event) (output : Output) (new : CoreKept F) : Type 0 where
+pub record Steps {F : Type 0} (tests : Tests) (old : FilteredKept F) (event : Event) (output : Output) (new : FilteredKept F) : Type 0 where
   pub step : (config : Config) (peer : Peer) → StandsFor old config peer → IsSound config peer
       → (after : Peer) × PeerStep config tests peer event output after × StandsFor new config after × IsSound config after
       × KeepsRules config peer event output after
@@ -35,12 +35,12 @@ pub record Steps {F : Type 0} (tests : Tests) (old : CoreKept F) (event : Event)
 
 -- The filter is the last one. For each state that the old values stand for there is a number for it, and it is this one; the
 -- new values stand for that state with one filter more, and nothing else; and what it knows was claimed, if it was before.
-pub record Adds {F : Type 0} (old : CoreKept F) (filter : F) (number : ℕ) (new : CoreKept F) : Type 0 where
+pub record Adds {F : Type 0} (old : FilteredKept F) (filter : F) (number : ℕ) (new : FilteredKept F) : Type 0 where
   pub filters : new.filters ≡ old.filters ++ filter ∷ []
   pub adds : (config : Config) (peer : Peer) → StandsFor old config peer
       → (filter_refusal peer.part.dds.watch ≡ None) × (number ≡ length old.filters + 1) × StandsFor new config (peer_with_filter peer)
       × (IsSound config peer → IsSound config (peer_with_filter peer))
 
 -- for each state that the old values stand for, a filter is refused so: for want of a number, or else of memory
-abbrev pub RefusesFilter : {F : Type 0} → CoreKept F → Code → Type 0
+abbrev pub RefusesFilter : {F : Type 0} → FilteredKept F → Code → Type 0
 RefusesFilter old code = (config : Config) (peer : Peer) → StandsFor old config peer → Refuses (filter_refusal peer.part.dds.watch) code

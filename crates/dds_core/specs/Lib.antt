@@ -12,3 +12,5 @@ pub mod Pairs
 pub mod Expiring
 pub mod Watching
 pub mod Filtering
+pub mod Noticing
+pub mod Listening

@@ -1,62 +1,60 @@
-//! A peer with the filters of its application, and the one way in.
+//! A peer with the filters and the listeners of its application, and the one way in.
 
 ghost use Rattle.std.specs.Prelude.{◌≡◌, [], None, IfErr, IfOk, OnErr};
 ghost use Rattle.dds_base.specs.Refusal.{Refuses};
 ghost use Rattle.dds_conditions.specs.Filtered.{tests_of};
-ghost use Rattle.dds_model.specs.Part.{own_proxies, place_of};
-ghost use Rattle.dds_model.specs.Peer.{Peer as PeerState};
-ghost use Rattle.dds_base.specs.declared.config.Config.{Config as ConfigOf};
-ghost use Rattle.dds_core.specs.Filtering.{Adds, RefusesFilter, StandsFor, Steps};
+ghost use Rattle.dds_notices.specs.Listeners.{nobody};
+ghost use Rattle.dds_core.specs.Listening.{Adds, RefusesFilter, RefusesListener, Sets, StandsFor, Steps};
 ghost use Rattle.dds_core.specs.Opening.{core_refusal, opening_peer};
-ghost use Rattle.dds_core.specs.Pairs.{IsPair};
 ghost use Rattle.dds_core.specs.Sending.{AreMessages, Sends};
-ghost use Rattle.dds_core.specs.Standing.{SoundStepsBy, StandsFor as PeerStandsFor};
 
-use crate::pairing::Pair;
-use crate::peer::Peer;
-use dds_base::{Code, Config, Moment, Sn};
-use dds_conditions::{Filter, FilterList};
-use dds_model::{Endpoint, Event, Output};
+use crate::filtered_peer::FilteredPeer;
+use dds_base::{Code, Config, Entity};
+use dds_conditions::Filter;
+use dds_model::{Event, Output};
+use dds_notices::{Listener, Slots, StatusMask};
 use std::alloc::Global;
 use std::marker::Model;
 
-/// A peer, and the filters that its application handed it: boxes, unless `F` names a type of the application's own.
+/// A peer, with the filters and the listeners that its application handed it: boxes, unless `F` and `L` name types of the
+/// application's own.
 #[derive(Drop)]
-pub struct Core<F = Box<dyn Filter + Send>> {
-    peer: Peer,
-    filters: FilterList<F>,
+pub struct Core<F = Box<dyn Filter + Send>, L = Box<dyn Listener + Send>> {
+    filtered: FilteredPeer<F>,
+    listeners: Slots<L>,
 }
 
-impl<F> Model for Core<F> {
-    ghost use Rattle.dds_core.specs.Filtering.{CoreKept};
+impl<F, L> Model for Core<F, L> {
+    ghost use Rattle.dds_core.specs.Listening.{CoreKept};
 
-    ghost Value = { CoreKept F };
+    ghost Value = { CoreKept F L };
 
-    ghost view = { λ c. record { peer = c.peer; filters = c.filters } };
+    ghost view = { λ c. record { filtered = c.filtered; listeners = c.listeners } };
 }
 
-impl<F: Filter> Core<F> {
-    /// The peer of this number, at its opening, without filters. Its writers and readers are matched with those of equal
-    /// topic.
+impl<F: Filter, L: Listener> Core<F, L> {
+    /// The peer of this number, at its opening, without filters and listeners. Its writers and readers are matched with those
+    /// of equal topic. The room for all listeners that will be set is made here.
     ///
     /// # Errors
     ///
     /// The first of these: what `Config::check` answers; `BadParameter` where the configuration has no peer of this
     /// number; `Memory` where a growth was refused.
-    pub fn open(alloc: Global, config: &Config, peer: u8) -> Result<Core<F>, Code>
+    pub fn open(alloc: Global, config: &Config, peer: u8) -> Result<Core<F, L>, Code>
         // The peer stands for its opening in the configuration.
-        ensures opening { IfOk result (λ core. StandsFor core config.now (opening_peer config.now peer)) }
+        ensures opening { IfOk result (λ core. StandsFor (record { notices = L.notices; capacity = L.capacity }) core config.now (opening_peer config.now peer)) }
         // It has no filters.
-        ensures none { IfOk result (λ core. core.filters ≡ []) }
+        ensures none { IfOk result (λ core. core.filtered.filters ≡ []) }
         // Against what is opened there is no cause.
         ensures taken { IfOk result (λ core. core_refusal config.now.peers peer ≡ None) }
         // A refusal is by the first cause that there is, or for want of memory.
         ensures refused { IfErr result (Refuses (core_refusal config.now.peers peer)) }
     {
-        let peer = Peer::open(alloc, config, peer)?;
+        let filtered = FilteredPeer::open(alloc, config, peer)?;
+        let listeners = Slots::open(alloc, filtered.writers(), filtered.readers())?;
         Ok(Core {
-            peer,
-            filters: FilterList::new(alloc),
+            filtered,
+            listeners,
         })
     }
 
@@ -66,23 +64,31 @@ impl<F: Filter> Core<F> {
     /// bytes are. At a tick those whose lease is over die at the peer's readers, then its writers lose their liveliness
     /// whose own lease is over, and then HEARTBEATs are sent. What is refused changes nothing, but for `NoData`: an access
     /// that found nothing is entered.
+    /// At the end of an event each status that was raised in it is told, once, to the listener of its entity, or else to that
+    /// of the participant, and its flag is cleared, as by a look; where none takes it the flag stays. The writers come first,
+    /// in their order, then the readers, and the statuses of each by ascending bit.
     /// Packets go out for a change that was made and for an assertion, one for each peer with a matched reader, and at a tick
     /// for each writer, a HEARTBEAT for each peer with a reader that is behind; or they are counted in `unsent` for want of
     /// memory.
     ///
-    /// DDS 1.4, 2.2.2.4 and 2.2.2.5 (DataWriter, DataReader); RTPS 2.5, 8.4 (behaviour).
+    /// DDS 1.4, 2.2.2.4 and 2.2.2.5 (DataWriter, DataReader), 2.2.4.2 (listeners); RTPS 2.5, 8.4 (behaviour).
     pub fn step(&mut self, event: Event) -> Output
-        // For each state that the peer stands for, the event is a step, by what its filters mean, to one that it stands for
-        // afterwards; a delivered packet is taken up by the rules of the protocol, and what is due by them is sent.
-        ensures step { Steps (tests_of F.meaning self.old.filters) self.old event result self.new }
-        // The same of what it keeps beside the filters.
-        ensures peer { SoundStepsBy (tests_of F.meaning self.old.filters) self.old.peer event result self.new.peer }
+        // For each state that the peer stands for, the event is a step, by what its filters mean, whose end listeners are
+        // told of, to one that it stands for afterwards; a delivered packet is taken up by the rules of the protocol, and what
+        // is due by them is sent.
+        ensures step { Steps (record { notices = L.notices; capacity = L.capacity }) (tests_of F.meaning self.old.filtered.filters) self.old event result self.new }
         // What goes out at a call or a tick, and what is counted as unsent.
-        ensures sends { Sends self.old.peer event result }
+        ensures sends { Sends self.old.filtered.peer event result }
         // What goes out is the written form of a message.
         ensures messages { AreMessages result.packets }
     {
-        self.peer.step_by(&self.filters, event)
+        if !self.listeners.has_listeners() {
+            return self.filtered.step(event);
+        }
+        let marks = self.filtered.marks();
+        let output = self.filtered.step(event);
+        self.filtered.end(&mut self.listeners, &marks);
+        output
     }
 
     /// Adds a filter, by the next number, from 1: query conditions can name it from then on. What it answers is what it
@@ -96,56 +102,39 @@ impl<F: Filter> Core<F> {
     /// DDS 1.4, 2.2.2.5 (QueryCondition).
     pub fn add_filter(&mut self, filter: F) -> Result<u32, (Code, F)>
         // It is the last one, by the next number, and nothing else changes.
-        ensures ok { IfOk result (λ number. Adds self.old filter number self.new) }
+        ensures ok { IfOk result (λ number. Adds (record { notices = L.notices; capacity = L.capacity }) self.old filter number self.new) }
         // A refusal is for want of a number, exactly then, or for want of memory.
-        ensures refused { IfErr result (λ e. RefusesFilter self.old e.0) }
+        ensures refused { IfErr result (λ e. RefusesFilter (record { notices = L.notices; capacity = L.capacity }) self.old e.0) }
         // What is refused comes back, and changes nothing.
         ensures back { IfErr result (λ e. e.1 ≡ filter) }
         ensures err { OnErr result (self.new ≡ self.old) }
     {
-        if let Err(code) = self.peer.next_filter() {
-            return Err((code, filter));
-        }
-        if let Err(filter) = self.filters.add(filter) {
-            return Err((Code::Memory, filter));
-        }
-        match self.peer.add_filter() {
-            Ok(number) => Ok(number),
-            Err(_) => unreachable!(),
-        }
+        self.filtered.add_filter(filter)
     }
 
-    /// The peer's moment: 0, or that of the last tick that was done.
-    pub fn moment(&self) -> Moment
-        // It is the moment of each state that the peer stands for.
-        ensures moment { (config : ConfigOf) (peer : PeerState) → PeerStandsFor self.now.peer config peer
-            → result ≡ peer.part.dds.moment }
-    {
-        self.peer.moment()
-    }
-
-    /// The writer of this number and a reader, by their entity ids, whether the reader is behind, and the number of the
-    /// writer's last change; `None` where they are not matched, or where there are no such ends.
+    /// Sets the listener of an entity, with the statuses that it is told of, and hands back the one that was set before, with
+    /// the last notices that it was told; `None` takes the listener away. It takes no memory.
     ///
-    /// RTPS 2.5, 8.4.7 (StatefulWriter, matched_readers), 8.4.9 (ReaderProxy, unacked_changes).
-    pub fn pair(&self, writer: u8, reader: Endpoint) -> Option<Pair>
-        // They are matched exactly if a pair is found, and the ids are those of the configuration; the reader is behind
-        // exactly where it has not acknowledged some change, and the last number is how many changes the writer has made.
-        ensures pair { (config : ConfigOf) (peer : PeerState) → PeerStandsFor self.now.peer config peer
-            → IsPair config peer writer reader result }
-    {
-        self.peer.pair(writer, reader)
-    }
-
-    /// The place of the reader of this number at a writer: the number of the change that it has next, from 1; `None` where
-    /// they are not matched, or where there are no such ends.
+    /// # Errors
     ///
-    /// RTPS 2.5, 8.4.10 (StatefulReader, WriterProxy).
-    pub fn place(&self, reader: u8, writer: Endpoint) -> Option<Sn>
-        // It is the place in each state that the peer stands for, and there is one exactly if they are matched.
-        ensures place { (config : ConfigOf) (peer : PeerState) → PeerStandsFor self.now.peer config peer
-            → result ≡ place_of (own_proxies peer.part reader) writer }
+    /// `BadParameter` where there is no such entity, else `PreconditionNotMet` where the listener keeps notices already. It
+    /// comes back, and nothing changes.
+    ///
+    /// DDS 1.4, 2.2.2.1 (Entity, set_listener), 2.2.4.2 (listeners).
+    pub fn set_listener(
+        &mut self,
+        entity: Entity,
+        mask: StatusMask,
+        listener: Option<L>,
+    ) -> Result<Option<L>, (Code, Option<L>)>
+        // It is set, and nothing else changes; the one of before has kept the last ones of all that it was told.
+        ensures ok { IfOk result (λ handed. Sets (record { notices = L.notices; capacity = L.capacity }) self.old entity mask listener handed self.new) }
+        // A refusal is by the first cause that there is, exactly then.
+        ensures refused { IfErr result (λ e. RefusesListener (record { notices = L.notices; capacity = L.capacity }) self.old entity listener e.0) }
+        // What is refused comes back, and changes nothing.
+        ensures back { IfErr result (λ e. e.1 ≡ listener) }
+        ensures err { OnErr result (self.new ≡ self.old) }
     {
-        self.peer.place(reader, writer)
+        self.listeners.set(entity, mask, listener)
     }
 }

@@ -12,9 +12,12 @@ mod by_filter;
 mod calls;
 mod delivery;
 mod expiring;
+mod filtered_peer;
 mod heartbeat;
 mod limits;
+mod marks;
 mod matching;
+mod noticing;
 mod opening;
 mod output;
 mod pairing;
@@ -30,4 +33,5 @@ mod watching;
 mod writer_end;
 
 pub use application::Core;
+pub use filtered_peer::FilteredPeer;
 pub use pairing::Pair;

@@ -5,6 +5,8 @@
 ghost use Rattle.std.specs.Prelude.{◌≡◌, ◌↔◌, ◌<◌, ◌≤◌, ℕ, List, length, slice_get, None, Some, true, IsTrue, IfSome, IfNone, IfOk, IfErr, OnOk, IsOk, Ok, MatchOption};
 ghost use Rattle.dds_base.specs.Access.{instance_of, handle_of};
 ghost use Rattle.dds_base.specs.Checked.{check_refusal};
+ghost use Rattle.dds_base.specs.Liveliness.{liveliness_changed_status};
+ghost use Rattle.dds_base.specs.StatusFlags.{data_available_at};
 ghost use Rattle.dds_base.specs.declared.code.Code.TheVariants.{Memory};
 ghost use Rattle.dds_base.specs.declared.happening.Happening.{Happening};
 ghost use Rattle.dds_base.specs.declared.happening.Happening.TheVariants.{Read, Took};
@@ -12,13 +14,17 @@ ghost use Rattle.rtps_wire.specs.declared.submessage.Submessage.TheVariants as s
 ghost use Rattle.rtps_reader.specs.Answer.{IsSayable};
 ghost use Rattle.rtps_reader.specs.Tracked.{Tracked};
 ghost use Rattle.dds_core.specs.Expiring.{Expires, HasRoomForDeaths, IsDeadly};
+ghost use Rattle.dds_core.specs.Kept.{reader_identity};
+ghost use Rattle.dds_core.specs.Noticing.{MarksReader, RaisesSo, SeesStatus};
 ghost use Rattle.dds_core.specs.Opening.{OpensReader};
 ghost use Rattle.dds_core.specs.Receiving.{receiver_at, IsFirstName, IsNamedFor, NamedBy, NamesNobody, IsToldBy, HasMemory, IsReadyFor, IsAlike, CanTake, TakesTold, SameReader, TakesOnly, TellsFlags, TellsLost, TellsLiveliness, TellsMatch, IsPlaceAt};
 ghost use Rattle.dds_core.specs.Stored.{Holds};
 ghost use Rattle.dds_cache.specs.Standing.{qos_of, AnswersWith, AfterAccessWith};
 ghost use Rattle.dds_model.specs.Claims.{is_for, Names};
+ghost use Rattle.dds_model.specs.Noticing.{data_raised, lost_raised, turn_raised};
 
 use crate::limits::limit_of;
+use crate::marks::ReaderMark;
 use crate::matching::{MatchedWriters, WriterName, matched_writers};
 use crate::receiver::{MessageReceiver, is_for};
 use crate::seen::Seen;
@@ -30,7 +36,7 @@ use dds_base::{
     PeerConfig, ReaderConfig, ReaderQos, Sample, SampleLostStatus, Selection, Sequence, Sn,
 };
 use dds_cache::Test;
-use dds_notices::StatusMask;
+use dds_notices::{Status, StatusMask};
 use rtps_reader::{HeartbeatSeen, StatefulReader, Step};
 use rtps_sets::SnSet;
 use rtps_wire::{Data, Gap, Heartbeat, Submessage};
@@ -436,6 +442,19 @@ impl ReaderEnd {
         self.store.lookup(key)
     }
 
+    /// How many changes were passed over, in all and since the last look.
+    ///
+    /// DDS 1.4, 2.2.4.1 (SampleLostStatus).
+    fn sample_lost(&self) -> SampleLostStatus
+        ensures { TellsLost self.now result }
+    {
+        let total_count = self.store.lost();
+        SampleLostStatus {
+            total_count,
+            total_count_change: total_count.saturating_sub(self.seen.lost),
+        }
+    }
+
     /// Looks at how many changes were passed over, in all and since the last look.
     ///
     /// DDS 1.4, 2.2.2.5 (get_sample_lost_status).
@@ -443,12 +462,27 @@ impl ReaderEnd {
         ensures status { TellsLost self.old result }
         ensures seen { self.new ≡ record self.old { seen = record self.old.seen { lost = result.total_count } } }
     {
-        let total_count = self.store.lost();
-        let total_count_change = total_count.saturating_sub(self.seen.lost);
-        self.seen.lost = total_count;
-        SampleLostStatus {
-            total_count,
-            total_count_change,
+        let status = self.sample_lost();
+        self.seen.lost = status.total_count;
+        status
+    }
+
+    /// How many matched writers are alive, and how many are not alive, now and against the last look.
+    ///
+    /// DDS 1.4, 2.2.4.1 (LivelinessChangedStatus).
+    fn liveliness_changed(&self) -> LivelinessChangedStatus
+        ensures { (h : List Happening) → Holds self.now.store h
+            → result ≡ liveliness_changed_status (qos_of self.now.store.cache) h self.now.seen.alive self.now.seen.not_alive }
+    {
+        let leases = self.store.leases();
+        let alive = leases.alive_count() as i32;
+        let not_alive = leases.not_alive_count() as i32;
+        LivelinessChangedStatus {
+            alive_count: alive,
+            not_alive_count: not_alive,
+            alive_count_change: alive - i32::from(self.seen.alive),
+            not_alive_count_change: not_alive - i32::from(self.seen.not_alive),
+            last_publication_handle: leases.last_turned(),
         }
     }
 
@@ -459,20 +493,91 @@ impl ReaderEnd {
         ensures status { TellsLiveliness self.old result self.new.seen }
         ensures seen { self.new ≡ record self.old { seen = self.new.seen } }
     {
+        let status = self.liveliness_changed();
         let leases = self.store.leases();
-        let alive = leases.alive_count() as u16;
-        let not_alive = leases.not_alive_count() as u16;
-        let status = LivelinessChangedStatus {
-            alive_count: i32::from(alive),
-            not_alive_count: i32::from(not_alive),
-            alive_count_change: i32::from(alive) - i32::from(self.seen.alive),
-            not_alive_count_change: i32::from(not_alive) - i32::from(self.seen.not_alive),
-            last_publication_handle: leases.last_turned(),
-        };
-        self.seen.alive = alive;
-        self.seen.not_alive = not_alive;
+        self.seen.alive = leases.alive_count() as u16;
+        self.seen.not_alive = leases.not_alive_count() as u16;
         self.seen.turned = self.store.turned();
         status
+    }
+
+    /// What its statuses say before an event.
+    pub fn mark(&self) -> ReaderMark
+        ensures { MarksReader self.now result }
+    {
+        ReaderMark {
+            lost: self.store.lost(),
+            happened: self.store.happened(),
+        }
+    }
+
+    /// SAMPLE_LOST, if changes were passed over since this mark.
+    ///
+    /// DDS 1.4, 2.2.4.1 (SAMPLE_LOST).
+    pub fn lost_raised(&self, mark: &ReaderMark) -> Option<Status>
+        ensures { RaisesSo lost_raised self.now mark.now result }
+    {
+        if mark.lost < self.store.lost() {
+            Some(Status::SampleLost(self.sample_lost()))
+        } else {
+            None
+        }
+    }
+
+    /// DATA_AVAILABLE, if a sample came since this mark.
+    ///
+    /// DDS 1.4, 2.2.4.1 (DATA_AVAILABLE).
+    pub fn data_raised(&self, mark: &ReaderMark) -> Option<Status>
+        ensures { RaisesSo data_raised self.now mark.now result }
+    {
+        if mark.happened < self.store.data_at() {
+            Some(Status::DataAvailable)
+        } else {
+            None
+        }
+    }
+
+    /// LIVELINESS_CHANGED, if a writer became alive, or not alive, since this mark.
+    ///
+    /// DDS 1.4, 2.2.4.1 (LIVELINESS_CHANGED).
+    pub fn turn_raised(&self, mark: &ReaderMark) -> Option<Status>
+        ensures { RaisesSo turn_raised self.now mark.now result }
+    {
+        if mark.happened < self.store.turned() {
+            Some(Status::LivelinessChanged(self.liveliness_changed()))
+        } else {
+            None
+        }
+    }
+
+    /// Looks at whether a sample came: DATA_AVAILABLE is no longer flagged.
+    ///
+    /// DDS 1.4, 2.2.4.2.2 (changes in read communication statuses).
+    fn see_data(&mut self)
+        ensures seen { self.new ≡ record self.old { seen = record self.old.seen { brought = self.new.seen.brought } } }
+        ensures at { (h : List Happening) → Holds self.old.store h
+            → self.new.seen.brought ≡ data_available_at (qos_of self.old.store.cache) h }
+    {
+        self.seen.brought = self.store.data_at();
+    }
+
+    /// The status was looked at: it is no longer flagged, and its changes count from now on.
+    ///
+    /// DDS 1.4, 2.2.4.2.1, 2.2.4.2.2 (changes in status).
+    pub fn see(&mut self, status: &Status)
+        ensures sees { SeesStatus self.old status.now self.new }
+        ensures same { reader_identity self.new ≡ reader_identity self.old }
+    {
+        match status {
+            Status::SampleLost(_) => {
+                let _ = self.get_sample_lost();
+            }
+            Status::DataAvailable => self.see_data(),
+            Status::LivelinessChanged(_) => {
+                let _ = self.get_liveliness_changed();
+            }
+            Status::LivelinessLost(_) => {}
+        }
     }
 
     /// Which of its statuses are flagged.
@@ -482,7 +587,7 @@ impl ReaderEnd {
         ensures { TellsFlags self.now result }
     {
         let lost = bit_if(self.seen.lost < self.store.lost(), SAMPLE_LOST);
-        let data = bit_if(self.store.has_data(), DATA_AVAILABLE);
+        let data = bit_if(self.seen.brought < self.store.data_at(), DATA_AVAILABLE);
         let turned = bit_if(self.seen.turned < self.store.turned(), LIVELINESS_CHANGED);
         StatusMask::from_bits_retain(lost + (data + turned))
     }

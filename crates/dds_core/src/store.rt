@@ -2,7 +2,7 @@
 //!
 //! RTPS 2.5, 8.2 (HistoryCache of a reader); DDS 1.4, 2.2.3 (RESOURCE_LIMITS, LIVELINESS).
 
-ghost use Rattle.std.specs.Prelude.{◌≡◌, ◌≤◌, ℕ, List, [], nat_lt, if◌then◌else◌, IfOk, IfErr, OnOk, length};
+ghost use Rattle.std.specs.Prelude.{◌≡◌, ◌≤◌, ℕ, List, [], if◌then◌else◌, IfOk, IfErr, OnOk, length};
 ghost use Rattle.dds_base.specs.declared.code.Code.TheVariants.{Memory};
 ghost use Rattle.dds_base.specs.declared.happening.Happening.{Happening};
 ghost use Rattle.dds_base.specs.declared.happening.Happening.TheVariants.{Read, Took};
@@ -109,13 +109,20 @@ impl Store {
         self.turned
     }
 
-    /// Whether a sample came since the last read or take.
+    /// The position of the newest entry that brought a sample, if no read or take has followed it; 0 for none.
     ///
     /// DDS 1.4, 2.2.4.1 (DATA_AVAILABLE).
-    pub fn has_data(&self) -> bool
-        ensures { (h : List Happening) → Holds self.now h → result ≡ nat_lt 0 (data_available_at (qos_of self.now.cache) h) }
+    pub fn data_at(&self) -> u64
+        ensures { (h : List Happening) → Holds self.now h → result ≡ data_available_at (qos_of self.now.cache) h }
     {
-        0 < self.cache.data_at()
+        self.cache.data_at()
+    }
+
+    /// How many entries were taken up.
+    pub fn happened(&self) -> u64
+        ensures { (h : List Happening) → Holds self.now h → result ≡ length h }
+    {
+        self.cache.happened()
     }
 
     /// Whether some present sample meets the masks and passes the test.

@@ -16,6 +16,7 @@ ghost use Rattle.dds_core.specs.declared.matching.ReaderName.{ReaderName as Name
 ghost use Rattle.dds_core.specs.Answering.{HasRoom, AreRooms, TakesAckNack};
 ghost use Rattle.dds_core.specs.Beating.{BeatsOf, BeatsOfAll, HasNoCount, TellsOf};
 ghost use Rattle.dds_core.specs.Kept.{writer_identity};
+ghost use Rattle.dds_core.specs.Noticing.{MarksWriter};
 ghost use Rattle.dds_core.specs.Opening.{OpensWriter};
 ghost use Rattle.dds_core.specs.Receiving.{receiver_at};
 ghost use Rattle.dds_core.specs.Sending.{AreMessages};
@@ -149,6 +150,25 @@ impl WriterEnd {
         } else {
             ChangeKind::Unregister
         }
+    }
+
+    /// How often its liveliness was lost, in all and since the last look.
+    ///
+    /// DDS 1.4, 2.2.4.1 (LivelinessLostStatus).
+    pub fn liveliness_lost(&self) -> LivelinessLostStatus
+        ensures { (w : Writer) (answered : EndpointOf → Option ℤ) → WriterStands self.now w answered
+            → result ≡ liveliness_lost_status w.lease w.written }
+    {
+        self.writer.liveliness_status()
+    }
+
+    /// How often its liveliness was lost.
+    ///
+    /// DDS 1.4, 2.2.4.1 (LIVELINESS_LOST).
+    pub fn losses(&self) -> u64
+        ensures { MarksWriter self.now result }
+    {
+        self.liveliness_lost().total_count
     }
 
     /// Looks at how often its liveliness was lost, in all and since the last look.

@@ -59,4 +59,5 @@ pub mod PairNamed
 pub mod PairFound
 pub mod Compared
 pub mod FiltersKept
+pub mod AtEnds
 pub mod SameBeside

@@ -1,13 +1,12 @@
 -- Networks that differ in what the peers' own calls see, and in nothing else: what holds of what was sent and of lists and
 -- places holds of both.
-use Rattle.std.proofs.Common.{◌≡◌, ℕ, ◌≤◌, Option, List, [], map, length, refl, subst, ap, sym, ◌∙◌, ⊎_elim, arith}
-use Rattle.std.specs.Prelude.{ℤ, pos, ◌≤ℤ◌, Contains}
-use Rattle.std.proofs.lemmas.List.{length-map}
+use Rattle.std.proofs.Common.{◌≡◌, ℕ, Option, List, [], map, length, refl, subst, ap, sym, ◌∙◌, ⊎_elim, arith}
+use Rattle.std.specs.Prelude.{pos, ◌≤ℤ◌, Contains}
 use Rattle.dds_base.specs.declared.config.Config.{Config}
 use Rattle.dds_model.specs.declared.endpoint.Endpoint.{Endpoint}
 use Rattle.dds_model.specs.declared.event.Packet.{Packet}
 use Rattle.dds_model.specs.Numbered.{numbered, with_numbered, HasNumber}
-use Rattle.dds_model.specs.Part.{Part, Rtps, Writer, ReaderProxy, WriterProxy, no_writer, own_writer, heartbeats_used, place_of, acknowledged_of, writer_changes, NoLess}
+use Rattle.dds_model.specs.Part.{Part, Rtps, Writer, ReaderProxy, no_writer, heartbeats_used, place_of, acknowledged_of, writer_changes, NoLess}
 use Rattle.dds_model.specs.Protocol.{Known}
 use Rattle.dds_model.specs.Peer.{Peer, Delivery, no_peer}
 use Rattle.dds_model.specs.Bounds.{IsBounded}

@@ -15,6 +15,7 @@ use Rattle.dds_base.specs.Written.{Written, Changed}
 use Rattle.dds_base.specs.declared.happening.PassedRun.{PassedRun}
 use Rattle.dds_base.specs.Places.{WriterGrounds, Match, Position, Comes, AllCome, Passes, IsApart, GoesTo}
 use Rattle.dds_conditions.specs.Watched.{opened as nothing_watched}
+use Rattle.dds_notices.specs.Listeners.{nobody}
 use Rattle.dds_model.specs.declared.reply.Move.{Move}
 use Rattle.dds_model.specs.declared.reply.Move.TheVariants.{Place}
 use Rattle.dds_model.specs.declared.reply.Reply.TheVariants.{Reported}
@@ -40,13 +41,13 @@ writing policy max_samples happened acknowledged =
     record { policy = policy; max_samples = max_samples; lease = None; autodispose = true; written = happened; readers = record { reader = r1; acknowledged = acknowledged } ∷ [] }
 
 abbrev pub part_1 : Writer → Part
-part_1 w = record { rtps = record { writers = w ∷ []; readers = [] }; dds = record { moment = 0; readers = []; watch = nothing_watched 1 0 } }
+part_1 w = record { rtps = record { writers = w ∷ []; readers = [] }; dds = record { moment = 0; readers = []; watch = nothing_watched 1 0; listeners = nobody 1 0 } }
 
 -- r1 at this place, with the count by which it heard w1 last, and what happened there
 abbrev pub part_2 : ℕ → Option ℤ → List Happening → Part
 part_2 place heard happened = record {
   rtps = record { writers = []; readers = (record { writer = w1; place = place; heard = heard } ∷ []) ∷ [] };
-  dds = record { moment = 0; readers = record { qos = reader_qos (pair KeepAll).peers (reader r1_id 0); happened = happened; seen = nothing_seen } ∷ []; watch = nothing_watched 0 1 };
+  dds = record { moment = 0; readers = record { qos = reader_qos (pair KeepAll).peers (reader r1_id 0); happened = happened; seen = nothing_seen } ∷ []; watch = nothing_watched 0 1; listeners = nobody 0 1 };
 }
 
 abbrev pub machine : Writer → Part → Machine

@@ -17,6 +17,7 @@ use Rattle.rtps_wire.specs.declared.data.DataContent.TheVariants.{Write}
 use Rattle.rtps_wire.specs.declared.submessage.Submessage.{Submessage}
 use Rattle.rtps_wire.specs.declared.submessage.Submessage.TheVariants.{InfoDst, InfoTs, Data}
 use Rattle.dds_conditions.specs.Watched.{opened as nothing_watched}
+use Rattle.dds_notices.specs.Listeners.{nobody}
 use Rattle.dds_model.specs.declared.endpoint.Endpoint.{Endpoint}
 use Rattle.dds_model.specs.declared.reply.Move.{Move}
 use Rattle.dds_model.specs.declared.reply.Move.TheVariants.{Place, Acknowledged}
@@ -241,7 +242,7 @@ taken_up-not_excused_by_3 new h = taken_up-must_move (Some 3) new (λ e. omega (
 -- a reader that takes up to one sample has no room for the second change while the first is present, so the place need not move
 abbrev limited : List Happening → Part
 limited happened = record (part_2 2 None []) {
-  dds = record { moment = 0; readers = record { qos = record (own_reader begun 1).qos { max_samples = Some 1 }; happened = happened; seen = nothing_seen } ∷ []; watch = nothing_watched 0 1 };
+  dds = record { moment = 0; readers = record { qos = record (own_reader begun 1).qos { max_samples = Some 1 }; happened = happened; seen = nothing_seen } ∷ []; watch = nothing_watched 0 1; listeners = nobody 0 1 };
 }
 
 abbrev full : Part

@@ -3,7 +3,7 @@
 --
 -- DDS 1.4, 2.2.2.4 (register_instance, write, dispose, unregister_instance, assert_liveliness, get_liveliness_lost_status),
 -- 2.2.2.5 (the forms of read and take, get_key_value, lookup_instance, get_sample_lost_status, get_liveliness_changed_status), 2.2.1.1 (return codes).
-use Rattle.std.specs.Prelude.{◌≡◌, ◌≢◌, ◌⊎◌, ℕ, ◌+◌, ◌-◌, ◌^◌, ◌&&◌, ◌||◌, not, Bool, true, false, List, [], ◌∷◌, map, length, Option, Some, None, is_some, nat_le, nat_lt, if◌then◌else◌}
+use Rattle.std.specs.Prelude.{◌≡◌, ◌≢◌, ◌⊎◌, ℕ, ◌+◌, ◌-◌, ◌^◌, ◌||◌, not, Bool, true, false, List, [], ◌∷◌, map, length, Option, Some, None, is_some, nat_le, nat_lt, if◌then◌else◌}
 use Rattle.std.specs.List.{list_any}
 use Rattle.dds_base.specs.declared.key.Key.{Key}
 use Rattle.dds_base.specs.declared.change.Change.{Change}

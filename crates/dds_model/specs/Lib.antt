@@ -22,3 +22,4 @@ pub mod Fresh
 pub mod CatchUp
 pub mod Repair
 pub mod Filters
+pub mod Noticing

@@ -1,6 +1,6 @@
 -- The machine without packets: each writer is a list of changes, and each matched reader has a place in it that goes over
 -- changes which come, and passes over those alone that the writer's history had dropped.
-use Rattle.std.specs.Prelude.{◌≡◌, ◌⊎◌, ℕ, ◌<◌, ◌≤◌, true, false, List, Option, Some}
+use Rattle.std.specs.Prelude.{◌≡◌, ◌⊎◌, ℕ, ◌<◌, ◌≤◌, true, List, Option, Some}
 use Rattle.dds_base.specs.declared.code.Code.TheVariants.{BadParameter}
 use Rattle.dds_base.specs.Kept.{change_at, is_dropped}
 use Rattle.dds_model.specs.declared.endpoint.Endpoint.{Endpoint}

@@ -8,6 +8,7 @@ use Rattle.dds_base.specs.declared.config.ReaderConfig.{ReaderConfig}
 use Rattle.dds_base.specs.declared.qos.MatchedWriter.{MatchedWriter}
 use Rattle.dds_base.specs.declared.qos.ReaderQos.{ReaderQos}
 use Rattle.dds_conditions.specs.Watched.{opened as nothing_watched}
+use Rattle.dds_notices.specs.Listeners.{nobody}
 use Rattle.dds_base.specs.Matched.{of_writers_in, of_matched_writers, of_readers_in, of_matched_readers}
 use Rattle.dds_model.specs.Part.{ReaderProxy, WriterProxy, Writer, Part, nothing_seen}
 use Rattle.dds_base.specs.Checked.{limit_of}
@@ -50,6 +51,7 @@ opening_part peers p = record {
     moment = 0;
     readers = map (λ (r : ReaderConfig). record { qos = reader_qos peers r; happened = []; seen = nothing_seen }) p.readers;
     watch = nothing_watched (length p.writers) (length p.readers);
+    listeners = nobody (length p.writers) (length p.readers);
   };
 }
 

@@ -14,6 +14,7 @@ use Rattle.dds_base.specs.declared.qos.ReaderQos.{ReaderQos}
 use Rattle.dds_base.specs.Written.{Written, changes_of, counts_of}
 use Rattle.dds_base.specs.Kept.{WriterHistory}
 use Rattle.dds_conditions.specs.Watched.{Watched, opened as nothing_watched}
+use Rattle.dds_notices.specs.Listeners.{Places, nobody}
 use Rattle.dds_model.specs.declared.endpoint.Endpoint.{Endpoint}
 use Rattle.dds_model.specs.Numbered.{numbered, with_numbered}
 
@@ -48,17 +49,19 @@ pub record Rtps : Type 0 where
   pub writers : List Writer
   pub readers : List (List WriterProxy)
 
--- what a reader's statuses said when each was looked at last: the total of SAMPLE_LOST; and by LIVELINESS_CHANGED how many
--- matched writers were alive and not alive, and where the newest entry stood that had changed that (DDS 1.4, 2.2.4.1)
+-- what a reader's statuses said when each was looked at last, by a call or as a listener was told: the total of SAMPLE_LOST;
+-- by DATA_AVAILABLE where the newest entry stood that had brought a sample; and by LIVELINESS_CHANGED how many matched writers
+-- were alive and not alive, and where the newest entry stood that had changed that (DDS 1.4, 2.2.4.1)
 pub record Seen : Type 0 where
   pub lost : ℕ
+  pub brought : ℕ
   pub alive : ℕ
   pub not_alive : ℕ
   pub turned : ℕ
 
 -- before the first looks
 abbrev pub nothing_seen : Seen
-nothing_seen = record { lost = 0; alive = 0; not_alive = 0; turned = 0 }
+nothing_seen = record { lost = 0; brought = 0; alive = 0; not_alive = 0; turned = 0 }
 
 -- a reader as its own calls see it: its QoS, what happened there, the newest first, and what was seen of its statuses
 pub record Reader : Type 0 where
@@ -66,11 +69,12 @@ pub record Reader : Type 0 where
   pub happened : List Happening
   pub seen : Seen
 
--- a peer's moment, its readers, and what its application watches
+-- a peer's moment, its readers, what its application watches, and the places of its listeners
 pub record Dds : Type 0 where
   pub moment : ℕ
   pub readers : List Reader
   pub watch : Watched
+  pub listeners : Places
 
 pub record Part : Type 0 where
   pub rtps : Rtps
@@ -83,7 +87,7 @@ abbrev pub no_reader : Reader
 no_reader = record { qos = record { ownership = Shared; history = KeepAll; max_samples = None; max_instances = None; writers = [] }; happened = []; seen = nothing_seen }
 
 abbrev pub no_part : Part
-no_part = record { rtps = record { writers = []; readers = [] }; dds = record { moment = 0; readers = []; watch = nothing_watched 0 0 } }
+no_part = record { rtps = record { writers = []; readers = [] }; dds = record { moment = 0; readers = []; watch = nothing_watched 0 0; listeners = nobody 0 0 } }
 
 -- a peer's own writer and reader, by their numbers
 abbrev pub own_writer : Part → ℕ → Writer

@@ -1,7 +1,7 @@
 -- The statuses that are flagged, the trigger values of conditions, and what an access by a condition asks for.
 --
 -- DDS 1.4, 2.2.2.1 (get_status_changes, get_trigger_value), 2.2.2.5 (ReadCondition), 2.2.4.2 (changes in status).
-use Rattle.std.specs.Prelude.{ℕ, ◌+◌, Bool, false, ◌&&◌, ◌||◌, ◌==◌, not, nat_le, nat_lt, List, length, Option, Some, None, is_some, if◌then◌else◌}
+use Rattle.std.specs.Prelude.{ℕ, ◌+◌, Bool, false, ◌&&◌, ◌||◌, ◌==◌, not, nat_lt, List, Option, Some, None, is_some, if◌then◌else◌}
 use Rattle.std.specs.Int.RustNames.{bit_and}
 use Rattle.dds_base.specs.declared.code.Code.{Code}
 use Rattle.dds_base.specs.declared.code.Code.TheVariants.{BadParameter, PreconditionNotMet}
@@ -32,9 +32,9 @@ use Rattle.dds_model.specs.Part.{Part, Reader, Writer, own_reader, own_writer}
 abbrev pub is_lost_flagged : Reader → Bool
 is_lost_flagged r = nat_lt r.seen.lost (lost_count r.happened)
 
--- a sample came since the last read or take
+-- a sample came since the last read or take, and no listener was told of it
 abbrev pub is_data_flagged : Reader → Bool
-is_data_flagged r = nat_lt 0 (data_available_at r.qos r.happened)
+is_data_flagged r = nat_lt r.seen.brought (data_available_at r.qos r.happened)
 
 -- a writer became alive, or not alive, since LIVELINESS_CHANGED was looked at
 abbrev pub is_turn_flagged : Reader → Bool

@@ -21,7 +21,7 @@ use Rattle.dds_model.proofs.Opened.{opens_sound}
 use Rattle.dds_model.proofs.OpenedPeers.{opens_known}
 use Rattle.dds_core.specs.Kept.{PeerKept}
 use Rattle.dds_core.specs.Opening.{core_refusal, opening_peer}
-use Rattle.dds_core.specs.Filtering.{CoreKept, StandsFor as CoreStands}
+use Rattle.dds_core.specs.Filtering.{FilteredKept, StandsFor as CoreStands}
 use Rattle.dds_core.specs.Standing.{StandsFor as PeerStandsFor}
 use Rattle.dds_model.proofs.FiltersKept.{opens_no_filters_at}
 use Rattle.dds_world.specs.Holding.{Held, filters_of, kept_of}
@@ -90,9 +90,9 @@ memory_refuses peers none = subst (λ (o : Option Code). Refuses o Memory) (sym 
 
 -- the peers, one after the other
 
-pub opens_none : {F : Type 0} (config : Config) (kept : List (CoreKept F)) → kept ≡ [] → OpensFirst config 0 kept
+pub opens_none : {F : Type 0} (config : Config) (kept : List (FilteredKept F)) → kept ≡ [] → OpensFirst config 0 kept
 opens_none {F} config kept none =
-    subst (λ (ks : List (CoreKept F)). OpensFirst config 0 ks) (sym none)
+    subst (λ (ks : List (FilteredKept F)). OpensFirst config 0 ks) (sym none)
     (record { counted = refl; each = λ i k at. absurd cc; none = λ i k at. absurd cc; taken = λ low. absurd (omega (arith, low)) })
 
 -- an element of a list with one more at its end
@@ -102,25 +102,25 @@ at_end [] y (suc j) x at = absurd cc
 at_end (z ∷ zs) y zero x at = inl at
 at_end (z ∷ zs) y (suc j) x at = ⊎_elim (λ e. inl e) (λ e. inr (ap suc e.0, e.1)) (at_end zs y j x at)
 
-pub opens_more : {F : Type 0} (config : Config) (i n : ℕ) (old new : List (CoreKept F)) (core : CoreKept F) → n ≡ i + 1 → OpensFirst config i old → CoreStands core config (opening_peer config n) → core.filters ≡ []
+pub opens_more : {F : Type 0} (config : Config) (i n : ℕ) (old new : List (FilteredKept F)) (core : FilteredKept F) → n ≡ i + 1 → OpensFirst config i old → CoreStands core config (opening_peer config n) → core.filters ≡ []
     → check_refusal config.peers ≡ None → new ≡ old ++ core ∷ [] → OpensFirst config (i + 1) new
 opens_more {F} config i n old new core is so stands none taken items =
     let counted = so.counted in
     let total = length-append old (core ∷ []) in
-    let length_is = ap (λ (ks : List (CoreKept F)). length ks) items in
-    let before : (j : ℕ) (k : CoreKept F) → slice_get new j ≡ Some k → (slice_get old j ≡ Some k) ⊎ ((j ≡ length old) × (core ≡ k)) =
-    λ j k at. at_end old core j k (subst (λ (ks : List (CoreKept F)). slice_get ks j ≡ Some k) items at) in
-    let each : (j : ℕ) (k : CoreKept F) → slice_get new j ≡ Some k → CoreStands k config (opening_peer config (j + 1)) = λ j k at.
+    let length_is = ap (λ (ks : List (FilteredKept F)). length ks) items in
+    let before : (j : ℕ) (k : FilteredKept F) → slice_get new j ≡ Some k → (slice_get old j ≡ Some k) ⊎ ((j ≡ length old) × (core ≡ k)) =
+    λ j k at. at_end old core j k (subst (λ (ks : List (FilteredKept F)). slice_get ks j ≡ Some k) items at) in
+    let each : (j : ℕ) (k : FilteredKept F) → slice_get new j ≡ Some k → CoreStands k config (opening_peer config (j + 1)) = λ j k at.
     ⊎_elim (λ o. so.each j k o)
     (λ last.
     let j_is = last.0 in
     let same : n ≡ j + 1 = omega (arith, is, j_is, counted) in
-    subst (λ (m : ℕ). CoreStands k config (opening_peer config m)) same (subst (λ (x : CoreKept F). CoreStands x config (opening_peer config n)) last.1 stands))
+    subst (λ (m : ℕ). CoreStands k config (opening_peer config m)) same (subst (λ (x : FilteredKept F). CoreStands x config (opening_peer config n)) last.1 stands))
     (before j k at) in
     record {
       counted = omega (arith, counted, total, length_is);
       each = each;
-      none = λ j k at. ⊎_elim (λ o. so.none j k o) (λ last. subst (λ (x : CoreKept F). x.filters ≡ []) last.1 none) (before j k at);
+      none = λ j k at. ⊎_elim (λ o. so.none j k o) (λ last. subst (λ (x : FilteredKept F). x.filters ≡ []) last.1 none) (before j k at);
       taken = λ low. taken;
     }
 
@@ -141,14 +141,14 @@ get_or-none zero x = refl
 get_or-none (suc i) x = refl
 
 -- no peer has a filter
-none_at : {F : Type 0} (cores : List (CoreKept F)) → ((i : ℕ) (k : CoreKept F) → slice_get cores i ≡ Some k → k.filters ≡ []) → (i : ℕ)
-    → get_or (map (λ (c : CoreKept F). c.filters) cores) i [] ≡ []
+none_at : {F : Type 0} (cores : List (FilteredKept F)) → ((i : ℕ) (k : FilteredKept F) → slice_get cores i ≡ Some k → k.filters ≡ []) → (i : ℕ)
+    → get_or (map (λ (c : FilteredKept F). c.filters) cores) i [] ≡ []
 none_at [] none i = get_or-none i []
 none_at (c ∷ cs) none zero = none zero c refl
 none_at (c ∷ cs) none (suc i) = none_at cs (λ j k at. none (suc j) k at) i
 
-none_counted : {F : Type 0} (cores : List (CoreKept F)) → ((i : ℕ) (k : CoreKept F) → slice_get cores i ≡ Some k → k.filters ≡ []) → (i : ℕ)
-    → get_or (map (λ (c : CoreKept F). length c.filters) cores) i 0 ≡ 0
+none_counted : {F : Type 0} (cores : List (FilteredKept F)) → ((i : ℕ) (k : FilteredKept F) → slice_get cores i ≡ Some k → k.filters ≡ []) → (i : ℕ)
+    → get_or (map (λ (c : FilteredKept F). length c.filters) cores) i 0 ≡ 0
 none_counted [] none i = get_or-none i 0
 none_counted (c ∷ cs) none zero = ap (λ fs. length fs) (none zero c refl)
 none_counted (c ∷ cs) none (suc i) = none_counted cs (λ j k at. none (suc j) k at) i
@@ -159,7 +159,7 @@ no_filters_at config count held all (suc i) = none_at held.cores all.none i
 
 pub opened : {F : Type 0} (config : Config) (held : Held F) → OpensFirst config (length config.peers) held.cores → held.sent ≡ [] → held.unsent ≡ 0 → StandsFor (kept_of held) config (opening_world config)
 opened {F} config held all none quiet =
-    let f : CoreKept F → PeerKept = λ c. c.peer in
+    let f : FilteredKept F → PeerKept = λ c. c.peer in
     record {
       count = peers_count config.peers 1 config.peers ∙ (sym all.counted ∙ sym (length-map held.cores f));
       each = λ i k at.

@@ -14,7 +14,7 @@ use Rattle.dds_model.specs.World.{WorldState, machine_of}
 use Rattle.dds_core.specs.Kept.{PeerKept}
 use Rattle.dds_core.specs.Opening.{opening_peer}
 use Rattle.dds_core.specs.Sending.{Sends as CoreSends, SendsNothing, AreMessages}
-use Rattle.dds_core.specs.Filtering.{CoreKept, StandsFor as CoreStands}
+use Rattle.dds_core.specs.Filtering.{FilteredKept, StandsFor as CoreStands}
 use Rattle.dds_core.specs.Standing.{SoundStepsBy}
 use Rattle.dds_world.specs.WorldStanding.{WorldKept, StandsFor, Posts}
 
@@ -53,10 +53,10 @@ pub record IsCopy (sent : List Packet) (index : ℕ) (bytes : List ℕ) : Type 0
   pub same : bytes ≡ packet.bytes
 
 -- the first peers of a configuration, at their opening, without filters; where there is one, the configuration is taken
-pub record OpensFirst {F : Type 0} (config : Config) (count : ℕ) (kept : List (CoreKept F)) : Type 0 where
+pub record OpensFirst {F : Type 0} (config : Config) (count : ℕ) (kept : List (FilteredKept F)) : Type 0 where
   pub counted : length kept ≡ count
-  pub each : (i : ℕ) (k : CoreKept F) → slice_get kept i ≡ Some k → CoreStands k config (opening_peer config (i + 1))
-  pub none : (i : ℕ) (k : CoreKept F) → slice_get kept i ≡ Some k → k.filters ≡ []
+  pub each : (i : ℕ) (k : FilteredKept F) → slice_get kept i ≡ Some k → CoreStands k config (opening_peer config (i + 1))
+  pub none : (i : ℕ) (k : FilteredKept F) → slice_get kept i ≡ Some k → k.filters ≡ []
   pub taken : 1 ≤ count → check_refusal config.peers ≡ None
 
 -- a step of the network's peers by the rules of the protocol, and of its machine, to one state

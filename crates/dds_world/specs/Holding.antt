@@ -15,28 +15,28 @@ use Rattle.dds_model.specs.Filters.{world_with_filter}
 use Rattle.dds_model.specs.Machine.{AllTests}
 use Rattle.dds_model.specs.Numbered.{numbered, with_numbered, HasNumber}
 use Rattle.dds_model.specs.World.{WorldState, peer_at}
-use Rattle.dds_core.specs.Filtering.{CoreKept}
+use Rattle.dds_core.specs.Filtering.{FilteredKept}
 use Rattle.dds_world.specs.Acting.{Acts, RuledSteps}
 use Rattle.dds_world.specs.WorldStanding.{WorldKept, StandsFor}
 
 -- the peers with their filters, every packet that was sent, and how many found no memory
 pub record Held (F : Type 0) : Type 0 where
-  pub cores : List (CoreKept F)
+  pub cores : List (FilteredKept F)
   pub sent : List Packet
   pub unsent : ℕ
 
 -- what it keeps beside what its filters are
 abbrev pub kept_of : {F : Type 0} → Held F → WorldKept
 kept_of {F} held = record {
-  peers = map (λ (c : CoreKept F). c.peer) held.cores;
-  filters = map (λ (c : CoreKept F). length c.filters) held.cores;
+  peers = map (λ (c : FilteredKept F). c.peer) held.cores;
+  filters = map (λ (c : FilteredKept F). length c.filters) held.cores;
   sent = held.sent;
   unsent = held.unsent;
 }
 
 -- the filters of each peer
 abbrev pub filters_of : {F : Type 0} → Held F → List (List F)
-filters_of {F} held = map (λ (c : CoreKept F). c.filters) held.cores
+filters_of {F} held = map (λ (c : FilteredKept F). c.filters) held.cores
 
 -- what these filters of the peers answer, by the peers' numbers and the filters'
 abbrev pub tests_by : {F : Type 0} → (F → Key → List ℕ → Bool) → List (List F) → AllTests

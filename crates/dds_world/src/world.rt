@@ -20,7 +20,7 @@ ghost use Rattle.dds_world.specs.Holding.{ActsIn, Adds, RefusesFilter, StepsIn, 
 
 use dds_base::{Code, Config, Moment, Octets, Sequence, Sn};
 use dds_conditions::Filter;
-use dds_core::Core;
+use dds_core::FilteredPeer;
 use dds_model::{Call, Endpoint, Event, Output, Packet, Reply, Report, WorldEvent};
 use std::alloc::{AllocError, Global};
 use std::marker::Model;
@@ -30,7 +30,7 @@ use std::marker::Model;
 #[derive(Drop)]
 pub struct World<F = Box<dyn Filter + Send>> {
     pub(crate) alloc: Global,
-    pub(crate) peers: Vec<Core<F>>,
+    pub(crate) peers: Vec<FilteredPeer<F>>,
     pub(crate) sent: Vec<Packet>,
     pub(crate) unsent: u64,
 }
@@ -82,7 +82,11 @@ fn packet_index(number: u64, count: u64) -> Option<usize>
 }
 
 /// The peer of this index, at its opening.
-fn open_peer<F: Filter>(alloc: Global, config: &Config, index: usize) -> Result<Core<F>, Code>
+fn open_peer<F: Filter>(
+    alloc: Global,
+    config: &Config,
+    index: usize,
+) -> Result<FilteredPeer<F>, Code>
     requires within { index < length config.now.peers }
     requires few { length config.now.peers ≤ 16 }
     ensures opening { IfOk result (λ core. CoreStandsFor core config.now (opening_peer config.now (index + 1))) }
@@ -90,11 +94,11 @@ fn open_peer<F: Filter>(alloc: Global, config: &Config, index: usize) -> Result<
     ensures taken { IfOk result (λ core. check_refusal config.now.peers ≡ None) }
     ensures refused { IfErr result (Refuses (check_refusal config.now.peers)) }
 {
-    Core::open(alloc, config, (index + 1) as u8)
+    FilteredPeer::open(alloc, config, (index + 1) as u8)
 }
 
 /// The peers of a checked configuration, at their opening.
-fn open_peers<F: Filter>(alloc: Global, config: &Config) -> Result<Vec<Core<F>>, Code>
+fn open_peers<F: Filter>(alloc: Global, config: &Config) -> Result<Vec<FilteredPeer<F>>, Code>
     requires checked { check_refusal config.now.peers ≡ None }
     requires some { 1 ≤ length config.now.peers }
     requires few { length config.now.peers ≤ 16 }

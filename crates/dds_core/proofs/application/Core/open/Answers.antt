@@ -1,5 +1,7 @@
-use Rattle.dds_core.proofs.Filtering.{opens}
+use Rattle.dds_core.proofs.Ended.{opens}
 use Rattle.dds_core.proofs.application.Core.open.Goals as goal
 
 pub returns-clause-opening : goal.returns-clause-opening
-returns-clause-opening g c = opens c.in_ok-peer.peer c.new.result c.args.config.now c.args.peer c.in_ok-peer.ensures.opening c.new.ensures
+returns-clause-opening g c =
+    opens (record { notices = g.L.Listener.notices; capacity = g.L.Listener.capacity }) c.in_ok-filtered.filtered c.in_ok-listeners.listeners c.args.config.now c.args.peer
+    c.writers.result c.readers.result c.in_ok-filtered.ensures.opening c.writers.ensures c.readers.ensures c.in_ok-listeners.ensures.nobody

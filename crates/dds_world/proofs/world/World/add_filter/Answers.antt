@@ -1,6 +1,6 @@
 use Rattle.std.proofs.Common.{◌≡◌, set, refl, length, sym, ◌∙◌, subst, ap, arith}
 use Rattle.std.specs.Prelude.{IfOk, IfErr}
-use Rattle.dds_core.specs.Filtering.{CoreKept}
+use Rattle.dds_core.specs.Filtering.{FilteredKept}
 use Rattle.dds_world.specs.Holding.{Adds, Held, RefusesFilter}
 use Rattle.dds_world.proofs.Holding.{add_at, refuse_at}
 use Rattle.dds_world.proofs.world.World.add_filter.Goals as goal
@@ -9,7 +9,7 @@ pub returns-in-Some-clause-ok : goal.returns-in-Some-clause-ok
 returns-in-Some-clause-ok g c =
     let inside = c.self.inside in
     let kept : Held g.row.F.Denot = record { cores = inside.peers.items; sent = inside.sent.items; unsent = inside.unsent } in
-    let core : CoreKept g.row.F.Denot = c.index_mut.result.now in
+    let core : FilteredKept g.row.F.Denot = c.index_mut.result.now in
     let low = c.in-Some.ensures.1 in
     let counted : c.count.result ≡ length kept.cores = c.count.ensures ∙ ap (λ (k : Held g.row.F.Denot). length k.cores) (sym c.self.view_is) in
     let new : Held g.row.F.Denot = record { cores = set inside.peers.items c.in-Some.index c.add_filter.new.self; sent = inside.sent.items; unsent = inside.unsent } in

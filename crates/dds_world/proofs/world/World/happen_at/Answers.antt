@@ -1,5 +1,5 @@
 use Rattle.std.proofs.Common.{◌<◌, length, subst, ap, arith}
-use Rattle.dds_core.specs.Filtering.{CoreKept}
+use Rattle.dds_core.specs.Filtering.{FilteredKept}
 use Rattle.dds_world.specs.Holding.{ActsIn, Held}
 use Rattle.dds_world.proofs.Holding.{acts_in}
 use Rattle.dds_world.proofs.world.World.happen_at.Goals as goal
@@ -8,7 +8,7 @@ pub returns : goal.returns
 returns g c =
     let inside = c.self.inside in
     let kept : Held g.row.F.Denot = record { cores = inside.peers.items; sent = inside.sent.items; unsent = inside.unsent } in
-    let core : CoreKept g.row.F.Denot = c.index_mut.result.now in
+    let core : FilteredKept g.row.F.Denot = c.index_mut.result.now in
     let count = ap (λ (k : Held g.row.F.Denot). length k.cores) c.self.view_is in
     let within : c.args.index < length kept.cores = omega (arith, count) in
     subst (λ (k : Held g.row.F.Denot). ActsIn g.F.Filter.meaning k c.args.index c.args.event c.posted.result c.posted.new.self) c.self.view_is

@@ -1,0 +1,174 @@
+-- The end of an event at a peer, and listeners that are set there.
+use Rattle.std.proofs.Common.{◌≡◌, ℕ, List, [], Option, Some, None, Bool, false, length, refl, ap, sym, ◌∙◌, subst}
+use Rattle.std.specs.Prelude.{if◌then◌else◌, not}
+use Rattle.dds_base.specs.declared.code.Code.{Code}
+use Rattle.dds_base.specs.declared.code.Code.TheVariants.{BadParameter, PreconditionNotMet}
+use Rattle.dds_base.specs.declared.config.Config.{Config}
+use Rattle.dds_base.specs.declared.entity.Entity.{Entity}
+use Rattle.dds_base.specs.declared.entity.Entity.TheVariants as entity
+use Rattle.dds_conditions.specs.Watched.{Watched}
+use Rattle.dds_notices.specs.declared.mask.StatusMask.{StatusMask}
+use Rattle.dds_notices.specs.declared.notice.Notice.{Notice}
+use Rattle.dds_notices.specs.Listeners.{Places, Sets as SlotsSet, Slotted, StandsFor as SlotsStandFor, has_entity, is_any, is_fresh, is_number, listener_refusal, nobody}
+use Rattle.dds_notices.proofs.ListenerLaws.{nobody_stands, nobody_takes}
+use Rattle.dds_model.specs.declared.event.Event.{Event}
+use Rattle.dds_model.specs.declared.event.Output.{Output}
+use Rattle.dds_model.specs.Noticing.{at_end, each_told, peer_at_end, reader_told, writer_told}
+use Rattle.dds_model.specs.Numbered.{HasNumber, numbered}
+use Rattle.dds_model.specs.Part.{Part, WriterProxy, heard_of, place_of as reader_place}
+use Rattle.dds_model.specs.Peer.{Peer}
+use Rattle.dds_model.specs.Watching.{Tests}
+use Rattle.dds_model.proofs.AtEnds.{end_rows, end_untold, end_watch}
+use Rattle.dds_model.proofs.FiltersKept.{keeps_listeners, opens_nobody}
+use Rattle.dds_core.specs.declared.marks.Marks.{Marks}
+use Rattle.dds_core.specs.Filtering.{Adds as FilteredAdds, FilteredKept, RefusesFilter as FilteredRefuses, StandsFor as FilteredStandsFor, Steps as FilteredSteps}
+use Rattle.dds_core.specs.Kept.{PeerKept}
+use Rattle.dds_core.specs.Listening.{Adds, CoreKept, Meaning, RefusesFilter, RefusesListener, Sets, StandsFor, Steps}
+use Rattle.dds_core.specs.Noticing.{AreMarksOf, MarksPeer, Tells}
+use Rattle.dds_core.specs.Opening.{opening_peer}
+use Rattle.dds_core.specs.Standing.{IsSound}
+use Rattle.dds_core.proofs.Notified.{listeners_apart, tells_as, tells_then}
+
+module _ {L : Type 0} (notices : L → List Notice) (capacity : L → ℕ) where
+  -- the writers were told of, and then the readers
+  pub tells_end : (before : Part) (old : PeerKept) (slots : Slotted L) (mid : PeerKept) (between : Slotted L) (new : PeerKept) (after : Slotted L)
+      → length mid.readers ≡ length old.readers → Tells notices capacity (each_told (writer_told before) (length old.writers)) old slots mid between
+      → Tells notices capacity (each_told (reader_told before) (length mid.readers)) mid between new after
+      → Tells notices capacity (at_end before) old slots new after
+  tells_end before old slots mid between new after same first second =
+      tells_as notices capacity (λ part. each_told (reader_told before) (length mid.readers) (each_told (writer_told before) (length old.writers) part)) (at_end before)
+      old slots new after
+      (λ config peer s.
+      ap (λ (n : ℕ). each_told (reader_told before) n (each_told (writer_told before) (length old.writers) peer.part)) (same ∙ sym s.readers.count)
+      ∙ ap (λ (n : ℕ). each_told (reader_told before) (length peer.part.dds.readers) (each_told (writer_told before) n peer.part)) (sym s.writers.count))
+      (tells_then notices capacity (each_told (writer_told before) (length old.writers)) (each_told (reader_told before) (length mid.readers)) old slots mid between new after first second)
+
+-- what a peer knows was claimed, also after its listeners were told
+sound_at_end : (config : Config) (before peer : Peer) → IsSound config peer → IsSound config (peer_at_end before peer)
+sound_at_end config before peer sound =
+    let rows = end_rows before.part peer.part in
+    record {
+      place = λ w r p h. sound.place w r p (ap (λ (xs : List (List WriterProxy)). reader_place (numbered xs r []) w) (sym rows) ∙ h);
+      claimed = sound.claimed;
+      newest = λ w r h. sound.newest w r (subst (λ (xs : List (List WriterProxy)). HasNumber xs r) rows h);
+      heard = λ w r count h. sound.heard w r count (ap (λ (xs : List (List WriterProxy)). heard_of (numbered xs r []) w) (sym rows) ∙ h);
+    }
+
+-- ---- entities
+
+module _ {L : Type 0} (meaning : Meaning L) where
+  same_entities : (slots : Slotted L) (places : Places) → SlotsStandFor meaning.notices meaning.capacity slots places → (e : Entity) → has_entity places e ≡ has_entity slots e
+  same_entities slots places s entity.Participant = refl
+  same_entities slots places s (entity.Writer n) = ap (λ (k : ℕ). is_number n k) s.writers
+  same_entities slots places s (entity.Reader n) = ap (λ (k : ℕ). is_number n k) s.readers
+
+  same_refusal : (slots : Slotted L) (places : Places) → SlotsStandFor meaning.notices meaning.capacity slots places → (e : Entity) (listener : Option L)
+      → listener_refusal meaning.notices places e listener ≡ listener_refusal meaning.notices slots e listener
+  same_refusal slots places s e listener =
+      ap (λ (b : Bool). if not b then Some BadParameter else (if is_fresh meaning.notices listener then None else Some PreconditionNotMet)) (same_entities slots places s e)
+
+-- ---- steps
+
+module _ {F L : Type 0} (meaning : Meaning L) where
+  -- no listener is set
+  pub steps_untold : (tests : Tests) (old : CoreKept F L) (ev : Event) (output : Output) (new : FilteredKept F) → FilteredSteps tests old.filtered ev output new
+      → is_any old.listeners ≡ false → Steps meaning tests old ev output (record { filtered = new; listeners = old.listeners })
+  steps_untold tests old ev output new h none = record {
+    step = λ config peer s sound.
+        let r = h.step config peer s.stands sound in
+        let after : Peer = r.0 in
+        let kept : after.part.dds.listeners ≡ peer.part.dds.listeners = keeps_listeners config tests peer ev output after r.1 in
+        let slots : SlotsStandFor meaning.notices meaning.capacity old.listeners after.part.dds.listeners =
+        subst (λ (p : Places). SlotsStandFor meaning.notices meaning.capacity old.listeners p) (sym kept) s.listeners in
+        let same : at_end peer.part after.part ≡ after.part =
+        end_untold peer.part after.part (λ e status. nobody_takes meaning.notices meaning.capacity old.listeners after.part.dds.listeners none slots e status) in
+        let stands : StandsFor meaning (record { filtered = new; listeners = old.listeners }) config after = record { stands = r.2; listeners = slots } in (
+          after,
+          r.1,
+          r.4,
+          subst (λ (p : Part). StandsFor meaning (record { filtered = new; listeners = old.listeners }) config (record after { part = p })) (sym same) stands,
+          sound_at_end config peer after r.3,
+        );
+    filters = h.filters;
+  }
+
+  -- listeners are told at its end
+  pub steps_told : (tests : Tests) (old : CoreKept F L) (ev : Event) (output : Output) (mid new : FilteredKept F) (after : Slotted L) (marks : Marks)
+      → FilteredSteps tests old.filtered ev output mid → MarksPeer old.filtered.peer marks
+      → ((before : Part) → AreMarksOf marks before → Tells meaning.notices meaning.capacity (at_end before) mid.peer old.listeners new.peer after)
+      → new.filters ≡ mid.filters → Steps meaning tests old ev output (record { filtered = new; listeners = after })
+  steps_told tests old ev output mid new after marks h marked tells same = record {
+    step = λ config peer s sound.
+        let r = h.step config peer s.stands sound in
+        let stepped : Peer = r.0 in
+        let kept : stepped.part.dds.listeners ≡ peer.part.dds.listeners = keeps_listeners config tests peer ev output stepped r.1 in
+        let slots : SlotsStandFor meaning.notices meaning.capacity old.listeners stepped.part.dds.listeners =
+        subst (λ (p : Places). SlotsStandFor meaning.notices meaning.capacity old.listeners p) (sym kept) s.listeners in
+        let told = tells peer.part (marked config peer s.stands.stands) config stepped r.2.stands slots in (
+          stepped,
+          r.1,
+          r.4,
+          record {
+            stands = record {
+              stands = told.0;
+              filters = ap (λ (w : Watched). w.filters) (end_watch peer.part stepped.part) ∙ (r.2.filters ∙ ap (λ (fs : List F). length fs) (sym same));
+            };
+            listeners = told.1;
+          },
+          sound_at_end config peer stepped r.3,
+        );
+    filters = same ∙ h.filters;
+  }
+
+  -- ---- the opening
+
+  pub opens : (filtered : FilteredKept F) (listeners : Slotted L) (config : Config) (n writers readers : ℕ) → FilteredStandsFor filtered config (opening_peer config n)
+      → writers ≡ length filtered.peer.writers → readers ≡ length filtered.peer.readers → listeners ≡ nobody writers readers
+      → StandsFor meaning (record { filtered = filtered; listeners = listeners }) config (opening_peer config n)
+  opens filtered listeners config n writers readers s w r none =
+      let part : Part = (opening_peer config n).part in
+      let opening : part.dds.listeners ≡ nobody writers readers =
+      opens_nobody config n
+      ∙ (ap (λ (k : ℕ). nobody k (length part.dds.readers)) (s.stands.writers.count ∙ sym w) ∙ ap (λ (k : ℕ). nobody writers k) (s.stands.readers.count ∙ sym r)) in
+      record {
+        stands = s;
+        listeners = subst (λ (p : Places). SlotsStandFor meaning.notices meaning.capacity listeners p) (sym opening)
+            (subst (λ (l : Slotted L). SlotsStandFor meaning.notices meaning.capacity l (nobody writers readers)) (sym none) (nobody_stands meaning.notices meaning.capacity writers readers));
+      }
+
+  -- ---- filters
+
+  pub adds : (old : CoreKept F L) (filter : F) (number : ℕ) (new : FilteredKept F) → FilteredAdds old.filtered filter number new
+      → Adds meaning old filter number (record { filtered = new; listeners = old.listeners })
+  adds old filter number new h = record {
+    filters = h.filters;
+    adds = λ config peer s.
+        let r = h.adds config peer s.stands in
+        (r.0, r.1, record { stands = r.2; listeners = s.listeners }, r.3);
+  }
+
+  pub refuses : (old : CoreKept F L) (code : Code) → FilteredRefuses old.filtered code → RefusesFilter meaning old code
+  refuses old code h config peer s = h config peer s.stands
+
+  -- ---- listeners
+
+  pub sets : (old : CoreKept F L) (e : Entity) (mask : StatusMask) (listener handed : Option L) (new : Slotted L)
+      → SlotsSet meaning.notices meaning.capacity old.listeners e mask listener handed new
+      → Sets meaning old e mask listener handed (record { filtered = old.filtered; listeners = new })
+  sets old e mask listener handed new h = record {
+    filters = refl;
+    sets = λ config peer s.
+        let r = h.back peer.part.dds.listeners s.listeners in (
+          same_refusal meaning old.listeners peer.part.dds.listeners s.listeners e listener ∙ h.accepted,
+          r.0,
+          record {
+            stands = record { stands = listeners_apart old.filtered.peer config peer _ s.stands.stands; filters = s.stands.filters };
+            listeners = r.1;
+          },
+          λ sound. record { place = sound.place; claimed = sound.claimed; newest = sound.newest; heard = sound.heard },
+        );
+  }
+
+  pub refuses_listener : (old : CoreKept F L) (e : Entity) (listener : Option L) (code : Code) → listener_refusal meaning.notices old.listeners e listener ≡ Some code
+      → RefusesListener meaning old e listener code
+  refuses_listener old e listener code h config peer s = same_refusal meaning old.listeners peer.part.dds.listeners s.listeners e listener ∙ h

@@ -1,0 +1,13 @@
+use Rattle.std.proofs.Common.{◌≡◌, length}
+use Rattle.dds_model.specs.Noticing.{each_told, writer_told}
+use Rattle.dds_model.specs.Part.{Part}
+use Rattle.dds_core.specs.Noticing.{AreMarksOf, Tells}
+use Rattle.dds_core.proofs.peer.Peer.notify_writers.Given as goal
+
+abbrev pub invariant-loop-index : goal.invariant-loop-index
+invariant-loop-index g l = record {
+  told : (before : Part) → AreMarksOf l.marks before
+      → Tells g.L.Listener.notices g.L.Listener.capacity (each_told (writer_told before) l.index) l.fn.self l.fn.slots l.self l.slots;
+  count : length l.self.writers ≡ length l.fn.self.writers;
+  readers : length l.self.readers ≡ length l.fn.self.readers;
+}

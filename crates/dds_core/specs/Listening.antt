@@ -1,0 +1,73 @@
+-- A peer with the filters and the listeners of its application.
+--
+-- DDS 1.4, 2.2.2.1 (Entity, set_listener), 2.2.4.2 (listeners).
+use Rattle.std.specs.Prelude.{◌≡◌, ℕ, ◌+◌, List, [], ◌∷◌, ◌++◌, length, Option, None, Some}
+use Rattle.dds_base.specs.declared.code.Code.{Code}
+use Rattle.dds_base.specs.declared.config.Config.{Config}
+use Rattle.dds_base.specs.declared.entity.Entity.{Entity}
+use Rattle.dds_notices.specs.declared.mask.StatusMask.{StatusMask}
+use Rattle.dds_notices.specs.declared.notice.Notice.{Notice}
+use Rattle.dds_notices.specs.Listeners.{HandedBack, Slotted, StandsFor as SlotsStandFor, at_entity, listener_refusal, place_of}
+use Rattle.dds_model.specs.declared.event.Event.{Event}
+use Rattle.dds_model.specs.declared.event.Output.{Output}
+use Rattle.dds_model.specs.Filters.{peer_with_filter}
+use Rattle.dds_model.specs.Noticing.{peer_at_end, peer_with_place}
+use Rattle.dds_model.specs.Peer.{Peer, PeerStep}
+use Rattle.dds_model.specs.Watching.{Tests}
+use Rattle.dds_conditions.specs.Watched.{filter_refusal}
+use Rattle.dds_base.specs.Refusal.{Refuses}
+use Rattle.dds_core.specs.Filtering.{FilteredKept, StandsFor as FilteredStandsFor}
+use Rattle.dds_core.specs.Standing.{IsSound, KeepsRules}
+
+-- what a peer keeps, with its filters and its listeners
+pub record CoreKept (F L : Type 0) : Type 0 where
+  pub filtered : FilteredKept F
+  pub listeners : Slotted L
+
+-- What listeners mean: the notices that one keeps, and how many it can keep.
+pub record Meaning (L : Type 0) : Type 0 where
+  pub notices : L → List Notice
+  pub capacity : L → ℕ
+
+-- a state of the peer for which this stands: each listener has kept the last ones of all that it was told
+pub record StandsFor {F L : Type 0} (meaning : Meaning L) (kept : CoreKept F L) (config : Config) (peer : Peer) : Type 0 where
+  pub stands : FilteredStandsFor kept.filtered config peer
+  pub listeners : SlotsStandFor meaning.notices meaning.capacity kept.listeners peer.part.dds.listeners
+
+-- For each state that the old values stand for, and of which all that is known was claimed, the event is a step by what the
+-- filters mean, which follows the rules of the protocol; at its end listeners are told what it raised. The new values stand
+-- for the state after that, and all that is known of it was claimed. The filters stay.
+pub record Steps {F L : Type 0} (meaning : Meaning L) (tests : Tests) (old : CoreKept F L) (event : Event) (output : Output) (new : CoreKept F L) : Type 0 where
+  pub step : (config : Config) (peer : Peer) → StandsFor meaning old config peer → IsSound config peer
+      → (stepped : Peer) × PeerStep config tests peer event output stepped × KeepsRules config peer event output stepped
+      × StandsFor meaning new config (peer_at_end peer stepped) × IsSound config (peer_at_end peer stepped)
+  pub filters : new.filtered.filters ≡ old.filtered.filters
+
+-- The filter is the last one. For each state that the old values stand for there is a number for it, and it is this one; the
+-- new values stand for that state with one filter more, and nothing else; and what it knows was claimed, if it was before.
+pub record Adds {F L : Type 0} (meaning : Meaning L) (old : CoreKept F L) (filter : F) (number : ℕ) (new : CoreKept F L) : Type 0 where
+  pub filters : new.filtered.filters ≡ old.filtered.filters ++ filter ∷ []
+  pub adds : (config : Config) (peer : Peer) → StandsFor meaning old config peer
+      → (filter_refusal peer.part.dds.watch ≡ None) × (number ≡ length old.filtered.filters + 1)
+      × StandsFor meaning new config (peer_with_filter peer) × (IsSound config peer → IsSound config (peer_with_filter peer))
+
+-- for each state that the old values stand for, a filter is refused so: for want of a number, or else of memory
+abbrev pub RefusesFilter : {F L : Type 0} → Meaning L → CoreKept F L → Code → Type 0
+RefusesFilter meaning old code = (config : Config) (peer : Peer) → StandsFor meaning old config peer → Refuses (filter_refusal peer.part.dds.watch) code
+
+-- A listener was set at an entity, or taken away there. For each state that the old values stand for it is not refused; the
+-- listener of before is handed back, with the last ones of all that it was told; the new values stand for that state with the
+-- place of the new one, and nothing else changes; and what it knows was claimed, if it was before.
+pub record Sets {F L : Type 0} (meaning : Meaning L) (old : CoreKept F L) (entity : Entity) (mask : StatusMask)
+    (listener handed : Option L) (new : CoreKept F L) : Type 0 where
+  pub filters : new.filtered.filters ≡ old.filtered.filters
+  pub sets : (config : Config) (peer : Peer) → StandsFor meaning old config peer
+      → (listener_refusal meaning.notices peer.part.dds.listeners entity listener ≡ None)
+      × HandedBack meaning.notices meaning.capacity handed (at_entity peer.part.dds.listeners entity)
+      × StandsFor meaning new config (peer_with_place peer entity (place_of meaning.capacity mask listener))
+      × (IsSound config peer → IsSound config (peer_with_place peer entity (place_of meaning.capacity mask listener)))
+
+-- for each state that the old values stand for, a listener is refused so
+abbrev pub RefusesListener : {F L : Type 0} → Meaning L → CoreKept F L → Entity → Option L → Code → Type 0
+RefusesListener meaning old entity listener code = (config : Config) (peer : Peer) → StandsFor meaning old config peer
+    → listener_refusal meaning.notices peer.part.dds.listeners entity listener ≡ Some code

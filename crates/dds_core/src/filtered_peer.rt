@@ -1,0 +1,185 @@
+//! A peer with the filters of its application.
+
+ghost use Rattle.std.specs.Prelude.{◌≡◌, [], None, IfErr, IfOk, OnErr, length};
+ghost use Rattle.dds_base.specs.Refusal.{Refuses};
+ghost use Rattle.dds_conditions.specs.Filtered.{tests_of};
+ghost use Rattle.dds_model.specs.Noticing.{at_end};
+ghost use Rattle.dds_model.specs.Part.{Part, own_proxies, place_of};
+ghost use Rattle.dds_model.specs.Peer.{Peer as PeerState};
+ghost use Rattle.dds_base.specs.declared.config.Config.{Config as ConfigOf};
+ghost use Rattle.dds_core.specs.Filtering.{Adds, RefusesFilter, StandsFor, Steps};
+ghost use Rattle.dds_core.specs.Noticing.{AreMarksOf, MarksPeer, Tells};
+ghost use Rattle.dds_core.specs.Opening.{core_refusal, opening_peer};
+ghost use Rattle.dds_core.specs.Pairs.{IsPair};
+ghost use Rattle.dds_core.specs.Sending.{AreMessages, Sends};
+ghost use Rattle.dds_core.specs.Standing.{SoundStepsBy, StandsFor as PeerStandsFor};
+
+use crate::marks::Marks;
+use crate::pairing::Pair;
+use crate::peer::Peer;
+use dds_base::{Code, Config, Moment, Sn};
+use dds_conditions::{Filter, FilterList};
+use dds_model::{Endpoint, Event, Output};
+use dds_notices::{Listener, Slots};
+use std::alloc::Global;
+use std::marker::Model;
+
+/// A peer, and the filters that its application handed it: boxes, unless `F` names a type of the application's own.
+#[derive(Drop)]
+pub struct FilteredPeer<F = Box<dyn Filter + Send>> {
+    peer: Peer,
+    filters: FilterList<F>,
+}
+
+impl<F> Model for FilteredPeer<F> {
+    ghost use Rattle.dds_core.specs.Filtering.{FilteredKept};
+
+    ghost Value = { FilteredKept F };
+
+    ghost view = { λ c. record { peer = c.peer; filters = c.filters } };
+}
+
+impl<F: Filter> FilteredPeer<F> {
+    /// The peer of this number, at its opening, without filters. Its writers and readers are matched with those of equal
+    /// topic.
+    ///
+    /// # Errors
+    ///
+    /// The first of these: what `Config::check` answers; `BadParameter` where the configuration has no peer of this
+    /// number; `Memory` where a growth was refused.
+    pub fn open(alloc: Global, config: &Config, peer: u8) -> Result<FilteredPeer<F>, Code>
+        // The peer stands for its opening in the configuration.
+        ensures opening { IfOk result (λ core. StandsFor core config.now (opening_peer config.now peer)) }
+        // It has no filters.
+        ensures none { IfOk result (λ core. core.filters ≡ []) }
+        // Against what is opened there is no cause.
+        ensures taken { IfOk result (λ core. core_refusal config.now.peers peer ≡ None) }
+        // A refusal is by the first cause that there is, or for want of memory.
+        ensures refused { IfErr result (Refuses (core_refusal config.now.peers peer)) }
+    {
+        let peer = Peer::open(alloc, config, peer)?;
+        Ok(FilteredPeer {
+            peer,
+            filters: FilterList::new(alloc),
+        })
+    }
+
+    /// One event: a call, the peer's time that goes on, or the bytes of a packet that come.
+    ///
+    /// A call is answered as `Call` says, a tick as `Event::Tick`, and a packet by a report of what it moved, whatever its
+    /// bytes are. At a tick those whose lease is over die at the peer's readers, then its writers lose their liveliness
+    /// whose own lease is over, and then HEARTBEATs are sent. What is refused changes nothing, but for `NoData`: an access
+    /// that found nothing is entered.
+    /// Packets go out for a change that was made and for an assertion, one for each peer with a matched reader, and at a tick
+    /// for each writer, a HEARTBEAT for each peer with a reader that is behind; or they are counted in `unsent` for want of
+    /// memory.
+    ///
+    /// DDS 1.4, 2.2.2.4 and 2.2.2.5 (DataWriter, DataReader); RTPS 2.5, 8.4 (behaviour).
+    pub fn step(&mut self, event: Event) -> Output
+        // For each state that the peer stands for, the event is a step, by what its filters mean, to one that it stands for
+        // afterwards; a delivered packet is taken up by the rules of the protocol, and what is due by them is sent.
+        ensures step { Steps (tests_of F.meaning self.old.filters) self.old event result self.new }
+        // The same of what it keeps beside the filters.
+        ensures peer { SoundStepsBy (tests_of F.meaning self.old.filters) self.old.peer event result self.new.peer }
+        // What goes out at a call or a tick, and what is counted as unsent.
+        ensures sends { Sends self.old.peer event result }
+        // What goes out is the written form of a message.
+        ensures messages { AreMessages result.packets }
+    {
+        self.peer.step_by(&self.filters, event)
+    }
+
+    /// Adds a filter, by the next number, from 1: query conditions can name it from then on. What it answers is what it
+    /// means, for every key and value.
+    ///
+    /// # Errors
+    ///
+    /// `OutOfResources` where 2^32 - 1 filters were added, else `Memory` where a growth was refused. The filter comes back,
+    /// and nothing changes.
+    ///
+    /// DDS 1.4, 2.2.2.5 (QueryCondition).
+    pub fn add_filter(&mut self, filter: F) -> Result<u32, (Code, F)>
+        // It is the last one, by the next number, and nothing else changes.
+        ensures ok { IfOk result (λ number. Adds self.old filter number self.new) }
+        // A refusal is for want of a number, exactly then, or for want of memory.
+        ensures refused { IfErr result (λ e. RefusesFilter self.old e.0) }
+        // What is refused comes back, and changes nothing.
+        ensures back { IfErr result (λ e. e.1 ≡ filter) }
+        ensures err { OnErr result (self.new ≡ self.old) }
+    {
+        if let Err(code) = self.peer.next_filter() {
+            return Err((code, filter));
+        }
+        if let Err(filter) = self.filters.add(filter) {
+            return Err((Code::Memory, filter));
+        }
+        match self.peer.add_filter() {
+            Ok(number) => Ok(number),
+            Err(_) => unreachable!(),
+        }
+    }
+
+    /// How many writers it has.
+    pub(crate) fn writers(&self) -> usize
+        ensures { result ≡ length self.now.peer.writers }
+    {
+        self.peer.writers.len()
+    }
+
+    /// How many readers it has.
+    pub(crate) fn readers(&self) -> usize
+        ensures { result ≡ length self.now.peer.readers }
+    {
+        self.peer.readers.len()
+    }
+
+    /// What its statuses say before an event.
+    pub(crate) fn marks(&self) -> Marks
+        ensures { MarksPeer self.now.peer result }
+    {
+        self.peer.marks()
+    }
+
+    /// The end of an event, before which the peer had these marks: listeners are told what it raised.
+    pub(crate) fn end<L: Listener>(&mut self, slots: &mut Slots<L>, marks: &Marks)
+        ensures told { (before : Part) → AreMarksOf marks.now before
+            → Tells L.notices L.capacity (at_end before) self.old.peer slots.old self.new.peer slots.new }
+        ensures filters { self.new.filters ≡ self.old.filters }
+    {
+        self.peer.end(slots, marks);
+    }
+
+    /// The peer's moment: 0, or that of the last tick that was done.
+    pub fn moment(&self) -> Moment
+        // It is the moment of each state that the peer stands for.
+        ensures moment { (config : ConfigOf) (peer : PeerState) → PeerStandsFor self.now.peer config peer
+            → result ≡ peer.part.dds.moment }
+    {
+        self.peer.moment()
+    }
+
+    /// The writer of this number and a reader, by their entity ids, whether the reader is behind, and the number of the
+    /// writer's last change; `None` where they are not matched, or where there are no such ends.
+    ///
+    /// RTPS 2.5, 8.4.7 (StatefulWriter, matched_readers), 8.4.9 (ReaderProxy, unacked_changes).
+    pub fn pair(&self, writer: u8, reader: Endpoint) -> Option<Pair>
+        // They are matched exactly if a pair is found, and the ids are those of the configuration; the reader is behind
+        // exactly where it has not acknowledged some change, and the last number is how many changes the writer has made.
+        ensures pair { (config : ConfigOf) (peer : PeerState) → PeerStandsFor self.now.peer config peer
+            → IsPair config peer writer reader result }
+    {
+        self.peer.pair(writer, reader)
+    }
+
+    /// The place of the reader of this number at a writer: the number of the change that it has next, from 1; `None` where
+    /// they are not matched, or where there are no such ends.
+    ///
+    /// RTPS 2.5, 8.4.10 (StatefulReader, WriterProxy).
+    pub fn place(&self, reader: u8, writer: Endpoint) -> Option<Sn>
+        // It is the place in each state that the peer stands for, and there is one exactly if they are matched.
+        ensures place { (config : ConfigOf) (peer : PeerState) → PeerStandsFor self.now.peer config peer
+            → result ≡ place_of (own_proxies peer.part reader) writer }
+    {
+        self.peer.place(reader, writer)
+    }
+}
