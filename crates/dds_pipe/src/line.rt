@@ -3,8 +3,8 @@
 use dds_base::{Moment, Octets};
 use dds_model::Event;
 use dds_script::{
-    SetupLine, call_of, decimal, decimal_u8, entity_id, guid_prefix, reader_options, value,
-    words_of, writer_options,
+    ListenerLine, SetupLine, call_of, decimal, decimal_u8, entity_id, guid_prefix, listener_line,
+    reader_options, value, words_of, writer_options,
 };
 use std::alloc::{AllocError, Global};
 
@@ -17,6 +17,8 @@ pub enum Line {
     Open(u8),
     /// The peer has a filter more, by the octets with which a value begins.
     Filter(Octets),
+    /// An entity of the peer has another listener, or none.
+    Listener(ListenerLine),
     /// Something happens to the peer.
     Event(Event),
 }
@@ -59,6 +61,10 @@ fn tick(words: &[&str]) -> Option<Line> {
     };
     let now = Moment::new(decimal(now)?);
     Some(Line::Event(Event::Tick(now)))
+}
+
+fn listener(words: &[&str]) -> Option<Line> {
+    Some(Line::Listener(listener_line(words)?))
 }
 
 /// What the words of a line say that takes no memory.
@@ -105,6 +111,7 @@ fn line_of_words(alloc: Global, words: &[&str]) -> Result<Option<Line>, AllocErr
         ["call", operands @ ..] => call(alloc, operands),
         ["deliver", operands @ ..] => delivery(alloc, operands),
         ["filter", operands @ ..] => filter(alloc, operands),
+        ["listener" | "unlisten", ..] => Ok(listener(words)),
         [name, operands @ ..] => Ok(short_line(name, operands)),
         [] => Ok(None),
     }

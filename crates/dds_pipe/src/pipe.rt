@@ -1,15 +1,21 @@
 //! A peer, asked line by line.
 
 use crate::line::{Line, line_of};
-use dds_base::Octets;
-use dds_core::Core;
+use dds_base::{Code, Octets};
+use dds_core::Core as CoreOf;
 use dds_model::{Event, Output, Packet, Reply};
-use dds_script::{Fault, Lines, Prefix, Setup, SetupLine, Status, TranscriptLine, print};
+use dds_notices::Recorder;
+use dds_script::{
+    Fault, Lines, ListenerLine, Prefix, Setup, SetupLine, Status, TranscriptLine, print,
+};
 use std::alloc::{AllocError, Global};
 use std::io::{Read, Write};
 
 /// How many octets a line has at most, with its line feed: those of a datagram of 65,535 octets, with its word.
 const MAX_LINE: u64 = 131_080;
+
+/// A peer whose filters and listeners are those that lines ask for.
+type Core = CoreOf<Prefix, Recorder>;
 
 /// The peer: its configuration while it is being named, and then the peer itself, if it was opened.
 #[derive(Drop)]
@@ -17,7 +23,7 @@ struct Session {
     alloc: Global,
     setup: Setup,
     is_open: bool,
-    core: Option<Core<Prefix>>,
+    core: Option<Core>,
 }
 
 fn packet_line(alloc: Global, packet: &Packet) -> Result<String, AllocError> {
@@ -32,6 +38,30 @@ fn reply_line(alloc: Global, reply: &Reply, unsent: u64) -> Result<String, Alloc
     text.push_reply(reply);
     text.push_unsent(unsent);
     text.finish()
+}
+
+/// What is printed of a listener that was set, or was not.
+fn listener_text(
+    alloc: Global,
+    set: &Result<Option<Recorder>, Code>,
+) -> Result<String, AllocError> {
+    let mut text = TranscriptLine::new(alloc);
+    text.push_word("reply ");
+    text.push_listener_set(set);
+    text.finish()
+}
+
+/// Sets the listener that a line asks for, and hands out the one that was there before.
+fn set_listener(
+    alloc: Global,
+    core: &mut Core,
+    asked: ListenerLine,
+) -> Result<Option<Recorder>, Code> {
+    let listener = asked.recorder(alloc)?;
+    match core.set_listener(asked.entity, asked.mask, listener) {
+        Ok(old) => Ok(old),
+        Err((code, _)) => Err(code),
+    }
 }
 
 /// Prints a line for each packet that is sent, and then the one of the reply.
@@ -100,6 +130,16 @@ impl Session {
         }
     }
 
+    /// Sets the listener that an entity of the peer is to have, or takes the one away that it has. The peer needs to be
+    /// open. Gives the line that is printed.
+    fn set_listener(&mut self, asked: ListenerLine, line: u64) -> Result<String, Fault> {
+        let Some(core) = &mut self.core else {
+            return Err(Fault::NotACommand { line });
+        };
+        let set = set_listener(self.alloc, core, asked);
+        Ok(listener_text(self.alloc, &set)?)
+    }
+
     /// Does what the line of this number says, and prints what it answers.
     fn answer(&mut self, line: Line, number: u64, output: &mut impl Write) -> Result<(), Fault> {
         match line {
@@ -111,6 +151,10 @@ impl Session {
             Line::Filter(octets) => {
                 let reply = self.add_filter(octets, number)?;
                 print(output, reply_line(self.alloc, &reply, 0)?.as_str())
+            }
+            Line::Listener(asked) => {
+                let text = self.set_listener(asked, number)?;
+                print(output, text.as_str())
             }
             Line::Event(event) => {
                 let given = self.step(event, number)?;

@@ -7,6 +7,8 @@
 mod call;
 mod fault;
 mod lines;
+mod listening;
+mod notice_text;
 mod number;
 mod operand;
 mod options;
@@ -19,6 +21,7 @@ mod watching;
 pub use call::{call_of, words_of};
 pub use fault::{Fault, Status};
 pub use lines::Lines;
+pub use listening::{ListenerLine, listener_line};
 pub use number::{decimal, decimal_u8, entity_id, guid_prefix, value};
 pub use operand::{reader_number, writer_number};
 pub use options::{Options, reader_options, writer_options};

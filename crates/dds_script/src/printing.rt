@@ -78,7 +78,7 @@ impl TranscriptLine {
         self.push(format_args!("handle {number}"));
     }
 
-    fn push_sample_lost(&mut self, status: SampleLostStatus) {
+    pub(crate) fn push_sample_lost(&mut self, status: SampleLostStatus) {
         let SampleLostStatus {
             total_count,
             total_count_change,
@@ -86,7 +86,7 @@ impl TranscriptLine {
         self.push(format_args!("lost {total_count} {total_count_change}"));
     }
 
-    fn push_liveliness_changed(&mut self, status: LivelinessChangedStatus) {
+    pub(crate) fn push_liveliness_changed(&mut self, status: LivelinessChangedStatus) {
         let LivelinessChangedStatus {
             alive_count,
             not_alive_count,
@@ -100,7 +100,7 @@ impl TranscriptLine {
         self.push(format_args!(" {writer}"));
     }
 
-    fn push_liveliness_lost(&mut self, status: LivelinessLostStatus) {
+    pub(crate) fn push_liveliness_lost(&mut self, status: LivelinessLostStatus) {
         let LivelinessLostStatus {
             total_count,
             total_count_change,
@@ -109,7 +109,7 @@ impl TranscriptLine {
     }
 
     /// The participant, a writer or a reader, as `p`, `w2` and `r2`.
-    fn push_entity(&mut self, entity: Entity) {
+    pub(crate) fn push_entity(&mut self, entity: Entity) {
         match entity {
             Entity::Participant => self.push('p'),
             Entity::Writer(number) => self.push(format_args!("w{number}")),
@@ -141,7 +141,7 @@ impl TranscriptLine {
         self.push(format_args!("flags {bits}"));
     }
 
-    fn push_code(&mut self, code: Code) {
+    pub(crate) fn push_code(&mut self, code: Code) {
         let number = code.number();
         self.push(format_args!("code {number}"));
     }

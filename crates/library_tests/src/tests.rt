@@ -4,6 +4,7 @@ mod conditions;
 mod history;
 mod info;
 mod lease;
+mod listeners;
 mod notices;
 mod owner;
 mod readme;

@@ -54,7 +54,7 @@ room => 2
 fresh => false
 ";
 
-fn status_of(name: &str, count: u64) -> Status {
+pub fn status_of(name: &str, count: u64) -> Status {
     match name {
         "lost" => Status::SampleLost(SampleLostStatus {
             total_count: count,

@@ -1,4 +1,3 @@
-use Rattle.std.proofs.Common.{◌≡◌}
 use Rattle.dds_base.proofs.Lists.{map-step}
 use Rattle.dds_conditions.specs.Watched.{without}
 use Rattle.dds_conditions.proofs.watch.detach_all.Goals as goal

@@ -1,0 +1,7 @@
+-- What a listener keeps that keeps the latest notice alone.
+use Rattle.std.specs.Prelude.{List, [], ◌∷◌, Option, None, Some}
+
+-- the notice, if there is one
+abbrev pub list_of : {X : Type 0} → Option X → List X
+list_of None = []
+list_of (Some x) = x ∷ []

@@ -1,0 +1,207 @@
+//! Which listener is told, and what is handed back.
+
+use crate::tests::notices::status_of;
+use crate::tests::rows::{Subject, Words, expect_rows, words_of};
+use bitflags::Flags;
+use dds_base::Entity;
+use dds_notices::{Listener, Notice, Recorder, Slots, Status, StatusMask};
+use std::alloc::Global;
+use std::test::Fail;
+
+/// Of a peer with one writer and two readers. An entity is `participant`, `writer` or `reader`, with its number.
+///
+/// `set` has an entity and a mask: the listener that is at hand is set. `unset` has an entity. Both give what the listener
+/// keeps that is handed back, or `nobody`; that one is then at hand. Where it is handed back with a code, the code stands
+/// before. `data`, `lost`, `changed` and `livelost` tell of an entity, and give whether a listener takes that. `any` gives
+/// whether one is set.
+const SET: &str = "\
+# Nobody takes anything yet.
+any => false
+data reader 1 => false
+unset reader 1 => nobody
+
+# The entity has to be there. A refused listener is handed back.
+set reader 3 1024 => BAD_PARAMETER
+set reader 0 1024 => BAD_PARAMETER
+set writer 0 2048 => BAD_PARAMETER
+set writer 2 2048 => BAD_PARAMETER
+unset writer 2 => BAD_PARAMETER
+any => false
+
+# The entity's own listener is told of what it takes, else the participant's of what that takes.
+set participant 0 5120 => nobody
+any => true
+set reader 1 1152 => nobody
+data reader 1 => true
+lost reader 1 => true
+changed reader 1 => true
+data reader 2 => true
+lost reader 2 => false
+livelost writer 1 => false
+
+# Each was told once. One that keeps notices is not set again, and is handed back as it was.
+unset reader 1 => [Reader(1) DataAvailable][Reader(1) SampleLost(SampleLostStatus { total_count: 1, total_count_change: 1 })]
+unset reader 1 => nobody
+set reader 2 1024 => PRECONDITION_NOT_MET[Reader(1) DataAvailable][Reader(1) SampleLost(SampleLostStatus { total_count: 1, total_count_change: 1 })]
+set writer 0 2048 => BAD_PARAMETER[Reader(1) DataAvailable][Reader(1) SampleLost(SampleLostStatus { total_count: 1, total_count_change: 1 })]
+
+# Where the entity has no listener any more, the participant's is told.
+data reader 1 => true
+any => true
+unset participant 0 => [Reader(1) LivelinessChanged(LivelinessChangedStatus { alive_count: 1, not_alive_count: 0, alive_count_change: 1, not_alive_count_change: 0, last_publication_handle: Handle { number: 1 } })][Reader(2) DataAvailable][Reader(1) DataAvailable]
+data reader 1 => false
+any => false
+";
+
+/// The same, where the listener that is at hand keeps the latest notice alone.
+const LATEST: &str = "\
+set participant 0 65535 => nobody
+data reader 2 => true
+lost reader 2 => true
+livelost writer 1 => true
+unset participant 0 => [Writer(1) LivelinessLost(LivelinessLostStatus { total_count: 1, total_count_change: 1 })]
+set writer 1 2048 => PRECONDITION_NOT_MET[Writer(1) LivelinessLost(LivelinessLostStatus { total_count: 1, total_count_change: 1 })]
+livelost writer 1 => false
+";
+
+/// A listener of an application's own: it keeps the latest notice.
+#[derive(Drop)]
+struct Latest {
+    kept: Option<Notice>,
+}
+
+impl Listener for Latest {
+    ghost use Rattle.library_tests.specs.Latest.{list_of};
+
+    ghost notices = { λ l. list_of l.kept };
+
+    ghost capacity = { λ _. 1 };
+
+    fn room(&self) -> usize {
+        1
+    }
+
+    fn is_fresh(&self) -> bool {
+        self.kept.is_none()
+    }
+
+    fn held(&self, at: usize) -> Option<Notice> {
+        if at == 0 { self.kept } else { None }
+    }
+
+    fn on_notice(&mut self, notice: &Notice) {
+        self.kept = Some(*notice);
+    }
+}
+
+/// The listeners of a peer, and those that are at hand: the last one is set next.
+#[derive(Drop)]
+struct Listening<L> {
+    slots: Slots<L>,
+    at_hand: Vec<L>,
+}
+
+fn entity_of(words: Words<'_>) -> Entity {
+    let number = words.second.parse().unwrap_or(0);
+    match words.first {
+        "participant" => Entity::Participant,
+        "writer" => Entity::Writer(number),
+        _ => Entity::Reader(number),
+    }
+}
+
+fn push_kept<L: Listener>(text: &mut String, listener: &L) {
+    for at in 0..listener.room() {
+        if let Some(Notice { entity, status }) = listener.held(at) {
+            let _ = write!(text, "[{entity:?} {status:?}]");
+        }
+    }
+}
+
+impl<L: Listener> Listening<L> {
+    /// What is handed back is at hand.
+    fn hand_back(&mut self, text: &mut String, listener: Option<L>) {
+        if let Some(listener) = listener {
+            push_kept(text, &listener);
+            let _ = self.at_hand.push(listener);
+        }
+    }
+
+    fn set(&mut self, text: &mut String, entity: Entity, mask: StatusMask, listener: Option<L>) {
+        match self.slots.set(entity, mask, listener) {
+            Ok(None) => {
+                let _ = write!(text, "nobody");
+            }
+            Ok(old) => self.hand_back(text, old),
+            Err((code, listener)) => {
+                let _ = write!(text, "{code}");
+                self.hand_back(text, listener);
+            }
+        }
+    }
+
+    fn tell(&mut self, text: &mut String, entity: Entity, status: Status) {
+        let is_taken = self.slots.takes(entity, &status);
+        let _ = write!(text, "{is_taken}");
+        self.slots.tell(&Notice { entity, status });
+    }
+}
+
+impl<L: Listener> Subject for Listening<L> {
+    fn answer(&mut self, _: Global, text: &mut String, name: &str, operands: &str) {
+        let words = words_of(operands);
+        let entity = entity_of(words);
+        let mask = StatusMask::from_bits_retain(words.third.parse().unwrap_or(0));
+        match name {
+            "set" => {
+                let listener = self.at_hand.pop();
+                self.set(text, entity, mask, listener);
+            }
+            "unset" => self.set(text, entity, mask, None),
+            "any" => {
+                let is_any = self.slots.has_listeners();
+                let _ = write!(text, "{is_any}");
+            }
+            _ => self.tell(text, entity, status_of(name, 1)),
+        }
+    }
+}
+
+fn of_a_peer<L: Listener>(alloc: Global, at_hand: Vec<L>) -> Result<Listening<L>, Fail> {
+    Ok(Listening {
+        slots: Slots::open(alloc, 1, 2)?,
+        at_hand,
+    })
+}
+
+#[test]
+fn recorders_are_set_and_told(rt: HostRuntime) -> Result<(), Fail> {
+    let alloc = rt.alloc();
+    let (Ok(small), Ok(large)) = (Recorder::open(alloc, 2), Recorder::open(alloc, 4)) else {
+        return Err("no memory".into());
+    };
+    let mut subject = of_a_peer(alloc, vec![in alloc; small, large]?)?;
+    expect_rows(&rt, alloc, &mut subject, SET);
+    Ok(())
+}
+
+#[test]
+fn boxed_listeners_are_set_and_told(rt: HostRuntime) -> Result<(), Fail> {
+    let alloc = rt.alloc();
+    let (Ok(small), Ok(large)) = (Recorder::open(alloc, 2), Recorder::open(alloc, 4)) else {
+        return Err("no memory".into());
+    };
+    let small: Box<dyn Listener + Send> = Box::new(alloc, small)?;
+    let large: Box<dyn Listener + Send> = Box::new(alloc, large)?;
+    let mut subject = of_a_peer(alloc, vec![in alloc; small, large]?)?;
+    expect_rows(&rt, alloc, &mut subject, SET);
+    Ok(())
+}
+
+#[test]
+fn a_listener_of_an_application_is_set_and_told(rt: HostRuntime) -> Result<(), Fail> {
+    let alloc = rt.alloc();
+    let mut subject = of_a_peer(alloc, vec![in alloc; Latest { kept: None }]?)?;
+    expect_rows(&rt, alloc, &mut subject, LATEST);
+    Ok(())
+}
