@@ -35,6 +35,7 @@ module _ {L : Type 0} (notices : L → List Notice) (capacity : L → ℕ) where
       → length mid.readers ≡ length old.readers → Tells notices capacity (each_told (writer_told before) (length old.writers)) old slots mid between
       → Tells notices capacity (each_told (reader_told before) (length mid.readers)) mid between new after
       → Tells notices capacity (at_end before) old slots new after
+  unfolding at_end
   tells_end before old slots mid between new after same first second =
       tells_as notices capacity (λ part. each_told (reader_told before) (length mid.readers) (each_told (writer_told before) (length old.writers) part)) (at_end before)
       old slots new after

@@ -3,40 +3,49 @@ use Rattle.std.proofs.Common.{◌≡◌, ℕ, zero, suc, Option, Some, None, len
 use Rattle.dds_base.specs.declared.entity.Entity.{Entity}
 use Rattle.dds_base.specs.declared.entity.Entity.TheVariants as entity
 use Rattle.dds_notices.specs.declared.notice.Status.{Status}
-use Rattle.dds_notices.specs.Listeners.{taker_of}
+use Rattle.dds_notices.specs.Listeners.{NobodyTakes, taker_of}
 use Rattle.dds_model.specs.Part.{Part, own_reader, own_writer}
 use Rattle.dds_model.specs.Noticing.{at_end, data_raised, data_told, each_told, loss_raised, lost_raised, lost_told, reader_told, told, told_of, told_to, turn_raised, turn_told, writer_told}
 
--- ---- what no notice touches
+-- ---- what holds of each notice
 
-module _ {X : Type 0} (f : Part → X) (same : (part : Part) (e : Entity) (status : Status) → f (told_of part e status) ≡ f part) where
-  to_same : (o : Option Entity) (part : Part) (e : Entity) (status : Status) → f (told_to o part e status) ≡ f part
-  to_same None part e status = refl
-  to_same (Some taker) part e status = same part e status
+module _ (R : Part → Part → Type 0) (same : (part : Part) → R part part) (on : (a b c : Part) → R a b → R b c → R a c)
+    (one : (part : Part) (e : Entity) (status : Status) → R part (told_of part e status)) where
+  to_so : (o : Option Entity) (part : Part) (e : Entity) (status : Status) → R part (told_to o part e status)
+  to_so None part e status = same part
+  to_so (Some taker) part e status = one part e status
 
-  told_same : (part : Part) (e : Entity) (raised : Option Status) → f (told part e raised) ≡ f part
-  told_same part e None = refl
-  told_same part e (Some status) = to_same (taker_of part.dds.listeners e status) part e status
+  told_so : (part : Part) (e : Entity) (raised : Option Status) → R part (told part e raised)
+  told_so part e None = same part
+  told_so part e (Some status) = to_so (taker_of part.dds.listeners e status) part e status
 
-  each_same : (tell : ℕ → Part → Part) → ((n : ℕ) (part : Part) → f (tell n part) ≡ f part) → (count : ℕ) (part : Part) → f (each_told tell count part) ≡ f part
-  each_same tell one zero part = refl
-  each_same tell one (suc n) part = one (suc n) (each_told tell n part) ∙ each_same tell one n part
+  each_so : (tell : ℕ → Part → Part) → ((n : ℕ) (part : Part) → R part (tell n part)) → (count : ℕ) (part : Part) → R part (each_told tell count part)
+  each_so tell next zero part = same part
+  each_so tell next (suc n) part =
+      on part (each_told tell n part) (tell (suc n) (each_told tell n part)) (each_so tell next n part) (next (suc n) (each_told tell n part))
 
-  reader_same : (before : Part) (n : ℕ) (part : Part) → f (reader_told before n part) ≡ f part
-  reader_same before n part =
+  reader_so : (before : Part) (n : ℕ) (part : Part) → R part (reader_told before n part)
+  reader_so before n part =
       let lost : Part = lost_told before n part in
       let data_too : Part = data_told before n lost in
-      told_same data_too (entity.Reader n) (turn_raised (own_reader before n) (own_reader data_too n))
-      ∙ (told_same lost (entity.Reader n) (data_raised (own_reader before n) (own_reader lost n))
-      ∙ told_same part (entity.Reader n) (lost_raised (own_reader before n) (own_reader part n)))
+      on part lost (reader_told before n part) (told_so part (entity.Reader n) (lost_raised (own_reader before n) (own_reader part n)))
+      (on lost data_too (reader_told before n part) (told_so lost (entity.Reader n) (data_raised (own_reader before n) (own_reader lost n)))
+      (told_so data_too (entity.Reader n) (turn_raised (own_reader before n) (own_reader data_too n))))
 
-  -- a value of a part that no notice touches is the same at the end of an event
-  pub end_keeps : (before part : Part) → f (at_end before part) ≡ f part
-  end_keeps before part =
-      each_same (reader_told before) (reader_same before)
-      (length part.dds.readers) (each_told (writer_told before) (length part.rtps.writers) part)
-      ∙ each_same (writer_told before) (λ n p. told_same p (entity.Writer n) (loss_raised (own_writer before n) (own_writer p n)))
-      (length part.rtps.writers) part
+  -- what holds of each notice, and of notices in turn, holds of the end of an event
+  pub end_so : (before part : Part) → R part (at_end before part)
+  unfolding at_end
+  end_so before part =
+      let writers : Part = each_told (writer_told before) (length part.rtps.writers) part in
+      on part writers (at_end before part)
+      (each_so (writer_told before) (λ n p. told_so p (entity.Writer n) (loss_raised (own_writer before n) (own_writer p n))) (length part.rtps.writers) part)
+      (each_so (reader_told before) (reader_so before) (length part.dds.readers) writers)
+
+-- a value of a part that no notice touches is the same at the end of an event
+pub end_keeps : {X : Type 0} (f : Part → X) → ((part : Part) (e : Entity) (status : Status) → f (told_of part e status) ≡ f part)
+    → (before part : Part) → f (at_end before part) ≡ f part
+end_keeps f same before part =
+    end_so (λ a b. f b ≡ f a) (λ p. refl) (λ a b c first second. second ∙ first) same before part
 
 watch_same : (part : Part) (e : Entity) (status : Status) → (told_of part e status).dds.watch ≡ part.dds.watch
 watch_same part entity.Participant status = refl
@@ -58,10 +67,7 @@ end_rows before part = end_keeps (λ (p : Part). p.rtps.readers) rows_same befor
 
 -- ---- where nobody is told
 
-abbrev pub NobodyTakes : Part → Type 0
-NobodyTakes part = (e : Entity) (status : Status) → taker_of part.dds.listeners e status ≡ None
-
-untold : (part : Part) → NobodyTakes part → (e : Entity) (raised : Option Status) → told part e raised ≡ part
+untold : (part : Part) → NobodyTakes part.dds.listeners → (e : Entity) (raised : Option Status) → told part e raised ≡ part
 untold part nobody e None = refl
 untold part nobody e (Some status) = ap (λ (o : Option Entity). told_to o part e status) (nobody e status)
 
@@ -69,14 +75,15 @@ each_untold : (tell : ℕ → Part → Part) (part : Part) → ((n : ℕ) → te
 each_untold tell part one zero = refl
 each_untold tell part one (suc n) = ap (λ (p : Part). tell (suc n) p) (each_untold tell part one n) ∙ one (suc n)
 
-reader_untold : (before part : Part) → NobodyTakes part → (n : ℕ) → reader_told before n part ≡ part
+reader_untold : (before part : Part) → NobodyTakes part.dds.listeners → (n : ℕ) → reader_told before n part ≡ part
 reader_untold before part nobody n =
     ap (λ (p : Part). turn_told before n (data_told before n p)) (untold part nobody (entity.Reader n) (lost_raised (own_reader before n) (own_reader part n)))
     ∙ (ap (λ (p : Part). turn_told before n p) (untold part nobody (entity.Reader n) (data_raised (own_reader before n) (own_reader part n)))
     ∙ untold part nobody (entity.Reader n) (turn_raised (own_reader before n) (own_reader part n)))
 
 -- an event's end changes nothing then
-pub end_untold : (before part : Part) → NobodyTakes part → at_end before part ≡ part
+pub end_untold : (before part : Part) → NobodyTakes part.dds.listeners → at_end before part ≡ part
+unfolding at_end
 end_untold before part nobody =
     ap (λ (p : Part). each_told (reader_told before) (length part.dds.readers) p)
     (each_untold (writer_told before) part (λ n. untold part nobody (entity.Writer n) (loss_raised (own_writer before n) (own_writer part n))) (length part.rtps.writers))

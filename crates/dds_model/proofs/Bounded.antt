@@ -30,6 +30,8 @@ use Rattle.dds_model.specs.Bounds.{IsBounded}
 use Rattle.dds_model.proofs.Tables.{numbered-cases, place-cases, place-heard}
 use Rattle.dds_model.proofs.Growth.{MachineGrows, with_part, with_part-grows, CallStep-grows, TickStep-grows, TickStep-rows, DeliveryStep-grows, writer-changes, change_at-within}
 use Rattle.dds_model.proofs.Composed.{parts_at}
+use Rattle.dds_model.specs.Noticing.{machine_ended}
+use Rattle.dds_model.proofs.EndsBeside.{ended_bounded}
 use Rattle.dds_model.proofs.OpenedPeers.{IsFresh, fresh_place, none_is_fresh, peer_is_fresh}
 
 -- what is dropped is there
@@ -173,7 +175,8 @@ run_bounded : (config : Config) (tests : AllTests) (m after : Machine) (events :
     → Run config tests sent m events replies last after → IsBounded m → IsBounded after
 run_bounded config tests m after [] [] sent last run b = subst (λ (x : Machine). IsBounded x) (sym run.0) b
 run_bounded config tests m after (e ∷ es) (p ∷ ps) sent last run b =
-    run_bounded config tests run.0 after es ps run.1 last run.5 (steps_bounded tests (length sent.sent) m e p run.0 b run.2)
+    run_bounded config tests (machine_ended m e run.0) after es ps run.1 last run.5
+    (ended_bounded m e run.0 (steps_bounded tests (length sent.sent) m e p run.0 b run.2))
 run_bounded config tests m after [] (p ∷ ps) sent last run b = absurd run
 run_bounded config tests m after (e ∷ es) [] sent last run b = absurd run
 

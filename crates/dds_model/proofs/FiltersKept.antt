@@ -1,6 +1,6 @@
 -- No event adds a filter, or sets a listener, or tells one: a peer has as many filters after a step as before it, and the
 -- same places of listeners.
-use Rattle.std.proofs.Common.{◌≡◌, ℕ, ◌+◌, zero, suc, Bool, true, false, List, [], ◌∷◌, get_or, length, map, refl, ap, sym, ◌∙◌, inl, inr}
+use Rattle.std.proofs.Common.{◌≡◌, ℕ, ◌+◌, zero, suc, Bool, true, false, List, [], ◌∷◌, get_or, length, map, refl, ap, sym, ◌∙◌, subst, inl, inr}
 use Rattle.std.specs.Prelude.{Option, Some, None}
 use Rattle.std.proofs.lemmas.List.{length-map}
 use Rattle.rtps_wire.specs.declared.submessage.Submessage.{Submessage}
@@ -18,7 +18,8 @@ use Rattle.dds_conditions.specs.declared.condition.Cond.{Cond}
 use Rattle.dds_base.specs.declared.entity.Entity.{Entity}
 use Rattle.dds_base.specs.declared.entity.Entity.TheVariants.{Participant, Writer, Reader}
 use Rattle.dds_notices.specs.declared.mask.StatusMask.{StatusMask}
-use Rattle.dds_notices.specs.Listeners.{Places, nobody}
+use Rattle.dds_notices.specs.Listeners.{NobodyTakes, Places, nobody}
+use Rattle.dds_notices.proofs.ListenerLaws.{nobody_is_told}
 use Rattle.dds_conditions.specs.Watched.{Watched, with_enabled}
 use Rattle.dds_model.specs.declared.call.Call.{Call}
 use Rattle.dds_model.specs.declared.call.Call.TheVariants.{Register, Write, Dispose, Unregister, AssertLiveliness, Read, Take, GetKeyValue, LookupInstance, GetSampleLost, GetLivelinessChanged, GetLivelinessLost, ReadByCondition, TakeByCondition, CreateReadCondition, CreateQueryCondition, CreateGuardCondition, SetTriggerValue, DeleteCondition, GetTriggerValue, CreateWaitSet, DeleteWaitSet, AttachCondition, DetachCondition, GetConditions, WaitBegin, WaitLook, WaitEnd, SetEnabledStatuses, GetStatusChanges}
@@ -206,3 +207,9 @@ pub opens_nobody : (config : Config) (n : ℕ)
     ≡ nobody (length (peer_at (opening_world config) n).part.rtps.writers) (length (peer_at (opening_world config) n).part.dds.readers)
 opens_nobody config zero = refl
 opens_nobody config (suc n) = nobody_yet config.peers 1 config.peers n
+
+-- and nobody takes a status there
+pub opens_untold_at : (config : Config) (i : ℕ) → NobodyTakes (get_or (opening_world config).peers i no_peer).part.dds.listeners
+opens_untold_at config i =
+    subst (λ (p : Places). NobodyTakes p) (sym (nobody_yet config.peers 1 config.peers i))
+    (nobody_is_told (length (get_or (opening_world config).peers i no_peer).part.rtps.writers) (length (get_or (opening_world config).peers i no_peer).part.dds.readers))

@@ -42,6 +42,8 @@ use Rattle.dds_model.specs.Peer.{Peer}
 use Rattle.dds_model.proofs.Tables.{numbered-cases, numbered-map-cases, numbered-same, length-with_numbered, place-cases, place-hits, place-heard, same_is}
 use Rattle.dds_model.proofs.Growth.{CallStep-grows, TickStep-rows, TickStep-readers, TickStep-grows, DeliveryStep-grows, MachineGrows, with_part-grows, writer-changes}
 use Rattle.dds_model.proofs.RunLaws.{keeps_all, Step-policy}
+use Rattle.dds_model.specs.Noticing.{machine_ended}
+use Rattle.dds_model.proofs.EndsBeside.{ended_alike, ended_policy, ended_writer}
 use Rattle.dds_model.proofs.InOrder.{same_self, publication_kept, publication_there, Along, along_as, RestsOn, goes_along, others_go, different}
 
 has_with : {X : Type 0} (xs : List X) (i : ℕ) (x : X) (j : ℕ) → HasNumber xs j → HasNumber (with_numbered xs i x) j
@@ -382,9 +384,28 @@ step_in_order tests sent m (world.Deliver peer packet) reply new w r (inl h) o =
     (λ k l. lane_delivery (writer_changes (writer_at m w)) (grounds_of m peer) (part_at m peer) w k reply h.2.after (rests_on m peer w k o.all) l h.2.step) o
 step_in_order tests sent m (world.Deliver peer packet) reply new w r (inr h) o = subst (λ (x : Machine). InOrder x w r) (sym h.1.1) o
 
+-- the end of an event
+ended_in_order : (before : Machine) (e : WorldEvent) (m : Machine) (w r : Endpoint) → InOrder m w r → InOrder (machine_ended before e m) w r
+ended_in_order before e m w r o =
+    let old : Part = part_at m r.peer in
+    let new : Part = part_at (machine_ended before e m) r.peer in
+    let alike = ended_alike before e m r.peer in
+    let rows : own_proxies new r.number ≡ own_proxies old r.number = ap (λ (xs : List (List WriterProxy)). numbered xs r.number []) alike.rows in
+    record {
+      all = ended_policy before e m w ∙ o.all;
+      lane = subst (λ (changes : List Change). Lane changes new w r.number) (sym (ended_writer before e m w).changes)
+          (lane_as (writer_changes (writer_at m w)) old new w r.number o.lane
+          (subst (λ (xs : List (List WriterProxy)). HasNumber xs r.number) (sym alike.rows) o.lane.rows)
+          (subst (λ (n : ℕ). (1 ≤ r.number) × (r.number ≤ n)) (sym alike.readers) o.lane.own)
+          (ap (λ (xs : List WriterProxy). publication_of xs w) rows) (ap (λ (xs : List WriterProxy). place_of xs w) rows)
+          (ap (λ (h : List Happening). came_from o.lane.publication h) (alike.happened r.number)));
+    }
+
 run_in_order : (config : Config) (tests : AllTests) (m after : Machine) (events : List WorldEvent) (replies : List Reply) (sent last : Traffic) (w r : Endpoint) → Run config tests sent m events replies last after → InOrder m w r → InOrder after w r
 run_in_order config tests m after [] [] sent last w r run o = subst (λ (x : Machine). InOrder x w r) (sym run.0) o
-run_in_order config tests m after (e ∷ es) (p ∷ ps) sent last w r run o = run_in_order config tests run.0 after es ps run.1 last w r run.5 (step_in_order tests (length sent.sent) m e p run.0 w r run.2 o)
+run_in_order config tests m after (e ∷ es) (p ∷ ps) sent last w r run o =
+    run_in_order config tests (machine_ended m e run.0) after es ps run.1 last w r run.5
+    (ended_in_order m e run.0 w r (step_in_order tests (length sent.sent) m e p run.0 w r run.2 o))
 run_in_order config tests m after [] (p ∷ ps) sent last w r run o = absurd run
 run_in_order config tests m after (e ∷ es) [] sent last w r run o = absurd run
 

@@ -60,4 +60,7 @@ pub mod PairFound
 pub mod Compared
 pub mod FiltersKept
 pub mod AtEnds
+pub mod Alike
 pub mod SameBeside
+pub mod EndsBeside
+pub mod PairEnded

@@ -36,6 +36,11 @@ use Rattle.dds_model.proofs.PairAsked.{Asking, Took, has_writer}
 use Rattle.dds_model.proofs.PairHeard.{Pairing, writer_prefix, reader_prefix, writer_id, reader_host, writer_host, there, back, for_itself, topic_is, to_reader, reader_ends, ask_body, delivered_takes, delivered_others}
 use Rattle.dds_model.proofs.PairMessages.{HasChange, Answered, answers_packet}
 use Rattle.dds_model.proofs.PairReader.{standing_of, Seat}
+use Rattle.dds_model.specs.declared.event.WorldEvent.{WorldEvent}
+use Rattle.dds_model.specs.declared.event.WorldEvent.TheVariants as world
+use Rattle.dds_model.specs.Noticing.{world_ended}
+use Rattle.dds_model.specs.Numbered.{numbered}
+use Rattle.dds_model.proofs.PairEnded.{rows_ended, seat_ended, standing_ended}
 use Rattle.dds_model.proofs.Tables.{numbered-same, acknowledged-hits}
 
 -- ---- the ACKNACK
@@ -163,7 +168,7 @@ ungrouped m answers (g ∷ gs) old new are h =
 pub record Repaired (p : Pairing) (m : Match) (groups : List (List Answer)) (old new : WorldState) : Type 0 where
   pub seat : Seat m p.writer p.reader.number (state_of (peer_at new p.reader.peer))
   pub takes : TakesGroups m groups (standing_of (state_of (peer_at old p.reader.peer)) p.writer p.reader.number) (standing_of (state_of (peer_at new p.reader.peer)) p.writer p.reader.number)
-  pub writers : (peer_at new p.writer.peer).part.rtps.writers ≡ (peer_at old p.writer.peer).part.rtps.writers
+  pub rows : (k : ℕ) → (own_writer (peer_at new p.writer.peer).part k).readers ≡ (own_writer (peer_at old p.writer.peer).part k).readers
 
 -- the message with a group of answers
 abbrev pub group_due : Pairing → EntityId → List Change → List Answer → Due
@@ -182,15 +187,26 @@ pub answers_delivered : (p : Pairing) (tests : AllTests) (m : Match) (entity : E
     → (old new : WorldState) → Seat m p.writer p.reader.number (state_of (peer_at old p.reader.peer)) → DeliversAll p.config tests old p.reader.peer (map post (map (group_due p entity changes) groups)) new
     → Repaired p m groups old new
 answers_delivered p tests m entity is changes [] writable all old new seat h =
-    subst (λ (x : WorldState). Repaired p m [] old x) (sym h) (record { seat = seat; takes = refl; writers = refl })
+    subst (λ (x : WorldState). Repaired p m [] old x) (sym h) (record { seat = seat; takes = refl; rows = λ k. refl })
 answers_delivered p tests m entity is changes (g ∷ gs) writable all old new seat h =
     let one = one_group p tests m entity is changes g writable.0 (All-head (All (HasChange changes)) g gs all) old h.1 h.0 h.2 seat in
-    let rest = answers_delivered p tests m entity is changes gs writable.1 (All-tail (All (HasChange changes)) g gs all) h.0 new one.seat h.3 in
+    let event : WorldEvent = world.Deliver p.reader.peer h.2.number in
+    let mid : WorldState = world_ended old event h.0 in
+    let rest = answers_delivered p tests m entity is changes gs writable.1 (All-tail (All (HasChange changes)) g gs all) mid new
+    (seat_ended old event h.0 p.reader.peer m p.writer p.reader.number one.seat) h.3 in
     record {
       seat = rest.seat;
-      takes = (standing_of (state_of (peer_at h.0 p.reader.peer)) p.writer p.reader.number, one.takes, rest.takes);
-      writers = rest.writers
-          ∙ ⊎_elim (λ e. subst (λ (n : ℕ). (peer_at h.0 n).part.rtps.writers ≡ (peer_at old n).part.rtps.writers) (sym e) one.keeps.writers)
+      takes = (
+        standing_of (state_of (peer_at h.0 p.reader.peer)) p.writer p.reader.number,
+        one.takes,
+        subst (λ (s : Standing). TakesGroups m gs s (standing_of (state_of (peer_at new p.reader.peer)) p.writer p.reader.number))
+            (standing_ended old event h.0 p.reader.peer p.writer p.reader.number) rest.takes,
+      );
+      rows = λ k.
+          rest.rows k
+          ∙ (rows_ended old event h.0 p.writer.peer k
+          ∙ ap (λ (ws : List Writer). (numbered ws k no_writer).readers)
+          (⊎_elim (λ e. subst (λ (n : ℕ). (peer_at h.0 n).part.rtps.writers ≡ (peer_at old n).part.rtps.writers) (sym e) one.keeps.writers)
           (λ apart. ap (λ (x : Peer). x.part.rtps.writers) (delivered_others p.config tests old p.reader.peer (post (group_due p entity changes g)) h.1 h.0 h.2 p.writer.peer apart))
-          (number_or_not p.writer.peer p.reader.peer);
+          (number_or_not p.writer.peer p.reader.peer)));
     }

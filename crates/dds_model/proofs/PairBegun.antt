@@ -22,7 +22,7 @@ use Rattle.dds_model.specs.World.{WorldState, peer_at, machine_of, Sound}
 use Rattle.dds_model.specs.Bounds.{IsBounded}
 use Rattle.dds_model.specs.CatchUp.{Standing, GoesOn}
 use Rattle.dds_model.specs.Fresh.{HasUsedCounts, tracked_at}
-use Rattle.dds_model.specs.Repair.{BeginsRound, IsPair, StandsAt}
+use Rattle.dds_model.specs.Repair.{beat_in, ticked_in, BeginsRound, IsPair, StandsAt}
 use Rattle.dds_model.proofs.CaughtUp.{on_forward}
 use Rattle.dds_model.proofs.Composed.{parts_at}
 use Rattle.dds_model.proofs.DuesMatched.{own_name}
@@ -32,6 +32,8 @@ use Rattle.dds_model.proofs.Knowing.{answered_same}
 use Rattle.dds_model.proofs.PairAsked.{has_writer}
 use Rattle.dds_model.proofs.PairHeard.{Pairing, reader_host, there, Heard, hears_beat, delivered_others, stays_sound}
 use Rattle.dds_model.proofs.PairReader.{standing_of, Seat, HearsBy}
+use Rattle.dds_model.proofs.EndsBeside.{ended_sound, world_bounded}
+use Rattle.dds_model.proofs.PairEnded.{changes_ended, known_ended, leaves_ended, rows_ended, seat_ended, standing_ended}
 use Rattle.dds_model.proofs.PairTicked.{ticks_there, new_count, beat_of, beat_message, BeatPacket, beat_packet, TickLeaves, tick_leaves}
 
 -- the beginning of a round, and what it rests on
@@ -87,8 +89,14 @@ pairing c = record {
 
 -- ---- the tick
 
-pub left : (c : Begun) (p : ℕ) → TickLeaves c.old c.begins.ticked p
-left c p = tick_leaves c.config c.tests c.old c.writer.peer c.begins.now c.begins.ticked c.begins.ticks.step p
+-- the network at its end
+abbrev pub noted_tick : Begun → WorldState
+noted_tick c = ticked_in c.begins
+
+pub left : (c : Begun) (p : ℕ) → TickLeaves c.old (noted_tick c) p
+left c p =
+    leaves_ended c.old (world.Tick c.writer.peer c.begins.now) c.begins.ticked p c.old
+    (tick_leaves c.config c.tests c.old c.writer.peer c.begins.now c.begins.ticked c.begins.ticks.step p)
 
 abbrev pub body : Begun → HeartbeatBody
 body c = beat_of c.config c.writer.peer (writer_part c) c.writer.number
@@ -98,7 +106,7 @@ beaten c = beat_packet c.config c.tests c.old c.begins.now c.begins.lost_beats c
 
 -- the reader's peer after the tick
 abbrev pub ticked_reader : Begun → State
-ticked_reader c = state_of (peer_at c.begins.ticked c.reader.peer)
+ticked_reader c = state_of (peer_at (noted_tick c) c.reader.peer)
 
 pub place_ticked : (c : Begun) → place_of (own_proxies (ticked_reader c).part c.reader.number) c.writer ≡ Some c.place
 place_ticked c =
@@ -139,7 +147,7 @@ heard_reader c = state_of (peer_at c.heard c.reader.peer)
 
 pub packet : (c : Begun) → Heard (pairing c) (body c) (match c) (ticked_reader c) c.begins.hears.step.dues (heard_reader c)
 packet c =
-    hears_beat (pairing c) c.tests (writer_part c) (match c) c.begins.ticked c.begins.beat c.begins.lost_asks c.heard
+    hears_beat (pairing c) c.tests (writer_part c) (match c) (noted_tick c) c.begins.beat c.begins.lost_asks c.heard
     (subst (λ (n : ℕ). IsWritable (beat_message c.config c.writer.peer (writer_part c) c.writer.number n)) c.begins.beat_to (beaten c).writable)
     ((beaten c).bytes ∙ ap (λ (n : ℕ). spelling_of (beat_message c.config c.writer.peer (writer_part c) c.writer.number n)) c.begins.beat_to)
     c.begins.hears (seat_ticked c) (beat_later c)
@@ -174,43 +182,62 @@ seat_heard c = (hears c).seat
 -- ---- the writer's peer, once the HEARTBEAT was heard
 
 abbrev pub ticked_writer : Begun → State
-ticked_writer c = state_of (peer_at c.begins.ticked c.writer.peer)
+ticked_writer c = state_of (peer_at (noted_tick c) c.writer.peer)
+
+-- the network at the end of that
+abbrev pub noted_beat : Begun → WorldState
+noted_beat c = beat_in c.begins
 
 abbrev pub heard_writer : Begun → State
-heard_writer c = state_of (peer_at c.heard c.writer.peer)
+heard_writer c = state_of (peer_at (noted_beat c) c.writer.peer)
 
-pub same_writers : (c : Begun) → (heard_writer c).part.rtps.writers ≡ (ticked_writer c).part.rtps.writers
+same_writers : (c : Begun) → (peer_at c.heard c.writer.peer).part.rtps.writers ≡ (ticked_writer c).part.rtps.writers
 same_writers c =
-    ⊎_elim (λ e. subst (λ (n : ℕ). (peer_at c.heard n).part.rtps.writers ≡ (peer_at c.begins.ticked n).part.rtps.writers) (sym e) (packet c).keeps.writers)
-    (λ apart. ap (λ (x : Peer). x.part.rtps.writers) (delivered_others c.config c.tests c.begins.ticked c.reader.peer c.begins.beat c.begins.lost_asks c.heard c.begins.hears c.writer.peer apart))
+    ⊎_elim (λ e. subst (λ (n : ℕ). (peer_at c.heard n).part.rtps.writers ≡ (peer_at (noted_tick c) n).part.rtps.writers) (sym e) (packet c).keeps.writers)
+    (λ apart. ap (λ (x : Peer). x.part.rtps.writers) (delivered_others c.config c.tests (noted_tick c) c.reader.peer c.begins.beat c.begins.lost_asks c.heard c.begins.hears c.writer.peer apart))
     (number_or_not c.writer.peer c.reader.peer)
 
 pub same_answered : (c : Begun) → (heard_writer c).known.answered c.writer.number c.reader ≡ (peer_at c.old c.writer.peer).known.answered c.writer.number c.reader
 same_answered c =
-    ⊎_elim
-    (λ e. subst (λ (n : ℕ). (peer_at c.heard n).known.answered c.writer.number c.reader ≡ (peer_at c.begins.ticked n).known.answered c.writer.number c.reader) (sym e) ((packet c).keeps.answered c.writer.number c.reader))
-    (λ apart. ap (λ (x : Peer). x.known.answered c.writer.number c.reader) (delivered_others c.config c.tests c.begins.ticked c.reader.peer c.begins.beat c.begins.lost_asks c.heard c.begins.hears c.writer.peer apart))
+    ap (λ (k : Known). k.answered c.writer.number c.reader) (known_ended (noted_tick c) (world.Deliver c.reader.peer c.begins.hears.number) c.heard c.writer.peer)
+    ∙ (⊎_elim
+    (λ e. subst (λ (n : ℕ). (peer_at c.heard n).known.answered c.writer.number c.reader ≡ (peer_at (noted_tick c) n).known.answered c.writer.number c.reader) (sym e) ((packet c).keeps.answered c.writer.number c.reader))
+    (λ apart. ap (λ (x : Peer). x.known.answered c.writer.number c.reader) (delivered_others c.config c.tests (noted_tick c) c.reader.peer c.begins.beat c.begins.lost_asks c.heard c.begins.hears c.writer.peer apart))
     (number_or_not c.writer.peer c.reader.peer)
-    ∙ ap (λ (k : Known). k.answered c.writer.number c.reader) (left c c.writer.peer).known
+    ∙ ap (λ (k : Known). k.answered c.writer.number c.reader) (left c c.writer.peer).known)
 
 abbrev pub writer_heard : Begun → Writer
 writer_heard c = own_writer (heard_writer c).part c.writer.number
 
 pub row_heard : (c : Begun) → HasRow (writer_heard c) c.reader c.acknowledged
 row_heard c =
-    ap (λ (ws : List Writer). acknowledged_of (numbered ws c.writer.number no_writer).readers c.reader) (same_writers c)
-    ∙ (ap (λ (rows : List ReaderProxy). acknowledged_of rows c.reader) ((left c c.writer.peer).acknowledged c.writer.number) ∙ row_old c)
+    ap (λ (rows : List ReaderProxy). acknowledged_of rows c.reader)
+    (rows_ended (noted_tick c) (world.Deliver c.reader.peer c.begins.hears.number) c.heard c.writer.peer c.writer.number)
+    ∙ (ap (λ (ws : List Writer). acknowledged_of (numbered ws c.writer.number no_writer).readers c.reader) (same_writers c)
+    ∙ (ap (λ (rows : List ReaderProxy). acknowledged_of rows c.reader) ((left c c.writer.peer).acknowledged c.writer.number) ∙ row_old c))
 
 pub changes_heard : (c : Begun) → writer_changes (writer_heard c) ≡ writer_changes (the_writer c)
 changes_heard c =
-    ap (λ (ws : List Writer). writer_changes (numbered ws c.writer.number no_writer)) (same_writers c)
-    ∙ (left c c.writer.peer).changes c.writer.number
+    changes_ended (noted_tick c) (world.Deliver c.reader.peer c.begins.hears.number) c.heard c.writer.peer c.writer.number
+    ∙ (ap (λ (ws : List Writer). writer_changes (numbered ws c.writer.number no_writer)) (same_writers c)
+    ∙ (left c c.writer.peer).changes c.writer.number)
+
+-- the reader at the end of it
+pub seat_noted : (c : Begun) → Seat (match c) c.writer c.reader.number (state_of (peer_at (noted_beat c) c.reader.peer))
+seat_noted c =
+    seat_ended (noted_tick c) (world.Deliver c.reader.peer c.begins.hears.number) c.heard c.reader.peer (match c) c.writer c.reader.number (seat_heard c)
+
+pub standing_noted : (c : Begun) → standing_of (state_of (peer_at (noted_beat c) c.reader.peer)) c.writer c.reader.number ≡ standing_of (heard_reader c) c.writer c.reader.number
+standing_noted c =
+    standing_ended (noted_tick c) (world.Deliver c.reader.peer c.begins.hears.number) c.heard c.reader.peer c.writer c.reader.number
 
 -- the network then
 pub sound_heard : (c : Begun) → Sound c.config c.heard × IsBounded (machine_of c.heard)
 sound_heard c =
     let first = stays_sound c.config c.tests c.old (world.Tick c.writer.peer c.begins.now) Done c.begins.lost_beats c.begins.ticked c.begins.ticks c.sound c.bounded in
-    stays_sound c.config c.tests c.begins.ticked (world.Deliver c.reader.peer c.begins.hears.number) (Reported c.begins.hears.report) c.begins.lost_asks c.heard c.begins.hears.step first.0 first.1
+    stays_sound c.config c.tests (noted_tick c) (world.Deliver c.reader.peer c.begins.hears.number) (Reported c.begins.hears.report) c.begins.lost_asks c.heard c.begins.hears.step
+    (ended_sound c.config c.old (world.Tick c.writer.peer c.begins.now) c.begins.ticked first.0)
+    (world_bounded c.old (world.Tick c.writer.peer c.begins.now) c.begins.ticked first.1)
 
 -- the place of the ACKNACK is not past the next number
 pub place_heard : (c : Begun) → (heard_of c).place ≤ the_last c + 1
@@ -221,5 +248,7 @@ place_heard c =
     place_is c.heard c.reader c.writer ∙ ((seat_heard c).place ∙ ap (λ (n : ℕ). Some n) place) in
     let le = (sound_heard c).1 c.reader c.writer (heard_of c).place at in
     let last : length (writer_changes (writer_at (machine_of c.heard) c.writer)) ≡ length (writer_changes (the_writer c)) =
-    ap (λ (w : Writer). length (writer_changes w)) (writer_is c.heard c.writer) ∙ ap (λ (cs : List Change). length cs) (changes_heard c) in
+    ap (λ (w : Writer). length (writer_changes w)) (writer_is c.heard c.writer)
+    ∙ ap (λ (cs : List Change). length cs)
+    (ap (λ (ws : List Writer). writer_changes (numbered ws c.writer.number no_writer)) (same_writers c) ∙ (left c c.writer.peer).changes c.writer.number) in
     omega (arith, le, last)

@@ -22,8 +22,7 @@ use Rattle.dds_model.specs.declared.endpoint.Endpoint.{Endpoint}
 use Rattle.dds_model.specs.declared.event.Packet.{Packet}
 use Rattle.dds_model.specs.declared.event.WorldEvent.TheVariants as world
 use Rattle.dds_model.specs.declared.reply.Reply.TheVariants.{Reported}
-use Rattle.dds_model.specs.Numbered.{numbered}
-use Rattle.dds_model.specs.Part.{Writer, no_writer, own_reader, acknowledged_of, writer_changes, history_of, NoLess}
+use Rattle.dds_model.specs.Part.{Writer, own_reader, acknowledged_of, writer_changes, history_of, NoLess}
 use Rattle.dds_model.specs.Moves.{match_of, position_of}
 use Rattle.dds_model.specs.Machine.{AllTests, writer_at}
 use Rattle.dds_model.specs.Peer.{Peer, state_of}
@@ -47,7 +46,11 @@ use Rattle.dds_model.proofs.PairMessages.{HasChange, acknack_packet}
 use Rattle.dds_model.proofs.PairReader.{standing, standing_of, Seat}
 use Rattle.dds_model.proofs.PairTicked.{new_count}
 use Rattle.dds_model.proofs.Tables.{acknowledged-hits}
-use Rattle.dds_model.proofs.PairBegun.{Begun, HasRow, writer_is, place_is, pairing, body, ticked_reader, match, knows_place, heard_reader, hears, heard_of, the_last, goes, forward, acknacks, seat_heard, heard_writer, same_answered, writer_heard, row_heard, changes_heard, place_heard, packet}
+use Rattle.dds_model.specs.declared.event.WorldEvent.{WorldEvent}
+use Rattle.dds_model.specs.Noticing.{world_ended}
+use Rattle.dds_model.specs.Part.{ReaderProxy}
+use Rattle.dds_model.proofs.PairEnded.{rows_ended, seat_ended, standing_ended}
+use Rattle.dds_model.proofs.PairBegun.{noted_beat, noted_tick, seat_noted, standing_noted, Begun, HasRow, writer_is, place_is, pairing, body, ticked_reader, match, knows_place, heard_reader, hears, heard_of, the_last, goes, forward, acknacks, heard_writer, same_answered, writer_heard, row_heard, changes_heard, place_heard, packet}
 
 -- a round, but for its answers
 record AskedRound : Type 0 where
@@ -57,13 +60,13 @@ record AskedRound : Type 0 where
   ask_count : ℤ
   ask_of : HasAckNack first.config ask.bytes first.writer first.reader ask_count
   after_ask : WorldState
-  answers : Delivers first.config first.tests first.heard first.writer.peer ask 0 after_ask
+  answers : Delivers first.config first.tests (noted_beat first) first.writer.peer ask 0 after_ask
 
 -- the reader's ACKNACK
 asked : (c : AskedRound) → HasAsked (pairing c.first) (body c.first) (match c.first) (ticked_reader c.first) (heard_reader c.first) c.first.begins.hears.step.dues (packet c.first) c.ask
 asked c =
     ask_found (pairing c.first) (body c.first) refl (match c.first) (ticked_reader c.first) (heard_reader c.first) c.first.begins.hears.step.dues (packet c.first) c.ask c.ask_count c.ask_of
-    (sent_written c.first.config c.first.tests c.first.begins.ticked (world.Deliver c.first.reader.peer c.first.begins.hears.number) (Reported c.first.begins.hears.report) c.first.begins.lost_asks c.first.heard c.first.begins.hears.step c.ask c.ask_sent)
+    (sent_written c.first.config c.first.tests (noted_tick c.first) (world.Deliver c.first.reader.peer c.first.begins.hears.number) (Reported c.first.begins.hears.report) c.first.begins.lost_asks c.first.heard c.first.begins.hears.step c.ask c.ask_sent)
 
 tells : (c : AskedRound) → Tells (heard_of c.first) (the_last c.first) (asked c).x
 tells c =
@@ -114,7 +117,7 @@ took c =
     acknack_packet (asks c) refl (reader_prefix (pairing c.first)) (writer_prefix (pairing c.first)) refl (heard_writer c.first) c.answers.report c.answers.step.dues (asked_writer c)
     (ask_new c) (c.first.acknowledged, row_heard c.first) (asked c).writable c.answers.whole
     (subst (λ (b : List ℕ). TakesPacket c.first.config c.first.writer.peer b (heard_writer c.first) c.answers.report c.answers.step.dues (asked_writer c)) (asked c).bytes
-    (delivered_takes c.first.config c.first.tests c.first.heard c.first.writer.peer c.ask 0 c.after_ask c.answers))
+    (delivered_takes c.first.config c.first.tests (noted_beat c.first) c.first.writer.peer c.ask 0 c.after_ask c.answers))
 
 -- what the writer then has of the reader
 abbrev known_to_writer : AskedRound → ℕ
@@ -152,22 +155,30 @@ seat_asked c =
     (λ e.
     subst (λ (n : ℕ). Seat (match c.first) c.first.writer c.first.reader.number (state_of (peer_at c.after_ask n))) (sym e)
     (took_seat (asks c) (heard_writer c.first) (asked_writer c) c.answers.step.dues (took c) (match c.first) c.first.writer c.first.reader.number
-    (subst (λ (n : ℕ). Seat (match c.first) c.first.writer c.first.reader.number (state_of (peer_at c.first.heard n))) e (seat_heard c.first))))
+    (subst (λ (n : ℕ). Seat (match c.first) c.first.writer c.first.reader.number (state_of (peer_at (noted_beat c.first) n))) e (seat_noted c.first))))
     (λ apart.
-    subst (λ (x : Peer). Seat (match c.first) c.first.writer c.first.reader.number (state_of x)) (sym (delivered_others c.first.config c.first.tests c.first.heard c.first.writer.peer c.ask 0 c.after_ask c.answers c.first.reader.peer apart))
-    (seat_heard c.first))
+    subst (λ (x : Peer). Seat (match c.first) c.first.writer c.first.reader.number (state_of x)) (sym (delivered_others c.first.config c.first.tests (noted_beat c.first) c.first.writer.peer c.ask 0 c.after_ask c.answers c.first.reader.peer apart))
+    (seat_noted c.first))
     (number_or_not c.first.reader.peer c.first.writer.peer)
 
 standing_asked : (c : AskedRound) → standing_of (asked_reader c) c.first.writer c.first.reader.number ≡ standing_of (heard_reader c.first) c.first.writer c.first.reader.number
 standing_asked c =
     ⊎_elim
     (λ e.
-    subst (λ (n : ℕ). standing_of (state_of (peer_at c.after_ask n)) c.first.writer c.first.reader.number ≡ standing_of (state_of (peer_at c.first.heard n)) c.first.writer c.first.reader.number) (sym e)
+    subst (λ (n : ℕ). standing_of (state_of (peer_at c.after_ask n)) c.first.writer c.first.reader.number ≡ standing_of (state_of (peer_at (noted_beat c.first) n)) c.first.writer c.first.reader.number) (sym e)
     (took_standing (asks c) (heard_writer c.first) (asked_writer c) c.answers.step.dues (took c) c.first.writer c.first.reader.number))
     (λ apart.
     ap (λ (x : Peer). standing_of (state_of x) c.first.writer c.first.reader.number)
-    (delivered_others c.first.config c.first.tests c.first.heard c.first.writer.peer c.ask 0 c.after_ask c.answers c.first.reader.peer apart))
+    (delivered_others c.first.config c.first.tests (noted_beat c.first) c.first.writer.peer c.ask 0 c.after_ask c.answers c.first.reader.peer apart))
     (number_or_not c.first.reader.peer c.first.writer.peer)
+    ∙ standing_noted c.first
+
+-- the network at the end of it
+abbrev ask_event : AskedRound → WorldEvent
+ask_event c = world.Deliver c.first.writer.peer c.answers.number
+
+abbrev noted_ask : AskedRound → WorldState
+noted_ask c = world_ended (noted_beat c.first) (ask_event c) c.after_ask
 
 abbrev entity_of : AskedRound → EntityId
 entity_of c = (took c).is.entity
@@ -192,16 +203,17 @@ the_answers c = answers_of (asks c) (heard_writer c.first) (asked_writer c) c.an
 record Round : Type 0 where
   given : AskedRound
   new : WorldState
-  repairs : DeliversAll given.first.config given.first.tests given.after_ask given.first.reader.peer given.answers.step.packets new
+  repairs : DeliversAll given.first.config given.first.tests (noted_ask given) given.first.reader.peer given.answers.step.packets new
 
-repaired : (c : Round) → Repaired (pairing c.given.first) (match c.given.first) (took c.given).takes.groups c.given.after_ask c.new
+repaired : (c : Round) → Repaired (pairing c.given.first) (match c.given.first) (took c.given).takes.groups (noted_ask c.given) c.new
 repaired c =
     answers_delivered (pairing c.given.first) c.given.first.tests (match c.given.first) (entity_of c.given)
     (reader_entities c.given.first.config (reader_prefix (pairing c.given.first)) (reader_prefix (pairing c.given.first)) (entity_of c.given) c.given.first.pair.reader_entity c.given.first.reader (took c.given).is.from c.given.first.pair.is_reader)
     (writer_changes (there_after c.given)) (took c.given).takes.groups (all_writable c.given)
     (all_grouped (HasChange (writer_changes (there_after c.given))) (the_answers c.given) (took c.given).takes.groups (took c.given).takes.grouped
-    (have_changes (history_of (there_after c.given)) (requested (asked c.given).x.missing (known_to_writer c.given) (length (writer_changes (there_after c.given)))))) c.given.after_ask c.new (seat_asked c.given)
-    (subst (λ (ps : List Packet). DeliversAll c.given.first.config c.given.first.tests c.given.after_ask c.given.first.reader.peer ps c.new) (sent_all c.given) c.repairs)
+    (have_changes (history_of (there_after c.given)) (requested (asked c.given).x.missing (known_to_writer c.given) (length (writer_changes (there_after c.given)))))) (noted_ask c.given) c.new
+    (seat_ended (noted_beat c.given.first) (ask_event c.given) c.given.after_ask c.given.first.reader.peer (match c.given.first) c.given.first.writer c.given.first.reader.number (seat_asked c.given))
+    (subst (λ (ps : List Packet). DeliversAll c.given.first.config c.given.first.tests (noted_ask c.given) c.given.first.reader.peer ps c.new) (sent_all c.given) c.repairs)
 
 -- ---- the window
 
@@ -210,8 +222,10 @@ new_reader c = state_of (peer_at c.new c.given.first.reader.peer)
 
 takes_all : (c : Round) → TakesAnswers (match c.given.first) (the_answers c.given) (standing (answered (Some (asked c.given).x) (heard_of c.given.first)) (own_reader (hears c.given.first).heard.part c.given.first.reader.number).happened) (standing_of (new_reader c) c.given.first.writer c.given.first.reader.number)
 takes_all c =
-    subst (λ (s : Standing). TakesAnswers (match c.given.first) (the_answers c.given) s (standing_of (new_reader c) c.given.first.writer c.given.first.reader.number)) (standing_asked c.given ∙ told c.given)
-    (ungrouped (match c.given.first) (the_answers c.given) (took c.given).takes.groups (standing_of (asked_reader c.given) c.given.first.writer c.given.first.reader.number) (standing_of (new_reader c) c.given.first.writer c.given.first.reader.number) (took c.given).takes.grouped (repaired c).takes)
+    subst (λ (s : Standing). TakesAnswers (match c.given.first) (the_answers c.given) s (standing_of (new_reader c) c.given.first.writer c.given.first.reader.number))
+    (standing_ended (noted_beat c.given.first) (ask_event c.given) c.given.after_ask c.given.first.reader.peer c.given.first.writer c.given.first.reader.number
+    ∙ (standing_asked c.given ∙ told c.given))
+    (ungrouped (match c.given.first) (the_answers c.given) (took c.given).takes.groups (standing_of (state_of (peer_at (noted_ask c.given) c.given.first.reader.peer)) c.given.first.writer c.given.first.reader.number) (standing_of (new_reader c) c.given.first.writer c.given.first.reader.number) (took c.given).takes.grouped (repaired c).takes)
 
 window : (c : Round) → IsRepaired (match c.given.first) (the_last c.given.first) (known_to_writer c.given) (standing_of (ticked_reader c.given.first) c.given.first.writer c.given.first.reader.number) (standing_of (new_reader c) c.given.first.writer c.given.first.reader.number)
 window c = record {
@@ -246,7 +260,9 @@ caught c =
 row_new : (c : Round) → acknowledged_of (writer_at (machine_of c.new) c.given.first.writer).readers c.given.first.reader ≡ Some (known_to_writer c.given)
 row_new c =
     ap (λ (w : Writer). acknowledged_of w.readers c.given.first.reader) (writer_is c.new c.given.first.writer)
-    ∙ (ap (λ (ws : List Writer). acknowledged_of (numbered ws c.given.first.writer.number no_writer).readers c.given.first.reader) (repaired c).writers
+    ∙ (ap (λ (rows : List ReaderProxy). acknowledged_of rows c.given.first.reader)
+    ((repaired c).rows c.given.first.writer.number
+    ∙ rows_ended (noted_beat c.given.first) (ask_event c.given) c.given.after_ask c.given.first.writer.peer c.given.first.writer.number)
     ∙ took_acknowledged (asks c.given) (heard_writer c.given.first) (asked_writer c.given) c.given.answers.step.dues (took c.given))
 
 without_room : (c : Round) → IsFull (match c.given.first) (standing_of (new_reader c) c.given.first.writer c.given.first.reader.number) → HoldsWithoutRoom c.new c.given.first.writer c.given.first.reader (tracked_at c.new c.given.first.writer c.given.first.reader).place

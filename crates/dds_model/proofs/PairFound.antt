@@ -39,7 +39,7 @@ use Rattle.dds_model.proofs.DuesMatched.{own_name, same_end}
 use Rattle.dds_model.proofs.FreshCounts.{IsWrittenOf, sent_written}
 use Rattle.dds_model.proofs.OwnGuids.{one_reader}
 use Rattle.dds_model.proofs.PairAnswered.{asking}
-use Rattle.dds_model.proofs.PairBegun.{Begun, pairing, body, hears, packet}
+use Rattle.dds_model.proofs.PairBegun.{noted_tick, Begun, pairing, body, hears, packet}
 use Rattle.dds_model.proofs.PairHeard.{writer_prefix, reader_prefix, reader_host, back, ask_body}
 use Rattle.dds_model.proofs.PairTicked.{beat_of, beat_message}
 use Rattle.dds_model.proofs.PairTurns.{OfOther}
@@ -130,7 +130,7 @@ ask_found_among c ask among has = ⊎_elim (λ o. own o) (λ o. absurd (not_othe
     wanted = sought.AckNack c.pair.reader_entity (writer_entity c.config c.writer.peer c.writer.number)
 
     d : IsWrittenOf c.begins.hears.step.dues ask
-    d = sent_written c.config c.tests c.begins.ticked (world.Deliver c.reader.peer c.begins.hears.number) (Reported c.begins.hears.report) c.begins.lost_asks c.heard c.begins.hears.step ask among
+    d = sent_written c.config c.tests (noted_tick c) (world.Deliver c.reader.peer c.begins.hears.number) (Reported c.begins.hears.report) c.begins.lost_asks c.heard c.begins.hears.step ask among
 
     there : HasSought wanted d.due.message.submessages
     there = sought_again wanted d.due.message d.writable (subst (λ (p : Packet). Has p.bytes wanted) d.is has)

@@ -32,6 +32,8 @@ use Rattle.dds_model.specs.Runs.{Traffic, Run}
 use Rattle.dds_model.specs.Rules.{RuledRun, traffic_of}
 use Rattle.dds_model.specs.Laws.{WorldRun, PassesNone, LosesNone}
 use Rattle.dds_model.proofs.Growth.{CallStep-grows, TickStep-grows, DeliveryStep-grows, with_part-grows}
+use Rattle.dds_model.specs.Noticing.{machine_ended, world_ended}
+use Rattle.dds_model.proofs.EndsBeside.{ended_policy, ended_sound, machine_ends}
 use Rattle.dds_model.proofs.Composed.{composes}
 
 -- a run by the rules is a run of the peers
@@ -39,7 +41,7 @@ pub run_by_rules : (config : Config) (tests : AllTests) (old new : WorldState) (
     → RuledRun config tests old unsent events replies new last → WorldRun config tests old unsent events replies new last
 run_by_rules config tests old new unsent last [] [] run = run
 run_by_rules config tests old new unsent last (e ∷ es) (r ∷ rs) run =
-    (run.0, run.1, run.2.ruled.step, run.2.sends, run_by_rules config tests run.0 new run.1 last es rs run.3)
+    (run.0, run.1, run.2.ruled.step, run.2.sends, run_by_rules config tests (world_ended old e run.0) new run.1 last es rs run.3)
 run_by_rules config tests old new unsent last [] (r ∷ rs) run = absurd run
 run_by_rules config tests old new unsent last (e ∷ es) [] run = absurd run
 
@@ -49,8 +51,17 @@ composes_runs config tests old new unsent last [] [] sound run =
     ((ap machine_of run.0, ap (λ (w : WorldState). traffic_of w last) run.0 ∙ ap (λ (n : ℕ). traffic_of old n) run.1), subst (λ (w : WorldState). Sound config w) (sym run.0) sound)
 composes_runs config tests old new unsent last (e ∷ es) (r ∷ rs) sound run =
     let s = composes config tests old run.0 e r sound run.2 in
-    let t = composes_runs config tests run.0 new run.1 last es rs s.2 run.4 in
-    ((machine_of run.0, traffic_of run.0 run.1, s.0, run.3, s.1, t.0), t.1)
+    let t = composes_runs config tests (world_ended old e run.0) new run.1 last es rs (ended_sound config old e run.0 s.2) run.4 in (
+      (
+        machine_of run.0,
+        traffic_of run.0 run.1,
+        s.0,
+        run.3,
+        s.1,
+        subst (λ (m : Machine). Run config tests (traffic_of run.0 run.1) m es rs (traffic_of new last) (machine_of new)) (machine_ends old e run.0) t.0,
+      ),
+      t.1,
+    )
 composes_runs config tests old new unsent last [] (r ∷ rs) sound run = absurd run
 composes_runs config tests old new unsent last (e ∷ es) [] sound run = absurd run
 
@@ -174,6 +185,8 @@ pub keep_all_is_kept : (config : Config) (tests : AllTests) (w : Endpoint) (m af
     → Run config tests sent m events replies last after → LosesNone w replies
 keep_all_is_kept config tests w m after [] [] sent last all run = tt
 keep_all_is_kept config tests w m after (e ∷ es) (r ∷ rs) sent last all run =
-    Step-loses w tests (length sent.sent) m e r run.0 rs all run.2 (keep_all_is_kept config tests w run.0 after es rs run.1 last (Step-policy w tests (length sent.sent) m e r run.0 run.2 ∙ all) run.5)
+    Step-loses w tests (length sent.sent) m e r run.0 rs all run.2
+    (keep_all_is_kept config tests w (machine_ended m e run.0) after es rs run.1 last
+    (ended_policy m e run.0 w ∙ (Step-policy w tests (length sent.sent) m e r run.0 run.2 ∙ all)) run.5)
 keep_all_is_kept config tests w m after [] (r ∷ rs) sent last all run = absurd run
 keep_all_is_kept config tests w m after (e ∷ es) [] sent last all run = absurd run

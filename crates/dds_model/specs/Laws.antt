@@ -9,6 +9,7 @@ use Rattle.dds_base.specs.declared.key.Key.{Key}
 use Rattle.dds_base.specs.declared.qos.HistoryQos.TheVariants.{KeepAll}
 use Rattle.dds_base.specs.Checked.{check_refusal}
 use Rattle.dds_base.specs.Ownership.{IsMatched, HaveOwnGuids, registered_writers, owner_of}
+use Rattle.dds_model.specs.Noticing.{world_ended}
 use Rattle.dds_model.specs.declared.call.Call.TheVariants.{AssertLiveliness}
 use Rattle.dds_model.specs.declared.endpoint.Endpoint.{Endpoint}
 use Rattle.dds_model.specs.declared.event.WorldEvent.{WorldEvent}
@@ -48,7 +49,7 @@ WorldRun config tests old unsent [] [] new last = (new ≡ old) × (last ≡ uns
 WorldRun config tests old unsent (event ∷ events) (reply ∷ replies) new last =
     (mid : WorldState) × (next : ℕ) × WorldStep config tests old event reply mid
     × Sends config (record { sent = old.sent; unsent = unsent }) (machine_of old) event reply (record { sent = mid.sent; unsent = next })
-    × WorldRun config tests mid next events replies new last
+    × WorldRun config tests (world_ended old event mid) next events replies new last
 WorldRun config tests old unsent [] (reply ∷ replies) new last = ⊥
 WorldRun config tests old unsent (event ∷ events) [] new last = ⊥
 

@@ -15,7 +15,12 @@ use Rattle.dds_notices.specs.declared.notice.Status.TheVariants.{SampleLost, Dat
 use Rattle.dds_notices.specs.Listeners.{Place, after_notice, taker_of, with_entity}
 use Rattle.dds_model.specs.Part.{Part, Reader, Seen, Writer, own_reader, own_writer}
 use Rattle.dds_model.specs.Calls.{after_look, effect, seen_liveliness, seen_lost, writes}
+use Rattle.dds_model.specs.declared.event.WorldEvent.{WorldEvent}
+use Rattle.dds_model.specs.declared.event.WorldEvent.TheVariants as event
+use Rattle.dds_model.specs.Numbered.{with_numbered}
+use Rattle.dds_model.specs.Machine.{Machine, part_at}
 use Rattle.dds_model.specs.Peer.{Peer}
+use Rattle.dds_model.specs.World.{WorldState, peer_at}
 
 -- ---- what an event raised, by what an entity was before it
 
@@ -97,12 +102,28 @@ each_told tell zero part = part
 each_told tell (suc n) part = tell (suc n) (each_told tell n part)
 
 -- the end of an event that came to a peer's part as it was before: the writers first, then the readers
-abbrev pub at_end : Part → Part → Part
+unfoldable pub at_end : Part → Part → Part
 at_end before part = each_told (reader_told before) (length part.dds.readers) (each_told (writer_told before) (length part.rtps.writers) part)
 
 -- the same of a peer
 abbrev pub peer_at_end : Peer → Peer → Peer
 peer_at_end before peer = record peer { part = at_end before.part peer.part }
+
+-- ---- in a network
+
+-- the peer of an event
+abbrev pub peer_of : WorldEvent → ℕ
+peer_of (event.Call peer call) = peer
+peer_of (event.Tick peer now) = peer
+peer_of (event.Deliver peer packet) = peer
+
+-- the machine at the end of an event, which came to it as it was before
+abbrev pub machine_ended : Machine → WorldEvent → Machine → Machine
+machine_ended before e m = record { parts = with_numbered m.parts (peer_of e) (at_end (part_at before (peer_of e)) (part_at m (peer_of e))) }
+
+-- a network at the end of an event
+abbrev pub world_ended : WorldState → WorldEvent → WorldState → WorldState
+world_ended before e world = record world { peers = with_numbered world.peers (peer_of e) (peer_at_end (peer_at before (peer_of e)) (peer_at world (peer_of e))) }
 
 -- ---- listeners that are set
 

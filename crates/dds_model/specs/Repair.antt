@@ -10,6 +10,7 @@ use Rattle.dds_base.specs.Checked.{check_refusal}
 use Rattle.dds_base.specs.Places.{coming}
 use Rattle.dds_base.specs.Presence.{has_room}
 use Rattle.rtps_reader.specs.Tracked.{Held}
+use Rattle.dds_model.specs.Noticing.{world_ended}
 use Rattle.dds_model.specs.declared.endpoint.Endpoint.{Endpoint}
 use Rattle.dds_model.specs.declared.event.Packet.{Packet}
 use Rattle.dds_model.specs.declared.event.WorldEvent.TheVariants.{Tick, Deliver}
@@ -39,8 +40,8 @@ pub record Delivers (config : Config) (tests : AllTests) (old : WorldState) (pee
 abbrev pub DeliversAll : Config → AllTests → WorldState → ℕ → List Packet → WorldState → Type 0
 DeliversAll config tests old peer [] new = new ≡ old
 DeliversAll config tests old peer (packet ∷ packets) new =
-    (mid : WorldState) × (lost : ℕ) × Delivers config tests old peer packet lost mid
-    × DeliversAll config tests mid peer packets new
+    (mid : WorldState) × (lost : ℕ) × (h : Delivers config tests old peer packet lost mid)
+    × DeliversAll config tests (world_ended old (Deliver peer h.number) mid) peer packets new
 
 -- A round begins: the writer's peer ticks, and a packet to the reader's peer with a HEARTBEAT of the writer that this sent is
 -- delivered there.
@@ -55,7 +56,15 @@ pub record BeginsRound (config : Config) (tests : AllTests) (writer reader : End
   pub beat_count : ℤ
   pub beat_of : HasHeartbeat config beat.bytes writer beat_count
   pub lost_asks : ℕ
-  pub hears : Delivers config tests ticked reader.peer beat lost_asks heard
+  pub hears : Delivers config tests (world_ended old (Tick writer.peer now) ticked) reader.peer beat lost_asks heard
+
+-- the network once the writer's peer has ticked, at the end of that
+abbrev pub ticked_in : {config : Config} {tests : AllTests} {writer reader : Endpoint} {old heard : WorldState} → BeginsRound config tests writer reader old heard → WorldState
+ticked_in {writer = writer} {old = old} begins = world_ended old (Tick writer.peer begins.now) begins.ticked
+
+-- the network once the HEARTBEAT was heard, at the end of that
+abbrev pub beat_in : {config : Config} {tests : AllTests} {writer reader : Endpoint} {old heard : WorldState} → BeginsRound config tests writer reader old heard → WorldState
+beat_in {reader = reader} {heard = heard} begins = world_ended (ticked_in begins) (Deliver reader.peer begins.hears.number) heard
 
 -- It goes on: a packet with an ACKNACK of the reader to the writer that this sent is delivered at the writer's peer, where no
 -- answer is lost.
@@ -66,13 +75,17 @@ pub record AsksInRound (config : Config) (tests : AllTests) (writer reader : End
   pub ask_sent : Contains begins.hears.step.packets ask
   pub ask_count : ℤ
   pub ask_of : HasAckNack config ask.bytes writer reader ask_count
-  pub answers : Delivers config tests heard writer.peer ask 0 asked
+  pub answers : Delivers config tests (beat_in begins) writer.peer ask 0 asked
 
--- A round: it goes on so, and the answers are delivered at the reader's peer.
+-- the network once the ACKNACK was taken, at the end of that
+abbrev pub ask_in : {config : Config} {tests : AllTests} {writer reader : Endpoint} {old asked : WorldState} → AsksInRound config tests writer reader old asked → WorldState
+ask_in {writer = writer} {asked = asked} asks = world_ended (beat_in asks.begins) (Deliver writer.peer asks.answers.number) asked
+
+-- A round: it goes on so, and the answers are delivered at the reader's peer, each to its end.
 pub record IsRepairRound (config : Config) (tests : AllTests) (writer reader : Endpoint) (old new : WorldState) : Type 0 where
   pub asked : WorldState
   pub asks : AsksInRound config tests writer reader old asked
-  pub repairs : DeliversAll config tests asked reader.peer asks.answers.step.packets new
+  pub repairs : DeliversAll config tests (ask_in asks) reader.peer asks.answers.step.packets new
 
 -- the configuration has the writer and the reader, of one topic
 pub record IsPair (config : Config) (writer reader : Endpoint) : Type 0 where

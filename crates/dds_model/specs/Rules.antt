@@ -5,6 +5,7 @@
 use Rattle.std.specs.Prelude.{◌≡◌, ℕ, ◌+◌, ◌-◌, ◌^◌, min, List, [], ◌∷◌, ◌++◌, length, slice_get, Some}
 use Rattle.dds_base.specs.declared.config.Config.{Config}
 use Rattle.dds_base.specs.Written.{Changed, Asserted}
+use Rattle.dds_model.specs.Noticing.{world_ended}
 use Rattle.dds_model.specs.declared.event.Packet.{Packet}
 use Rattle.dds_model.specs.declared.event.WorldEvent.{WorldEvent}
 use Rattle.dds_model.specs.declared.event.WorldEvent.TheVariants.{Call, Tick, Deliver}
@@ -63,12 +64,12 @@ pub record CountedStep (config : Config) (tests : AllTests) (old : WorldState) (
   pub counted : next ≡ min (unsent + lost) (2 ^ 64 - 1)
   pub sends : Sends config (traffic_of old unsent) (machine_of old) event reply (traffic_of new next)
 
--- Replies to a list of events of a network by the rules, one after another, with the counts of unsent packets before and
--- after.
+-- Replies to a list of events of a network by the rules, one after another, each to its end, at which listeners are told; with
+-- the counts of unsent packets before and after.
 abbrev pub RuledRun : Config → AllTests → WorldState → ℕ → List WorldEvent → List Reply → WorldState → ℕ → Type 0
 RuledRun config tests old unsent [] [] new last = (new ≡ old) × (last ≡ unsent)
 RuledRun config tests old unsent (event ∷ events) (reply ∷ replies) new last =
     (mid : WorldState) × (next : ℕ) × CountedStep config tests old unsent event reply mid next
-    × RuledRun config tests mid next events replies new last
+    × RuledRun config tests (world_ended old event mid) next events replies new last
 RuledRun config tests old unsent [] (reply ∷ replies) new last = ⊥
 RuledRun config tests old unsent (event ∷ events) [] new last = ⊥

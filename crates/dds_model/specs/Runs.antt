@@ -13,6 +13,7 @@ use Rattle.dds_model.specs.Part.{ReaderProxy, peers_of, acknowledged_of, writer_
 use Rattle.dds_model.specs.Calls.{Effect, writes, effect_of}
 use Rattle.dds_model.specs.Claims.{ChangeIs, Claims}
 use Rattle.dds_model.specs.Machine.{Machine, AllTests, part_at, writer_at, Step}
+use Rattle.dds_model.specs.Noticing.{machine_ended}
 use Rattle.dds_model.specs.Protocol.{Due, AreSent, assertions_due, changes_due, heartbeats_due}
 use Rattle.dds_model.specs.Progress.{Progresses}
 
@@ -63,11 +64,12 @@ Sends config old m (world.Tick peer now) reply new = new ≡ old
 Sends config old m (world.Deliver peer packet) (Reported report) new = ((dues : List Due) × SendsDues dues old new) ⊎ (new ≡ old)
 Sends config old m (world.Deliver peer packet) reply new = new ≡ old
 
--- Replies to a list of events, one step after another, with the packets before and after.
+-- Replies to a list of events, one step after another, each to its end, at which listeners are told; with the packets before
+-- and after.
 abbrev pub Run : Config → AllTests → Traffic → Machine → List WorldEvent → List Reply → Traffic → Machine → Type 0
 Run config tests sent old [] [] last new = (new ≡ old) × (last ≡ sent)
 Run config tests sent old (event ∷ events) (reply ∷ replies) last new =
     (mid : Machine) × (next : Traffic) × Step tests (length sent.sent) old event reply mid × Sends config sent old event reply next × Progresses config sent.sent old event reply
-    × Run config tests next mid events replies last new
+    × Run config tests next (machine_ended old event mid) events replies last new
 Run config tests sent old [] (reply ∷ replies) last new = ⊥
 Run config tests sent old (event ∷ events) [] last new = ⊥

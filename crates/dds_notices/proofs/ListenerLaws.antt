@@ -6,7 +6,7 @@ use Rattle.dds_base.specs.declared.entity.Entity.{Entity}
 use Rattle.dds_base.specs.declared.entity.Entity.TheVariants.{Participant, Writer, Reader}
 use Rattle.dds_notices.specs.declared.notice.Notice.{Notice}
 use Rattle.dds_notices.specs.declared.notice.Status.{Status}
-use Rattle.dds_notices.specs.Listeners.{ByEntity, Place, Places, Slot, Slotted, StandsAt, StandsFor, at_entity, at_number, has_entity, is_any, is_number, nobody, taker_of, with_entity}
+use Rattle.dds_notices.specs.Listeners.{ByEntity, NobodyTakes, Place, Places, Slot, Slotted, StandsAt, StandsFor, at_entity, at_number, has_entity, is_any, is_number, nobody, taker_of, with_entity}
 
 -- there are the same entities afterwards
 pub with_entity-has_entity : {X : Type 0} (all : ByEntity X) (entity other : Entity) (x : Option X)
@@ -59,6 +59,18 @@ none_of (suc count) (suc i) = none_of count i
 
 none_numbered : {X : Type 0} (count n : ℕ) → at_number {X = X} (replicate count None) n ≡ None
 none_numbered count n = rw (none_of count (n - 1)) (none_either (n == 0))
+
+any_of : (X : Type 0) (count : ℕ) → list_any (λ (o : Option X). is_some o) (replicate count None) ≡ false
+any_of X zero = refl
+any_of X (suc count) = any_of X count
+
+-- where nobody is, nobody takes a status
+pub nobody_is_told : (writers readers : ℕ) → NobodyTakes (nobody writers readers)
+nobody_is_told writers readers entity status =
+    let places : Places = nobody writers readers in
+    let none : is_any places ≡ false =
+    ap (λ (b : Bool). b || list_any (λ (o : Option Place). is_some o) (replicate readers None)) (any_of Place writers) ∙ any_of Place readers in
+    rw (none_entity places none entity) refl
 
 module _ {L : Type 0} (notices : L → List Notice) (capacity : L → ℕ) where
   -- nobody stands for nobody

@@ -79,6 +79,10 @@ taker_of places entity status =
     if takes (at_entity places entity) status then Some entity
     else (if takes places.participant status then Some Participant else None)
 
+-- nobody takes any status
+abbrev pub NobodyTakes : Places → Type 0
+NobodyTakes places = (entity : Entity) (status : Status) → taker_of places entity status ≡ None
+
 -- a place whose listener was told of one more
 abbrev pub with_notice : Option Place → Notice → Option Place
 with_notice None notice = None

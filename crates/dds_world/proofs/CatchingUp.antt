@@ -15,12 +15,13 @@ use Rattle.std.specs.Option.{option_map_or, unwrap_or}
 use Rattle.rtps_wire.specs.declared.seek.Sought.{Sought}
 use Rattle.rtps_wire.specs.declared.seek.Sought.TheVariants as sought
 use Rattle.rtps_wire.specs.Sought.{Has}
+use Rattle.dds_model.specs.Noticing.{world_ended}
 use Rattle.dds_model.specs.declared.endpoint.Endpoint.{Endpoint}
 use Rattle.dds_model.specs.declared.event.Packet.{Packet}
 use Rattle.dds_model.specs.declared.event.WorldEvent.{WorldEvent}
 use Rattle.dds_model.specs.declared.event.WorldEvent.TheVariants as world
 use Rattle.dds_model.specs.declared.reply.Reply.{Reply}
-use Rattle.dds_model.specs.declared.reply.Reply.TheVariants.{Done}
+use Rattle.dds_model.specs.declared.reply.Reply.TheVariants.{Done, Reported}
 use Rattle.dds_model.specs.Claims.{IsReader, every_reader}
 use Rattle.dds_model.specs.Dues.{IsPartOf}
 use Rattle.dds_model.specs.Fresh.{HasHeartbeat, HasAckNack, heartbeats_used_at, acknacks_used_at}
@@ -36,6 +37,7 @@ use Rattle.dds_model.proofs.PairAsks.{asks_found}
 use Rattle.dds_model.proofs.PairBeats.{beats_are_sent}
 use Rattle.dds_model.proofs.PairBegun.{Begun, writer_is, place_is}
 use Rattle.dds_model.proofs.PairCaughtUp.{pair_catches_up, answers_are_few}
+use Rattle.dds_model.proofs.PairEnded.{leaves_ended}
 use Rattle.dds_model.proofs.PairFound.{beat_found, beat_sought, ask_found_among}
 use Rattle.dds_model.proofs.PairNamed.{PairOf, pair_named}
 use Rattle.dds_model.proofs.PairTicked.{TickLeaves, tick_leaves, ticks_there}
@@ -47,9 +49,9 @@ use Rattle.dds_world.specs.declared.round.RoundReply.{RoundReply}
 use Rattle.dds_world.specs.Repairing.{Knows, IsKnown, Answering, Acknowledging, Beating}
 use Rattle.dds_world.specs.Round.{IsHindered, has_unsent, IsStep, AreSteps, IsTo, HasNone, IsFirst, Rounds, answers_at, is_whole, are_whole, replies_of}
 use Rattle.dds_world.specs.WorldStanding.{WorldKept, StandsFor}
-use Rattle.dds_world.proofs.Caught.{CoreAt, core_at, place_known, few_changes, places_after, unsent_shown, went, sent_by, whole_tick, delivers, both_are, Ran, ran, unsent_on, none_lost, deliver_all, later_packet, among_none, get_later}
+use Rattle.dds_world.proofs.Caught.{WholeReport, whole_report, CoreAt, core_at, place_known, few_changes, places_after, unsent_shown, went, sent_by, whole_tick, delivers, both_are, Ran, ran, unsent_on, none_lost, deliver_all, later_packet, among_none, get_later}
 use Rattle.dds_world.proofs.Rounds.{IsPlace, acks_steps, beats_steps, round_is}
-use Rattle.dds_world.proofs.RunSteps.{Went, runs_so}
+use Rattle.dds_world.proofs.RunSteps.{ended, Went, runs_so}
 
 -- ---- what is known at the beginning
 
@@ -87,6 +89,10 @@ w0 t = went t.config t.network t.old (world.Tick t.m.writer.peer t.m.moment) t.t
 
 abbrev after_tick : Tick → WorldState
 after_tick t = (w0 t).after
+
+-- at its end
+abbrev noted_tick : Tick → WorldState
+noted_tick t = world_ended t.network (world.Tick t.m.writer.peer t.m.moment) (after_tick t)
 
 ruled0 : (t : Tick) → RuledStep t.config t.tests t.network (world.Tick t.m.writer.peer t.m.moment) Done 0 (after_tick t)
 ruled0 t =
@@ -169,25 +175,27 @@ ends_as t events events' replies replies' new new' e r n h =
 -- ---- no HEARTBEAT was sent
 
 -- where the reader is not behind, it has caught up already
-not_behind : (t : Tick) → the_last t < acknowledged t → HasCaughtUp (after_tick t) t.m.writer t.m.reader t.place (the_last t)
+not_behind : (t : Tick) → the_last t < acknowledged t → HasCaughtUp (noted_tick t) t.m.writer t.m.reader t.place (the_last t)
 not_behind t past =
     record {
       place = t.place;
       acknowledged = acknowledged t;
       stands = record {
         here = subst (λ (n : ℕ). (1 ≤ t.m.reader.number) × (t.m.reader.number ≤ n)) (sym (left t.m.reader.peer).readers) (stands t).here;
-        place_is = place_is (after_tick t) t.m.reader t.m.writer
+        place_is = place_is (noted_tick t) t.m.reader t.m.writer
             ∙ (ap (λ (rows : List (List WriterProxy)). place_of (numbered_rows rows) t.m.writer) (left t.m.reader.peer).rows ∙ (sym (place_is t.network t.m.reader t.m.writer) ∙ t.at));
         known = ap (λ (k : Known). (k.tracked t.m.writer t.m.reader.number).place) (left t.m.reader.peer).known ∙ (stands t).known;
-        acknowledged_is = ap (λ (w : Writer). acknowledged_of w.readers t.m.reader) (writer_is (after_tick t) t.m.writer)
+        acknowledged_is = ap (λ (w : Writer). acknowledged_of w.readers t.m.reader) (writer_is (noted_tick t) t.m.writer)
             ∙ (ap (λ (rows : List ReaderProxy). acknowledged_of rows t.m.reader) ((left t.m.writer.peer).acknowledged t.m.writer.number) ∙ own_row t);
       };
       reached = inl (omega (arith, past, low));
       told = omega (arith, past, high);
     }
   where
-    left : (p : ℕ) → TickLeaves t.network (after_tick t) p
-    left p = tick_leaves t.config t.tests t.network t.m.writer.peer t.m.moment (after_tick t) (ruled0 t).step p
+    left : (p : ℕ) → TickLeaves t.network (noted_tick t) p
+    left p =
+        leaves_ended t.network (world.Tick t.m.writer.peer t.m.moment) (after_tick t) p t.network
+        (tick_leaves t.config t.tests t.network t.m.writer.peer t.m.moment (after_tick t) (ruled0 t).step p)
 
     numbered_rows : List (List WriterProxy) → List WriterProxy
     numbered_rows rows = numbered rows t.m.reader.number []
@@ -223,7 +231,7 @@ told_behind t behind =
 no_beat : (t : Tick) → HasNone (IsTo t.m.reader.peer (sought.Heartbeat t.m.pair.writer)) t.mid.sent (length t.old.sent) (length t.mid.sent)
     → Ends t (world.Tick t.m.writer.peer t.m.moment ∷ []) (t.ticked ∷ []) t.mid
 no_beat t none = (
-  after_tick t,
+  noted_tick t,
   (after_tick t, t.mid.unsent, (w0 t).step, (refl, refl)),
   (w0 t).stands,
   ⊎_elim (λ past. inr (not_behind t past))
@@ -246,14 +254,18 @@ record Hear : Type 0 where
   same : mid.unsent ≤ t.old.unsent
   more : t.old.unsent ≤ t.mid.unsent
 
-w1 : (h : Hear) → Went h.t.tests h.t.config (after_tick h.t) h.t.mid (world.Deliver h.t.m.reader.peer h.k) h.heard.reply h.mid
-w1 h = went h.t.config (after_tick h.t) h.t.mid (world.Deliver h.t.m.reader.peer h.k) h.heard h.mid h.step (w0 h.t).stands
+w1 : (h : Hear) → Went h.t.tests h.t.config (noted_tick h.t) h.t.mid (world.Deliver h.t.m.reader.peer h.k) h.heard.reply h.mid
+w1 h = went h.t.config (noted_tick h.t) h.t.mid (world.Deliver h.t.m.reader.peer h.k) h.heard h.mid h.step (w0 h.t).stands
 
 abbrev after_beat : Hear → WorldState
 after_beat h = (w1 h).after
 
-hears : (h : Hear) → Delivers h.t.config h.t.tests (after_tick h.t) h.t.m.reader.peer h.first.packet (w1 h).step.lost (after_beat h)
-hears h = delivers h.t.config (after_tick h.t) h.t.mid h.t.m.reader.peer h.k h.first.packet h.heard.reply h.mid (w0 h.t).stands h.first.at.1 h.whole (w1 h)
+-- at its end
+abbrev noted_beat : Hear → WorldState
+noted_beat h = world_ended (noted_tick h.t) (world.Deliver h.t.m.reader.peer h.k) (after_beat h)
+
+hears : (h : Hear) → Delivers h.t.config h.t.tests (noted_tick h.t) h.t.m.reader.peer h.first.packet (w1 h).step.lost (after_beat h)
+hears h = delivers h.t.config (noted_tick h.t) h.t.mid h.t.m.reader.peer h.k h.first.packet h.heard.reply h.mid (w0 h.t).stands h.first.at.1 h.whole (w1 h)
 
 among1 : (h : Hear) → Contains (ruled0 h.t).packets h.first.packet
 among1 h =
@@ -309,7 +321,7 @@ none1 h =
     none_lost h.t.mid.unsent (w1 h).step.lost h.mid.unsent (w1 h).step.counted (omega (arith, same, more)) (omega (arith, below, first))
 
 sent1 : (h : Hear) → h.mid.sent ≡ h.t.mid.sent ++ (hears h).step.packets
-sent1 h = sent_by h.t.config (after_tick h.t) h.t.mid (world.Deliver h.t.m.reader.peer (hears h).number) _ (w1 h).step.lost (after_beat h) h.mid (w0 h.t).stands (w1 h).stands (hears h).step
+sent1 h = sent_by h.t.config (noted_tick h.t) h.t.mid (world.Deliver h.t.m.reader.peer (hears h).number) _ (w1 h).step.lost (after_beat h) h.mid (w0 h.t).stands (w1 h).stands (hears h).step
 
 -- the ACKNACK, as it is looked for
 abbrev ask_of : Hear → Sought
@@ -335,7 +347,7 @@ ask_is_found h left none =
 no_ask : (h : Hear) → HasNone (IsTo h.t.m.writer.peer (ask_of h)) h.mid.sent (length h.t.mid.sent) (length h.mid.sent)
     → Ends h.t (world.Tick h.t.m.writer.peer h.t.m.moment ∷ world.Deliver h.t.m.reader.peer h.k ∷ []) (h.t.ticked ∷ h.heard ∷ []) h.mid
 no_ask h none = (
-  after_beat h,
+  noted_beat h,
   (after_tick h.t, h.t.mid.unsent, (w0 h.t).step, (after_beat h, h.mid.unsent, (w1 h).step, (refl, refl))),
   (w1 h).stands,
   inl
@@ -356,11 +368,15 @@ record Ask : Type 0 where
   same : mid.unsent ≤ h.t.old.unsent
   more : h.t.old.unsent ≤ h.mid.unsent
 
-w2 : (a : Ask) → Went a.h.t.tests a.h.t.config (after_beat a.h) a.h.mid (world.Deliver a.h.t.m.writer.peer a.k) a.asked.reply a.mid
-w2 a = went a.h.t.config (after_beat a.h) a.h.mid (world.Deliver a.h.t.m.writer.peer a.k) a.asked a.mid a.step (w1 a.h).stands
+w2 : (a : Ask) → Went a.h.t.tests a.h.t.config (noted_beat a.h) a.h.mid (world.Deliver a.h.t.m.writer.peer a.k) a.asked.reply a.mid
+w2 a = went a.h.t.config (noted_beat a.h) a.h.mid (world.Deliver a.h.t.m.writer.peer a.k) a.asked a.mid a.step (w1 a.h).stands
 
 abbrev after_ask : Ask → WorldState
 after_ask a = (w2 a).after
+
+-- at its end
+abbrev noted_ask : Ask → WorldState
+noted_ask a = world_ended (noted_beat a.h) (world.Deliver a.h.t.m.writer.peer a.k) (after_ask a)
 
 none2 : (a : Ask) → (w2 a).step.lost ≡ 0
 none2 a =
@@ -370,10 +386,18 @@ none2 a =
     let first = a.h.same in
     none_lost a.h.mid.unsent (w2 a).step.lost a.mid.unsent (w2 a).step.counted (omega (arith, same, more)) (omega (arith, below, first))
 
-takes : (a : Ask) → Delivers a.h.t.config a.h.t.tests (after_beat a.h) a.h.t.m.writer.peer a.first.packet 0 (after_ask a)
-takes a =
-    subst (λ (n : ℕ). Delivers a.h.t.config a.h.t.tests (after_beat a.h) a.h.t.m.writer.peer a.first.packet n (after_ask a)) (none2 a)
-    (delivers a.h.t.config (after_beat a.h) a.h.mid a.h.t.m.writer.peer a.k a.first.packet a.asked.reply a.mid (w1 a.h).stands a.first.at.1 a.whole (w2 a))
+reported : (a : Ask) → WholeReport a.asked.reply
+reported a = whole_report a.h.t.tests a.h.t.config (noted_beat a.h) a.h.t.m.writer.peer a.k a.asked.reply (after_ask a) a.whole (w2 a).step.ruled.step
+
+takes : (a : Ask) → Delivers a.h.t.config a.h.t.tests (noted_beat a.h) a.h.t.m.writer.peer a.first.packet 0 (after_ask a)
+takes a = record {
+  number = a.k;
+  at = subst (λ (ps : List Packet). slice_get ps (a.k - 1) ≡ Some a.first.packet) (sym (w1 a.h).stands.sent) a.first.at.1;
+  report = (reported a).report;
+  whole = (reported a).none;
+  step = subst (λ (n : ℕ). RuledStep a.h.t.config a.h.t.tests (noted_beat a.h) (world.Deliver a.h.t.m.writer.peer a.k) (Reported (reported a).report) n (after_ask a)) (none2 a)
+      (subst (λ (r : Reply). RuledStep a.h.t.config a.h.t.tests (noted_beat a.h) (world.Deliver a.h.t.m.writer.peer a.k) r (w2 a).step.lost (after_ask a)) (reported a).is (w2 a).step.ruled);
+}
 
 among2 : (a : Ask) → Contains (hears a.h).step.packets a.first.packet
 among2 a =
@@ -401,7 +425,7 @@ abbrev answers : Ask → List Packet
 answers a = (takes a).step.packets
 
 sent2 : (a : Ask) → a.mid.sent ≡ a.h.mid.sent ++ answers a
-sent2 a = sent_by a.h.t.config (after_beat a.h) a.h.mid (world.Deliver a.h.t.m.writer.peer (takes a).number) _ 0 (after_ask a) a.mid (w1 a.h).stands (w2 a).stands (takes a).step
+sent2 a = sent_by a.h.t.config (noted_beat a.h) a.h.mid (world.Deliver a.h.t.m.writer.peer (takes a).number) _ 0 (after_ask a) a.mid (w1 a.h).stands (w2 a).stands (takes a).step
 
 -- all of them are delivered
 all_answers : (a : Ask) → answers_at a.h.t.m.reader.peer (length a.h.mid.sent) (length a.mid.sent) ≡ map (λ k. world.Deliver a.h.t.m.reader.peer k) (numbers_from (length a.h.mid.sent + 1) (length (answers a)))
@@ -437,11 +461,11 @@ answered a later rest new whole next = (
         subst (λ (i : ℕ). slice_get a.mid.sent i ≡ Some p) index
         (subst (λ (ps : List Packet). slice_get ps (length a.h.mid.sent + k) ≡ Some p) (sym (sent2 a)) (get_later a.h.mid.sent (answers a) k p is))
 
-    all : Ran a.h.t.tests c.config (after_ask a) a.mid (map (λ k. world.Deliver c.m.reader.peer k) (numbers_from (length a.h.mid.sent + 1) (length (answers a)))) rest new (λ x. DeliversAll c.config a.h.t.tests (after_ask a) c.m.reader.peer (answers a) x)
-    all = deliver_all c.config c.m.reader.peer (length a.h.mid.sent + 1) (answers a) (after_ask a) a.mid rest new (omega arith) at whole steps (w2 a).stands
+    all : Ran a.h.t.tests c.config (noted_ask a) a.mid (map (λ k. world.Deliver c.m.reader.peer k) (numbers_from (length a.h.mid.sent + 1) (length (answers a)))) rest new (λ x. DeliversAll c.config a.h.t.tests (noted_ask a) c.m.reader.peer (answers a) x)
+    all = deliver_all c.config c.m.reader.peer (length a.h.mid.sent + 1) (answers a) (noted_ask a) a.mid rest new (omega arith) at whole steps (w2 a).stands
 
-    run : RuledRun c.config a.h.t.tests (after_ask a) a.mid.unsent later (replies_of rest) all.after new.unsent
-    run = subst (λ (es : List WorldEvent). RuledRun c.config a.h.t.tests (after_ask a) a.mid.unsent es (replies_of rest) all.after new.unsent) (sym (next.0 ∙ all_answers a)) all.run
+    run : RuledRun c.config a.h.t.tests (noted_ask a) a.mid.unsent later (replies_of rest) all.after new.unsent
+    run = subst (λ (es : List WorldEvent). RuledRun c.config a.h.t.tests (noted_ask a) a.mid.unsent es (replies_of rest) all.after new.unsent) (sym (next.0 ∙ all_answers a)) all.run
 
     round : IsRepairRound c.config a.h.t.tests c.m.writer c.m.reader c.network all.after
     round = record { asked = after_ask a; asks = asks a; repairs = all.then }
@@ -461,8 +485,8 @@ after_hearing h events replies new whole same more next =
     (ap (λ (es : List WorldEvent). before ++ es) f.0) (ap (λ (rs : List RoundReply). h.t.ticked ∷ h.heard ∷ rs) f.1) f.2 (no_ask h f.3))
     (λ f.
     let all = whole_as replies f.4 f.1 f.8 whole in
-    let w = went h.t.config (after_beat h) h.mid (world.Deliver h.t.m.writer.peer f.0) f.1 f.2 f.6 (w1 h).stands in
-    let rest = unsent_on h.t.tests h.t.config w.after f.2 f.3 f.4 new f.9.1 w.stands in
+    let w = went h.t.config (noted_beat h) h.mid (world.Deliver h.t.m.writer.peer f.0) f.1 f.2 f.6 (w1 h).stands in
+    let rest = unsent_on h.t.tests h.t.config (ended w) f.2 f.3 f.4 new f.9.1 w.stands in
     let a : Ask = record { h = h; k = f.0; asked = f.1; mid = f.2; first = f.5; step = f.6; whole = all.0; same = omega (arith, rest, same); more = more } in
     ends_as h.t (before ++ events) (before ++ world.Deliver h.t.m.writer.peer f.0 ∷ f.3) (h.t.ticked ∷ h.heard ∷ replies) (h.t.ticked ∷ h.heard ∷ f.1 ∷ f.4) new new
     (ap (λ (es : List WorldEvent). before ++ es) f.7) (ap (λ (rs : List RoundReply). h.t.ticked ∷ h.heard ∷ rs) f.8) refl (answered a f.3 f.4 new all.1 f.9))
@@ -479,10 +503,10 @@ after_ticking t events replies new whole same more next =
     (ap (λ (es : List WorldEvent). tick ∷ es) f.0) (ap (λ (rs : List RoundReply). t.ticked ∷ rs) f.1) f.2 (no_beat t f.3))
     (λ f.
     let all = whole_as replies f.4 f.1 f.8 whole in
-    let w = went t.config (after_tick t) t.mid (world.Deliver t.m.reader.peer f.0) f.1 f.2 f.6 (w0 t).stands in
+    let w = went t.config (noted_tick t) t.mid (world.Deliver t.m.reader.peer f.0) f.1 f.2 f.6 (w0 t).stands in
     let steps : AreSteps t.tests f.2 f.3 f.4 new = acks_steps t.m (length t.mid.sent) f.2 f.3 f.4 new f.9 in
-    let rest = unsent_on t.tests t.config w.after f.2 f.3 f.4 new steps w.stands in
-    let one = unsent_on t.tests t.config (after_tick t) t.mid (world.Deliver t.m.reader.peer f.0 ∷ []) (f.1 ∷ []) f.2 (f.2, f.6, refl) (w0 t).stands in
+    let rest = unsent_on t.tests t.config (ended w) f.2 f.3 f.4 new steps w.stands in
+    let one = unsent_on t.tests t.config (noted_tick t) t.mid (world.Deliver t.m.reader.peer f.0 ∷ []) (f.1 ∷ []) f.2 (f.2, f.6, refl) (w0 t).stands in
     let h : Hear = record { t = t; k = f.0; heard = f.1; mid = f.2; first = f.5; step = f.6; whole = all.0; same = omega (arith, rest, same); more = more } in
     ends_as t (tick ∷ events) (tick ∷ world.Deliver t.m.reader.peer f.0 ∷ f.3) (t.ticked ∷ replies) (t.ticked ∷ f.1 ∷ f.4) new new
     (ap (λ (es : List WorldEvent). tick ∷ es) f.7) (ap (λ (rs : List RoundReply). t.ticked ∷ rs) f.8) refl
@@ -516,7 +540,7 @@ ends {tests} old m ticked mid events replies new known tick beats config network
         → EndsSo tests config network old m place (world.Tick m.writer.peer m.moment ∷ events) (ticked ∷ replies) new
     good whole same below =
         let all = both_are (is_whole ticked.reply) (are_whole replies) whole in
-        let rest = unsent_on tests config w.after mid events replies new steps w.stands in
+        let rest = unsent_on tests config (ended w) mid events replies new steps w.stands in
         let one = unsent_on tests config network old (world.Tick m.writer.peer m.moment ∷ []) (ticked ∷ []) mid (mid, tick, refl) s in
         let t : Tick = record {
           tests = tests;

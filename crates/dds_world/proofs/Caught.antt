@@ -6,6 +6,9 @@ use Rattle.std.specs.Prelude.{nat_lt}
 use Rattle.std.proofs.lemmas.Bool.Decides.{nat_tests}
 use Rattle.dds_base.specs.declared.config.Config.{Config}
 use Rattle.dds_base.specs.Kept.{numbers_from}
+use Rattle.dds_model.specs.Noticing.{world_ended}
+use Rattle.dds_model.proofs.EndsBeside.{world_beside}
+use Rattle.dds_model.proofs.SameBeside.{place_is as beside_place}
 use Rattle.dds_model.specs.declared.endpoint.Endpoint.{Endpoint}
 use Rattle.dds_model.specs.declared.event.Event.TheVariants as event
 use Rattle.dds_model.specs.declared.event.Packet.{Packet}
@@ -98,7 +101,7 @@ pub went : {tests : AllTests} → (config : Config) (network : WorldState) (old 
 went config network old ev reply new step s = went_by config network old ev reply.reply new step.rules step.sends s
 
 -- the packets that were sent at it follow those before
-pub sent_by : {tests : AllTests} → (config : Config) (network : WorldState) (old : WorldKept) (ev : WorldEvent) (reply : Reply) (lost : ℕ) (after : WorldState) (new : WorldKept) → StandsFor old config network → StandsFor new config after
+pub sent_by : {tests : AllTests} → (config : Config) (network : WorldState) (old : WorldKept) (ev : WorldEvent) (reply : Reply) (lost : ℕ) (after : WorldState) (new : WorldKept) → StandsFor old config network → StandsFor new config (world_ended network ev after)
     → (r : RuledStep config tests network ev reply lost after) → new.sent ≡ old.sent ++ r.packets
 sent_by config network old ev reply lost after new s stands r = sym stands.sent ∙ (r.sent ∙ ap (λ (ps : List Packet). ps ++ r.packets) s.sent)
 
@@ -111,16 +114,16 @@ whole_tick tests config old peer now (Reported report) new whole (inr h) = let r
 whole_tick tests config old peer now reply new whole step = absurd cc
 
 -- a delivery for which memory was found is reported as whole
-record WholeReport (reply : Reply) : Type 0 where
-  report : Report
-  is : reply ≡ Reported report
-  none : report.refused ≡ None
+pub record WholeReport (reply : Reply) : Type 0 where
+  pub report : Report
+  pub is : reply ≡ Reported report
+  pub none : report.refused ≡ None
 
 not_some : (o : Option ℕ) → not (is_some o) ≡ true → o ≡ None
 not_some None h = refl
 not_some (Some n) h = absurd cc
 
-whole_report : (tests : AllTests) → (config : Config) (old : WorldState) (peer k : ℕ) (reply : Reply) (new : WorldState) → is_whole reply ≡ true → WorldStep config tests old (world.Deliver peer k) reply new → WholeReport reply
+pub whole_report : (tests : AllTests) → (config : Config) (old : WorldState) (peer k : ℕ) (reply : Reply) (new : WorldState) → is_whole reply ≡ true → WorldStep config tests old (world.Deliver peer k) reply new → WholeReport reply
 whole_report tests config old peer k Done new whole (inl h) =
     absurd (subst (λ (r : Reply). EventStep config (tests peer) (peer_at old peer) (event.Deliver h.0.bytes) r h.3.after) h.3.replies h.3.step.step)
 whole_report tests config old peer k Done new whole (inr h) = let r = h.1.is_refused in absurd cc
@@ -158,7 +161,7 @@ ran config network old [] [] new same s =
     record { after = network; run = (refl, ap (λ (k : WorldKept). k.unsent) same); stands = subst (λ (k : WorldKept). StandsFor k config network) (sym same) s; then = tt }
 ran config network old (e ∷ es) (r ∷ rs) new h s =
     let w = went config network old e r h.0 h.1 s in
-    let rest = ran config w.after h.0 es rs new h.2 w.stands in
+    let rest = ran config (world_ended network e w.after) h.0 es rs new h.2 w.stands in
     record { after = rest.after; run = (w.after, h.0.unsent, w.step, rest.run); stands = rest.stands; then = tt }
 ran config network old [] (r ∷ rs) new h s = absurd h
 ran config network old (e ∷ es) [] new h s = absurd h
@@ -173,7 +176,7 @@ unsent_on tests config network old [] [] new same s = let e = ap (λ (k : WorldK
 unsent_on tests config network old (e ∷ es) (r ∷ rs) new h s =
     let w = went config network old e r h.0 h.1 s in
     let first = no_less old.unsent w.step.lost h.0.unsent w.step.counted s.few in
-    let rest = unsent_on tests config w.after h.0 es rs new h.2 w.stands in
+    let rest = unsent_on tests config (world_ended network e w.after) h.0 es rs new h.2 w.stands in
     omega (arith, first, rest)
 unsent_on tests config network old [] (r ∷ rs) new h s = absurd h
 unsent_on tests config network old (e ∷ es) [] new h s = absurd h
@@ -217,7 +220,7 @@ deliver_all config peer first (p ∷ ps) network old (r ∷ rs) new low there wh
     subst (λ (i : ℕ). slice_get h.0.sent i ≡ Some q) next
     (subst (λ (xs : List Packet). slice_get xs (first + suc k - 1) ≡ Some q) (sym (sent_by config network old (world.Deliver peer first) r.reply w.step.lost w.after h.0 s w.stands w.step.ruled))
     (slice_get-append old.sent w.step.ruled.packets (first + suc k - 1) q (there (suc k) q is))) in
-    let rest = deliver_all config peer (first + 1) ps w.after h.0 rs new (omega (arith, low)) later all.1 h.2 w.stands in
+    let rest = deliver_all config peer (first + 1) ps (world_ended network (world.Deliver peer first) w.after) h.0 rs new (omega (arith, low)) later all.1 h.2 w.stands in
     record {
       after = rest.after;
       run = (w.after, h.0.unsent, w.step, rest.run);
@@ -247,7 +250,8 @@ places_after config tests old first [] [] new last run r w =
 places_after config tests old first (e ∷ es) (reply ∷ replies) new last run r w =
     no_less_on (place_at (machine_of old) r w) (place_at (machine_of run.0) r w) (place_at (machine_of new) r w)
     (places_on config tests old e reply run.0 run.2.ruled.step r w)
-    (places_after config tests run.0 run.1 es replies new last run.3 r w)
+    (subst (λ (o : Option ℕ). NoLess o (place_at (machine_of new) r w)) (beside_place run.0 (world_ended old e run.0) (world_beside old e run.0) r w)
+    (places_after config tests (world_ended old e run.0) run.1 es replies new last run.3 r w))
 places_after config tests old first [] (reply ∷ replies) new last run r w = absurd run
 places_after config tests old first (e ∷ es) [] new last run r w = absurd run
 

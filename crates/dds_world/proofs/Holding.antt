@@ -8,6 +8,7 @@ use Rattle.dds_base.specs.declared.code.Code.TheVariants.{BadParameter}
 use Rattle.dds_base.specs.declared.config.Config.{Config}
 use Rattle.dds_base.specs.declared.key.Key.{Key}
 use Rattle.dds_conditions.specs.Filtered.{tests_of}
+use Rattle.dds_notices.specs.Listeners.{NobodyTakes, Places}
 use Rattle.dds_model.specs.declared.call.Call.{Call}
 use Rattle.dds_model.specs.declared.event.Event.{Event}
 use Rattle.dds_model.specs.declared.event.Event.TheVariants as event
@@ -111,6 +112,15 @@ core_stands {F} held i core config network low here s = record {
   filters = s.filters i ∙ count_at held.cores i core low here;
 }
 
+-- a filter sets no listener
+listeners_set : (peers : List Peer) (i j : ℕ)
+    → (get_or (set peers i (peer_with_filter (get_or peers i no_peer))) j no_peer).part.dds.listeners ≡ (get_or peers j no_peer).part.dds.listeners
+listeners_set [] i j = refl
+listeners_set (p ∷ ps) zero zero = refl
+listeners_set (p ∷ ps) zero (suc j) = refl
+listeners_set (p ∷ ps) (suc i) zero = refl
+listeners_set (p ∷ ps) (suc i) (suc j) = listeners_set ps i j
+
 -- a filter more at a peer
 adds_at : {F : Type 0} (old : Held F) (i peer : ℕ) (filter : F) (number : ℕ) (core after : FilteredKept F) (new : Held F) → peer ≡ i + 1 → i < length old.cores → core ≡ get_or old.cores i core
     → CoreAdds core filter number after → new ≡ record old { cores = set old.cores i after } → Adds old peer filter number new
@@ -150,6 +160,7 @@ adds_at {F} old i peer filter number core after new is low here a same =
                   (subst (λ (ks : List PeerKept). slice_get ks j ≡ Some k) peers o);
               filters = λ j. count_set old.cores network.peers i after next_peer counted r.2.filters s.filters j
                   ∙ ap (λ (cs : List (FilteredKept F)). get_or (map g cs) j 0) (sym cores);
+              listeners = λ j. subst (λ (p : Places). NobodyTakes p) (sym (listeners_set network.peers i j)) (s.listeners j);
               sent = s.sent ∙ sym sent;
               sound = sound_beside config network (world_with_filter network (suc i)) beside s.sound;
               messages = subst (λ ps. AreMessages ps) (sym sent) s.messages;

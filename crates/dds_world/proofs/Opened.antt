@@ -23,7 +23,7 @@ use Rattle.dds_core.specs.Kept.{PeerKept}
 use Rattle.dds_core.specs.Opening.{core_refusal, opening_peer}
 use Rattle.dds_core.specs.Filtering.{FilteredKept, StandsFor as CoreStands}
 use Rattle.dds_core.specs.Standing.{StandsFor as PeerStandsFor}
-use Rattle.dds_model.proofs.FiltersKept.{opens_no_filters_at}
+use Rattle.dds_model.proofs.FiltersKept.{opens_no_filters_at, opens_untold_at}
 use Rattle.dds_world.specs.Holding.{Held, filters_of, kept_of}
 use Rattle.dds_world.specs.WorldStanding.{StandsFor}
 use Rattle.dds_world.specs.Acting.{OpensFirst}
@@ -169,6 +169,7 @@ opened {F} config held all none quiet =
           (subst (λ (n : ℕ). PeerStandsFor own.0.peer config (opening_peer config n)) next (all.each i own.0 own.1).stands);
       known = λ i k at. opens_known config i (get_or (opening_peers config.peers 1 config.peers) i no_peer).number;
       filters = λ i. opens_no_filters_at config i ∙ sym (none_counted held.cores all.none i);
+      listeners = λ i. opens_untold_at config i;
       sent = sym none;
       sound = opens_sound config;
       messages = λ packet c. let nowhere = subst (λ (ps : List Packet). Contains ps packet) none c in absurd (omega (arith, nowhere.1));

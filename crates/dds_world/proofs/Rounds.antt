@@ -7,6 +7,7 @@ use Rattle.dds_base.specs.declared.config.Config.{Config}
 use Rattle.dds_base.specs.Kept.{numbers_from}
 use Rattle.rtps_wire.specs.declared.seek.Sought.{Sought}
 use Rattle.rtps_wire.specs.declared.seek.Sought.TheVariants as sought
+use Rattle.dds_model.specs.Noticing.{world_ended}
 use Rattle.dds_model.specs.declared.endpoint.Endpoint.{Endpoint}
 use Rattle.dds_model.specs.declared.event.Packet.{Packet}
 use Rattle.dds_model.specs.declared.event.WorldEvent.{WorldEvent}
@@ -57,7 +58,7 @@ step_on : (tests : AllTests) → (config : Config) (network : WorldState) (old :
 step_on tests config network old ev reply new steps s =
     let t = steps config network s in
     let g = world_grows config tests network ev reply t.0 t.1 in
-    record { after = t.0; stands = t.3; grows = (g.0, sym t.3.sent ∙ (g.1 ∙ ap (λ (ps : List Packet). ps ++ g.0) s.sent)) }
+    record { after = world_ended network ev t.0; stands = t.3; grows = (g.0, sym t.3.sent ∙ (g.1 ∙ ap (λ (ps : List Packet). ps ++ g.0) s.sent)) }
 
 steps_on : (tests : AllTests) → (config : Config) (network : WorldState) (old : WorldKept) (events : List WorldEvent) (replies : List RoundReply) (new : WorldKept) → AreSteps tests old events replies new → StandsFor old config network → GoesOn config old new
 steps_on tests config network old [] [] new same s = record {

@@ -10,6 +10,9 @@ use Rattle.std.proofs.lemmas.Option.{same_Some}
 use Rattle.dds_base.specs.declared.code.Code.TheVariants.{BadParameter}
 use Rattle.dds_base.specs.declared.config.Config.{Config}
 use Rattle.rtps_wire.specs.Messages.{HasSubmessage}
+use Rattle.dds_notices.specs.Listeners.{NobodyTakes, Places}
+use Rattle.dds_model.specs.Noticing.{world_ended}
+use Rattle.dds_model.proofs.EndsBeside.{ended_untold}
 use Rattle.dds_model.specs.declared.call.Call.{Call}
 use Rattle.dds_model.specs.declared.event.Event.{Event}
 use Rattle.dds_model.specs.declared.event.Event.TheVariants as event
@@ -20,7 +23,7 @@ use Rattle.dds_model.specs.declared.event.WorldEvent.TheVariants as world
 use Rattle.dds_model.specs.declared.reply.Reply.{Reply}
 use Rattle.dds_model.specs.declared.reply.Reply.TheVariants.{Reported, Refused}
 use Rattle.dds_model.specs.Watching.{Tests}
-use Rattle.dds_model.proofs.FiltersKept.{keeps_filters}
+use Rattle.dds_model.proofs.FiltersKept.{keeps_filters, keeps_listeners}
 use Rattle.dds_model.specs.Machine.{AllTests, Step}
 use Rattle.dds_model.specs.Numbered.{HasNumber}
 use Rattle.dds_model.specs.Peer.{Peer, Delivery, PeerStep, no_peer, state_of}
@@ -145,11 +148,24 @@ filters_stay config tests zero ev output after (p ∷ ps) step (suc j) = refl
 filters_stay config tests (suc i) ev output after (p ∷ ps) step zero = refl
 filters_stay config tests (suc i) ev output after (p ∷ ps) step (suc j) = filters_stay config tests i ev output after ps step j
 
+-- nor does it set a listener
+listeners_stay : (config : Config) (tests : Tests) (i : ℕ) (ev : Event) (output : Output) (after : Peer) (peers : List Peer) → PeerStep config tests (get_or peers i no_peer) ev output after
+    → (j : ℕ) → (get_or (set peers i after) j no_peer).part.dds.listeners ≡ (get_or peers j no_peer).part.dds.listeners
+listeners_stay config tests i ev output after [] step j = refl
+listeners_stay config tests zero ev output after (p ∷ ps) step zero = keeps_listeners config tests p ev output after step
+listeners_stay config tests zero ev output after (p ∷ ps) step (suc j) = refl
+listeners_stay config tests (suc i) ev output after (p ∷ ps) step zero = refl
+listeners_stay config tests (suc i) ev output after (p ∷ ps) step (suc j) = listeners_stay config tests i ev output after ps step j
+
 -- what the peer of this index sends at an event is what is due at it
 abbrev pub SendsItsDues : (tests : AllTests) → (kept : WorldKept) (i : ℕ) (ev : Event) (whole : WorldEvent) (reply : Reply) (new : WorldKept) → Acts tests kept i ev reply new → Type 0
 SendsItsDues tests kept i ev whole reply new a = (config : Config) (network next : WorldState) → StandsFor kept config network
     → CoreKeepsRules config (get_or network.peers i no_peer) ev a.acts.output (get_or next.peers i no_peer)
     → (dues : List Due) × AreDue config network whole reply next dues × AreSent dues a.acts.output.packets a.acts.output.unsent
+
+-- where nobody takes a status, the end of an event changes nothing
+at_its_end : (kept : WorldKept) (config : Config) (network : WorldState) (whole : WorldEvent) (next : WorldState) → StandsFor kept config next → StandsFor kept config (world_ended network whole next)
+at_its_end kept config network whole next s = subst (λ (w : WorldState). StandsFor kept config w) (sym (ended_untold network whole next s.listeners)) s
 
 -- an event of the peer of this index is one of the network by the rules of the protocol
 pub acts_ruled : {tests : AllTests} → (kept new : WorldKept) (i : ℕ) (ev : Event) (whole : WorldEvent) (reply : Reply) → IsEventOf tests kept.sent ev (suc i) whole → (a : Acts tests kept i ev reply new) → SendsItsDues tests kept i ev whole reply new a
@@ -196,6 +212,7 @@ acts_ruled {tests} kept new i ev whole reply into acts sends config network s =
       each = λ j k at. each_set (λ (x : PeerKept) (p : Peer). CoreStandsFor x config p) kept.peers network.peers i a.after r.0 no_peer s.count s.each r.2 j k (subst (λ (ks : List PeerKept). slice_get ks j ≡ Some k) a.peers at);
       known = λ j k at. each_set (λ (x : PeerKept) (p : Peer). IsSound config p) kept.peers network.peers i a.after r.0 no_peer s.count s.known r.3 j k (subst (λ (ks : List PeerKept). slice_get ks j ≡ Some k) a.peers at);
       filters = λ j. filters_stay config (tests (suc i)) i ev a.output r.0 network.peers r.1 j ∙ (s.filters j ∙ ap (λ (ns : List ℕ). get_or ns j 0) (sym a.filters));
+      listeners = λ j. subst (λ (p : Places). NobodyTakes p) (sym (listeners_stay config (tests (suc i)) i ev a.output r.0 network.peers r.1 j)) (s.listeners j);
       sent = refl;
       sound = c.2;
       messages = λ packet m.
@@ -205,7 +222,7 @@ acts_ruled {tests} kept new i ev whole reply into acts sends config network s =
       used = steps_used config tests network whole reply lost next core.is_peer.checked s.used ruled;
       bounded = steps_bounded tests (length network.sent) (machine_of network) whole reply (machine_of next) s.bounded c.0;
     } in
-    (next, lost, ruled, unsent, subst (λ (ps : List Packet). Step tests (length ps) (machine_of network) whole reply (machine_of next)) s.sent c.0, stands)
+    (next, lost, ruled, unsent, subst (λ (ps : List Packet). Step tests (length ps) (machine_of network) whole reply (machine_of next)) s.sent c.0, at_its_end new config network whole next stands)
 
 -- the packet of an index, by its number
 pub found_at : (sent : List Packet) (j : ℕ) (packet : Packet) → slice_get sent j ≡ Some packet → slice_get sent ((j + 1) - 1) ≡ Some packet
@@ -257,7 +274,7 @@ nobody kept config network peer s none has =
 stays : {tests : AllTests} → (kept : WorldKept) (config : Config) (network : WorldState) (ev : WorldEvent) → StandsFor kept config network → WorldStep config tests network ev (Refused BadParameter) network
     → AreDue config network ev (Refused BadParameter) network []
     → (after : WorldState) × (lost : ℕ) × RuledStep config tests network ev (Refused BadParameter) lost after × (kept.unsent ≡ min (kept.unsent + lost) (2 ^ 64 - 1))
-    × Step tests (length kept.sent) (machine_of network) ev (Refused BadParameter) (machine_of after) × StandsFor kept config after
+    × Step tests (length kept.sent) (machine_of network) ev (Refused BadParameter) (machine_of after) × StandsFor kept config (world_ended network ev after)
 stays {tests} kept config network ev s step none =
     let few = s.few in
     let c = composes config tests network network ev (Refused BadParameter) s.sound step in
@@ -269,7 +286,7 @@ stays {tests} kept config network ev s step none =
       sent = sym (append_nothing network.sent);
       are_sent = (refl, refl);
     } in
-    (network, 0, ruled, omega (arith, few), subst (λ (ps : List Packet). Step tests (length ps) (machine_of network) ev (Refused BadParameter) (machine_of network)) s.sent c.0, s)
+    (network, 0, ruled, omega (arith, few), subst (λ (ps : List Packet). Step tests (length ps) (machine_of network) ev (Refused BadParameter) (machine_of network)) s.sent c.0, at_its_end kept config network ev network s)
 
 pub unknown_call : {tests : AllTests} → (kept : WorldKept) (peer : ℕ) (call : Call) → (nat_lt 0 peer && nat_le peer (length kept.peers)) ≡ false → RuledSteps tests kept (world.Call peer call) (Refused BadParameter) kept
 unknown_call kept peer call none config network s =

@@ -3,6 +3,7 @@
 use Rattle.std.specs.Prelude.{◌≡◌, ℕ, suc, ◌+◌, ◌-◌, ◌^◌, ◌≤◌, min, List, length, set, slice_get, Some, None, []}
 use Rattle.dds_base.specs.declared.config.Config.{Config}
 use Rattle.dds_base.specs.Checked.{check_refusal}
+use Rattle.dds_model.specs.Noticing.{world_ended}
 use Rattle.dds_model.specs.declared.event.Event.{Event}
 use Rattle.dds_model.specs.declared.event.Output.{Output}
 use Rattle.dds_model.specs.declared.event.Packet.{Packet}
@@ -64,4 +65,4 @@ abbrev pub RuledSteps : AllTests → WorldKept → WorldEvent → Reply → Worl
 RuledSteps tests old event reply new = (config : Config) (network : WorldState) → StandsFor old config network
     → (after : WorldState) × (lost : ℕ) × RuledStep config tests network event reply lost after
     × (new.unsent ≡ min (old.unsent + lost) (2 ^ 64 - 1))
-    × Step tests (length old.sent) (machine_of network) event reply (machine_of after) × StandsFor new config after
+    × Step tests (length old.sent) (machine_of network) event reply (machine_of after) × StandsFor new config (world_ended network event after)

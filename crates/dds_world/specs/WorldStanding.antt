@@ -1,6 +1,8 @@
 -- What a network stands for.
 use Rattle.std.specs.Prelude.{◌≡◌, ◌≢◌, ◌⊎◌, ℕ, ◌+◌, ◌-◌, ◌^◌, ◌≤◌, min, List, [], ◌∷◌, ◌++◌, length, get_or, slice_get, Some, Contains, AllPairs}
 use Rattle.dds_base.specs.declared.config.Config.{Config}
+use Rattle.dds_notices.specs.Listeners.{NobodyTakes}
+use Rattle.dds_model.specs.Noticing.{world_ended}
 use Rattle.dds_model.specs.declared.event.Packet.{Packet}
 use Rattle.dds_model.specs.declared.event.WorldEvent.{WorldEvent}
 use Rattle.dds_model.specs.declared.reply.Reply.{Reply}
@@ -23,8 +25,8 @@ pub record WorldKept : Type 0 where
   pub sent : List Packet
   pub unsent : ℕ
 
--- A state of the network for which what it keeps stands: so its peers stand, have as many filters, and know what was claimed to
--- them alone; all that
+-- A state of the network for which what it keeps stands: so its peers stand, have as many filters, and no listeners that take a
+-- status, and know what was claimed to them alone; all that
 -- packets claim is true, and each packet is a message; what is counted as unsent keeps to its bound; the counts that were sent or
 -- taken were used by their senders; and no reader's place is past the end of a list.
 pub record StandsFor (kept : WorldKept) (config : Config) (network : WorldState) : Type 0 where
@@ -32,6 +34,7 @@ pub record StandsFor (kept : WorldKept) (config : Config) (network : WorldState)
   pub each : (i : ℕ) (k : PeerKept) → slice_get kept.peers i ≡ Some k → CoreStandsFor k config (get_or network.peers i no_peer)
   pub known : (i : ℕ) (k : PeerKept) → slice_get kept.peers i ≡ Some k → IsSound config (get_or network.peers i no_peer)
   pub filters : (i : ℕ) → (get_or network.peers i no_peer).part.dds.watch.filters ≡ get_or kept.filters i 0
+  pub listeners : (i : ℕ) → NobodyTakes (get_or network.peers i no_peer).part.dds.listeners
   pub sent : network.sent ≡ kept.sent
   pub sound : Sound config network
   pub messages : AreMessages kept.sent
@@ -57,11 +60,12 @@ pub record Posts (old : List Packet) (packets : List Packet) (new : List Packet)
   pub different : AllPairs (λ (a b : Packet). a.to ≢ b.to) packets → AllPairs (λ (a b : Packet). a.to ≢ b.to) posted
 
 -- For each state that the old network stands for, the event is a step of its peers, each of which rests on what was
--- delivered to it; it is a step of the machine that they are the parts of; and the new network stands for the state
--- afterwards.
+-- delivered to it; it is a step of the machine that they are the parts of; and the new network stands for the state at its end,
+-- once listeners were told.
 abbrev pub Steps : AllTests → WorldKept → WorldEvent → Reply → WorldKept → Type 0
 Steps tests old event reply new = (config : Config) (network : WorldState) → StandsFor old config network
-    → (after : WorldState) × WorldStep config tests network event reply after × Step tests (length old.sent) (machine_of network) event reply (machine_of after) × StandsFor new config after
+    → (after : WorldState) × WorldStep config tests network event reply after × Step tests (length old.sent) (machine_of network) event reply (machine_of after)
+    × StandsFor new config (world_ended network event after)
 
 -- the packets that were sent, and how many were not
 abbrev pub traffic : WorldKept → Traffic
@@ -71,12 +75,12 @@ traffic kept = record { sent = kept.sent; unsent = kept.unsent }
 abbrev pub Announces : WorldKept → WorldEvent → Reply → WorldKept → Type 0
 Announces old event reply new = (config : Config) (network : WorldState) → StandsFor old config network → Sends config (traffic old) (machine_of network) event reply (traffic new)
 
--- For each state that the old network stands for, the event is a step of its peers by the rules of the protocol, to one that
--- the new network stands for: they say which messages are due, and of these each is sent, in their order, or counted.
+-- For each state that the old network stands for, the event is a step of its peers by the rules of the protocol, to one at whose
+-- end the new network stands for it: they say which messages are due, and of these each is sent, in their order, or counted.
 abbrev pub KeepsRules : AllTests → WorldKept → WorldEvent → Reply → WorldKept → Type 0
 KeepsRules tests old event reply new = (config : Config) (network : WorldState) → StandsFor old config network
     → (after : WorldState) × (lost : ℕ) × RuledStep config tests network event reply lost after
-    × (new.unsent ≡ min (old.unsent + lost) (2 ^ 64 - 1)) × StandsFor new config after
+    × (new.unsent ≡ min (old.unsent + lost) (2 ^ 64 - 1)) × StandsFor new config (world_ended network event after)
 
 -- For each state that the old network stands for, a delivered packet is taken up, submessage by submessage.
 abbrev pub MovesOn : WorldKept → WorldEvent → Reply → Type 0
