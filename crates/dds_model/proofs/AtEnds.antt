@@ -1,11 +1,21 @@
 -- What the end of an event leaves as it was.
-use Rattle.std.proofs.Common.{◌≡◌, ℕ, zero, suc, Option, Some, None, length, refl, ap, ◌∙◌}
+use Rattle.std.proofs.Common.{◌≡◌, ◌≤◌, ◌+◌, ℕ, zero, suc, Bool, true, false, List, [], ◌∷◌, Option, Some, None, length, arith, refl, ap, ◌∙◌}
+use Rattle.std.specs.Prelude.{nat_lt, if◌then◌else◌}
+use Rattle.std.proofs.lemmas.Bool.Decides.{nat_tests}
 use Rattle.dds_base.specs.declared.entity.Entity.{Entity}
 use Rattle.dds_base.specs.declared.entity.Entity.TheVariants as entity
+use Rattle.dds_base.specs.declared.happening.Happening.{Happening}
+use Rattle.dds_base.specs.declared.happening.Happening.TheVariants.{Came, Died, Heard, Looked, Passed, Read, Took}
+use Rattle.dds_base.specs.declared.qos.ReaderQos.{ReaderQos}
+use Rattle.dds_base.specs.Liveliness.{liveliness_changed_status, turns_alive}
+use Rattle.dds_base.specs.Statuses.{lost_count, sample_lost_status}
+use Rattle.dds_base.specs.StatusFlags.{brings_sample, data_available_at, turned_at}
+use Rattle.dds_base.specs.Written.{liveliness_lost_status}
 use Rattle.dds_notices.specs.declared.notice.Status.{Status}
+use Rattle.dds_notices.specs.declared.notice.Status.TheVariants.{SampleLost, DataAvailable, LivelinessLost, LivelinessChanged}
 use Rattle.dds_notices.specs.Listeners.{NobodyTakes, taker_of}
-use Rattle.dds_model.specs.Part.{Part, own_reader, own_writer}
-use Rattle.dds_model.specs.Noticing.{at_end, data_raised, data_told, each_told, loss_raised, lost_raised, lost_told, reader_told, told, told_of, told_to, turn_raised, turn_told, writer_told}
+use Rattle.dds_model.specs.Part.{Part, Reader, Writer, own_reader, own_writer}
+use Rattle.dds_model.specs.Noticing.{at_end, data_raised, data_told, each_told, loss_raised, losses_of, lost_raised, lost_told, reader_told, told, told_of, told_to, turn_raised, turn_told, writer_told}
 
 -- ---- what holds of each notice
 
@@ -88,3 +98,52 @@ end_untold before part nobody =
     ap (λ (p : Part). each_told (reader_told before) (length part.dds.readers) p)
     (each_untold (writer_told before) part (λ n. untold part nobody (entity.Writer n) (loss_raised (own_writer before n) (own_writer part n))) (length part.rtps.writers))
     ∙ each_untold (reader_told before) part (reader_untold before part nobody) (length part.dds.readers)
+
+-- ---- where nothing happened
+
+in_bounds : (b : Bool) (x n : ℕ) → x ≤ n → (if b then n + 1 else x) ≤ suc n
+in_bounds true x n low = omega arith
+in_bounds false x n low = omega (arith, low)
+
+data_within : (q : ReaderQos) (h : List Happening) → data_available_at q h ≤ length h
+data_within q [] = omega arith
+data_within q (Read samples ∷ h) = omega arith
+data_within q (Took samples ∷ h) = omega arith
+data_within q (Came a ∷ h) = in_bounds (brings_sample q (Came a ∷ h)) (data_available_at q h) (length h) (data_within q h)
+data_within q (Passed w first last ∷ h) = in_bounds (brings_sample q (Passed w first last ∷ h)) (data_available_at q h) (length h) (data_within q h)
+data_within q (Heard w moment ∷ h) = in_bounds (brings_sample q (Heard w moment ∷ h)) (data_available_at q h) (length h) (data_within q h)
+data_within q (Died w moment ∷ h) = in_bounds (brings_sample q (Died w moment ∷ h)) (data_available_at q h) (length h) (data_within q h)
+data_within q (Looked status ∷ h) = in_bounds (brings_sample q (Looked status ∷ h)) (data_available_at q h) (length h) (data_within q h)
+
+turned_within : (h : List Happening) → turned_at h ≤ length h
+turned_within [] = omega arith
+turned_within (e ∷ h) = in_bounds (turns_alive h e) (turned_at h) (length h) (turned_within h)
+
+not_above : (a b : ℕ) → b ≤ a → nat_lt a b ≡ false
+not_above a b le = grind (arith, nat_tests, le)
+
+not_raised : (a b : ℕ) (status : Status) → b ≤ a → (if nat_lt a b then Some status else None) ≡ None
+not_raised a b status le = ap (λ (x : Bool). if x then Some status else None) (not_above a b le)
+
+reader_quiet : (part : Part) (n : ℕ) → reader_told part n part ≡ part
+reader_quiet part n =
+    let r : Reader = own_reader part n in
+    let lost : lost_raised r r ≡ None = not_raised (lost_count r.happened) (lost_count r.happened) (SampleLost (sample_lost_status r.happened r.seen.lost)) (omega arith) in
+    let data_too : data_raised r r ≡ None = not_raised (length r.happened) (data_available_at r.qos r.happened) DataAvailable (data_within r.qos r.happened) in
+    let turned : turn_raised r r ≡ None =
+    not_raised (length r.happened) (turned_at r.happened) (LivelinessChanged (liveliness_changed_status r.qos r.happened r.seen.alive r.seen.not_alive)) (turned_within r.happened) in
+    ap (λ (o : Option Status). turn_told part n (data_told part n (told part (entity.Reader n) o))) lost
+    ∙ (ap (λ (o : Option Status). turn_told part n (told part (entity.Reader n) o)) data_too
+    ∙ ap (λ (o : Option Status). told part (entity.Reader n) o) turned)
+
+writer_quiet : (part : Part) (n : ℕ) → writer_told part n part ≡ part
+writer_quiet part n =
+    let w : Writer = own_writer part n in
+    ap (λ (o : Option Status). told part (entity.Writer n) o) (not_raised (losses_of w) (losses_of w) (LivelinessLost (liveliness_lost_status w.lease w.written)) (omega arith))
+
+-- an event that changes nothing raises nothing, and nobody is told
+pub end_same : (part : Part) → at_end part part ≡ part
+unfolding at_end
+end_same part =
+    ap (λ (p : Part). each_told (reader_told part) (length part.dds.readers) p) (each_untold (writer_told part) part (writer_quiet part) (length part.rtps.writers))
+    ∙ each_untold (reader_told part) part (reader_quiet part) (length part.dds.readers)

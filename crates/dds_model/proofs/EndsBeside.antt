@@ -15,7 +15,7 @@ use Rattle.dds_model.specs.Part.{Part, WriterProxy, no_part, place_of}
 use Rattle.dds_model.specs.Peer.{Peer, no_peer}
 use Rattle.dds_model.specs.World.{Sound, WorldState, machine_of, peer_at}
 use Rattle.dds_model.proofs.Alike.{AlikeParts, AlikeWriters, end_alike, parts_same}
-use Rattle.dds_model.proofs.AtEnds.{end_untold}
+use Rattle.dds_model.proofs.AtEnds.{end_same, end_untold}
 use Rattle.dds_model.proofs.Composed.{parts_at}
 use Rattle.dds_model.proofs.SameBeside.{SameBeside, beside_with, bounded_beside, sound_beside, used_beside}
 use Rattle.dds_model.proofs.Tables.{map-with_numbered, numbered-cases}
@@ -88,3 +88,10 @@ ended_untold before e world nobody = by (peer_of e)
 
     by : (n : ℕ) → record world { peers = with_numbered world.peers n (peer_at_end (peer_at before n) (peer_at world n)) } ≡ world
     by n = ap (λ (ps : List Peer). record world { peers = ps }) (same n)
+
+-- nor does it where nothing happened
+pub ended_same : (world : WorldState) (e : WorldEvent) → world_ended world e world ≡ world
+ended_same world e =
+    let here : Peer = peer_at world (peer_of e) in
+    ap (λ (ps : List Peer). record world { peers = ps })
+    (ap (λ (p : Part). with_numbered world.peers (peer_of e) (record here { part = p })) (end_same here.part) ∙ put_back world.peers (peer_of e))
