@@ -7,7 +7,7 @@ use Rattle.dds_notices.specs.declared.notice.Status.{Status}
 use Rattle.dds_model.specs.Calls.{with_written}
 use Rattle.dds_model.specs.Noticing.{at_end, seen_by, told_of}
 use Rattle.dds_model.specs.Numbered.{numbered, with_numbered}
-use Rattle.dds_model.specs.Part.{Part, Reader, Writer, no_reader, no_writer, own_reader, own_writer}
+use Rattle.dds_model.specs.Part.{Part, Reader, Rtps, Writer, no_reader, no_writer, own_reader, own_writer}
 use Rattle.dds_model.proofs.AtEnds.{end_so}
 use Rattle.dds_model.proofs.Growth.{WriterGrows, writer_on, writer_same}
 use Rattle.dds_model.proofs.Tables.{length-with_numbered, numbered-cases}
@@ -52,16 +52,20 @@ pub record AlikeParts (old new : Part) : Type 0 where
   pub qos : (n : ℕ) → (own_reader new n).qos ≡ (own_reader old n).qos
   pub happened : (n : ℕ) → (own_reader new n).happened ≡ (own_reader old n).happened
 
-pub parts_same : (part : Part) → AlikeParts part part
-parts_same part = record {
-  count = refl;
-  writers = λ n. writers_same (own_writer part n);
-  rows = refl;
-  moment = refl;
-  readers = refl;
-  qos = λ n. refl;
-  happened = λ n. refl;
+-- parts with the same ends and moment are
+pub alike_by : (old new : Part) → new.rtps ≡ old.rtps → new.dds.moment ≡ old.dds.moment → new.dds.readers ≡ old.dds.readers → AlikeParts old new
+alike_by old new rtps moment readers = record {
+  count = ap (λ (r : Rtps). length r.writers) rtps;
+  writers = λ n. subst (λ (r : Rtps). AlikeWriters (own_writer old n) (numbered r.writers n no_writer)) (sym rtps) (writers_same (own_writer old n));
+  rows = ap (λ (r : Rtps). r.readers) rtps;
+  moment = moment;
+  readers = ap (λ (rs : List Reader). length rs) readers;
+  qos = λ n. ap (λ (rs : List Reader). (numbered rs n no_reader).qos) readers;
+  happened = λ n. ap (λ (rs : List Reader). (numbered rs n no_reader).happened) readers;
 }
+
+pub parts_same : (part : Part) → AlikeParts part part
+parts_same part = alike_by part part refl refl refl
 
 pub alike_on : (a b c : Part) → AlikeParts a b → AlikeParts b c → AlikeParts a c
 alike_on a b c f g = record {
@@ -81,15 +85,7 @@ seen_apart f rs n r same k =
     ⊎_elim (λ e. ap f e) (λ s. ap f s.1 ∙ (same ∙ ap (λ (j : ℕ). f (numbered rs j no_reader)) (sym s.0))) (numbered-cases rs n r k no_reader)
 
 told_alike : (part : Part) (e : Entity) (status : Status) → AlikeParts part (told_of part e status)
-told_alike part entity.Participant status = record {
-  count = refl;
-  writers = λ n. writers_same (own_writer part n);
-  rows = refl;
-  moment = refl;
-  readers = refl;
-  qos = λ n. refl;
-  happened = λ n. refl;
-}
+told_alike part entity.Participant status = alike_by part (told_of part entity.Participant status) refl refl refl
 told_alike part (entity.Writer n) status =
     let ws : List Writer = part.rtps.writers in
     let w : Writer = own_writer part n in

@@ -18,7 +18,7 @@ use Rattle.dds_model.specs.Fresh.{HasUsedCounts}
 use Rattle.dds_model.specs.Filters.{machine_with_filter, part_with_filter, peer_with_filter, world_with_filter}
 use Rattle.dds_model.specs.Machine.{Machine, part_at, writer_at, place_at}
 use Rattle.dds_model.specs.World.{WorldState, Holds, Sound, machine_of, peer_at}
-use Rattle.dds_model.proofs.Alike.{AlikeParts, AlikeWriters, alike_readers, parts_same, writers_same}
+use Rattle.dds_model.proofs.Alike.{AlikeParts, AlikeWriters, alike_by, alike_readers, parts_same}
 use Rattle.dds_model.proofs.Composed.{parts_at}
 use Rattle.dds_model.proofs.Growth.{MachineGrows, Holds-grows}
 use Rattle.dds_model.proofs.Tables.{length-with_numbered, map-with_numbered, no_less_same, numbered-cases}
@@ -108,17 +108,6 @@ used_beside config old new s used =
           (used.acknack_taken w r count (sym (ap (λ (k : Known). k.answered w.number r) (s.known w.peer)) ∙ h));
     }
 
-filter_alike : (part : Part) → AlikeParts part (part_with_filter part)
-filter_alike part = record {
-  count = refl;
-  writers = λ n. writers_same (own_writer part n);
-  rows = refl;
-  moment = refl;
-  readers = refl;
-  qos = λ n. refl;
-  happened = λ n. refl;
-}
-
 -- a network with another peer of this number, which is alike
 pub beside_with : (world : WorldState) (i : ℕ) (after : Peer) → after.number ≡ (peer_at world i).number → after.known ≡ (peer_at world i).known
     → after.delivered ≡ (peer_at world i).delivered → AlikeParts (peer_at world i).part after.part
@@ -143,7 +132,8 @@ beside_with world i after number known delivered alike = record {
         (numbered-cases world.peers i after p no_peer)
 
 pub filter_beside : (world : WorldState) (peer : ℕ) → SameBeside world (world_with_filter world peer)
-filter_beside world peer = beside_with world peer (peer_with_filter (peer_at world peer)) refl refl refl (filter_alike (peer_at world peer).part)
+filter_beside world peer = beside_with world peer (peer_with_filter (peer_at world peer)) refl refl refl
+    (alike_by (peer_at world peer).part (part_with_filter (peer_at world peer).part) refl refl refl)
 
 -- the machine has one filter more where the network has
 pub machine_filtered : (world : WorldState) (peer : ℕ) → machine_of (world_with_filter world peer) ≡ machine_with_filter (machine_of world) peer
