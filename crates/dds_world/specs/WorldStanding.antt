@@ -25,10 +25,10 @@ pub record WorldKept : Type 0 where
   pub sent : List Packet
   pub unsent : ℕ
 
--- A state of the network for which what it keeps stands: so its peers stand, have as many filters, and no listeners that take a
--- status, and know what was claimed to them alone; all that
--- packets claim is true, and each packet is a message; what is counted as unsent keeps to its bound; the counts that were sent or
--- taken were used by their senders; and no reader's place is past the end of a list.
+-- A state of the network for which what it keeps stands: so its peers stand, have as many filters, have no listeners that take
+-- a status, and know what was claimed to them alone; all that packets claim is true, and each packet is a message; what is
+-- counted as unsent keeps to its bound; the counts that were sent or taken were used by their senders; and no reader's place is
+-- past the end of a list.
 pub record StandsFor (kept : WorldKept) (config : Config) (network : WorldState) : Type 0 where
   pub count : length network.peers ≡ length kept.peers
   pub each : (i : ℕ) (k : PeerKept) → slice_get kept.peers i ≡ Some k → CoreStandsFor k config (get_or network.peers i no_peer)
