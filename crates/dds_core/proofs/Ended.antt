@@ -23,7 +23,7 @@ use Rattle.dds_model.proofs.FiltersKept.{keeps_listeners, opens_nobody}
 use Rattle.dds_core.specs.declared.marks.Marks.{Marks}
 use Rattle.dds_core.specs.Filtering.{Adds as FilteredAdds, FilteredKept, RefusesFilter as FilteredRefuses, StandsFor as FilteredStandsFor, Steps as FilteredSteps}
 use Rattle.dds_core.specs.Kept.{PeerKept}
-use Rattle.dds_core.specs.Listening.{Adds, CoreKept, Meaning, RefusesFilter, RefusesListener, Sets, StandsFor, Steps}
+use Rattle.dds_core.specs.Listening.{Adds, CoreKept, RefusesFilter, RefusesListener, Sets, StandsFor, Steps}
 use Rattle.dds_core.specs.Noticing.{AreMarksOf, MarksPeer, Tells}
 use Rattle.dds_core.specs.Opening.{opening_peer}
 use Rattle.dds_core.specs.Standing.{IsSound}
@@ -57,37 +57,37 @@ sound_at_end config before peer sound =
 
 -- ---- entities
 
-module _ {L : Type 0} (meaning : Meaning L) where
-  same_entities : (slots : Slotted L) (places : Places) → SlotsStandFor meaning.notices meaning.capacity slots places → (e : Entity) → has_entity places e ≡ has_entity slots e
+module _ {L : Type 0} (notices : L → List Notice) (capacity : L → ℕ) where
+  same_entities : (slots : Slotted L) (places : Places) → SlotsStandFor notices capacity slots places → (e : Entity) → has_entity places e ≡ has_entity slots e
   same_entities slots places s entity.Participant = refl
   same_entities slots places s (entity.Writer n) = ap (λ (k : ℕ). is_number n k) s.writers
   same_entities slots places s (entity.Reader n) = ap (λ (k : ℕ). is_number n k) s.readers
 
-  same_refusal : (slots : Slotted L) (places : Places) → SlotsStandFor meaning.notices meaning.capacity slots places → (e : Entity) (listener : Option L)
-      → listener_refusal meaning.notices places e listener ≡ listener_refusal meaning.notices slots e listener
+  same_refusal : (slots : Slotted L) (places : Places) → SlotsStandFor notices capacity slots places → (e : Entity) (listener : Option L)
+      → listener_refusal notices places e listener ≡ listener_refusal notices slots e listener
   same_refusal slots places s e listener =
-      ap (λ (b : Bool). if not b then Some BadParameter else (if is_fresh meaning.notices listener then None else Some PreconditionNotMet)) (same_entities slots places s e)
+      ap (λ (b : Bool). if not b then Some BadParameter else (if is_fresh notices listener then None else Some PreconditionNotMet)) (same_entities slots places s e)
 
 -- ---- steps
 
-module _ {F L : Type 0} (meaning : Meaning L) where
+module _ {F L : Type 0} (notices : L → List Notice) (capacity : L → ℕ) where
   -- no listener is set
   pub steps_untold : (tests : Tests) (old : CoreKept F L) (ev : Event) (output : Output) (new : FilteredKept F) → FilteredSteps tests old.filtered ev output new
-      → is_any old.listeners ≡ false → Steps meaning tests old ev output (record { filtered = new; listeners = old.listeners })
+      → is_any old.listeners ≡ false → Steps notices capacity tests old ev output (record { filtered = new; listeners = old.listeners })
   steps_untold tests old ev output new h none = record {
     step = λ config peer s sound.
         let r = h.step config peer s.stands sound in
         let after : Peer = r.0 in
         let kept : after.part.dds.listeners ≡ peer.part.dds.listeners = keeps_listeners config tests peer ev output after r.1 in
-        let slots : SlotsStandFor meaning.notices meaning.capacity old.listeners after.part.dds.listeners =
-        subst (λ (p : Places). SlotsStandFor meaning.notices meaning.capacity old.listeners p) (sym kept) s.listeners in
+        let slots : SlotsStandFor notices capacity old.listeners after.part.dds.listeners =
+        subst (λ (p : Places). SlotsStandFor notices capacity old.listeners p) (sym kept) s.listeners in
         let same : at_end peer.part after.part ≡ after.part =
-        end_untold peer.part after.part (λ e status. nobody_takes meaning.notices meaning.capacity old.listeners after.part.dds.listeners none slots e status) in
-        let stands : StandsFor meaning (record { filtered = new; listeners = old.listeners }) config after = record { stands = r.2; listeners = slots } in (
+        end_untold peer.part after.part (λ e status. nobody_takes notices capacity old.listeners after.part.dds.listeners none slots e status) in
+        let stands : StandsFor notices capacity (record { filtered = new; listeners = old.listeners }) config after = record { stands = r.2; listeners = slots } in (
           after,
           r.1,
           r.4,
-          subst (λ (p : Part). StandsFor meaning (record { filtered = new; listeners = old.listeners }) config (record after { part = p })) (sym same) stands,
+          subst (λ (p : Part). StandsFor notices capacity (record { filtered = new; listeners = old.listeners }) config (record after { part = p })) (sym same) stands,
           sound_at_end config peer after r.3,
         );
     filters = h.filters;
@@ -96,15 +96,15 @@ module _ {F L : Type 0} (meaning : Meaning L) where
   -- listeners are told at its end
   pub steps_told : (tests : Tests) (old : CoreKept F L) (ev : Event) (output : Output) (mid new : FilteredKept F) (after : Slotted L) (marks : Marks)
       → FilteredSteps tests old.filtered ev output mid → MarksPeer old.filtered.peer marks
-      → ((before : Part) → AreMarksOf marks before → Tells meaning.notices meaning.capacity (at_end before) mid.peer old.listeners new.peer after)
-      → new.filters ≡ mid.filters → Steps meaning tests old ev output (record { filtered = new; listeners = after })
+      → ((before : Part) → AreMarksOf marks before → Tells notices capacity (at_end before) mid.peer old.listeners new.peer after)
+      → new.filters ≡ mid.filters → Steps notices capacity tests old ev output (record { filtered = new; listeners = after })
   steps_told tests old ev output mid new after marks h marked tells same = record {
     step = λ config peer s sound.
         let r = h.step config peer s.stands sound in
         let stepped : Peer = r.0 in
         let kept : stepped.part.dds.listeners ≡ peer.part.dds.listeners = keeps_listeners config tests peer ev output stepped r.1 in
-        let slots : SlotsStandFor meaning.notices meaning.capacity old.listeners stepped.part.dds.listeners =
-        subst (λ (p : Places). SlotsStandFor meaning.notices meaning.capacity old.listeners p) (sym kept) s.listeners in
+        let slots : SlotsStandFor notices capacity old.listeners stepped.part.dds.listeners =
+        subst (λ (p : Places). SlotsStandFor notices capacity old.listeners p) (sym kept) s.listeners in
         let told = tells peer.part (marked config peer s.stands.stands) config stepped r.2.stands slots in (
           stepped,
           r.1,
@@ -125,7 +125,7 @@ module _ {F L : Type 0} (meaning : Meaning L) where
 
   pub opens : (filtered : FilteredKept F) (listeners : Slotted L) (config : Config) (n writers readers : ℕ) → FilteredStandsFor filtered config (opening_peer config n)
       → writers ≡ length filtered.peer.writers → readers ≡ length filtered.peer.readers → listeners ≡ nobody writers readers
-      → StandsFor meaning (record { filtered = filtered; listeners = listeners }) config (opening_peer config n)
+      → StandsFor notices capacity (record { filtered = filtered; listeners = listeners }) config (opening_peer config n)
   opens filtered listeners config n writers readers s w r none =
       let part : Part = (opening_peer config n).part in
       let opening : part.dds.listeners ≡ nobody writers readers =
@@ -133,14 +133,14 @@ module _ {F L : Type 0} (meaning : Meaning L) where
       ∙ (ap (λ (k : ℕ). nobody k (length part.dds.readers)) (s.stands.writers.count ∙ sym w) ∙ ap (λ (k : ℕ). nobody writers k) (s.stands.readers.count ∙ sym r)) in
       record {
         stands = s;
-        listeners = subst (λ (p : Places). SlotsStandFor meaning.notices meaning.capacity listeners p) (sym opening)
-            (subst (λ (l : Slotted L). SlotsStandFor meaning.notices meaning.capacity l (nobody writers readers)) (sym none) (nobody_stands meaning.notices meaning.capacity writers readers));
+        listeners = subst (λ (p : Places). SlotsStandFor notices capacity listeners p) (sym opening)
+            (subst (λ (l : Slotted L). SlotsStandFor notices capacity l (nobody writers readers)) (sym none) (nobody_stands notices capacity writers readers));
       }
 
   -- ---- filters
 
   pub adds : (old : CoreKept F L) (filter : F) (number : ℕ) (new : FilteredKept F) → FilteredAdds old.filtered filter number new
-      → Adds meaning old filter number (record { filtered = new; listeners = old.listeners })
+      → Adds notices capacity old filter number (record { filtered = new; listeners = old.listeners })
   adds old filter number new h = record {
     filters = h.filters;
     adds = λ config peer s.
@@ -148,19 +148,19 @@ module _ {F L : Type 0} (meaning : Meaning L) where
         (r.0, r.1, record { stands = r.2; listeners = s.listeners }, r.3);
   }
 
-  pub refuses : (old : CoreKept F L) (code : Code) → FilteredRefuses old.filtered code → RefusesFilter meaning old code
+  pub refuses : (old : CoreKept F L) (code : Code) → FilteredRefuses old.filtered code → RefusesFilter notices capacity old code
   refuses old code h config peer s = h config peer s.stands
 
   -- ---- listeners
 
   pub sets : (old : CoreKept F L) (e : Entity) (mask : StatusMask) (listener handed : Option L) (new : Slotted L)
-      → SlotsSet meaning.notices meaning.capacity old.listeners e mask listener handed new
-      → Sets meaning old e mask listener handed (record { filtered = old.filtered; listeners = new })
+      → SlotsSet notices capacity old.listeners e mask listener handed new
+      → Sets notices capacity old e mask listener handed (record { filtered = old.filtered; listeners = new })
   sets old e mask listener handed new h = record {
     filters = refl;
     sets = λ config peer s.
         let r = h.back peer.part.dds.listeners s.listeners in (
-          same_refusal meaning old.listeners peer.part.dds.listeners s.listeners e listener ∙ h.accepted,
+          same_refusal notices capacity old.listeners peer.part.dds.listeners s.listeners e listener ∙ h.accepted,
           r.0,
           record {
             stands = record { stands = listeners_apart old.filtered.peer config peer _ s.stands.stands; filters = s.stands.filters };
@@ -170,6 +170,6 @@ module _ {F L : Type 0} (meaning : Meaning L) where
         );
   }
 
-  pub refuses_listener : (old : CoreKept F L) (e : Entity) (listener : Option L) (code : Code) → listener_refusal meaning.notices old.listeners e listener ≡ Some code
-      → RefusesListener meaning old e listener code
-  refuses_listener old e listener code h config peer s = same_refusal meaning old.listeners peer.part.dds.listeners s.listeners e listener ∙ h
+  pub refuses_listener : (old : CoreKept F L) (e : Entity) (listener : Option L) (code : Code) → listener_refusal notices old.listeners e listener ≡ Some code
+      → RefusesListener notices capacity old e listener code
+  refuses_listener old e listener code h config peer s = same_refusal notices capacity old.listeners peer.part.dds.listeners s.listeners e listener ∙ h

@@ -6,12 +6,18 @@ ghost use Rattle.dds_conditions.specs.Filtered.{tests_of};
 ghost use Rattle.dds_notices.specs.Listeners.{nobody};
 ghost use Rattle.dds_core.specs.Listening.{Adds, RefusesFilter, RefusesListener, Sets, StandsFor, Steps};
 ghost use Rattle.dds_core.specs.Opening.{core_refusal, opening_peer};
+ghost use Rattle.dds_core.specs.Pairs.{IsPair};
 ghost use Rattle.dds_core.specs.Sending.{AreMessages, Sends};
+ghost use Rattle.dds_core.specs.Standing.{StandsFor as PeerStandsFor};
+ghost use Rattle.dds_model.specs.Part.{own_proxies, place_of};
+ghost use Rattle.dds_model.specs.Peer.{Peer as PeerState};
+ghost use Rattle.dds_base.specs.declared.config.Config.{Config as ConfigOf};
 
 use crate::filtered_peer::FilteredPeer;
-use dds_base::{Code, Config, Entity};
+use crate::pairing::Pair;
+use dds_base::{Code, Config, Entity, Moment, Sn};
 use dds_conditions::Filter;
-use dds_model::{Event, Output};
+use dds_model::{Endpoint, Event, Output};
 use dds_notices::{Listener, Slots, StatusMask};
 use std::alloc::Global;
 use std::marker::Model;
@@ -42,7 +48,7 @@ impl<F: Filter, L: Listener> Core<F, L> {
     /// number; `Memory` where a growth was refused.
     pub fn open(alloc: Global, config: &Config, peer: u8) -> Result<Core<F, L>, Code>
         // The peer stands for its opening in the configuration.
-        ensures opening { IfOk result (λ core. StandsFor (record { notices = L.notices; capacity = L.capacity }) core config.now (opening_peer config.now peer)) }
+        ensures opening { IfOk result (λ core. StandsFor L.notices L.capacity core config.now (opening_peer config.now peer)) }
         // It has no filters.
         ensures none { IfOk result (λ core. core.filtered.filters ≡ []) }
         // Against what is opened there is no cause.
@@ -76,7 +82,7 @@ impl<F: Filter, L: Listener> Core<F, L> {
         // For each state that the peer stands for, the event is a step, by what its filters mean, whose end listeners are
         // told of, to one that it stands for afterwards; a delivered packet is taken up by the rules of the protocol, and what
         // is due by them is sent.
-        ensures step { Steps (record { notices = L.notices; capacity = L.capacity }) (tests_of F.meaning self.old.filtered.filters) self.old event result self.new }
+        ensures step { Steps L.notices L.capacity (tests_of F.meaning self.old.filtered.filters) self.old event result self.new }
         // What goes out at a call or a tick, and what is counted as unsent.
         ensures sends { Sends self.old.filtered.peer event result }
         // What goes out is the written form of a message.
@@ -102,9 +108,9 @@ impl<F: Filter, L: Listener> Core<F, L> {
     /// DDS 1.4, 2.2.2.5 (QueryCondition).
     pub fn add_filter(&mut self, filter: F) -> Result<u32, (Code, F)>
         // It is the last one, by the next number, and nothing else changes.
-        ensures ok { IfOk result (λ number. Adds (record { notices = L.notices; capacity = L.capacity }) self.old filter number self.new) }
+        ensures ok { IfOk result (λ number. Adds L.notices L.capacity self.old filter number self.new) }
         // A refusal is for want of a number, exactly then, or for want of memory.
-        ensures refused { IfErr result (λ e. RefusesFilter (record { notices = L.notices; capacity = L.capacity }) self.old e.0) }
+        ensures refused { IfErr result (λ e. RefusesFilter L.notices L.capacity self.old e.0) }
         // What is refused comes back, and changes nothing.
         ensures back { IfErr result (λ e. e.1 ≡ filter) }
         ensures err { OnErr result (self.new ≡ self.old) }
@@ -128,13 +134,47 @@ impl<F: Filter, L: Listener> Core<F, L> {
         listener: Option<L>,
     ) -> Result<Option<L>, (Code, Option<L>)>
         // It is set, and nothing else changes; the one of before has kept the last ones of all that it was told.
-        ensures ok { IfOk result (λ handed. Sets (record { notices = L.notices; capacity = L.capacity }) self.old entity mask listener handed self.new) }
+        ensures ok { IfOk result (λ handed. Sets L.notices L.capacity self.old entity mask listener handed self.new) }
         // A refusal is by the first cause that there is, exactly then.
-        ensures refused { IfErr result (λ e. RefusesListener (record { notices = L.notices; capacity = L.capacity }) self.old entity listener e.0) }
+        ensures refused { IfErr result (λ e. RefusesListener L.notices L.capacity self.old entity listener e.0) }
         // What is refused comes back, and changes nothing.
         ensures back { IfErr result (λ e. e.1 ≡ listener) }
         ensures err { OnErr result (self.new ≡ self.old) }
     {
         self.listeners.set(entity, mask, listener)
+    }
+
+    /// The peer's moment: 0, or that of the last tick that was done.
+    pub fn moment(&self) -> Moment
+        // It is the moment of each state that the peer stands for.
+        ensures moment { (config : ConfigOf) (peer : PeerState) → PeerStandsFor self.now.filtered.peer config peer
+            → result ≡ peer.part.dds.moment }
+    {
+        self.filtered.moment()
+    }
+
+    /// The writer of this number and a reader, by their entity ids, whether the reader is behind, and the number of the
+    /// writer's last change; `None` where they are not matched, or where there are no such ends.
+    ///
+    /// RTPS 2.5, 8.4.7 (StatefulWriter, matched_readers), 8.4.9 (ReaderProxy, unacked_changes).
+    pub fn pair(&self, writer: u8, reader: Endpoint) -> Option<Pair>
+        // They are matched exactly if a pair is found, and the ids are those of the configuration; the reader is behind
+        // exactly where it has not acknowledged some change, and the last number is how many changes the writer has made.
+        ensures pair { (config : ConfigOf) (peer : PeerState) → PeerStandsFor self.now.filtered.peer config peer
+            → IsPair config peer writer reader result }
+    {
+        self.filtered.pair(writer, reader)
+    }
+
+    /// The place of the reader of this number at a writer: the number of the change that it has next, from 1; `None` where
+    /// they are not matched, or where there are no such ends.
+    ///
+    /// RTPS 2.5, 8.4.10 (StatefulReader, WriterProxy).
+    pub fn place(&self, reader: u8, writer: Endpoint) -> Option<Sn>
+        // It is the place in each state that the peer stands for, and there is one exactly if they are matched.
+        ensures place { (config : ConfigOf) (peer : PeerState) → PeerStandsFor self.now.filtered.peer config peer
+            → result ≡ place_of (own_proxies peer.part reader) writer }
+    {
+        self.filtered.place(reader, writer)
     }
 }

@@ -5,6 +5,8 @@ use Rattle.std.specs.Prelude.{pos, ◌≤ℤ◌, Contains, nat_lt}
 use Rattle.dds_base.specs.declared.change.Change.{Change}
 use Rattle.dds_base.specs.Written.{counts_of}
 use Rattle.dds_base.specs.declared.config.Config.{Config}
+use Rattle.dds_base.specs.declared.entity.Entity.{Entity}
+use Rattle.dds_notices.specs.Listeners.{Place}
 use Rattle.dds_model.specs.declared.endpoint.Endpoint.{Endpoint}
 use Rattle.dds_model.specs.declared.event.Packet.{Packet}
 use Rattle.dds_model.specs.Numbered.{numbered, with_numbered, HasNumber}
@@ -17,6 +19,7 @@ use Rattle.dds_model.specs.Dues.{IsPartOf}
 use Rattle.dds_model.specs.Fresh.{HasUsedCounts}
 use Rattle.dds_model.specs.Filters.{machine_with_filter, part_with_filter, peer_with_filter, world_with_filter}
 use Rattle.dds_model.specs.Machine.{Machine, part_at, writer_at, place_at}
+use Rattle.dds_model.specs.Noticing.{peer_with_place, world_with_place}
 use Rattle.dds_model.specs.World.{WorldState, Holds, Sound, machine_of, peer_at}
 use Rattle.dds_model.proofs.Alike.{AlikeParts, AlikeWriters, alike_by, alike_readers, parts_same}
 use Rattle.dds_model.proofs.Composed.{parts_at}
@@ -134,6 +137,10 @@ beside_with world i after number known delivered alike = record {
 pub filter_beside : (world : WorldState) (peer : ℕ) → SameBeside world (world_with_filter world peer)
 filter_beside world peer = beside_with world peer (peer_with_filter (peer_at world peer)) refl refl refl
     (alike_by (peer_at world peer).part (part_with_filter (peer_at world peer).part) refl refl refl)
+
+pub place_beside : (world : WorldState) (peer : ℕ) (entity : Entity) (place : Option Place) → SameBeside world (world_with_place world peer entity place)
+place_beside world peer entity place = beside_with world peer (peer_with_place (peer_at world peer) entity place) refl refl refl
+    (alike_by (peer_at world peer).part (peer_with_place (peer_at world peer) entity place).part refl refl refl)
 
 -- the machine has one filter more where the network has
 pub machine_filtered : (world : WorldState) (peer : ℕ) → machine_of (world_with_filter world peer) ≡ machine_with_filter (machine_of world) peer

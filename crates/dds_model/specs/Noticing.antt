@@ -132,3 +132,7 @@ abbrev pub peer_with_place : Peer → Entity → Option Place → Peer
 peer_with_place peer entity place = record peer {
   part = record peer.part { dds = record peer.part.dds { listeners = with_entity peer.part.dds.listeners entity place } };
 }
+
+-- a network in which the peer of this number has that
+abbrev pub world_with_place : WorldState → ℕ → Entity → Option Place → WorldState
+world_with_place world peer entity place = record world { peers = with_numbered world.peers peer (peer_with_place (peer_at world peer) entity place) }

@@ -1,4 +1,6 @@
 pub mod Posted
+pub mod Recorded
+pub mod Replaced
 pub mod WorldSteps
 pub mod Sends
 pub mod Ruled

@@ -11,6 +11,9 @@ use Rattle.dds_base.specs.declared.config.Config.{Config}
 use Rattle.dds_base.specs.declared.config.PeerConfig.{PeerConfig}
 use Rattle.dds_base.specs.Checked.{has_bad_parameter, has_inconsistent_policy, check_refusal}
 use Rattle.dds_base.specs.Refusal.{Refuses}
+use Rattle.dds_notices.specs.declared.notice.Notice.{Notice}
+use Rattle.dds_notices.specs.Listeners.{Slotted}
+use Rattle.dds_notices.specs.Notices.{Recording}
 use Rattle.dds_model.specs.declared.event.Packet.{Packet}
 use Rattle.dds_model.specs.Numbered.{has_number, numbered}
 use Rattle.dds_model.specs.Opening.{opening_peers, opening_world}
@@ -21,12 +24,13 @@ use Rattle.dds_model.proofs.Opened.{opens_sound}
 use Rattle.dds_model.proofs.OpenedPeers.{opens_known}
 use Rattle.dds_core.specs.Kept.{PeerKept}
 use Rattle.dds_core.specs.Opening.{core_refusal, opening_peer}
-use Rattle.dds_core.specs.Filtering.{FilteredKept, StandsFor as CoreStands}
+use Rattle.dds_core.specs.Listening.{CoreKept, StandsFor as CoreStands}
 use Rattle.dds_core.specs.Standing.{StandsFor as PeerStandsFor}
-use Rattle.dds_model.proofs.FiltersKept.{opens_no_filters_at, opens_untold_at}
-use Rattle.dds_world.specs.Holding.{Held, filters_of, kept_of}
-use Rattle.dds_world.specs.WorldStanding.{StandsFor}
+use Rattle.dds_model.proofs.FiltersKept.{opens_no_filters_at}
+use Rattle.dds_world.specs.Holding.{Held, filters_of, kept_of, recordings}
+use Rattle.dds_world.specs.WorldStanding.{AreTold, StandsFor}
 use Rattle.dds_world.specs.Acting.{OpensFirst}
+use Rattle.dds_world.proofs.Recorded.{are_told}
 
 -- how many peers a configuration has that is not refused
 
@@ -90,9 +94,9 @@ memory_refuses peers none = subst (λ (o : Option Code). Refuses o Memory) (sym 
 
 -- the peers, one after the other
 
-pub opens_none : {F : Type 0} (config : Config) (kept : List (FilteredKept F)) → kept ≡ [] → OpensFirst config 0 kept
-opens_none {F} config kept none =
-    subst (λ (ks : List (FilteredKept F)). OpensFirst config 0 ks) (sym none)
+pub opens_none : {F L : Type 0} (notices : L → List Notice) (capacity : L → ℕ) (config : Config) (kept : List (CoreKept F L)) → kept ≡ [] → OpensFirst notices capacity config 0 kept
+opens_none {F} {L} notices capacity config kept none =
+    subst (λ (ks : List (CoreKept F L)). OpensFirst notices capacity config 0 ks) (sym none)
     (record { counted = refl; each = λ i k at. absurd cc; none = λ i k at. absurd cc; taken = λ low. absurd (omega (arith, low)) })
 
 -- an element of a list with one more at its end
@@ -102,25 +106,26 @@ at_end [] y (suc j) x at = absurd cc
 at_end (z ∷ zs) y zero x at = inl at
 at_end (z ∷ zs) y (suc j) x at = ⊎_elim (λ e. inl e) (λ e. inr (ap suc e.0, e.1)) (at_end zs y j x at)
 
-pub opens_more : {F : Type 0} (config : Config) (i n : ℕ) (old new : List (FilteredKept F)) (core : FilteredKept F) → n ≡ i + 1 → OpensFirst config i old → CoreStands core config (opening_peer config n) → core.filters ≡ []
-    → check_refusal config.peers ≡ None → new ≡ old ++ core ∷ [] → OpensFirst config (i + 1) new
-opens_more {F} config i n old new core is so stands none taken items =
+pub opens_more : {F L : Type 0} (notices : L → List Notice) (capacity : L → ℕ) (config : Config) (i n : ℕ) (old new : List (CoreKept F L)) (core : CoreKept F L) → n ≡ i + 1
+    → OpensFirst notices capacity config i old → CoreStands notices capacity core config (opening_peer config n) → core.filtered.filters ≡ []
+    → check_refusal config.peers ≡ None → new ≡ old ++ core ∷ [] → OpensFirst notices capacity config (i + 1) new
+opens_more {F} {L} notices capacity config i n old new core is so stands none taken items =
     let counted = so.counted in
     let total = length-append old (core ∷ []) in
-    let length_is = ap (λ (ks : List (FilteredKept F)). length ks) items in
-    let before : (j : ℕ) (k : FilteredKept F) → slice_get new j ≡ Some k → (slice_get old j ≡ Some k) ⊎ ((j ≡ length old) × (core ≡ k)) =
-    λ j k at. at_end old core j k (subst (λ (ks : List (FilteredKept F)). slice_get ks j ≡ Some k) items at) in
-    let each : (j : ℕ) (k : FilteredKept F) → slice_get new j ≡ Some k → CoreStands k config (opening_peer config (j + 1)) = λ j k at.
+    let length_is = ap (λ (ks : List (CoreKept F L)). length ks) items in
+    let before : (j : ℕ) (k : CoreKept F L) → slice_get new j ≡ Some k → (slice_get old j ≡ Some k) ⊎ ((j ≡ length old) × (core ≡ k)) =
+    λ j k at. at_end old core j k (subst (λ (ks : List (CoreKept F L)). slice_get ks j ≡ Some k) items at) in
+    let each : (j : ℕ) (k : CoreKept F L) → slice_get new j ≡ Some k → CoreStands notices capacity k config (opening_peer config (j + 1)) = λ j k at.
     ⊎_elim (λ o. so.each j k o)
     (λ last.
     let j_is = last.0 in
     let same : n ≡ j + 1 = omega (arith, is, j_is, counted) in
-    subst (λ (m : ℕ). CoreStands k config (opening_peer config m)) same (subst (λ (x : FilteredKept F). CoreStands x config (opening_peer config n)) last.1 stands))
+    subst (λ (m : ℕ). CoreStands notices capacity k config (opening_peer config m)) same (subst (λ (x : CoreKept F L). CoreStands notices capacity x config (opening_peer config n)) last.1 stands))
     (before j k at) in
     record {
       counted = omega (arith, counted, total, length_is);
       each = each;
-      none = λ j k at. ⊎_elim (λ o. so.none j k o) (λ last. subst (λ (x : FilteredKept F). x.filters ≡ []) last.1 none) (before j k at);
+      none = λ j k at. ⊎_elim (λ o. so.none j k o) (λ last. subst (λ (x : CoreKept F L). x.filtered.filters ≡ []) last.1 none) (before j k at);
       taken = λ low. taken;
     }
 
@@ -141,35 +146,43 @@ get_or-none zero x = refl
 get_or-none (suc i) x = refl
 
 -- no peer has a filter
-none_at : {F : Type 0} (cores : List (FilteredKept F)) → ((i : ℕ) (k : FilteredKept F) → slice_get cores i ≡ Some k → k.filters ≡ []) → (i : ℕ)
-    → get_or (map (λ (c : FilteredKept F). c.filters) cores) i [] ≡ []
+none_at : {F L : Type 0} (cores : List (CoreKept F L)) → ((i : ℕ) (k : CoreKept F L) → slice_get cores i ≡ Some k → k.filtered.filters ≡ []) → (i : ℕ)
+    → get_or (map (λ (c : CoreKept F L). c.filtered.filters) cores) i [] ≡ []
 none_at [] none i = get_or-none i []
 none_at (c ∷ cs) none zero = none zero c refl
 none_at (c ∷ cs) none (suc i) = none_at cs (λ j k at. none (suc j) k at) i
 
-none_counted : {F : Type 0} (cores : List (FilteredKept F)) → ((i : ℕ) (k : FilteredKept F) → slice_get cores i ≡ Some k → k.filters ≡ []) → (i : ℕ)
-    → get_or (map (λ (c : FilteredKept F). length c.filters) cores) i 0 ≡ 0
+none_counted : {F L : Type 0} (cores : List (CoreKept F L)) → ((i : ℕ) (k : CoreKept F L) → slice_get cores i ≡ Some k → k.filtered.filters ≡ []) → (i : ℕ)
+    → get_or (map (λ (c : CoreKept F L). length c.filtered.filters) cores) i 0 ≡ 0
 none_counted [] none i = get_or-none i 0
 none_counted (c ∷ cs) none zero = ap (λ fs. length fs) (none zero c refl)
 none_counted (c ∷ cs) none (suc i) = none_counted cs (λ j k at. none (suc j) k at) i
 
-pub no_filters_at : {F : Type 0} (config : Config) (count : ℕ) (held : Held F) → OpensFirst config count held.cores → (peer : ℕ) → numbered (filters_of held) peer [] ≡ []
-no_filters_at config count held all zero = refl
-no_filters_at config count held all (suc i) = none_at held.cores all.none i
+pub no_filters_at : {F L : Type 0} (notices : L → List Notice) (capacity : L → ℕ) (config : Config) (count : ℕ) (held : Held F L) → OpensFirst notices capacity config count held.cores → (peer : ℕ) → numbered (filters_of held) peer [] ≡ []
+no_filters_at notices capacity config count held all zero = refl
+no_filters_at notices capacity config count held all (suc i) = none_at held.cores all.none i
 
-pub opened : {F : Type 0} (config : Config) (held : Held F) → OpensFirst config (length config.peers) held.cores → held.sent ≡ [] → held.unsent ≡ 0 → StandsFor (kept_of held) config (opening_world config)
-opened {F} config held all none quiet =
-    let f : FilteredKept F → PeerKept = λ c. c.peer in
+pub opened : {F L : Type 0} (notices : L → List Notice) (capacity : L → ℕ) (config : Config) (held : Held F L) → OpensFirst notices capacity config (length config.peers) held.cores
+    → held.sent ≡ [] → held.unsent ≡ 0 → StandsFor (kept_of notices capacity held) config (opening_world config)
+opened {F} {L} notices capacity config held all none quiet =
+    let f : CoreKept F L → PeerKept = λ c. c.filtered.peer in
+    let g : CoreKept F L → Slotted Recording = λ c. recordings notices capacity c.listeners in
     record {
       count = peers_count config.peers 1 config.peers ∙ (sym all.counted ∙ sym (length-map held.cores f));
       each = λ i k at.
           let next : i + 1 ≡ suc i = omega arith in
           let own = seen_of f held.cores i k at in
           subst (λ (x : PeerKept). PeerStandsFor x config (opening_peer config (suc i))) own.2
-          (subst (λ (n : ℕ). PeerStandsFor own.0.peer config (opening_peer config n)) next (all.each i own.0 own.1).stands);
+          (subst (λ (n : ℕ). PeerStandsFor own.0.filtered.peer config (opening_peer config n)) next (all.each i own.0 own.1).stands.stands);
       known = λ i k at. opens_known config i (get_or (opening_peers config.peers 1 config.peers) i no_peer).number;
       filters = λ i. opens_no_filters_at config i ∙ sym (none_counted held.cores all.none i);
-      listeners = λ i. opens_untold_at config i;
+      listened = peers_count config.peers 1 config.peers ∙ (sym all.counted ∙ sym (length-map held.cores g));
+      listeners = λ i k at.
+          let next : i + 1 ≡ suc i = omega arith in
+          let own = seen_of g held.cores i k at in
+          subst (λ (x : Slotted Recording). AreTold x (opening_peer config (suc i)).part.dds.listeners) own.2
+          (subst (λ (n : ℕ). AreTold (g own.0) (opening_peer config n).part.dds.listeners) next
+          (are_told notices capacity own.0.listeners (opening_peer config (i + 1)).part.dds.listeners (all.each i own.0 own.1).listeners));
       sent = sym none;
       sound = opens_sound config;
       messages = λ packet c. let nowhere = subst (λ (ps : List Packet). Contains ps packet) none c in absurd (omega (arith, nowhere.1));

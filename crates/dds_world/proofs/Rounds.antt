@@ -1,9 +1,11 @@
 -- The stages of a round, and the round that they make.
 use Rattle.std.proofs.Common.{◌≡◌, ◌⊎◌, ℕ, zero, suc, ◌+◌, ◌-◌, ◌<◌, ◌≤◌, List, [], ◌∷◌, ◌++◌, Option, Some, None, map, length, get_or, slice_get, refl, ap, sym, ◌∙◌, subst, inl, inr, ⊎_elim, append_assoc, arith}
-use Rattle.std.specs.Prelude.{IsSome}
+use Rattle.std.specs.Prelude.{IsSome, is_some, if◌then◌else◌}
 use Rattle.std.proofs.lemmas.List.{append-nil}
 use Rattle.std.proofs.lemmas.Option.{same_Some, slice_get-get_or}
+use Rattle.dds_base.specs.declared.code.Code.TheVariants.{BadParameter}
 use Rattle.dds_base.specs.declared.config.Config.{Config}
+use Rattle.dds_base.specs.Refusal.{Refuses}
 use Rattle.dds_base.specs.Kept.{numbers_from}
 use Rattle.rtps_wire.specs.declared.seek.Sought.{Sought}
 use Rattle.rtps_wire.specs.declared.seek.Sought.TheVariants as sought
@@ -13,8 +15,8 @@ use Rattle.dds_model.specs.declared.event.Packet.{Packet}
 use Rattle.dds_model.specs.declared.event.WorldEvent.{WorldEvent}
 use Rattle.dds_model.specs.declared.event.WorldEvent.TheVariants as world
 use Rattle.dds_model.specs.declared.reply.Reply.{Reply}
-use Rattle.dds_model.specs.Machine.{AllTests, part_at, place_at}
-use Rattle.dds_model.specs.Part.{Part, own_proxies, own_writer, acknowledged_of, is_reader_behind, place_of, writer_changes}
+use Rattle.dds_model.specs.Machine.{AllTests, part_at, place_at, writer_at}
+use Rattle.dds_model.specs.Part.{NoLess, Part, own_proxies, own_writer, acknowledged_of, is_reader_behind, place_of, writer_changes}
 use Rattle.dds_model.specs.Peer.{Peer, no_peer}
 use Rattle.dds_model.specs.Protocol.{writer_entity}
 use Rattle.dds_model.specs.World.{WorldState, WorldStep, machine_of}
@@ -27,7 +29,7 @@ use Rattle.dds_core.proofs.Lists.{get-within}
 use Rattle.dds_world.specs.declared.round.Matched.{Matched}
 use Rattle.dds_world.specs.declared.round.RoundReply.{RoundReply}
 use Rattle.dds_world.specs.Repairing.{Knows, IsKnown, NotMatched, Stage, Answering, Acknowledging, Beating}
-use Rattle.dds_world.specs.Round.{IsStep, AreSteps, IsTo, HasNone, IsFirst, heartbeat_of, acknack_of, answers_at, AfterHeartbeat, AfterTick, IsRound}
+use Rattle.dds_world.specs.Round.{AreMatched, RefusesRound, IsStep, AreSteps, IsTo, HasNone, IsFirst, heartbeat_of, acknack_of, answers_at, AfterHeartbeat, AfterTick, IsRound}
 use Rattle.dds_world.specs.WorldStanding.{WorldKept, StandsFor, Steps}
 
 -- ---- what was sent stays
@@ -275,6 +277,30 @@ pub place_kept : (kept : WorldKept) (i : ℕ) (core : PeerKept) (reader writer :
 place_kept kept i core reader writer place is at of_core = λ config network s.
     let p = peer_is kept i reader.peer core config network s is at in
     of_core config p.peer p.stands ∙ ap (λ (part : Part). place_of (own_proxies part reader.number) writer) (sym p.part)
+
+-- ---- where there is no round
+
+no_cause : (o : Option ℕ) → IsSome o → (if is_some o then None else Some BadParameter) ≡ None
+no_cause None h = cc
+no_cause (Some x) h = refl
+
+pub are_matched : (kept : WorldKept) (m : Matched) → IsKnown kept m → AreMatched kept m.writer m.reader
+are_matched kept m known config network s = no_cause (acknowledged_of (writer_at (machine_of network) m.writer).readers m.reader) (known config network s).matched
+
+pub not_matched : (kept : WorldKept) (writer reader : Endpoint) → NotMatched kept writer reader → RefusesRound kept writer reader BadParameter
+not_matched kept writer reader none config network s =
+    subst (λ (o : Option ℕ). Refuses (if is_some o then None else Some BadParameter) BadParameter) (sym (none config network s)) refl
+
+nothing_less : (a b : Option ℕ) → NoLess a b → None ≡ b → a ≡ None
+nothing_less None b h is = refl
+nothing_less (Some x) None h is = absurd h
+nothing_less (Some x) (Some y) h is = cc
+
+-- without a place they are not matched
+pub not_placed : (kept : WorldKept) (writer reader : Endpoint) → IsPlace kept reader writer None → NotMatched kept writer reader
+not_placed kept writer reader none config network s =
+    nothing_less (acknowledged_of (writer_at (machine_of network) writer).readers reader) (place_at (machine_of network) reader writer) (s.sound.acknowledged writer reader)
+    (none config network s)
 
 -- ---- the first such packet
 

@@ -69,7 +69,7 @@ call_dues kept new i call reply a config network next s rules =
 pub called : {tests : AllTests} → (kept new : WorldKept) (i peer : ℕ) (call : Call) (reply : Reply) → peer ≡ i + 1 → Acts tests kept i (event.Call call) reply new → RuledSteps tests kept (world.Call peer call) reply new
 called {tests} kept new i peer call reply is a =
     subst (λ (n : ℕ). RuledSteps tests kept (world.Call n call) reply new) (next_number i peer is)
-    (acts_ruled kept new i (event.Call call) (world.Call (suc i) call) reply (calls_at tests kept.sent (suc i) call) a (call_dues kept new i call reply a))
+    (acts_ruled kept new i (event.Call call) (world.Call (suc i) call) reply refl (calls_at tests kept.sent (suc i) call) a (call_dues kept new i call reply a))
 
 -- ---- a tick
 
@@ -103,7 +103,7 @@ tick_dues kept new i now reply a config network next s rules =
 pub ticked : {tests : AllTests} → (kept new : WorldKept) (i peer now : ℕ) (reply : Reply) → peer ≡ i + 1 → Acts tests kept i (event.Tick now) reply new → RuledSteps tests kept (world.Tick peer now) reply new
 ticked {tests} kept new i peer now reply is a =
     subst (λ (n : ℕ). RuledSteps tests kept (world.Tick n now) reply new) (next_number i peer is)
-    (acts_ruled kept new i (event.Tick now) (world.Tick (suc i) now) reply (ticks_at tests kept.sent (suc i) now) a (tick_dues kept new i now reply a))
+    (acts_ruled kept new i (event.Tick now) (world.Tick (suc i) now) reply refl (ticks_at tests kept.sent (suc i) now) a (tick_dues kept new i now reply a))
 
 -- ---- a delivery
 
@@ -129,7 +129,7 @@ delivery_dues kept new i j packet reply at a config network next s rules =
 -- a packet that was sent is taken up by the rules
 taken_up : {tests : AllTests} → (kept new : WorldKept) (i j : ℕ) (packet : Packet) (reply : Reply) → slice_get kept.sent j ≡ Some packet → Acts tests kept i (event.Deliver packet.bytes) reply new → RuledSteps tests kept (world.Deliver (suc i) (j + 1)) reply new
 taken_up {tests} kept new i j packet reply at a =
-    acts_ruled kept new i (event.Deliver packet.bytes) (world.Deliver (suc i) (j + 1)) reply (delivers_at tests kept.sent (suc i) (j + 1) packet (omega arith) (found_at kept.sent j packet at)) a
+    acts_ruled kept new i (event.Deliver packet.bytes) (world.Deliver (suc i) (j + 1)) reply refl (delivers_at tests kept.sent (suc i) (j + 1) packet (omega arith) (found_at kept.sent j packet at)) a
     (delivery_dues kept new i j packet reply at a)
 
 pub delivered : {tests : AllTests} → (kept new : WorldKept) (i j : ℕ) (bytes : List ℕ) (reply : Reply) → IsCopy kept.sent j bytes → Acts tests kept i (event.Deliver bytes) reply new → RuledSteps tests kept (world.Deliver (i + 1) (j + 1)) reply new
@@ -143,7 +143,10 @@ delivered {tests} kept new i j bytes reply copy a =
 pub not_delivered : {tests : AllTests} → (kept : WorldKept) (i j : ℕ) → i < length kept.peers → j < length kept.sent → RuledSteps tests kept (world.Deliver (i + 1) (j + 1)) (Reported (record { moves = []; refused = Some 0 })) kept
 not_delivered {tests} kept i j low high config network s =
     let few = s.few in
+    let count = s.count in
+    let listened = s.listened in
     let core = element kept.peers i low in
+    let slots = element kept.listeners i (omega (arith, low, count, listened)) in
     let packet = element kept.sent j high in
     let some : HasSubmessage packet.0.bytes = s.messages packet.0 (contains_at kept.sent j packet.0 packet.1) in
     let reply : Reply = Reported (record { moves = []; refused = Some 0 }) in
@@ -152,12 +155,16 @@ not_delivered {tests} kept i j low high config network s =
         core = core.0;
         at = core.1;
         output = nothing_moved;
+        slots = slots.0;
+        slots_at = slots.1;
         after = core.0;
-        steps = comes_to_nothing core.0 packet.0.bytes some;
+        left = slots.0;
+        steps = comes_to_nothing core.0 (get_or kept.filters i 0) slots.0 packet.0.bytes some;
         messages = λ p c. absurd (omega (arith, c.1));
         replies = refl;
         peers = set_same kept.peers i core.0 core.1;
         filters = refl;
+        listeners = set_same kept.listeners i slots.0 slots.1;
         posts = posts_none kept.sent;
       };
       sends = tt;

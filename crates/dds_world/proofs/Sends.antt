@@ -164,7 +164,7 @@ pub delivered_sends : {tests : AllTests} → (kept new : WorldKept) (i peer numb
 delivered_sends kept new i peer number bytes reply a config network s =
     let acts = a.acts in
     let at_peer : Peer = get_or network.peers i no_peer in
-    let rules = (acts.steps config at_peer (s.each i acts.core acts.at) (s.known i acts.core acts.at)).4 in
+    let rules = (acts.steps config at_peer (s.each i acts.core acts.at) (s.filters i) (s.listeners i acts.slots acts.slots_at) (s.known i acts.core acts.at)).2 in
     reported config (traffic kept) (traffic new) network peer number reply rules.report (acts.replies ∙ rules.reply) rules.dues (dues_sent kept new rules.dues acts.output acts.posts a.counts rules.sent)
 
 -- what is refused sends nothing

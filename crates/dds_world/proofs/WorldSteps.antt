@@ -1,5 +1,5 @@
 -- The steps of a network.
-use Rattle.std.proofs.Common.{◌≡◌, ◌≢◌, ◌⊎◌, ℕ, zero, suc, ◌+◌, ◌-◌, ◌^◌, ◌<◌, ◌≤◌, min, Bool, true, false, List, [], ◌∷◌, ◌++◌, Some, length, set, get_or, slice_get, subst, ap, sym, ◌∙◌, refl, inl, inr, ⊎_elim, arith, append_assoc, length-append, length-set, get_or-set_same}
+use Rattle.std.proofs.Common.{◌≡◌, ◌≢◌, ◌⊎◌, ℕ, zero, suc, ◌+◌, ◌-◌, ◌^◌, ◌<◌, ◌≤◌, min, Bool, true, false, List, [], ◌∷◌, ◌++◌, Some, length, set, get_or, slice_get, subst, ap, sym, ◌∙◌, refl, inl, inr, ⊎_elim, arith, append_assoc, length-append, get_or-set_same}
 use Rattle.std.specs.Prelude.{if◌then◌else◌, ◌&&◌, nat_lt, nat_le, Contains, AllPairs}
 use Rattle.std.specs.List.{All}
 use Rattle.std.proofs.lemmas.Bool.Decides.{nat_tests}
@@ -10,9 +10,14 @@ use Rattle.std.proofs.lemmas.Option.{same_Some}
 use Rattle.dds_base.specs.declared.code.Code.TheVariants.{BadParameter}
 use Rattle.dds_base.specs.declared.config.Config.{Config}
 use Rattle.rtps_wire.specs.Messages.{HasSubmessage}
-use Rattle.dds_notices.specs.Listeners.{NobodyTakes, Places}
-use Rattle.dds_model.specs.Noticing.{world_ended}
-use Rattle.dds_model.proofs.EndsBeside.{ended_untold}
+use Rattle.dds_notices.specs.Listeners.{Slotted}
+use Rattle.dds_notices.specs.Notices.{Recording}
+use Rattle.dds_model.specs.Bounds.{IsBounded}
+use Rattle.dds_model.specs.Fresh.{HasUsedCounts}
+use Rattle.dds_model.specs.Noticing.{peer_at_end, peer_of, world_ended}
+use Rattle.dds_model.specs.Part.{Part}
+use Rattle.dds_model.proofs.AtEnds.{end_same}
+use Rattle.dds_model.proofs.EndsBeside.{ended_same, ended_sound, ended_used, world_bounded}
 use Rattle.dds_model.specs.declared.call.Call.{Call}
 use Rattle.dds_model.specs.declared.event.Event.{Event}
 use Rattle.dds_model.specs.declared.event.Event.TheVariants as event
@@ -23,7 +28,6 @@ use Rattle.dds_model.specs.declared.event.WorldEvent.TheVariants as world
 use Rattle.dds_model.specs.declared.reply.Reply.{Reply}
 use Rattle.dds_model.specs.declared.reply.Reply.TheVariants.{Reported, Refused}
 use Rattle.dds_model.specs.Watching.{Tests}
-use Rattle.dds_model.proofs.FiltersKept.{keeps_filters, keeps_listeners}
 use Rattle.dds_model.specs.Machine.{AllTests, Step}
 use Rattle.dds_model.specs.Numbered.{HasNumber}
 use Rattle.dds_model.specs.Peer.{Peer, Delivery, PeerStep, no_peer, state_of}
@@ -31,19 +35,20 @@ use Rattle.dds_model.specs.Progress.{Progresses}
 use Rattle.dds_model.specs.Calls.{Effect}
 use Rattle.dds_model.specs.Protocol.{Due, AreSent}
 use Rattle.dds_model.specs.Rules.{RuledStep, AreDue, announcements_due}
-use Rattle.dds_model.specs.World.{WorldState, WorldStep, PeerSteps, machine_of, peer_at}
+use Rattle.dds_model.specs.World.{Sound, WorldState, WorldStep, PeerSteps, machine_of, peer_at}
 use Rattle.dds_model.proofs.Bounded.{steps_bounded}
 use Rattle.dds_model.proofs.Composed.{composes}
 use Rattle.dds_model.proofs.FreshCounts.{steps_used}
 use Rattle.dds_model.proofs.RuledPackets.{unread_backed}
 use Rattle.dds_model.proofs.Tables.{append_nothing}
 use Rattle.dds_core.specs.Kept.{PeerKept}
-use Rattle.dds_core.specs.Standing.{StandsFor as CoreStandsFor, IsSound, SoundStepsBy, KeepsRules as CoreKeepsRules}
+use Rattle.dds_core.specs.Standing.{StandsFor as CoreStandsFor, IsSound, KeepsRules as CoreKeepsRules}
 use Rattle.dds_core.proofs.CallSteps.{refused_nothing}
-use Rattle.dds_core.proofs.Lists.{each_set, get-within}
-use Rattle.dds_world.specs.WorldStanding.{WorldKept, StandsFor, Steps, MovesOn, ArePosted, Posts}
-use Rattle.dds_world.specs.Acting.{Acts, RuledSteps}
+use Rattle.dds_core.proofs.Lists.{get-within}
+use Rattle.dds_world.specs.WorldStanding.{AreTold, WorldKept, StandsFor, Steps, MovesOn, ArePosted, Posts}
+use Rattle.dds_world.specs.Acting.{Acts, RuledSteps, StepsAt}
 use Rattle.dds_world.proofs.Posted.{lost_is, posted_on}
+use Rattle.dds_world.proofs.Replaced.{ended_at, peer_stands, same_at, with_peer}
 
 -- lists of which any two elements differ
 
@@ -135,45 +140,19 @@ ticks_at tests sent peer now config old new reply same step = inl step
 pub delivers_at : (tests : AllTests) → (sent : List Packet) (peer number : ℕ) (packet : Packet) → 1 ≤ number → slice_get sent (number - 1) ≡ Some packet → IsEventOf tests sent (event.Deliver packet.bytes) peer (world.Deliver peer number)
 delivers_at tests sent peer number packet low found config old new reply same step = inl (packet, low, subst (λ (ps : List Packet). slice_get ps (number - 1) ≡ Some packet) (sym same) found, step)
 
--- the network in which one peer is another, and these packets were sent
-abbrev with_peer : WorldState → ℕ → Peer → List Packet → WorldState
-with_peer network i after sent = record { peers = set network.peers i after; sent = sent }
-
--- a step of the peer of this index adds no filter at any peer
-filters_stay : (config : Config) (tests : Tests) (i : ℕ) (ev : Event) (output : Output) (after : Peer) (peers : List Peer) → PeerStep config tests (get_or peers i no_peer) ev output after
-    → (j : ℕ) → (get_or (set peers i after) j no_peer).part.dds.watch.filters ≡ (get_or peers j no_peer).part.dds.watch.filters
-filters_stay config tests i ev output after [] step j = refl
-filters_stay config tests zero ev output after (p ∷ ps) step zero = keeps_filters config tests p ev output after step
-filters_stay config tests zero ev output after (p ∷ ps) step (suc j) = refl
-filters_stay config tests (suc i) ev output after (p ∷ ps) step zero = refl
-filters_stay config tests (suc i) ev output after (p ∷ ps) step (suc j) = filters_stay config tests i ev output after ps step j
-
--- nor does it set a listener
-listeners_stay : (config : Config) (tests : Tests) (i : ℕ) (ev : Event) (output : Output) (after : Peer) (peers : List Peer) → PeerStep config tests (get_or peers i no_peer) ev output after
-    → (j : ℕ) → (get_or (set peers i after) j no_peer).part.dds.listeners ≡ (get_or peers j no_peer).part.dds.listeners
-listeners_stay config tests i ev output after [] step j = refl
-listeners_stay config tests zero ev output after (p ∷ ps) step zero = keeps_listeners config tests p ev output after step
-listeners_stay config tests zero ev output after (p ∷ ps) step (suc j) = refl
-listeners_stay config tests (suc i) ev output after (p ∷ ps) step zero = refl
-listeners_stay config tests (suc i) ev output after (p ∷ ps) step (suc j) = listeners_stay config tests i ev output after ps step j
-
 -- what the peer of this index sends at an event is what is due at it
 abbrev pub SendsItsDues : (tests : AllTests) → (kept : WorldKept) (i : ℕ) (ev : Event) (whole : WorldEvent) (reply : Reply) (new : WorldKept) → Acts tests kept i ev reply new → Type 0
 SendsItsDues tests kept i ev whole reply new a = (config : Config) (network next : WorldState) → StandsFor kept config network
     → CoreKeepsRules config (get_or network.peers i no_peer) ev a.acts.output (get_or next.peers i no_peer)
     → (dues : List Due) × AreDue config network whole reply next dues × AreSent dues a.acts.output.packets a.acts.output.unsent
 
--- where nobody takes a status, the end of an event changes nothing
-at_its_end : (kept : WorldKept) (config : Config) (network : WorldState) (whole : WorldEvent) (next : WorldState) → StandsFor kept config next → StandsFor kept config (world_ended network whole next)
-at_its_end kept config network whole next s = subst (λ (w : WorldState). StandsFor kept config w) (sym (ended_untold network whole next s.listeners)) s
-
 -- an event of the peer of this index is one of the network by the rules of the protocol
-pub acts_ruled : {tests : AllTests} → (kept new : WorldKept) (i : ℕ) (ev : Event) (whole : WorldEvent) (reply : Reply) → IsEventOf tests kept.sent ev (suc i) whole → (a : Acts tests kept i ev reply new) → SendsItsDues tests kept i ev whole reply new a
+pub acts_ruled : {tests : AllTests} → (kept new : WorldKept) (i : ℕ) (ev : Event) (whole : WorldEvent) (reply : Reply) → peer_of whole ≡ suc i → IsEventOf tests kept.sent ev (suc i) whole → (a : Acts tests kept i ev reply new) → SendsItsDues tests kept i ev whole reply new a
     → RuledSteps tests kept whole reply new
-acts_ruled {tests} kept new i ev whole reply into acts sends config network s =
+acts_ruled {tests} kept new i ev whole reply its into acts sends config network s =
     let a = acts.acts in
     let core : CoreStandsFor a.core config (get_or network.peers i no_peer) = s.each i a.core a.at in
-    let r = a.steps config (get_or network.peers i no_peer) core (s.known i a.core a.at) in
+    let r = a.steps config (get_or network.peers i no_peer) core (s.filters i) (s.listeners i a.slots a.slots_at) (s.known i a.core a.at) in
     let next : WorldState = with_peer network i r.0 new.sent in
     let low : i < length kept.peers = get-within kept.peers i a.core a.at in
     let count = s.count in
@@ -191,7 +170,7 @@ acts_ruled {tests} kept new i ev whole reply into acts sends config network s =
     let low' : i < length network.peers = omega (arith, count, low) in
     let there : get_or next.peers i no_peer ≡ r.0 = get_or-set_same network.peers i r.0 no_peer low' in
     let rules : CoreKeepsRules config (get_or network.peers i no_peer) ev a.output (get_or next.peers i no_peer) =
-    subst (λ (p : Peer). CoreKeepsRules config (get_or network.peers i no_peer) ev a.output p) (sym there) r.4 in
+    subst (λ (p : Peer). CoreKeepsRules config (get_or network.peers i no_peer) ev a.output p) (sym there) r.2 in
     let due = sends config network next s rules in
     let lost : ℕ = a.output.unsent + a.posts.lost in
     let ruled : RuledStep config tests network whole reply lost next = record {
@@ -204,25 +183,28 @@ acts_ruled {tests} kept new i ev whole reply into acts sends config network s =
     } in
     let c = composes config tests network next whole reply s.sound whole_step in
     let unsent = lost_is kept new a.output a.posts acts.counts in
-    let c1 = length-set network.peers i r.0 in
-    let c2 = length-set kept.peers i a.after in
-    let c3 = ap (λ (ks : List PeerKept). length ks) a.peers in
-    let stands : StandsFor new config next = record {
-      count = omega (arith, c1, c2, c3, count);
-      each = λ j k at. each_set (λ (x : PeerKept) (p : Peer). CoreStandsFor x config p) kept.peers network.peers i a.after r.0 no_peer s.count s.each r.2 j k (subst (λ (ks : List PeerKept). slice_get ks j ≡ Some k) a.peers at);
-      known = λ j k at. each_set (λ (x : PeerKept) (p : Peer). IsSound config p) kept.peers network.peers i a.after r.0 no_peer s.count s.known r.3 j k (subst (λ (ks : List PeerKept). slice_get ks j ≡ Some k) a.peers at);
-      filters = λ j. filters_stay config (tests (suc i)) i ev a.output r.0 network.peers r.1 j ∙ (s.filters j ∙ ap (λ (ns : List ℕ). get_or ns j 0) (sym a.filters));
-      listeners = λ j. subst (λ (p : Places). NobodyTakes p) (sym (listeners_stay config (tests (suc i)) i ev a.output r.0 network.peers r.1 j)) (s.listeners j);
-      sent = refl;
-      sound = c.2;
-      messages = λ packet m.
-          ⊎_elim (λ o. s.messages packet o) (λ o. a.messages packet (a.posts.of_packets packet o))
-          (Contains-append_cases kept.sent a.posts.posted packet (subst (λ (ps : List Packet). Contains ps packet) a.posts.sent m));
-      few = omega (arith, unsent);
-      used = steps_used config tests network whole reply lost next core.is_peer.checked s.used ruled;
-      bounded = steps_bounded tests (length network.sent) (machine_of network) whole reply (machine_of next) s.bounded c.0;
-    } in
-    (next, lost, ruled, unsent, subst (λ (ps : List Packet). Step tests (length ps) (machine_of network) whole reply (machine_of next)) s.sent c.0, at_its_end new config network whole next stands)
+    let end : Peer = peer_at_end (get_or network.peers i no_peer) r.0 in
+    let ends : world_ended network whole next ≡ with_peer network i end new.sent = ended_at network whole i r.0 new.sent its low' in
+    let used : HasUsedCounts config next = steps_used config tests network whole reply lost next core.is_peer.checked s.used ruled in
+    let bounded : IsBounded (machine_of next) = steps_bounded tests (length network.sent) (machine_of network) whole reply (machine_of next) s.bounded c.0 in
+    let stands : StandsFor new config (with_peer network i end new.sent) =
+    peer_stands kept new config network i a.after a.left end new.sent s a.peers a.listeners
+    (λ j. same_at (λ (p : Peer). p.part.dds.watch.filters) network.peers i end (r.4 ∙ sym (s.filters i)) j ∙ (s.filters j ∙ ap (λ (ns : List ℕ). get_or ns j 0) (sym a.filters)))
+    r.3 r.5 r.6 refl
+    (λ packet m.
+    ⊎_elim (λ o. s.messages packet o) (λ o. a.messages packet (a.posts.of_packets packet o))
+    (Contains-append_cases kept.sent a.posts.posted packet (subst (λ (ps : List Packet). Contains ps packet) a.posts.sent m)))
+    (omega (arith, unsent))
+    (subst (λ (w : WorldState). Sound config w) ends (ended_sound config network whole next c.2))
+    (subst (λ (w : WorldState). HasUsedCounts config w) ends (ended_used config network whole next used))
+    (subst (λ (w : WorldState). IsBounded (machine_of w)) ends (world_bounded network whole next bounded)) in (
+      next,
+      lost,
+      ruled,
+      unsent,
+      subst (λ (ps : List Packet). Step tests (length ps) (machine_of network) whole reply (machine_of next)) s.sent c.0,
+      subst (λ (w : WorldState). StandsFor new config w) (sym ends) stands,
+    )
 
 -- the packet of an index, by its number
 pub found_at : (sent : List Packet) (j : ℕ) (packet : Packet) → slice_get sent j ≡ Some packet → slice_get sent ((j + 1) - 1) ≡ Some packet
@@ -233,8 +215,9 @@ found_at sent j packet at = let same : (j + 1) - 1 ≡ j = omega arith in subst 
 abbrev pub nothing_moved : Output
 nothing_moved = record { reply = Reported (record { moves = []; refused = Some 0 }); packets = []; unsent = 0 }
 
-pub comes_to_nothing : {tests : Tests} → (core : PeerKept) (bytes : List ℕ) → HasSubmessage bytes → SoundStepsBy tests core (event.Deliver bytes) nothing_moved core
-comes_to_nothing {tests} core bytes some config peer s sound =
+pub comes_to_nothing : {tests : Tests} → (core : PeerKept) (count : ℕ) (slots : Slotted Recording) (bytes : List ℕ) → HasSubmessage bytes
+    → StepsAt tests core count slots (event.Deliver bytes) nothing_moved core slots
+comes_to_nothing {tests} core count slots bytes some config peer s counted told sound =
     let delivery : Delivery = record { packet = bytes; report = record { moves = []; refused = Some 0 } } in
     let after : Peer = record { number = peer.number; part = peer.part; known = peer.known; delivered = delivery ∷ peer.delivered } in
     let step : PeerStep config tests peer (event.Deliver bytes) nothing_moved after = record {
@@ -245,7 +228,13 @@ comes_to_nothing {tests} core bytes some config peer s sound =
     } in
     let stands : CoreStandsFor core config after = record { is_peer = s.is_peer; moment = s.moment; early = s.early; writers = s.writers; readers = s.readers; tellable = s.tellable; watch = s.watch } in
     let known : IsSound config after = unread_backed config peer.number peer.delivered bytes (state_of peer) (state_of peer) delivery.report (record { moves = refl; after = refl; cause = inr (refl, some) }) refl sound in
-    (after, step, stands, known, record { report = delivery.report; reply = refl; dues = []; takes = inr (record { moves = refl; after = refl; cause = inr (refl, some) }, refl, refl); sent = (refl, refl) })
+    let rules : CoreKeepsRules config peer (event.Deliver bytes) nothing_moved after =
+    record { report = delivery.report; reply = refl; dues = []; takes = inr (record { moves = refl; after = refl; cause = inr (refl, some) }, refl, refl); sent = (refl, refl) } in
+    let same : peer_at_end peer after ≡ after = ap (λ (p : Part). record after { part = p }) (end_same peer.part) in
+    let end =
+    subst (λ (p : Peer). CoreStandsFor core config p × (p.part.dds.watch.filters ≡ count) × AreTold slots p.part.dds.listeners × IsSound config p) (sym same)
+    (stands, counted, told, known) in
+    (after, step, rules, end.0, end.1, end.2, end.3)
 
 pub set_same : {X : Type 0} (xs : List X) (i : ℕ) (x : X) → slice_get xs i ≡ Some x → xs ≡ set xs i x
 set_same [] i x at = refl
@@ -286,7 +275,7 @@ stays {tests} kept config network ev s step none =
       sent = sym (append_nothing network.sent);
       are_sent = (refl, refl);
     } in
-    (network, 0, ruled, omega (arith, few), subst (λ (ps : List Packet). Step tests (length ps) (machine_of network) ev (Refused BadParameter) (machine_of network)) s.sent c.0, at_its_end kept config network ev network s)
+    (network, 0, ruled, omega (arith, few), subst (λ (ps : List Packet). Step tests (length ps) (machine_of network) ev (Refused BadParameter) (machine_of network)) s.sent c.0, subst (λ (w : WorldState). StandsFor kept config w) (sym (ended_same network ev)) s)
 
 pub unknown_call : {tests : AllTests} → (kept : WorldKept) (peer : ℕ) (call : Call) → (nat_lt 0 peer && nat_le peer (length kept.peers)) ≡ false → RuledSteps tests kept (world.Call peer call) (Refused BadParameter) kept
 unknown_call kept peer call none config network s =

@@ -1,9 +1,14 @@
 -- What an event of one peer does to the network, and how the peers are opened. Inner functions alone cite this: nothing
 -- here has to be believed.
-use Rattle.std.specs.Prelude.{◌≡◌, ℕ, suc, ◌+◌, ◌-◌, ◌^◌, ◌≤◌, min, List, length, set, slice_get, Some, None, []}
+use Rattle.std.specs.Prelude.{◌≡◌, ℕ, suc, ◌+◌, ◌-◌, ◌^◌, ◌≤◌, min, List, length, set, get_or, slice_get, Some, None, []}
 use Rattle.dds_base.specs.declared.config.Config.{Config}
 use Rattle.dds_base.specs.Checked.{check_refusal}
-use Rattle.dds_model.specs.Noticing.{world_ended}
+use Rattle.dds_notices.specs.declared.notice.Notice.{Notice}
+use Rattle.dds_notices.specs.Listeners.{Slotted}
+use Rattle.dds_notices.specs.Notices.{Recording}
+use Rattle.dds_model.specs.Noticing.{peer_at_end, world_ended}
+use Rattle.dds_model.specs.Peer.{Peer, PeerStep}
+use Rattle.dds_model.specs.Watching.{Tests}
 use Rattle.dds_model.specs.declared.event.Event.{Event}
 use Rattle.dds_model.specs.declared.event.Output.{Output}
 use Rattle.dds_model.specs.declared.event.Packet.{Packet}
@@ -15,9 +20,9 @@ use Rattle.dds_model.specs.World.{WorldState, machine_of}
 use Rattle.dds_core.specs.Kept.{PeerKept}
 use Rattle.dds_core.specs.Opening.{opening_peer}
 use Rattle.dds_core.specs.Sending.{Sends as CoreSends, SendsNothing, AreMessages}
-use Rattle.dds_core.specs.Filtering.{FilteredKept, StandsFor as CoreStands}
-use Rattle.dds_core.specs.Standing.{SoundStepsBy}
-use Rattle.dds_world.specs.WorldStanding.{WorldKept, StandsFor, Posts}
+use Rattle.dds_core.specs.Listening.{CoreKept, StandsFor as CoreStands}
+use Rattle.dds_core.specs.Standing.{IsSound, KeepsRules as CoreKeepsRules, StandsFor as CoreStandsFor}
+use Rattle.dds_world.specs.WorldStanding.{AreTold, WorldKept, StandsFor, Posts}
 
 -- how many packets were counted as unsent: those of the peer, and those that found no memory in the network
 abbrev pub Counts : WorldKept → Output → WorldKept → Type 0
@@ -27,17 +32,31 @@ Counts old output new = (lost : ℕ) × (length new.sent + lost ≡ length old.s
 abbrev pub IsQuiet : WorldKept → Output → WorldKept → Type 0
 IsQuiet old output new = SendsNothing output → (new.sent ≡ old.sent) × (new.unsent ≡ old.unsent)
 
+-- For each state that a peer's old values stand for, and of which all that is known was claimed, the event is a step which
+-- follows the rules of the protocol; the new values stand for the state at its end, once listeners were told, and all that is
+-- known of that was claimed.
+abbrev pub StepsAt : Tests → PeerKept → ℕ → Slotted Recording → Event → Output → PeerKept → Slotted Recording → Type 0
+StepsAt tests core filters slots event output after left = (config : Config) (peer : Peer) → CoreStandsFor core config peer → peer.part.dds.watch.filters ≡ filters
+    → AreTold slots peer.part.dds.listeners → IsSound config peer
+    → (stepped : Peer) × PeerStep config tests peer event output stepped × CoreKeepsRules config peer event output stepped
+    × CoreStandsFor after config (peer_at_end peer stepped) × ((peer_at_end peer stepped).part.dds.watch.filters ≡ filters)
+    × AreTold left (peer_at_end peer stepped).part.dds.listeners × IsSound config (peer_at_end peer stepped)
+
 -- the peer of this index has the event, and the other peers are as they were; of its packets some are sent
 pub record ActsAt (tests : AllTests) (old : WorldKept) (index : ℕ) (event : Event) (reply : Reply) (new : WorldKept) : Type 0 where
   pub core : PeerKept
   pub at : slice_get old.peers index ≡ Some core
   pub output : Output
+  pub slots : Slotted Recording
+  pub slots_at : slice_get old.listeners index ≡ Some slots
   pub after : PeerKept
-  pub steps : SoundStepsBy (tests (suc index)) core event output after
+  pub left : Slotted Recording
+  pub steps : StepsAt (tests (suc index)) core (get_or old.filters index 0) slots event output after left
   pub messages : AreMessages output.packets
   pub replies : reply ≡ output.reply
   pub peers : new.peers ≡ set old.peers index after
   pub filters : new.filters ≡ old.filters
+  pub listeners : new.listeners ≡ set old.listeners index left
   pub posts : Posts old.sent output.packets new.sent
 
 -- so it is, and what it sends is said, and counted
@@ -54,10 +73,10 @@ pub record IsCopy (sent : List Packet) (index : ℕ) (bytes : List ℕ) : Type 0
   pub same : bytes ≡ packet.bytes
 
 -- the first peers of a configuration, at their opening, without filters; where there is one, the configuration is taken
-pub record OpensFirst {F : Type 0} (config : Config) (count : ℕ) (kept : List (FilteredKept F)) : Type 0 where
+pub record OpensFirst {F L : Type 0} (notices : L → List Notice) (capacity : L → ℕ) (config : Config) (count : ℕ) (kept : List (CoreKept F L)) : Type 0 where
   pub counted : length kept ≡ count
-  pub each : (i : ℕ) (k : FilteredKept F) → slice_get kept i ≡ Some k → CoreStands k config (opening_peer config (i + 1))
-  pub none : (i : ℕ) (k : FilteredKept F) → slice_get kept i ≡ Some k → k.filters ≡ []
+  pub each : (i : ℕ) (k : CoreKept F L) → slice_get kept i ≡ Some k → CoreStands notices capacity k config (opening_peer config (i + 1))
+  pub none : (i : ℕ) (k : CoreKept F L) → slice_get kept i ≡ Some k → k.filtered.filters ≡ []
   pub taken : 1 ≤ count → check_refusal config.peers ≡ None
 
 -- a step of the network's peers by the rules of the protocol, and of its machine, to one state

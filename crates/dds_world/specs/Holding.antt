@@ -1,78 +1,126 @@
--- A network whose peers have filters of their applications.
-use Rattle.std.specs.Prelude.{◌≡◌, ℕ, ◌+◌, ◌⊎◌, Bool, List, [], ◌∷◌, ◌++◌, map, length, None}
+-- A network whose peers have filters and listeners of their applications.
+--
+-- DDS 1.4, 2.2.2.1 (Entity, set_listener), 2.2.2.5 (QueryCondition), 2.2.4.2 (listeners).
+use Rattle.std.specs.Prelude.{◌≡◌, ℕ, ◌+◌, ◌⊎◌, Bool, List, [], ◌∷◌, ◌++◌, map, length, Option, None, Some}
 use Rattle.dds_base.specs.declared.code.Code.{Code}
 use Rattle.dds_base.specs.declared.code.Code.TheVariants.{BadParameter}
 use Rattle.dds_base.specs.declared.config.Config.{Config}
+use Rattle.dds_base.specs.declared.entity.Entity.{Entity}
 use Rattle.dds_base.specs.declared.key.Key.{Key}
 use Rattle.dds_base.specs.Refusal.{Refuses}
 use Rattle.dds_conditions.specs.Filtered.{tests_of}
 use Rattle.dds_conditions.specs.Watched.{filter_refusal}
+use Rattle.dds_notices.specs.declared.mask.StatusMask.{StatusMask}
+use Rattle.dds_notices.specs.declared.notice.Notice.{Notice}
+use Rattle.dds_notices.specs.Listeners.{HandedBack, Slot, Slotted, at_entity, listener_refusal, place_of}
+use Rattle.dds_notices.specs.Notices.{Recording}
 use Rattle.dds_model.specs.declared.event.Event.{Event}
 use Rattle.dds_model.specs.declared.event.Packet.{Packet}
 use Rattle.dds_model.specs.declared.event.WorldEvent.{WorldEvent}
 use Rattle.dds_model.specs.declared.reply.Reply.{Reply}
 use Rattle.dds_model.specs.Filters.{world_with_filter}
 use Rattle.dds_model.specs.Machine.{AllTests}
+use Rattle.dds_model.specs.Noticing.{world_with_place}
 use Rattle.dds_model.specs.Numbered.{numbered, with_numbered, HasNumber}
 use Rattle.dds_model.specs.World.{WorldState, peer_at}
-use Rattle.dds_core.specs.Filtering.{FilteredKept}
+use Rattle.dds_core.specs.Listening.{CoreKept}
 use Rattle.dds_world.specs.Acting.{Acts, RuledSteps}
 use Rattle.dds_world.specs.WorldStanding.{WorldKept, StandsFor}
 
--- the peers with their filters, every packet that was sent, and how many found no memory
-pub record Held (F : Type 0) : Type 0 where
-  pub cores : List (FilteredKept F)
+-- the peers with their filters and listeners, every packet that was sent, and how many found no memory
+pub record Held (F L : Type 0) : Type 0 where
+  pub cores : List (CoreKept F L)
   pub sent : List Packet
   pub unsent : ℕ
 
--- what it keeps beside what its filters are
-abbrev pub kept_of : {F : Type 0} → Held F → WorldKept
-kept_of {F} held = record {
-  peers = map (λ (c : FilteredKept F). c.peer) held.cores;
-  filters = map (λ (c : FilteredKept F). length c.filters) held.cores;
+-- ---- what listeners keep
+
+-- a listener that may be there, by the notices that it keeps and how many it can keep
+abbrev pub recorded : {L : Type 0} → (L → List Notice) → (L → ℕ) → Option (Slot L) → Option (Slot Recording)
+recorded notices capacity None = None
+recorded notices capacity (Some slot) = Some (record { mask = slot.mask; listener = record { notices = notices slot.listener; room = capacity slot.listener } })
+
+-- so each of a peer's
+abbrev pub recordings : {L : Type 0} → (L → List Notice) → (L → ℕ) → Slotted L → Slotted Recording
+recordings {L} notices capacity slots = record {
+  participant = recorded notices capacity slots.participant;
+  writers = map (λ (s : Option (Slot L)). recorded notices capacity s) slots.writers;
+  readers = map (λ (s : Option (Slot L)). recorded notices capacity s) slots.readers;
+}
+
+-- what it keeps beside what its filters and listeners are
+abbrev pub kept_of : {F L : Type 0} → (L → List Notice) → (L → ℕ) → Held F L → WorldKept
+kept_of {F} {L} notices capacity held = record {
+  peers = map (λ (c : CoreKept F L). c.filtered.peer) held.cores;
+  filters = map (λ (c : CoreKept F L). length c.filtered.filters) held.cores;
+  listeners = map (λ (c : CoreKept F L). recordings notices capacity c.listeners) held.cores;
   sent = held.sent;
   unsent = held.unsent;
 }
 
+-- ---- filters
+
 -- the filters of each peer
-abbrev pub filters_of : {F : Type 0} → Held F → List (List F)
-filters_of {F} held = map (λ (c : FilteredKept F). c.filters) held.cores
+abbrev pub filters_of : {F L : Type 0} → Held F L → List (List F)
+filters_of {F} {L} held = map (λ (c : CoreKept F L). c.filtered.filters) held.cores
 
 -- what these filters of the peers answer, by the peers' numbers and the filters'
 abbrev pub tests_by : {F : Type 0} → (F → Key → List ℕ → Bool) → List (List F) → AllTests
 tests_by meaning filters peer = tests_of meaning (numbered filters peer [])
 
 -- what the filters of a network answer
-abbrev pub tests_in : {F : Type 0} → (F → Key → List ℕ → Bool) → Held F → AllTests
+abbrev pub tests_in : {F L : Type 0} → (F → Key → List ℕ → Bool) → Held F L → AllTests
 tests_in meaning held = tests_by meaning (filters_of held)
 
 -- The peer of this number has the filter, as the last one. For each state that the old network stands for there is a number for
 -- it, and it is this one, and the new network stands for that state with one filter more there, and nothing else.
-pub record Adds {F : Type 0} (old : Held F) (peer : ℕ) (filter : F) (number : ℕ) (new : Held F) : Type 0 where
+pub record Adds {F L : Type 0} (notices : L → List Notice) (capacity : L → ℕ) (old : Held F L) (peer : ℕ) (filter : F) (number : ℕ) (new : Held F L) : Type 0 where
   pub within : HasNumber old.cores peer
   pub filters : filters_of new ≡ with_numbered (filters_of old) peer (numbered (filters_of old) peer [] ++ filter ∷ [])
-  pub adds : (config : Config) (network : WorldState) → StandsFor (kept_of old) config network
+  pub adds : (config : Config) (network : WorldState) → StandsFor (kept_of notices capacity old) config network
       → (filter_refusal (peer_at network peer).part.dds.watch ≡ None) × (number ≡ length (numbered (filters_of old) peer []) + 1)
-      × StandsFor (kept_of new) config (world_with_filter network peer)
+      × StandsFor (kept_of notices capacity new) config (world_with_filter network peer)
 
 -- For each state that the network stands for, a filter is refused so: there is no such peer, or no number is left there, or it
 -- is for want of memory.
-abbrev pub RefusesFilter : {F : Type 0} → Held F → ℕ → Code → Type 0
-RefusesFilter held peer code =
+abbrev pub RefusesFilter : {F L : Type 0} → (L → List Notice) → (L → ℕ) → Held F L → ℕ → Code → Type 0
+RefusesFilter notices capacity held peer code =
     ((HasNumber held.cores peer → ⊥) × (code ≡ BadParameter))
-    ⊎ (HasNumber held.cores peer × ((config : Config) (network : WorldState) → StandsFor (kept_of held) config network
+    ⊎ (HasNumber held.cores peer × ((config : Config) (network : WorldState) → StandsFor (kept_of notices capacity held) config network
     → Refuses (filter_refusal (peer_at network peer).part.dds.watch) code))
+
+-- ---- listeners
+
+-- At a peer that there is a listener was set at an entity, or taken away there. For each state that the old network stands for it
+-- is not refused; the listener of before is handed back, with the last ones of all that it was told; and the new network stands
+-- for that state with the place of the new one, and nothing else. No filter is added.
+pub record Sets {F L : Type 0} (notices : L → List Notice) (capacity : L → ℕ) (old : Held F L) (peer : ℕ) (entity : Entity) (mask : StatusMask)
+    (listener handed : Option L) (new : Held F L) : Type 0 where
+  pub within : HasNumber old.cores peer
+  pub filters : filters_of new ≡ filters_of old
+  pub sets : (config : Config) (network : WorldState) → StandsFor (kept_of notices capacity old) config network
+      → (listener_refusal notices (peer_at network peer).part.dds.listeners entity listener ≡ None)
+      × HandedBack notices capacity handed (at_entity (peer_at network peer).part.dds.listeners entity)
+      × StandsFor (kept_of notices capacity new) config (world_with_place network peer entity (place_of capacity mask listener))
+
+-- For each state that the network stands for, a listener is refused so: there is no such peer, or by the first cause that there
+-- is at it.
+abbrev pub RefusesListener : {F L : Type 0} → (L → List Notice) → (L → ℕ) → Held F L → ℕ → Entity → Option L → Code → Type 0
+RefusesListener notices capacity held peer entity listener code =
+    ((HasNumber held.cores peer → ⊥) × (code ≡ BadParameter))
+    ⊎ (HasNumber held.cores peer × ((config : Config) (network : WorldState) → StandsFor (kept_of notices capacity held) config network
+    → listener_refusal notices (peer_at network peer).part.dds.listeners entity listener ≡ Some code))
 
 -- ---- inner functions alone cite what follows
 
 -- an event of the peer of this index, which adds no filter
-pub record ActsIn {F : Type 0} (meaning : F → Key → List ℕ → Bool) (old : Held F) (index : ℕ) (event : Event) (reply : Reply)
-    (new : Held F) : Type 0 where
-  pub acts : Acts (tests_in meaning old) (kept_of old) index event reply (kept_of new)
+pub record ActsIn {F L : Type 0} (meaning : F → Key → List ℕ → Bool) (notices : L → List Notice) (capacity : L → ℕ) (old : Held F L) (index : ℕ) (event : Event)
+    (reply : Reply) (new : Held F L) : Type 0 where
+  pub acts : Acts (tests_in meaning old) (kept_of notices capacity old) index event reply (kept_of notices capacity new)
   pub filters : filters_of new ≡ filters_of old
 
 -- a step by the rules, which adds no filter
-pub record StepsIn {F : Type 0} (meaning : F → Key → List ℕ → Bool) (old : Held F) (event : WorldEvent) (reply : Reply)
-    (new : Held F) : Type 0 where
-  pub steps : RuledSteps (tests_in meaning old) (kept_of old) event reply (kept_of new)
+pub record StepsIn {F L : Type 0} (meaning : F → Key → List ℕ → Bool) (notices : L → List Notice) (capacity : L → ℕ) (old : Held F L) (event : WorldEvent)
+    (reply : Reply) (new : Held F L) : Type 0 where
+  pub steps : RuledSteps (tests_in meaning old) (kept_of notices capacity old) event reply (kept_of notices capacity new)
   pub filters : filters_of new ≡ filters_of old

@@ -1,7 +1,8 @@
 -- What a network stands for.
 use Rattle.std.specs.Prelude.{◌≡◌, ◌≢◌, ◌⊎◌, ℕ, ◌+◌, ◌-◌, ◌^◌, ◌≤◌, min, List, [], ◌∷◌, ◌++◌, length, get_or, slice_get, Some, Contains, AllPairs}
 use Rattle.dds_base.specs.declared.config.Config.{Config}
-use Rattle.dds_notices.specs.Listeners.{NobodyTakes}
+use Rattle.dds_notices.specs.Listeners.{Places, Slotted, StandsFor as SlotsStandFor}
+use Rattle.dds_notices.specs.Notices.{Recording}
 use Rattle.dds_model.specs.Noticing.{world_ended}
 use Rattle.dds_model.specs.declared.event.Packet.{Packet}
 use Rattle.dds_model.specs.declared.event.WorldEvent.{WorldEvent}
@@ -18,23 +19,30 @@ use Rattle.dds_core.specs.Kept.{PeerKept}
 use Rattle.dds_core.specs.Sending.{AreMessages}
 use Rattle.dds_core.specs.Standing.{StandsFor as CoreStandsFor, IsSound}
 
--- the peers, how many filters were added to each, every packet that was sent, and how many found no memory
+-- the peers, how many filters were added to each, what its listeners keep, every packet that was sent, and how many found no
+-- memory
 pub record WorldKept : Type 0 where
   pub peers : List PeerKept
   pub filters : List ℕ
+  pub listeners : List (Slotted Recording)
   pub sent : List Packet
   pub unsent : ℕ
 
--- A state of the network for which what it keeps stands: so its peers stand, have as many filters, have no listeners that take
--- a status, and know what was claimed to them alone; all that packets claim is true, and each packet is a message; what is
--- counted as unsent keeps to its bound; the counts that were sent or taken were used by their senders; and no reader's place is
--- past the end of a list.
+-- listeners, by what they keep, stand for these places
+abbrev pub AreTold : Slotted Recording → Places → Type 0
+AreTold kept places = SlotsStandFor (λ (r : Recording). r.notices) (λ (r : Recording). r.room) kept places
+
+-- A state of the network for which what it keeps stands: so its peers stand, have as many filters, have listeners that keep the
+-- last ones of all that they were told, and know what was claimed to them alone; all that packets claim is true, and each packet
+-- is a message; what is counted as unsent keeps to its bound; the counts that were sent or taken were used by their senders; and
+-- no reader's place is past the end of a list.
 pub record StandsFor (kept : WorldKept) (config : Config) (network : WorldState) : Type 0 where
   pub count : length network.peers ≡ length kept.peers
   pub each : (i : ℕ) (k : PeerKept) → slice_get kept.peers i ≡ Some k → CoreStandsFor k config (get_or network.peers i no_peer)
   pub known : (i : ℕ) (k : PeerKept) → slice_get kept.peers i ≡ Some k → IsSound config (get_or network.peers i no_peer)
   pub filters : (i : ℕ) → (get_or network.peers i no_peer).part.dds.watch.filters ≡ get_or kept.filters i 0
-  pub listeners : (i : ℕ) → NobodyTakes (get_or network.peers i no_peer).part.dds.listeners
+  pub listened : length network.peers ≡ length kept.listeners
+  pub listeners : (i : ℕ) (k : Slotted Recording) → slice_get kept.listeners i ≡ Some k → AreTold k (get_or network.peers i no_peer).part.dds.listeners
   pub sent : network.sent ≡ kept.sent
   pub sound : Sound config network
   pub messages : AreMessages kept.sent

@@ -13,6 +13,7 @@ use dds_base::{Code, Moment, Sequence, Sn};
 use dds_conditions::Filter;
 use dds_core::Pair;
 use dds_model::{Endpoint, Packet, Reply, WorldEvent};
+use dds_notices::Listener;
 use rtps_wire::{Sought, has_submessage};
 
 /// A reply of a round, with the counts of the network as they stood after it.
@@ -85,7 +86,7 @@ fn is_to(packet: &Packet, peer: u8, wanted: &Sought) -> bool
     packet.to == peer && has_submessage(packet.bytes.as_slice(), wanted)
 }
 
-impl<F: Filter> World<F> {
+impl<F: Filter, L: Listener> World<F, L> {
     /// One round of repair: the writer's peer ticks, at its own moment; then the writer's HEARTBEAT that this sent to the
     /// reader's peer is delivered there, the reader's ACKNACK to the writer that this sent is delivered at the writer's
     /// peer, and each packet that this sent, up to 32, at the reader's. Where one of them was not sent, the round ends.
@@ -104,18 +105,20 @@ impl<F: Filter> World<F> {
         // The replies are a run over the events of a round, with the counts as they stood after each, and the answer says how
         // the two stood before it, and the reader's place after it. The reader has then caught up, unless the answer shows
         // what hindered it.
-        ensures round { IfOk result (λ answer. Rounds (tests_in F.meaning self.old) (kept_of self.old) writer reader answer (kept_of self.new)) }
+        ensures round { IfOk result (λ answer. Rounds (tests_in F.meaning self.old) (kept_of L.notices L.capacity self.old) writer reader answer (kept_of L.notices L.capacity self.new)) }
         // No filter is added.
         ensures filters { filters_of self.new ≡ filters_of self.old }
         // There is a round only where the two are matched.
-        ensures matched { IfOk result (λ answer. AreMatched (kept_of self.old) writer reader) }
+        ensures matched { IfOk result (λ answer. AreMatched (kept_of L.notices L.capacity self.old) writer reader) }
         // It is refused where they are not, or else for want of memory.
-        ensures refused { IfErr result (RefusesRound (kept_of self.old) writer reader) }
+        ensures refused { IfErr result (RefusesRound (kept_of L.notices L.capacity self.old) writer reader) }
         // A refusal leaves the network as it was.
         ensures err { OnErr result (self.new ≡ self.old) }
     {
-        let known = (self.matched(writer, reader), self.place(reader, writer));
-        let (Some(m), Some(from)) = known else {
+        let Some(m) = self.matched(writer, reader) else {
+            return Err(Code::BadParameter);
+        };
+        let Some(from) = self.place(reader, writer) else {
             return Err(Code::BadParameter);
         };
         let mut replies = Vec::with_capacity(self.alloc, MAX_REPLIES)?;
@@ -141,7 +144,7 @@ impl<F: Filter> World<F> {
 
     /// The writer and the reader with what a round needs, if they are matched.
     fn matched(&self, writer: Endpoint, reader: Endpoint) -> Option<Matched>
-        ensures { MatchOption result (NotMatched (kept_of self.now) writer reader) (λ m. (m.writer ≡ writer) × (m.reader ≡ reader) × IsKnown (kept_of self.now) m) }
+        ensures { MatchOption result (NotMatched (kept_of L.notices L.capacity self.now) writer reader) (λ m. (m.writer ≡ writer) × (m.reader ≡ reader) × IsKnown (kept_of L.notices L.capacity self.now) m) }
     {
         let Some(index) = index_of(writer.peer, self.count()) else {
             return None;
@@ -175,7 +178,7 @@ impl<F: Filter> World<F> {
     /// One event, whose reply is added.
     fn add_step(&mut self, event: WorldEvent, replies: &mut Vec<RoundReply>)
         requires room { vec_len replies.old < vec_capacity replies.old }
-        ensures step { (reply : ReplyOf) × (replies.new.items ≡ replies.old.items ++ reply ∷ []) × IsStep (tests_in F.meaning self.old) (kept_of self.old) event reply (kept_of self.new) }
+        ensures step { (reply : ReplyOf) × (replies.new.items ≡ replies.old.items ++ reply ∷ []) × IsStep (tests_in F.meaning self.old) (kept_of L.notices L.capacity self.old) event reply (kept_of L.notices L.capacity self.new) }
         ensures filters { filters_of self.new ≡ filters_of self.old }
         ensures capacity { vec_capacity replies.old ≤ vec_capacity replies.new }
     {
@@ -194,7 +197,7 @@ impl<F: Filter> World<F> {
     /// Delivers the writer's HEARTBEAT to the reader, if it is among the packets after so many, and what follows.
     fn deliver_heartbeat(&mut self, m: &Matched, from: u64, replies: &mut Vec<RoundReply>)
         requires room { vec_len replies.old + 34 ≤ vec_capacity replies.old }
-        ensures adds { Adds (Beating (tests_in F.meaning self.old) m.now from) (kept_of self.old) replies.old.items (kept_of self.new) replies.new.items }
+        ensures adds { Adds (Beating (tests_in F.meaning self.old) m.now from) (kept_of L.notices L.capacity self.old) replies.old.items (kept_of L.notices L.capacity self.new) replies.new.items }
         ensures filters { filters_of self.new ≡ filters_of self.old }
     {
         let wanted = Sought::Heartbeat {
@@ -212,7 +215,7 @@ impl<F: Filter> World<F> {
     /// Delivers the reader's ACKNACK to the writer, if it is among the packets after so many, and its answers.
     fn deliver_acknack(&mut self, m: &Matched, from: u64, replies: &mut Vec<RoundReply>)
         requires room { vec_len replies.old + 33 ≤ vec_capacity replies.old }
-        ensures adds { Adds (Acknowledging (tests_in F.meaning self.old) m.now from) (kept_of self.old) replies.old.items (kept_of self.new) replies.new.items }
+        ensures adds { Adds (Acknowledging (tests_in F.meaning self.old) m.now from) (kept_of L.notices L.capacity self.old) replies.old.items (kept_of L.notices L.capacity self.new) replies.new.items }
         ensures filters { filters_of self.new ≡ filters_of self.old }
     {
         let wanted = Sought::AckNack {
@@ -232,7 +235,7 @@ impl<F: Filter> World<F> {
     fn deliver_answers(&mut self, peer: u8, from: u64, replies: &mut Vec<RoundReply>)
         requires room { vec_len replies.old + 32 ≤ vec_capacity replies.old }
         ensures steps { (added : List ReplyOf) × (replies.new.items ≡ replies.old.items ++ added)
-            × AreSteps (tests_in F.meaning self.old) (kept_of self.old) (answers_at peer from (length self.old.sent)) added (kept_of self.new) }
+            × AreSteps (tests_in F.meaning self.old) (kept_of L.notices L.capacity self.old) (answers_at peer from (length self.old.sent)) added (kept_of L.notices L.capacity self.new) }
         ensures filters { filters_of self.new ≡ filters_of self.old }
     {
         let count = self.sent().saturating_sub(from).min(MAX_ANSWERS);

@@ -13,33 +13,34 @@ ghost use Rattle.dds_model.specs.Numbered.{numbered};
 ghost use Rattle.dds_model.specs.Opening.{opening_world};
 ghost use Rattle.dds_model.specs.World.{WorldState, machine_of};
 ghost use Rattle.dds_core.specs.Opening.{opening_peer};
-ghost use Rattle.dds_core.specs.Filtering.{StandsFor as CoreStandsFor};
+ghost use Rattle.dds_core.specs.Listening.{StandsFor as CoreStandsFor};
 ghost use Rattle.dds_world.specs.WorldStanding.{traffic, Announces, KeepsRules, MovesOn, Posts, Runs, StandsFor, Steps};
 ghost use Rattle.dds_world.specs.Acting.{Counts, IsCopy, IsQuiet, OpensFirst};
-ghost use Rattle.dds_world.specs.Holding.{ActsIn, Adds, RefusesFilter, StepsIn, filters_of, kept_of, tests_in};
+ghost use Rattle.dds_world.specs.Holding.{ActsIn, Adds, RefusesFilter, RefusesListener, Sets, StepsIn, filters_of, kept_of, tests_in};
 
-use dds_base::{Code, Config, Moment, Octets, Sequence, Sn};
+use dds_base::{Code, Config, Entity, Moment, Octets, Sequence, Sn};
 use dds_conditions::Filter;
-use dds_core::FilteredPeer;
+use dds_core::Core;
 use dds_model::{Call, Endpoint, Event, Output, Packet, Reply, Report, WorldEvent};
+use dds_notices::{Listener, StatusMask};
 use std::alloc::{AllocError, Global};
 use std::marker::Model;
 
-/// Peers, which are numbered from 1, and all packets that they ever sent. Their filters are boxes, unless `F` names a type of
-/// the application's own.
+/// Peers, which are numbered from 1, and all packets that they ever sent. Their filters and their listeners are boxes, unless
+/// `F` and `L` name types of the application's own.
 #[derive(Drop)]
-pub struct World<F = Box<dyn Filter + Send>> {
+pub struct World<F = Box<dyn Filter + Send>, L = Box<dyn Listener + Send>> {
     pub(crate) alloc: Global,
-    pub(crate) peers: Vec<FilteredPeer<F>>,
+    pub(crate) peers: Vec<Core<F, L>>,
     pub(crate) sent: Vec<Packet>,
     pub(crate) unsent: u64,
 }
 
-impl<F> Model for World<F> {
+impl<F, L> Model for World<F, L> {
     ghost use Rattle.std.specs.Prelude.{◌<◌, ◌^◌};
     ghost use Rattle.dds_world.specs.Holding.{Held};
 
-    ghost Value = { Held F };
+    ghost Value = { Held F L };
 
     ghost view = { λ w. record { cores = w.peers.items; sent = w.sent.items; unsent = w.unsent } };
 
@@ -82,27 +83,30 @@ fn packet_index(number: u64, count: u64) -> Option<usize>
 }
 
 /// The peer of this index, at its opening.
-fn open_peer<F: Filter>(
+fn open_peer<F: Filter, L: Listener>(
     alloc: Global,
     config: &Config,
     index: usize,
-) -> Result<FilteredPeer<F>, Code>
+) -> Result<Core<F, L>, Code>
     requires within { index < length config.now.peers }
     requires few { length config.now.peers ≤ 16 }
-    ensures opening { IfOk result (λ core. CoreStandsFor core config.now (opening_peer config.now (index + 1))) }
-    ensures none { IfOk result (λ core. core.filters ≡ []) }
+    ensures opening { IfOk result (λ core. CoreStandsFor L.notices L.capacity core config.now (opening_peer config.now (index + 1))) }
+    ensures none { IfOk result (λ core. core.filtered.filters ≡ []) }
     ensures taken { IfOk result (λ core. check_refusal config.now.peers ≡ None) }
     ensures refused { IfErr result (Refuses (check_refusal config.now.peers)) }
 {
-    FilteredPeer::open(alloc, config, (index + 1) as u8)
+    Core::open(alloc, config, (index + 1) as u8)
 }
 
 /// The peers of a checked configuration, at their opening.
-fn open_peers<F: Filter>(alloc: Global, config: &Config) -> Result<Vec<FilteredPeer<F>>, Code>
+fn open_peers<F: Filter, L: Listener>(
+    alloc: Global,
+    config: &Config,
+) -> Result<Vec<Core<F, L>>, Code>
     requires checked { check_refusal config.now.peers ≡ None }
     requires some { 1 ≤ length config.now.peers }
     requires few { length config.now.peers ≤ 16 }
-    ensures opening { IfOk result (λ peers. OpensFirst config.now (length config.now.peers) peers.items) }
+    ensures opening { IfOk result (λ peers. OpensFirst L.notices L.capacity config.now (length config.now.peers) peers.items) }
     ensures refused { IfErr result (Refuses (check_refusal config.now.peers)) }
 {
     let mut peers = Vec::new(alloc);
@@ -113,19 +117,19 @@ fn open_peers<F: Filter>(alloc: Global, config: &Config) -> Result<Vec<FilteredP
     Ok(peers)
 }
 
-impl<F: Filter> World<F> {
-    /// The network of a configuration, at its opening: its peers, 1 to 16, in their order, without filters.
+impl<F: Filter, L: Listener> World<F, L> {
+    /// The network of a configuration, at its opening: its peers, 1 to 16, in their order, without filters and listeners.
     ///
     /// # Errors
     ///
     /// What `Config::check` answers, else `Memory` where a growth was refused.
-    pub fn open(alloc: Global, config: &Config) -> Result<World<F>, Code>
+    pub fn open(alloc: Global, config: &Config) -> Result<World<F, L>, Code>
         // The network stands for the opening of its configuration.
-        ensures opening { IfOk result (λ world. StandsFor (kept_of world) config.now (opening_world config.now)) }
+        ensures opening { IfOk result (λ world. StandsFor (kept_of L.notices L.capacity world) config.now (opening_world config.now)) }
         // No peer has a filter.
         ensures none { IfOk result (λ world. (peer : ℕ) → numbered (filters_of world) peer [] ≡ []) }
         // Nothing was sent, and nothing is counted.
-        ensures quiet { IfOk result (λ world. traffic (kept_of world) ≡ no_traffic) }
+        ensures quiet { IfOk result (λ world. traffic (kept_of L.notices L.capacity world) ≡ no_traffic) }
         // Against what is opened there is no cause.
         ensures taken { IfOk result (λ world. check_refusal config.now.peers ≡ None) }
         // A refusal is by the first cause that there is, or for want of memory.
@@ -145,17 +149,18 @@ impl<F: Filter> World<F> {
     ///
     /// An event at a peer that does not exist, and the delivery of a packet that was never sent, are refused with
     /// `BadParameter`. A call is answered as `Call` says, and a tick as `Event::Tick`: at it writers die whose lease is
-    /// over. What is refused changes nothing, but for `NoData`: an access that found nothing is entered.
+    /// over. What is refused changes nothing, but for `NoData`: an access that found nothing is entered. At the end of an event
+    /// the listeners of its peer are told what it raised, as `Core::step` says.
     pub fn step(&mut self, event: WorldEvent) -> Reply
         // For each state that the network stands for, the reply is one that the machine without packets gives, by what the
-        // filters mean, and the network stands for the state afterwards: this is the theorem.
-        ensures step { Steps (tests_in F.meaning self.old) (kept_of self.old) event result (kept_of self.new) }
+        // filters mean, and the network stands for the state at the event's end, once listeners were told: this is the theorem.
+        ensures step { Steps (tests_in F.meaning self.old) (kept_of L.notices L.capacity self.old) event result (kept_of L.notices L.capacity self.new) }
         // What is sent at the event, and what is counted as unsent.
-        ensures sends { Announces (kept_of self.old) event result (kept_of self.new) }
+        ensures sends { Announces (kept_of L.notices L.capacity self.old) event result (kept_of L.notices L.capacity self.new) }
         // A delivered packet is taken up, submessage by submessage: what it brings that is due is not left out.
-        ensures progress { MovesOn (kept_of self.old) event result }
+        ensures progress { MovesOn (kept_of L.notices L.capacity self.old) event result }
         // The event is one by the rules of the protocol: each message that they make due is sent, or counted.
-        ensures rules { KeepsRules (tests_in F.meaning self.old) (kept_of self.old) event result (kept_of self.new) }
+        ensures rules { KeepsRules (tests_in F.meaning self.old) (kept_of L.notices L.capacity self.old) event result (kept_of L.notices L.capacity self.new) }
         // No filter is added.
         ensures filters { filters_of self.new ≡ filters_of self.old }
     {
@@ -173,7 +178,7 @@ impl<F: Filter> World<F> {
     /// `Memory` where no memory was found for the replies; nothing was done then. No events need none.
     pub fn run(&mut self, events: Vec<WorldEvent>) -> Result<Sequence<Reply>, Code>
         // The replies are a run of the network's peers, and of the machine without packets.
-        ensures run { IfOk result (λ replies. Runs (tests_in F.meaning self.old) (kept_of self.old) events.items replies (kept_of self.new)) }
+        ensures run { IfOk result (λ replies. Runs (tests_in F.meaning self.old) (kept_of L.notices L.capacity self.old) events.items replies (kept_of L.notices L.capacity self.new)) }
         // No filter is added.
         ensures filters { filters_of self.new ≡ filters_of self.old }
         // It is refused for want of memory alone, and never where there are no events.
@@ -202,9 +207,9 @@ impl<F: Filter> World<F> {
     /// DDS 1.4, 2.2.2.5 (QueryCondition).
     pub fn add_filter(&mut self, peer: u8, filter: F) -> Result<u32, (Code, F)>
         // It is the last one there, by the next number, and nothing else changes.
-        ensures ok { IfOk result (λ number. Adds self.old peer filter number self.new) }
+        ensures ok { IfOk result (λ number. Adds L.notices L.capacity self.old peer filter number self.new) }
         // A refusal is by the first cause that there is, or for want of memory.
-        ensures refused { IfErr result (λ e. RefusesFilter self.old peer e.0) }
+        ensures refused { IfErr result (λ e. RefusesFilter L.notices L.capacity self.old peer e.0) }
         // What is refused comes back, and changes nothing.
         ensures back { IfErr result (λ e. e.1 ≡ filter) }
         ensures err { OnErr result (self.new ≡ self.old) }
@@ -212,6 +217,36 @@ impl<F: Filter> World<F> {
         match index_of(peer, self.count()) {
             Some(index) => self.peers[index].add_filter(filter),
             None => Err((Code::BadParameter, filter)),
+        }
+    }
+
+    /// Sets the listener of an entity of a peer, with the statuses that it is told of, and hands back the one that was set
+    /// before, with the last notices that it was told; `None` takes the listener away. It takes no memory.
+    ///
+    /// # Errors
+    ///
+    /// `BadParameter` where there is no such peer, or no such entity at it, else `PreconditionNotMet` where the listener keeps
+    /// notices already. It comes back, and nothing changes.
+    ///
+    /// DDS 1.4, 2.2.2.1 (Entity, set_listener), 2.2.4.2 (listeners).
+    pub fn set_listener(
+        &mut self,
+        peer: u8,
+        entity: Entity,
+        mask: StatusMask,
+        listener: Option<L>,
+    ) -> Result<Option<L>, (Code, Option<L>)>
+        // It is set, and nothing else changes; the one of before has kept the last ones of all that it was told.
+        ensures ok { IfOk result (λ handed. Sets L.notices L.capacity self.old peer entity mask listener handed self.new) }
+        // A refusal is by the first cause that there is, exactly then.
+        ensures refused { IfErr result (λ e. RefusesListener L.notices L.capacity self.old peer entity listener e.0) }
+        // What is refused comes back, and changes nothing.
+        ensures back { IfErr result (λ e. e.1 ≡ listener) }
+        ensures err { OnErr result (self.new ≡ self.old) }
+    {
+        match index_of(peer, self.count()) {
+            Some(index) => self.peers[index].set_listener(entity, mask, listener),
+            None => Err((Code::BadParameter, listener)),
         }
     }
 
@@ -223,8 +258,8 @@ impl<F: Filter> World<F> {
     }
 
     fn call(&mut self, peer: u8, call: Call) -> Reply
-        ensures step { StepsIn F.meaning self.old (event.Call peer call) result self.new }
-        ensures sends { Announces (kept_of self.old) (event.Call peer call) result (kept_of self.new) }
+        ensures step { StepsIn F.meaning L.notices L.capacity self.old (event.Call peer call) result self.new }
+        ensures sends { Announces (kept_of L.notices L.capacity self.old) (event.Call peer call) result (kept_of L.notices L.capacity self.new) }
     {
         match index_of(peer, self.count()) {
             Some(index) => self.happen_at(index, Event::Call(call)),
@@ -233,8 +268,8 @@ impl<F: Filter> World<F> {
     }
 
     fn tick(&mut self, peer: u8, now: Moment) -> Reply
-        ensures step { StepsIn F.meaning self.old (event.Tick peer now) result self.new }
-        ensures sends { Announces (kept_of self.old) (event.Tick peer now) result (kept_of self.new) }
+        ensures step { StepsIn F.meaning L.notices L.capacity self.old (event.Tick peer now) result self.new }
+        ensures sends { Announces (kept_of L.notices L.capacity self.old) (event.Tick peer now) result (kept_of L.notices L.capacity self.new) }
     {
         match index_of(peer, self.count()) {
             Some(index) => self.happen_at(index, Event::Tick(now)),
@@ -243,8 +278,8 @@ impl<F: Filter> World<F> {
     }
 
     fn deliver(&mut self, peer: u8, packet: u64) -> Reply
-        ensures step { StepsIn F.meaning self.old (event.Deliver peer packet) result self.new }
-        ensures sends { Announces (kept_of self.old) (event.Deliver peer packet) result (kept_of self.new) }
+        ensures step { StepsIn F.meaning L.notices L.capacity self.old (event.Deliver peer packet) result self.new }
+        ensures sends { Announces (kept_of L.notices L.capacity self.old) (event.Deliver peer packet) result (kept_of L.notices L.capacity self.new) }
     {
         match packet_index(packet, self.sent()) {
             Some(sent) => self.deliver_sent(peer, sent),
@@ -255,8 +290,8 @@ impl<F: Filter> World<F> {
     /// Delivers the packet of this index.
     fn deliver_sent(&mut self, peer: u8, sent: usize) -> Reply
         requires sent { sent < length self.old.sent }
-        ensures step { StepsIn F.meaning self.old (event.Deliver peer (sent + 1)) result self.new }
-        ensures sends { Announces (kept_of self.old) (event.Deliver peer (sent + 1)) result (kept_of self.new) }
+        ensures step { StepsIn F.meaning L.notices L.capacity self.old (event.Deliver peer (sent + 1)) result self.new }
+        ensures sends { Announces (kept_of L.notices L.capacity self.old) (event.Deliver peer (sent + 1)) result (kept_of L.notices L.capacity self.new) }
     {
         match index_of(peer, self.count()) {
             Some(index) => self.deliver_at(index, sent),
@@ -269,8 +304,8 @@ impl<F: Filter> World<F> {
     fn deliver_at(&mut self, index: usize, sent: usize) -> Reply
         requires within { index < length self.old.cores }
         requires sent { sent < length self.old.sent }
-        ensures step { StepsIn F.meaning self.old (event.Deliver (index + 1) (sent + 1)) result self.new }
-        ensures sends { Announces (kept_of self.old) (event.Deliver (index + 1) (sent + 1)) result (kept_of self.new) }
+        ensures step { StepsIn F.meaning L.notices L.capacity self.old (event.Deliver (index + 1) (sent + 1)) result self.new }
+        ensures sends { Announces (kept_of L.notices L.capacity self.old) (event.Deliver (index + 1) (sent + 1)) result (kept_of L.notices L.capacity self.new) }
     {
         match self.copied(sent) {
             Ok(bytes) => self.happen_at(index, Event::Deliver(bytes)),
@@ -300,7 +335,7 @@ impl<F: Filter> World<F> {
     /// One event of the peer of this index. Sends what the peer gives back, and gives its answer.
     fn happen_at(&mut self, index: usize, event: Event) -> Reply
         requires { index < length self.old.cores }
-        ensures { ActsIn F.meaning self.old index event result self.new }
+        ensures { ActsIn F.meaning L.notices L.capacity self.old index event result self.new }
     {
         let output = self.peers[index].step(event);
         self.posted(output)
@@ -311,8 +346,8 @@ impl<F: Filter> World<F> {
         ensures reply { result ≡ output.reply }
         ensures cores { self.new.cores ≡ self.old.cores }
         ensures posted { Posts self.old.sent output.packets self.new.sent }
-        ensures unsent { Counts (kept_of self.old) output (kept_of self.new) }
-        ensures quiet { IsQuiet (kept_of self.old) output (kept_of self.new) }
+        ensures unsent { Counts (kept_of L.notices L.capacity self.old) output (kept_of L.notices L.capacity self.new) }
+        ensures quiet { IsQuiet (kept_of L.notices L.capacity self.old) output (kept_of L.notices L.capacity self.new) }
     {
         let Output {
             reply,
@@ -357,7 +392,7 @@ impl<F: Filter> World<F> {
     /// RTPS 2.5, 8.4.10 (StatefulReader, WriterProxy).
     pub fn place(&self, reader: Endpoint, writer: Endpoint) -> Option<Sn>
         // It is the place in each state that the network stands for, and there is one exactly if they are matched.
-        ensures place { (config : ConfigOf) (network : WorldState) → StandsFor (kept_of self.now) config network
+        ensures place { (config : ConfigOf) (network : WorldState) → StandsFor (kept_of L.notices L.capacity self.now) config network
             → result ≡ place_at (machine_of network) reader writer }
     {
         let Some(index) = index_of(reader.peer, self.count()) else {

@@ -3,5 +3,5 @@ use Rattle.dds_core.proofs.application.Core.open.Goals as goal
 
 pub returns-clause-opening : goal.returns-clause-opening
 returns-clause-opening g c =
-    opens (record { notices = g.L.Listener.notices; capacity = g.L.Listener.capacity }) c.in_ok-filtered.filtered c.in_ok-listeners.listeners c.args.config.now c.args.peer
+    opens g.L.Listener.notices g.L.Listener.capacity c.in_ok-filtered.filtered c.in_ok-listeners.listeners c.args.config.now c.args.peer
     c.writers.result c.readers.result c.in_ok-filtered.ensures.opening c.writers.ensures c.readers.ensures c.in_ok-listeners.ensures.nobody

@@ -8,7 +8,7 @@ pub returns : goal.returns
 returns g c =
     let sent : List Packet = c.self.inside.sent.items in
     let packet : Packet = c.index.result.now in
-    let whole : sent ≡ c.args.self.now.sent = ap (λ (k : Held g.row.F.Denot). k.sent) c.self.view_is in
+    let whole : sent ≡ c.args.self.now.sent = ap (λ (k : Held g.row.F.Denot g.row.L.Denot). k.sent) c.self.view_is in
     let count = ap (λ (ps : List Packet). length ps) whole in
     let within : c.args.index < length sent = omega (arith, count) in
     let found : slice_get sent c.args.index ≡ Some packet = slice_get-get_or sent c.args.index packet within ∙ ap (λ (p : Packet). Some p) (sym c.index.ensures) in

@@ -21,14 +21,14 @@ returns-clause-adds g c =
       inr (
         c.in-Some.packet,
         a.0,
-        kept_of mid,
+        kept_of g.L.Listener.notices g.L.Listener.capacity mid,
         later,
         d.0,
         c.in-Some.ensures,
         a.2,
         refl,
         refl,
-        (counted, same_steps g.F.Filter.meaning c.args.self.now mid c.deliver_answers.new.self later d.0 c.add_step.ensures.filters d.2),
+        (counted, same_steps g.F.Filter.meaning g.L.Listener.notices g.L.Listener.capacity c.args.self.now mid c.deliver_answers.new.self later d.0 c.add_step.ensures.filters d.2),
       ),
     )
 

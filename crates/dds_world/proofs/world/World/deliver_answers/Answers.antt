@@ -1,6 +1,9 @@
-use Rattle.std.proofs.Common.{List, [], ◌∷◌, ◌++◌, length, refl, ap, ◌∙◌, append_assoc, length-append, arith}
+use Rattle.std.proofs.Common.{◌≡◌, ℕ, ◌+◌, ◌-◌, min, List, [], ◌∷◌, ◌++◌, map, length, refl, ap, ◌∙◌, subst, append_assoc, length-append, arith}
+use Rattle.dds_base.specs.Kept.{numbers_from}
+use Rattle.dds_model.specs.declared.event.WorldEvent.TheVariants as world
 use Rattle.dds_world.specs.declared.round.RoundReply.{RoundReply}
-use Rattle.dds_world.specs.Holding.{kept_of}
+use Rattle.dds_world.specs.Holding.{kept_of, tests_in}
+use Rattle.dds_world.specs.Round.{AreSteps}
 use Rattle.dds_world.proofs.Holding.{same_step}
 use Rattle.dds_world.proofs.Rounds.{answered_more}
 use Rattle.dds_world.proofs.world.World.deliver_answers.Goals as goal
@@ -17,9 +20,20 @@ loop-index-preserved g c =
     let kept = c.add_step.ensures.capacity in (
       i.0 ++ a.0 ∷ [],
       a.1 ∙ (ap (λ (rs : List RoundReply). rs ++ a.0 ∷ []) i.1 ∙ append_assoc c.args.replies.now.items i.0 (a.0 ∷ [])),
-      answered_more (kept_of first) c.args.peer c.args.from c.loop-index.index _ _ i.0 (kept_of c.loop-index.self) a.0 (kept_of c.add_step.new.self) refl refl i.2
-          (same_step g.F.Filter.meaning first c.loop-index.self c.add_step.new.self _ a.0 i.5 a.2),
+      answered_more (kept_of g.L.Listener.notices g.L.Listener.capacity first) c.args.peer c.args.from c.loop-index.index _ _ i.0 (kept_of g.L.Listener.notices g.L.Listener.capacity c.loop-index.self) a.0 (kept_of g.L.Listener.notices g.L.Listener.capacity c.add_step.new.self) refl refl i.2
+          (same_step g.F.Filter.meaning g.L.Listener.notices g.L.Listener.capacity first c.loop-index.self c.add_step.new.self _ a.0 i.5 a.2),
       omega (arith, more, total, so_far),
       omega (arith, room, kept),
       c.add_step.ensures.filters ∙ i.5,
+    )
+
+pub returns-clause-steps : goal.returns-clause-steps
+returns-clause-steps g c =
+    let i = c.loop-index.invariant in
+    let first = c.args.self.now in
+    let all : c.loop-index.index ≡ min 32 (length first.sent - c.args.from) = omega arith in (
+      i.0,
+      i.1,
+      subst (λ (n : ℕ). AreSteps (tests_in g.F.Filter.meaning first) (kept_of g.L.Listener.notices g.L.Listener.capacity first) (map (λ k. world.Deliver c.args.peer k) (numbers_from (c.args.from + 1) n)) i.0
+          (kept_of g.L.Listener.notices g.L.Listener.capacity c.loop-index.self)) all i.2,
     )

@@ -10,7 +10,7 @@ loop-index-init g c = none_yet (IsTo c.args.peer c.args.wanted.now) c.args.self.
 
 pub loop-index-preserved : goal.loop-index-preserved
 loop-index-preserved g c =
-    let sent_is = ap (λ (k : Held g.row.F.Denot). k.sent) c.self.view_is in
+    let sent_is = ap (λ (k : Held g.row.F.Denot g.row.L.Denot). k.sent) c.self.view_is in
     let count = ap (λ (ps : List Packet). length ps) sent_is in
     let packet : Packet = c.index.result.now in
     let low : c.loop-index.index < length c.args.self.now.sent = omega (arith, count) in
@@ -19,7 +19,7 @@ loop-index-preserved g c =
 
 pub returns-then-is_to : goal.returns-then-is_to
 returns-then-is_to g c =
-    let sent_is = ap (λ (k : Held g.row.F.Denot). k.sent) c.self.view_is in
+    let sent_is = ap (λ (k : Held g.row.F.Denot g.row.L.Denot). k.sent) c.self.view_is in
     let count = ap (λ (ps : List Packet). length ps) sent_is in
     let packet : Packet = c.index.result.now in
     let low : c.loop-index.index < length c.args.self.now.sent = omega (arith, count) in
@@ -28,7 +28,7 @@ returns-then-is_to g c =
 
 pub returns : goal.returns
 returns g c =
-    let sent_is = ap (λ (k : Held g.row.F.Denot). k.sent) c.self.view_is in
+    let sent_is = ap (λ (k : Held g.row.F.Denot g.row.L.Denot). k.sent) c.self.view_is in
     let count = ap (λ (ps : List Packet). length ps) sent_is in
     let past : length c.args.self.now.sent ≤ c.loop-index.index = omega (arith, count) in
     none_within (IsTo c.args.peer c.args.wanted.now) c.args.self.now.sent c.args.from _ c.loop-index.index past c.loop-index.invariant

@@ -1,39 +1,46 @@
-use Rattle.std.proofs.Common.{◌≡◌, ℕ, List, [], ◌∷◌, ◌++◌, Option, ap, sym, subst, ◌∙◌}
-use Rattle.std.specs.Prelude.{MatchOption}
+use Rattle.std.proofs.Common.{◌≡◌, ℕ, List, [], ◌∷◌, ◌++◌, ap, sym, subst, ◌∙◌}
 use Rattle.dds_model.specs.declared.endpoint.Endpoint.{Endpoint}
-use Rattle.dds_world.specs.declared.round.Matched.{Matched}
 use Rattle.dds_world.specs.declared.round.RoundReply.{RoundReply}
 use Rattle.dds_world.specs.Holding.{kept_of, tests_in}
-use Rattle.dds_world.specs.Repairing.{Beating, IsKnown, NotMatched}
-use Rattle.dds_world.specs.Round.{Rounds}
+use Rattle.dds_world.specs.Repairing.{Beating}
+use Rattle.dds_world.specs.Round.{AreMatched, Rounds}
 use Rattle.dds_world.proofs.CatchingUp.{answer_of, rounds_are}
 use Rattle.dds_world.proofs.Holding.{same_beats}
-use Rattle.dds_world.proofs.Rounds.{IsPlace}
+use Rattle.dds_world.proofs.Rounds.{are_matched}
 use Rattle.dds_world.proofs.world.World.round.Goals as goal
 
 pub returns-clause-round : goal.returns-clause-round
 returns-clause-round g c =
-    let m = c.in-Some-Some.m in
-    let from : ℕ = c.in-Some-Some.from in
+    let m = c.in-Some.m in
+    let from : ℕ = c.in-Some-place.from in
     let start = c.args.self.now in
-    let old = kept_of start in
+    let old = kept_of g.L.Listener.notices g.L.Listener.capacity start in
     let mid = c.add_step.new.self in
     let last = c.deliver_heartbeat.new.self in
-    let new = kept_of last in
+    let new = kept_of g.L.Listener.notices g.L.Listener.capacity last in
     let writer : Endpoint = c.args.writer in
     let reader : Endpoint = c.args.reader in
-    let known = subst (λ (o : Option Matched). MatchOption o (NotMatched old writer reader) (λ x. (x.writer ≡ writer) × (x.reader ≡ reader) × IsKnown old x)) c.in-Some-Some.is-0 c.matched.ensures in
-    let before = subst (λ (o : Option ℕ). IsPlace old reader writer o) c.in-Some-Some.is-1 c.place.ensures.place in
+    let known = c.in-Some.ensures in
+    let before = c.in-Some-place.ensures.place in
     let a = c.add_step.ensures.step in
     let d = c.deliver_heartbeat.ensures.adds in
     let first : c.add_step.new.replies.items ≡ a.0 ∷ [] = a.1 ∙ ap (λ (rs : List RoundReply). rs ++ a.0 ∷ []) c.in_ok-replies.ensures.items in
     let all : c.from_vec-replies.result ≡ a.0 ∷ d.1 = c.from_vec-replies.ensures ∙ (d.2 ∙ ap (λ (rs : List RoundReply). rs ++ d.1) first) in
-    let sent = subst (λ (n : ℕ). Beating (tests_in g.F.Filter.meaning mid) m n (kept_of mid) d.0 d.1 new) c.sent-sent.ensures d.3 in
-    let beats = same_beats g.F.Filter.meaning start mid last m _ d.0 d.1 c.add_step.ensures.filters sent in
+    let sent = subst (λ (n : ℕ). Beating (tests_in g.F.Filter.meaning mid) m n (kept_of g.L.Listener.notices g.L.Listener.capacity mid) d.0 d.1 new) c.sent-sent.ensures d.3 in
+    let beats = same_beats g.F.Filter.meaning g.L.Listener.notices g.L.Listener.capacity start mid last m _ d.0 d.1 c.add_step.ensures.filters sent in
     let round =
-    rounds_are old writer reader m a.0 (kept_of mid) d.1 c.from_vec-replies.result new d.0 from c.place-2.result
+    rounds_are old writer reader m a.0 (kept_of g.L.Listener.notices g.L.Listener.capacity mid) d.1 c.from_vec-replies.result new d.0 from c.place-2.result
     known.0 known.1 all known.2 a.2 beats before c.place-2.ensures.place in
     let to : ℕ = c.unwrap_or-to.result in
     subst (λ (n : ℕ). Rounds (tests_in g.F.Filter.meaning start) old writer reader (record (answer_of old m from to c.from_vec-replies.result) { unsent_before = n }) new)
     (sym c.unsent-unsent_before.ensures)
     (subst (λ (n : ℕ). Rounds (tests_in g.F.Filter.meaning start) old writer reader (answer_of old m from n c.from_vec-replies.result) new) (sym c.unwrap_or-to.ensures) round)
+
+pub returns-clause-matched : goal.returns-clause-matched
+returns-clause-matched g c =
+    let m = c.in-Some.m in
+    let old = kept_of g.L.Listener.notices g.L.Listener.capacity c.args.self.now in
+    let writer : Endpoint = c.args.writer in
+    let reader : Endpoint = c.args.reader in
+    let known = c.in-Some.ensures in
+    subst (λ (w : Endpoint). AreMatched old w reader) known.0 (subst (λ (r : Endpoint). AreMatched old m.writer r) known.1 (are_matched old m known.2))
