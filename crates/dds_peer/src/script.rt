@@ -4,8 +4,8 @@ use crate::setup::SetupPart;
 use dds_base::{Moment, Octets};
 use dds_model::{Endpoint, WorldEvent};
 use dds_script::{
-    call_of, decimal, decimal_u8, reader_number, reader_options, value, words_of, writer_number,
-    writer_options,
+    ListenerLine, call_of, decimal, decimal_u8, listener_line, reader_number, reader_options,
+    value, words_of, writer_number, writer_options,
 };
 use std::alloc::{AllocError, Global};
 
@@ -19,6 +19,8 @@ pub enum Line {
     Event(WorldEvent),
     /// A peer has a filter more, by the octets with which a value begins.
     Filter { peer: u8, octets: Octets },
+    /// An entity of a peer has another listener, or none.
+    Listener { peer: u8, asked: ListenerLine },
     /// A round of repair for a writer and a reader.
     Round { writer: Endpoint, reader: Endpoint },
     /// The bytes of a packet are asked for.
@@ -99,6 +101,11 @@ fn filter(alloc: Global, peer: u8, words: &[&str]) -> Result<Option<Line>, Alloc
     }
 }
 
+fn listener(peer: u8, words: &[&str]) -> Option<Line> {
+    let asked = listener_line(words)?;
+    Some(Line::Listener { peer, asked })
+}
+
 fn call(alloc: Global, peer: u8, words: &[&str]) -> Result<Option<Line>, AllocError> {
     match call_of(alloc, words)? {
         Some(call) => Ok(Some(Line::Event(WorldEvent::Call { peer, call }))),
@@ -111,6 +118,7 @@ fn operation(alloc: Global, peer: u8, words: &[&str]) -> Result<Option<Line>, Al
     match words {
         ["tick", operands @ ..] => Ok(tick(peer, operands)),
         ["filter", operands @ ..] => filter(alloc, peer, operands),
+        ["listener" | "unlisten", ..] => Ok(listener(peer, words)),
         words => call(alloc, peer, words),
     }
 }

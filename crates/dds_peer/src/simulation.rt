@@ -5,13 +5,14 @@ use crate::setup::{NumberedSetup, SetupPart};
 use crate::stream::Script;
 use dds_base::{Code, Octets};
 use dds_model::{Endpoint, Reply, WorldEvent};
-use dds_script::{Fault, Prefix, Status, Traffic, TranscriptLine, print};
+use dds_notices::Recorder;
+use dds_script::{Fault, ListenerLine, Prefix, Status, Traffic, TranscriptLine, print};
 use dds_world::World as WorldOf;
 use std::alloc::{AllocError, Global};
 use std::io::{Read, Write};
 
-/// A network whose filters are those that lines ask for.
-type World = WorldOf<Prefix>;
+/// A network whose filters and listeners are those that lines ask for.
+type World = WorldOf<Prefix, Recorder>;
 
 /// The network of a script: its set-up, and the world that this gives once another line follows.
 #[derive(Drop)]
@@ -76,6 +77,20 @@ fn push_filter(text: &mut TranscriptLine, world: &mut World, peer: u8, octets: O
     }
 }
 
+/// Sets the listener that a line asks for, and hands out the one that was there before.
+fn set_listener(
+    alloc: Global,
+    world: &mut World,
+    peer: u8,
+    asked: ListenerLine,
+) -> Result<Option<Recorder>, Code> {
+    let listener = asked.recorder(alloc)?;
+    match world.set_listener(peer, asked.entity, asked.mask, listener) {
+        Ok(old) => Ok(old),
+        Err((code, _)) => Err(code),
+    }
+}
+
 fn push_packet(text: &mut TranscriptLine, world: &World, number: u64) {
     let packet = world.packet(number).map(|packet| packet.bytes.as_slice());
     text.push_packet(number, packet);
@@ -87,6 +102,9 @@ fn transcript_of(alloc: Global, world: &mut World, line: Line) -> Result<String,
     match line {
         Line::Event(event) => push_event(&mut text, world, event),
         Line::Filter { peer, octets } => push_filter(&mut text, world, peer, octets),
+        Line::Listener { peer, asked } => {
+            text.push_listener_set(&set_listener(alloc, world, peer, asked));
+        }
         Line::Round { writer, reader } => push_round(&mut text, world, writer, reader),
         Line::Packet(number) => push_packet(&mut text, world, number),
         Line::Skipped | Line::Setup(_) => {}

@@ -1,9 +1,9 @@
 //! Which listener is told, and what is handed back.
 
 use crate::tests::notices::status_of;
-use crate::tests::rows::{Subject, Words, expect_rows, words_of};
+use crate::tests::rows::{Subject, expect_rows, words_of};
 use bitflags::Flags;
-use dds_base::Entity;
+use dds_base::{Code, Entity};
 use dds_notices::{Listener, Notice, Recorder, Slots, Status, StatusMask};
 use std::alloc::Global;
 use std::test::Fail;
@@ -66,8 +66,8 @@ livelost writer 1 => false
 
 /// A listener of an application's own: it keeps the latest notice.
 #[derive(Drop)]
-struct Latest {
-    kept: Option<Notice>,
+pub struct Latest {
+    pub kept: Option<Notice>,
 }
 
 impl Listener for Latest {
@@ -101,9 +101,10 @@ struct Listening<L> {
     at_hand: Vec<L>,
 }
 
-fn entity_of(words: Words<'_>) -> Entity {
-    let number = words.second.parse().unwrap_or(0);
-    match words.first {
+/// The entity that two words name.
+pub fn entity_of(kind: &str, number: &str) -> Entity {
+    let number = number.parse().unwrap_or(0);
+    match kind {
         "participant" => Entity::Participant,
         "writer" => Entity::Writer(number),
         _ => Entity::Reader(number),
@@ -118,26 +119,36 @@ fn push_kept<L: Listener>(text: &mut String, listener: &L) {
     }
 }
 
-impl<L: Listener> Listening<L> {
-    /// What is handed back is at hand.
-    fn hand_back(&mut self, text: &mut String, listener: Option<L>) {
-        if let Some(listener) = listener {
-            push_kept(text, &listener);
-            let _ = self.at_hand.push(listener);
+/// What is handed back is at hand.
+fn hand_back<L: Listener>(text: &mut String, at_hand: &mut Vec<L>, listener: Option<L>) {
+    if let Some(listener) = listener {
+        push_kept(text, &listener);
+        let _ = at_hand.push(listener);
+    }
+}
+
+/// Appends what comes of setting a listener. What is handed back is at hand.
+pub fn push_set<L: Listener>(
+    text: &mut String,
+    at_hand: &mut Vec<L>,
+    set: Result<Option<L>, (Code, Option<L>)>,
+) {
+    match set {
+        Ok(None) => {
+            let _ = write!(text, "nobody");
+        }
+        Ok(old) => hand_back(text, at_hand, old),
+        Err((code, listener)) => {
+            let _ = write!(text, "{code}");
+            hand_back(text, at_hand, listener);
         }
     }
+}
 
+impl<L: Listener> Listening<L> {
     fn set(&mut self, text: &mut String, entity: Entity, mask: StatusMask, listener: Option<L>) {
-        match self.slots.set(entity, mask, listener) {
-            Ok(None) => {
-                let _ = write!(text, "nobody");
-            }
-            Ok(old) => self.hand_back(text, old),
-            Err((code, listener)) => {
-                let _ = write!(text, "{code}");
-                self.hand_back(text, listener);
-            }
-        }
+        let set = self.slots.set(entity, mask, listener);
+        push_set(text, &mut self.at_hand, set);
     }
 
     fn tell(&mut self, text: &mut String, entity: Entity, status: Status) {
@@ -150,7 +161,7 @@ impl<L: Listener> Listening<L> {
 impl<L: Listener> Subject for Listening<L> {
     fn answer(&mut self, _: Global, text: &mut String, name: &str, operands: &str) {
         let words = words_of(operands);
-        let entity = entity_of(words);
+        let entity = entity_of(words.first, words.second);
         let mask = StatusMask::from_bits_retain(words.third.parse().unwrap_or(0));
         match name {
             "set" => {

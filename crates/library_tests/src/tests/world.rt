@@ -1,20 +1,24 @@
 //! Peers and the network between them.
 
+mod listeners;
+mod runs;
 mod scripts;
 
 use crate::tests::conditions::OfLength;
+use crate::tests::listeners::Latest;
 use crate::tests::rows::{Subject, Words, expect_rows, number_of, octets_of, words_of};
 use dds_base::{
     Code, Config, EntityId, GuidPrefix, HistoryQos, Key, Masks, Moment, Octets, OwnershipQos,
     PeerConfig, ReaderConfig, Selection, Sequence, WriterConfig,
 };
 use dds_conditions::{Cond, Filter};
+use dds_notices::Listener;
 use dds_world::{Call, Endpoint, Round, World as WorldOf, WorldEvent};
 use scripts::SCRIPTS;
 use std::alloc::Global;
 
-/// A network with filters of an application's own.
-type World = WorldOf<OfLength>;
+/// A network with filters and listeners of an application's own.
+type World = WorldOf<OfLength, Latest>;
 
 const KEY: Key = Key([0, 0, 0, 0, 0, 0, 0, 0, 0, 0, 0, 0, 0, 0, 0, 1]);
 
@@ -39,35 +43,42 @@ const READER: ReaderConfig = ReaderConfig {
     lease: None,
 };
 
-fn first(alloc: Global) -> PeerConfig {
-    let mut writers = Vec::new(alloc);
-    let _ = writers.push(WRITER);
+fn first(alloc: Global, writers: &[WriterConfig]) -> PeerConfig {
     PeerConfig {
         prefix: GuidPrefix([0, 0, 0, 0, 0, 0, 0, 0, 0, 0, 0, 1]),
-        writers: Sequence::from_vec(writers),
+        writers: Sequence::from_vec(copied(alloc, writers)),
         readers: Sequence::from_vec(Vec::new(alloc)),
     }
 }
 
-fn second(alloc: Global, max_samples: i32) -> PeerConfig {
-    let mut reader = READER;
-    reader.max_samples = max_samples;
-    let mut readers = Vec::new(alloc);
-    let _ = readers.push(reader);
+fn second(alloc: Global, reader: ReaderConfig) -> PeerConfig {
     PeerConfig {
         prefix: GuidPrefix([0, 0, 0, 0, 0, 0, 0, 0, 0, 0, 0, 2]),
         writers: Sequence::from_vec(Vec::new(alloc)),
-        readers: Sequence::from_vec(readers),
+        readers: Sequence::from_vec(copied(alloc, &[reader])),
+    }
+}
+
+fn copied<T: Copy>(alloc: Global, items: &[T]) -> Vec<T> {
+    let mut all = Vec::new(alloc);
+    let _ = all.extend_from_slice(items);
+    all
+}
+
+/// A first peer with these writers, and a second one with this reader.
+fn config_of(alloc: Global, writers: &[WriterConfig], reader: ReaderConfig) -> Config {
+    let mut peers = Vec::new(alloc);
+    let _ = peers.push(first(alloc, writers));
+    let _ = peers.push(second(alloc, reader));
+    Config {
+        peers: Sequence::from_vec(peers),
     }
 }
 
 fn config(alloc: Global, max_samples: i32) -> Config {
-    let mut peers = Vec::new(alloc);
-    let _ = peers.push(first(alloc));
-    let _ = peers.push(second(alloc, max_samples));
-    Config {
-        peers: Sequence::from_vec(peers),
-    }
+    let mut reader = READER;
+    reader.max_samples = max_samples;
+    config_of(alloc, &[WRITER], reader)
 }
 
 /// A first peer with a writer and a second one with a reader that may hold so many samples, or any number if -1, at their
@@ -146,7 +157,12 @@ fn events_of(alloc: Global, lines: &str) -> Vec<WorldEvent> {
     events
 }
 
-fn push_filter<F: Filter>(text: &mut String, world: &mut WorldOf<F>, peer: u8, filter: F) {
+fn push_filter<F: Filter, L: Listener>(
+    text: &mut String,
+    world: &mut WorldOf<F, L>,
+    peer: u8,
+    filter: F,
+) {
     let added = match world.add_filter(peer, filter) {
         Ok(number) => Ok(number),
         Err((code, _)) => Err(code),
