@@ -33,5 +33,4 @@ mod watching;
 mod writer_end;
 
 pub use application::Core;
-pub use filtered_peer::FilteredPeer;
 pub use pairing::Pair;

@@ -109,8 +109,10 @@ fn a_network_tells_boxed_listeners(rt: HostRuntime) -> Result<(), Fail> {
     let large: Box<dyn Listener + Send> = Box::new(alloc, large)?;
     let own: Box<dyn Listener + Send> = Box::new(alloc, Latest { kept: None })?;
     let at_hand = vec![in alloc; small, large, own]?;
-    let mut subject: Told<Box<dyn Filter + Send>, Box<dyn Listener + Send>> =
-        Told { world, at_hand };
+    let mut subject: Told<Box<dyn Filter + Send>, Box<dyn Listener + Send>> = Told {
+        world,
+        at_hand,
+    };
     expect_rows(&rt, alloc, &mut subject, TOLD);
     Ok(())
 }
