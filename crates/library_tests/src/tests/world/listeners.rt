@@ -1,6 +1,5 @@
 //! Who is told of what happens in a network, and what is handed back.
 
-use crate::tests::conditions::OfLength;
 use crate::tests::listeners::{Latest, entity_of, push_set};
 use crate::tests::rows::{Subject, Words, expect_rows, words_of};
 use crate::tests::world::{World, config, event_of};
@@ -9,7 +8,9 @@ use dds_conditions::Filter;
 use dds_notices::{Listener, Recorder, StatusMask};
 use dds_world::World as WorldOf;
 use std::alloc::Global;
-use std::test::Fail;
+
+/// A network whose filters and listeners are boxes of any.
+type Boxes = WorldOf;
 
 /// A first peer with a writer, and a second one with a reader. `set` names a peer, an entity there and a mask: the listener that
 /// is at hand is set; `unset` names a peer and an entity. Both give what the listener keeps that is handed back, or `nobody`; that
@@ -81,38 +82,54 @@ impl<F: Filter, L: Listener> Subject for Told<F, L> {
     }
 }
 
-#[test]
-fn a_network_tells_listeners_of_an_application(rt: HostRuntime) -> Result<(), Fail> {
-    let alloc = rt.alloc();
-    let Ok(world) = World::open(alloc, &config(alloc, -1)) else {
-        return Err("no network".into());
-    };
-    let own = Latest { kept: None };
-    let other = Latest { kept: None };
-    let third = Latest { kept: None };
-    let at_hand = vec![in alloc; own, other, third]?;
-    let mut subject = Told::<OfLength, Latest> { world, at_hand };
-    expect_rows(&rt, alloc, &mut subject, TOLD);
-    Ok(())
+/// Three listeners of an application's own.
+fn own(alloc: Global) -> Vec<Latest> {
+    let mut at_hand = Vec::new(alloc);
+    for _ in 0..3 {
+        let _ = at_hand.push(Latest { kept: None });
+    }
+    at_hand
+}
+
+fn push_recorder(alloc: Global, at_hand: &mut Vec<Box<dyn Listener + Send>>, room: usize) {
+    if let Ok(recorder) = Recorder::open(alloc, room) {
+        if let Ok(boxed) = Box::new(alloc, recorder) {
+            let listener: Box<dyn Listener + Send> = boxed;
+            let _ = at_hand.push(listener);
+        }
+    }
+}
+
+/// Two recorders and a listener of an application's own, in boxes.
+fn boxed(alloc: Global) -> Vec<Box<dyn Listener + Send>> {
+    let mut at_hand = Vec::new(alloc);
+    push_recorder(alloc, &mut at_hand, 1);
+    push_recorder(alloc, &mut at_hand, 4);
+    if let Ok(boxed) = Box::new(alloc, Latest { kept: None }) {
+        let listener: Box<dyn Listener + Send> = boxed;
+        let _ = at_hand.push(listener);
+    }
+    at_hand
 }
 
 #[test]
-fn a_network_tells_boxed_listeners(rt: HostRuntime) -> Result<(), Fail> {
+fn a_network_tells_listeners_of_an_application(rt: HostRuntime) {
     let alloc = rt.alloc();
-    let Ok(world) = WorldOf::open(alloc, &config(alloc, -1)) else {
-        return Err("no network".into());
+    let Ok(world) = World::open(alloc, &config(alloc, -1)) else {
+        panic!(rt; "no network");
     };
-    let (Ok(small), Ok(large)) = (Recorder::open(alloc, 1), Recorder::open(alloc, 4)) else {
-        return Err("no memory".into());
-    };
-    let small: Box<dyn Listener + Send> = Box::new(alloc, small)?;
-    let large: Box<dyn Listener + Send> = Box::new(alloc, large)?;
-    let own: Box<dyn Listener + Send> = Box::new(alloc, Latest { kept: None })?;
-    let at_hand = vec![in alloc; small, large, own]?;
-    let mut subject: Told<Box<dyn Filter + Send>, Box<dyn Listener + Send>> = Told {
-        world,
-        at_hand,
-    };
+    let at_hand = own(alloc);
+    let mut subject = Told { world, at_hand };
     expect_rows(&rt, alloc, &mut subject, TOLD);
-    Ok(())
+}
+
+#[test]
+fn a_network_tells_boxed_listeners(rt: HostRuntime) {
+    let alloc = rt.alloc();
+    let Ok(world) = Boxes::open(alloc, &config(alloc, -1)) else {
+        panic!(rt; "no network");
+    };
+    let at_hand = boxed(alloc);
+    let mut subject = Told { world, at_hand };
+    expect_rows(&rt, alloc, &mut subject, TOLD);
 }

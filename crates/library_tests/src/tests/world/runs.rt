@@ -7,7 +7,6 @@ use dds_script::{TranscriptLine, call_of, words_of};
 use dds_world::{Reply, World, WorldEvent};
 use std::alloc::Global;
 use std::mem::replace;
-use std::test::Fail;
 
 /// An event, in a script's words, or `run`: what one run over all events before it answers, each reply in brackets; they are then
 /// behind. `open` begins anew, with a writer and a reader of SHARED ownership, or with two writers of one strength and a reader of
@@ -73,21 +72,38 @@ fn shape(alloc: Global, is_exclusive: bool) -> Config {
     config_of(alloc, &[writer, other], reader)
 }
 
+fn delivery(peer: &str, packet: &str) -> WorldEvent {
+    WorldEvent::Deliver {
+        peer: peer.parse().unwrap_or(0),
+        packet: number_of(packet),
+    }
+}
+
+fn tick(peer: &str, now: &str) -> WorldEvent {
+    WorldEvent::Tick {
+        peer: peer.parse().unwrap_or(0),
+        now: Moment::new(number_of(now)),
+    }
+}
+
+fn call(alloc: Global, peer: &str, words: &[&str]) -> Option<WorldEvent> {
+    match call_of(alloc, words) {
+        Ok(Some(call)) => Some(WorldEvent::Call {
+            peer: peer.parse().unwrap_or(0),
+            call,
+        }),
+        _ => None,
+    }
+}
+
 fn event_of(alloc: Global, first: &str, operands: &str) -> Option<WorldEvent> {
-    let words = words_of(alloc, operands).ok()?;
+    let Ok(words) = words_of(alloc, operands) else {
+        return None;
+    };
     match words.as_slice() {
-        [peer, packet] if first == "deliver" => Some(WorldEvent::Deliver {
-            peer: peer.parse().ok()?,
-            packet: number_of(packet),
-        }),
-        ["tick", now] => Some(WorldEvent::Tick {
-            peer: first.parse().ok()?,
-            now: Moment::new(number_of(now)),
-        }),
-        words => Some(WorldEvent::Call {
-            peer: first.parse().ok()?,
-            call: call_of(alloc, words).ok()??,
-        }),
+        [peer, packet] if first == "deliver" => Some(delivery(peer, packet)),
+        ["tick", now] => Some(tick(first, now)),
+        words => call(alloc, first, words),
     }
 }
 
@@ -139,15 +155,12 @@ impl Subject for Runs {
 }
 
 #[test]
-fn one_run_answers_as_the_events_of_a_script(rt: HostRuntime) -> Result<(), Fail> {
+fn one_run_answers_as_the_events_of_a_script(rt: HostRuntime) {
     let alloc = rt.alloc();
     let Ok(world) = World::open(alloc, &shape(alloc, false)) else {
-        return Err("no network".into());
+        panic!(rt; "no network");
     };
-    let mut subject = Runs {
-        world,
-        events: Vec::new(alloc),
-    };
+    let events = Vec::new(alloc);
+    let mut subject = Runs { world, events };
     expect_rows(&rt, alloc, &mut subject, RUNS);
-    Ok(())
 }
