@@ -1,6 +1,7 @@
 -- An access of one of the peer's readers: a read or a take, in any of its forms.
-use Rattle.std.proofs.Common.{◌≡◌, ◌≢◌, ℕ, suc, ◌+◌, ◌<◌, Bool, true, not, List, [], ◌∷◌, Option, Some, None, set, length, slice_get, refl, ap, sym, ◌∙◌, subst, arith}
+use Rattle.std.proofs.Common.{◌≡◌, ◌≢◌, ℕ, suc, ◌+◌, ◌<◌, Bool, true, not, List, [], ◌∷◌, Option, Some, None, set, length, get_or, slice_get, refl, ap, sym, ◌∙◌, subst, arith}
 use Rattle.std.specs.Prelude.{if◌then◌else◌, Result, Ok, Err}
+use Rattle.std.proofs.lemmas.Option.{slice_get_read}
 use Rattle.dds_base.specs.declared.code.Code.{Code}
 use Rattle.dds_base.specs.declared.code.Code.TheVariants.{BadParameter, NoData}
 use Rattle.dds_base.specs.declared.config.Config.{Config}
@@ -190,12 +191,17 @@ accessed tests entry c test i selection kept k k' config peer is s at same (Err 
 accessed tests entry c test i selection kept k k' config peer is s at same (Err code) causes qos answer after =
     not_entered tests c kept i k k' config peer code s at (kept_same k k' same after) (is.answers (Refused code) peer.part.dds (subst (λ (o : Option Code). Refuses o code) (sym causes) answer, refl))
 
--- the same of the reader of a number
-pub accessed_at : (tests : Tests) (entry : List SamplePosition → Happening) (c : Call) (test : Test) (reader : ℕ) (selection : Selection) (kept : PeerKept) (i : ℕ) (k k' : ReaderKept) (config : Config) (peer : Peer)
-    → IsAccess tests peer.part c entry test reader selection → StandsFor kept config peer
-    → reader ≡ i + 1 → i < length kept.readers → slice_get kept.readers i ≡ Some k → TakesOnly k k' → (r : Result (List Sample) Code) → ((h : List Happening) → Holds k.store h → AnswersWith k.store.cache h selection test r)
-    → ((h : List Happening) → Holds k.store h → AfterAccessWith entry k.store.cache h selection test r k'.store.cache) → FollowsBy tests (with_reader kept i k') config peer (event.Call c) (silent (access_reply r))
-accessed_at tests entry c test reader selection kept i k k' config peer is s number lt at same r answer after =
+-- the same of the reader of a number, where it stands in the opened peer
+pub accessed_at : (tests : Tests) (entry : List SamplePosition → Happening) (c : Call) (test : Test) (reader : ℕ)
+    (selection : Selection) (kept now : PeerKept) (i : ℕ) (k k' : ReaderKept) (config : Config) (peer : Peer)
+    → kept ≡ now → StandsFor now config peer → IsAccess tests peer.part c entry test reader selection
+    → reader ≡ i + 1 → i < length kept.readers → k ≡ get_or kept.readers i k → TakesOnly k k' → (r : Result (List Sample) Code)
+    → ((h : List Happening) → Holds k.store h → AnswersWith k.store.cache h selection test r)
+    → ((h : List Happening) → Holds k.store h → AfterAccessWith entry k.store.cache h selection test r k'.store.cache)
+    → FollowsBy tests (with_reader kept i k') config peer (event.Call c) (silent (access_reply r))
+accessed_at tests entry c test reader selection kept now i k k' config peer view given is number lt element same r answer after =
+    let s = subst (λ (x : PeerKept). StandsFor x config peer) (sym view) given in
+    let at : slice_get kept.readers i ≡ Some k = slice_get_read kept.readers (length kept.readers) i k refl lt element in
     let index : i + 1 ≡ suc i = omega arith in
     let rs = s.readers.each i k at in
     let count = s.readers.count in

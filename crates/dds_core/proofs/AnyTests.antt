@@ -1,5 +1,5 @@
 -- Events in which no filter has a say: they are the same by any filters.
-use Rattle.std.proofs.Common.{◌≡◌, ℕ, Bool, true, false, List}
+use Rattle.std.proofs.Common.{◌≡◌, ℕ, Bool, true, false, List, sym, subst}
 use Rattle.dds_base.specs.declared.config.Config.{Config}
 use Rattle.dds_conditions.specs.Watched.{no_filters}
 use Rattle.dds_model.specs.declared.call.Call.{Call}
@@ -86,6 +86,18 @@ any_call tests old new c output steps plain = λ config peer s.
       },
       r.2,
     )
+
+-- what was done at a call was done at the call that was given
+pub called : (tests : Tests) (old new : PeerKept) (given c : Call) (output : Output) → given ≡ c
+    → StepsBy tests old (event.Call c) output new → StepsBy tests old (event.Call given) output new
+called tests old new given c output is steps =
+    subst (λ (x : Call). StepsBy tests old (event.Call x) output new) (sym is) steps
+
+-- so it was at one in which no filter has a say, by whatever they mean
+pub plainly_called : (tests : Tests) (old new : PeerKept) (given c : Call) (output : Output) → given ≡ c
+    → Steps old (event.Call c) output new → is_plain c ≡ true → StepsBy tests old (event.Call given) output new
+plainly_called tests old new given c output is steps plain =
+    called tests old new given c output is (any_call tests old new c output steps plain)
 
 -- a tick
 pub any_tick : (tests : Tests) (old new : PeerKept) (now : ℕ) (output : Output) → SoundSteps old (event.Tick now) output new → SoundStepsBy tests old (event.Tick now) output new

@@ -28,6 +28,7 @@ use Rattle.rtps_writer.specs.WriterState.{WriterState, acknowledged_by, history_
 use Rattle.rtps_writer.proofs.AnswerFacts.{answers_after-right}
 use Rattle.dds_model.specs.Claims.{Receiver}
 use Rattle.dds_model.specs.Protocol.{Due, AreGrouped, data_of, submessages_of}
+use Rattle.dds_model.proofs.PairFew.{count_numbers, filter_few}
 use Rattle.dds_core.specs.declared.answering.Answering.{Answering}
 use Rattle.dds_core.specs.declared.answering.Room.{Room}
 use Rattle.dds_core.specs.declared.matching.ReaderName.{ReaderName}
@@ -241,18 +242,6 @@ answers_few kept (n ∷ ns) = one_more (kept n) (answers_to kept ns) (answers_fe
         gap true = omega (arith, h)
         gap false = omega (arith, h)
 
-filter_few : (p : ℕ → Bool) (ns : List ℕ) → length (filter p ns) ≤ length ns
-filter_few p [] = omega arith
-filter_few p (n ∷ ns) = one_more (p n) (filter_few p ns)
-  where
-    one_more : (b : Bool) → length (filter p ns) ≤ length ns → length (cond b (n ∷ filter p ns) (filter p ns)) ≤ suc (length ns)
-    one_more true few = omega (arith, few)
-    one_more false few = omega (arith, few)
-
-numbers_count : (from count : ℕ) → length (numbers_from from count) ≡ count
-numbers_count from zero = refl
-numbers_count from (suc count) = ap suc (numbers_count (from + 1) count)
-
 pub few_answers : (s : WriterState) (row base : ℕ) (set : NumberSet) (count : ℤ) → length (acknack_answers s row base set count) ≤ 256
 few_answers s row base set count = by (is_applied s row base count)
   where
@@ -266,7 +255,7 @@ few_answers s row base set count = by (is_applied s row base count)
     by true =
         let first = answers_few (λ n. is_kept (history_of after) n) asked in
         let second = filter_few (is_requested set (acknowledged_by after row) (last_of after)) (numbers_from set.base 256) in
-        let third = numbers_count set.base 256 in
+        let third = count_numbers set.base 256 in
         omega (arith, first, second, third)
     by false = omega arith
 

@@ -30,7 +30,7 @@ answers_few kept (n ∷ ns) =
 
 -- a set asks for 256 numbers at most
 
-filter_few : (p : ℕ → Bool) (ns : List ℕ) → length (filter p ns) ≤ length ns
+pub filter_few : (p : ℕ → Bool) (ns : List ℕ) → length (filter p ns) ≤ length ns
 filter_few p [] = omega arith
 filter_few p (n ∷ ns) = by (p n) (filter_few p ns)
   where
@@ -38,7 +38,7 @@ filter_few p (n ∷ ns) = by (p n) (filter_few p ns)
     by true h = omega (arith, h)
     by false h = omega (arith, h)
 
-count_numbers : (from count : ℕ) → length (numbers_from from count) ≡ count
+pub count_numbers : (from count : ℕ) → length (numbers_from from count) ≡ count
 count_numbers from zero = refl
 count_numbers from (suc count) = ap suc (count_numbers (from + 1) count)
 

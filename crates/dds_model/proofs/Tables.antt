@@ -149,22 +149,42 @@ pub length-with_row : {X : Type 0} (name : X → Endpoint) (change : X → X) (x
 length-with_row name change [] w = refl
 length-with_row name change (x ∷ xs) w = length_step name change x xs w (same_endpoint (name x) w) (length-with_row name change xs w)
 
-placed : (to : ℕ) (o : Option WriterProxy) (from : ℕ) → option_map (λ (p : WriterProxy). p.place) o ≡ Some from
-    → option_map (λ (p : WriterProxy). p.place) (option_map (λ (p : WriterProxy). record p { place = to }) o) ≡ Some to
-placed to None from h = cc
-placed to (Some p) from h = refl
+-- a field that the change sets
+set_field : {X V : Type 0} (change : X → X) (field : X → V) (to : V) → ((x : X) → field (change x) ≡ to)
+    → (o : Option X) (from : V) → option_map field o ≡ Some from → option_map field (option_map change o) ≡ Some to
+set_field change field to sets None from h = cc
+set_field change field to sets (Some x) from h = ap Some (sets x)
+
+-- after it, the field of another row is as before, and that of this one is what was set
+field-cases : {X V : Type 0} (name : X → Endpoint) (change : X → X) (field : X → V) (to : V) → ((x : X) → name (change x) ≡ name x)
+    → ((x : X) → field (change x) ≡ to) → (rows : List X) (w : Endpoint) (from : V) (v : Endpoint)
+    → option_map field (row_of name rows w) ≡ Some from
+    → (option_map field (row_of name (with_row name change rows w) v) ≡ option_map field (row_of name rows v))
+    ⊎ ((v ≡ w) × (option_map field (row_of name (with_row name change rows w) v) ≡ Some to))
+field-cases {X = X} name change field to kept sets rows w from v h =
+    ⊎_elim (λ e. inl (ap (λ (o : Option X). option_map field o) e))
+    (λ s. inr (s.0, ap (λ (o : Option X). option_map field o) s.1 ∙ set_field change field to sets (row_of name rows w) from h))
+    (row-cases name change kept rows w v)
+
+field-hits : {X V : Type 0} (name : X → Endpoint) (change : X → X) (field : X → V) (to : V) → ((x : X) → name (change x) ≡ name x)
+    → ((x : X) → field (change x) ≡ to) → (rows : List X) (w : Endpoint) (from : V)
+    → option_map field (row_of name rows w) ≡ Some from
+    → option_map field (row_of name (with_row name change rows w) w) ≡ Some to
+field-hits {X = X} name change field to kept sets rows w from h =
+    ap (λ (o : Option X). option_map field o) (row-hits name change kept rows w)
+    ∙ set_field change field to sets (row_of name rows w) from h
 
 pub place-cases : (rows : List WriterProxy) (w : Endpoint) (from to : ℕ) (v : Endpoint) → place_of rows w ≡ Some from
     → (place_of (with_place rows w to) v ≡ place_of rows v) ⊎ ((v ≡ w) × (place_of (with_place rows w to) v ≡ Some to))
 place-cases rows w from to v h =
-    ⊎_elim (λ e. inl (ap (λ (o : Option WriterProxy). option_map (λ (p : WriterProxy). p.place) o) e))
-    (λ s. inr (s.0, ap (λ (o : Option WriterProxy). option_map (λ (p : WriterProxy). p.place) o) s.1 ∙ placed to (row_of (λ (p : WriterProxy). p.writer) rows w) from h))
-    (row-cases (λ (p : WriterProxy). p.writer) (λ (p : WriterProxy). record p { place = to }) (λ p. refl) rows w v)
+    field-cases (λ (p : WriterProxy). p.writer) (λ (p : WriterProxy). record p { place = to }) (λ (p : WriterProxy). p.place) to
+    (λ p. refl) (λ p. refl) rows w from v h
 
-pub place-hits : (rows : List WriterProxy) (w : Endpoint) (from to : ℕ) → place_of rows w ≡ Some from → place_of (with_place rows w to) w ≡ Some to
+pub place-hits : (rows : List WriterProxy) (w : Endpoint) (from to : ℕ) → place_of rows w ≡ Some from
+    → place_of (with_place rows w to) w ≡ Some to
 place-hits rows w from to h =
-    ap (λ (o : Option WriterProxy). option_map (λ (p : WriterProxy). p.place) o) (row-hits (λ (p : WriterProxy). p.writer) (λ (p : WriterProxy). record p { place = to }) (λ p. refl) rows w)
-    ∙ placed to (row_of (λ (p : WriterProxy). p.writer) rows w) from h
+    field-hits (λ (p : WriterProxy). p.writer) (λ (p : WriterProxy). record p { place = to }) (λ (p : WriterProxy). p.place) to
+    (λ p. refl) (λ p. refl) rows w from h
 
 same_places : (count : ℤ) (o : Option WriterProxy) → option_map (λ (p : WriterProxy). p.place) (option_map (λ (p : WriterProxy). record p { heard = Some count }) o) ≡ option_map (λ (p : WriterProxy). p.place) o
 same_places count None = refl
@@ -179,19 +199,15 @@ place-heard rows w count v =
     ∙ (same_places count (row_of (λ (p : WriterProxy). p.writer) rows w) ∙ ap (λ (e : Endpoint). place_of rows e) (sym s.0)))
     (row-cases (λ (p : WriterProxy). p.writer) (λ (p : WriterProxy). record p { heard = Some count }) (λ p. refl) rows w v)
 
-acked : (to : ℕ) (o : Option ReaderProxy) (from : ℕ) → option_map (λ (p : ReaderProxy). p.acknowledged) o ≡ Some from
-    → option_map (λ (p : ReaderProxy). p.acknowledged) (option_map (λ (p : ReaderProxy). record p { acknowledged = to }) o) ≡ Some to
-acked to None from h = cc
-acked to (Some p) from h = refl
-
 pub acknowledged-cases : (rows : List ReaderProxy) (r : Endpoint) (from to : ℕ) (v : Endpoint) → acknowledged_of rows r ≡ Some from
-    → (acknowledged_of (with_acknowledged rows r to) v ≡ acknowledged_of rows v) ⊎ ((v ≡ r) × (acknowledged_of (with_acknowledged rows r to) v ≡ Some to))
+    → (acknowledged_of (with_acknowledged rows r to) v ≡ acknowledged_of rows v)
+    ⊎ ((v ≡ r) × (acknowledged_of (with_acknowledged rows r to) v ≡ Some to))
 acknowledged-cases rows r from to v h =
-    ⊎_elim (λ e. inl (ap (λ (o : Option ReaderProxy). option_map (λ (p : ReaderProxy). p.acknowledged) o) e))
-    (λ s. inr (s.0, ap (λ (o : Option ReaderProxy). option_map (λ (p : ReaderProxy). p.acknowledged) o) s.1 ∙ acked to (row_of (λ (p : ReaderProxy). p.reader) rows r) from h))
-    (row-cases (λ (p : ReaderProxy). p.reader) (λ (p : ReaderProxy). record p { acknowledged = to }) (λ p. refl) rows r v)
+    field-cases (λ (p : ReaderProxy). p.reader) (λ (p : ReaderProxy). record p { acknowledged = to })
+    (λ (p : ReaderProxy). p.acknowledged) to (λ p. refl) (λ p. refl) rows r from v h
 
-pub acknowledged-hits : (rows : List ReaderProxy) (r : Endpoint) (from to : ℕ) → acknowledged_of rows r ≡ Some from → acknowledged_of (with_acknowledged rows r to) r ≡ Some to
+pub acknowledged-hits : (rows : List ReaderProxy) (r : Endpoint) (from to : ℕ) → acknowledged_of rows r ≡ Some from
+    → acknowledged_of (with_acknowledged rows r to) r ≡ Some to
 acknowledged-hits rows r from to h =
-    ap (λ (o : Option ReaderProxy). option_map (λ (p : ReaderProxy). p.acknowledged) o) (row-hits (λ (p : ReaderProxy). p.reader) (λ (p : ReaderProxy). record p { acknowledged = to }) (λ p. refl) rows r)
-    ∙ acked to (row_of (λ (p : ReaderProxy). p.reader) rows r) from h
+    field-hits (λ (p : ReaderProxy). p.reader) (λ (p : ReaderProxy). record p { acknowledged = to })
+    (λ (p : ReaderProxy). p.acknowledged) to (λ p. refl) (λ p. refl) rows r from h

@@ -84,6 +84,16 @@ module _ {L : Type 0} (notices : L → List Notice) (capacity : L → ℕ) where
     ];
   }
 
+  -- what is opened stands as it did, at the entity that is asked for
+  opened : (before old : Slotted L) (entity here : Entity) (places : Places) → before ≡ old → entity ≡ here
+      → has_entity old entity ≡ true → StandsFor notices capacity old places
+      → (has_entity before here ≡ true) × StandsFor notices capacity before places
+  opened before old entity here places is_old is_entity there all = (
+    subst (λ (k : Slotted L). has_entity k here ≡ true) (sym is_old)
+        (subst (λ (e : Entity). has_entity old e ≡ true) is_entity there),
+    subst (λ (k : Slotted L). StandsFor notices capacity k places) (sym is_old) all,
+  )
+
   -- the listener of a writer is told: as `tell_at` of src/slots.rt has it
   pub writer_tells : (p : Option (Slot L)) (ws rs new : List (Option (Slot L))) (old : Slotted L) (entity : Entity) (n : ℕ) (notice : Notice)
       → record { participant = p; writers = ws; readers = rs } ≡ old → entity ≡ Writer n → has_entity old entity ≡ true
@@ -93,14 +103,12 @@ module _ {L : Type 0} (notices : L → List Notice) (capacity : L → ℕ) where
       (with_entity places entity (with_notice (at_entity places entity) notice))
   writer_tells p ws rs new old entity n notice is_old is_entity there told places all =
       let before : Slotted L = record { participant = p; writers = ws; readers = rs } in
-      let place = with_notice (at_number places.writers n) notice in
-      let here = subst (λ (e : Entity). has_entity old e ≡ true) is_entity there in
-      let number = subst (λ (k : Slotted L). has_entity k (Writer n) ≡ true) (sym is_old) here in
-      let stands = subst (λ (k : Slotted L). StandsFor notices capacity k places) (sym is_old) all in
-      let one = told (at_number places.writers n) (stands.each (Writer n)) in
-      rw (is_entity, one.others) (entity_stands before places (Writer n) one.slot place stands number one.stands)
+      let here = opened before old entity (Writer n) places is_old is_entity there all in
+      let one = told (at_number places.writers n) (here.1.each (Writer n)) in
+      rw (is_entity, one.others)
+      (entity_stands before places (Writer n) one.slot (with_notice (at_number places.writers n) notice) here.1 here.0 one.stands)
 
-  -- the listener of a reader is told: as `tell_at` of src/slots.rt has it
+  -- so is that of a reader
   pub reader_tells : (p : Option (Slot L)) (ws rs new : List (Option (Slot L))) (old : Slotted L) (entity : Entity) (n : ℕ) (notice : Notice)
       → record { participant = p; writers = ws; readers = rs } ≡ old → entity ≡ Reader n → has_entity old entity ≡ true
       → ((place : Option Place) → StandsAt notices capacity (at_number rs n) place → ToldAt notices capacity rs n notice place new)
@@ -109,14 +117,12 @@ module _ {L : Type 0} (notices : L → List Notice) (capacity : L → ℕ) where
       (with_entity places entity (with_notice (at_entity places entity) notice))
   reader_tells p ws rs new old entity n notice is_old is_entity there told places all =
       let before : Slotted L = record { participant = p; writers = ws; readers = rs } in
-      let place = with_notice (at_number places.readers n) notice in
-      let here = subst (λ (e : Entity). has_entity old e ≡ true) is_entity there in
-      let number = subst (λ (k : Slotted L). has_entity k (Reader n) ≡ true) (sym is_old) here in
-      let stands = subst (λ (k : Slotted L). StandsFor notices capacity k places) (sym is_old) all in
-      let one = told (at_number places.readers n) (stands.each (Reader n)) in
-      rw (is_entity, one.others) (entity_stands before places (Reader n) one.slot place stands number one.stands)
+      let here = opened before old entity (Reader n) places is_old is_entity there all in
+      let one = told (at_number places.readers n) (here.1.each (Reader n)) in
+      rw (is_entity, one.others)
+      (entity_stands before places (Reader n) one.slot (with_notice (at_number places.readers n) notice) here.1 here.0 one.stands)
 
-  -- so is that of the participant
+  -- and that of the participant
   pub participant_tells : (p new : Option (Slot L)) (ws rs : List (Option (Slot L))) (old : Slotted L) (entity : Entity) (notice : Notice)
       → record { participant = p; writers = ws; readers = rs } ≡ old → entity ≡ Participant
       → ((place : Option Place) → StandsAt notices capacity p place → StandsAt notices capacity new (with_notice place notice))

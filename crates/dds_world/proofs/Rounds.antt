@@ -154,10 +154,11 @@ acknack_is config network m k = let r = k.reader in let w = k.writer in cc
 heartbeat_is : (config : Config) (network : WorldState) (m : Matched) → Knows config network m → sought.Heartbeat m.pair.writer ≡ heartbeat_of config m.writer
 heartbeat_is config network m k = let w = k.writer in cc
 
-after_as : (config : Config) (writer reader : Endpoint) (sent : List Packet) (from to : ℕ) (events later : List WorldEvent) (replies rest : List RoundReply) → events ≡ later → replies ≡ rest
-    → AfterHeartbeat config writer reader sent from to later rest → AfterHeartbeat config writer reader sent from to events replies
-after_as config writer reader sent from to events later replies rest e r h =
-    subst (λ (es : List WorldEvent). AfterHeartbeat config writer reader sent from to es replies) (sym e) (subst (λ (rs : List RoundReply). AfterHeartbeat config writer reader sent from to later rs) (sym r) h)
+-- what is said of these events and replies is said of those that they are
+said_of : (P : List WorldEvent → List RoundReply → Type 0) (events later : List WorldEvent) (replies rest : List RoundReply)
+    → events ≡ later → replies ≡ rest → P later rest → P events replies
+said_of P events later replies rest e r h =
+    subst (λ (es : List WorldEvent). P es replies) (sym e) (subst (λ (rs : List RoundReply). P later rs) (sym r) h)
 
 after_heartbeat : {tests : AllTests} → (config : Config) (network known : WorldState) (m : Matched) (from : ℕ) (old : WorldKept) (events : List WorldEvent) (replies : List RoundReply) (new : WorldKept) → Knows config known m → StandsFor old config network
     → Acknowledging tests m from old events replies new → AfterHeartbeat config m.writer m.reader new.sent from (length old.sent) events replies
@@ -168,18 +169,13 @@ after_heartbeat {tests} config network known m from old events replies new k s h
     ⊎_elim
     (λ f.
     let none = none_on (IsTo m.writer.peer (sought.AckNack m.pair.reader m.pair.writer)) old.sent new.sent from (length old.sent) grows high f.3 in
-    after_as config m.writer m.reader new.sent from (length old.sent) events [] replies [] f.0 f.1 (subst (λ (x : Sought). HasNone (IsTo m.writer.peer x) new.sent from (length old.sent)) is none))
+    said_of (AfterHeartbeat config m.writer m.reader new.sent from (length old.sent)) events [] replies [] f.0 f.1 (subst (λ (x : Sought). HasNone (IsTo m.writer.peer x) new.sent from (length old.sent)) is none))
     (λ f.
     let first = first_on (IsTo m.writer.peer (sought.AckNack m.pair.reader m.pair.writer)) old.sent new.sent from (length old.sent) f.0 grows high f.5 in
     let answers = subst (λ (n : ℕ). f.3 ≡ answers_at m.reader.peer (length old.sent) n) (sym f.6.sent) f.9.0 in
-    after_as config m.writer m.reader new.sent from (length old.sent) events (world.Deliver m.writer.peer f.0 ∷ f.3) replies (f.1 ∷ f.4) f.7 f.8
+    said_of (AfterHeartbeat config m.writer m.reader new.sent from (length old.sent)) events (world.Deliver m.writer.peer f.0 ∷ f.3) replies (f.1 ∷ f.4) f.7 f.8
     (refl, subst (λ (x : Sought). IsFirst (IsTo m.writer.peer x) new.sent from (length old.sent) f.0) is first, answers))
     h
-
-tick_as : (config : Config) (writer reader : Endpoint) (sent : List Packet) (from to : ℕ) (events later : List WorldEvent) (replies rest : List RoundReply) → events ≡ later → replies ≡ rest
-    → AfterTick config writer reader sent from to later rest → AfterTick config writer reader sent from to events replies
-tick_as config writer reader sent from to events later replies rest e r h =
-    subst (λ (es : List WorldEvent). AfterTick config writer reader sent from to es replies) (sym e) (subst (λ (rs : List RoundReply). AfterTick config writer reader sent from to later rs) (sym r) h)
 
 after_tick : {tests : AllTests} → (config : Config) (network known : WorldState) (m : Matched) (from : ℕ) (old : WorldKept) (events : List WorldEvent) (replies : List RoundReply) (new : WorldKept) → Knows config known m → StandsFor old config network
     → Beating tests m from old events replies new → AfterTick config m.writer m.reader new.sent from (length old.sent) events replies
@@ -190,12 +186,12 @@ after_tick {tests} config network known m from old events replies new k s h =
     ⊎_elim
     (λ f.
     let none = none_on (IsTo m.reader.peer (sought.Heartbeat m.pair.writer)) old.sent new.sent from (length old.sent) grows high f.3 in
-    tick_as config m.writer m.reader new.sent from (length old.sent) events [] replies [] f.0 f.1 (subst (λ (x : Sought). HasNone (IsTo m.reader.peer x) new.sent from (length old.sent)) is none))
+    said_of (AfterTick config m.writer m.reader new.sent from (length old.sent)) events [] replies [] f.0 f.1 (subst (λ (x : Sought). HasNone (IsTo m.reader.peer x) new.sent from (length old.sent)) is none))
     (λ f.
     let first = first_on (IsTo m.reader.peer (sought.Heartbeat m.pair.writer)) old.sent new.sent from (length old.sent) f.0 grows high f.5 in
     let on = step_on tests config network old (world.Deliver m.reader.peer f.0) f.1.reply f.2 f.6.step s in
     let later = after_heartbeat config on.after known m (length old.sent) f.2 f.3 f.4 new k on.stands f.9 in
-    tick_as config m.writer m.reader new.sent from (length old.sent) events (world.Deliver m.reader.peer f.0 ∷ f.3) replies (f.1 ∷ f.4) f.7 f.8 (
+    said_of (AfterTick config m.writer m.reader new.sent from (length old.sent)) events (world.Deliver m.reader.peer f.0 ∷ f.3) replies (f.1 ∷ f.4) f.7 f.8 (
       refl,
       subst (λ (x : Sought). IsFirst (IsTo m.reader.peer x) new.sent from (length old.sent) f.0) is first,
       subst (λ (n : ℕ). AfterHeartbeat config m.writer m.reader new.sent (length old.sent) n f.3 f.4) (sym f.6.sent) later,
