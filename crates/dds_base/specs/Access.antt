@@ -64,7 +64,8 @@ asks_for_instance_state mask (Some state) = has_bit mask.0 (instance_state_bit s
 abbrev pub meets : ReaderQos → List Happening → Masks → SamplePosition → Bool
 meets q h masks s =
     asks_for_sample_state masks.samples (sample_state_of h s)
-    && (asks_for_view_state masks.views (view_state_of q s.key h) && asks_for_instance_state masks.instances (instance_state_of q s.key h))
+    && (asks_for_view_state masks.views (view_state_of q s.key h)
+    && asks_for_instance_state masks.instances (instance_state_of q s.key h))
 
 -- the value of the newest entry, if it is an accepted write of i, else the empty one
 abbrev pub newest_value : ReaderQos → Key → List Happening → List ℕ
@@ -77,7 +78,8 @@ value_of q h s = newest_value q s.key (as_of s.position h)
 
 -- the present samples that meet the masks and pass the filter, by handle and then by position
 abbrev pub matching_samples : ReaderQos → List Happening → Masks → (Key → List ℕ → Bool) → List SamplePosition
-matching_samples q h masks passes = filter (λ s. meets q h masks s && passes s.key (value_of q h s)) (present_samples q h)
+matching_samples q h masks passes =
+    filter (λ s. meets q h masks s && passes s.key (value_of q h s)) (present_samples q h)
 
 -- the first of them, so many at most
 abbrev pub at_most : {X : Type 0} → Option ℕ → List X → List X
@@ -90,7 +92,8 @@ picked_samples q h max masks passes = at_most max (matching_samples q h masks pa
 
 -- some present sample meets the masks and passes the filter (2.2.2.5, get_trigger_value of a read condition)
 abbrev pub has_match : ReaderQos → List Happening → Masks → (Key → List ℕ → Bool) → Bool
-has_match q h masks passes = list_any (λ (s : SamplePosition). meets q h masks s && passes s.key (value_of q h s)) (present_samples q h)
+has_match q h masks passes =
+    list_any (λ (s : SamplePosition). meets q h masks s && passes s.key (value_of q h s)) (present_samples q h)
 
 -- no filter: each key and value passes
 abbrev pub no_filter : Key → List ℕ → Bool
@@ -119,8 +122,10 @@ abbrev pub handle_of : ReaderQos → List Happening → Key → ℕ
 handle_of q h i = number_from 1 i (known_instances q h)
 
 -- the same of one instance (2.2.2.5, read_instance)
-abbrev pub picked_of_instance : ReaderQos → List Happening → Option ℕ → Masks → (Key → List ℕ → Bool) → ℕ → List SamplePosition
-picked_of_instance q h max masks passes handle = at_most max (filter (λ (s : SamplePosition). handle_of q h s.key == handle) (matching_samples q h masks passes))
+abbrev pub picked_of_instance : ReaderQos → List Happening → Option ℕ → Masks → (Key → List ℕ → Bool) → ℕ
+    → List SamplePosition
+picked_of_instance q h max masks passes handle =
+    at_most max (filter (λ (s : SamplePosition). handle_of q h s.key == handle) (matching_samples q h masks passes))
 
 -- the handle of the first sample whose handle is above n, 0 for none: samples stand by handle, so it is the least
 abbrev pub next_handle : ReaderQos → List Happening → ℕ → List SamplePosition → ℕ
@@ -128,8 +133,10 @@ next_handle q h n [] = 0
 next_handle q h n (s ∷ ss) = if nat_lt n (handle_of q h s.key) then handle_of q h s.key else next_handle q h n ss
 
 -- the same of the next instance that has a match (2.2.2.5, read_next_instance)
-abbrev pub picked_of_next_instance : ReaderQos → List Happening → Option ℕ → Masks → (Key → List ℕ → Bool) → ℕ → List SamplePosition
-picked_of_next_instance q h max masks passes handle = picked_of_instance q h max masks passes (next_handle q h handle (matching_samples q h masks passes))
+abbrev pub picked_of_next_instance : ReaderQos → List Happening → Option ℕ → Masks → (Key → List ℕ → Bool) → ℕ
+    → List SamplePosition
+picked_of_next_instance q h max masks passes handle =
+    picked_of_instance q h max masks passes (next_handle q h handle (matching_samples q h masks passes))
 
 -- the source timestamp of the newest entry: the change's, or the moment of the death (2.2.2.5, source_timestamp); no other entry leaves a sample
 abbrev pub timestamp_of : List Happening → ℕ
@@ -205,4 +212,9 @@ infos_of (p ∷ ps) = with_ranks p ps ∷ infos_of ps
 -- the collection of picked samples, each with its key, its value and its info
 abbrev pub collection_of : ReaderQos → List Happening → List SamplePosition → List Sample
 collection_of q h [] = []
-collection_of q h (s ∷ ss) = record { key = s.key; value = value_of q h s; info = with_ranks (picked_of q h s) (map (picked_of q h) ss) } ∷ collection_of q h ss
+collection_of q h (s ∷ ss) =
+    record {
+      key = s.key;
+      value = value_of q h s;
+      info = with_ranks (picked_of q h s) (map (picked_of q h) ss);
+    } ∷ collection_of q h ss

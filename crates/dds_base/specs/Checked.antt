@@ -38,7 +38,8 @@ prefix_count peers prefix = count_by (λ (p : PeerConfig). same_prefix p.prefix 
 
 -- how many writers and readers of a peer are an entity
 abbrev pub entity_count : PeerConfig → EntityId → ℕ
-entity_count p entity = count_by (λ (w : WriterConfig). same_entity w.entity entity) p.writers + count_by (λ (r : ReaderConfig). same_entity r.entity entity) p.readers
+entity_count p entity = count_by (λ (w : WriterConfig). same_entity w.entity entity) p.writers + count_by
+    (λ (r : ReaderConfig). same_entity r.entity entity) p.readers
 
 -- KEEP_LAST with a depth of 0 (DDS 1.4, 2.2.3, HISTORY)
 abbrev pub has_no_depth : HistoryQos → Bool
@@ -64,24 +65,29 @@ is_bad_lease (Some lease) = (lease == 0) || nat_le (2 ^ 63) lease
 
 -- a writer of another kind, without a depth, or with a maximum or a lease that is invalid
 abbrev pub is_bad_writer : WriterConfig → Bool
-is_bad_writer w = not (has_kind 2 w.entity) || (has_no_depth w.history || (not (is_maximum w.max_samples) || is_bad_lease w.lease))
+is_bad_writer w = not (has_kind 2 w.entity)
+    || (has_no_depth w.history || (not (is_maximum w.max_samples) || is_bad_lease w.lease))
 
 -- a reader of another kind, without a depth, or with a maximum or a lease that is invalid
 abbrev pub is_bad_reader : ReaderConfig → Bool
-is_bad_reader r = not (has_kind 7 r.entity) || (has_no_depth r.history || (not (is_maximum r.max_samples) || (not (is_maximum r.max_instances) || is_bad_lease r.lease)))
+is_bad_reader r = not (has_kind 7 r.entity)
+    || (has_no_depth r.history
+    || (not (is_maximum r.max_samples) || (not (is_maximum r.max_instances) || is_bad_lease r.lease)))
 
 -- a peer with more than 16 writers or readers, with two equal entities, or with a writer or reader that is invalid
 abbrev pub is_bad_peer : PeerConfig → Bool
 is_bad_peer p =
     (nat_lt 16 (length p.writers) || nat_lt 16 (length p.readers))
-    || ((list_any (λ (w : WriterConfig). nat_lt 1 (entity_count p w.entity)) p.writers || list_any (λ (r : ReaderConfig). nat_lt 1 (entity_count p r.entity)) p.readers)
+    || ((list_any (λ (w : WriterConfig). nat_lt 1 (entity_count p w.entity)) p.writers
+    || list_any (λ (r : ReaderConfig). nat_lt 1 (entity_count p r.entity)) p.readers)
     || (list_any is_bad_writer p.writers || list_any is_bad_reader p.readers))
 
 -- no peer or more than 16, a prefix that is no peer's, two equal prefixes, or a bad peer
 abbrev pub has_bad_parameter : List PeerConfig → Bool
 has_bad_parameter peers =
     ((length peers == 0) || nat_lt 16 (length peers))
-    || (list_any (λ (p : PeerConfig). same_prefix p.prefix unknown_prefix || nat_lt 1 (prefix_count peers p.prefix)) peers
+    || (list_any (λ (p : PeerConfig). same_prefix p.prefix unknown_prefix
+    || nat_lt 1 (prefix_count peers p.prefix)) peers
     || list_any is_bad_peer peers)
 
 -- a depth above a max_samples that is a limit (DDS 1.4, 2.2.3, HISTORY, RESOURCE_LIMITS: depth <= max_samples_per_instance <= max_samples)
@@ -110,7 +116,8 @@ are_incompatible r w = differ w.ownership r.ownership || is_longer w.lease r.lea
 abbrev pub is_inconsistent_peer : List PeerConfig → PeerConfig → Bool
 is_inconsistent_peer peers p =
     list_any (λ (w : WriterConfig). exceeds_limit w.history w.max_samples) p.writers
-    || list_any (λ (r : ReaderConfig). exceeds_limit r.history r.max_samples || list_any (are_incompatible r) (matched_writers_of peers r)) p.readers
+    || list_any (λ (r : ReaderConfig). exceeds_limit r.history r.max_samples
+    || list_any (are_incompatible r) (matched_writers_of peers r)) p.readers
 
 -- some peer is inconsistent (DDS 1.4, 2.2.1.1, INCONSISTENT_POLICY)
 abbrev pub has_inconsistent_policy : List PeerConfig → Bool

@@ -23,14 +23,16 @@ first_broken (t ∷ ts) = if t.1 then Some t.0 else first_broken ts
 -- the rules of a writer, and whether it breaks them
 abbrev pub writer_rules : Pass → PeerConfig → WriterConfig → List (ConfigRule × Bool)
 writer_rules Parameters p w =
-    (OwnEntity, nat_lt 1 (entity_count p w.entity)) ∷ (EntityKind, not (has_kind 2 w.entity)) ∷ (Depth, has_no_depth w.history)
+    (OwnEntity, nat_lt 1 (entity_count p w.entity)) ∷ (EntityKind, not (has_kind 2 w.entity)) ∷
+    (Depth, has_no_depth w.history)
     ∷ (Maximum, not (is_maximum w.max_samples)) ∷ (Lease, is_bad_lease w.lease) ∷ []
 writer_rules Policies p w = (DepthWithinMaximum, exceeds_limit w.history w.max_samples) ∷ []
 
 -- the rules of a reader
 abbrev pub reader_rules : Pass → List PeerConfig → PeerConfig → ReaderConfig → List (ConfigRule × Bool)
 reader_rules Parameters peers p r =
-    (OwnEntity, nat_lt 1 (entity_count p r.entity)) ∷ (EntityKind, not (has_kind 7 r.entity)) ∷ (Depth, has_no_depth r.history)
+    (OwnEntity, nat_lt 1 (entity_count p r.entity)) ∷ (EntityKind, not (has_kind 7 r.entity)) ∷
+    (Depth, has_no_depth r.history)
     ∷ (Maximum, not (is_maximum r.max_samples) || not (is_maximum r.max_instances)) ∷ (Lease, is_bad_lease r.lease) ∷ []
 reader_rules Policies peers p r =
     (DepthWithinMaximum, exceeds_limit r.history r.max_samples)
@@ -84,4 +86,5 @@ pass_fault pass peers = first_at (peer_fault pass peers) 1 peers
 
 -- the fault of a configuration
 abbrev pub config_fault : List PeerConfig → Option ConfigFault
-config_fault peers = or_else (fault_at Whole (first_broken (whole_rules peers))) (or_else (pass_fault Parameters peers) (pass_fault Policies peers))
+config_fault peers = or_else (fault_at Whole (first_broken (whole_rules peers)))
+    (or_else (pass_fault Parameters peers) (pass_fault Policies peers))

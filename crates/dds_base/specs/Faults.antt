@@ -53,8 +53,10 @@ breaks_as_reader peers p Depth r = has_no_depth r.history
 breaks_as_reader peers p Maximum r = not (is_maximum r.max_samples) || not (is_maximum r.max_instances)
 breaks_as_reader peers p Lease r = is_bad_lease r.lease
 breaks_as_reader peers p DepthWithinMaximum r = exceeds_limit r.history r.max_samples
-breaks_as_reader peers p SameOwnership r = list_any (λ (w : WriterConfig). differ w.ownership r.ownership) (matched_writers_of peers r)
-breaks_as_reader peers p OfferedLease r = list_any (λ (w : WriterConfig). is_longer w.lease r.lease) (matched_writers_of peers r)
+breaks_as_reader peers p SameOwnership r =
+    list_any (λ (w : WriterConfig). differ w.ownership r.ownership) (matched_writers_of peers r)
+breaks_as_reader peers p OfferedLease r =
+    list_any (λ (w : WriterConfig). is_longer w.lease r.lease) (matched_writers_of peers r)
 breaks_as_reader peers p _ r = false
 
 -- the element of this number, counted from 1, passes the test
@@ -65,8 +67,10 @@ passes_at test number xs = if nat_lt 0 number then option_map_or test (slice_get
 abbrev pub breaks_at : List PeerConfig → ConfigPlace → ConfigRule → Bool
 breaks_at peers Whole rule = breaks_as_whole peers rule
 breaks_at peers (Peer peer) rule = passes_at (breaks_as_peer peers rule) peer peers
-breaks_at peers (Writer peer writer) rule = passes_at (λ (p : PeerConfig). passes_at (breaks_as_writer p rule) writer p.writers) peer peers
-breaks_at peers (Reader peer reader) rule = passes_at (λ (p : PeerConfig). passes_at (breaks_as_reader peers p rule) reader p.readers) peer peers
+breaks_at peers (Writer peer writer) rule =
+    passes_at (λ (p : PeerConfig). passes_at (breaks_as_writer p rule) writer p.writers) peer peers
+breaks_at peers (Reader peer reader) rule =
+    passes_at (λ (p : PeerConfig). passes_at (breaks_as_reader peers p rule) reader p.readers) peer peers
 
 -- the configuration breaks the rule that the fault names, at the place that it names
 abbrev pub Breaks : List PeerConfig → ConfigFault → Type 0

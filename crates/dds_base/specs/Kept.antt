@@ -30,7 +30,8 @@ later_changes changes number key = count_by (λ (c : Change). same_key c.key key
 -- KEEP_LAST n has dropped a change once n later changes of its key exist, of any kind; KEEP_ALL drops none
 abbrev pub is_dropped_by : HistoryQos → List Change → ℕ → Bool
 is_dropped_by KeepAll changes number = false
-is_dropped_by (KeepLast n) changes number = option_map_or (λ (c : Change). nat_le n (later_changes changes number c.key)) (change_at changes number) false
+is_dropped_by (KeepLast n) changes number =
+    option_map_or (λ (c : Change). nat_le n (later_changes changes number c.key)) (change_at changes number) false
 
 abbrev pub is_dropped : WriterHistory → ℕ → Bool
 is_dropped w number = is_dropped_by w.policy w.changes number
@@ -62,7 +63,12 @@ first_kept w = unwrap_or (find (λ number. is_kept w number) (numbers_from 1 (le
 
 -- the history with one more change, which has the next number
 abbrev pub appended : WriterHistory → Change → WriterHistory
-appended w change = record { policy = w.policy; max_samples = w.max_samples; changes = w.changes ++ change ∷ []; acknowledged = w.acknowledged }
+appended w change = record {
+  policy = w.policy;
+  max_samples = w.max_samples;
+  changes = w.changes ++ change ∷ [];
+  acknowledged = w.acknowledged;
+}
 
 -- a count is above the limit, where there is one
 abbrev pub exceeds : Option ℕ → ℕ → Bool
@@ -78,4 +84,5 @@ append_refusal w change =
 -- the history once this reader, counted from 0, has acknowledged all numbers below this one; an acknowledgement doesn't go
 -- back (RTPS 2.5, 8.4.9: ReaderProxy, acked_changes_set)
 abbrev pub acknowledge : WriterHistory → ℕ → ℕ → WriterHistory
-acknowledge w reader to = record w { acknowledged = slice_set w.acknowledged reader (max (slice_index w.acknowledged reader) to) }
+acknowledge w reader to =
+    record w { acknowledged = slice_set w.acknowledged reader (max (slice_index w.acknowledged reader) to) }

@@ -15,25 +15,31 @@ same_topic a b = a == b
 -- what is told of each end of the topic among these, by its number, which counts on from this one
 abbrev pub of_ends_in : {E X : Type 0} → (E → ℕ) → (ℕ → E → X) → ℕ → ℕ → List E → List X
 of_ends_in topic_of tell topic number [] = []
-of_ends_in topic_of tell topic number (e ∷ es) = cond (same_topic (topic_of e) topic) (tell number e ∷ of_ends_in topic_of tell topic (number + 1) es) (of_ends_in topic_of tell topic (number + 1) es)
+of_ends_in topic_of tell topic number (e ∷ es) =
+    cond (same_topic (topic_of e) topic) (tell number e ∷ of_ends_in topic_of tell topic (number + 1) es)
+    (of_ends_in topic_of tell topic (number + 1) es)
 
 -- the same of each end of the topic at these peers, by its peer's number, its peer and its number there: by peer, then by end
-abbrev pub of_matched_ends : {E X : Type 0} → (PeerConfig → List E) → (E → ℕ) → (ℕ → PeerConfig → ℕ → E → X) → ℕ → ℕ → List PeerConfig → List X
+abbrev pub of_matched_ends : {E X : Type 0} → (PeerConfig → List E) → (E → ℕ) → (ℕ → PeerConfig → ℕ → E → X) → ℕ → ℕ
+    → List PeerConfig → List X
 of_matched_ends ends topic_of tell topic peer [] = []
-of_matched_ends ends topic_of tell topic peer (p ∷ ps) = of_ends_in topic_of (tell peer p) topic 1 (ends p) ++ of_matched_ends ends topic_of tell topic (peer + 1) ps
+of_matched_ends ends topic_of tell topic peer (p ∷ ps) =
+    of_ends_in topic_of (tell peer p) topic 1 (ends p) ++ of_matched_ends ends topic_of tell topic (peer + 1) ps
 
 -- a reader's matched writers, in the order of its publication handles from 1 on (DDS 1.4, 2.2.2.5, publication_handle)
 abbrev pub of_writers_in : {X : Type 0} → (ℕ → WriterConfig → X) → ℕ → ℕ → List WriterConfig → List X
 of_writers_in = of_ends_in (λ (w : WriterConfig). w.topic)
 
-abbrev pub of_matched_writers : {X : Type 0} → (ℕ → PeerConfig → ℕ → WriterConfig → X) → ℕ → ℕ → List PeerConfig → List X
+abbrev pub of_matched_writers : {X : Type 0} → (ℕ → PeerConfig → ℕ → WriterConfig → X) → ℕ → ℕ → List PeerConfig
+    → List X
 of_matched_writers = of_matched_ends (λ (p : PeerConfig). p.writers) (λ (w : WriterConfig). w.topic)
 
 -- a writer's matched readers
 abbrev pub of_readers_in : {X : Type 0} → (ℕ → ReaderConfig → X) → ℕ → ℕ → List ReaderConfig → List X
 of_readers_in = of_ends_in (λ (r : ReaderConfig). r.topic)
 
-abbrev pub of_matched_readers : {X : Type 0} → (ℕ → PeerConfig → ℕ → ReaderConfig → X) → ℕ → ℕ → List PeerConfig → List X
+abbrev pub of_matched_readers : {X : Type 0} → (ℕ → PeerConfig → ℕ → ReaderConfig → X) → ℕ → ℕ → List PeerConfig
+    → List X
 of_matched_readers = of_matched_ends (λ (p : PeerConfig). p.readers) (λ (r : ReaderConfig). r.topic)
 
 -- the matched writers of a reader

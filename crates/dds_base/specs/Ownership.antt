@@ -88,7 +88,8 @@ owner_of q ws = find (outranks_all q ws) ws
 
 -- no two matched writers have one GUID, as no two writers of a checked configuration have
 abbrev pub HaveOwnGuids : ReaderQos → Type 0
-HaveOwnGuids q = (v w : ℕ) (a b : MatchedWriter) → writer_of q.writers v ≡ Some a → writer_of q.writers w ≡ Some b → a.guid ≡ b.guid → v ≡ w
+HaveOwnGuids q = (v w : ℕ) (a b : MatchedWriter) → writer_of q.writers v ≡ Some a → writer_of q.writers w ≡ Some b
+    → a.guid ≡ b.guid → v ≡ w
 
 -- SHARED lets every writer change an instance, EXCLUSIVE the owner among those registered before and itself (2.2.3, OWNERSHIP)
 abbrev pub admits : OwnershipQos → Bool → Bool
@@ -97,5 +98,8 @@ admits Exclusive is_owner = is_owner
 
 -- the kind of an accepted write or dispose of instance i that comes upon h; none for all else
 abbrev pub accepted_kind : ReaderQos → Key → List Happening → Happening → Option ChangeKind
-accepted_kind q i h (Came a) = if same_key a.change.key i && (is_write_or_dispose a.change.kind && admits q.ownership (outranks_all q (registered_writers q i h) a.writer)) then Some a.change.kind else None
+accepted_kind q i h (Came a) =
+    if same_key a.change.key i
+    && (is_write_or_dispose a.change.kind && admits q.ownership (outranks_all q (registered_writers q i h) a.writer))
+    then Some a.change.kind else None
 accepted_kind q i h _ = None

@@ -29,10 +29,12 @@ pub record Position : Type 0 where
 
 -- the change comes at the reader
 abbrev pub coming : Match → Position → Change → Happening
-coming match at change = Came (record { writer = match.publication; number = at.place; change = change; moment = match.moment })
+coming match at change =
+    Came (record { writer = match.publication; number = at.place; change = change; moment = match.moment })
 
 -- the next change comes, and there is room for it
-pub record Comes (grounds : WriterGrounds) (match : Match) (old : Position) (change : Change) (new : Position) : Type 0 where
+pub record Comes (grounds : WriterGrounds) (match : Match) (old : Position) (change : Change)
+    (new : Position) : Type 0 where
   pub is_change : grounds.is_change old.place change
   pub room : has_room match.qos old.happened (coming match old change) ≡ true
   pub after : new ≡ record { place = old.place + 1; happened = coming match old change ∷ old.happened }
@@ -40,18 +42,21 @@ pub record Comes (grounds : WriterGrounds) (match : Match) (old : Position) (cha
 -- these changes come, one after the other
 abbrev pub AllCome : WriterGrounds → Match → Position → List Change → Position → Type 0
 AllCome grounds match old [] new = new ≡ old
-AllCome grounds match old (change ∷ changes) new = (mid : Position) × Comes grounds match old change mid × AllCome grounds match mid changes new
+AllCome grounds match old (change ∷ changes) new =
+    (mid : Position) × Comes grounds match old change mid × AllCome grounds match mid changes new
 
 -- every change from the place to below this number comes
 abbrev pub ComeTo : WriterGrounds → Match → Position → ℕ → Position → Type 0
 ComeTo grounds match old to new = (changes : List Change) × AllCome grounds match old changes new × (new.place ≡ to)
 
 -- the changes of a run, which begins at the place, are passed over
-pub record Passes (grounds : WriterGrounds) (match : Match) (old : Position) (run : PassedRun) (new : Position) : Type 0 where
+pub record Passes (grounds : WriterGrounds) (match : Match) (old : Position) (run : PassedRun)
+    (new : Position) : Type 0 where
   pub begins : run.first ≡ old.place
   pub ordered : run.first ≤ run.last
   pub may_pass : (number : ℕ) → run.first ≤ number → number ≤ run.last → grounds.may_pass number
-  pub after : new ≡ record { place = run.last + 1; happened = Passed match.publication run.first run.last ∷ old.happened }
+  pub after : new ≡ record
+      { place = run.last + 1; happened = Passed match.publication run.first run.last ∷ old.happened }
 
 -- the next run begins above the number after this one, else the two were one
 abbrev pub IsApart : PassedRun → List PassedRun → Type 0
@@ -62,4 +67,5 @@ IsApart run (next ∷ runs) = run.last + 1 < next.first
 abbrev pub GoesTo : WriterGrounds → Match → Position → List PassedRun → ℕ → Position → Type 0
 GoesTo grounds match old [] to new = ComeTo grounds match old to new
 GoesTo grounds match old (run ∷ runs) to new =
-    (before after : Position) × ComeTo grounds match old run.first before × Passes grounds match before run after × IsApart run runs × GoesTo grounds match after runs to new
+    (before after : Position) × ComeTo grounds match old run.first before × Passes grounds match before run after
+    × IsApart run runs × GoesTo grounds match after runs to new

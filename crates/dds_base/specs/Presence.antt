@@ -63,7 +63,8 @@ is_at (Some at) j = at == j
 
 -- the sample of i at position j is present: not taken, and a write that the history keeps or i's last marker (2.2.2.5; 2.2.3, HISTORY)
 abbrev pub is_present : ReaderQos → List Happening → Key → ℕ → Bool
-is_present q h i j = not (is_taken (record { key = i; position = j }) h) && (is_kept_write q h i j || is_at (last_marker q i h) j)
+is_present q h i j = not (is_taken (record { key = i; position = j }) h)
+    && (is_kept_write q h i j || is_at (last_marker q i h) j)
 
 -- the positions 1 to n, in order
 abbrev pub up_to : ℕ → List ℕ
@@ -80,7 +81,8 @@ present_samples q h = flat_map (present_of q h) (known_instances q h)
 
 -- how many present samples are writes: those without data count against no limit
 abbrev pub present_writes : ReaderQos → List Happening → ℕ
-present_writes q h = count_by (λ (s : SamplePosition). ends_with_write q s.key (as_of s.position h)) (present_samples q h)
+present_writes q h = count_by (λ (s : SamplePosition). ends_with_write q s.key (as_of s.position h))
+    (present_samples q h)
 
 -- the number keeps to the limit, if there is one
 abbrev pub is_within : Option ℕ → ℕ → Bool
@@ -96,4 +98,6 @@ is_accepted q h _ = false
 abbrev pub has_room : ReaderQos → List Happening → Happening → Bool
 has_room q h e =
     nat_lt (arrivals (e ∷ h)) (2 ^ 31 - 1)
-    && (not (is_accepted q h e) || (is_within q.max_samples (present_writes q (e ∷ h)) && is_within q.max_instances (length (known_instances q (e ∷ h)))))
+    && (not (is_accepted q h e)
+    || (is_within q.max_samples (present_writes q (e ∷ h))
+    && is_within q.max_instances (length (known_instances q (e ∷ h)))))

@@ -20,7 +20,8 @@ use Rattle.dds_base.specs.Checked.{is_maximum, limit_of}
 abbrev pub picked_by : ReaderQos → List Happening → Selection → (Key → List ℕ → Bool) → List SamplePosition
 picked_by q h (Any max masks) passes = picked_samples q h (limit_of max) masks passes
 picked_by q h (Instance handle max masks) passes = picked_of_instance q h (limit_of max) masks passes handle
-picked_by q h (NextInstance previous max masks) passes = picked_of_next_instance q h (limit_of max) masks passes previous
+picked_by q h (NextInstance previous max masks) passes =
+    picked_of_next_instance q h (limit_of max) masks passes previous
 picked_by q h NextSample passes = picked_next_sample q h
 
 -- BAD_PARAMETER where the test fails

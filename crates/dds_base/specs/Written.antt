@@ -25,7 +25,8 @@ changes_of (_ ∷ c) = changes_of c
 abbrev pub is_key_registered : Key → List Written → Bool
 is_key_registered i [] = false
 is_key_registered i (Registered key ∷ c) = same_key key i || is_key_registered i c
-is_key_registered i (Changed change ∷ c) = if same_key change.key i then not (is_unregister change.kind) else is_key_registered i c
+is_key_registered i (Changed change ∷ c) =
+    if same_key change.key i then not (is_unregister change.kind) else is_key_registered i c
 is_key_registered i (_ ∷ c) = is_key_registered i c
 
 -- how often the application asserted the writer's liveliness (2.2.2.4, assert_liveliness)

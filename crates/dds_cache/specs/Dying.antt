@@ -10,9 +10,11 @@ use Rattle.dds_cache.specs.declared.kept.Kept.{Kept}
 use Rattle.dds_cache.specs.Kept.{IsKept, IsNewAt, positions_in}
 
 -- of each instance of a list the sample at position n is added to those kept, if it is present
-pub record AddsOf (q : ReaderQos) (h : List Happening) (n : ℕ) (instances : List Key) (old new : List Kept) : Type 0 where
+pub record AddsOf (q : ReaderQos) (h : List Happening) (n : ℕ) (instances : List Key)
+    (old new : List Kept) : Type 0 where
   pub added : List Kept
   pub are : new ≡ old ++ added
   pub each : All (IsKept q h) added
-  pub present : (i : Key) → (if list_any (λ k. same_key k i) instances && is_present q h i n then n ∷ [] else []) ≡ positions_in q h i added
+  pub present : (i : Key) →
+      (if list_any (λ k. same_key k i) instances && is_present q h i n then n ∷ [] else []) ≡ positions_in q h i added
   pub new_are : All (IsNewAt q h n) added

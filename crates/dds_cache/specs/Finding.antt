@@ -24,7 +24,9 @@ use Rattle.dds_instances.specs.Table.{Table, Stands}
 
 -- the masks ask for these states
 abbrev pub are_asked_for : Masks → SampleState → ViewState → Option InstanceState → Bool
-are_asked_for masks sample view instance = asks_for_sample_state masks.samples sample && (asks_for_view_state masks.views view && asks_for_instance_state masks.instances instance)
+are_asked_for masks sample view instance =
+    asks_for_sample_state masks.samples sample
+    && (asks_for_view_state masks.views view && asks_for_instance_state masks.instances instance)
 
 -- the sample meets the masks, and passes the test
 abbrev pub is_asked_for : ReaderQos → List Happening → Masks → (Key → List ℕ → Bool) → SamplePosition → Bool
@@ -63,7 +65,8 @@ abbrev pub picked_in : Candidate → Picked
 picked_in c = c.picked
 
 -- the candidates are the wanted ones of a list of kept samples, in their order
-pub record AreCandidates (q : ReaderQos) (h : List Happening) (masks : Masks) (test : Key → List ℕ → Bool) (ks wanted : List Kept) (cs : List Candidate) : Type 0 where
+pub record AreCandidates (q : ReaderQos) (h : List Happening) (masks : Masks) (test : Key → List ℕ → Bool)
+    (ks wanted : List Kept) (cs : List Candidate) : Type 0 where
   pub samples_are : map sample_in cs ≡ map sample_of (filter (is_wanted q h masks test) wanted)
   pub each : All (IsCandidate q h ks) cs
 
@@ -83,7 +86,8 @@ described_by k known = record {
 }
 
 -- a kept sample is wanted, and found as a candidate
-pub record IsFound (q : ReaderQos) (h : List Happening) (masks : Masks) (test : Key → List ℕ → Bool) (k : Kept) (at : ℕ) (c : Candidate) : Type 0 where
+pub record IsFound (q : ReaderQos) (h : List Happening) (masks : Masks) (test : Key → List ℕ → Bool) (k : Kept) (at : ℕ)
+    (c : Candidate) : Type 0 where
   pub wanted : is_wanted q h masks test k ≡ true
   pub sample_is : c.sample ≡ k.sample
   pub picked_is : c.picked ≡ picked_of q h k.sample
@@ -100,6 +104,7 @@ pub record IsPlaced (n : ℕ) (c : Candidate) : Type 0 where
   pub small : own_generations c.picked < 2 ^ 64
 
 -- what is found are the matching samples, in their order
-pub record Finds (q : ReaderQos) (h : List Happening) (masks : Masks) (test : Key → List ℕ → Bool) (ks : List Kept) (cs : List Candidate) : Type 0 where
+pub record Finds (q : ReaderQos) (h : List Happening) (masks : Masks) (test : Key → List ℕ → Bool) (ks : List Kept)
+    (cs : List Candidate) : Type 0 where
   pub samples_are : map sample_in cs ≡ matching_samples q h masks test
   pub each : All (IsCandidate q h ks) cs

@@ -83,11 +83,13 @@ IsRequestWith max masks (Err code) = (is_maximum max ≡ false) × (code ≡ Bad
 -- how many samples an access asks for, and by which masks, or why it is refused
 abbrev pub IsRequest : ReaderQos → List Happening → Selection → Result Request Code → Type 0
 IsRequest q h selection (Ok request) =
-    (selection_refusal q h selection ≡ None) × (request.limit ≡ limit_in selection) × (request.masks ≡ masks_in selection)
+    (selection_refusal q h selection ≡ None) × (request.limit ≡ limit_in selection)
+    × (request.masks ≡ masks_in selection)
 IsRequest q h selection (Err code) = selection_refusal q h selection ≡ Some code
 
 -- an access that is not refused picks these of the kept samples
-pub record Picks (q : ReaderQos) (h : List Happening) (selection : Selection) (test : Key → List ℕ → Bool) (ks : List Kept) (cs : List Candidate) : Type 0 where
+pub record Picks (q : ReaderQos) (h : List Happening) (selection : Selection) (test : Key → List ℕ → Bool)
+    (ks : List Kept) (cs : List Candidate) : Type 0 where
   pub good : selection_refusal q h selection ≡ None
   pub samples_are : map sample_in cs ≡ picked_by q h selection test
   pub each : All (IsCandidate q h ks) cs
@@ -99,7 +101,8 @@ IsCollection ks cs collection =
     → collection ≡ collection_of q h (map sample_in cs)
 
 -- an access that is not refused finds these samples, and this is their collection
-pub record IsAccess (q : ReaderQos) (h : List Happening) (selection : Selection) (test : Key → List ℕ → Bool) (positions : List SamplePosition) (collection : List Sample) : Type 0 where
+pub record IsAccess (q : ReaderQos) (h : List Happening) (selection : Selection) (test : Key → List ℕ → Bool)
+    (positions : List SamplePosition) (collection : List Sample) : Type 0 where
   pub good : selection_refusal q h selection ≡ None
   pub positions_are : positions ≡ picked_by q h selection test
   pub collection_is : collection ≡ collection_of q h positions

@@ -7,7 +7,15 @@ use Rattle.dds_instances.specs.Table.{alive_of, happened_of, room_of}
 
 -- what a contract sees of a cache
 abbrev pub stored_of : Inside → Stored
-stored_of a = record { qos = a.qos; instances = a.instances; samples = a.samples.items; arrivals = a.arrivals; room = a.room; deaths = a.deaths; data_at = a.data_at }
+stored_of a = record {
+  qos = a.qos;
+  instances = a.instances;
+  samples = a.samples.items;
+  arrivals = a.arrivals;
+  room = a.room;
+  deaths = a.deaths;
+  data_at = a.data_at;
+}
 
 -- there is memory for so many more entries, and the counts of each kept sample can be added; where there is room for
 -- deaths they can be counted, and each instance that is alive may leave a sample

@@ -48,7 +48,8 @@ deaths_of stored = stored.deaths
 pub record StandsFor (stored : Stored) (h : List Happening) : Type 0 where
   pub instances : Stands stored.qos stored.instances h
   pub each : All (IsKept stored.qos h) stored.samples
-  pub present : (i : Key) → filter (is_present stored.qos h i) (up_to (length h)) ≡ positions_in stored.qos h i stored.samples
+  pub present : (i : Key) → filter (is_present stored.qos h i)
+      (up_to (length h)) ≡ positions_in stored.qos h i stored.samples
   pub unread : (i : Key) (j : ℕ) → length h < j → is_read (sample_at i j) h ≡ false
   pub untaken : (i : Key) (j : ℕ) → length h < j → is_taken (sample_at i j) h ≡ false
   pub arrivals_are : stored.arrivals ≡ min (arrivals h) (2 ^ 31 - 1)
@@ -68,7 +69,8 @@ refusal stored h selection = selection_refusal (qos_of stored) h selection
 
 -- the answer of an access by a test: the collection, or NO_DATA where nothing is picked; or the first cause that refuses
 -- it, or MEMORY where there is none
-abbrev pub AnswersWith : Stored → List Happening → Selection → (Key → List ℕ → Bool) → Result (List Sample) Code → Type 0
+abbrev pub AnswersWith : Stored → List Happening → Selection → (Key → List ℕ → Bool) → Result (List Sample) Code
+    → Type 0
 AnswersWith stored h selection test (Ok samples) =
     (refusal stored h selection ≡ None) × (picked_with stored h selection test ≢ [])
     × (samples ≡ collection_of (qos_of stored) h (picked_with stored h selection test))
@@ -82,11 +84,14 @@ Answers stored h selection result = AnswersWith stored h selection no_filter res
 
 -- what a cache is after an access by a test that was answered so: it stands for one entry more, the access, also where
 -- that found nothing; any other refusal leaves it as it was
-abbrev pub AfterAccessWith : (List SamplePosition → Happening) → Stored → List Happening → Selection → (Key → List ℕ → Bool) → Result (List Sample) Code → Stored → Type 0
-AfterAccessWith entry old h selection test (Ok samples) new = StandsFor new (entry (picked_with old h selection test) ∷ h)
+abbrev pub AfterAccessWith : (List SamplePosition → Happening) → Stored → List Happening → Selection
+    → (Key → List ℕ → Bool) → Result (List Sample) Code → Stored → Type 0
+AfterAccessWith entry old h selection test (Ok samples) new =
+    StandsFor new (entry (picked_with old h selection test) ∷ h)
 AfterAccessWith entry old h selection test (Err NoData) new = StandsFor new (entry [] ∷ h)
 AfterAccessWith entry old h selection test (Err code) new = new ≡ old
 
 -- after one without a filter
-abbrev pub AfterAccess : (List SamplePosition → Happening) → Stored → List Happening → Selection → Result (List Sample) Code → Stored → Type 0
+abbrev pub AfterAccess : (List SamplePosition → Happening) → Stored → List Happening → Selection
+    → Result (List Sample) Code → Stored → Type 0
 AfterAccess entry old h selection result new = AfterAccessWith entry old h selection no_filter result new

@@ -17,7 +17,8 @@ use std::alloc::Global;
 
 /// Whether a change will be an accepted write.
 pub fn is_accepted_write(instances: &Instances, qos: &ReaderQos, arrival: &Arrival) -> bool
-    ensures { (h : List Happening) → Stands qos.now instances.now h → result ≡ ends_with_write qos.now arrival.now.change.key (Came arrival.now ∷ h) }
+    ensures { (h : List Happening) → Stands qos.now instances.now h
+        → result ≡ ends_with_write qos.now arrival.now.change.key (Came arrival.now ∷ h) }
 {
     match arrival.change.kind {
         ChangeKind::Write => instances.accepts(qos, arrival),
@@ -44,7 +45,10 @@ pub fn left_by(
     arrival: Arrival,
     is_write: bool,
 ) -> Option<Kept>
-    ensures left { (h : List Happening) → Stands qos.now instances.now (Came arrival ∷ h) → is_write ≡ ends_with_write qos.now arrival.change.key (Came arrival ∷ h) → IsFresh h arrival.change.key → MatchOption result (is_present qos.now (Came arrival ∷ h) arrival.change.key (length h + 1) ≡ false) (IsKeptAt qos.now (Came arrival ∷ h) arrival.change.key (length h + 1)) }
+    ensures left { (h : List Happening) → Stands qos.now instances.now (Came arrival ∷ h)
+        → is_write ≡ ends_with_write qos.now arrival.change.key (Came arrival ∷ h) → IsFresh h arrival.change.key
+        → MatchOption result (is_present qos.now (Came arrival ∷ h) arrival.change.key (length h + 1) ≡ false)
+        (IsKeptAt qos.now (Came arrival ∷ h) arrival.change.key (length h + 1)) }
     ensures small { IfSome result IsSmall }
 {
     let Arrival { writer, change, .. } = arrival;
@@ -88,7 +92,9 @@ pub fn add_left(
     requires room { vec_len samples.old < vec_capacity samples.old }
     ensures len { vec_len samples.new ≤ vec_len samples.old + 1 }
     ensures capacity { vec_capacity samples.old ≤ vec_capacity samples.new }
-    ensures samples { (h : List Happening) → Stands qos.now instances.now (Came arrival ∷ h) → is_write ≡ ends_with_write qos.now arrival.change.key (Came arrival ∷ h) → IsFresh h arrival.change.key → Adds qos.now (Came arrival) h samples.old.items samples.new.items }
+    ensures samples { (h : List Happening) → Stands qos.now instances.now (Came arrival ∷ h)
+        → is_write ≡ ends_with_write qos.now arrival.change.key (Came arrival ∷ h) → IsFresh h arrival.change.key
+        → Adds qos.now (Came arrival) h samples.old.items samples.new.items }
     ensures small { All IsSmall samples.old.items → All IsSmall samples.new.items }
 {
     if let Some(kept) = left_by(alloc, instances, qos, arrival, is_write) {

@@ -228,8 +228,11 @@ impl ReaderCache {
 
     /// Takes up an entry that says nothing of any instance.
     fn skip(&mut self) -> Result<(), Code>
-        ensures passed { OnOk result ((h : List Happening) (w first last : ℕ) → StandsFor self.old h → StandsFor self.new (Passed w first last ∷ h)) }
-        ensures heard { OnOk result ((h : List Happening) (w moment : ℕ) → StandsFor self.old h → StandsFor self.new (Heard w moment ∷ h)) }
+        ensures passed { OnOk result
+            ((h : List Happening) (w first last : ℕ) → StandsFor self.old h
+            → StandsFor self.new (Passed w first last ∷ h)) }
+        ensures heard { OnOk result
+            ((h : List Happening) (w moment : ℕ) → StandsFor self.old h → StandsFor self.new (Heard w moment ∷ h)) }
         ensures qos { qos_of self.new ≡ qos_of self.old }
         ensures reserved { 1 ≤ room_of self.old → IsOk result }
         ensures room { room_of self.old ≤ room_of self.new + 1 }
@@ -283,7 +286,8 @@ impl ReaderCache {
         // The writer is a matched one.
         requires matched { IsMatched (qos_of self.old) writer }
         // They were passed over, and nothing else happened.
-        ensures ok { OnOk result ((h : List Happening) → StandsFor self.old h → StandsFor self.new (Passed writer first last ∷ h)) }
+        ensures ok { OnOk result
+            ((h : List Happening) → StandsFor self.old h → StandsFor self.new (Passed writer first last ∷ h)) }
         // The policies stay.
         ensures qos { qos_of self.new ≡ qos_of self.old }
         // Where there is room it is taken up.
@@ -311,7 +315,8 @@ impl ReaderCache {
         // The writer is a matched one.
         requires matched { IsMatched (qos_of self.old) writer }
         // It was heard, and nothing else happened.
-        ensures ok { OnOk result ((h : List Happening) → StandsFor self.old h → StandsFor self.new (Heard writer moment ∷ h)) }
+        ensures ok { OnOk result
+            ((h : List Happening) → StandsFor self.old h → StandsFor self.new (Heard writer moment ∷ h)) }
         // The policies stay.
         ensures qos { qos_of self.new ≡ qos_of self.old }
         // Where there is room it is taken up.
@@ -339,7 +344,8 @@ impl ReaderCache {
         // The writer is a matched one.
         requires matched { IsMatched (qos_of self.old) writer }
         // The writer died, and nothing else happened.
-        ensures ok { OnOk result ((h : List Happening) → StandsFor self.old h → StandsFor self.new (Died writer moment ∷ h)) }
+        ensures ok { OnOk result
+            ((h : List Happening) → StandsFor self.old h → StandsFor self.new (Died writer moment ∷ h)) }
         // The policies stay.
         ensures qos { qos_of self.new ≡ qos_of self.old }
         // Where there is room for a death it is taken up.
@@ -366,7 +372,8 @@ impl ReaderCache {
     /// DDS 1.4, 2.2.3 (RESOURCE_LIMITS).
     pub fn has_room(&self, arrival: &Arrival) -> bool
         // It is so by the definitions.
-        ensures room { (h : List Happening) → StandsFor self.now h → result ≡ has_room (qos_of self.now) h (Came arrival.now) }
+        ensures room { (h : List Happening) → StandsFor self.now h
+            → result ≡ has_room (qos_of self.now) h (Came arrival.now) }
     {
         is_room(
             &self.instances,
@@ -461,7 +468,8 @@ impl ReaderCache {
         // first cause that there is, or for want of memory.
         ensures answer { (h : List Happening) → StandsFor self.old h → Answers self.old h selection result }
         // The read is entered, and nothing else; one that is refused is not.
-        ensures after { (h : List Happening) → StandsFor self.old h → AfterAccess Read self.old h selection result self.new }
+        ensures after { (h : List Happening) → StandsFor self.old h
+            → AfterAccess Read self.old h selection result self.new }
         // The policies stay.
         ensures qos { qos_of self.new ≡ qos_of self.old }
         // It takes the room of one entry at most.
@@ -514,7 +522,8 @@ impl ReaderCache {
         // first cause that there is, or for want of memory.
         ensures answer { (h : List Happening) → StandsFor self.old h → Answers self.old h selection result }
         // The take is entered, and nothing else; one that is refused is not.
-        ensures after { (h : List Happening) → StandsFor self.old h → AfterAccess Took self.old h selection result self.new }
+        ensures after { (h : List Happening) → StandsFor self.old h
+            → AfterAccess Took self.old h selection result self.new }
         // The policies stay.
         ensures qos { qos_of self.new ≡ qos_of self.old }
         // It takes the room of one entry at most.

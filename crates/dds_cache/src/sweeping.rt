@@ -25,7 +25,8 @@ fn is_still_live(instances: &Instances, qos: &ReaderQos, kept: &Kept) -> bool
 
 /// Lets the samples go that are no longer present.
 pub fn sweep(instances: &Instances, qos: &ReaderQos, samples: &mut Vec<Kept>)
-    ensures items { (h : List Happening) → Stands qos.now instances.now h → samples.new.items ≡ filter (stays qos.now h) samples.old.items }
+    ensures items { (h : List Happening) → Stands qos.now instances.now h
+        → samples.new.items ≡ filter (stays qos.now h) samples.old.items }
     ensures small { All IsSmall samples.old.items → All IsSmall samples.new.items }
     ensures len { vec_len samples.new ≤ vec_len samples.old }
     ensures capacity { vec_capacity samples.new ≡ vec_capacity samples.old }

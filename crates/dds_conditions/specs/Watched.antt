@@ -85,7 +85,8 @@ without c waiting = option_map (λ (s : Waiting). record s { conditions = detach
 
 -- a condition is deleted, and so detached
 abbrev pub without_condition : Watched → ℕ → Watched
-without_condition w n = record w { conditions = with_made w.conditions n None; wait_sets = map (without (Made n)) w.wait_sets }
+without_condition w n = record w
+    { conditions = with_made w.conditions n None; wait_sets = map (without (Made n)) w.wait_sets }
 
 -- ---- filters
 
@@ -169,7 +170,8 @@ attach_refusal w n c = unless_there (is_some (made w.wait_sets n) && knows w c)
 
 -- a WaitSet to which a condition was attached (attach_condition)
 abbrev pub with_attached : Watched → ℕ → Cond → Watched
-with_attached w n c = with_wait_set_at w n (option_map (λ (s : Waiting). record s { conditions = attached c s.conditions }) (made w.wait_sets n))
+with_attached w n c = with_wait_set_at w n
+    (option_map (λ (s : Waiting). record s { conditions = attached c s.conditions }) (made w.wait_sets n))
 
 -- why a condition can't be detached: no such WaitSet, no such condition, or it is not attached
 abbrev pub detaching_refusal : Watched → ℕ → Cond → Option Code
@@ -182,7 +184,8 @@ with_detached w n c = with_wait_set_at w n (without c (made w.wait_sets n))
 
 -- a WaitSet in which somebody waits up to this moment, or nobody
 abbrev pub with_deadline : Watched → ℕ → Option ℕ → Watched
-with_deadline w n deadline = with_wait_set_at w n (option_map (λ (s : Waiting). record s { deadline = deadline }) (made w.wait_sets n))
+with_deadline w n deadline =
+    with_wait_set_at w n (option_map (λ (s : Waiting). record s { deadline = deadline }) (made w.wait_sets n))
 
 -- the moment has come, or there is none
 abbrev pub has_come : Option ℕ → ℕ → Bool

@@ -355,7 +355,8 @@ impl Watch {
     pub fn conditions(&self, number: u32) -> Result<Sequence<Cond>, Code>
         ensures ok { IfOk result (λ conditions. conditions ≡ conditions_of self.now number) }
         ensures taken { OnOk result (unless_there (is_some (made self.now.wait_sets number)) ≡ None) }
-        ensures refused { IfErr result (λ code. Refuses (unless_there (is_some (made self.now.wait_sets number))) code) }
+        ensures refused { IfErr result
+            (λ code. Refuses (unless_there (is_some (made self.now.wait_sets number))) code) }
     {
         let waiting = self.wait_set(number).ok_or(Code::BadParameter)?;
         let conditions = Vec::from_slice(self.alloc, waiting.conditions.conditions())?;
@@ -432,7 +433,8 @@ impl Watch {
     ///
     /// DDS 1.4, 2.2.2.1 (wait: timeout).
     pub fn deadline(&self, number: u32) -> Result<Moment, Code>
-        ensures ok { IfOk result (λ moment. (now : ℕ) → is_timed_out (made self.now.wait_sets number) now ≡ nat_le moment now) }
+        ensures ok { IfOk result
+            (λ moment. (now : ℕ) → is_timed_out (made self.now.wait_sets number) now ≡ nat_le moment now) }
         ensures taken { OnOk result (use_refusal (made self.now.wait_sets number) ≡ None) }
         ensures refused { IfErr result (λ code. use_refusal (made self.now.wait_sets number) ≡ Some code) }
     {
@@ -490,7 +492,8 @@ impl Watch {
     ///
     /// DDS 1.4, 2.2.2.1 (StatusCondition, get_enabled_statuses).
     pub fn enabled(&self, entity: Entity) -> Option<StatusMask>
-        ensures there { IfSome result (λ mask. (knows_entity self.now entity ≡ true) × ((none : Mask) → mask ≡ enabled_of self.now entity none)) }
+        ensures there { IfSome result
+            (λ mask. (knows_entity self.now entity ≡ true) × ((none : Mask) → mask ≡ enabled_of self.now entity none)) }
         ensures none { IfNone result (knows_entity self.now entity ≡ false) }
     {
         if !self.knows_entity(entity) {

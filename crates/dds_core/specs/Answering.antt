@@ -37,7 +37,8 @@ use Rattle.dds_core.specs.Standing.{StandsFor}
 -- ---- whom an ACKNACK is from
 
 -- it is for the writer of this entity of the peer, and from the reader of this name
-pub record IsFrom (own : GuidPrefix) (entity : EntityId) (at : Receiver) (a : AckNackBody) (name : ReaderName) : Type 0 where
+pub record IsFrom (own : GuidPrefix) (entity : EntityId) (at : Receiver) (a : AckNackBody)
+    (name : ReaderName) : Type 0 where
   pub named : Names a.reader_id name.guid.entity
   pub is_for : is_for at own ≡ true
   pub writer : a.writer_id ≡ entity
@@ -56,9 +57,11 @@ IsRoom own entity at a name None = IsFrom own entity at a name → ⊥
 IsRoom own entity at a name (Some room) = IsFrom own entity at a name × HasRoom a.reader_sn_state room
 
 -- so it is of each of these readers
-pub record AreRooms (own : GuidPrefix) (entity : EntityId) (at : Receiver) (a : AckNackBody) (names : List ReaderName) (rooms : List (Option Room)) : Type 0 where
+pub record AreRooms (own : GuidPrefix) (entity : EntityId) (at : Receiver) (a : AckNackBody) (names : List ReaderName)
+    (rooms : List (Option Room)) : Type 0 where
   pub count : length rooms ≡ length names
-  pub each : (i : ℕ) (name : ReaderName) (room : Option Room) → slice_get names i ≡ Some name → slice_get rooms i ≡ Some room → IsRoom own entity at a name room
+  pub each : (i : ℕ) (name : ReaderName) (room : Option Room) → slice_get names i ≡ Some name
+      → slice_get rooms i ≡ Some room → IsRoom own entity at a name room
 
 -- each room that is there is such a one
 abbrev pub HaveRoom : NumberSet → List (Option Room) → Type 0
@@ -68,7 +71,8 @@ HaveRoom numbers rooms = (i : ℕ) (room : Room) → slice_get rooms i ≡ Some 
 
 -- the answer can be written: its change is kept, and small; or its numbers are some that the wire has
 abbrev pub IsAnswerableIn : WriterState → Answer → Type 0
-IsAnswerableIn s (Data number) = (change : Change) × (kept_change (history_of s) number ≡ Some change) × (length change.value ≤ 1024)
+IsAnswerableIn s (Data number) =
+    (change : Change) × (kept_change (history_of s) number ≡ Some change) × (length change.value ≤ 1024)
 IsAnswerableIn s (Gap first last) = (1 ≤ first) × (first ≤ last) × (last < 2 ^ 62)
 
 -- the writer that keeps this can give the answer
@@ -92,10 +96,13 @@ pub record AreAnswerable (kept : Kept) (answers : List Answer) : Type 0 where
 
 -- a message with answers that is due
 abbrev pub answer_due : Answering → List Change → List Answer → Due
-answer_due a changes answers = due_to a.reader.reader.peer (answer_message a.own a.reader.guid.prefix a.reader.guid.entity a.entity changes answers)
+answer_due a changes answers =
+    due_to a.reader.reader.peer
+    (answer_message a.own a.reader.guid.prefix a.reader.guid.entity a.entity changes answers)
 
 -- the answers are sent, eight in a packet but in the last one
-pub record SendsAnswers (answering : Answering) (changes : List Change) (answers : List Answer) (sent gone : Announced) : Type 0 where
+pub record SendsAnswers (answering : Answering) (changes : List Change) (answers : List Answer)
+    (sent gone : Announced) : Type 0 where
   pub groups : List (List Answer)
   pub grouped : AreGrouped answers groups
   pub adds : AddsTo (map (answer_due answering changes) groups) sent gone
@@ -103,14 +110,18 @@ pub record SendsAnswers (answering : Answering) (changes : List Change) (answers
 -- ---- what a writer does
 
 -- a writer in this state took the ACKNACK of its reader of this row
-pub record TookAckNack (old : WriterKept) (own : GuidPrefix) (row : ℕ) (a : AckNackBody) (sent : Announced) (new : WriterKept) (acknowledged : Option ℕ) (gone : Announced) (s : WriterState) : Type 0 where
+pub record TookAckNack (old : WriterKept) (own : GuidPrefix) (row : ℕ) (a : AckNackBody) (sent : Announced)
+    (new : WriterKept) (acknowledged : Option ℕ) (gone : Announced) (s : WriterState) : Type 0 where
   pub stands : RtpsStandsFor new.writer (after_acknack s row a.reader_sn_state.base a.count)
   pub acknowledged_is : acknowledged ≡ newly_acknowledged s (after_acknack s row a.reader_sn_state.base a.count) row
   pub sends : (name : ReaderName) → slice_get old.readers row ≡ Some name
-      → SendsAnswers (record { own = own; entity = old.entity; reader = name }) (changes_of s.written) (acknack_answers s row a.reader_sn_state.base a.reader_sn_state a.count) sent gone
+      → SendsAnswers (record { own = own; entity = old.entity; reader = name }) (changes_of s.written)
+      (acknack_answers s row a.reader_sn_state.base a.reader_sn_state a.count) sent gone
 
-abbrev pub TakesAckNack : WriterKept → GuidPrefix → ℕ → AckNackBody → Announced → WriterKept → Option ℕ → Announced → Type 0
-TakesAckNack old own row a sent new acknowledged gone = (s : WriterState) → RtpsStandsFor old.writer s → TookAckNack old own row a sent new acknowledged gone s
+abbrev pub TakesAckNack : WriterKept → GuidPrefix → ℕ → AckNackBody → Announced → WriterKept → Option ℕ → Announced
+    → Type 0
+TakesAckNack old own row a sent new acknowledged gone =
+    (s : WriterState) → RtpsStandsFor old.writer s → TookAckNack old own row a sent new acknowledged gone s
 
 -- ---- what a peer does
 
@@ -126,7 +137,8 @@ acknowledged_moves writer reader None = []
 acknowledged_moves writer reader (Some to) = Acknowledged writer reader to ∷ []
 
 -- the writer of this index, which keeps this, took the ACKNACK of its reader of this row
-pub record RowTook (old : PeerKept) (index row : ℕ) (a : AckNackBody) (k : WriterKept) (name : ReaderName) (moves : List Move) (sent : Announced) (new : PeerKept) (after : List Move) (gone : Announced) : Type 0 where
+pub record RowTook (old : PeerKept) (index row : ℕ) (a : AckNackBody) (k : WriterKept) (name : ReaderName)
+    (moves : List Move) (sent : Announced) (new : PeerKept) (after : List Move) (gone : Announced) : Type 0 where
   pub acknowledged : Option ℕ
   pub writer : WriterKept
   pub same : writer_identity writer ≡ writer_identity k
@@ -135,21 +147,29 @@ pub record RowTook (old : PeerKept) (index row : ℕ) (a : AckNackBody) (k : Wri
   pub after_is : after ≡ moves ++ acknowledged_moves (index + 1) name.reader acknowledged
 
 abbrev pub TakesRow : PeerKept → ℕ → ℕ → AckNackBody → List Move → Announced → PeerKept → List Move → Announced → Type 0
-TakesRow old index row a moves sent new after gone = (k : WriterKept) (name : ReaderName) → slice_get old.writers index ≡ Some k → slice_get k.readers row ≡ Some name → RowTook old index row a k name moves sent new after gone
+TakesRow old index row a moves sent new after gone =
+    (k : WriterKept) (name : ReaderName) → slice_get old.writers index ≡ Some k → slice_get k.readers row ≡ Some name
+    → RowTook old index row a k name moves sent new after gone
 
 -- for each state that the old values stand for, the writer of this index took the ACKNACK as to each of these readers
-pub record RowsTook (config : Config) (own : GuidPrefix) (at : Receiver) (a : AckNackBody) (index : ℕ) (names : List ReaderName) (peer : Peer) (made : List Move) (sent : Announced) (new : PeerKept) (gone : Announced) : Type 0 where
+pub record RowsTook (config : Config) (own : GuidPrefix) (at : Receiver) (a : AckNackBody) (index : ℕ)
+    (names : List ReaderName) (peer : Peer) (made : List Move) (sent : Announced) (new : PeerKept)
+    (gone : Announced) : Type 0 where
   pub state : State
   pub dues : List Due
-  pub turn : InTurn (λ (n : ReaderName). WriterTakes config own peer.number at a (suc index) n.reader) names (state_of peer) made dues state
+  pub turn : InTurn (λ (n : ReaderName). WriterTakes config own peer.number at a (suc index) n.reader) names
+      (state_of peer) made dues state
   pub stands : StandsFor new config (with_state peer state)
   pub adds : AddsTo dues sent gone
 
 -- so many of the readers of the writer of this index, which keeps this, were answered
-pub record TakesRows (old : PeerKept) (index : ℕ) (a : AckNackBody) (k : WriterKept) (rooms : List (Option Room)) (count : ℕ) (moves : List Move) (sent : Announced) (now : PeerKept) (after : List Move) (gone : Announced) : Type 0 where
+pub record TakesRows (old : PeerKept) (index : ℕ) (a : AckNackBody) (k : WriterKept) (rooms : List (Option Room))
+    (count : ℕ) (moves : List Move) (sent : Announced) (now : PeerKept) (after : List Move)
+    (gone : Announced) : Type 0 where
   pub made : List Move
   pub after_is : after ≡ moves ++ made
-  pub takes : (at : Receiver) → AreRooms old.prefix k.entity at a k.readers rooms → (config : Config) (peer : Peer) → StandsFor old config peer
+  pub takes : (at : Receiver) → AreRooms old.prefix k.entity at a k.readers rooms → (config : Config) (peer : Peer)
+      → StandsFor old config peer
       → RowsTook config old.prefix at a index (take count k.readers) peer made sent now gone
   pub there : WriterKept
   pub at : slice_get now.writers index ≡ Some there
@@ -157,5 +177,8 @@ pub record TakesRows (old : PeerKept) (index : ℕ) (a : AckNackBody) (k : Write
   pub prefix : now.prefix ≡ old.prefix
   pub others : length now.writers ≡ length old.writers
 
-abbrev pub TakesAllRows : PeerKept → ℕ → AckNackBody → List (Option Room) → List Move → Announced → PeerKept → List Move → Announced → Type 0
-TakesAllRows old index a rooms moves sent new after gone = (k : WriterKept) → slice_get old.writers index ≡ Some k → TakesRows old index a k rooms (length k.readers) moves sent new after gone
+abbrev pub TakesAllRows : PeerKept → ℕ → AckNackBody → List (Option Room) → List Move → Announced → PeerKept → List Move
+    → Announced → Type 0
+TakesAllRows old index a rooms moves sent new after gone =
+    (k : WriterKept) → slice_get old.writers index ≡ Some k
+    → TakesRows old index a k rooms (length k.readers) moves sent new after gone

@@ -52,7 +52,8 @@ told_to beat ds = map (λ (d : Destination). due_to d.peer (message_to beat d.pr
 
 -- some matched reader of this peer has not acknowledged all changes of the writer
 abbrev pub is_peer_behind : Writer → ℕ → Bool
-is_peer_behind w peer = list_any (λ (p : ReaderProxy). (p.reader.peer == peer) && nat_le p.acknowledged (length (writer_changes w))) w.readers
+is_peer_behind w peer = list_any
+    (λ (p : ReaderProxy). (p.reader.peer == peer) && nat_le p.acknowledged (length (writer_changes w))) w.readers
 
 -- those of these peers with a reader that is behind
 abbrev pub peers_behind : Writer → List Destination → List Destination
@@ -65,13 +66,15 @@ beats_to beat w ds = told_to beat (peers_behind w ds)
 -- what tells an assertion of a writer, from a peer of this prefix
 abbrev pub assertions_of : GuidPrefix → WriterKept → Writer → List Due
 assertions_of prefix kept w =
-    if has_readers w then map (λ (d : Destination). due_to d.peer (assertion_message prefix d.prefix kept.entity w)) kept.destinations else []
+    if has_readers w then map
+    (λ (d : Destination). due_to d.peer (assertion_message prefix d.prefix kept.entity w)) kept.destinations else []
 
 -- what is due at a tick of a writer, from a peer of this prefix
 abbrev pub beats_of : GuidPrefix → WriterKept → Writer → List Due
 beats_of prefix kept w =
     if nat_lt (heartbeats_used w) (2 ^ 31 - 1)
-    then map (λ (d : Destination). due_to d.peer (heartbeat_message prefix d.prefix kept.entity w)) (peers_behind w kept.destinations)
+    then map (λ (d : Destination). due_to d.peer (heartbeat_message prefix d.prefix kept.entity w))
+    (peers_behind w kept.destinations)
     else []
 
 -- what is due at a tick of these writers, in their order
@@ -95,16 +98,21 @@ AddsTo dues old new = Adds dues old.packets.items old.unsent new.packets.items n
 -- for each writer that a writer's parts stand for, the HEARTBEATs to these peers are added
 abbrev pub Beats : Beat → Kept → List ReaderName → List Destination → List Packet → ℕ → List Packet → ℕ → Type 0
 Beats beat kept readers ds old before new after = (w : Writer) (answered : Endpoint → Option ℤ)
-    → map (λ (p : ReaderProxy). p.reader) w.readers ≡ map (λ (r : ReaderName). r.reader) readers → RtpsStandsFor kept (state_of w answered)
+    → map (λ (p : ReaderProxy). p.reader) w.readers ≡ map (λ (r : ReaderName). r.reader) readers
+    → RtpsStandsFor kept (state_of w answered)
     → Adds (beats_to beat w ds) old before new after
 
 -- for each writer that is stood for, what is due at its tick is added
 abbrev pub BeatsOf : GuidPrefix → WriterKept → List Packet → ℕ → List Packet → ℕ → Type 0
-BeatsOf prefix kept old before new after = (w : Writer) (answered : Endpoint → Option ℤ) → WriterStands kept w answered → Adds (beats_of prefix kept w) old before new after
+BeatsOf prefix kept old before new after =
+    (w : Writer) (answered : Endpoint → Option ℤ) → WriterStands kept w answered
+    → Adds (beats_of prefix kept w) old before new after
 
 -- the same of a peer's writers, from the first
 abbrev pub BeatsOfAll : GuidPrefix → List WriterKept → List Packet → ℕ → Type 0
-BeatsOfAll prefix kept packets unsent = (ws : List Writer) (answered : ℕ → Endpoint → Option ℤ) → WritersStand kept ws answered → AreSent (beats_of_all prefix kept ws) packets unsent
+BeatsOfAll prefix kept packets unsent =
+    (ws : List Writer) (answered : ℕ → Endpoint → Option ℤ) → WritersStand kept ws answered
+    → AreSent (beats_of_all prefix kept ws) packets unsent
 
 -- for each writer that is stood for, there was a count left for an assertion, and what tells of it is sent
 abbrev pub TellsOf : GuidPrefix → WriterKept → List Packet → ℕ → Type 0

@@ -25,7 +25,8 @@ HaveRoomForDeaths now readers = All (λ (r : ReaderKept). HasRoomForDeaths now r
 -- a reader at which those died that die at this moment, and nothing else happened
 pub record Expires (old : ReaderKept) (now : ℕ) (new : ReaderKept) : Type 0 where
   pub same : reader_identity new ≡ reader_identity old
-  pub stands : (proxies : List WriterProxy) (r : Reader) (tracked : Endpoint → Tracked) → ReaderStands old proxies r tracked
+  pub stands : (proxies : List WriterProxy) (r : Reader) (tracked : Endpoint → Tracked)
+      → ReaderStands old proxies r tracked
       → ReaderStands new proxies (reader_ticked now r) tracked
 
 -- the same of each of these readers

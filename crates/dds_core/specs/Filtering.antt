@@ -27,9 +27,11 @@ pub record StandsFor {F : Type 0} (kept : FilteredKept F) (config : Config) (pee
 -- For each state that the old values stand for, and of which all that is known was claimed, the event is a step by what the
 -- filters mean to one that the new values stand for, and of which all that is known was claimed; a delivery follows the rules
 -- of the protocol. The filters stay.
-pub record Steps {F : Type 0} (tests : Tests) (old : FilteredKept F) (event : Event) (output : Output) (new : FilteredKept F) : Type 0 where
+pub record Steps {F : Type 0} (tests : Tests) (old : FilteredKept F) (event : Event) (output : Output)
+    (new : FilteredKept F) : Type 0 where
   pub step : (config : Config) (peer : Peer) → StandsFor old config peer → IsSound config peer
-      → (after : Peer) × PeerStep config tests peer event output after × StandsFor new config after × IsSound config after
+      → (after : Peer) × PeerStep config tests peer event output after × StandsFor new config after
+      × IsSound config after
       × KeepsRules config peer event output after
   pub filters : new.filters ≡ old.filters
 
@@ -38,9 +40,11 @@ pub record Steps {F : Type 0} (tests : Tests) (old : FilteredKept F) (event : Ev
 pub record Adds {F : Type 0} (old : FilteredKept F) (filter : F) (number : ℕ) (new : FilteredKept F) : Type 0 where
   pub filters : new.filters ≡ old.filters ++ filter ∷ []
   pub adds : (config : Config) (peer : Peer) → StandsFor old config peer
-      → (filter_refusal peer.part.dds.watch ≡ None) × (number ≡ length old.filters + 1) × StandsFor new config (peer_with_filter peer)
+      → (filter_refusal peer.part.dds.watch ≡ None) × (number ≡ length old.filters + 1)
+      × StandsFor new config (peer_with_filter peer)
       × (IsSound config peer → IsSound config (peer_with_filter peer))
 
 -- for each state that the old values stand for, a filter is refused so: for want of a number, or else of memory
 abbrev pub RefusesFilter : {F : Type 0} → FilteredKept F → Code → Type 0
-RefusesFilter old code = (config : Config) (peer : Peer) → StandsFor old config peer → Refuses (filter_refusal peer.part.dds.watch) code
+RefusesFilter old code =
+    (config : Config) (peer : Peer) → StandsFor old config peer → Refuses (filter_refusal peer.part.dds.watch) code

@@ -65,17 +65,25 @@ pub record Identity : Type 0 where
   pub readers : List ReaderIdentity
 
 abbrev pub writer_identity : WriterKept → WriterIdentity
-writer_identity w = record { entity = w.entity; autodispose = w.autodispose; destinations = w.destinations; readers = w.readers }
+writer_identity w = record
+    { entity = w.entity; autodispose = w.autodispose; destinations = w.destinations; readers = w.readers }
 
 abbrev pub reader_identity : ReaderKept → ReaderIdentity
 reader_identity r = record { entity = r.entity; writers = r.writers }
 
 abbrev pub identity_of : PeerKept → Identity
-identity_of kept = record { prefix = kept.prefix; writers = map writer_identity kept.writers; readers = map reader_identity kept.readers }
+identity_of kept = record
+    { prefix = kept.prefix; writers = map writer_identity kept.writers; readers = map reader_identity kept.readers }
 
 -- the same, as the configuration says it
 abbrev pub configured_writer : List PeerConfig → WriterConfig → WriterIdentity
-configured_writer peers w = record { entity = w.entity; autodispose = w.autodispose; destinations = destinations w.topic 1 peers; readers = reader_names w.topic peers }
+configured_writer peers w =
+    record {
+      entity = w.entity;
+      autodispose = w.autodispose;
+      destinations = destinations w.topic 1 peers;
+      readers = reader_names w.topic peers;
+    }
 
 abbrev pub configured_reader : List PeerConfig → ReaderConfig → ReaderIdentity
 configured_reader peers r = record { entity = r.entity; writers = writer_names r.topic peers }

@@ -28,21 +28,25 @@ abbrev pub IsValueOf : ChangeKind → List ℕ → Type 0
 IsValueOf k value = k ≢ kind.Write → value ≡ []
 
 -- the change is refused, as the history says or for want of memory, and that is all
-pub record IsNotMade (config : Config) (peer : Peer) (writer : ℕ) (change : Change) (output : Output) (new : PeerKept) : Type 0 where
+pub record IsNotMade (config : Config) (peer : Peer) (writer : ℕ) (change : Change) (output : Output)
+    (new : PeerKept) : Type 0 where
   pub code : Code
   pub cause : Refuses (change_refusal peer.part writer change) code
   pub output_is : output ≡ record { reply = Refused code; packets = []; unsent = 0 }
   pub stands : StandsFor new config peer
 
 -- the change is made and announced, and what is sent claims the truth
-pub record IsMade (config : Config) (peer : Peer) (writer : ℕ) (change : Change) (output : Output) (new : PeerKept) : Type 0 where
+pub record IsMade (config : Config) (peer : Peer) (writer : ℕ) (change : Change) (output : Output)
+    (new : PeerKept) : Type 0 where
   pub accepted : change_refusal peer.part writer change ≡ None
   pub reply : output.reply ≡ Done
   pub sends : SendsFor config peer (writes writer (Changed change)) output
-  pub is_true : (packet : Packet) (claim : Claim) → Contains output.packets packet → Claims config packet.bytes claim → IsTrueAt peer.number (entered peer.part writer change) claim
+  pub is_true : (packet : Packet) (claim : Claim) → Contains output.packets packet → Claims config packet.bytes claim
+      → IsTrueAt peer.number (entered peer.part writer change) claim
   pub stands : StandsFor new config (record peer { part = entered peer.part writer change })
 
 -- one or the other, for each state that the old values stand for
 abbrev pub Makes : PeerKept → ℕ → ChangeKind → Key → List ℕ → Output → PeerKept → Type 0
 Makes old index k key value output new = (config : Config) (peer : Peer) → StandsFor old config peer
-    → IsMade config peer (index + 1) (change_made peer.part k key value) output new ⊎ IsNotMade config peer (index + 1) (change_made peer.part k key value) output new
+    → IsMade config peer (index + 1) (change_made peer.part k key value) output new
+    ⊎ IsNotMade config peer (index + 1) (change_made peer.part k key value) output new

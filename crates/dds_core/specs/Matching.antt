@@ -20,11 +20,14 @@ has_reader topic rs = list_any (λ (r : ReaderConfig). same_topic r.topic topic)
 -- the peers with a reader of the topic, each once; the first of these peers has this number
 abbrev pub destinations : ℕ → ℕ → List PeerConfig → List Destination
 destinations topic peer [] = []
-destinations topic peer (p ∷ ps) = cond (has_reader topic p.readers) (record { peer = peer; prefix = p.prefix } ∷ destinations topic (peer + 1) ps) (destinations topic (peer + 1) ps)
+destinations topic peer (p ∷ ps) =
+    cond (has_reader topic p.readers) (record { peer = peer; prefix = p.prefix } ∷ destinations topic (peer + 1) ps)
+    (destinations topic (peer + 1) ps)
 
 -- the name of a reader
 abbrev pub reader_name : ℕ → PeerConfig → ℕ → ReaderConfig → ReaderName
-reader_name peer p number r = record { reader = record { peer = peer; number = number }; guid = record { prefix = p.prefix; entity = r.entity } }
+reader_name peer p number r =
+    record { reader = record { peer = peer; number = number }; guid = record { prefix = p.prefix; entity = r.entity } }
 
 -- the readers of the topic, in the order of the configuration
 abbrev pub reader_names : ℕ → List PeerConfig → List ReaderName
@@ -32,7 +35,8 @@ reader_names topic peers = of_matched_readers reader_name topic 1 peers
 
 -- the name of a writer
 abbrev pub writer_name : ℕ → PeerConfig → ℕ → WriterConfig → WriterName
-writer_name peer p number w = record { writer = record { peer = peer; number = number }; guid = record { prefix = p.prefix; entity = w.entity } }
+writer_name peer p number w =
+    record { writer = record { peer = peer; number = number }; guid = record { prefix = p.prefix; entity = w.entity } }
 
 -- the writers of the topic, in the order of their publication handles
 abbrev pub writer_names : ℕ → List PeerConfig → List WriterName
@@ -40,4 +44,5 @@ writer_names topic peers = of_matched_writers writer_name topic 1 peers
 
 -- what a reader's QoS says of a matched writer
 abbrev pub matched_writer : ℕ → PeerConfig → ℕ → WriterConfig → MatchedWriter
-matched_writer peer p number w = record { guid = record { prefix = p.prefix; entity = w.entity }; strength = w.strength; lease = w.lease }
+matched_writer peer p number w =
+    record { guid = record { prefix = p.prefix; entity = w.entity }; strength = w.strength; lease = w.lease }

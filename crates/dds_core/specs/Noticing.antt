@@ -23,11 +23,13 @@ pub record IsMarkOf (mark : ReaderMark) (r : Reader) : Type 0 where
 
 -- so it is of each reader that the values stand for
 abbrev pub MarksReader : ReaderKept → ReaderMark → Type 0
-MarksReader kept mark = (proxies : List WriterProxy) (r : Reader) (tracked : Endpoint → Tracked) → ReaderStands kept proxies r tracked → IsMarkOf mark r
+MarksReader kept mark = (proxies : List WriterProxy) (r : Reader) (tracked : Endpoint → Tracked)
+    → ReaderStands kept proxies r tracked → IsMarkOf mark r
 
 -- a mark of a writer, of each that the values stand for
 abbrev pub MarksWriter : WriterKept → ℕ → Type 0
-MarksWriter kept mark = (w : Writer) (answered : Endpoint → Option ℤ) → WriterStands kept w answered → mark ≡ losses_of w
+MarksWriter kept mark = (w : Writer) (answered : Endpoint → Option ℤ) → WriterStands kept w answered
+    → mark ≡ losses_of w
 
 -- the first so many of these are marked so, and the others not at all
 abbrev pub Marked : {K M : Type 0} → (K → M → Type 0) → M → List K → ℕ → List M → Type 0
@@ -43,7 +45,8 @@ MarksReaders kept n marks = Marked MarksReader (record { lost = 0; happened = 0 
 -- the marks of a peer's part
 pub record AreMarksOf (marks : Marks) (part : Part) : Type 0 where
   pub writers : (i mark : ℕ) → slice_get marks.writers i ≡ Some mark → mark ≡ losses_of (own_writer part (suc i))
-  pub readers : (i : ℕ) (mark : ReaderMark) → slice_get marks.readers i ≡ Some mark → IsMarkOf mark (own_reader part (suc i))
+  pub readers : (i : ℕ) (mark : ReaderMark) → slice_get marks.readers i ≡ Some mark
+      → IsMarkOf mark (own_reader part (suc i))
 
 -- so it is for each state that the values stand for
 abbrev pub MarksPeer : PeerKept → Marks → Type 0
@@ -57,12 +60,15 @@ RaisesSo raised kept mark status = (before : Reader) → IsMarkOf mark before
 
 -- a status of a reader was looked at
 abbrev pub SeesStatus : ReaderKept → Status → ReaderKept → Type 0
-SeesStatus old status new = (proxies : List WriterProxy) (r : Reader) (tracked : Endpoint → Tracked) → ReaderStands old proxies r tracked
+SeesStatus old status new =
+    (proxies : List WriterProxy) (r : Reader) (tracked : Endpoint → Tracked) → ReaderStands old proxies r tracked
     → ReaderStands new proxies (record r { seen = seen_by r status }) tracked
 
 -- for each state that a peer stands for, with the places that its listeners stand for, both stand for what the change makes
 -- of it
-abbrev pub Tells : {L : Type 0} → (L → List Notice) → (L → ℕ) → (Part → Part) → PeerKept → Slotted L → PeerKept → Slotted L → Type 0
+abbrev pub Tells : {L : Type 0} → (L → List Notice) → (L → ℕ) → (Part → Part) → PeerKept → Slotted L → PeerKept
+    → Slotted L → Type 0
 Tells notices capacity change old slots new after = (config : Config) (peer : Peer) → StandsFor old config peer
     → SlotsStandFor notices capacity slots peer.part.dds.listeners
-    → StandsFor new config (record peer { part = change peer.part }) × SlotsStandFor notices capacity after (change peer.part).dds.listeners
+    → StandsFor new config (record peer { part = change peer.part })
+    × SlotsStandFor notices capacity after (change peer.part).dds.listeners

@@ -18,7 +18,9 @@ use Rattle.dds_core.specs.Standing.{WriterStands, ReaderStands, StandsFor}
 
 -- why there is no peer of this number: the configuration is refused, or has none
 abbrev pub core_refusal : List PeerConfig → ℕ → Option Code
-core_refusal peers peer = if is_some (check_refusal peers) then check_refusal peers else (if has_number peers peer then None else Some BadParameter)
+core_refusal peers peer =
+    if is_some (check_refusal peers) then check_refusal peers
+    else (if has_number peers peer then None else Some BadParameter)
 
 -- the peer of this number, at the opening
 abbrev pub opening_peer : Config → ℕ → Peer
@@ -32,16 +34,20 @@ pub record OpensWriter (peers : List PeerConfig) (config : WriterConfig) (kept :
 -- a reader that stands for the one of its configuration, at the opening
 pub record OpensReader (peers : List PeerConfig) (config : ReaderConfig) (kept : ReaderKept) : Type 0 where
   pub identity : reader_identity kept ≡ configured_reader peers config
-  pub stands : ReaderStands kept (matched_writers config.topic 1 peers) (record { qos = reader_qos peers config; happened = []; seen = nothing_seen }) (λ w. fresh)
+  pub stands : ReaderStands kept (matched_writers config.topic 1 peers)
+      (record { qos = reader_qos peers config; happened = []; seen = nothing_seen }) (λ w. fresh)
 
 pub record OpenWriters (peers : List PeerConfig) (configs : List WriterConfig) (kept : List WriterKept) : Type 0 where
   pub count : length kept ≡ length configs
-  pub each : (i : ℕ) (w : WriterConfig) (k : WriterKept) → slice_get configs i ≡ Some w → slice_get kept i ≡ Some k → OpensWriter peers w k
+  pub each : (i : ℕ) (w : WriterConfig) (k : WriterKept) → slice_get configs i ≡ Some w → slice_get kept i ≡ Some k
+      → OpensWriter peers w k
 
 pub record OpenReaders (peers : List PeerConfig) (configs : List ReaderConfig) (kept : List ReaderKept) : Type 0 where
   pub count : length kept ≡ length configs
-  pub each : (i : ℕ) (r : ReaderConfig) (k : ReaderKept) → slice_get configs i ≡ Some r → slice_get kept i ≡ Some k → OpensReader peers r k
+  pub each : (i : ℕ) (r : ReaderConfig) (k : ReaderKept) → slice_get configs i ≡ Some r → slice_get kept i ≡ Some k
+      → OpensReader peers r k
 
 -- the peer of this index stands for its opening
 abbrev pub OpensCore : List PeerConfig → ℕ → PeerKept → Type 0
-OpensCore peers index kept = StandsFor kept (record { peers = peers }) (opening_peer (record { peers = peers }) (index + 1))
+OpensCore peers index kept =
+    StandsFor kept (record { peers = peers }) (opening_peer (record { peers = peers }) (index + 1))

@@ -14,7 +14,9 @@ use Rattle.dds_core.specs.declared.pairing.Pair.{Pair}
 
 -- the entity id of a peer's reader, by the configuration
 abbrev pub reader_entity : Config → ℕ → ℕ → EntityId
-reader_entity config peer number = option_map_or (λ (p : PeerConfig). option_map_or (λ (r : ReaderConfig). r.entity) (slice_get p.readers (number - 1)) every_reader) (slice_get config.peers (peer - 1)) every_reader
+reader_entity config peer number =
+    option_map_or (λ (p : PeerConfig). option_map_or (λ (r : ReaderConfig). r.entity)
+    (slice_get p.readers (number - 1)) every_reader) (slice_get config.peers (peer - 1)) every_reader
 
 -- the peer's writer is matched with the reader, these are their entity ids, the reader is behind exactly so, and the writer has
 -- made so many changes; or they are not matched
@@ -22,6 +24,7 @@ abbrev pub IsPair : Config → Peer → ℕ → Endpoint → Option Pair → Typ
 IsPair config peer writer reader None = acknowledged_of (own_writer peer.part writer).readers reader ≡ None
 IsPair config peer writer reader (Some pair) =
     IsSome (acknowledged_of (own_writer peer.part writer).readers reader)
-    × (pair.writer ≡ writer_entity config peer.number writer) × (pair.reader ≡ reader_entity config reader.peer reader.number)
+    × (pair.writer ≡ writer_entity config peer.number writer)
+    × (pair.reader ≡ reader_entity config reader.peer reader.number)
     × (pair.is_behind ≡ is_reader_behind (own_writer peer.part writer) reader)
     × (pair.last ≡ length (writer_changes (own_writer peer.part writer)))

@@ -70,7 +70,8 @@ abbrev pub writer_guid : Receiver → EntityId → Guid
 writer_guid at writer_id = record { prefix = at.source_guid_prefix; entity = writer_id }
 
 -- the submessage is for the reader, and from its writer of this row
-pub record IsNamedFor (own : GuidPrefix) (kept : ReaderKept) (at : Receiver) (reader_id writer_id : EntityId) (k : ℕ) : Type 0 where
+pub record IsNamedFor (own : GuidPrefix) (kept : ReaderKept) (at : Receiver) (reader_id writer_id : EntityId)
+    (k : ℕ) : Type 0 where
   pub is_for : is_for at own ≡ true
   pub named : Names reader_id kept.entity
   pub first : IsFirstName kept.writers (writer_guid at writer_id) k
@@ -90,7 +91,14 @@ NamesNobody submessage = (reader_id writer_id : EntityId) → NamedBy submessage
 abbrev pub IsToldBy : Receiver → Submessage → Told → Type 0
 IsToldBy at (Data d) (told.Change number change) = (number ≡ d.writer_sn) × (change ≡ change_in d.content at.timestamp)
 IsToldBy at (Gap g) (told.Gap start list) = (start ≡ g.gap_start) × (list ≡ g.gap_list)
-IsToldBy at (Heartbeat h) (told.Heartbeat seen) = seen ≡ record { first = h.first_sn; last = h.last_sn; count = h.count; is_final = h.final_flag; liveliness = h.liveliness_flag }
+IsToldBy at (Heartbeat h) (told.Heartbeat seen) =
+    seen ≡ record {
+      first = h.first_sn;
+      last = h.last_sn;
+      count = h.count;
+      is_final = h.final_flag;
+      liveliness = h.liveliness_flag;
+    }
 IsToldBy at submessage other = ⊥
 
 -- its numbers are such that the wire has
@@ -116,7 +124,8 @@ abbrev pub HasMemory : ReaderKept → Type 0
 HasMemory kept = IsReady kept.reader (room_of kept.store.cache)
 
 -- what is ready for a reader that a submessage names
-pub record IsReadyWith (own : GuidPrefix) (at : Receiver) (submessage : Submessage) (kept : ReaderKept) (ready : Ready) : Type 0 where
+pub record IsReadyWith (own : GuidPrefix) (at : Receiver) (submessage : Submessage) (kept : ReaderKept)
+    (ready : Ready) : Type 0 where
   pub reader_id : EntityId
   pub writer_id : EntityId
   pub by : NamedBy submessage reader_id writer_id
@@ -125,13 +134,17 @@ pub record IsReadyWith (own : GuidPrefix) (at : Receiver) (submessage : Submessa
   pub room : HasMemory kept
 
 abbrev pub IsReadyFor : GuidPrefix → Receiver → Submessage → ReaderKept → Option Ready → Type 0
-IsReadyFor own at submessage kept None = (reader_id writer_id : EntityId) → NamedBy submessage reader_id writer_id → (k : ℕ) → IsNamedFor own kept at reader_id writer_id k → ⊥
+IsReadyFor own at submessage kept None =
+    (reader_id writer_id : EntityId) → NamedBy submessage reader_id writer_id → (k : ℕ)
+    → IsNamedFor own kept at reader_id writer_id k → ⊥
 IsReadyFor own at submessage kept (Some ready) = IsReadyWith own at submessage kept ready
 
 -- what is ready for each of a peer's readers
-pub record AreReady (own : GuidPrefix) (at : Receiver) (submessage : Submessage) (readers : List ReaderKept) (ready : List (Option Ready)) : Type 0 where
+pub record AreReady (own : GuidPrefix) (at : Receiver) (submessage : Submessage) (readers : List ReaderKept)
+    (ready : List (Option Ready)) : Type 0 where
   pub count : length ready ≡ length readers
-  pub each : (i : ℕ) (k : ReaderKept) (r : Option Ready) → slice_get readers i ≡ Some k → slice_get ready i ≡ Some r → IsReadyFor own at submessage k r
+  pub each : (i : ℕ) (k : ReaderKept) (r : Option Ready) → slice_get readers i ≡ Some k → slice_get ready i ≡ Some r
+      → IsReadyFor own at submessage k r
 
 -- a reader with more memory, and nothing else
 pub record IsAlike (old new : ReaderKept) : Type 0 where
@@ -155,8 +168,10 @@ pub record CanTake (kept : ReaderKept) (ready : Ready) : Type 0 where
 -- ---- what a reader does
 
 -- what it knows of the writer, and what happened, go on by what it is told
-abbrev pub TellsSo : Match → Told → Tracked → List Happening → Step → (Tracked → Type 0) → (List Happening → Type 0) → Type 0
-TellsSo match (told.Change number change) t h step Knows Has = MovesOn match (with_data number change t) h step Knows Has
+abbrev pub TellsSo : Match → Told → Tracked → List Happening → Step → (Tracked → Type 0) → (List Happening → Type 0)
+    → Type 0
+TellsSo match (told.Change number change) t h step Knows Has =
+    MovesOn match (with_data number change t) h step Knows Has
 TellsSo match (told.Gap start list) t h step Knows Has = MovesOn match (with_gap start list t) h step Knows Has
 TellsSo match (told.Heartbeat seen) t h step Knows Has =
     ((is_later t.count seen.count ≡ true) × TakesHeartbeat match t h seen step Knows Has)
@@ -172,7 +187,8 @@ pub record SameReader (old new : ReaderKept) : Type 0 where
 -- the reader was told, at this moment
 pub record TakesTold (old : ReaderKept) (ready : Ready) (moment : ℕ) (step : Step) (new : ReaderKept) : Type 0 where
   pub told : (t : Tracked) (h : List Happening) → Tracks old.reader ready.row t → Holds old.store h
-      → TellsSo (match_at (qos_of old.store.cache) ready.row moment) ready.told t h step (Tracks new.reader ready.row) (Holds new.store)
+      → TellsSo (match_at (qos_of old.store.cache) ready.row moment) ready.told t h step (Tracks new.reader ready.row)
+      (Holds new.store)
   pub others : OthersStay ready.row old.reader new.reader
 
 -- the place at the writer of this row
@@ -182,7 +198,8 @@ IsPlaceAt kept row t place = Tracks kept.reader row t → place ≡ t.place
 -- what a step moves, from this place on
 abbrev pub moves_of : Endpoint → ℕ → ℕ → Step → List Move
 moves_of writer reader from step =
-    (if step.heard then Heard writer reader ∷ [] else []) ++ (if nat_lt from step.to then Place writer reader step.to step.passed ∷ [] else [])
+    (if step.heard then Heard writer reader ∷ [] else [])
+    ++ (if nat_lt from step.to then Place writer reader step.to step.passed ∷ [] else [])
 
 -- ---- what a peer does
 
@@ -193,7 +210,8 @@ abbrev pub AllCanTake : List ReaderKept → List (Option Ready) → Type 0
 AllCanTake readers ready = (i : ℕ) (one : Ready) → slice_get ready i ≡ Some (Some one) → CanTakeAt readers i one
 
 -- the reader of this index was told what was ready, and the ACKNACK that is then due was sent
-pub record TookAt (old : PeerKept) (index : ℕ) (ready : Ready) (k : ReaderKept) (moves : List Move) (sent : Announced) (new : PeerKept) (after : List Move) (gone : Announced) : Type 0 where
+pub record TookAt (old : PeerKept) (index : ℕ) (ready : Ready) (k : ReaderKept) (moves : List Move) (sent : Announced)
+    (new : PeerKept) (after : List Move) (gone : Announced) : Type 0 where
   pub name : WriterName
   pub at_name : slice_get k.writers ready.row ≡ Some name
   pub from : ℕ
@@ -204,48 +222,60 @@ pub record TookAt (old : PeerKept) (index : ℕ) (ready : Ready) (k : ReaderKept
   pub same : SameReader k reader
   pub new_is : new ≡ record old { readers = set old.readers index reader }
   pub after_is : after ≡ moves ++ moves_of name.writer (index + 1) from step
-  pub answer : AddsTo (acknacks_due old.prefix name.guid.prefix name.writer.peer k.entity name.guid.entity step.acknack) sent gone
+  pub answer : AddsTo (acknacks_due old.prefix name.guid.prefix name.writer.peer k.entity name.guid.entity step.acknack)
+      sent gone
 
 abbrev pub TakesAt : PeerKept → ℕ → Ready → List Move → Announced → PeerKept → List Move → Announced → Type 0
-TakesAt old index ready moves sent new after gone = (k : ReaderKept) → slice_get old.readers index ≡ Some k → TookAt old index ready k moves sent new after gone
+TakesAt old index ready moves sent new after gone =
+    (k : ReaderKept) → slice_get old.readers index ≡ Some k → TookAt old index ready k moves sent new after gone
 
 -- what this state of a peer is with another part, and other knowledge
 abbrev pub with_state : Peer → State → Peer
 with_state peer state = record peer { part = state.part; known = state.known }
 
 -- for each state that the old values stand for, so many of its readers took the submessage up, one after the other
-pub record ReadersTook (config : Config) (own : GuidPrefix) (at : Receiver) (submessage : Submessage) (count : ℕ) (peer : Peer) (made : List Move) (sent : Announced) (new : PeerKept) (gone : Announced) : Type 0 where
+pub record ReadersTook (config : Config) (own : GuidPrefix) (at : Receiver) (submessage : Submessage) (count : ℕ)
+    (peer : Peer) (made : List Move) (sent : Announced) (new : PeerKept) (gone : Announced) : Type 0 where
   pub state : State
   pub dues : List Due
-  pub turn : InTurn (ReaderTakes config own peer.number at submessage) (numbers_from 1 count) (state_of peer) made dues state
+  pub turn : InTurn (ReaderTakes config own peer.number at submessage) (numbers_from 1 count)
+      (state_of peer) made dues state
   pub stands : StandsFor new config (with_state peer state)
   pub adds : AddsTo dues sent gone
 
 abbrev pub ReadersTake : PeerKept → Receiver → Submessage → ℕ → List Move → Announced → PeerKept → Announced → Type 0
-ReadersTake old at submessage count made sent new gone = (config : Config) (peer : Peer) → StandsFor old config peer → ReadersTook config old.prefix at submessage count peer made sent new gone
+ReadersTake old at submessage count made sent new gone =
+    (config : Config) (peer : Peer) → StandsFor old config peer
+    → ReadersTook config old.prefix at submessage count peer made sent new gone
 
 -- each reader is told what was ready for it
-pub record TakesAll (old : PeerKept) (ready : List (Option Ready)) (moves : List Move) (sent : Announced) (new : PeerKept) (after : List Move) (gone : Announced) : Type 0 where
+pub record TakesAll (old : PeerKept) (ready : List (Option Ready)) (moves : List Move) (sent : Announced)
+    (new : PeerKept) (after : List Move) (gone : Announced) : Type 0 where
   pub made : List Move
   pub after_is : after ≡ moves ++ made
-  pub takes : (at : Receiver) (submessage : Submessage) → AreReady old.prefix at submessage old.readers ready → ReadersTake old at submessage (length old.readers) made sent new gone
+  pub takes : (at : Receiver) (submessage : Submessage) → AreReady old.prefix at submessage old.readers ready
+      → ReadersTake old at submessage (length old.readers) made sent new gone
 
 -- the same of the readers before this index; the others are as they were
-pub record TakesSome (old : PeerKept) (ready : List (Option Ready)) (index : ℕ) (moves : List Move) (sent : Announced) (now : PeerKept) (after : List Move) (gone : Announced) : Type 0 where
+pub record TakesSome (old : PeerKept) (ready : List (Option Ready)) (index : ℕ) (moves : List Move) (sent : Announced)
+    (now : PeerKept) (after : List Move) (gone : Announced) : Type 0 where
   pub made : List Move
   pub after_is : after ≡ moves ++ made
-  pub takes : (at : Receiver) (submessage : Submessage) → AreReady old.prefix at submessage old.readers ready → ReadersTake old at submessage index made sent now gone
+  pub takes : (at : Receiver) (submessage : Submessage) → AreReady old.prefix at submessage old.readers ready
+      → ReadersTake old at submessage index made sent now gone
   pub left : drop index now.readers ≡ drop index old.readers
   pub prefix : now.prefix ≡ old.prefix
 
 -- the readers are told what a submessage says, after other moves
-pub record TellsReaders (old : PeerKept) (at : Receiver) (submessage : Submessage) (moves : List Move) (sent : Announced) (new : PeerKept) (after : List Move) (gone : Announced) : Type 0 where
+pub record TellsReaders (old : PeerKept) (at : Receiver) (submessage : Submessage) (moves : List Move)
+    (sent : Announced) (new : PeerKept) (after : List Move) (gone : Announced) : Type 0 where
   pub made : List Move
   pub after_is : after ≡ moves ++ made
   pub takes : ReadersTake old at submessage (length old.readers) made sent new gone
 
 -- for each state that the old values stand for, a submessage was taken up, and what was then due was sent
-pub record TookSubmessage (config : Config) (own : GuidPrefix) (at : Receiver) (submessage : Submessage) (peer : Peer) (made : List Move) (sent : Announced) (new : PeerKept) (gone : Announced) : Type 0 where
+pub record TookSubmessage (config : Config) (own : GuidPrefix) (at : Receiver) (submessage : Submessage) (peer : Peer)
+    (made : List Move) (sent : Announced) (new : PeerKept) (gone : Announced) : Type 0 where
   pub state : State
   pub dues : List Due
   pub takes : Takes config own peer.number at submessage (state_of peer) made dues state
@@ -253,10 +283,12 @@ pub record TookSubmessage (config : Config) (own : GuidPrefix) (at : Receiver) (
   pub adds : AddsTo dues sent gone
 
 -- the same, after other moves
-pub record TakesOneMore (old : PeerKept) (at : Receiver) (submessage : Submessage) (moves : List Move) (sent : Announced) (new : PeerKept) (after : List Move) (gone : Announced) : Type 0 where
+pub record TakesOneMore (old : PeerKept) (at : Receiver) (submessage : Submessage) (moves : List Move)
+    (sent : Announced) (new : PeerKept) (after : List Move) (gone : Announced) : Type 0 where
   pub made : List Move
   pub after_is : after ≡ moves ++ made
-  pub takes : (config : Config) (peer : Peer) → StandsFor old config peer → TookSubmessage config old.prefix at submessage peer made sent new gone
+  pub takes : (config : Config) (peer : Peer) → StandsFor old config peer
+      → TookSubmessage config old.prefix at submessage peer made sent new gone
 
 -- the new values stand for what the old ones stood for
 abbrev pub StandsAsWell : PeerKept → PeerKept → Type 0
@@ -264,31 +296,40 @@ StandsAsWell old new = (config : Config) (peer : Peer) → StandsFor old config 
 
 -- for each state that the old values stand for, the message's submessages are taken up with this report, and what is then
 -- due is sent
-pub record TookMessage (config : Config) (peer : Peer) (own : GuidPrefix) (message : Message) (report : Report) (new : PeerKept) (gone : Announced) : Type 0 where
+pub record TookMessage (config : Config) (peer : Peer) (own : GuidPrefix) (message : Message) (report : Report)
+    (new : PeerKept) (gone : Announced) : Type 0 where
   pub state : State
   pub dues : List Due
-  pub follows : Follows config own peer.number 0 (receiver_of message.prefix) message.submessages (state_of peer) report.moves report.refused dues state
+  pub follows : Follows config own peer.number 0 (receiver_of message.prefix) message.submessages
+      (state_of peer) report.moves report.refused dues state
   pub stands : StandsFor new config (with_state peer state)
   pub sent : AreSent dues gone.packets.items gone.unsent
 
 abbrev pub TakesMessage : PeerKept → Message → Report → PeerKept → Announced → Type 0
-TakesMessage old message report new gone = (config : Config) (peer : Peer) → StandsFor old config peer → TookMessage config peer old.prefix message report new gone
+TakesMessage old message report new gone =
+    (config : Config) (peer : Peer) → StandsFor old config peer
+    → TookMessage config peer old.prefix message report new gone
 
 -- the same, up to the submessage of this index
-pub record TakenTo (old : PeerKept) (message : Message) (index : ℕ) (at : Receiver) (moves : List Move) (now : PeerKept) (gone : Announced) (config : Config) (peer : Peer) : Type 0 where
+pub record TakenTo (old : PeerKept) (message : Message) (index : ℕ) (at : Receiver) (moves : List Move) (now : PeerKept)
+    (gone : Announced) (config : Config) (peer : Peer) : Type 0 where
   pub state : State
   pub dues : List Due
   pub stands : StandsFor now config (with_state peer state)
   pub sent : AreSent dues gone.packets.items gone.unsent
   pub on : (later : List Move) (refused : Option ℕ) (last : List Due) (after : State)
       → Follows config old.prefix peer.number index at (drop index message.submessages) state later refused last after
-      → Follows config old.prefix peer.number 0 (receiver_of message.prefix) message.submessages (state_of peer) (moves ++ later) refused (dues ++ last) after
+      → Follows config old.prefix peer.number 0 (receiver_of message.prefix) message.submessages (state_of peer)
+      (moves ++ later) refused (dues ++ last) after
 
 abbrev pub TakesTo : PeerKept → Message → ℕ → Receiver → List Move → PeerKept → Announced → Type 0
-TakesTo old message index at moves now gone = (config : Config) (peer : Peer) → StandsFor old config peer → TakenTo old message index at moves now gone config peer
+TakesTo old message index at moves now gone =
+    (config : Config) (peer : Peer) → StandsFor old config peer
+    → TakenTo old message index at moves now gone config peer
 
 -- for each state that the old values stand for, this is what is done with a packet
-pub record ReceivedPacket (config : Config) (peer : Peer) (bytes : List ℕ) (report : Report) (new : PeerKept) (gone : Announced) : Type 0 where
+pub record ReceivedPacket (config : Config) (peer : Peer) (bytes : List ℕ) (report : Report) (new : PeerKept)
+    (gone : Announced) : Type 0 where
   pub state : State
   pub dues : List Due
   pub takes : TakesPacket config peer.number bytes (state_of peer) report dues state
@@ -296,7 +337,8 @@ pub record ReceivedPacket (config : Config) (peer : Peer) (bytes : List ℕ) (re
   pub sent : AreSent dues gone.packets.items gone.unsent
 
 abbrev pub ReceivesPacket : PeerKept → List ℕ → Report → PeerKept → Announced → Type 0
-ReceivesPacket old bytes report new gone = (config : Config) (peer : Peer) → StandsFor old config peer → ReceivedPacket config peer bytes report new gone
+ReceivesPacket old bytes report new gone =
+    (config : Config) (peer : Peer) → StandsFor old config peer → ReceivedPacket config peer bytes report new gone
 
 -- the reply to an access that its cache answers so
 abbrev pub access_reply : Result (List Sample) Code → Reply
@@ -322,14 +364,20 @@ TellsLost kept status = (h : List Happening) → Holds kept.store h → status �
 abbrev pub TellsLiveliness : ReaderKept → LivelinessChangedStatus → Seen → Type 0
 TellsLiveliness kept status seen = (h : List Happening) → Holds kept.store h
     → (status ≡ liveliness_changed_status (qos_of kept.store.cache) h kept.seen.alive kept.seen.not_alive)
-    × (seen ≡ record kept.seen { alive = alive_count (qos_of kept.store.cache) h; not_alive = not_alive_count (qos_of kept.store.cache) h; turned = turned_at h })
+    × (seen ≡ record kept.seen {
+      alive = alive_count (qos_of kept.store.cache) h;
+      not_alive = not_alive_count (qos_of kept.store.cache) h;
+      turned = turned_at h;
+    })
 
 -- whether the statuses of a reader are flagged, as it is kept
 abbrev pub TellsFlags : ReaderKept → StatusMask → Type 0
-TellsFlags kept mask = (proxies : List WriterProxy) (r : Reader) (tracked : Endpoint → Tracked) → ReaderStands kept proxies r tracked
+TellsFlags kept mask = (proxies : List WriterProxy) (r : Reader) (tracked : Endpoint → Tracked)
+    → ReaderStands kept proxies r tracked
     → mask ≡ reader_statuses r
 
 -- whether a present sample of a reader meets the masks and passes the test, as it is kept
 abbrev pub TellsMatch : ReaderKept → Masks → (Key → List ℕ → Bool) → Bool → Type 0
-TellsMatch kept masks test answer = (proxies : List WriterProxy) (r : Reader) (tracked : Endpoint → Tracked) → ReaderStands kept proxies r tracked
+TellsMatch kept masks test answer =
+    (proxies : List WriterProxy) (r : Reader) (tracked : Endpoint → Tracked) → ReaderStands kept proxies r tracked
     → answer ≡ has_match r.qos r.happened masks test

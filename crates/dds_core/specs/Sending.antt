@@ -36,19 +36,23 @@ pub record SendsNothing (output : Output) : Type 0 where
 
 -- A change of a writer is announced: each peer with a matched reader gets one packet, in its one written form, in which the
 -- change is for each such reader, or the packet is counted as unsent.
-pub record SendsChange (config : Config) (writer : Endpoint) (readers : List ReaderProxy) (number : ℕ) (change : Change) (output : Output) : Type 0 where
+pub record SendsChange (config : Config) (writer : Endpoint) (readers : List ReaderProxy) (number : ℕ) (change : Change)
+    (output : Output) : Type 0 where
   pub counted : length output.packets + output.unsent ≡ length (peers_of readers)
   pub are_sent : AreSent (changes_due config writer readers number change) output.packets output.unsent
   pub to_peers : (packet : Packet) → Contains output.packets packet → Contains (peers_of readers) packet.to
-  pub says : (packet : Packet) (reader : Endpoint) → Contains output.packets packet → reader.peer ≡ packet.to → IsSome (acknowledged_of readers reader) → Claims config packet.bytes (ChangeIs writer reader number change)
+  pub says : (packet : Packet) (reader : Endpoint) → Contains output.packets packet → reader.peer ≡ packet.to
+      → IsSome (acknowledged_of readers reader) → Claims config packet.bytes (ChangeIs writer reader number change)
   pub different : AllPairs (λ (a b : Packet). a.to ≢ b.to) output.packets
 
 -- what is sent for what a call enters
 abbrev pub SendsFor : Config → Peer → Effect → Output → Type 0
 SendsFor config peer (writes writer (Changed change)) output =
-    SendsChange config (record { peer = peer.number; number = writer }) (own_writer peer.part writer).readers (length (writer_changes (own_writer peer.part writer)) + 1) change output
+    SendsChange config (record { peer = peer.number; number = writer }) (own_writer peer.part writer).readers
+    (length (writer_changes (own_writer peer.part writer)) + 1) change output
 SendsFor config peer (writes writer (Asserted moment)) output =
-    AreSent (assertions_due config (record { peer = peer.number; number = writer }) (own_writer peer.part writer)) output.packets output.unsent
+    AreSent (assertions_due config (record { peer = peer.number; number = writer })
+    (own_writer peer.part writer)) output.packets output.unsent
 SendsFor config peer other output = SendsNothing output
 
 -- each packet is a message
@@ -63,8 +67,12 @@ due_at_tick config peer reply = []
 -- for each state that the values stand for, this is what is sent at a call or a tick; what is sent at a delivery is said by
 -- the rules of the protocol
 abbrev pub Sends : PeerKept → Event → Output → Type 0
-Sends old (event.Call call) output = (config : Config) (peer : Peer) → StandsFor old config peer → SendsFor config peer (effect_of peer.part call output.reply) output
-Sends old (event.Tick now) output = (config : Config) (peer : Peer) → StandsFor old config peer → AreSent (due_at_tick config peer output.reply) output.packets output.unsent
+Sends old (event.Call call) output =
+    (config : Config) (peer : Peer) → StandsFor old config peer
+    → SendsFor config peer (effect_of peer.part call output.reply) output
+Sends old (event.Tick now) output =
+    (config : Config) (peer : Peer) → StandsFor old config peer
+    → AreSent (due_at_tick config peer output.reply) output.packets output.unsent
 Sends old (event.Deliver packet) output = Unit {0}
 
 -- the message that announces a change to a peer
@@ -72,11 +80,17 @@ abbrev pub announcement : Sender → Destination → ℕ → DataContent → Mes
 announcement sender to number content = record {
   prefix = sender.prefix;
   submessages = InfoDst to.prefix ∷ InfoTs (Some sender.moment)
-      ∷ Data (record { reader_id = record { 0 = 0 ∷ 0 ∷ 0 ∷ 0 ∷ [] }; writer_id = sender.entity; writer_sn = number; content = content }) ∷ [];
+      ∷ Data (record {
+        reader_id = record { 0 = 0 ∷ 0 ∷ 0 ∷ 0 ∷ [] };
+        writer_id = sender.entity;
+        writer_sn = number;
+        content = content;
+      }) ∷ [];
 }
 
 -- the packet is that message
-pub record IsAnnouncement (sender : Sender) (to : Destination) (number : ℕ) (content : DataContent) (packet : Packet) : Type 0 where
+pub record IsAnnouncement (sender : Sender) (to : Destination) (number : ℕ) (content : DataContent)
+    (packet : Packet) : Type 0 where
   pub to_is : packet.to ≡ to.peer
   pub writable : IsWritable (announcement sender to number content)
   pub bytes : packet.bytes ≡ spelling_of (announcement sender to number content)
@@ -86,7 +100,8 @@ abbrev pub AreAnnouncements : Sender → ℕ → DataContent → List Destinatio
 AreAnnouncements sender number content to [] = Unit {0}
 AreAnnouncements sender number content [] (packet ∷ packets) = ⊥
 AreAnnouncements sender number content (d ∷ ds) (packet ∷ packets) =
-    (IsAnnouncement sender d number content packet × AreAnnouncements sender number content ds packets) ⊎ AreAnnouncements sender number content ds (packet ∷ packets)
+    (IsAnnouncement sender d number content packet × AreAnnouncements sender number content ds packets)
+    ⊎ AreAnnouncements sender number content ds (packet ∷ packets)
 
 -- the message announces the change to some peer
 abbrev pub Announces : Sender → ℕ → DataContent → Message → Type 0
@@ -103,15 +118,22 @@ AnnounceCopy sender number (Err e) ds packets = packets ≡ []
 
 -- the message can be written, whichever peer of a name of twelve octets it is for
 abbrev pub IsAddressable : Message → Type 0
-IsAddressable message = (to : GuidPrefix) → length to.0 ≡ 12 → IsWritable (record { prefix = message.prefix; submessages = set message.submessages 0 (InfoDst to) })
+IsAddressable message = (to : GuidPrefix) → length to.0 ≡ 12
+    → IsWritable (record { prefix = message.prefix; submessages = set message.submessages 0 (InfoDst to) })
 
 -- the packet of a message was added, or found no memory
 abbrev pub AddsPacket : List Packet → Message → ℕ → List Packet → Type 0
 AddsPacket old message to new = (new ≡ old) ⊎ (new ≡ old ++ record { to = to; bytes = spelling_of message } ∷ [])
 
 -- a writer of the peer, of this index, announces the change of this number, as it was copied, to each of its destinations
-pub record AnnouncesAll (kept : PeerKept) (index number : ℕ) (content : Result DataContent AllocError) (output : Output) : Type 0 where
+pub record AnnouncesAll (kept : PeerKept) (index number : ℕ) (content : Result DataContent AllocError)
+    (output : Output) : Type 0 where
   pub writer : WriterKept
   pub at : slice_get kept.writers index ≡ Some writer
   pub counted : length output.packets + output.unsent ≡ length writer.destinations
-  pub packets : AnnounceCopy (record { prefix = kept.prefix; entity = writer.entity; moment = kept.moment }) number content writer.destinations output.packets
+  pub packets : AnnounceCopy
+      (record {
+        prefix = kept.prefix;
+        entity = writer.entity;
+        moment = kept.moment;
+      }) number content writer.destinations output.packets

@@ -79,7 +79,8 @@ pub record IsFirstReader (names : List ReaderName) (reader : Endpoint) (k : ℕ)
   pub first : (j : ℕ) (n : ReaderName) → j < k → slice_get names j ≡ Some n → n.reader ≡ reader → ⊥
 
 -- a reader of the machine, with its matched writers and what is known of them, for which what is kept stands
-pub record ReaderStands (kept : ReaderKept) (proxies : List WriterProxy) (r : Reader) (tracked : Endpoint → Tracked) : Type 0 where
+pub record ReaderStands (kept : ReaderKept) (proxies : List WriterProxy) (r : Reader)
+    (tracked : Endpoint → Tracked) : Type 0 where
   pub writers_are : map (λ (p : WriterProxy). p.writer) proxies ≡ map (λ (n : WriterName). n.writer) kept.writers
   pub places : (w : Endpoint) (p : ℕ) → place_of proxies w ≡ Some p → (tracked w).place ≡ p
   pub knows : (w : Endpoint) (k : ℕ) → IsFirstRow kept.writers w k → Tracks kept.reader k (tracked w)
@@ -90,13 +91,16 @@ pub record ReaderStands (kept : ReaderKept) (proxies : List WriterProxy) (r : Re
 -- each of a peer's writers stands for the one of its number, with the counts of the last ACKNACKs that it took
 pub record WritersStand (kept : List WriterKept) (ws : List Writer) (answered : ℕ → Endpoint → Option ℤ) : Type 0 where
   pub count : length ws ≡ length kept
-  pub each : (i : ℕ) (k : WriterKept) → slice_get kept i ≡ Some k → WriterStands k (get_or ws i no_writer) (answered (suc i))
+  pub each : (i : ℕ) (k : WriterKept) → slice_get kept i ≡ Some k
+      → WriterStands k (get_or ws i no_writer) (answered (suc i))
 
 -- each of a peer's readers stands for the one of its number
-pub record ReadersStand (kept : List ReaderKept) (proxies : List (List WriterProxy)) (rs : List Reader) (known : Known) : Type 0 where
+pub record ReadersStand (kept : List ReaderKept) (proxies : List (List WriterProxy)) (rs : List Reader)
+    (known : Known) : Type 0 where
   pub rows : length proxies ≡ length kept
   pub count : length rs ≡ length kept
-  pub each : (i : ℕ) (k : ReaderKept) → slice_get kept i ≡ Some k → ReaderStands k (get_or proxies i []) (get_or rs i no_reader) (λ w. known.tracked w (suc i))
+  pub each : (i : ℕ) (k : ReaderKept) → slice_get kept i ≡ Some k
+      → ReaderStands k (get_or proxies i []) (get_or rs i no_reader) (λ w. known.tracked w (suc i))
 
 -- a state of the peer for which what is kept stands
 pub record StandsFor (kept : PeerKept) (config : Config) (peer : Peer) : Type 0 where
@@ -137,7 +141,8 @@ KeepsRules config old other output new = Unit {0}
 -- For each state that the old values stand for, and of which all that is known was claimed, the event is a step to one that
 -- the new values stand for, and of which all that is known was claimed; a delivery follows the rules of the protocol.
 abbrev pub SoundStepsBy : Tests → PeerKept → Event → Output → PeerKept → Type 0
-SoundStepsBy tests old event output new = (config : Config) (peer : Peer) → StandsFor old config peer → IsSound config peer
+SoundStepsBy tests old event output new =
+    (config : Config) (peer : Peer) → StandsFor old config peer → IsSound config peer
     → (after : Peer) × PeerStep config tests peer event output after × StandsFor new config after × IsSound config after
     × KeepsRules config peer event output after
 
@@ -148,7 +153,8 @@ SoundSteps old event output new = SoundStepsBy no_filters old event output new
 -- a writer whose peer's time went on to this moment, and nothing else
 pub record Ticks (old : WriterKept) (now : ℕ) (new : WriterKept) : Type 0 where
   pub same : writer_identity new ≡ writer_identity old
-  pub stands : (w : Writer) (answered : Endpoint → Option ℤ) → WriterStands old w answered → WriterStands new (ticked now w) answered
+  pub stands : (w : Writer) (answered : Endpoint → Option ℤ) → WriterStands old w answered
+      → WriterStands new (ticked now w) answered
 
 -- the same of each of these writers
 abbrev pub AllTick : List WriterKept → ℕ → List WriterKept → Type 0
@@ -157,4 +163,5 @@ AllTick old now new = AllZip (λ (k : WriterKept) (x : WriterKept). Ticks k now 
 -- a writer to which this has happened besides, and nothing else
 pub record Enters (old : WriterKept) (entry : Written) (new : WriterKept) : Type 0 where
   pub same : writer_identity new ≡ writer_identity old
-  pub stands : (w : Writer) (answered : Endpoint → Option ℤ) → WriterStands old w answered → WriterStands new (with_written w entry) answered
+  pub stands : (w : Writer) (answered : Endpoint → Option ℤ) → WriterStands old w answered
+      → WriterStands new (with_written w entry) answered

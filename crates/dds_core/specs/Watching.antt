@@ -70,11 +70,13 @@ AsksBy kept reader scope condition (Ok asked) =
     Tells kept (λ part. (condition_refusal part reader scope condition ≡ None)
     × (asked.selection ≡ condition_selection part scope condition)
     × (asked.filter ≡ filter_of (made part.dds.watch.conditions condition)))
-AsksBy kept reader scope condition (Err code) = Tells kept (λ part. condition_refusal part reader scope condition ≡ Some code)
+AsksBy kept reader scope condition (Err code) =
+    Tells kept (λ part. condition_refusal part reader scope condition ≡ Some code)
 
 -- what an access of a reader by this condition asks for, or why it is refused
 abbrev pub asked_of : ℕ → Scope → Option Condition → Result Asked Code
 asked_of reader scope None = Err BadParameter
 asked_of reader scope (Some (Guard value)) = Err PreconditionNotMet
 asked_of reader scope (Some (Samples other masks filter)) =
-    if other == reader then Ok (record { selection = selection_in scope masks; filter = filter }) else Err PreconditionNotMet
+    if other == reader then Ok (record { selection = selection_in scope masks; filter = filter })
+    else Err PreconditionNotMet

@@ -25,7 +25,8 @@ fn message(
     due: &AckNackDue,
 ) -> Result<Message, AllocError>
     requires { IsSayable due.now }
-    ensures says { IfOk result (λ m. m ≡ acknack_message own writer.now.guid.prefix reader writer.now.guid.entity due.now) }
+    ensures says { IfOk result
+        (λ m. m ≡ acknack_message own writer.now.guid.prefix reader writer.now.guid.entity due.now) }
     ensures writable { IfOk result IsWritable }
     ensures some { IfOk result (λ m. 1 ≤ length m.submessages) }
 {

@@ -104,7 +104,9 @@ fn push_data(
     requires first { 1 ≤ number }
     requires small { number ≤ 2 ^ 62 }
     ensures spells { OnOk result (SpellsMore submessages.old.items submessages.new.items) }
-    ensures adds { OnOk result (submessages.new.items ≡ submessages.old.items ++ data_of answering.now.reader.guid.entity answering.now.entity number (Some change.now)) }
+    ensures adds { OnOk result
+        (submessages.new.items ≡ submessages.old.items
+        ++ data_of answering.now.reader.guid.entity answering.now.entity number (Some change.now)) }
 {
     // These show the prover how many octets the names have.
     let (_reader, _writer) = (
@@ -134,7 +136,9 @@ fn push_gap(
     requires order { first ≤ last }
     requires small { last < 2 ^ 62 }
     ensures spells { OnOk result (SpellsMore submessages.old.items submessages.new.items) }
-    ensures adds { OnOk result (submessages.new.items ≡ submessages.old.items ++ submessages_of [] answering.now.reader.guid.entity answering.now.entity (answer.Gap first last)) }
+    ensures adds { OnOk result
+        (submessages.new.items ≡ submessages.old.items
+        ++ submessages_of [] answering.now.reader.guid.entity answering.now.entity (answer.Gap first last)) }
 {
     // These show the prover how many octets the names have.
     let (_reader, _writer) = (
@@ -215,7 +219,8 @@ pub fn send_answers(
     requires few { length answers.now ≤ 256 }
     requires room { sent.old.unsent < 2 ^ 60 }
     ensures few { sent.new.unsent ≤ sent.old.unsent + 256 }
-    ensures sends { (s : WriterState) → RtpsStandsFor writer.now s → SendsAnswers answering.now (changes_of s.written) answers.now sent.old sent.new }
+    ensures sends { (s : WriterState) → RtpsStandsFor writer.now s
+        → SendsAnswers answering.now (changes_of s.written) answers.now sent.old sent.new }
     ensures messages { AreMessages sent.old.packets.items → AreMessages sent.new.packets.items }
 {
     let mut rest = answers;

@@ -48,7 +48,8 @@ impl<F: Filter, L: Listener> Core<F, L> {
     /// number; `Memory` where a growth was refused.
     pub fn open(alloc: Global, config: &Config, peer: u8) -> Result<Core<F, L>, Code>
         // The peer stands for its opening in the configuration.
-        ensures opening { IfOk result (λ core. StandsFor L.notices L.capacity core config.now (opening_peer config.now peer)) }
+        ensures opening { IfOk result
+            (λ core. StandsFor L.notices L.capacity core config.now (opening_peer config.now peer)) }
         // It has no filters.
         ensures none { IfOk result (λ core. core.filtered.filters ≡ []) }
         // Against what is opened there is no cause.
@@ -82,7 +83,8 @@ impl<F: Filter, L: Listener> Core<F, L> {
         // For each state that the peer stands for, the event is a step, by what its filters mean, whose end listeners are
         // told of, to one that it stands for afterwards; a delivered packet is taken up by the rules of the protocol, and what
         // is due by them is sent.
-        ensures step { Steps L.notices L.capacity (tests_of F.meaning self.old.filtered.filters) self.old event result self.new }
+        ensures step { Steps L.notices L.capacity
+            (tests_of F.meaning self.old.filtered.filters) self.old event result self.new }
         // What goes out at a call or a tick, and what is counted as unsent.
         ensures sends { Sends self.old.filtered.peer event result }
         // What goes out is the written form of a message.

@@ -23,7 +23,8 @@ use std::alloc::AllocError;
 
 /// The index of a writer or a reader of this number, counted from 1, among so many.
 pub fn index_of(number: u8, count: usize) -> Option<usize>
-    ensures { MatchOption result ((nat_lt 0 number && nat_le number count) ≡ false) (λ index. (number ≡ index + 1) × (index < count)) }
+    ensures { MatchOption result ((nat_lt 0 number && nat_le number count) ≡ false)
+        (λ index. (number ≡ index + 1) × (index < count)) }
 {
     if number == 0 || count < usize::from(number) {
         None

@@ -29,7 +29,8 @@ fn prepare(
     receiver: &MessageReceiver,
     submessage: &Submessage,
 ) -> Result<Vec<Option<Ready>>, Code>
-    ensures ready { IfOk result (λ all. AreReady own.now (receiver_at receiver.now) submessage.now readers.new all.items) }
+    ensures ready { IfOk result
+        (λ all. AreReady own.now (receiver_at receiver.now) submessage.now readers.new all.items) }
     ensures alike { AreAlike readers.old readers.new }
 {
     let mut ready = Vec::new(alloc);
@@ -114,7 +115,8 @@ impl Peer {
         receiver: &MessageReceiver,
         submessage: &Submessage,
     ) -> Result<Vec<Option<Ready>>, Code>
-        ensures ready { IfOk result (λ all. AreReady self.old.prefix (receiver_at receiver.now) submessage.now self.new.readers all.items) }
+        ensures ready { IfOk result
+            (λ all. AreReady self.old.prefix (receiver_at receiver.now) submessage.now self.new.readers all.items) }
         ensures few { IfOk result (λ all. length all.items ≤ 16) }
         ensures stands { StandsAsWell self.old self.new }
         ensures count { length self.new.readers ≡ length self.old.readers }
@@ -139,8 +141,10 @@ impl Peer {
     ) -> Result<(), Code>
         requires bounded { IsBounded submessage.now }
         requires low { sent.old.unsent < 2 ^ 60 }
-        ensures ok { OnOk result (TellsReaders self.old (receiver_at receiver.now) submessage.now moves.old.items sent.old self.new moves.new.items sent.new) }
-        ensures err { OnErr result (StandsAsWell self.old self.new × (moves.new.items ≡ moves.old.items) × (sent.new ≡ sent.old)) }
+        ensures ok { OnOk result
+            (TellsReaders self.old (receiver_at receiver.now) submessage.now moves.old.items sent.old self.new moves.new.items sent.new) }
+        ensures err { OnErr result
+            (StandsAsWell self.old self.new × (moves.new.items ≡ moves.old.items) × (sent.new ≡ sent.old)) }
         ensures prefix { self.new.prefix ≡ self.old.prefix }
         ensures few { sent.new.unsent ≤ sent.old.unsent + 16 }
         ensures messages { AreMessages sent.old.packets.items → AreMessages sent.new.packets.items }
@@ -161,8 +165,10 @@ impl Peer {
     ) -> Result<(), Code>
         requires bounded { IsBounded submessage.now }
         requires low { sent.old.unsent < 2 ^ 59 }
-        ensures ok { OnOk result (TakesOneMore self.old (receiver_at receiver.now) submessage.now moves.old.items sent.old self.new moves.new.items sent.new) }
-        ensures err { OnErr result (StandsAsWell self.old self.new × (moves.new.items ≡ moves.old.items) × (sent.new ≡ sent.old)) }
+        ensures ok { OnOk result
+            (TakesOneMore self.old (receiver_at receiver.now) submessage.now moves.old.items sent.old self.new moves.new.items sent.new) }
+        ensures err { OnErr result
+            (StandsAsWell self.old self.new × (moves.new.items ≡ moves.old.items) × (sent.new ≡ sent.old)) }
         ensures prefix { self.new.prefix ≡ self.old.prefix }
         ensures few { sent.new.unsent ≤ sent.old.unsent + 2 ^ 16 }
         ensures messages { AreMessages sent.old.packets.items → AreMessages sent.new.packets.items }

@@ -69,7 +69,8 @@ fn push_readers(
     topic: u32,
 ) -> Result<(), AllocError>
     requires few { length peer.now.readers ≤ 16 }
-    ensures names { OnOk result (all.new.items ≡ all.old.items ++ of_readers_in (reader_name number peer.now) topic 1 peer.now.readers) }
+    ensures names { OnOk result
+        (all.new.items ≡ all.old.items ++ of_readers_in (reader_name number peer.now) topic 1 peer.now.readers) }
     ensures few { OnOk result (length all.new.items ≤ length all.old.items + 16) }
 {
     for (index, reader) in peer.readers.as_slice().iter().enumerate() {
@@ -121,8 +122,12 @@ fn push_writers(
     topic: u32,
 ) -> Result<(), AllocError>
     requires few { length peer.now.writers ≤ 16 }
-    ensures names { OnOk result (all.new.names.items ≡ all.old.names.items ++ of_writers_in (writer_name number peer.now) topic 1 peer.now.writers) }
-    ensures qos { OnOk result (all.new.qos.items ≡ all.old.qos.items ++ of_writers_in (matched_writer number peer.now) topic 1 peer.now.writers) }
+    ensures names { OnOk result
+        (all.new.names.items ≡ all.old.names.items
+        ++ of_writers_in (writer_name number peer.now) topic 1 peer.now.writers) }
+    ensures qos { OnOk result
+        (all.new.qos.items ≡ all.old.qos.items
+        ++ of_writers_in (matched_writer number peer.now) topic 1 peer.now.writers) }
     ensures few { OnOk result (length all.new.qos.items ≤ length all.old.qos.items + 16) }
 {
     for (index, writer) in peer.writers.as_slice().iter().enumerate() {

@@ -32,7 +32,8 @@ impl Peer {
         raised: Option<Status>,
     )
         requires within { (1 ≤ number) × (number ≤ length self.old.readers) }
-        ensures told { Tells L.notices L.capacity (λ part. told part (entity.Reader number) raised) self.old slots.old self.new slots.new }
+        ensures told { Tells L.notices L.capacity
+            (λ part. told part (entity.Reader number) raised) self.old slots.old self.new slots.new }
         ensures readers { length self.new.readers ≡ length self.old.readers }
     {
         let Some(status) = raised else {
@@ -108,7 +109,8 @@ impl Peer {
     ///
     /// DDS 1.4, 2.2.4.2 (listeners).
     pub(crate) fn end<L: Listener>(&mut self, slots: &mut Slots<L>, marks: &Marks)
-        ensures told { (before : Part) → AreMarksOf marks.now before → Tells L.notices L.capacity (at_end before) self.old slots.old self.new slots.new }
+        ensures told { (before : Part) → AreMarksOf marks.now before
+            → Tells L.notices L.capacity (at_end before) self.old slots.old self.new slots.new }
     {
         self.notify_writers(slots, marks);
         self.notify_readers(slots, marks);

@@ -180,8 +180,10 @@ impl ReaderEnd {
         reader_id: &EntityId,
         writer_id: &EntityId,
     ) -> Option<usize>
-        ensures found { IfSome result (IsNamedFor own.now self.now (receiver_at receiver.now) reader_id.now writer_id.now) }
-        ensures none { IfNone result ((k : ℕ) → IsNamedFor own.now self.now (receiver_at receiver.now) reader_id.now writer_id.now k → ⊥) }
+        ensures found { IfSome result
+            (IsNamedFor own.now self.now (receiver_at receiver.now) reader_id.now writer_id.now) }
+        ensures none { IfNone result
+            ((k : ℕ) → IsNamedFor own.now self.now (receiver_at receiver.now) reader_id.now writer_id.now k → ⊥) }
     {
         let is_named = *reader_id == self.entity || *reader_id == EntityId::UNKNOWN;
         if !is_named || !is_for(receiver, own) {
@@ -265,7 +267,8 @@ fn told_by(
     receiver: &MessageReceiver,
     submessage: &Submessage,
 ) -> Result<Option<Told>, Code>
-    ensures told { IfOk result (λ told. MatchOption told (NamesNobody submessage.now) (IsToldBy (receiver_at receiver.now) submessage.now)) }
+    ensures told { IfOk result
+        (λ told. MatchOption told (NamesNobody submessage.now) (IsToldBy (receiver_at receiver.now) submessage.now)) }
     ensures memory { IfErr result (λ code. code ≡ Memory) }
 {
     match submessage {
@@ -428,7 +431,8 @@ impl ReaderEnd {
     ///
     /// DDS 1.4, 2.2.2.5 (get_key_value).
     pub fn key_value(&self, instance: Handle) -> Option<Key>
-        ensures { (h : List Happening) → Holds self.now.store h → result ≡ instance_of (qos_of self.now.store.cache) h instance }
+        ensures { (h : List Happening) → Holds self.now.store h
+            → result ≡ instance_of (qos_of self.now.store.cache) h instance }
     {
         self.store.key_value(instance)
     }
@@ -437,7 +441,8 @@ impl ReaderEnd {
     ///
     /// DDS 1.4, 2.2.2.5 (lookup_instance).
     pub fn lookup(&self, key: Key) -> Handle
-        ensures { (h : List Happening) → Holds self.now.store h → result ≡ handle_of (qos_of self.now.store.cache) h key }
+        ensures { (h : List Happening) → Holds self.now.store h
+            → result ≡ handle_of (qos_of self.now.store.cache) h key }
     {
         self.store.lookup(key)
     }

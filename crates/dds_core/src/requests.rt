@@ -83,7 +83,8 @@ impl Peer {
         body: &AckNack,
         rooms: Vec<Option<Room>>,
     )
-        requires within { (k : WriterKept) × (slice_get self.old.writers index ≡ Some k) × (length rooms.items ≡ length k.readers) }
+        requires within { (k : WriterKept) × (slice_get self.old.writers index ≡ Some k)
+            × (length rooms.items ≡ length k.readers) }
         requires base { 1 ≤ body.now.reader_sn_state.base }
         requires few { length rooms.items ≤ 256 }
         requires rooms { HaveRoom body.now.reader_sn_state rooms.items }
@@ -111,8 +112,11 @@ impl Peer {
     ) -> Result<(), Code>
         requires base { 1 ≤ body.now.reader_sn_state.base }
         requires low { sent.old.unsent < 2 ^ 59 }
-        ensures ok { OnOk result (TakesOneMore self.old (receiver_at receiver.now) (submessage.AckNack body.now) moves.old.items sent.old self.new moves.new.items sent.new) }
-        ensures err { OnErr result (StandsAsWell self.old self.new × (moves.new.items ≡ moves.old.items) × (sent.new ≡ sent.old)) }
+        ensures ok { OnOk result
+            (TakesOneMore self.old (receiver_at receiver.now)
+            (submessage.AckNack body.now) moves.old.items sent.old self.new moves.new.items sent.new) }
+        ensures err { OnErr result
+            (StandsAsWell self.old self.new × (moves.new.items ≡ moves.old.items) × (sent.new ≡ sent.old)) }
         ensures prefix { self.new.prefix ≡ self.old.prefix }
         ensures few { sent.new.unsent ≤ sent.old.unsent + 2 ^ 16 }
         ensures messages { AreMessages sent.old.packets.items → AreMessages sent.new.packets.items }

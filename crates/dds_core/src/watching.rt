@@ -287,7 +287,8 @@ impl Peer {
     }
 
     pub(crate) fn get_trigger_value<T: Filters>(&self, filters: &T, condition: Cond) -> Output
-        ensures step { StepsBy (T.meaning filters.now) self.now (event.Call (call.GetTriggerValue condition)) result self.now }
+        ensures step { StepsBy (T.meaning filters.now) self.now
+            (event.Call (call.GetTriggerValue condition)) result self.now }
         ensures sends { SendsNothing result }
     {
         if !self.watch.knows(condition) {
@@ -325,7 +326,8 @@ impl Peer {
         scope: Scope,
         condition: u32,
     ) -> Output
-        ensures step { StepsBy (T.meaning filters.now) self.old (event.Call (call.ReadByCondition reader scope condition)) result self.new }
+        ensures step { StepsBy (T.meaning filters.now) self.old
+            (event.Call (call.ReadByCondition reader scope condition)) result self.new }
         ensures sends { SendsNothing result }
     {
         let Asked { selection, filter } = match self.asked_by(reader, scope, condition) {
@@ -347,7 +349,8 @@ impl Peer {
         scope: Scope,
         condition: u32,
     ) -> Output
-        ensures step { StepsBy (T.meaning filters.now) self.old (event.Call (call.TakeByCondition reader scope condition)) result self.new }
+        ensures step { StepsBy (T.meaning filters.now) self.old
+            (event.Call (call.TakeByCondition reader scope condition)) result self.new }
         ensures sends { SendsNothing result }
     {
         let Asked { selection, filter } = match self.asked_by(reader, scope, condition) {

@@ -136,14 +136,16 @@ impl WriterEnd {
 
     /// Whether it has registered the instance.
     pub fn is_registered(&self, key: Key) -> bool
-        ensures { (w : Writer) (answered : EndpointOf → Option ℤ) → WriterStands self.now w answered → result ≡ is_key_registered key w.written }
+        ensures { (w : Writer) (answered : EndpointOf → Option ℤ) → WriterStands self.now w answered
+            → result ≡ is_key_registered key w.written }
     {
         self.writer.is_registered(key)
     }
 
     /// What an unregister makes (DDS 1.4, 2.2.3, WRITER_DATA_LIFECYCLE).
     pub fn unregister_kind(&self) -> ChangeKind
-        ensures { (w : Writer) (answered : EndpointOf → Option ℤ) → WriterStands self.now w answered → result ≡ unregister_kind w.autodispose }
+        ensures { (w : Writer) (answered : EndpointOf → Option ℤ) → WriterStands self.now w answered
+            → result ≡ unregister_kind w.autodispose }
     {
         if self.autodispose {
             ChangeKind::DisposeUnregister
@@ -216,9 +218,12 @@ impl WriterEnd {
     pub fn append(&mut self, change: Change) -> Result<Sn, Code>
         requires short { length change.value ≤ 1024 }
         ensures ok { OnOk result (Enters self.old (Changed change) self.new) }
-        ensures accepted { IfOk result (λ number. (w : Writer) (answered : EndpointOf → Option ℤ) → WriterStands self.old w answered →
+        ensures accepted { IfOk result
+            (λ number. (w : Writer) (answered : EndpointOf → Option ℤ) → WriterStands self.old w answered →
             (append_refusal (history_of w) change ≡ None) × (number ≡ length (writer_changes w) + 1)) }
-        ensures refused { IfErr result (λ code. (w : Writer) (answered : EndpointOf → Option ℤ) → WriterStands self.old w answered → Refuses (append_refusal (history_of w) change) code) }
+        ensures refused { IfErr result
+            (λ code. (w : Writer) (answered : EndpointOf → Option ℤ) → WriterStands self.old w answered
+            → Refuses (append_refusal (history_of w) change) code) }
         ensures number { IfOk result (λ number. (1 ≤ number) × (number ≤ 2 ^ 48)) }
         ensures err { OnErr result (self.new ≡ self.old) }
     {
@@ -246,7 +251,8 @@ impl WriterEnd {
         body: &AckNack,
     ) -> Result<Vec<Option<Room>>, AllocError>
         ensures few { IfOk result (λ all. length all.items ≤ 256) }
-        ensures rooms { IfOk result (λ all. AreRooms own.now self.now.entity (receiver_at receiver.now) body.now self.now.readers all.items) }
+        ensures rooms { IfOk result
+            (λ all. AreRooms own.now self.now.entity (receiver_at receiver.now) body.now self.now.readers all.items) }
     {
         let readers = self.readers.as_slice();
         rooms(alloc, own, receiver, body, self.entity, readers)

@@ -68,12 +68,14 @@ abbrev pub is_revival : Option ChangeKind → Option InstanceState → Bool
 is_revival kind before = (is_write kind && is_disposed before) || (is_write kind && is_without_writers before)
 
 -- a track counts the entry of position n, which its owners have taken up: its state before, and the accepted kind
-pub record Counts (before : Option InstanceState) (kind : Option ChangeKind) (n : ℕ) (old new : InstanceTrack) : Type 0 where
+pub record Counts (before : Option InstanceState) (kind : Option ChangeKind) (n : ℕ)
+    (old new : InstanceTrack) : Type 0 where
   pub key : new.key ≡ old.key
   pub owners : new.owners ≡ old.owners
   pub accepts : new.last_accepted ≡ or_else kind old.last_accepted
   pub disposed : new.disposed_generations ≡ old.disposed_generations + one_if (is_write kind && is_disposed before)
-  pub no_writers : new.no_writers_generations ≡ old.no_writers_generations + one_if (is_write kind && is_without_writers before)
+  pub no_writers : new.no_writers_generations ≡ old.no_writers_generations + one_if
+      (is_write kind && is_without_writers before)
   pub rebirth : new.latest_rebirth ≡ (if is_revival kind before then n else old.latest_rebirth)
   pub seen : new.is_seen ≡ (not (is_revival kind before) && old.is_seen)
   pub marker : new.last_marker ≡ (if becomes_not_alive before (state_of_track new) then Some n else old.last_marker)
@@ -83,11 +85,14 @@ pub record Counts (before : Option InstanceState) (kind : Option ChangeKind) (n 
 pub record Advances (kind : Option ChangeKind) (n : ℕ) (old new : InstanceTrack) : Type 0 where
   pub key : new.key ≡ old.key
   pub accepts : new.last_accepted ≡ or_else kind old.last_accepted
-  pub disposed : new.disposed_generations ≡ old.disposed_generations + one_if (is_write kind && is_disposed (state_of_track old))
-  pub no_writers : new.no_writers_generations ≡ old.no_writers_generations + one_if (is_write kind && is_without_writers (state_of_track old))
+  pub disposed : new.disposed_generations ≡ old.disposed_generations + one_if
+      (is_write kind && is_disposed (state_of_track old))
+  pub no_writers : new.no_writers_generations ≡ old.no_writers_generations + one_if
+      (is_write kind && is_without_writers (state_of_track old))
   pub rebirth : new.latest_rebirth ≡ (if is_revival kind (state_of_track old) then n else old.latest_rebirth)
   pub seen : new.is_seen ≡ (not (is_revival kind (state_of_track old)) && old.is_seen)
-  pub marker : new.last_marker ≡ (if becomes_not_alive (state_of_track old) (state_of_track new) then Some n else old.last_marker)
+  pub marker : new.last_marker ≡
+      (if becomes_not_alive (state_of_track old) (state_of_track new) then Some n else old.last_marker)
   pub writes : new.accepted_writes ≡ old.accepted_writes + one_if (is_write kind)
 
 -- the first change of an instance turns it to such a state: a dispose, or a write of a writer that is not matched

@@ -125,7 +125,8 @@ impl Instances {
     /// Takes up a change, in the room that there is.
     fn change(&mut self, qos: &ReaderQos, arrival: &Arrival)
         requires room { 1 ≤ room_of self.old }
-        ensures stands { (h : List Happening) → Stands qos.now self.old h → Stands qos.now self.new (Came arrival.now ∷ h) }
+        ensures stands { (h : List Happening) → Stands qos.now self.old h
+            → Stands qos.now self.new (Came arrival.now ∷ h) }
         ensures room { room_of self.new + 1 ≡ room_of self.old }
     {
         let position = self.happened + 1;
@@ -150,7 +151,8 @@ impl Instances {
     /// DDS 1.4, 2.2.2.5 (instance_state, generation counts), 2.2.3 (OWNERSHIP).
     pub fn come(&mut self, qos: &ReaderQos, arrival: &Arrival) -> Result<(), Code>
         // The change came.
-        ensures ok { OnOk result ((h : List Happening) → Stands qos.now self.old h → Stands qos.now self.new (Came arrival.now ∷ h)) }
+        ensures ok { OnOk result
+            ((h : List Happening) → Stands qos.now self.old h → Stands qos.now self.new (Came arrival.now ∷ h)) }
         // Where there is room it comes.
         ensures reserved { 1 ≤ room_of self.old → IsOk result }
         // It takes the room of one entry at most.
@@ -174,7 +176,9 @@ impl Instances {
     /// DDS 1.4, 2.2.3 (LIVELINESS).
     pub fn died(&mut self, writer: Handle) -> Result<(), Code>
         // The writer died.
-        ensures ok { OnOk result ((q : ReaderQos) (h : List Happening) (moment : ℕ) → Stands q self.old h → Stands q self.new (Died writer moment ∷ h)) }
+        ensures ok { OnOk result
+            ((q : ReaderQos) (h : List Happening) (moment : ℕ) → Stands q self.old h
+            → Stands q self.new (Died writer moment ∷ h)) }
         // It is one entry more.
         ensures happened { OnOk result (happened_of self.new ≡ happened_of self.old + 1) }
         // It leaves a marker of no more instances than those that were alive and are not any more.
@@ -206,11 +210,17 @@ impl Instances {
     /// `Memory` after 2^64 - 1 entries, and never where room was reserved; nothing has changed then.
     pub fn skip(&mut self) -> Result<(), Code>
         // Changes were passed over.
-        ensures passed { OnOk result ((q : ReaderQos) (h : List Happening) (w first last : ℕ) → Stands q self.old h → Stands q self.new (Passed w first last ∷ h)) }
+        ensures passed { OnOk result
+            ((q : ReaderQos) (h : List Happening) (w first last : ℕ) → Stands q self.old h
+            → Stands q self.new (Passed w first last ∷ h)) }
         // A writer was heard.
-        ensures heard { OnOk result ((q : ReaderQos) (h : List Happening) (w moment : ℕ) → Stands q self.old h → Stands q self.new (Heard w moment ∷ h)) }
+        ensures heard { OnOk result
+            ((q : ReaderQos) (h : List Happening) (w moment : ℕ) → Stands q self.old h
+            → Stands q self.new (Heard w moment ∷ h)) }
         // A status was looked at.
-        ensures looked { OnOk result ((q : ReaderQos) (h : List Happening) (kind : StatusKind) → Stands q self.old h → Stands q self.new (Looked kind ∷ h)) }
+        ensures looked { OnOk result
+            ((q : ReaderQos) (h : List Happening) (kind : StatusKind) → Stands q self.old h
+            → Stands q self.new (Looked kind ∷ h)) }
         // Where there is room it is taken up.
         ensures reserved { 1 ≤ room_of self.old → IsOk result }
         // It takes the room of one entry at most.
@@ -234,9 +244,13 @@ impl Instances {
     /// DDS 1.4, 2.2.2.5 (view_state).
     pub fn returned(&mut self, samples: &[SamplePosition]) -> Result<(), Code>
         // A read returned them.
-        ensures read { OnOk result ((q : ReaderQos) (h : List Happening) → Stands q self.old h → All (IsReturnable q h) samples.now → Stands q self.new (Read samples.now ∷ h)) }
+        ensures read { OnOk result
+            ((q : ReaderQos) (h : List Happening) → Stands q self.old h → All (IsReturnable q h) samples.now
+            → Stands q self.new (Read samples.now ∷ h)) }
         // A take returned them.
-        ensures took { OnOk result ((q : ReaderQos) (h : List Happening) → Stands q self.old h → All (IsReturnable q h) samples.now → Stands q self.new (Took samples.now ∷ h)) }
+        ensures took { OnOk result
+            ((q : ReaderQos) (h : List Happening) → Stands q self.old h → All (IsReturnable q h) samples.now
+            → Stands q self.new (Took samples.now ∷ h)) }
         // Where there is room it is taken up.
         ensures reserved { 1 ≤ room_of self.old → IsOk result }
         // It takes the room of one entry at most.
@@ -267,7 +281,8 @@ impl Instances {
         // No more are alive.
         ensures alive { alive_of self.now ≤ result }
         // It is the number of the known instances.
-        ensures len { (q : ReaderQos) (h : List Happening) → Stands q self.now h → result ≡ length (known_instances q h) }
+        ensures len { (q : ReaderQos) (h : List Happening) → Stands q self.now h
+            → result ≡ length (known_instances q h) }
     {
         self.tracks.len()
     }
@@ -277,7 +292,8 @@ impl Instances {
     /// DDS 1.4, 2.2.2.5 (instance_state).
     pub fn state(&self, key: Key) -> Option<InstanceState>
         // It is that of the definitions.
-        ensures state { (q : ReaderQos) (h : List Happening) → Stands q self.now h → result ≡ instance_state_of q key h }
+        ensures state { (q : ReaderQos) (h : List Happening) → Stands q self.now h
+            → result ≡ instance_state_of q key h }
     {
         match look_up(&self.index, &self.tracks, key) {
             Some(track) => track.state(),
@@ -290,9 +306,11 @@ impl Instances {
     /// DDS 1.4, 2.2.2.5 (disposed_generation_count, no_writers_generation_count).
     pub fn counts(&self, key: Key) -> (u64, u64)
         // The first is the count of rebirths after a dispose.
-        ensures disposed { (q : ReaderQos) (h : List Happening) → Stands q self.now h → result.0 ≡ disposed_generations q key h }
+        ensures disposed { (q : ReaderQos) (h : List Happening) → Stands q self.now h
+            → result.0 ≡ disposed_generations q key h }
         // The second is the count of rebirths after it had no writers.
-        ensures no_writers { (q : ReaderQos) (h : List Happening) → Stands q self.now h → result.1 ≡ no_writers_generations q key h }
+        ensures no_writers { (q : ReaderQos) (h : List Happening) → Stands q self.now h
+            → result.1 ≡ no_writers_generations q key h }
     {
         match look_up(&self.index, &self.tracks, key) {
             Some(track) => (track.disposed_generations, track.no_writers_generations),
@@ -342,11 +360,13 @@ impl Instances {
     /// What is known of the instance of a handle, none for a handle that names none.
     pub fn at(&self, handle: Handle) -> Option<KnownInstance>
         // It is of the instance of the handle.
-        ensures key { (q : ReaderQos) (h : List Happening) → Stands q self.now h → option_map (λ known. known.key) result ≡ instance_of q h handle }
+        ensures key { (q : ReaderQos) (h : List Happening) → Stands q self.now h
+            → option_map (λ known. known.key) result ≡ instance_of q h handle }
         // What is told is what the definitions say.
         ensures known { (q : ReaderQos) (h : List Happening) → Stands q self.now h → IfSome result (IsKnown q h) }
         // Its last marker is of the newest entry, if that left one.
-        ensures marker { IfSome result (λ known. is_at known.last_marker (happened_of self.now) ≡ has_marked self.now handle) }
+        ensures marker { IfSome result
+            (λ known. is_at known.last_marker (happened_of self.now) ≡ has_marked self.now handle) }
         // The two generation counts can be added.
         ensures small { IfSome result (λ known. known.disposed_generations + known.no_writers_generations < 2 ^ 64) }
     {
@@ -359,7 +379,8 @@ impl Instances {
     /// What is known of the instance of a key, none while it is unknown.
     pub fn known(&self, key: Key) -> Option<KnownInstance>
         // It is of this instance, and none is told of an unknown one alone.
-        ensures key { (q : ReaderQos) (h : List Happening) → Stands q self.now h → MatchOption result (instance_state_of q key h ≡ None) (λ known. known.key ≡ key) }
+        ensures key { (q : ReaderQos) (h : List Happening) → Stands q self.now h
+            → MatchOption result (instance_state_of q key h ≡ None) (λ known. known.key ≡ key) }
         // What is told is what the definitions say.
         ensures known { (q : ReaderQos) (h : List Happening) → Stands q self.now h → IfSome result (IsKnown q h) }
         // The two generation counts can be added.
@@ -376,7 +397,8 @@ impl Instances {
     /// DDS 1.4, 2.2.2.4 (register_instance, unregister_instance).
     pub fn is_registered(&self, key: Key, writer: Handle) -> bool
         // It is so by the definitions.
-        ensures registered { (q : ReaderQos) (h : List Happening) → Stands q self.now h → IsMatched q writer → result ≡ is_registered key writer h }
+        ensures registered { (q : ReaderQos) (h : List Happening) → Stands q self.now h → IsMatched q writer
+            → result ≡ is_registered key writer h }
     {
         match look_up(&self.index, &self.tracks, key) {
             Some(track) => track.owners.is_registered(writer),
@@ -389,7 +411,8 @@ impl Instances {
     /// DDS 1.4, 2.2.3 (OWNERSHIP).
     pub fn accepts(&self, qos: &ReaderQos, arrival: &Arrival) -> bool
         // It is so by the definitions.
-        ensures accepts { (h : List Happening) → Stands qos.now self.now h → result ≡ is_accepted qos.now h (Came arrival.now) }
+        ensures accepts { (h : List Happening) → Stands qos.now self.now h
+            → result ≡ is_accepted qos.now h (Came arrival.now) }
     {
         let change = &arrival.change;
         match look_up(&self.index, &self.tracks, change.key) {
@@ -403,7 +426,8 @@ impl Instances {
     /// DDS 1.4, 2.2.2.5 (valid_data).
     pub fn would_mark(&self, qos: &ReaderQos, arrival: &Arrival) -> bool
         // It is so by the definitions.
-        ensures marks { (h : List Happening) → Stands qos.now self.now h → result ≡ marks qos.now arrival.now.change.key h (Came arrival.now) }
+        ensures marks { (h : List Happening) → Stands qos.now self.now h
+            → result ≡ marks qos.now arrival.now.change.key h (Came arrival.now) }
     {
         let change = &arrival.change;
         match look_up(&self.index, &self.tracks, change.key) {

@@ -36,7 +36,8 @@ pub fn change_known(
     ensures keys { map key_of tracks.new.items ≡ map key_of tracks.old.items }
     ensures len { vec_len tracks.new ≡ vec_len tracks.old }
     ensures capacity { vec_capacity tracks.new ≡ vec_capacity tracks.old }
-    ensures follows { (h : List Happening) → length h + 1 ≡ position → IsLawful qos.now h → Follows qos.now h tracks.old.items → Follows qos.now (Came arrival.now ∷ h) tracks.new.items }
+    ensures follows { (h : List Happening) → length h + 1 ≡ position → IsLawful qos.now h
+        → Follows qos.now h tracks.old.items → Follows qos.now (Came arrival.now ∷ h) tracks.new.items }
 {
     tracks[at].change(qos, arrival, position);
 }
@@ -62,7 +63,9 @@ pub fn introduce(
     ensures spare { spare index.old ≤ spare index.new + 1 }
     ensures len { vec_len tracks.new ≡ vec_len tracks.old + 1 }
     ensures capacity { vec_capacity tracks.old ≤ vec_capacity tracks.new }
-    ensures follows { (h : List Happening) → length h + 1 ≡ position → ((i : Key) → StandsFor blank qos.now i []) → IsLawful qos.now h → Follows qos.now h tracks.old.items → Follows qos.now (Came arrival.now ∷ h) tracks.new.items }
+    ensures follows { (h : List Happening) → length h + 1 ≡ position → ((i : Key) → StandsFor blank qos.now i [])
+        → IsLawful qos.now h → Follows qos.now h tracks.old.items
+        → Follows qos.now (Came arrival.now ∷ h) tracks.new.items }
 {
     let mut track = InstanceTrack::new(arrival.change.key, blank);
     track.change(qos, arrival, position);
@@ -76,8 +79,10 @@ pub fn bury_all(tracks: &mut Vec<InstanceTrack>, writer: Handle, position: u64)
     ensures keys { map key_of tracks.new.items ≡ map key_of tracks.old.items }
     ensures len { vec_len tracks.new ≡ vec_len tracks.old }
     ensures capacity { vec_capacity tracks.new ≡ vec_capacity tracks.old }
-    ensures marked { count_by is_alive_track tracks.new.items + count_by (λ t. is_at t.last_marker position) tracks.new.items ≤ count_by is_alive_track tracks.old.items }
-    ensures follows { (q : ReaderQos) (h : List Happening) (now : ℕ) → length h + 1 ≡ position → IsLawful q h → Follows q h tracks.old.items → Follows q (Died writer now ∷ h) tracks.new.items }
+    ensures marked { count_by is_alive_track tracks.new.items + count_by
+        (λ t. is_at t.last_marker position) tracks.new.items ≤ count_by is_alive_track tracks.old.items }
+    ensures follows { (q : ReaderQos) (h : List Happening) (now : ℕ) → length h + 1 ≡ position → IsLawful q h
+        → Follows q h tracks.old.items → Follows q (Died writer now ∷ h) tracks.new.items }
 {
     for at in 0..tracks.len() {
         tracks[at].bury(writer, position);
@@ -91,7 +96,8 @@ fn see_sample(index: &IndexSet<Key>, tracks: &mut Vec<InstanceTrack>, sample: Sa
     ensures keys { map key_of tracks.new.items ≡ map key_of tracks.old.items }
     ensures len { vec_len tracks.new ≡ vec_len tracks.old }
     ensures capacity { vec_capacity tracks.new ≡ vec_capacity tracks.old }
-    ensures sees { (q : ReaderQos) (h : List Happening) (samples : List SamplePosition) → Each q (Read samples ∷ h) tracks.old.items → Each q (Read (samples ++ sample ∷ []) ∷ h) tracks.new.items }
+    ensures sees { (q : ReaderQos) (h : List Happening) (samples : List SamplePosition)
+        → Each q (Read samples ∷ h) tracks.old.items → Each q (Read (samples ++ sample ∷ []) ∷ h) tracks.new.items }
 {
     if let Some(at) = find(index, sample.key) {
         tracks[at].see(sample.position);
@@ -105,7 +111,8 @@ pub fn see_all(index: &IndexSet<Key>, tracks: &mut Vec<InstanceTrack>, samples: 
     ensures keys { map key_of tracks.new.items ≡ map key_of tracks.old.items }
     ensures len { vec_len tracks.new ≡ vec_len tracks.old }
     ensures capacity { vec_capacity tracks.new ≡ vec_capacity tracks.old }
-    ensures sees { (q : ReaderQos) (h : List Happening) → Each q (Read [] ∷ h) tracks.old.items → Each q (Read samples.now ∷ h) tracks.new.items }
+    ensures sees { (q : ReaderQos) (h : List Happening) → Each q (Read [] ∷ h) tracks.old.items
+        → Each q (Read samples.now ∷ h) tracks.new.items }
 {
     for sample in samples {
         see_sample(index, tracks, *sample);
@@ -134,7 +141,9 @@ pub fn take_up(
     ensures capacity { vec_capacity tracks.old ≤ vec_capacity tracks.new }
     ensures blanks_len { vec_len blanks.old ≤ vec_len blanks.new + 1 }
     ensures blanks { (n : ℕ) → AreBlank n blanks.old.items → AreBlank n blanks.new.items }
-    ensures follows { (h : List Happening) → length h + 1 ≡ position → AreBlank (length qos.now.writers) blanks.old.items → IsLawful qos.now h → Follows qos.now h tracks.old.items → Follows qos.now (Came arrival.now ∷ h) tracks.new.items }
+    ensures follows { (h : List Happening) → length h + 1 ≡ position
+        → AreBlank (length qos.now.writers) blanks.old.items → IsLawful qos.now h → Follows qos.now h tracks.old.items
+        → Follows qos.now (Came arrival.now ∷ h) tracks.new.items }
 {
     match find(index, arrival.change.key) {
         Some(at) => change_known(tracks, at, qos, arrival, position),
@@ -174,7 +183,9 @@ pub fn look_up<'a>(
     key: Key,
 ) -> Option<&'a InstanceTrack>
     requires indexed { index.now.keys ≡ map key_of tracks.now }
-    ensures kept { (q : ReaderQos) (h : List Happening) → Follows q h tracks.now → MatchOption result (last_accepted q key h ≡ None) (λ t. Tracks q key h t.now × IsTrue (is_some (last_accepted q key h))) }
+    ensures kept { (q : ReaderQos) (h : List Happening) → Follows q h tracks.now
+        → MatchOption result (last_accepted q key h ≡ None)
+        (λ t. Tracks q key h t.now × IsTrue (is_some (last_accepted q key h))) }
     ensures fits { (n : ℕ) → All (Fits n) tracks.now → IfSome result (λ t. Fits n t.now) }
 {
     match find(index, key) {

@@ -54,11 +54,14 @@ register_refusal part writer = if not (has_number part.rtps.writers writer) then
 -- why a write is refused: no such writer, a value above 1,024 octets, or as its history says
 abbrev pub write_refusal : Part → ℕ → Key → List ℕ → Option Code
 write_refusal part writer key value =
-    if not (has_number part.rtps.writers writer) || nat_lt 1024 (length value) then Some BadParameter else change_refusal part writer (change_made part kind.Write key value)
+    if not (has_number part.rtps.writers writer) || nat_lt 1024 (length value) then Some BadParameter
+    else change_refusal part writer (change_made part kind.Write key value)
 
 -- why a dispose is refused: no such writer, or as its history says
 abbrev pub dispose_refusal : Part → ℕ → Key → Option Code
-dispose_refusal part writer key = if not (has_number part.rtps.writers writer) then Some BadParameter else change_refusal part writer (change_made part kind.Dispose key [])
+dispose_refusal part writer key =
+    if not (has_number part.rtps.writers writer) then Some BadParameter
+    else change_refusal part writer (change_made part kind.Dispose key [])
 
 -- why an unregister is refused: no such writer, the instance is not registered there, or as its history says
 abbrev pub unregister_refusal : Part → ℕ → Key → Option Code
@@ -75,12 +78,14 @@ assert_refusal part writer =
 
 -- the samples that an access of the peer's reader returns
 abbrev pub picked_at : Test → Part → ℕ → Selection → List SamplePosition
-picked_at test part reader selection = picked_by (own_reader part reader).qos (own_reader part reader).happened selection test
+picked_at test part reader selection =
+    picked_by (own_reader part reader).qos (own_reader part reader).happened selection test
 
 -- why an access is refused: no such reader, a max that is neither -1 nor positive, or an instance that has to be known and is not
 abbrev pub access_refusal : Part → ℕ → Selection → Option Code
 access_refusal part reader selection =
-    if not (has_number part.dds.readers reader) then Some BadParameter else selection_refusal (own_reader part reader).qos (own_reader part reader).happened selection
+    if not (has_number part.dds.readers reader) then Some BadParameter
+    else selection_refusal (own_reader part reader).qos (own_reader part reader).happened selection
 
 -- the key of an instance of the peer's reader, by its handle
 abbrev pub key_of : Part → ℕ → ℕ → Option Key
@@ -88,7 +93,9 @@ key_of part reader instance = instance_of (own_reader part reader).qos (own_read
 
 -- why there is no key of an instance: no such reader, or no known instance has the handle
 abbrev pub key_refusal : Part → ℕ → ℕ → Option Code
-key_refusal part reader instance = if not (has_number part.dds.readers reader) || not (is_some (key_of part reader instance)) then Some BadParameter else None
+key_refusal part reader instance =
+    if not (has_number part.dds.readers reader) || not (is_some (key_of part reader instance)) then Some BadParameter
+    else None
 
 -- why a look at a status or a handle of the peer's reader is refused: no such reader
 abbrev pub look_refusal : Part → ℕ → Option Code
@@ -101,7 +108,10 @@ writer_look_refusal part writer = if not (has_number part.rtps.writers writer) t
 -- a peer's reader, of whose statuses this was seen
 abbrev pub after_look : Part → ℕ → Seen → Dds
 after_look part reader seen =
-    record part.dds { readers = with_numbered part.dds.readers reader (record (own_reader part reader) { seen = seen }) }
+    record part.dds {
+      readers = with_numbered part.dds.readers reader
+          (record (own_reader part reader) { seen = seen });
+    }
 
 -- what is seen of a reader's statuses once its SAMPLE_LOST was looked at
 abbrev pub seen_lost : Reader → Seen
@@ -118,7 +128,10 @@ seen_liveliness r = record r.seen {
 -- a peer's reader, after one more thing happened there
 abbrev pub with_happening : Part → ℕ → Happening → Dds
 with_happening part reader happening =
-    record part.dds { readers = with_numbered part.dds.readers reader (record (own_reader part reader) { happened = happening ∷ (own_reader part reader).happened }) }
+    record part.dds {
+      readers = with_numbered part.dds.readers reader
+          (record (own_reader part reader) { happened = happening ∷ (own_reader part reader).happened });
+    }
 
 -- What a call enters at a writer of its peer, if anything.
 pub data Effect : Type 0 where
@@ -131,14 +144,19 @@ with_written w entry = record w { written = entry ∷ w.written }
 
 abbrev pub effect : Rtps → Effect → Rtps
 effect old nothing = old
-effect old (writes writer entry) = record old { writers = with_numbered old.writers writer (with_written (numbered old.writers writer no_writer) entry) }
+effect old (writes writer entry) =
+    record old {
+      writers = with_numbered old.writers writer
+          (with_written (numbered old.writers writer no_writer) entry);
+    }
 
 -- what a call that is answered so enters at the peer's writer
 abbrev pub effect_of : Part → Call → Reply → Effect
 effect_of part (Register writer key) Done = writes writer (Registered key)
 effect_of part (Write writer key value) Done = writes writer (Changed (change_made part kind.Write key value))
 effect_of part (Dispose writer key) Done = writes writer (Changed (change_made part kind.Dispose key []))
-effect_of part (Unregister writer key) Done = writes writer (Changed (change_made part (unregister_kind (own_writer part writer).autodispose) key []))
+effect_of part (Unregister writer key) Done =
+    writes writer (Changed (change_made part (unregister_kind (own_writer part writer).autodispose) key []))
 effect_of part (AssertLiveliness writer) Done = writes writer (Asserted part.dds.moment)
 effect_of part (GetLivelinessLost writer) (LivelinessLost status) = writes writer LookedAt
 effect_of part call reply = nothing
@@ -155,11 +173,14 @@ IsDoneUnless refusal reply old done new = ⊥
 abbrev pub AnswersAccess : (List SamplePosition → Happening) → Test → Part → ℕ → Selection → Reply → Dds → Type 0
 AnswersAccess entry test old reader selection (Samples samples) dds =
     (access_refusal old reader selection ≡ None) × (picked_at test old reader selection ≢ [])
-    × (samples ≡ collection_of (own_reader old reader).qos (own_reader old reader).happened (picked_at test old reader selection))
+    × (samples ≡ collection_of (own_reader old reader).qos (own_reader old reader).happened
+    (picked_at test old reader selection))
     × (dds ≡ with_happening old reader (entry (picked_at test old reader selection)))
 AnswersAccess entry test old reader selection (Refused NoData) dds =
-    (access_refusal old reader selection ≡ None) × (picked_at test old reader selection ≡ []) × (dds ≡ with_happening old reader (entry []))
-AnswersAccess entry test old reader selection (Refused code) dds = Refuses (access_refusal old reader selection) code × (dds ≡ old.dds)
+    (access_refusal old reader selection ≡ None) × (picked_at test old reader selection ≡ [])
+    × (dds ≡ with_happening old reader (entry []))
+AnswersAccess entry test old reader selection (Refused code) dds =
+    Refuses (access_refusal old reader selection) code × (dds ≡ old.dds)
 AnswersAccess entry test old reader selection reply dds = ⊥
 
 -- A call of what is watched: the first cause refuses it, or it is answered so, and this is watched from then on.
@@ -177,7 +198,8 @@ IsAnsweredInMemory needs refusal answer after old reply dds =
 -- ends it too, once its deadline has come; before that, the wait goes on.
 abbrev pub AnswersLook : List Cond → Bool → Part → ℕ → Reply → Dds → Type 0
 AnswersLook [] true old wait_set reply dds =
-    IsAnswered (use_refusal (made old.dds.watch.wait_sets wait_set)) (Refused Timeout) (with_deadline old.dds.watch wait_set None) old reply dds
+    IsAnswered (use_refusal (made old.dds.watch.wait_sets wait_set)) (Refused Timeout)
+    (with_deadline old.dds.watch wait_set None) old reply dds
 AnswersLook [] false old wait_set reply dds =
     IsAnswered (use_refusal (made old.dds.watch.wait_sets wait_set)) Waiting old.dds.watch old reply dds
 AnswersLook (c ∷ cs) timed_out old wait_set reply dds =
@@ -185,29 +207,38 @@ AnswersLook (c ∷ cs) timed_out old wait_set reply dds =
     (with_deadline old.dds.watch wait_set None) old reply dds
 
 -- An access by a condition: the first cause refuses it, or it is the access by the condition's masks and test.
-abbrev pub AnswersByCondition : (List SamplePosition → Happening) → Option Code → Test → Part → ℕ → Selection → Reply → Dds → Type 0
+abbrev pub AnswersByCondition : (List SamplePosition → Happening) → Option Code → Test → Part → ℕ → Selection → Reply
+    → Dds → Type 0
 AnswersByCondition entry (Some code) test old reader selection reply dds = (reply ≡ Refused code) × (dds ≡ old.dds)
-AnswersByCondition entry None test old reader selection reply dds = AnswersAccess entry test old reader selection reply dds
+AnswersByCondition entry None test old reader selection reply dds =
+    AnswersAccess entry test old reader selection reply dds
 
 -- What a call answers, and what it does to what the peer's own calls see. A look at a status, a key, a handle and an
 -- assertion need no memory.
 abbrev pub Answers : Tests → Part → Call → Reply → Dds → Type 0
 Answers tests old (Register writer key) reply dds = IsDoneUnless (register_refusal old writer) reply old.dds old.dds dds
-Answers tests old (Write writer key value) reply dds = IsDoneUnless (write_refusal old writer key value) reply old.dds old.dds dds
-Answers tests old (Dispose writer key) reply dds = IsDoneUnless (dispose_refusal old writer key) reply old.dds old.dds dds
-Answers tests old (Unregister writer key) reply dds = IsDoneUnless (unregister_refusal old writer key) reply old.dds old.dds dds
+Answers tests old (Write writer key value) reply dds =
+    IsDoneUnless (write_refusal old writer key value) reply old.dds old.dds dds
+Answers tests old (Dispose writer key) reply dds =
+    IsDoneUnless (dispose_refusal old writer key) reply old.dds old.dds dds
+Answers tests old (Unregister writer key) reply dds =
+    IsDoneUnless (unregister_refusal old writer key) reply old.dds old.dds dds
 Answers tests old (AssertLiveliness writer) Done dds = (assert_refusal old writer ≡ None) × (dds ≡ old.dds)
-Answers tests old (AssertLiveliness writer) (Refused code) dds = (assert_refusal old writer ≡ Some code) × (dds ≡ old.dds)
+Answers tests old (AssertLiveliness writer) (Refused code) dds =
+    (assert_refusal old writer ≡ Some code) × (dds ≡ old.dds)
 Answers tests old (AssertLiveliness writer) reply dds = ⊥
 Answers tests old (Read reader selection) reply dds = AnswersAccess HasRead no_filter old reader selection reply dds
 Answers tests old (Take reader selection) reply dds = AnswersAccess Took no_filter old reader selection reply dds
 Answers tests old (GetKeyValue reader instance) (KeyValue key) dds =
     (key_refusal old reader instance ≡ None) × (key_of old reader instance ≡ Some key) × (dds ≡ old.dds)
-Answers tests old (GetKeyValue reader instance) (Refused code) dds = (key_refusal old reader instance ≡ Some code) × (dds ≡ old.dds)
+Answers tests old (GetKeyValue reader instance) (Refused code) dds =
+    (key_refusal old reader instance ≡ Some code) × (dds ≡ old.dds)
 Answers tests old (GetKeyValue reader instance) reply dds = ⊥
 Answers tests old (LookupInstance reader key) (InstanceHandle handle) dds =
-    (look_refusal old reader ≡ None) × (handle ≡ handle_of (own_reader old reader).qos (own_reader old reader).happened key) × (dds ≡ old.dds)
-Answers tests old (LookupInstance reader key) (Refused code) dds = (look_refusal old reader ≡ Some code) × (dds ≡ old.dds)
+    (look_refusal old reader ≡ None)
+    × (handle ≡ handle_of (own_reader old reader).qos (own_reader old reader).happened key) × (dds ≡ old.dds)
+Answers tests old (LookupInstance reader key) (Refused code) dds =
+    (look_refusal old reader ≡ Some code) × (dds ≡ old.dds)
 Answers tests old (LookupInstance reader key) reply dds = ⊥
 Answers tests old (GetSampleLost reader) (SampleLost status) dds =
     (look_refusal old reader ≡ None)
@@ -220,18 +251,22 @@ Answers tests old (GetLivelinessChanged reader) (LivelinessChanged status) dds =
     × (status ≡ liveliness_changed_status (own_reader old reader).qos (own_reader old reader).happened
     (own_reader old reader).seen.alive (own_reader old reader).seen.not_alive)
     × (dds ≡ after_look old reader (seen_liveliness (own_reader old reader)))
-Answers tests old (GetLivelinessChanged reader) (Refused code) dds = (look_refusal old reader ≡ Some code) × (dds ≡ old.dds)
+Answers tests old (GetLivelinessChanged reader) (Refused code) dds =
+    (look_refusal old reader ≡ Some code) × (dds ≡ old.dds)
 Answers tests old (GetLivelinessChanged reader) reply dds = ⊥
 Answers tests old (GetLivelinessLost writer) (LivelinessLost status) dds =
     (writer_look_refusal old writer ≡ None)
     × (status ≡ liveliness_lost_status (own_writer old writer).lease (own_writer old writer).written) × (dds ≡ old.dds)
-Answers tests old (GetLivelinessLost writer) (Refused code) dds = (writer_look_refusal old writer ≡ Some code) × (dds ≡ old.dds)
+Answers tests old (GetLivelinessLost writer) (Refused code) dds =
+    (writer_look_refusal old writer ≡ Some code) × (dds ≡ old.dds)
 Answers tests old (GetLivelinessLost writer) reply dds = ⊥
 Answers tests old (ReadByCondition reader scope condition) reply dds =
-    AnswersByCondition HasRead (condition_refusal old reader scope condition) (condition_test tests old condition) old reader
+    AnswersByCondition HasRead (condition_refusal old reader scope condition)
+    (condition_test tests old condition) old reader
     (condition_selection old scope condition) reply dds
 Answers tests old (TakeByCondition reader scope condition) reply dds =
-    AnswersByCondition Took (condition_refusal old reader scope condition) (condition_test tests old condition) old reader
+    AnswersByCondition Took (condition_refusal old reader scope condition)
+    (condition_test tests old condition) old reader
     (condition_selection old scope condition) reply dds
 Answers tests old (CreateReadCondition reader masks) reply dds =
     IsAnsweredInMemory true (read_condition_refusal old reader) (Created (length old.dds.watch.conditions + 1))
@@ -249,31 +284,39 @@ Answers tests old (DeleteCondition condition) reply dds =
     IsAnswered (unless_there (is_some (made old.dds.watch.conditions condition))) Done
     (without_condition old.dds.watch condition) old reply dds
 Answers tests old (GetTriggerValue condition) reply dds =
-    IsAnswered (unless_there (knows old.dds.watch condition)) (TriggerValue (trigger_value tests old condition)) old.dds.watch old reply dds
+    IsAnswered (unless_there (knows old.dds.watch condition))
+    (TriggerValue (trigger_value tests old condition)) old.dds.watch old reply dds
 Answers tests old CreateWaitSet reply dds =
     IsAnsweredInMemory true (number_refusal old.dds.watch.wait_sets) (Created (length old.dds.watch.wait_sets + 1))
     (with_wait_set old.dds.watch) old reply dds
 Answers tests old (DeleteWaitSet wait_set) reply dds =
-    IsAnswered (free_refusal (made old.dds.watch.wait_sets wait_set)) Done (with_wait_set_at old.dds.watch wait_set None) old reply dds
+    IsAnswered (free_refusal (made old.dds.watch.wait_sets wait_set)) Done
+    (with_wait_set_at old.dds.watch wait_set None) old reply dds
 Answers tests old (AttachCondition wait_set condition) reply dds =
     IsAnsweredInMemory (not (is_attached condition (conditions_of old.dds.watch wait_set)))
-    (attach_refusal old.dds.watch wait_set condition) Done (with_attached old.dds.watch wait_set condition) old reply dds
+    (attach_refusal old.dds.watch wait_set condition) Done
+    (with_attached old.dds.watch wait_set condition) old reply dds
 Answers tests old (DetachCondition wait_set condition) reply dds =
-    IsAnswered (detaching_refusal old.dds.watch wait_set condition) Done (with_detached old.dds.watch wait_set condition) old reply dds
+    IsAnswered (detaching_refusal old.dds.watch wait_set condition) Done
+    (with_detached old.dds.watch wait_set condition) old reply dds
 Answers tests old (GetConditions wait_set) reply dds =
     IsAnsweredInMemory true (unless_there (is_some (made old.dds.watch.wait_sets wait_set)))
     (Conditions (conditions_of old.dds.watch wait_set)) old.dds.watch old reply dds
 Answers tests old (WaitBegin wait_set deadline) reply dds =
-    IsAnswered (free_refusal (made old.dds.watch.wait_sets wait_set)) Done (with_deadline old.dds.watch wait_set (Some deadline)) old reply dds
+    IsAnswered (free_refusal (made old.dds.watch.wait_sets wait_set)) Done
+    (with_deadline old.dds.watch wait_set (Some deadline)) old reply dds
 Answers tests old (WaitLook wait_set) reply dds =
     AnswersLook (active_of (trigger_value tests old) (conditions_of old.dds.watch wait_set))
     (is_timed_out (made old.dds.watch.wait_sets wait_set) old.dds.moment) old wait_set reply dds
 Answers tests old (WaitEnd wait_set) reply dds =
-    IsAnswered (use_refusal (made old.dds.watch.wait_sets wait_set)) Done (with_deadline old.dds.watch wait_set None) old reply dds
+    IsAnswered (use_refusal (made old.dds.watch.wait_sets wait_set)) Done
+    (with_deadline old.dds.watch wait_set None) old reply dds
 Answers tests old (SetEnabledStatuses entity mask) reply dds =
-    IsAnswered (unless_there (knows_entity old.dds.watch entity)) Done (with_enabled old.dds.watch entity mask) old reply dds
+    IsAnswered (unless_there (knows_entity old.dds.watch entity)) Done
+    (with_enabled old.dds.watch entity mask) old reply dds
 Answers tests old (GetStatusChanges entity) reply dds =
-    IsAnswered (unless_there (knows_entity old.dds.watch entity)) (StatusChanges (status_changes old entity)) old.dds.watch old reply dds
+    IsAnswered (unless_there (knows_entity old.dds.watch entity))
+    (StatusChanges (status_changes old entity)) old.dds.watch old reply dds
 
 -- one call at a peer
 pub record CallStep (tests : Tests) (old : Part) (call : Call) (reply : Reply) (new : Part) : Type 0 where

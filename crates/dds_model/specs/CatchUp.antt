@@ -30,7 +30,8 @@ GoesOn match t h new = (to : ℕ) × (passed : List PassedRun) × Advances match
 -- an answer is taken: a change, or a GAP over its numbers
 abbrev pub TakesAnswer : Match → Answer → Standing → Standing → Type 0
 TakesAnswer match (Data n) old new = (change : Change) × GoesOn match (with_data n change old.tracked) old.happened new
-TakesAnswer match (Gap first last) old new = GoesOn match (with_gap first (empty_from (last + 1)) old.tracked) old.happened new
+TakesAnswer match (Gap first last) old new =
+    GoesOn match (with_gap first (empty_from (last + 1)) old.tracked) old.happened new
 
 -- answers are taken in turn
 abbrev pub TakesAnswers : Match → List Answer → Standing → Standing → Type 0

@@ -78,14 +78,16 @@ stamp_of (Some moment) = if nat_lt moment (2 ^ 63) then moment else 0
 -- what a submessage leaves, at the peer of this prefix, for those that follow: an INFO_TS counts where it is for the peer
 abbrev pub after_submessage : GuidPrefix → Receiver → Submessage → Receiver
 after_submessage own receiver (InfoDst prefix) = record receiver { dest_guid_prefix = prefix }
-after_submessage own receiver (InfoTs stamp) = if is_for receiver own then record receiver { timestamp = stamp_of stamp } else receiver
+after_submessage own receiver (InfoTs stamp) =
+    if is_for receiver own then record receiver { timestamp = stamp_of stamp } else receiver
 after_submessage own receiver submessage = receiver
 
 -- the submessage of this index, counted from 0, stands among these, and the receiver is so when it comes to it
 abbrev pub StandsAt : GuidPrefix → Receiver → List Submessage → ℕ → Receiver → Submessage → Type 0
 StandsAt own receiver [] index at submessage = ⊥
 StandsAt own receiver (s ∷ ss) zero at submessage = (at ≡ receiver) × (submessage ≡ s)
-StandsAt own receiver (s ∷ ss) (suc index) at submessage = StandsAt own (after_submessage own receiver s) ss index at submessage
+StandsAt own receiver (s ∷ ss) (suc index) at submessage =
+    StandsAt own (after_submessage own receiver s) ss index at submessage
 
 -- the entity id that names all matched readers: ENTITYID_UNKNOWN
 abbrev pub every_reader : EntityId
@@ -97,7 +99,8 @@ Names reader_id entity = (reader_id ≡ entity) ⊎ (reader_id ≡ every_reader)
 
 -- the submessage is from the writer, in a part that is for the peer of the reader, and its readerId names the reader,
 -- which is matched with the writer: both are of one topic
-pub record IsToReader (config : Config) (own : GuidPrefix) (at : Receiver) (reader_id writer_id : EntityId) (writer reader : Endpoint) : Type 0 where
+pub record IsToReader (config : Config) (own : GuidPrefix) (at : Receiver) (reader_id writer_id : EntityId)
+    (writer reader : Endpoint) : Type 0 where
   pub from : IsWriter config at.source_guid_prefix writer_id writer
   pub is_for : is_for at own ≡ true
   pub entity : EntityId
@@ -106,7 +109,8 @@ pub record IsToReader (config : Config) (own : GuidPrefix) (at : Receiver) (read
   pub matched : from.end.topic ≡ to.end.topic
 
 -- the submessage is from the reader, which its readerId names, for the writer, with which it is matched
-pub record IsToWriter (config : Config) (own : GuidPrefix) (at : Receiver) (reader_id writer_id : EntityId) (writer reader : Endpoint) : Type 0 where
+pub record IsToWriter (config : Config) (own : GuidPrefix) (at : Receiver) (reader_id writer_id : EntityId)
+    (writer reader : Endpoint) : Type 0 where
   pub entity : EntityId
   pub from : IsReader config at.source_guid_prefix entity reader
   pub named : Names reader_id entity
@@ -121,11 +125,16 @@ IsInGap g number = ((g.gap_start ≤ number) × (number < g.gap_list.base)) ⊎ 
 -- what a submessage claims to the peer of this prefix, where the receiver is so
 abbrev pub Says : Config → GuidPrefix → Receiver → Submessage → Claim → Type 0
 Says config own at (Data d) (ChangeIs writer reader number change) =
-    IsToReader config own at d.reader_id d.writer_id writer reader × (number ≡ d.writer_sn) × (change ≡ change_in d.content at.timestamp)
-Says config own at (Gap g) (MayPass writer reader number) = IsToReader config own at g.reader_id g.writer_id writer reader × (1 ≤ number) × IsInGap g number
-Says config own at (Heartbeat h) (MayPass writer reader number) = IsToReader config own at h.reader_id h.writer_id writer reader × (1 ≤ number) × (number < h.first_sn)
-Says config own at (Heartbeat h) (Asserts writer reader count) = IsToReader config own at h.reader_id h.writer_id writer reader × (h.liveliness_flag ≡ true) × (count ≡ h.count)
-Says config own at (AckNack a) (PlaceReached writer reader base) = IsToWriter config own at a.reader_id a.writer_id writer reader × (base ≡ a.reader_sn_state.base)
+    IsToReader config own at d.reader_id d.writer_id writer reader × (number ≡ d.writer_sn)
+    × (change ≡ change_in d.content at.timestamp)
+Says config own at (Gap g) (MayPass writer reader number) =
+    IsToReader config own at g.reader_id g.writer_id writer reader × (1 ≤ number) × IsInGap g number
+Says config own at (Heartbeat h) (MayPass writer reader number) =
+    IsToReader config own at h.reader_id h.writer_id writer reader × (1 ≤ number) × (number < h.first_sn)
+Says config own at (Heartbeat h) (Asserts writer reader count) =
+    IsToReader config own at h.reader_id h.writer_id writer reader × (h.liveliness_flag ≡ true) × (count ≡ h.count)
+Says config own at (AckNack a) (PlaceReached writer reader base) =
+    IsToWriter config own at a.reader_id a.writer_id writer reader × (base ≡ a.reader_sn_state.base)
 Says config own at submessage claim = ⊥
 
 -- a packet's claims, by its bytes

@@ -23,4 +23,5 @@ machine_with_filter m peer = record { parts = with_numbered m.parts peer (part_w
 
 -- a network with one filter more at the peer of this number
 abbrev pub world_with_filter : WorldState → ℕ → WorldState
-world_with_filter world peer = record world { peers = with_numbered world.peers peer (peer_with_filter (peer_at world peer)) }
+world_with_filter world peer =
+    record world { peers = with_numbered world.peers peer (peer_with_filter (peer_at world peer)) }

@@ -16,7 +16,8 @@ use Rattle.dds_model.specs.Runs.{Traffic, Run}
 -- the changes that came from the writer of this publication handle, in the order in which they came
 abbrev pub came_from : ℕ → List Happening → List Change
 came_from publication [] = []
-came_from publication (Came arrival ∷ h) = if arrival.writer == publication then came_from publication h ++ arrival.change ∷ [] else came_from publication h
+came_from publication (Came arrival ∷ h) =
+    if arrival.writer == publication then came_from publication h ++ arrival.change ∷ [] else came_from publication h
 came_from publication (_ ∷ h) = came_from publication h
 
 -- what came at a reader from a matched writer are the first changes of the writer's list, as many as lie before the
@@ -36,6 +37,8 @@ no_traffic = record { sent = []; unsent = 0 }
 
 -- after every run, so it is of each writer that keeps all and each reader that it is matched with
 abbrev pub ChangesComeInOrder : Type 0
-ChangesComeInOrder = (config : Config) (tests : AllTests) (writer reader : Endpoint) (events : List WorldEvent) (replies : List Reply) (last : Traffic) (after : Machine)
-    → (writer_at (opening config) writer).policy ≡ KeepAll → IsSome (place_at (opening config) reader writer) → Run config tests no_traffic (opening config) events replies last after
+ChangesComeInOrder = (config : Config) (tests : AllTests) (writer reader : Endpoint) (events : List WorldEvent)
+    (replies : List Reply) (last : Traffic) (after : Machine)
+    → (writer_at (opening config) writer).policy ≡ KeepAll → IsSome (place_at (opening config) reader writer)
+    → Run config tests no_traffic (opening config) events replies last after
     → CameInOrder after writer reader

@@ -61,9 +61,12 @@ no_tests peer = no_filters
 -- delivery makes is its choice among the legal ones; every other reply is determined.
 abbrev pub Step : AllTests → ℕ → Machine → WorldEvent → Reply → Machine → Type 0
 Step tests sent old (event.Call peer call) reply new =
-    AtPeer old peer (λ after. CallStep (tests peer) (part_at old peer) call reply after) new ⊎ ((HasNumber old.parts peer → ⊥) × IsRefused old reply new)
+    AtPeer old peer (λ after. CallStep (tests peer) (part_at old peer) call reply after) new
+    ⊎ ((HasNumber old.parts peer → ⊥) × IsRefused old reply new)
 Step tests sent old (event.Tick peer now) reply new =
-    AtPeer old peer (λ after. TickStep (part_at old peer) now reply after) new ⊎ ((HasNumber old.parts peer → ⊥) × IsRefused old reply new)
+    AtPeer old peer (λ after. TickStep (part_at old peer) now reply after) new
+    ⊎ ((HasNumber old.parts peer → ⊥) × IsRefused old reply new)
 Step tests sent old (event.Deliver peer packet) reply new =
-    ((1 ≤ packet) × (packet ≤ sent) × AtPeer old peer (λ after. DeliveryStep (grounds_of old peer) (part_at old peer) reply after) new)
+    ((1 ≤ packet) × (packet ≤ sent)
+    × AtPeer old peer (λ after. DeliveryStep (grounds_of old peer) (part_at old peer) reply after) new)
     ⊎ (((packet ≡ 0) ⊎ (sent < packet) ⊎ (HasNumber old.parts peer → ⊥)) × IsRefused old reply new)

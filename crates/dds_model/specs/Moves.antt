@@ -26,11 +26,13 @@ pub record Grounds : Type 1 where
 
 -- what the reader of this number may rest on as to the writer
 abbrev pub as_to : Grounds → Endpoint → ℕ → WriterGrounds
-as_to grounds writer reader = record { is_change = grounds.is_change writer reader; may_pass = grounds.may_pass writer reader }
+as_to grounds writer reader =
+    record { is_change = grounds.is_change writer reader; may_pass = grounds.may_pass writer reader }
 
 -- the peer's reader, with a matched writer of this publication handle
 abbrev pub match_of : Part → ℕ → ℕ → Match
-match_of part reader publication = record { qos = (own_reader part reader).qos; publication = publication; moment = part.dds.moment }
+match_of part reader publication =
+    record { qos = (own_reader part reader).qos; publication = publication; moment = part.dds.moment }
 
 -- the peer's reader is matched with the writer, which has this publication handle there, and it is at this place
 pub record IsMatched (part : Part) (writer : Endpoint) (reader publication place : ℕ) : Type 0 where
@@ -41,22 +43,26 @@ abbrev pub position_of : Part → ℕ → ℕ → Position
 position_of part reader place = record { place = place; happened = (own_reader part reader).happened }
 
 -- the place of the peer's reader in the list of a matched writer goes on
-pub record Places (grounds : Grounds) (old : Part) (writer : Endpoint) (reader to : ℕ) (passed : List PassedRun) (new : Part) : Type 0 where
+pub record Places (grounds : Grounds) (old : Part) (writer : Endpoint) (reader to : ℕ) (passed : List PassedRun)
+    (new : Part) : Type 0 where
   pub publication : ℕ
   pub place : ℕ
   pub matched : IsMatched old writer reader publication place
   pub forward : place < to
   pub end : Position
-  pub goes : GoesTo (as_to grounds writer reader) (match_of old reader publication) (position_of old reader place) passed to end
+  pub goes : GoesTo (as_to grounds writer reader) (match_of old reader publication)
+      (position_of old reader place) passed to end
   pub after : new ≡ at_reader old reader (with_place (own_proxies old reader) writer to) end.happened
 
 -- a matched reader of the peer's writer has acknowledged more, and no more than it has
-pub record Acknowledges (grounds : Grounds) (old : Part) (writer : ℕ) (reader : Endpoint) (to : ℕ) (new : Part) : Type 0 where
+pub record Acknowledges (grounds : Grounds) (old : Part) (writer : ℕ) (reader : Endpoint) (to : ℕ)
+    (new : Part) : Type 0 where
   pub acknowledged : ℕ
   pub matched : acknowledged_of (own_writer old writer).readers reader ≡ Some acknowledged
   pub forward : acknowledged < to
   pub has_place : grounds.has_place writer reader to
-  pub after : new ≡ at_writer old writer (record (own_writer old writer) { readers = with_acknowledged (own_writer old writer).readers reader to })
+  pub after : new ≡ at_writer old writer
+      (record (own_writer old writer) { readers = with_acknowledged (own_writer old writer).readers reader to })
 
 -- a count is above the one by which a writer was heard last; the first is so always
 abbrev pub IsLater : Option ℤ → ℤ → Type 0
@@ -72,7 +78,8 @@ pub record Hears (grounds : Grounds) (old : Part) (writer : Endpoint) (reader : 
   pub count : ℤ
   pub later : IsLater heard count
   pub may_hear : grounds.may_hear writer reader count
-  pub after : new ≡ at_reader old reader (with_heard (own_proxies old reader) writer count) (WasHeard publication old.dds.moment ∷ (own_reader old reader).happened)
+  pub after : new ≡ at_reader old reader (with_heard (own_proxies old reader) writer count)
+      (WasHeard publication old.dds.moment ∷ (own_reader old reader).happened)
 
 -- one move is legal
 abbrev pub IsMove : Grounds → Part → Move → Part → Type 0

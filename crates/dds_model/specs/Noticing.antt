@@ -32,7 +32,8 @@ lost_raised before r =
 
 -- its DATA_AVAILABLE, if a sample came
 abbrev pub data_raised : Reader → Reader → Option Status
-data_raised before r = if nat_lt (length before.happened) (data_available_at r.qos r.happened) then Some DataAvailable else None
+data_raised before r = if nat_lt (length before.happened) (data_available_at r.qos r.happened) then Some DataAvailable
+    else None
 
 -- its LIVELINESS_CHANGED, if a writer became alive, or not alive
 abbrev pub turn_raised : Reader → Reader → Option Status
@@ -46,7 +47,8 @@ losses_of w = (liveliness_lost_status w.lease w.written).total_count
 
 -- LIVELINESS_LOST of a writer, if it was lost
 abbrev pub loss_raised : Writer → Writer → Option Status
-loss_raised before w = if nat_lt (losses_of before) (losses_of w) then Some (LivelinessLost (liveliness_lost_status w.lease w.written)) else None
+loss_raised before w = if nat_lt (losses_of before) (losses_of w)
+    then Some (LivelinessLost (liveliness_lost_status w.lease w.written)) else None
 
 -- ---- what is told of it
 
@@ -66,7 +68,8 @@ looked_at part (entity.Reader n) status = record part { dds = after_look part n 
 -- a part, once a listener was told of a status of an entity, and it was looked at
 abbrev pub told_of : Part → Entity → Status → Part
 told_of part entity status = record (looked_at part entity status) {
-  dds = record (looked_at part entity status).dds { listeners = after_notice part.dds.listeners (record { entity = entity; status = status }) };
+  dds = record (looked_at part entity status).dds
+      { listeners = after_notice part.dds.listeners (record { entity = entity; status = status }) };
 }
 
 -- where nobody takes the status nothing happens
@@ -103,7 +106,8 @@ each_told tell (suc n) part = tell (suc n) (each_told tell n part)
 
 -- the end of an event that came to a peer's part as it was before: the writers first, then the readers
 unfoldable pub at_end : Part → Part → Part
-at_end before part = each_told (reader_told before) (length part.dds.readers) (each_told (writer_told before) (length part.rtps.writers) part)
+at_end before part = each_told (reader_told before) (length part.dds.readers)
+    (each_told (writer_told before) (length part.rtps.writers) part)
 
 -- the same of a peer
 abbrev pub peer_at_end : Peer → Peer → Peer
@@ -119,20 +123,29 @@ peer_of (event.Deliver peer packet) = peer
 
 -- the machine at the end of an event, which came to it as it was before
 abbrev pub machine_ended : Machine → WorldEvent → Machine → Machine
-machine_ended before e m = record { parts = with_numbered m.parts (peer_of e) (at_end (part_at before (peer_of e)) (part_at m (peer_of e))) }
+machine_ended before e m =
+    record { parts = with_numbered m.parts (peer_of e) (at_end (part_at before (peer_of e)) (part_at m (peer_of e))) }
 
 -- a network at the end of an event
 abbrev pub world_ended : WorldState → WorldEvent → WorldState → WorldState
-world_ended before e world = record world { peers = with_numbered world.peers (peer_of e) (peer_at_end (peer_at before (peer_of e)) (peer_at world (peer_of e))) }
+world_ended before e world =
+    record world {
+      peers = with_numbered world.peers (peer_of e)
+          (peer_at_end (peer_at before (peer_of e)) (peer_at world (peer_of e)));
+    }
 
 -- ---- listeners that are set
 
 -- a peer with another place of a listener at an entity, or none
 abbrev pub peer_with_place : Peer → Entity → Option Place → Peer
 peer_with_place peer entity place = record peer {
-  part = record peer.part { dds = record peer.part.dds { listeners = with_entity peer.part.dds.listeners entity place } };
+  part = record peer.part {
+    dds = record peer.part.dds
+        { listeners = with_entity peer.part.dds.listeners entity place };
+  };
 }
 
 -- a network in which the peer of this number has that
 abbrev pub world_with_place : WorldState → ℕ → Entity → Option Place → WorldState
-world_with_place world peer entity place = record world { peers = with_numbered world.peers peer (peer_with_place (peer_at world peer) entity place) }
+world_with_place world peer entity place =
+    record world { peers = with_numbered world.peers peer (peer_with_place (peer_at world peer) entity place) }

@@ -19,37 +19,66 @@ use Rattle.dds_model.specs.World.{WorldState, machine_of}
 
 -- the readers of the topic among these, of which the first has this number
 abbrev pub readers_in : ℕ → ℕ → ℕ → List ReaderConfig → List ReaderProxy
-readers_in topic peer number rs = of_readers_in (λ n r. record { reader = record { peer = peer; number = n }; acknowledged = 1 }) topic number rs
+readers_in topic peer number rs =
+    of_readers_in (λ n r. record { reader = record { peer = peer; number = n }; acknowledged = 1 }) topic number rs
 
 -- what a writer of the topic has of its matched readers; the first of these peers has this number
 abbrev pub matched_readers : ℕ → ℕ → List PeerConfig → List ReaderProxy
-matched_readers topic peer ps = of_matched_readers (λ i p n r. record { reader = record { peer = i; number = n }; acknowledged = 1 }) topic peer ps
+matched_readers topic peer ps =
+    of_matched_readers (λ i p n r. record { reader = record { peer = i; number = n }; acknowledged = 1 }) topic peer ps
 
 -- the writers of the topic among these, of which the first has this number
 abbrev pub writers_in : ℕ → ℕ → ℕ → List WriterConfig → List WriterProxy
-writers_in topic peer number ws = of_writers_in (λ n w. record { writer = record { peer = peer; number = n }; place = 1; heard = None }) topic number ws
+writers_in topic peer number ws =
+    of_writers_in (λ n w. record
+    { writer = record { peer = peer; number = n }; place = 1; heard = None }) topic number ws
 
 -- what a reader of the topic has of its matched writers, in the order of publication handles; the first of these peers
 -- has this number
 abbrev pub matched_writers : ℕ → ℕ → List PeerConfig → List WriterProxy
-matched_writers topic peer ps = of_matched_writers (λ i p n w. record { writer = record { peer = i; number = n }; place = 1; heard = None }) topic peer ps
+matched_writers topic peer ps =
+    of_matched_writers (λ i p n w. record
+    { writer = record { peer = i; number = n }; place = 1; heard = None }) topic peer ps
 
 -- what a reader's QoS says of the matched writers of the topic
 abbrev pub writer_qos : ℕ → List PeerConfig → List MatchedWriter
-writer_qos topic ps = of_matched_writers (λ i p n w. record { guid = record { prefix = p.prefix; entity = w.entity }; strength = w.strength; lease = w.lease }) topic 1 ps
+writer_qos topic ps = of_matched_writers
+    (λ i p n w. record {
+      guid = record { prefix = p.prefix; entity = w.entity };
+      strength = w.strength;
+      lease = w.lease;
+    }) topic 1 ps
 
 abbrev pub reader_qos : List PeerConfig → ReaderConfig → ReaderQos
-reader_qos peers r = record { ownership = r.ownership; history = r.history; max_samples = limit_of r.max_samples; max_instances = limit_of r.max_instances; writers = writer_qos r.topic peers }
+reader_qos peers r = record {
+  ownership = r.ownership;
+  history = r.history;
+  max_samples = limit_of r.max_samples;
+  max_instances = limit_of r.max_instances;
+  writers = writer_qos r.topic peers;
+}
 
 abbrev pub opening_writer : List PeerConfig → WriterConfig → Writer
-opening_writer peers w = record { policy = w.history; max_samples = limit_of w.max_samples; lease = w.lease; autodispose = w.autodispose; written = []; readers = matched_readers w.topic 1 peers }
+opening_writer peers w =
+    record {
+      policy = w.history;
+      max_samples = limit_of w.max_samples;
+      lease = w.lease;
+      autodispose = w.autodispose;
+      written = [];
+      readers = matched_readers w.topic 1 peers;
+    }
 
 abbrev pub opening_part : List PeerConfig → PeerConfig → Part
 opening_part peers p = record {
-  rtps = record { writers = map (opening_writer peers) p.writers; readers = map (λ (r : ReaderConfig). matched_writers r.topic 1 peers) p.readers };
+  rtps = record {
+    writers = map (opening_writer peers) p.writers;
+    readers = map (λ (r : ReaderConfig). matched_writers r.topic 1 peers) p.readers;
+  };
   dds = record {
     moment = 0;
-    readers = map (λ (r : ReaderConfig). record { qos = reader_qos peers r; happened = []; seen = nothing_seen }) p.readers;
+    readers = map (λ (r : ReaderConfig). record
+        { qos = reader_qos peers r; happened = []; seen = nothing_seen }) p.readers;
     watch = nothing_watched (length p.writers) (length p.readers);
     listeners = nobody (length p.writers) (length p.readers);
   };
@@ -57,7 +86,9 @@ opening_part peers p = record {
 
 abbrev pub opening_peers : List PeerConfig → ℕ → List PeerConfig → List Peer
 opening_peers peers number [] = []
-opening_peers peers number (p ∷ ps) = record { number = number; part = opening_part peers p; known = knows_nothing; delivered = [] } ∷ opening_peers peers (number + 1) ps
+opening_peers peers number (p ∷ ps) =
+    record { number = number; part = opening_part peers p; known = knows_nothing; delivered = [] } ∷ opening_peers peers
+    (number + 1) ps
 
 -- the network at its opening
 abbrev pub opening_world : Config → WorldState

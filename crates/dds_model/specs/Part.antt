@@ -81,13 +81,29 @@ pub record Part : Type 0 where
   pub dds : Dds
 
 abbrev pub no_writer : Writer
-no_writer = record { policy = KeepAll; max_samples = None; lease = None; autodispose = false; written = []; readers = [] }
+no_writer = record {
+  policy = KeepAll;
+  max_samples = None;
+  lease = None;
+  autodispose = false;
+  written = [];
+  readers = [];
+}
 
 abbrev pub no_reader : Reader
-no_reader = record { qos = record { ownership = Shared; history = KeepAll; max_samples = None; max_instances = None; writers = [] }; happened = []; seen = nothing_seen }
+no_reader = record {
+  qos = record
+      { ownership = Shared; history = KeepAll; max_samples = None; max_instances = None; writers = [] };
+  happened =
+      [];
+  seen = nothing_seen;
+}
 
 abbrev pub no_part : Part
-no_part = record { rtps = record { writers = []; readers = [] }; dds = record { moment = 0; readers = []; watch = nothing_watched 0 0; listeners = nobody 0 0 } }
+no_part = record {
+  rtps = record { writers = []; readers = [] };
+  dds = record { moment = 0; readers = []; watch = nothing_watched 0 0; listeners = nobody 0 0 };
+}
 
 -- a peer's own writer and reader, by their numbers
 abbrev pub own_writer : Part → ℕ → Writer
@@ -105,7 +121,12 @@ writer_changes w = changes_of w.written
 
 -- a writer's history, with what each matched reliable reader has acknowledged
 abbrev pub history_of : Writer → WriterHistory
-history_of w = record { policy = w.policy; max_samples = w.max_samples; changes = changes_of w.written; acknowledged = map (λ (p : ReaderProxy). p.acknowledged) w.readers }
+history_of w = record {
+  policy = w.policy;
+  max_samples = w.max_samples;
+  changes = changes_of w.written;
+  acknowledged = map (λ (p : ReaderProxy). p.acknowledged) w.readers;
+}
 
 -- the first of these rows of this name
 abbrev pub row_of : {X : Type 0} → (X → Endpoint) → List X → Endpoint → Option X
@@ -119,24 +140,28 @@ with_row name change (x ∷ xs) end = cond (same_endpoint (name x) end) (change 
 
 -- the number below which this reader has acknowledged all changes, if it is matched
 abbrev pub acknowledged_of : List ReaderProxy → Endpoint → Option ℕ
-acknowledged_of rows reader = option_map (λ (p : ReaderProxy). p.acknowledged) (row_of (λ (p : ReaderProxy). p.reader) rows reader)
+acknowledged_of rows reader =
+    option_map (λ (p : ReaderProxy). p.acknowledged) (row_of (λ (p : ReaderProxy). p.reader) rows reader)
 
 abbrev pub with_acknowledged : List ReaderProxy → Endpoint → ℕ → List ReaderProxy
-with_acknowledged rows reader to = with_row (λ (p : ReaderProxy). p.reader) (λ (p : ReaderProxy). record p { acknowledged = to }) rows reader
+with_acknowledged rows reader to =
+    with_row (λ (p : ReaderProxy). p.reader) (λ (p : ReaderProxy). record p { acknowledged = to }) rows reader
 
 -- the place in this writer's list, if it is matched
 abbrev pub place_of : List WriterProxy → Endpoint → Option ℕ
 place_of rows writer = option_map (λ (p : WriterProxy). p.place) (row_of (λ (p : WriterProxy). p.writer) rows writer)
 
 abbrev pub with_place : List WriterProxy → Endpoint → ℕ → List WriterProxy
-with_place rows writer to = with_row (λ (p : WriterProxy). p.writer) (λ (p : WriterProxy). record p { place = to }) rows writer
+with_place rows writer to =
+    with_row (λ (p : WriterProxy). p.writer) (λ (p : WriterProxy). record p { place = to }) rows writer
 
 -- the count by which this writer was heard last, if it is matched
 abbrev pub heard_of : List WriterProxy → Endpoint → Option (Option ℤ)
 heard_of rows writer = option_map (λ (p : WriterProxy). p.heard) (row_of (λ (p : WriterProxy). p.writer) rows writer)
 
 abbrev pub with_heard : List WriterProxy → Endpoint → ℤ → List WriterProxy
-with_heard rows writer count = with_row (λ (p : WriterProxy). p.writer) (λ (p : WriterProxy). record p { heard = Some count }) rows writer
+with_heard rows writer count =
+    with_row (λ (p : WriterProxy). p.writer) (λ (p : WriterProxy). record p { heard = Some count }) rows writer
 
 -- the number of the first row of this writer in a list that is numbered from n on
 abbrev pub publication_from : ℕ → List WriterProxy → Endpoint → Option ℕ
@@ -165,7 +190,8 @@ NoLess (Some first) second = IsAtMost first second
 -- this reader is matched, and has not acknowledged all changes of the writer
 abbrev pub is_reader_behind : Writer → Endpoint → Bool
 is_reader_behind w reader =
-    option_map_or (λ acknowledged. nat_le acknowledged (length (writer_changes w))) (acknowledged_of w.readers reader) false
+    option_map_or (λ acknowledged. nat_le acknowledged (length (writer_changes w)))
+    (acknowledged_of w.readers reader) false
 
 -- some matched reliable reader has not acknowledged all changes of the writer
 abbrev pub is_behind : Writer → Bool
@@ -174,7 +200,8 @@ is_behind w = list_any (λ (p : ReaderProxy). nat_le p.acknowledged (length (wri
 -- the peers of these readers, each once
 abbrev pub peers_of : List ReaderProxy → List ℕ
 peers_of [] = []
-peers_of (p ∷ ps) = if list_any (λ peer. peer == p.reader.peer) (peers_of ps) then peers_of ps else p.reader.peer ∷ peers_of ps
+peers_of (p ∷ ps) = if list_any (λ peer. peer == p.reader.peer) (peers_of ps) then peers_of ps
+    else p.reader.peer ∷ peers_of ps
 
 -- the writer has a matched reader
 abbrev pub has_readers : Writer → Bool
@@ -193,9 +220,13 @@ is_assertion w (negsuc n) = false
 abbrev pub at_reader : Part → ℕ → List WriterProxy → List Happening → Part
 at_reader part reader proxies happened = record part {
   rtps = record part.rtps { readers = with_numbered part.rtps.readers reader proxies };
-  dds = record part.dds { readers = with_numbered part.dds.readers reader (record (own_reader part reader) { happened = happened }) };
+  dds = record part.dds {
+    readers = with_numbered part.dds.readers reader
+        (record (own_reader part reader) { happened = happened });
+  };
 }
 
 -- a peer's writer has become this one
 abbrev pub at_writer : Part → ℕ → Writer → Part
-at_writer part writer after = record part { rtps = record part.rtps { writers = with_numbered part.rtps.writers writer after } }
+at_writer part writer after =
+    record part { rtps = record part.rtps { writers = with_numbered part.rtps.writers writer after } }

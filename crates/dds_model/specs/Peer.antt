@@ -67,7 +67,9 @@ pub record IsApplied (config : Config) (delivery : Delivery) (writer reader : En
 
 -- the count is above those of all HEARTBEATs of the writer that were applied at the reader by these deliveries
 abbrev pub IsNewest : Config → List Delivery → Endpoint → Endpoint → ℤ → Type 0
-IsNewest config deliveries writer reader count = (delivery : Delivery) (earlier : ℤ) → Contains deliveries delivery → IsApplied config delivery writer reader earlier → earlier <ℤ count
+IsNewest config deliveries writer reader count =
+    (delivery : Delivery) (earlier : ℤ) → Contains deliveries delivery → IsApplied config delivery writer reader earlier
+    → earlier <ℤ count
 
 -- the packet, as far as the submessage of this index
 abbrev pub delivered_to : List ℕ → ℕ → Delivery
@@ -77,9 +79,12 @@ delivered_to packet index = record { packet = packet; report = record { moves = 
 -- before
 abbrev pub claimed : Config → List Delivery → List ℕ → ℕ → ℕ → Grounds
 claimed config before packet peer index = record {
-  is_change = λ writer reader number change. Claimed config (packet ∷ packets_of before) (ChangeIs writer (record { peer = peer; number = reader }) number change);
-  may_pass = λ writer reader number. Claimed config (packet ∷ packets_of before) (MayPass writer (record { peer = peer; number = reader }) number);
-  has_place = λ writer reader base. Claimed config (packet ∷ packets_of before) (PlaceReached (record { peer = peer; number = writer }) reader base);
+  is_change = λ writer reader number change. Claimed config (packet ∷ packets_of before)
+      (ChangeIs writer (record { peer = peer; number = reader }) number change);
+  may_pass = λ writer reader number. Claimed config (packet ∷ packets_of before)
+      (MayPass writer (record { peer = peer; number = reader }) number);
+  has_place = λ writer reader base. Claimed config (packet ∷ packets_of before)
+      (PlaceReached (record { peer = peer; number = writer }) reader base);
   may_hear = λ writer reader count.
       Claimed config (packet ∷ packets_of before) (Asserts writer (record { peer = peer; number = reader }) count)
       × IsNewest config (delivered_to packet index ∷ before) writer (record { peer = peer; number = reader }) count;
@@ -87,18 +92,25 @@ claimed config before packet peer index = record {
 
 -- the claim is true of the peer's own lists and places
 abbrev pub IsTrueAt : ℕ → Part → Claim → Type 0
-IsTrueAt peer part (ChangeIs writer reader number change) = (writer.peer ≡ peer) × (change_at (writer_changes (own_writer part writer.number)) number ≡ Some change)
+IsTrueAt peer part (ChangeIs writer reader number change) =
+    (writer.peer ≡ peer) × (change_at (writer_changes (own_writer part writer.number)) number ≡ Some change)
 IsTrueAt peer part (MayPass writer reader number) =
-    (writer.peer ≡ peer) × ((is_dropped (history_of (own_writer part writer.number)) number ≡ true) ⊎ IsBelow number (acknowledged_of (own_writer part writer.number).readers reader))
-IsTrueAt peer part (PlaceReached writer reader base) = (reader.peer ≡ peer) × IsAtMost base (place_of (own_proxies part reader.number) writer)
-IsTrueAt peer part (Asserts writer reader count) = (writer.peer ≡ peer) × (is_assertion (own_writer part writer.number) count ≡ true)
+    (writer.peer ≡ peer) × ((is_dropped (history_of (own_writer part writer.number)) number ≡ true)
+    ⊎ IsBelow number (acknowledged_of (own_writer part writer.number).readers reader))
+IsTrueAt peer part (PlaceReached writer reader base) =
+    (reader.peer ≡ peer) × IsAtMost base (place_of (own_proxies part reader.number) writer)
+IsTrueAt peer part (Asserts writer reader count) =
+    (writer.peer ≡ peer) × (is_assertion (own_writer part writer.number) count ≡ true)
 
 -- an event of a peer: a delivery rests on the claims of this and of earlier packets
 abbrev pub EventStep : Config → Tests → Peer → Event → Reply → Peer → Type 0
-EventStep config tests old (event.Call call) reply new = CallStep tests old.part call reply new.part × (new.delivered ≡ old.delivered)
-EventStep config tests old (event.Tick now) reply new = TickStep old.part now reply new.part × (new.delivered ≡ old.delivered)
+EventStep config tests old (event.Call call) reply new =
+    CallStep tests old.part call reply new.part × (new.delivered ≡ old.delivered)
+EventStep config tests old (event.Tick now) reply new =
+    TickStep old.part now reply new.part × (new.delivered ≡ old.delivered)
 EventStep config tests old (event.Deliver packet) (Reported report) new =
-    Receives config (claimed config old.delivered packet old.number) old.number packet old.part report new.part × (new.delivered ≡ record { packet = packet; report = report } ∷ old.delivered)
+    Receives config (claimed config old.delivered packet old.number) old.number packet old.part report new.part
+    × (new.delivered ≡ record { packet = packet; report = report } ∷ old.delivered)
 EventStep config tests old (event.Deliver packet) reply new = ⊥
 
 -- what a peer knows changes by deliveries alone
@@ -107,8 +119,10 @@ Knows old (event.Deliver packet) new = Unit {0}
 Knows old other new = new.known ≡ old.known
 
 -- one step of a peer, and what it sends is true
-pub record PeerStep (config : Config) (tests : Tests) (old : Peer) (event : Event) (output : Output) (new : Peer) : Type 0 where
+pub record PeerStep (config : Config) (tests : Tests) (old : Peer) (event : Event) (output : Output)
+    (new : Peer) : Type 0 where
   pub same_number : new.number ≡ old.number
   pub knows : Knows old event new
   pub step : EventStep config tests old event output.reply new
-  pub sent : (packet : Packet) (claim : Claim) → Contains output.packets packet → Claims config packet.bytes claim → IsTrueAt new.number new.part claim
+  pub sent : (packet : Packet) (claim : Claim) → Contains output.packets packet → Claims config packet.bytes claim
+      → IsTrueAt new.number new.part claim

@@ -14,10 +14,13 @@ use Rattle.dds_model.specs.Machine.{Machine, part_at, grounds_of}
 
 -- the report is of a packet whose submessages were taken up in turn, by a peer of the machine
 abbrev pub ReceivesIn : Config → Machine → ℕ → List ℕ → Reply → Type 0
-ReceivesIn config m peer bytes (Reported report) = (after : Part) × Receives config (λ index. grounds_of m peer) peer bytes (part_at m peer) report after
+ReceivesIn config m peer bytes (Reported report) =
+    (after : Part) × Receives config (λ index. grounds_of m peer) peer bytes (part_at m peer) report after
 ReceivesIn config m peer bytes reply = ⊥
 
 -- a delivered packet is taken up, submessage by submessage
 abbrev pub Progresses : Config → List Packet → Machine → WorldEvent → Reply → Type 0
-Progresses config sent m (world.Deliver peer k) reply = (packet : Packet) → 1 ≤ k → slice_get sent (k - 1) ≡ Some packet → HasNumber m.parts peer → ReceivesIn config m peer packet.bytes reply
+Progresses config sent m (world.Deliver peer k) reply =
+    (packet : Packet) → 1 ≤ k → slice_get sent (k - 1) ≡ Some packet → HasNumber m.parts peer
+    → ReceivesIn config m peer packet.bytes reply
 Progresses config sent m event reply = Unit {0}

@@ -45,7 +45,8 @@ DeliversAll config tests old peer (packet ∷ packets) new =
 
 -- A round begins: the writer's peer ticks, and a packet to the reader's peer with a HEARTBEAT of the writer that this sent is
 -- delivered there.
-pub record BeginsRound (config : Config) (tests : AllTests) (writer reader : Endpoint) (old heard : WorldState) : Type 0 where
+pub record BeginsRound (config : Config) (tests : AllTests) (writer reader : Endpoint)
+    (old heard : WorldState) : Type 0 where
   pub now : ℕ
   pub ticked : WorldState
   pub lost_beats : ℕ
@@ -59,16 +60,20 @@ pub record BeginsRound (config : Config) (tests : AllTests) (writer reader : End
   pub hears : Delivers config tests (world_ended old (Tick writer.peer now) ticked) reader.peer beat lost_asks heard
 
 -- the network once the writer's peer has ticked, at the end of that
-abbrev pub ticked_in : {config : Config} {tests : AllTests} {writer reader : Endpoint} {old heard : WorldState} → BeginsRound config tests writer reader old heard → WorldState
+abbrev pub ticked_in : {config : Config} {tests : AllTests} {writer reader : Endpoint} {old heard : WorldState}
+    → BeginsRound config tests writer reader old heard → WorldState
 ticked_in {writer = writer} {old = old} begins = world_ended old (Tick writer.peer begins.now) begins.ticked
 
 -- the network once the HEARTBEAT was heard, at the end of that
-abbrev pub beat_in : {config : Config} {tests : AllTests} {writer reader : Endpoint} {old heard : WorldState} → BeginsRound config tests writer reader old heard → WorldState
-beat_in {reader = reader} {heard = heard} begins = world_ended (ticked_in begins) (Deliver reader.peer begins.hears.number) heard
+abbrev pub beat_in : {config : Config} {tests : AllTests} {writer reader : Endpoint} {old heard : WorldState}
+    → BeginsRound config tests writer reader old heard → WorldState
+beat_in {reader = reader} {heard = heard} begins =
+    world_ended (ticked_in begins) (Deliver reader.peer begins.hears.number) heard
 
 -- It goes on: a packet with an ACKNACK of the reader to the writer that this sent is delivered at the writer's peer, where no
 -- answer is lost.
-pub record AsksInRound (config : Config) (tests : AllTests) (writer reader : Endpoint) (old asked : WorldState) : Type 0 where
+pub record AsksInRound (config : Config) (tests : AllTests) (writer reader : Endpoint)
+    (old asked : WorldState) : Type 0 where
   pub heard : WorldState
   pub begins : BeginsRound config tests writer reader old heard
   pub ask : Packet
@@ -78,11 +83,14 @@ pub record AsksInRound (config : Config) (tests : AllTests) (writer reader : End
   pub answers : Delivers config tests (beat_in begins) writer.peer ask 0 asked
 
 -- the network once the ACKNACK was taken, at the end of that
-abbrev pub ask_in : {config : Config} {tests : AllTests} {writer reader : Endpoint} {old asked : WorldState} → AsksInRound config tests writer reader old asked → WorldState
-ask_in {writer = writer} {asked = asked} asks = world_ended (beat_in asks.begins) (Deliver writer.peer asks.answers.number) asked
+abbrev pub ask_in : {config : Config} {tests : AllTests} {writer reader : Endpoint} {old asked : WorldState}
+    → AsksInRound config tests writer reader old asked → WorldState
+ask_in {writer = writer} {asked = asked} asks =
+    world_ended (beat_in asks.begins) (Deliver writer.peer asks.answers.number) asked
 
 -- A round: it goes on so, and the answers are delivered at the reader's peer, each to its end.
-pub record IsRepairRound (config : Config) (tests : AllTests) (writer reader : Endpoint) (old new : WorldState) : Type 0 where
+pub record IsRepairRound (config : Config) (tests : AllTests) (writer reader : Endpoint)
+    (old new : WorldState) : Type 0 where
   pub asked : WorldState
   pub asks : AsksInRound config tests writer reader old asked
   pub repairs : DeliversAll config tests (ask_in asks) reader.peer asks.answers.step.packets new

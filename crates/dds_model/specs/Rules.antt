@@ -57,7 +57,8 @@ traffic_of world unsent = record { sent = world.sent; unsent = unsent }
 
 -- One event of a network by the rules, and how many packets are counted as unsent before it and after it: to the greatest
 -- number that has 64 bits, those that are due and not sent besides.
-pub record CountedStep (config : Config) (tests : AllTests) (old : WorldState) (unsent : ℕ) (event : WorldEvent) (reply : Reply)
+pub record CountedStep (config : Config) (tests : AllTests) (old : WorldState) (unsent : ℕ) (event : WorldEvent)
+    (reply : Reply)
     (new : WorldState) (next : ℕ) : Type 0 where
   pub lost : ℕ
   pub ruled : RuledStep config tests old event reply lost new

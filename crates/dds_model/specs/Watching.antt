@@ -50,7 +50,8 @@ bit_if b bit = if b then bit else 0
 
 -- the flagged statuses of a reader and of a writer, as a mask (2.3.3)
 abbrev pub reader_statuses : Reader → StatusMask
-reader_statuses r = record { 0 = bit_if (is_lost_flagged r) 128 + (bit_if (is_data_flagged r) 1024 + bit_if (is_turn_flagged r) 4096) }
+reader_statuses r = record
+    { 0 = bit_if (is_lost_flagged r) 128 + (bit_if (is_data_flagged r) 1024 + bit_if (is_turn_flagged r) 4096) }
 
 abbrev pub writer_statuses : Writer → StatusMask
 writer_statuses w = record { 0 = bit_if (is_loss_flagged w) 2048 }
@@ -92,14 +93,17 @@ value_of tests part (Some (Guard value)) = value
 
 -- the trigger value of a condition; that of an entity is true while one of its enabled statuses is flagged
 abbrev pub trigger_value : Tests → Part → Cond → Bool
-trigger_value tests part (Status entity) = knows_entity part.dds.watch entity && meet (enabled_of part.dds.watch entity (record { 0 = 0 })) (status_changes part entity)
+trigger_value tests part (Status entity) =
+    knows_entity part.dds.watch entity
+    && meet (enabled_of part.dds.watch entity (record { 0 = 0 })) (status_changes part entity)
 trigger_value tests part (Made number) = value_of tests part (made part.dds.watch.conditions number)
 
 -- ---- accesses by a condition
 
 -- why a read condition is not made: no such reader, or no number is left
 abbrev pub read_condition_refusal : Part → ℕ → Option Code
-read_condition_refusal part reader = if not (has_number part.dds.readers reader) then Some BadParameter else number_refusal part.dds.watch.conditions
+read_condition_refusal part reader =
+    if not (has_number part.dds.readers reader) then Some BadParameter else number_refusal part.dds.watch.conditions
 
 -- why a query condition is not made: no such reader or no such filter, or no number is left
 abbrev pub query_condition_refusal : Part → ℕ → ℕ → Option Code
@@ -115,8 +119,11 @@ is_condition_of reader _ = false
 -- condition that is no read condition of the reader (read_w_condition)
 abbrev pub condition_refusal : Part → ℕ → Scope → ℕ → Option Code
 condition_refusal part reader scope condition =
-    if not (has_number part.dds.readers reader) || (not (is_some (made part.dds.watch.conditions condition)) || not (is_maximum (max_in scope))) then Some BadParameter
-    else (if not (is_condition_of reader (made part.dds.watch.conditions condition)) then Some PreconditionNotMet else None)
+    if not (has_number part.dds.readers reader)
+    || (not (is_some (made part.dds.watch.conditions condition)) || not (is_maximum (max_in scope)))
+    then Some BadParameter
+    else (if not (is_condition_of reader (made part.dds.watch.conditions condition)) then Some PreconditionNotMet
+    else None)
 
 -- the masks of a read condition
 abbrev pub masks_of : Option Condition → Masks

@@ -32,7 +32,8 @@ abbrev pub machine_of : WorldState → Machine
 machine_of world = record { parts = map (λ (p : Peer). p.part) world.peers }
 
 -- a peer steps, and of its packets these are sent
-pub record PeerSteps (config : Config) (tests : Tests) (old : WorldState) (peer : ℕ) (event : Event) (reply : Reply) (new : WorldState) : Type 0 where
+pub record PeerSteps (config : Config) (tests : Tests) (old : WorldState) (peer : ℕ) (event : Event) (reply : Reply)
+    (new : WorldState) : Type 0 where
   pub within : HasNumber old.peers peer
   pub output : Output
   pub replies : output.reply ≡ reply
@@ -49,22 +50,32 @@ pub record IsRefusedIn (old : WorldState) (reply : Reply) (new : WorldState) : T
 
 -- one event of the network
 abbrev pub WorldStep : Config → AllTests → WorldState → WorldEvent → Reply → WorldState → Type 0
-WorldStep config tests old (world.Call peer call) reply new = PeerSteps config (tests peer) old peer (event.Call call) reply new ⊎ ((HasNumber old.peers peer → ⊥) × IsRefusedIn old reply new)
-WorldStep config tests old (world.Tick peer now) reply new = PeerSteps config (tests peer) old peer (event.Tick now) reply new ⊎ ((HasNumber old.peers peer → ⊥) × IsRefusedIn old reply new)
+WorldStep config tests old (world.Call peer call) reply new =
+    PeerSteps config (tests peer) old peer (event.Call call) reply new
+    ⊎ ((HasNumber old.peers peer → ⊥) × IsRefusedIn old reply new)
+WorldStep config tests old (world.Tick peer now) reply new =
+    PeerSteps config (tests peer) old peer (event.Tick now) reply new
+    ⊎ ((HasNumber old.peers peer → ⊥) × IsRefusedIn old reply new)
 WorldStep config tests old (world.Deliver peer number) reply new =
-    ((packet : Packet) × (1 ≤ number) × (slice_get old.sent (number - 1) ≡ Some packet) × PeerSteps config (tests peer) old peer (event.Deliver packet.bytes) reply new)
+    ((packet : Packet) × (1 ≤ number) × (slice_get old.sent (number - 1) ≡ Some packet)
+    × PeerSteps config (tests peer) old peer (event.Deliver packet.bytes) reply new)
     ⊎ (((number ≡ 0) ⊎ (length old.sent < number) ⊎ (HasNumber old.peers peer → ⊥)) × IsRefusedIn old reply new)
 
 -- the claim is true of the lists and places
 abbrev pub Holds : Machine → Claim → Type 0
 Holds m (ChangeIs writer reader number change) = change_at (writer_changes (writer_at m writer)) number ≡ Some change
-Holds m (MayPass writer reader number) = (is_dropped (history_of (writer_at m writer)) number ≡ true) ⊎ IsBelow number (place_at m reader writer)
+Holds m (MayPass writer reader number) =
+    (is_dropped (history_of (writer_at m writer)) number ≡ true) ⊎ IsBelow number (place_at m reader writer)
 Holds m (PlaceReached writer reader base) = IsAtMost base (place_at m reader writer)
 Holds m (Asserts writer reader count) = is_assertion (writer_at m writer) count ≡ true
 
 -- all packets that were sent or delivered claim the truth, and no reader has acknowledged more than it has
 pub record Sound (config : Config) (world : WorldState) : Type 0 where
   pub number : (peer : ℕ) → HasNumber world.peers peer → (peer_at world peer).number ≡ peer
-  pub sent : (packet : Packet) (claim : Claim) → Contains world.sent packet → Claims config packet.bytes claim → Holds (machine_of world) claim
-  pub delivered : (peer : ℕ) (delivery : Delivery) (claim : Claim) → Contains (peer_at world peer).delivered delivery → Claims config delivery.packet claim → Holds (machine_of world) claim
-  pub acknowledged : (writer reader : Endpoint) → NoLess (acknowledged_of (writer_at (machine_of world) writer).readers reader) (place_at (machine_of world) reader writer)
+  pub sent : (packet : Packet) (claim : Claim) → Contains world.sent packet → Claims config packet.bytes claim
+      → Holds (machine_of world) claim
+  pub delivered : (peer : ℕ) (delivery : Delivery) (claim : Claim) → Contains (peer_at world peer).delivered delivery
+      → Claims config delivery.packet claim → Holds (machine_of world) claim
+  pub acknowledged : (writer reader : Endpoint)
+      → NoLess (acknowledged_of (writer_at (machine_of world) writer).readers reader)
+      (place_at (machine_of world) reader writer)

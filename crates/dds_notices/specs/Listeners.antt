@@ -49,7 +49,8 @@ with_entity all (Reader n) x = record all { readers = set all.readers (n - 1) x 
 
 -- nothing stands at so many writers and so many readers
 abbrev pub nobody : {X : Type 0} → ℕ → ℕ → ByEntity X
-nobody writers readers = record { participant = None; writers = replicate writers None; readers = replicate readers None }
+nobody writers readers =
+    record { participant = None; writers = replicate writers None; readers = replicate readers None }
 
 -- something stands somewhere
 abbrev pub is_any : {X : Type 0} → ByEntity X → Bool
@@ -135,18 +136,21 @@ place_of capacity mask None = None
 place_of capacity mask (Some listener) = Some (record { mask = mask; room = capacity listener; sent = [] })
 
 -- a listener has the room of its place, and keeps the last ones of all that it was told
-pub record Keeps {L : Type 0} (notices : L → List Notice) (capacity : L → ℕ) (listener : L) (place : Place) : Type 0 where
+pub record Keeps {L : Type 0} (notices : L → List Notice) (capacity : L → ℕ) (listener : L)
+    (place : Place) : Type 0 where
   pub room : capacity listener ≡ place.room
   pub kept : notices listener ≡ keep_last place.room place.sent
 
 -- a listener that may be there stands for the place that may be there
 abbrev pub StandsAt : {L : Type 0} → (L → List Notice) → (L → ℕ) → Option (Slot L) → Option Place → Type 0
 StandsAt notices capacity None None = Unit {0}
-StandsAt notices capacity (Some slot) (Some place) = (slot.mask ≡ place.mask) × Keeps notices capacity slot.listener place
+StandsAt notices capacity (Some slot) (Some place) =
+    (slot.mask ≡ place.mask) × Keeps notices capacity slot.listener place
 StandsAt notices capacity _ _ = ⊥
 
 -- the listeners of a peer stand for these places
-pub record StandsFor {L : Type 0} (notices : L → List Notice) (capacity : L → ℕ) (kept : Slotted L) (places : Places) : Type 0 where
+pub record StandsFor {L : Type 0} (notices : L → List Notice) (capacity : L → ℕ) (kept : Slotted L)
+    (places : Places) : Type 0 where
   pub writers : length places.writers ≡ length kept.writers
   pub readers : length places.readers ≡ length kept.readers
   pub each : (entity : Entity) → StandsAt notices capacity (at_entity kept entity) (at_entity places entity)
@@ -159,7 +163,8 @@ HandedBack notices capacity _ _ = ⊥
 
 -- a listener was set at an entity, or taken away there; for each of the places that they stand for, that of before is handed
 -- back
-pub record Sets {L : Type 0} (notices : L → List Notice) (capacity : L → ℕ) (old : Slotted L) (entity : Entity) (mask : StatusMask)
+pub record Sets {L : Type 0} (notices : L → List Notice) (capacity : L → ℕ) (old : Slotted L) (entity : Entity)
+    (mask : StatusMask)
     (listener handed : Option L) (new : Slotted L) : Type 0 where
   pub accepted : listener_refusal notices old entity listener ≡ None
   pub set : new ≡ with_entity old entity (slot_of mask listener)

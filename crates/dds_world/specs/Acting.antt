@@ -26,7 +26,8 @@ use Rattle.dds_world.specs.WorldStanding.{AreTold, WorldKept, StandsFor, Posts}
 
 -- how many packets were counted as unsent: those of the peer, and those that found no memory in the network
 abbrev pub Counts : WorldKept → Output → WorldKept → Type 0
-Counts old output new = (lost : ℕ) × (length new.sent + lost ≡ length old.sent + length output.packets) × (new.unsent ≡ min (old.unsent + output.unsent + lost) (2 ^ 64 - 1))
+Counts old output new = (lost : ℕ) × (length new.sent + lost ≡ length old.sent + length output.packets)
+    × (new.unsent ≡ min (old.unsent + output.unsent + lost) (2 ^ 64 - 1))
 
 -- where a peer sends nothing, the network sends nothing and loses nothing
 abbrev pub IsQuiet : WorldKept → Output → WorldKept → Type 0
@@ -36,14 +37,18 @@ IsQuiet old output new = SendsNothing output → (new.sent ≡ old.sent) × (new
 -- follows the rules of the protocol; the new values stand for the state at its end, once listeners were told, and all that is
 -- known of that was claimed.
 abbrev pub StepsAt : Tests → PeerKept → ℕ → Slotted Recording → Event → Output → PeerKept → Slotted Recording → Type 0
-StepsAt tests core filters slots event output after left = (config : Config) (peer : Peer) → CoreStandsFor core config peer → peer.part.dds.watch.filters ≡ filters
+StepsAt tests core filters slots event output after left =
+    (config : Config) (peer : Peer) → CoreStandsFor core config peer → peer.part.dds.watch.filters ≡ filters
     → AreTold slots peer.part.dds.listeners → IsSound config peer
-    → (stepped : Peer) × PeerStep config tests peer event output stepped × CoreKeepsRules config peer event output stepped
-    × CoreStandsFor after config (peer_at_end peer stepped) × ((peer_at_end peer stepped).part.dds.watch.filters ≡ filters)
+    → (stepped : Peer) × PeerStep config tests peer event output stepped
+    × CoreKeepsRules config peer event output stepped
+    × CoreStandsFor after config (peer_at_end peer stepped)
+    × ((peer_at_end peer stepped).part.dds.watch.filters ≡ filters)
     × AreTold left (peer_at_end peer stepped).part.dds.listeners × IsSound config (peer_at_end peer stepped)
 
 -- the peer of this index has the event, and the other peers are as they were; of its packets some are sent
-pub record ActsAt (tests : AllTests) (old : WorldKept) (index : ℕ) (event : Event) (reply : Reply) (new : WorldKept) : Type 0 where
+pub record ActsAt (tests : AllTests) (old : WorldKept) (index : ℕ) (event : Event) (reply : Reply)
+    (new : WorldKept) : Type 0 where
   pub core : PeerKept
   pub at : slice_get old.peers index ≡ Some core
   pub output : Output
@@ -60,7 +65,8 @@ pub record ActsAt (tests : AllTests) (old : WorldKept) (index : ℕ) (event : Ev
   pub posts : Posts old.sent output.packets new.sent
 
 -- so it is, and what it sends is said, and counted
-pub record Acts (tests : AllTests) (old : WorldKept) (index : ℕ) (event : Event) (reply : Reply) (new : WorldKept) : Type 0 where
+pub record Acts (tests : AllTests) (old : WorldKept) (index : ℕ) (event : Event) (reply : Reply)
+    (new : WorldKept) : Type 0 where
   pub acts : ActsAt tests old index event reply new
   pub sends : CoreSends acts.core event acts.output
   pub counts : Counts old acts.output new
@@ -73,9 +79,11 @@ pub record IsCopy (sent : List Packet) (index : ℕ) (bytes : List ℕ) : Type 0
   pub same : bytes ≡ packet.bytes
 
 -- the first peers of a configuration, at their opening, without filters; where there is one, the configuration is taken
-pub record OpensFirst {F L : Type 0} (notices : L → List Notice) (capacity : L → ℕ) (config : Config) (count : ℕ) (kept : List (CoreKept F L)) : Type 0 where
+pub record OpensFirst {F L : Type 0} (notices : L → List Notice) (capacity : L → ℕ) (config : Config) (count : ℕ)
+    (kept : List (CoreKept F L)) : Type 0 where
   pub counted : length kept ≡ count
-  pub each : (i : ℕ) (k : CoreKept F L) → slice_get kept i ≡ Some k → CoreStands notices capacity k config (opening_peer config (i + 1))
+  pub each : (i : ℕ) (k : CoreKept F L) → slice_get kept i ≡ Some k
+      → CoreStands notices capacity k config (opening_peer config (i + 1))
   pub none : (i : ℕ) (k : CoreKept F L) → slice_get kept i ≡ Some k → k.filtered.filters ≡ []
   pub taken : 1 ≤ count → check_refusal config.peers ≡ None
 
@@ -84,4 +92,5 @@ abbrev pub RuledSteps : AllTests → WorldKept → WorldEvent → Reply → Worl
 RuledSteps tests old event reply new = (config : Config) (network : WorldState) → StandsFor old config network
     → (after : WorldState) × (lost : ℕ) × RuledStep config tests network event reply lost after
     × (new.unsent ≡ min (old.unsent + lost) (2 ^ 64 - 1))
-    × Step tests (length old.sent) (machine_of network) event reply (machine_of after) × StandsFor new config (world_ended network event after)
+    × Step tests (length old.sent) (machine_of network) event reply (machine_of after)
+    × StandsFor new config (world_ended network event after)

@@ -38,7 +38,11 @@ pub record Held (F L : Type 0) : Type 0 where
 -- a listener that may be there, by the notices that it keeps and how many it can keep
 abbrev pub recorded : {L : Type 0} → (L → List Notice) → (L → ℕ) → Option (Slot L) → Option (Slot Recording)
 recorded notices capacity None = None
-recorded notices capacity (Some slot) = Some (record { mask = slot.mask; listener = record { notices = notices slot.listener; room = capacity slot.listener } })
+recorded notices capacity (Some slot) =
+    Some (record {
+      mask = slot.mask;
+      listener = record { notices = notices slot.listener; room = capacity slot.listener };
+    })
 
 -- so each of a peer's
 abbrev pub recordings : {L : Type 0} → (L → List Notice) → (L → ℕ) → Slotted L → Slotted Recording
@@ -74,11 +78,13 @@ tests_in meaning held = tests_by meaning (filters_of held)
 
 -- The peer of this number has the filter, as the last one. For each state that the old network stands for there is a number for
 -- it, and it is this one, and the new network stands for that state with one filter more there, and nothing else.
-pub record Adds {F L : Type 0} (notices : L → List Notice) (capacity : L → ℕ) (old : Held F L) (peer : ℕ) (filter : F) (number : ℕ) (new : Held F L) : Type 0 where
+pub record Adds {F L : Type 0} (notices : L → List Notice) (capacity : L → ℕ) (old : Held F L) (peer : ℕ) (filter : F)
+    (number : ℕ) (new : Held F L) : Type 0 where
   pub within : HasNumber old.cores peer
   pub filters : filters_of new ≡ with_numbered (filters_of old) peer (numbered (filters_of old) peer [] ++ filter ∷ [])
   pub adds : (config : Config) (network : WorldState) → StandsFor (kept_of notices capacity old) config network
-      → (filter_refusal (peer_at network peer).part.dds.watch ≡ None) × (number ≡ length (numbered (filters_of old) peer []) + 1)
+      → (filter_refusal (peer_at network peer).part.dds.watch ≡ None)
+      × (number ≡ length (numbered (filters_of old) peer []) + 1)
       × StandsFor (kept_of notices capacity new) config (world_with_filter network peer)
 
 -- For each state that the network stands for, a filter is refused so: there is no such peer, or no number is left there, or it
@@ -86,7 +92,8 @@ pub record Adds {F L : Type 0} (notices : L → List Notice) (capacity : L → �
 abbrev pub RefusesFilter : {F L : Type 0} → (L → List Notice) → (L → ℕ) → Held F L → ℕ → Code → Type 0
 RefusesFilter notices capacity held peer code =
     ((HasNumber held.cores peer → ⊥) × (code ≡ BadParameter))
-    ⊎ (HasNumber held.cores peer × ((config : Config) (network : WorldState) → StandsFor (kept_of notices capacity held) config network
+    ⊎ (HasNumber held.cores peer
+    × ((config : Config) (network : WorldState) → StandsFor (kept_of notices capacity held) config network
     → Refuses (filter_refusal (peer_at network peer).part.dds.watch) code))
 
 -- ---- listeners
@@ -94,33 +101,40 @@ RefusesFilter notices capacity held peer code =
 -- At a peer that there is a listener was set at an entity, or taken away there. For each state that the old network stands for it
 -- is not refused; the listener of before is handed back, with the last ones of all that it was told; and the new network stands
 -- for that state with the place of the new one, and nothing else. No filter is added.
-pub record Sets {F L : Type 0} (notices : L → List Notice) (capacity : L → ℕ) (old : Held F L) (peer : ℕ) (entity : Entity) (mask : StatusMask)
+pub record Sets {F L : Type 0} (notices : L → List Notice) (capacity : L → ℕ) (old : Held F L) (peer : ℕ)
+    (entity : Entity) (mask : StatusMask)
     (listener handed : Option L) (new : Held F L) : Type 0 where
   pub within : HasNumber old.cores peer
   pub filters : filters_of new ≡ filters_of old
   pub sets : (config : Config) (network : WorldState) → StandsFor (kept_of notices capacity old) config network
       → (listener_refusal notices (peer_at network peer).part.dds.listeners entity listener ≡ None)
       × HandedBack notices capacity handed (at_entity (peer_at network peer).part.dds.listeners entity)
-      × StandsFor (kept_of notices capacity new) config (world_with_place network peer entity (place_of capacity mask listener))
+      × StandsFor (kept_of notices capacity new) config
+      (world_with_place network peer entity (place_of capacity mask listener))
 
 -- For each state that the network stands for, a listener is refused so: there is no such peer, or by the first cause that there
 -- is at it.
-abbrev pub RefusesListener : {F L : Type 0} → (L → List Notice) → (L → ℕ) → Held F L → ℕ → Entity → Option L → Code → Type 0
+abbrev pub RefusesListener : {F L : Type 0} → (L → List Notice) → (L → ℕ) → Held F L → ℕ → Entity → Option L → Code
+    → Type 0
 RefusesListener notices capacity held peer entity listener code =
     ((HasNumber held.cores peer → ⊥) × (code ≡ BadParameter))
-    ⊎ (HasNumber held.cores peer × ((config : Config) (network : WorldState) → StandsFor (kept_of notices capacity held) config network
+    ⊎ (HasNumber held.cores peer
+    × ((config : Config) (network : WorldState) → StandsFor (kept_of notices capacity held) config network
     → listener_refusal notices (peer_at network peer).part.dds.listeners entity listener ≡ Some code))
 
 -- ---- inner functions alone cite what follows
 
 -- an event of the peer of this index, which adds no filter
-pub record ActsIn {F L : Type 0} (meaning : F → Key → List ℕ → Bool) (notices : L → List Notice) (capacity : L → ℕ) (old : Held F L) (index : ℕ) (event : Event)
+pub record ActsIn {F L : Type 0} (meaning : F → Key → List ℕ → Bool) (notices : L → List Notice) (capacity : L → ℕ)
+    (old : Held F L) (index : ℕ) (event : Event)
     (reply : Reply) (new : Held F L) : Type 0 where
   pub acts : Acts (tests_in meaning old) (kept_of notices capacity old) index event reply (kept_of notices capacity new)
   pub filters : filters_of new ≡ filters_of old
 
 -- a step by the rules, which adds no filter
-pub record StepsIn {F L : Type 0} (meaning : F → Key → List ℕ → Bool) (notices : L → List Notice) (capacity : L → ℕ) (old : Held F L) (event : WorldEvent)
+pub record StepsIn {F L : Type 0} (meaning : F → Key → List ℕ → Bool) (notices : L → List Notice) (capacity : L → ℕ)
+    (old : Held F L) (event : WorldEvent)
     (reply : Reply) (new : Held F L) : Type 0 where
-  pub steps : RuledSteps (tests_in meaning old) (kept_of notices capacity old) event reply (kept_of notices capacity new)
+  pub steps : RuledSteps (tests_in meaning old) (kept_of notices capacity old) event reply
+      (kept_of notices capacity new)
   pub filters : filters_of new ≡ filters_of old

@@ -33,27 +33,39 @@ IsKnown kept m = (config : Config) (network : WorldState) → StandsFor kept con
 
 -- for each state that the network stands for, the writer is not matched with the reader
 abbrev pub NotMatched : WorldKept → Endpoint → Endpoint → Type 0
-NotMatched kept writer reader = (config : Config) (network : WorldState) → StandsFor kept config network → acknowledged_of (writer_at (machine_of network) writer).readers reader ≡ None
+NotMatched kept writer reader =
+    (config : Config) (network : WorldState) → StandsFor kept config network
+    → acknowledged_of (writer_at (machine_of network) writer).readers reader ≡ None
 
 -- the first such packet with a number above this one is delivered at this peer, and it goes on so; or there is none
-abbrev pub Stage : AllTests → (Packet → Type 0) → ℕ → ℕ → (WorldKept → List WorldEvent → List RoundReply → WorldKept → Type 0) → WorldKept → List WorldEvent → List RoundReply → WorldKept → Type 0
+abbrev pub Stage : AllTests → (Packet → Type 0) → ℕ → ℕ
+    → (WorldKept → List WorldEvent → List RoundReply → WorldKept → Type 0) → WorldKept → List WorldEvent
+    → List RoundReply → WorldKept → Type 0
 Stage tests Is from peer Next old events replies new =
     ((events ≡ []) × (replies ≡ []) × (new ≡ old) × HasNone Is old.sent from (length old.sent))
     ⊎ ((k : ℕ) × (reply : RoundReply) × (mid : WorldKept) × (later : List WorldEvent) × (rest : List RoundReply)
-    × IsFirst Is old.sent from (length old.sent) k × IsStep tests old (Deliver peer k) reply mid × (events ≡ Deliver peer k ∷ later) × (replies ≡ reply ∷ rest) × Next mid later rest new)
+    × IsFirst Is old.sent from (length old.sent) k × IsStep tests old (Deliver peer k) reply mid
+    × (events ≡ Deliver peer k ∷ later) × (replies ≡ reply ∷ rest) × Next mid later rest new)
 
 -- the answers of the ACKNACK that was delivered when so many packets had been sent
 abbrev pub Answering : AllTests → Matched → ℕ → WorldKept → List WorldEvent → List RoundReply → WorldKept → Type 0
-Answering tests m from old events replies new = (events ≡ answers_at m.reader.peer from (length old.sent)) × AreSteps tests old events replies new
+Answering tests m from old events replies new =
+    (events ≡ answers_at m.reader.peer from (length old.sent)) × AreSteps tests old events replies new
 
 -- the ACKNACK, if one was sent since so many packets had been, and its answers
 abbrev pub Acknowledging : AllTests → Matched → ℕ → WorldKept → List WorldEvent → List RoundReply → WorldKept → Type 0
-Acknowledging tests m from old events replies new = Stage tests (IsTo m.writer.peer (sought.AckNack m.pair.reader m.pair.writer)) from m.writer.peer (Answering tests m (length old.sent)) old events replies new
+Acknowledging tests m from old events replies new =
+    Stage tests (IsTo m.writer.peer (sought.AckNack m.pair.reader m.pair.writer)) from m.writer.peer
+    (Answering tests m (length old.sent)) old events replies new
 
 -- the HEARTBEAT, if one was sent since so many packets had been, and what follows
 abbrev pub Beating : AllTests → Matched → ℕ → WorldKept → List WorldEvent → List RoundReply → WorldKept → Type 0
-Beating tests m from old events replies new = Stage tests (IsTo m.reader.peer (sought.Heartbeat m.pair.writer)) from m.reader.peer (Acknowledging tests m (length old.sent)) old events replies new
+Beating tests m from old events replies new =
+    Stage tests (IsTo m.reader.peer (sought.Heartbeat m.pair.writer)) from m.reader.peer
+    (Acknowledging tests m (length old.sent)) old events replies new
 
 -- so it is with the replies that are added to these
-abbrev pub Adds : (WorldKept → List WorldEvent → List RoundReply → WorldKept → Type 0) → WorldKept → List RoundReply → WorldKept → List RoundReply → Type 0
-Adds Does old before new after = (events : List WorldEvent) × (added : List RoundReply) × (after ≡ before ++ added) × Does old events added new
+abbrev pub Adds : (WorldKept → List WorldEvent → List RoundReply → WorldKept → Type 0) → WorldKept → List RoundReply
+    → WorldKept → List RoundReply → Type 0
+Adds Does old before new after =
+    (events : List WorldEvent) × (added : List RoundReply) × (after ≡ before ++ added) × Does old events added new

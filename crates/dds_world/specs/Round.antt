@@ -34,18 +34,24 @@ use Rattle.dds_world.specs.WorldStanding.{WorldKept, StandsFor, Steps, Announces
 
 -- why there is no round: the writer is not matched with the reader
 abbrev pub round_refusal : Machine → Endpoint → Endpoint → Option Code
-round_refusal m writer reader = if is_some (acknowledged_of (writer_at m writer).readers reader) then None else Some BadParameter
+round_refusal m writer reader =
+    if is_some (acknowledged_of (writer_at m writer).readers reader) then None else Some BadParameter
 
 -- for each state that the network stands for, a round is refused so
 abbrev pub RefusesRound : WorldKept → Endpoint → Endpoint → Code → Type 0
-RefusesRound kept writer reader code = (config : Config) (network : WorldState) → StandsFor kept config network → Refuses (round_refusal (machine_of network) writer reader) code
+RefusesRound kept writer reader code =
+    (config : Config) (network : WorldState) → StandsFor kept config network
+    → Refuses (round_refusal (machine_of network) writer reader) code
 
 -- for each state that the network stands for, the writer is matched with the reader
 abbrev pub AreMatched : WorldKept → Endpoint → Endpoint → Type 0
-AreMatched kept writer reader = (config : Config) (network : WorldState) → StandsFor kept config network → round_refusal (machine_of network) writer reader ≡ None
+AreMatched kept writer reader =
+    (config : Config) (network : WorldState) → StandsFor kept config network
+    → round_refusal (machine_of network) writer reader ≡ None
 
 -- one event, as a step of the network answers it, with the counts of packets sent and not sent after it
-pub record IsStep (tests : AllTests) (old : WorldKept) (event : WorldEvent) (reply : RoundReply) (new : WorldKept) : Type 0 where
+pub record IsStep (tests : AllTests) (old : WorldKept) (event : WorldEvent) (reply : RoundReply)
+    (new : WorldKept) : Type 0 where
   pub step : Steps tests old event reply.reply new
   pub sends : Announces old event reply.reply new
   pub progress : MovesOn old event reply.reply
@@ -56,7 +62,8 @@ pub record IsStep (tests : AllTests) (old : WorldKept) (event : WorldEvent) (rep
 -- the same of events one after the other
 abbrev pub AreSteps : AllTests → WorldKept → List WorldEvent → List RoundReply → WorldKept → Type 0
 AreSteps tests old [] [] new = new ≡ old
-AreSteps tests old (event ∷ events) (reply ∷ replies) new = (mid : WorldKept) × IsStep tests old event reply mid × AreSteps tests mid events replies new
+AreSteps tests old (event ∷ events) (reply ∷ replies) new =
+    (mid : WorldKept) × IsStep tests old event reply mid × AreSteps tests mid events replies new
 AreSteps tests old [] (reply ∷ replies) new = ⊥
 AreSteps tests old (event ∷ events) [] new = ⊥
 
@@ -82,7 +89,8 @@ abbrev pub heartbeat_of : Config → Endpoint → Sought
 heartbeat_of config writer = sought.Heartbeat (writer_entity config writer.peer writer.number)
 
 abbrev pub acknack_of : Config → Endpoint → Endpoint → Sought
-acknack_of config writer reader = sought.AckNack (reader_entity config reader.peer reader.number) (writer_entity config writer.peer writer.number)
+acknack_of config writer reader =
+    sought.AckNack (reader_entity config reader.peer reader.number) (writer_entity config writer.peer writer.number)
 
 -- the answers: all packets whose numbers lie above this one and are at most the other, up to 32 of them, at this peer
 abbrev pub answers_at : ℕ → ℕ → ℕ → List WorldEvent
@@ -90,10 +98,13 @@ answers_at peer from to = map (λ k. Deliver peer k) (numbers_from (from + 1) (m
 
 -- After the HEARTBEAT: of the packets that its delivery sent to the writer's peer, the first with the ACKNACK is
 -- delivered there, and then its answers at the reader's peer; if there is none, the round ends.
-abbrev pub AfterHeartbeat : Config → Endpoint → Endpoint → List Packet → ℕ → ℕ → List WorldEvent → List RoundReply → Type 0
-AfterHeartbeat config writer reader sent from to [] [] = HasNone (IsTo writer.peer (acknack_of config writer reader)) sent from to
+abbrev pub AfterHeartbeat : Config → Endpoint → Endpoint → List Packet → ℕ → ℕ → List WorldEvent → List RoundReply
+    → Type 0
+AfterHeartbeat config writer reader sent from to [] [] =
+    HasNone (IsTo writer.peer (acknack_of config writer reader)) sent from to
 AfterHeartbeat config writer reader sent from to (Deliver peer k ∷ events) (answered ∷ replies) =
-    (peer ≡ writer.peer) × IsFirst (IsTo writer.peer (acknack_of config writer reader)) sent from to k × (events ≡ answers_at reader.peer to answered.sent)
+    (peer ≡ writer.peer) × IsFirst (IsTo writer.peer (acknack_of config writer reader)) sent from to k
+    × (events ≡ answers_at reader.peer to answered.sent)
 AfterHeartbeat config writer reader sent from to events replies = ⊥
 
 -- After the tick: of the packets that it sent to the reader's peer, the first with a HEARTBEAT of the writer is
@@ -101,13 +112,16 @@ AfterHeartbeat config writer reader sent from to events replies = ⊥
 abbrev pub AfterTick : Config → Endpoint → Endpoint → List Packet → ℕ → ℕ → List WorldEvent → List RoundReply → Type 0
 AfterTick config writer reader sent from to [] [] = HasNone (IsTo reader.peer (heartbeat_of config writer)) sent from to
 AfterTick config writer reader sent from to (Deliver peer k ∷ events) (heard ∷ replies) =
-    (peer ≡ reader.peer) × IsFirst (IsTo reader.peer (heartbeat_of config writer)) sent from to k × AfterHeartbeat config writer reader sent to heard.sent events replies
+    (peer ≡ reader.peer) × IsFirst (IsTo reader.peer (heartbeat_of config writer)) sent from to k
+    × AfterHeartbeat config writer reader sent to heard.sent events replies
 AfterTick config writer reader sent from to events replies = ⊥
 
 -- the events of a round, by whose end these packets were sent: first the writer's peer ticks, at its own moment
-abbrev pub IsRound : Config → WorldState → Endpoint → Endpoint → List Packet → List WorldEvent → List RoundReply → Type 0
+abbrev pub IsRound : Config → WorldState → Endpoint → Endpoint → List Packet → List WorldEvent → List RoundReply
+    → Type 0
 IsRound config network writer reader sent (Tick peer now ∷ events) (ticked ∷ replies) =
-    (peer ≡ writer.peer) × (now ≡ (part_at (machine_of network) writer.peer).dds.moment) × AfterTick config writer reader sent (length network.sent) ticked.sent events replies
+    (peer ≡ writer.peer) × (now ≡ (part_at (machine_of network) writer.peer).dds.moment)
+    × AfterTick config writer reader sent (length network.sent) ticked.sent events replies
 IsRound config network writer reader sent events replies = ⊥
 
 -- memory was found for all of what this answers
@@ -141,7 +155,8 @@ replies_of replies = map (λ (r : RoundReply). r.reply) replies
 -- stood before it, and the reader's place after it. There the reader has gone on by 256 numbers, or to the end of the writer's
 -- list, or to a change that has no room, and the writer knows of all that the reader had before, unless something hindered
 -- the round.
-pub record RoundFrom (tests : AllTests) (config : Config) (network : WorldState) (old : WorldKept) (writer reader : Endpoint)
+pub record RoundFrom (tests : AllTests) (config : Config) (network : WorldState) (old : WorldKept)
+    (writer reader : Endpoint)
     (events : List WorldEvent) (answer : Round) (new : WorldKept) : Type 0 where
   pub is_round : IsRound config network writer reader new.sent events answer.replies
   pub after : WorldState
@@ -158,7 +173,8 @@ pub record RoundFrom (tests : AllTests) (config : Config) (network : WorldState)
 
 -- One round: each reply is that of a step of the network, with the counts as they stood after it; and from each state that the
 -- old network stands for it is a round.
-pub record Rounds (tests : AllTests) (old : WorldKept) (writer reader : Endpoint) (answer : Round) (new : WorldKept) : Type 0 where
+pub record Rounds (tests : AllTests) (old : WorldKept) (writer reader : Endpoint) (answer : Round)
+    (new : WorldKept) : Type 0 where
   pub events : List WorldEvent
   pub steps : AreSteps tests old events answer.replies new
   pub round : (config : Config) (network : WorldState) → StandsFor old config network

@@ -38,11 +38,13 @@ AreTold kept places = SlotsStandFor (λ (r : Recording). r.notices) (λ (r : Rec
 -- no reader's place is past the end of a list.
 pub record StandsFor (kept : WorldKept) (config : Config) (network : WorldState) : Type 0 where
   pub count : length network.peers ≡ length kept.peers
-  pub each : (i : ℕ) (k : PeerKept) → slice_get kept.peers i ≡ Some k → CoreStandsFor k config (get_or network.peers i no_peer)
+  pub each : (i : ℕ) (k : PeerKept) → slice_get kept.peers i ≡ Some k
+      → CoreStandsFor k config (get_or network.peers i no_peer)
   pub known : (i : ℕ) (k : PeerKept) → slice_get kept.peers i ≡ Some k → IsSound config (get_or network.peers i no_peer)
   pub filters : (i : ℕ) → (get_or network.peers i no_peer).part.dds.watch.filters ≡ get_or kept.filters i 0
   pub listened : length network.peers ≡ length kept.listeners
-  pub listeners : (i : ℕ) (k : Slotted Recording) → slice_get kept.listeners i ≡ Some k → AreTold k (get_or network.peers i no_peer).part.dds.listeners
+  pub listeners : (i : ℕ) (k : Slotted Recording) → slice_get kept.listeners i ≡ Some k
+      → AreTold k (get_or network.peers i no_peer).part.dds.listeners
   pub sent : network.sent ≡ kept.sent
   pub sound : Sound config network
   pub messages : AreMessages kept.sent
@@ -72,7 +74,8 @@ pub record Posts (old : List Packet) (packets : List Packet) (new : List Packet)
 -- once listeners were told.
 abbrev pub Steps : AllTests → WorldKept → WorldEvent → Reply → WorldKept → Type 0
 Steps tests old event reply new = (config : Config) (network : WorldState) → StandsFor old config network
-    → (after : WorldState) × WorldStep config tests network event reply after × Step tests (length old.sent) (machine_of network) event reply (machine_of after)
+    → (after : WorldState) × WorldStep config tests network event reply after
+    × Step tests (length old.sent) (machine_of network) event reply (machine_of after)
     × StandsFor new config (world_ended network event after)
 
 -- the packets that were sent, and how many were not
@@ -81,7 +84,9 @@ traffic kept = record { sent = kept.sent; unsent = kept.unsent }
 
 -- For each state that the old network stands for, this is what is sent at the event.
 abbrev pub Announces : WorldKept → WorldEvent → Reply → WorldKept → Type 0
-Announces old event reply new = (config : Config) (network : WorldState) → StandsFor old config network → Sends config (traffic old) (machine_of network) event reply (traffic new)
+Announces old event reply new =
+    (config : Config) (network : WorldState) → StandsFor old config network
+    → Sends config (traffic old) (machine_of network) event reply (traffic new)
 
 -- For each state that the old network stands for, the event is a step of its peers by the rules of the protocol, to one at whose
 -- end the new network stands for it: they say which messages are due, and of these each is sent, in their order, or counted.
@@ -92,11 +97,15 @@ KeepsRules tests old event reply new = (config : Config) (network : WorldState) 
 
 -- For each state that the old network stands for, a delivered packet is taken up, submessage by submessage.
 abbrev pub MovesOn : WorldKept → WorldEvent → Reply → Type 0
-MovesOn old event reply = (config : Config) (network : WorldState) → StandsFor old config network → Progresses config old.sent (machine_of network) event reply
+MovesOn old event reply =
+    (config : Config) (network : WorldState) → StandsFor old config network
+    → Progresses config old.sent (machine_of network) event reply
 
 -- For each state that the old network stands for, these replies are a run of its peers by the rules of the protocol, and of
 -- its machine, over the events, with what is sent meanwhile, and the new network stands for the state afterwards.
-pub record Runs (tests : AllTests) (old : WorldKept) (events : List WorldEvent) (replies : List Reply) (new : WorldKept) : Type 0 where
+pub record Runs (tests : AllTests) (old : WorldKept) (events : List WorldEvent) (replies : List Reply)
+    (new : WorldKept) : Type 0 where
   pub run : (config : Config) (network : WorldState) → StandsFor old config network
       → (after : WorldState) × RuledRun config tests network old.unsent events replies after new.unsent
-      × Run config tests (traffic old) (machine_of network) events replies (traffic new) (machine_of after) × StandsFor new config after
+      × Run config tests (traffic old) (machine_of network) events replies (traffic new) (machine_of after)
+      × StandsFor new config after

@@ -105,7 +105,9 @@ impl<F: Filter, L: Listener> World<F, L> {
         // The replies are a run over the events of a round, with the counts as they stood after each, and the answer says how
         // the two stood before it, and the reader's place after it. The reader has then caught up, unless the answer shows
         // what hindered it.
-        ensures round { IfOk result (λ answer. Rounds (tests_in F.meaning self.old) (kept_of L.notices L.capacity self.old) writer reader answer (kept_of L.notices L.capacity self.new)) }
+        ensures round { IfOk result
+            (λ answer. Rounds (tests_in F.meaning self.old) (kept_of L.notices L.capacity self.old) writer reader answer
+            (kept_of L.notices L.capacity self.new)) }
         // No filter is added.
         ensures filters { filters_of self.new ≡ filters_of self.old }
         // There is a round only where the two are matched.
@@ -144,7 +146,8 @@ impl<F: Filter, L: Listener> World<F, L> {
 
     /// The writer and the reader with what a round needs, if they are matched.
     fn matched(&self, writer: Endpoint, reader: Endpoint) -> Option<Matched>
-        ensures { MatchOption result (NotMatched (kept_of L.notices L.capacity self.now) writer reader) (λ m. (m.writer ≡ writer) × (m.reader ≡ reader) × IsKnown (kept_of L.notices L.capacity self.now) m) }
+        ensures { MatchOption result (NotMatched (kept_of L.notices L.capacity self.now) writer reader)
+            (λ m. (m.writer ≡ writer) × (m.reader ≡ reader) × IsKnown (kept_of L.notices L.capacity self.now) m) }
     {
         let Some(index) = index_of(writer.peer, self.count()) else {
             return None;
@@ -178,7 +181,9 @@ impl<F: Filter, L: Listener> World<F, L> {
     /// One event, whose reply is added.
     fn add_step(&mut self, event: WorldEvent, replies: &mut Vec<RoundReply>)
         requires room { vec_len replies.old < vec_capacity replies.old }
-        ensures step { (reply : ReplyOf) × (replies.new.items ≡ replies.old.items ++ reply ∷ []) × IsStep (tests_in F.meaning self.old) (kept_of L.notices L.capacity self.old) event reply (kept_of L.notices L.capacity self.new) }
+        ensures step { (reply : ReplyOf) × (replies.new.items ≡ replies.old.items ++ reply ∷ [])
+            × IsStep (tests_in F.meaning self.old) (kept_of L.notices L.capacity self.old) event reply
+            (kept_of L.notices L.capacity self.new) }
         ensures filters { filters_of self.new ≡ filters_of self.old }
         ensures capacity { vec_capacity replies.old ≤ vec_capacity replies.new }
     {
@@ -197,7 +202,9 @@ impl<F: Filter, L: Listener> World<F, L> {
     /// Delivers the writer's HEARTBEAT to the reader, if it is among the packets after so many, and what follows.
     fn deliver_heartbeat(&mut self, m: &Matched, from: u64, replies: &mut Vec<RoundReply>)
         requires room { vec_len replies.old + 34 ≤ vec_capacity replies.old }
-        ensures adds { Adds (Beating (tests_in F.meaning self.old) m.now from) (kept_of L.notices L.capacity self.old) replies.old.items (kept_of L.notices L.capacity self.new) replies.new.items }
+        ensures adds { Adds (Beating (tests_in F.meaning self.old) m.now from)
+            (kept_of L.notices L.capacity self.old) replies.old.items
+            (kept_of L.notices L.capacity self.new) replies.new.items }
         ensures filters { filters_of self.new ≡ filters_of self.old }
     {
         let wanted = Sought::Heartbeat {
@@ -215,7 +222,9 @@ impl<F: Filter, L: Listener> World<F, L> {
     /// Delivers the reader's ACKNACK to the writer, if it is among the packets after so many, and its answers.
     fn deliver_acknack(&mut self, m: &Matched, from: u64, replies: &mut Vec<RoundReply>)
         requires room { vec_len replies.old + 33 ≤ vec_capacity replies.old }
-        ensures adds { Adds (Acknowledging (tests_in F.meaning self.old) m.now from) (kept_of L.notices L.capacity self.old) replies.old.items (kept_of L.notices L.capacity self.new) replies.new.items }
+        ensures adds { Adds (Acknowledging (tests_in F.meaning self.old) m.now from)
+            (kept_of L.notices L.capacity self.old) replies.old.items
+            (kept_of L.notices L.capacity self.new) replies.new.items }
         ensures filters { filters_of self.new ≡ filters_of self.old }
     {
         let wanted = Sought::AckNack {

@@ -62,7 +62,8 @@ fn post(sent: &mut Vec<Packet>, packets: Sequence<Packet>) -> u64
 
 /// The index of a peer of this number, counted from 1, among so many.
 pub fn index_of(number: u8, count: usize) -> Option<usize>
-    ensures { MatchOption result ((nat_lt 0 number && nat_le number count) ≡ false) (λ index. (number ≡ index + 1) × (index < count)) }
+    ensures { MatchOption result ((nat_lt 0 number && nat_le number count) ≡ false)
+        (λ index. (number ≡ index + 1) × (index < count)) }
 {
     if number == 0 || count < usize::from(number) {
         None
@@ -73,7 +74,8 @@ pub fn index_of(number: u8, count: usize) -> Option<usize>
 
 /// The index of a packet of this number, counted from 1, among so many.
 fn packet_index(number: u64, count: u64) -> Option<usize>
-    ensures { MatchOption result ((nat_lt 0 number && nat_le number count) ≡ false) (λ index. (number ≡ index + 1) × (index < count)) }
+    ensures { MatchOption result ((nat_lt 0 number && nat_le number count) ≡ false)
+        (λ index. (number ≡ index + 1) × (index < count)) }
 {
     if number == 0 || count < number {
         None
@@ -90,7 +92,8 @@ fn open_peer<F: Filter, L: Listener>(
 ) -> Result<Core<F, L>, Code>
     requires within { index < length config.now.peers }
     requires few { length config.now.peers ≤ 16 }
-    ensures opening { IfOk result (λ core. CoreStandsFor L.notices L.capacity core config.now (opening_peer config.now (index + 1))) }
+    ensures opening { IfOk result
+        (λ core. CoreStandsFor L.notices L.capacity core config.now (opening_peer config.now (index + 1))) }
     ensures none { IfOk result (λ core. core.filtered.filters ≡ []) }
     ensures taken { IfOk result (λ core. check_refusal config.now.peers ≡ None) }
     ensures refused { IfErr result (Refuses (check_refusal config.now.peers)) }
@@ -106,7 +109,8 @@ fn open_peers<F: Filter, L: Listener>(
     requires checked { check_refusal config.now.peers ≡ None }
     requires some { 1 ≤ length config.now.peers }
     requires few { length config.now.peers ≤ 16 }
-    ensures opening { IfOk result (λ peers. OpensFirst L.notices L.capacity config.now (length config.now.peers) peers.items) }
+    ensures opening { IfOk result
+        (λ peers. OpensFirst L.notices L.capacity config.now (length config.now.peers) peers.items) }
     ensures refused { IfErr result (Refuses (check_refusal config.now.peers)) }
 {
     let mut peers = Vec::new(alloc);
@@ -125,7 +129,8 @@ impl<F: Filter, L: Listener> World<F, L> {
     /// What `Config::check` answers, else `Memory` where a growth was refused.
     pub fn open(alloc: Global, config: &Config) -> Result<World<F, L>, Code>
         // The network stands for the opening of its configuration.
-        ensures opening { IfOk result (λ world. StandsFor (kept_of L.notices L.capacity world) config.now (opening_world config.now)) }
+        ensures opening { IfOk result
+            (λ world. StandsFor (kept_of L.notices L.capacity world) config.now (opening_world config.now)) }
         // No peer has a filter.
         ensures none { IfOk result (λ world. (peer : ℕ) → numbered (filters_of world) peer [] ≡ []) }
         // Nothing was sent, and nothing is counted.
@@ -154,13 +159,16 @@ impl<F: Filter, L: Listener> World<F, L> {
     pub fn step(&mut self, event: WorldEvent) -> Reply
         // For each state that the network stands for, the reply is one that the machine without packets gives, by what the
         // filters mean, and the network stands for the state at the event's end, once listeners were told: this is the theorem.
-        ensures step { Steps (tests_in F.meaning self.old) (kept_of L.notices L.capacity self.old) event result (kept_of L.notices L.capacity self.new) }
+        ensures step { Steps (tests_in F.meaning self.old) (kept_of L.notices L.capacity self.old) event result
+            (kept_of L.notices L.capacity self.new) }
         // What is sent at the event, and what is counted as unsent.
-        ensures sends { Announces (kept_of L.notices L.capacity self.old) event result (kept_of L.notices L.capacity self.new) }
+        ensures sends { Announces (kept_of L.notices L.capacity self.old) event result
+            (kept_of L.notices L.capacity self.new) }
         // A delivered packet is taken up, submessage by submessage: what it brings that is due is not left out.
         ensures progress { MovesOn (kept_of L.notices L.capacity self.old) event result }
         // The event is one by the rules of the protocol: each message that they make due is sent, or counted.
-        ensures rules { KeepsRules (tests_in F.meaning self.old) (kept_of L.notices L.capacity self.old) event result (kept_of L.notices L.capacity self.new) }
+        ensures rules { KeepsRules (tests_in F.meaning self.old) (kept_of L.notices L.capacity self.old) event result
+            (kept_of L.notices L.capacity self.new) }
         // No filter is added.
         ensures filters { filters_of self.new ≡ filters_of self.old }
     {
@@ -178,7 +186,9 @@ impl<F: Filter, L: Listener> World<F, L> {
     /// `Memory` where no memory was found for the replies; nothing was done then. No events need none.
     pub fn run(&mut self, events: Vec<WorldEvent>) -> Result<Sequence<Reply>, Code>
         // The replies are a run of the network's peers, and of the machine without packets.
-        ensures run { IfOk result (λ replies. Runs (tests_in F.meaning self.old) (kept_of L.notices L.capacity self.old) events.items replies (kept_of L.notices L.capacity self.new)) }
+        ensures run { IfOk result
+            (λ replies. Runs (tests_in F.meaning self.old) (kept_of L.notices L.capacity self.old) events.items replies
+            (kept_of L.notices L.capacity self.new)) }
         // No filter is added.
         ensures filters { filters_of self.new ≡ filters_of self.old }
         // It is refused for want of memory alone, and never where there are no events.
@@ -237,7 +247,8 @@ impl<F: Filter, L: Listener> World<F, L> {
         listener: Option<L>,
     ) -> Result<Option<L>, (Code, Option<L>)>
         // It is set, and nothing else changes; the one of before has kept the last ones of all that it was told.
-        ensures ok { IfOk result (λ handed. Sets L.notices L.capacity self.old peer entity mask listener handed self.new) }
+        ensures ok { IfOk result
+            (λ handed. Sets L.notices L.capacity self.old peer entity mask listener handed self.new) }
         // A refusal is by the first cause that there is, exactly then.
         ensures refused { IfErr result (λ e. RefusesListener L.notices L.capacity self.old peer entity listener e.0) }
         // What is refused comes back, and changes nothing.
@@ -259,7 +270,8 @@ impl<F: Filter, L: Listener> World<F, L> {
 
     fn call(&mut self, peer: u8, call: Call) -> Reply
         ensures step { StepsIn F.meaning L.notices L.capacity self.old (event.Call peer call) result self.new }
-        ensures sends { Announces (kept_of L.notices L.capacity self.old) (event.Call peer call) result (kept_of L.notices L.capacity self.new) }
+        ensures sends { Announces (kept_of L.notices L.capacity self.old) (event.Call peer call) result
+            (kept_of L.notices L.capacity self.new) }
     {
         match index_of(peer, self.count()) {
             Some(index) => self.happen_at(index, Event::Call(call)),
@@ -269,7 +281,8 @@ impl<F: Filter, L: Listener> World<F, L> {
 
     fn tick(&mut self, peer: u8, now: Moment) -> Reply
         ensures step { StepsIn F.meaning L.notices L.capacity self.old (event.Tick peer now) result self.new }
-        ensures sends { Announces (kept_of L.notices L.capacity self.old) (event.Tick peer now) result (kept_of L.notices L.capacity self.new) }
+        ensures sends { Announces (kept_of L.notices L.capacity self.old) (event.Tick peer now) result
+            (kept_of L.notices L.capacity self.new) }
     {
         match index_of(peer, self.count()) {
             Some(index) => self.happen_at(index, Event::Tick(now)),
@@ -279,7 +292,8 @@ impl<F: Filter, L: Listener> World<F, L> {
 
     fn deliver(&mut self, peer: u8, packet: u64) -> Reply
         ensures step { StepsIn F.meaning L.notices L.capacity self.old (event.Deliver peer packet) result self.new }
-        ensures sends { Announces (kept_of L.notices L.capacity self.old) (event.Deliver peer packet) result (kept_of L.notices L.capacity self.new) }
+        ensures sends { Announces (kept_of L.notices L.capacity self.old) (event.Deliver peer packet) result
+            (kept_of L.notices L.capacity self.new) }
     {
         match packet_index(packet, self.sent()) {
             Some(sent) => self.deliver_sent(peer, sent),
@@ -291,7 +305,8 @@ impl<F: Filter, L: Listener> World<F, L> {
     fn deliver_sent(&mut self, peer: u8, sent: usize) -> Reply
         requires sent { sent < length self.old.sent }
         ensures step { StepsIn F.meaning L.notices L.capacity self.old (event.Deliver peer (sent + 1)) result self.new }
-        ensures sends { Announces (kept_of L.notices L.capacity self.old) (event.Deliver peer (sent + 1)) result (kept_of L.notices L.capacity self.new) }
+        ensures sends { Announces (kept_of L.notices L.capacity self.old) (event.Deliver peer (sent + 1)) result
+            (kept_of L.notices L.capacity self.new) }
     {
         match index_of(peer, self.count()) {
             Some(index) => self.deliver_at(index, sent),
@@ -304,8 +319,10 @@ impl<F: Filter, L: Listener> World<F, L> {
     fn deliver_at(&mut self, index: usize, sent: usize) -> Reply
         requires within { index < length self.old.cores }
         requires sent { sent < length self.old.sent }
-        ensures step { StepsIn F.meaning L.notices L.capacity self.old (event.Deliver (index + 1) (sent + 1)) result self.new }
-        ensures sends { Announces (kept_of L.notices L.capacity self.old) (event.Deliver (index + 1) (sent + 1)) result (kept_of L.notices L.capacity self.new) }
+        ensures step { StepsIn F.meaning L.notices L.capacity self.old
+            (event.Deliver (index + 1) (sent + 1)) result self.new }
+        ensures sends { Announces (kept_of L.notices L.capacity self.old) (event.Deliver (index + 1) (sent + 1)) result
+            (kept_of L.notices L.capacity self.new) }
     {
         match self.copied(sent) {
             Ok(bytes) => self.happen_at(index, Event::Deliver(bytes)),
@@ -392,7 +409,8 @@ impl<F: Filter, L: Listener> World<F, L> {
     /// RTPS 2.5, 8.4.10 (StatefulReader, WriterProxy).
     pub fn place(&self, reader: Endpoint, writer: Endpoint) -> Option<Sn>
         // It is the place in each state that the network stands for, and there is one exactly if they are matched.
-        ensures place { (config : ConfigOf) (network : WorldState) → StandsFor (kept_of L.notices L.capacity self.now) config network
+        ensures place { (config : ConfigOf) (network : WorldState)
+            → StandsFor (kept_of L.notices L.capacity self.now) config network
             → result ≡ place_at (machine_of network) reader writer }
     {
         let Some(index) = index_of(reader.peer, self.count()) else {

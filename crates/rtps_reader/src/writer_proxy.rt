@@ -73,7 +73,9 @@ fn is_named(start: Sn, list: &SnSet, number: u64) -> bool
 fn mark_if(window: &mut Window, number: u64, named: bool)
     requires room { 1 ≤ room_of window.old }
     ensures place { place_of window.new ≡ place_of window.old }
-    ensures marks { (n : ℕ) → mark_of window.new n ≡ (if (named && can_mark window.old number) && (number == n) then Some mark.Irrelevant else mark_of window.old n) }
+    ensures marks { (n : ℕ) → mark_of window.new n ≡
+        (if (named && can_mark window.old number) && (number == n) then Some mark.Irrelevant
+        else mark_of window.old n) }
     ensures room { room_of window.old ≤ room_of window.new + 1 }
 {
     if named && window.mark(Sn::new(number), Mark::Irrelevant).is_err() {
@@ -87,7 +89,8 @@ fn mark_named(window: &mut Window, start: Sn, list: &SnSet)
     requires place { place_of window.old ≤ 2 ^ 62 + 256 }
     requires room { 256 ≤ room_of window.old }
     ensures place { place_of window.new ≡ place_of window.old }
-    ensures marks { (n : ℕ) → mark_of window.new n ≡ mark_named start list.now (place_of window.old + 256) window.old n }
+    ensures marks { (n : ℕ) → mark_of window.new n ≡ mark_named start list.now
+        (place_of window.old + 256) window.old n }
     ensures small { (n : ℕ) → 2 ^ 62 + 256 ≤ n → mark_of window.old n ≡ None → mark_of window.new n ≡ None }
 {
     let place = window.place().number();
@@ -100,7 +103,8 @@ fn mark_named(window: &mut Window, start: Sn, list: &SnSet)
 /// Where the change that is held for a number stands.
 fn position_of(held: &[Arrival], number: Sn) -> Option<usize>
     ensures within { IfSome result (λ at. at < length held.now) }
-    ensures found { IfSome result (λ at. (d : Arrival) → change_at held.now number ≡ Some (slice_index_or held.now at d).change) }
+    ensures found { IfSome result
+        (λ at. (d : Arrival) → change_at held.now number ≡ Some (slice_index_or held.now at d).change) }
     ensures number { IfSome result (λ at. (d : Arrival) → (slice_index_or held.now at d).number ≡ number) }
     ensures none { IfNone result (change_at held.now number ≡ None) }
 {
@@ -116,7 +120,8 @@ fn position_of(held: &[Arrival], number: Sn) -> Option<usize>
 fn stamp(held: &mut Vec<Arrival>, at: usize, source: &Source)
     requires within { at < vec_len held.old }
     ensures changes { (n : ℕ) → change_at held.new.items n ≡ change_at held.old.items n }
-    ensures arrival { (d : Arrival) → slice_index_or held.new.items at d ≡ stamped source.now (slice_index_or held.old.items at d) }
+    ensures arrival { (d : Arrival)
+        → slice_index_or held.new.items at d ≡ stamped source.now (slice_index_or held.old.items at d) }
     ensures len { vec_len held.new ≡ vec_len held.old }
     ensures capacity { vec_capacity held.new ≡ vec_capacity held.old }
 {
@@ -142,7 +147,8 @@ fn note_run<S: Sink>(sink: &mut S, source: &Source, from: u64, to: u64, runs: &m
     requires runs { vec_len runs.old < vec_capacity runs.old }
     requires spare { 1 ≤ S.spare sink.old }
     ensures runs_is { runs.new.items ≡ runs.old.items ++ run_of from to }
-    ensures entered { (h : List Happening) → S.stands sink.old h → S.stands sink.new (passed_from source.now.publication from to h) }
+    ensures entered { (h : List Happening) → S.stands sink.old h
+        → S.stands sink.new (passed_from source.now.publication from to h) }
     ensures runs { vec_len runs.new ≤ vec_len runs.old + 1 }
     ensures capacity { vec_capacity runs.old ≤ vec_capacity runs.new }
     ensures qos { S.qos sink.new ≡ S.qos sink.old }
@@ -165,7 +171,8 @@ fn note_run<S: Sink>(sink: &mut S, source: &Source, from: u64, to: u64, runs: &m
 fn hear_if<S: Sink>(sink: &mut S, source: &Source, liveliness: bool)
     requires matched { IsMatched (S.qos sink.old) source.now.publication }
     requires spare { 1 ≤ S.spare sink.old }
-    ensures entered { (h : List Happening) → S.stands sink.old h → S.stands sink.new (heard_after (match_of (S.qos sink.old) source.now) liveliness h) }
+    ensures entered { (h : List Happening) → S.stands sink.old h
+        → S.stands sink.new (heard_after (match_of (S.qos sink.old) source.now) liveliness h) }
     ensures qos { S.qos sink.new ≡ S.qos sink.old }
     ensures spare { S.spare sink.old ≤ S.spare sink.new + 1 }
 {
@@ -253,7 +260,8 @@ impl WriterProxy {
         requires runs { vec_len runs.old < vec_capacity runs.old }
         requires spare { 1 ≤ S.spare sink.old }
         ensures sound { IsSound self.new }
-        ensures passes { PassesOver source.now.publication (S.stands sink.old) (S.stands sink.new) (tracked self.old) (tracked self.new) runs.old.items runs.new.items }
+        ensures passes { PassesOver source.now.publication (S.stands sink.old) (S.stands sink.new) (tracked self.old)
+            (tracked self.new) runs.old.items runs.new.items }
         ensures outside { (n : ℕ) → mark_of self.old.window n ≡ None → mark_of self.new.window n ≡ None }
         ensures runs { vec_len runs.new ≤ vec_len runs.old + 1 }
         ensures capacity { vec_capacity runs.old ≤ vec_capacity runs.new }
@@ -273,9 +281,15 @@ impl WriterProxy {
         requires matched { IsMatched (S.qos sink.old) source.now.publication }
         requires spare { 1 ≤ S.spare sink.old }
         ensures sound { IsSound self.new }
-        ensures handed { result ≡ true → HandsOn (match_of (S.qos sink.old) source.now) (S.stands sink.old) (S.stands sink.new) (tracked self.old) (tracked self.new) }
+        ensures handed { result ≡ true
+            → HandsOn (match_of (S.qos sink.old) source.now) (S.stands sink.old) (S.stands sink.new) (tracked self.old)
+            (tracked self.new) }
         ensures stays { result ≡ false → SameTracked (tracked self.old) (tracked self.new) × (sink.new ≡ sink.old) }
-        ensures full { result ≡ false → (change : Change) (h : List Happening) → (tracked self.old).slot (place_of self.old.window) ≡ Held change → S.stands sink.old h → has_room (S.qos sink.old) h (coming (match_of (S.qos sink.old) source.now) (record { place = place_of self.old.window; happened = h }) change) ≡ false }
+        ensures full { result ≡ false → (change : Change) (h : List Happening)
+            → (tracked self.old).slot (place_of self.old.window) ≡ Held change → S.stands sink.old h
+            → has_room (S.qos sink.old) h
+            (coming (match_of (S.qos sink.old) source.now)
+            (record { place = place_of self.old.window; happened = h }) change) ≡ false }
         ensures was_marked { result ≡ true → mark_of self.old.window (place_of self.old.window) ≡ Some mark.Held }
         ensures outside { (n : ℕ) → mark_of self.old.window n ≡ None → mark_of self.new.window n ≡ None }
         ensures fewer { result ≡ true → vec_len self.new.held + 1 ≡ vec_len self.old.held }
@@ -310,7 +324,8 @@ impl WriterProxy {
         requires memory { CanMove (vec_len self.old.held) (vec_capacity runs.old) (S.spare sink.old) }
         ensures sound { IsSound self.new }
         ensures qos { S.qos sink.new ≡ S.qos sink.old }
-        ensures moves { Moves (match_of (S.qos sink.old) source.now) (S.stands sink.old) (S.stands sink.new) (tracked self.old) (place_of self.new.window) runs.new.items (tracked self.new) }
+        ensures moves { Moves (match_of (S.qos sink.old) source.now) (S.stands sink.old) (S.stands sink.new)
+            (tracked self.old) (place_of self.new.window) runs.new.items (tracked self.new) }
     {
         // Nothing is known of numbers past the window: the proof has it from here.
         let _tells_the_window = self.window.place();
@@ -359,7 +374,8 @@ impl WriterProxy {
         requires sound { IsSound self.old }
         requires small { heartbeat.now.first ≤ 2 ^ 62 }
         ensures sound { IsSound self.new }
-        ensures tells { SameTracked (with_heartbeat heartbeat.now.first heartbeat.now.count (tracked self.old)) (tracked self.new) }
+        ensures tells { SameTracked (with_heartbeat heartbeat.now.first heartbeat.now.count (tracked self.old))
+            (tracked self.new) }
         ensures held { self.new.held ≡ self.old.held }
         ensures runs { self.new.runs ≡ self.old.runs }
     {
@@ -411,7 +427,8 @@ impl WriterProxy {
         ensures sound { IsSound self.new }
         ensures quiet { (result.heard ≡ false) × (result.acknack ≡ None) }
         ensures qos { S.qos sink.new ≡ S.qos sink.old }
-        ensures moves { Moves (match_of (S.qos sink.old) source.now) (S.stands sink.old) (S.stands sink.new) (tracked self.old) result.to result.passed (tracked self.new) }
+        ensures moves { Moves (match_of (S.qos sink.old) source.now) (S.stands sink.old) (S.stands sink.new)
+            (tracked self.old) result.to result.passed (tracked self.new) }
     {
         let mut runs = mem::replace(&mut self.runs, Vec::new(self.alloc));
         runs.clear();
@@ -436,7 +453,9 @@ impl WriterProxy {
         requires matched { IsMatched (S.qos sink.old) source.now.publication }
         requires small { number ≤ 2 ^ 62 }
         ensures sound { IsSound self.new }
-        ensures moves { IfOk result (λ step. Moves (match_of (S.qos sink.old) source.now) (S.stands sink.old) (S.stands sink.new) (with_data number change (tracked self.old)) step.to step.passed (tracked self.new)) }
+        ensures moves { IfOk result
+            (λ step. Moves (match_of (S.qos sink.old) source.now) (S.stands sink.old) (S.stands sink.new)
+            (with_data number change (tracked self.old)) step.to step.passed (tracked self.new)) }
         ensures quiet { IfOk result (λ step. (step.heard ≡ false) × (step.acknack ≡ None)) }
         ensures qos { S.qos sink.new ≡ S.qos sink.old }
         ensures err { OnErr result (SameTracked (tracked self.old) (tracked self.new)) }
@@ -466,7 +485,9 @@ impl WriterProxy {
         requires matched { IsMatched (S.qos sink.old) source.now.publication }
         requires small { list.now.base ≤ 2 ^ 62 }
         ensures sound { IsSound self.new }
-        ensures moves { IfOk result (λ step. Moves (match_of (S.qos sink.old) source.now) (S.stands sink.old) (S.stands sink.new) (with_gap start list.now (tracked self.old)) step.to step.passed (tracked self.new)) }
+        ensures moves { IfOk result
+            (λ step. Moves (match_of (S.qos sink.old) source.now) (S.stands sink.old) (S.stands sink.new)
+            (with_gap start list.now (tracked self.old)) step.to step.passed (tracked self.new)) }
         ensures quiet { IfOk result (λ step. (step.heard ≡ false) × (step.acknack ≡ None)) }
         ensures qos { S.qos sink.new ≡ S.qos sink.old }
         ensures err { OnErr result (SameTracked (tracked self.old) (tracked self.new)) }
@@ -490,8 +511,11 @@ impl WriterProxy {
         requires matched { IsMatched (S.qos sink.old) source.now.publication }
         requires small { heartbeat.now.first ≤ 2 ^ 62 }
         ensures sound { IsSound self.new }
-        ensures moves { is_later self.old.count heartbeat.now.count ≡ true → IfOk result (λ step. HeartbeatMoves (match_of (S.qos sink.old) source.now) (S.stands sink.old) (S.stands sink.new) (tracked self.old) heartbeat.now step (tracked self.new)) }
-        ensures repeated { is_later self.old.count heartbeat.now.count ≡ false → (self.new ≡ self.old) × (sink.new ≡ sink.old) × IsOk result × IfOk result (λ step. IsIdle (tracked self.old).place step) }
+        ensures moves { is_later self.old.count heartbeat.now.count ≡ true
+            → IfOk result (λ step. HeartbeatMoves (match_of (S.qos sink.old) source.now) (S.stands sink.old)
+            (S.stands sink.new) (tracked self.old) heartbeat.now step (tracked self.new)) }
+        ensures repeated { is_later self.old.count heartbeat.now.count ≡ false → (self.new ≡ self.old)
+            × (sink.new ≡ sink.old) × IsOk result × IfOk result (λ step. IsIdle (tracked self.old).place step) }
         ensures sayable { IfOk result (λ step. IfSome step.acknack IsSayable) }
         ensures qos { S.qos sink.new ≡ S.qos sink.old }
         ensures err { OnErr result (SameTracked (tracked self.old) (tracked self.new)) }

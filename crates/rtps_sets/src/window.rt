@@ -116,7 +116,9 @@ impl Window {
         // True exactly for a number of the window that had no mark.
         ensures answer { IfOk result (λ is_new. is_new ≡ can_mark self.old number) }
         // That number has the mark, and all others have theirs.
-        ensures marks { IfOk result (λ is_new. (n : ℕ) → mark_of self.new n ≡ (if is_new && (number == n) then Some mark else mark_of self.old n)) }
+        ensures marks { IfOk result
+            (λ is_new. (n : ℕ) → mark_of self.new n ≡
+            (if is_new && (number == n) then Some mark else mark_of self.old n)) }
         // It takes room for one mark at most.
         ensures room { room_of self.old ≤ room_of self.new + 1 }
         // A number that takes no mark changes nothing.
@@ -146,7 +148,9 @@ impl Window {
         // The set begins at the place.
         ensures base { result.base ≡ place_of self.now }
         // It has exactly the numbers of the window up to the bound that have no mark.
-        ensures members { (n : ℕ) → has_number result n ≡ (is_in_window (place_of self.now) n && (nat_le n bound && is_none (mark_of self.now n))) }
+        ensures members { (n : ℕ)
+            → has_number result n ≡ (is_in_window (place_of self.now) n
+            && (nat_le n bound && is_none (mark_of self.now n))) }
     {
         let last = u64::min(bound.number(), self.place.saturating_add(WIDTH - 1));
         let mut set = SnSet::new(Sn::new(self.place));
@@ -169,7 +173,8 @@ impl Window {
         // It stops short of where it was asked to go only at a number without a mark.
         ensures stops { place_of self.new < to → mark_of self.old (place_of self.new) ≡ None }
         // Marks below the place are forgotten, and all others stay.
-        ensures marks { (n : ℕ) → mark_of self.new n ≡ (if nat_le (place_of self.new) n then mark_of self.old n else None) }
+        ensures marks { (n : ℕ) → mark_of self.new n ≡
+            (if nat_le (place_of self.new) n then mark_of self.old n else None) }
         // It has no less room than before.
         ensures room { room_of self.old ≤ room_of self.new }
     {

@@ -20,10 +20,13 @@ content_of change = content_with change.kind change.key change.value
 
 -- the change that a DATA means
 abbrev pub change_in : DataContent → ℕ → Change
-change_in (Write datum) timestamp = record { kind = kind.Write; key = datum.key; value = datum.value; source_timestamp = timestamp }
+change_in (Write datum) timestamp =
+    record { kind = kind.Write; key = datum.key; value = datum.value; source_timestamp = timestamp }
 change_in (Dispose key) timestamp = record { kind = kind.Dispose; key = key; value = []; source_timestamp = timestamp }
-change_in (Unregister key) timestamp = record { kind = kind.Unregister; key = key; value = []; source_timestamp = timestamp }
-change_in (DisposeUnregister key) timestamp = record { kind = kind.DisposeUnregister; key = key; value = []; source_timestamp = timestamp }
+change_in (Unregister key) timestamp =
+    record { kind = kind.Unregister; key = key; value = []; source_timestamp = timestamp }
+change_in (DisposeUnregister key) timestamp =
+    record { kind = kind.DisposeUnregister; key = key; value = []; source_timestamp = timestamp }
 
 -- only a write has a value
 abbrev pub IsEmptyUnlessWrite : Change → Type 0

@@ -43,7 +43,8 @@ ShowsKey false false ps payload k = value_of pid_key_hash ps ≡ Some k.0
 -- What is said, by the flags D and K, the parameters and the payload.
 abbrev pub SaysContent : ℕ → List Parameter → List ℕ → DataContent → Type 0
 SaysContent flags ps payload (Write d) =
-    HasStatus ps false false × (has_flag flags flag_data ≡ true) × (has_flag flags flag_key ≡ false) × ReadsDatum payload d
+    HasStatus ps false false × (has_flag flags flag_data ≡ true) × (has_flag flags flag_key ≡ false)
+    × ReadsDatum payload d
 SaysContent flags ps payload (Dispose k) =
     HasStatus ps true false × ShowsKey (has_flag flags flag_data) (has_flag flags flag_key) ps payload k
 SaysContent flags ps payload (Unregister k) =
@@ -61,7 +62,8 @@ pub record ReadsData (flags : ℕ) (body : List ℕ) (d : Data) : Type 0 where
   pub payload : List ℕ
   pub extra_small : extra < 2 ^ 16
   pub skipped_small : least_octets_to_inline_qos + length skipped < 2 ^ 16
-  pub text : body ≡ data_head (order_of flags) extra (least_octets_to_inline_qos + length skipped) d.reader_id d.writer_id d.writer_sn
+  pub text : body ≡ data_head (order_of flags) extra
+      (least_octets_to_inline_qos + length skipped) d.reader_id d.writer_id d.writer_sn
       ++ (skipped ++ from_parameters)
   pub inline : MatchBool (has_flag flags flag_inline_qos)
       (ReadsParameters (order_of flags) from_parameters parameters payload)
@@ -105,4 +107,5 @@ text_of_content (DisposeUnregister k) = text_of_end (status_disposed + status_un
 
 -- the body as written
 abbrev pub text_of_data : Data → List ℕ
-text_of_data d = data_head Little extra_flags least_octets_to_inline_qos d.reader_id d.writer_id d.writer_sn ++ text_of_content d.content
+text_of_data d = data_head Little extra_flags least_octets_to_inline_qos d.reader_id d.writer_id d.writer_sn
+    ++ text_of_content d.content

@@ -41,18 +41,21 @@ unfoldable pub content_by : Bool → Bool → Bool → Bool → Option Key → L
 content_by false false true false hash payload = option_map Write (datum_at payload)
 content_by false false true true hash payload = None
 content_by false false false key hash payload = None
-content_by true unregistered datum key hash payload = option_map (ended_at true unregistered) (shown_key_at datum key hash payload)
+content_by true unregistered datum key hash payload =
+    option_map (ended_at true unregistered) (shown_key_at datum key hash payload)
 content_by false true datum key hash payload = option_map (ended_at false true) (shown_key_at datum key hash payload)
 
 -- the same, by the flags and the parameters
 unfoldable pub content_at : ℕ → Parameters → List ℕ → Option DataContent
 content_at flags found payload =
-    content_by (has_flag (unwrap_or found.status 0) status_disposed) (has_flag (unwrap_or found.status 0) status_unregistered)
+    content_by (has_flag (unwrap_or found.status 0) status_disposed)
+    (has_flag (unwrap_or found.status 0) status_unregistered)
     (has_flag flags flag_data) (has_flag flags flag_key) found.key_hash payload
 
 -- the parameters, where flag Q is set, and the payload
 unfoldable pub inline_at : ℕ → List ℕ → Option (Parameters × List ℕ)
-inline_at flags bytes = if has_flag flags flag_inline_qos then parameters_at (order_of flags) bytes else Some (record { key_hash = None; status = None }, bytes)
+inline_at flags bytes = if has_flag flags flag_inline_qos then parameters_at (order_of flags) bytes
+    else Some (record { key_hash = None; status = None }, bytes)
 
 unfoldable pub data_at : ℕ → List ℕ → Option Data
 data_at flags body = if has_flag flags flag_non_standard then None else (do

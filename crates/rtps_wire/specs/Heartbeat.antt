@@ -15,7 +15,8 @@ use Rattle.rtps_wire.specs.Fields.{order_of, sn_text, count_text, IsEntityId, Be
 
 -- readerId, writerId, firstSN, lastSN, count
 abbrev pub heartbeat_text : Endianness → Heartbeat → List ℕ
-heartbeat_text order h = h.reader_id.0 ++ h.writer_id.0 ++ sn_text order h.first_sn ++ sn_text order h.last_sn ++ count_text order h.count
+heartbeat_text order h =
+    h.reader_id.0 ++ h.writer_id.0 ++ sn_text order h.first_sn ++ sn_text order h.last_sn ++ count_text order h.count
 
 -- The body begins with these fields, whatever follows.
 abbrev pub ReadsHeartbeat : ℕ → List ℕ → Heartbeat → Type 0

@@ -31,7 +31,8 @@ pub record IsParameter (p : Parameter) : Type 0 where
 
 -- The bytes begin with these parameters and the sentinel, whose length is not looked at; rest follows.
 abbrev pub ReadsParameters : Endianness → List ℕ → List Parameter → List ℕ → Type 0
-ReadsParameters order bytes [] rest = (len : ℕ) × (len < 2 ^ 16) × (bytes ≡ number order w16 pid_sentinel ++ number order w16 len ++ rest)
+ReadsParameters order bytes [] rest =
+    (len : ℕ) × (len < 2 ^ 16) × (bytes ≡ number order w16 pid_sentinel ++ number order w16 len ++ rest)
 ReadsParameters order bytes (p ∷ ps) rest =
     (after : List ℕ) × IsParameter p × (bytes ≡ parameter_text order p ++ after) × ReadsParameters order after ps rest
 

@@ -47,7 +47,11 @@ pub record IsSetField (f : SetField) : Type 0 where
 
 -- The set that it stands for: base + i is a member where bit i is set. Bits from the number of bits on are not looked at.
 unfoldable pub set_of : SetField → NumberSet
-set_of f = record { base = f.base; members = take f.num_bits (flat_map word_bits f.words) ++ replicate (256 - f.num_bits) false }
+set_of f = record {
+  base = f.base;
+  members = take f.num_bits (flat_map word_bits f.words)
+      ++ replicate (256 - f.num_bits) false;
+}
 
 -- The bytes begin with a set, in whichever way it stands there.
 pub record ReadsSet (order : Endianness) (bytes : List ℕ) (s : NumberSet) (rest : List ℕ) : Type 0 where
@@ -76,7 +80,11 @@ words_of (suc n) bits = word_of 32 bits ∷ words_of n (drop 32 bits)
 
 -- the least number of bits, in their words
 abbrev pub set_field_of : NumberSet → SetField
-set_field_of s = record { base = s.base; num_bits = span s.members; words = words_of (words_for (span s.members)) s.members }
+set_field_of s = record {
+  base = s.base;
+  num_bits = span s.members;
+  words = words_of (words_for (span s.members)) s.members;
+}
 
 -- the one written form of a set
 abbrev pub text_of_set : NumberSet → List ℕ

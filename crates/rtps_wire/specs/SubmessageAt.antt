@@ -28,7 +28,8 @@ info_ts_at flags body = if has_flag flags flag_invalidate then Some None else (d
 
 unfoldable pub heartbeat_at : ℕ → List ℕ → Option Heartbeat
 heartbeat_at flags body = do
-  x ← both (both (both (both entity_id_at entity_id_at) (sn_at (order_of flags))) (sn_at (order_of flags))) (count_at (order_of flags)) body
+  x ← both (both (both (both entity_id_at entity_id_at) (sn_at (order_of flags))) (sn_at (order_of flags)))
+      (count_at (order_of flags)) body
   if nat_lt x.0.0.0.1 1 || nat_lt (x.0.0.1 + 1) x.0.0.0.1 then None else Some (record {
     reader_id = x.0.0.0.0.0;
     writer_id = x.0.0.0.0.1;
@@ -44,13 +45,20 @@ acknack_at flags body = do
   ids ← both entity_id_at entity_id_at body
   set ← set_at (order_of flags) ids.1
   n ← count_at (order_of flags) set.1
-  Some (record { reader_id = ids.0.0; writer_id = ids.0.1; reader_sn_state = set.0; count = n.0; final_flag = has_flag flags flag_final })
+  Some (record {
+    reader_id = ids.0.0;
+    writer_id = ids.0.1;
+    reader_sn_state = set.0;
+    count = n.0;
+    final_flag = has_flag flags flag_final;
+  })
 
 unfoldable pub gap_at : ℕ → List ℕ → Option Gap
 gap_at flags body = do
   x ← both (both entity_id_at entity_id_at) (sn_at (order_of flags)) body
   set ← set_at (order_of flags) x.1
-  if nat_lt x.0.1 1 then None else Some (record { reader_id = x.0.0.0; writer_id = x.0.0.1; gap_start = x.0.1; gap_list = set.0 })
+  if nat_lt x.0.1 1 then None
+      else Some (record { reader_id = x.0.0.0; writer_id = x.0.0.1; gap_start = x.0.1; gap_list = set.0 })
 
 unfoldable pub known_at : ℕ → ℕ → List ℕ → Option Submessage
 known_at id flags body =

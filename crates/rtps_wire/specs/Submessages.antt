@@ -31,7 +31,8 @@ FlagsAre flags (InfoTs None) = has_flag flags flag_invalidate ≡ true
 FlagsAre flags (InfoTs (Some moment)) = has_flag flags flag_invalidate ≡ false
 FlagsAre flags (Data d) = has_flag flags flag_non_standard ≡ false
 FlagsAre flags (AckNack a) = has_flag flags flag_final ≡ a.final_flag
-FlagsAre flags (Heartbeat h) = (has_flag flags flag_final ≡ h.final_flag) × (has_flag flags flag_liveliness ≡ h.liveliness_flag)
+FlagsAre flags (Heartbeat h) =
+    (has_flag flags flag_final ≡ h.final_flag) × (has_flag flags flag_liveliness ≡ h.liveliness_flag)
 FlagsAre flags s = Unit {0}
 
 -- The body is that of the submessage. Bytes after its last field are not looked at.
@@ -81,7 +82,8 @@ IsSpellable s = IsValid s
 abbrev pub flags_of : Submessage → ℕ
 flags_of (InfoTs None) = flag_endianness + flag_invalidate
 flags_of (Data d) = content_flags d.content
-flags_of (Heartbeat h) = flag_endianness + (if h.final_flag then flag_final else 0) + (if h.liveliness_flag then flag_liveliness else 0)
+flags_of (Heartbeat h) =
+    flag_endianness + (if h.final_flag then flag_final else 0) + (if h.liveliness_flag then flag_liveliness else 0)
 flags_of (AckNack a) = flag_endianness + (if a.final_flag then flag_final else 0)
 flags_of s = flag_endianness
 

@@ -53,7 +53,8 @@ fn is_frame_sought(wanted: &Sought, id: u8, flags: u8, body: &[u8]) -> bool
 
 /// Whether there is such a submessage in bytes that follow a header.
 fn is_in_body(wanted: &Sought, bytes: &[u8]) -> bool
-    ensures { (ss : List SubmessageOf) × (left : List ℕ) × ReadsAll bytes.now ss left × (IsTrue result ↔ HasSought wanted.now ss) }
+    ensures { (ss : List SubmessageOf) × (left : List ℕ) × ReadsAll bytes.now ss left
+        × (IsTrue result ↔ HasSought wanted.now ss) }
 {
     let mut has = false;
     let mut left = bytes;
