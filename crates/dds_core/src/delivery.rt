@@ -3,7 +3,8 @@
 //! RTPS 2.5, 8.3.4 (the message receiver), 8.4.12 (the behaviour of a reliable StatefulReader). What the peer's writers do
 //! with an ACKNACK is in `requests`.
 
-ghost use Rattle.std.specs.Prelude.{◌≡◌, ◌++◌, ◌+◌, ◌*◌, ◌^◌, ◌<◌, ◌≤◌, [], length, vec_len, vec_capacity, IfOk, OnOk, OnErr};
+ghost use Rattle.std.specs.Prelude.{◌≡◌, ◌++◌, ◌+◌, ◌*◌, ◌^◌, ◌<◌, ◌≤◌, [], length, vec_len, vec_capacity, IfOk, IfErr, OnOk, OnErr};
+ghost use Rattle.dds_base.specs.declared.code.Code.TheVariants.{Memory};
 ghost use Rattle.dds_model.specs.declared.event.Event.TheVariants as event;
 ghost use Rattle.dds_core.specs.Standing.{SoundSteps};
 ghost use Rattle.dds_core.specs.Sending.{AreMessages};
@@ -32,6 +33,7 @@ fn prepare(
     ensures ready { IfOk result
         (λ all. AreReady own.now (receiver_at receiver.now) submessage.now readers.new all.items) }
     ensures alike { AreAlike readers.old readers.new }
+    ensures memory { IfErr result (λ code. code ≡ Memory) }
 {
     let mut ready = Vec::new(alloc);
     for index in 0..readers.len() {
@@ -121,6 +123,7 @@ impl Peer {
         ensures stands { StandsAsWell self.old self.new }
         ensures count { length self.new.readers ≡ length self.old.readers }
         ensures prefix { self.new.prefix ≡ self.old.prefix }
+        ensures memory { IfErr result (λ code. code ≡ Memory) }
     {
         prepare(
             self.alloc,
@@ -145,6 +148,7 @@ impl Peer {
             (TellsReaders self.old (receiver_at receiver.now) submessage.now moves.old.items sent.old self.new moves.new.items sent.new) }
         ensures err { OnErr result
             (StandsAsWell self.old self.new × (moves.new.items ≡ moves.old.items) × (sent.new ≡ sent.old)) }
+        ensures memory { IfErr result (λ code. code ≡ Memory) }
         ensures prefix { self.new.prefix ≡ self.old.prefix }
         ensures few { sent.new.unsent ≤ sent.old.unsent + 16 }
         ensures messages { AreMessages sent.old.packets.items → AreMessages sent.new.packets.items }
@@ -169,6 +173,7 @@ impl Peer {
             (TakesOneMore self.old (receiver_at receiver.now) submessage.now moves.old.items sent.old self.new moves.new.items sent.new) }
         ensures err { OnErr result
             (StandsAsWell self.old self.new × (moves.new.items ≡ moves.old.items) × (sent.new ≡ sent.old)) }
+        ensures memory { IfErr result (λ code. code ≡ Memory) }
         ensures prefix { self.new.prefix ≡ self.old.prefix }
         ensures few { sent.new.unsent ≤ sent.old.unsent + 2 ^ 16 }
         ensures messages { AreMessages sent.old.packets.items → AreMessages sent.new.packets.items }

@@ -1,5 +1,5 @@
 -- What stands at an entity once another one was put somewhere.
-use Rattle.std.proofs.Common.{◌≡◌, ◌≢◌, ℕ, zero, suc, ◌-◌, ◌≤◌, ⊎_elim, Bool, true, false, is_some, List, [], ◌∷◌, Option, Some, None, refl, sym, ◌∙◌, set, drop, length, subst, if◌then◌else◌, arith, length-set}
+use Rattle.std.proofs.Common.{◌≡◌, ◌≢◌, ℕ, zero, suc, ◌-◌, ◌≤◌, ⊎_elim, Bool, true, false, is_some, List, [], ◌∷◌, Option, Some, None, refl, ap, sym, ◌∙◌, set, drop, length, subst, if◌then◌else◌, arith, length-set}
 use Rattle.std.proofs.lemmas.Grind.{common_steps}
 use Rattle.std.proofs.lemmas.List.{get_or-set_same, get_or-set_other}
 use Rattle.std.proofs.lemmas.Bool.Decides.{eqb_tells}
@@ -84,55 +84,60 @@ module _ {L : Type 0} (notices : L → List Notice) (capacity : L → ℕ) where
     ];
   }
 
-  -- what is opened stands as it did, at the entity that is asked for
-  opened : (before old : Slotted L) (entity here : Entity) (places : Places) → before ≡ old → entity ≡ here
-      → has_entity old entity ≡ true → StandsFor notices capacity old places
-      → (has_entity before here ≡ true) × StandsFor notices capacity before places
-  opened before old entity here places is_old is_entity there all = (
-    subst (λ (k : Slotted L). has_entity k here ≡ true) (sym is_old)
-        (subst (λ (e : Entity). has_entity old e ≡ true) is_entity there),
-    subst (λ (k : Slotted L). StandsFor notices capacity k places) (sym is_old) all,
-  )
+  -- the listener that stands at an entity is told, and another slot stands there for the place that keeps the notice
+  entity_tells : (before new old : Slotted L) (entity here : Entity) (notice : Notice) → before ≡ old → entity ≡ here
+      → has_entity old entity ≡ true
+      → ((place : Option Place) → StandsAt notices capacity (at_entity before here) place
+      → (slot : Option (Slot L)) × StandsAt notices capacity slot (with_notice place notice)
+      × (new ≡ with_entity before here slot))
+      → (places : Places) → StandsFor notices capacity old places
+      → StandsFor notices capacity new (with_entity places entity (with_notice (at_entity places entity) notice))
+  entity_tells before new old entity here notice is_old is_entity there told places all =
+      let has = subst (λ (k : Slotted L). has_entity k here ≡ true) (sym is_old)
+      (subst (λ (e : Entity). has_entity old e ≡ true) is_entity there) in
+      let stands = subst (λ (k : Slotted L). StandsFor notices capacity k places) (sym is_old) all in
+      let one = told (at_entity places here) (stands.each here) in
+      rw (is_entity, one.2) (entity_stands before places here one.0 (with_notice (at_entity places here) notice) stands has one.1)
 
-  -- the listener of a writer is told: as `tell_at` of src/slots.rt has it
-  pub writer_tells : (p : Option (Slot L)) (ws rs new : List (Option (Slot L))) (old : Slotted L) (entity : Entity) (n : ℕ) (notice : Notice)
+  -- the listener of a writer, as `tell_at` of src/slots.rt tells it
+  pub writer_tells : (p : Option (Slot L)) (ws rs new : List (Option (Slot L))) (old : Slotted L) (entity : Entity)
+      (n : ℕ) (notice : Notice)
       → record { participant = p; writers = ws; readers = rs } ≡ old → entity ≡ Writer n → has_entity old entity ≡ true
       → ((place : Option Place) → StandsAt notices capacity (at_number ws n) place → ToldAt notices capacity ws n notice place new)
       → (places : Places) → StandsFor notices capacity old places
       → StandsFor notices capacity (record { participant = p; writers = new; readers = rs })
       (with_entity places entity (with_notice (at_entity places entity) notice))
-  writer_tells p ws rs new old entity n notice is_old is_entity there told places all =
-      let before : Slotted L = record { participant = p; writers = ws; readers = rs } in
-      let here = opened before old entity (Writer n) places is_old is_entity there all in
-      let one = told (at_number places.writers n) (here.1.each (Writer n)) in
-      rw (is_entity, one.others)
-      (entity_stands before places (Writer n) one.slot (with_notice (at_number places.writers n) notice) here.1 here.0 one.stands)
+  writer_tells p ws rs new old entity n notice is_old is_entity there told =
+      entity_tells _ _ old entity (Writer n) notice is_old is_entity there
+      (λ place stands.
+      let one = told place stands in
+      (one.slot, one.stands, ap (λ xs. record { participant = p; writers = xs; readers = rs }) one.others))
 
-  -- so is that of a reader
-  pub reader_tells : (p : Option (Slot L)) (ws rs new : List (Option (Slot L))) (old : Slotted L) (entity : Entity) (n : ℕ) (notice : Notice)
+  -- that of a reader
+  pub reader_tells : (p : Option (Slot L)) (ws rs new : List (Option (Slot L))) (old : Slotted L) (entity : Entity)
+      (n : ℕ) (notice : Notice)
       → record { participant = p; writers = ws; readers = rs } ≡ old → entity ≡ Reader n → has_entity old entity ≡ true
       → ((place : Option Place) → StandsAt notices capacity (at_number rs n) place → ToldAt notices capacity rs n notice place new)
       → (places : Places) → StandsFor notices capacity old places
       → StandsFor notices capacity (record { participant = p; writers = ws; readers = new })
       (with_entity places entity (with_notice (at_entity places entity) notice))
-  reader_tells p ws rs new old entity n notice is_old is_entity there told places all =
-      let before : Slotted L = record { participant = p; writers = ws; readers = rs } in
-      let here = opened before old entity (Reader n) places is_old is_entity there all in
-      let one = told (at_number places.readers n) (here.1.each (Reader n)) in
-      rw (is_entity, one.others)
-      (entity_stands before places (Reader n) one.slot (with_notice (at_number places.readers n) notice) here.1 here.0 one.stands)
+  reader_tells p ws rs new old entity n notice is_old is_entity there told =
+      entity_tells _ _ old entity (Reader n) notice is_old is_entity there
+      (λ place stands.
+      let one = told place stands in
+      (one.slot, one.stands, ap (λ xs. record { participant = p; writers = ws; readers = xs }) one.others))
 
-  -- and that of the participant
-  pub participant_tells : (p new : Option (Slot L)) (ws rs : List (Option (Slot L))) (old : Slotted L) (entity : Entity) (notice : Notice)
+  -- that of the participant, which is always there
+  pub participant_tells : (p new : Option (Slot L)) (ws rs : List (Option (Slot L))) (old : Slotted L) (entity : Entity)
+      (notice : Notice)
       → record { participant = p; writers = ws; readers = rs } ≡ old → entity ≡ Participant
       → ((place : Option Place) → StandsAt notices capacity p place → StandsAt notices capacity new (with_notice place notice))
       → (places : Places) → StandsFor notices capacity old places
       → StandsFor notices capacity (record { participant = new; writers = ws; readers = rs })
       (with_entity places entity (with_notice (at_entity places entity) notice))
-  participant_tells p new ws rs old entity notice is_old is_entity told places all =
-      let stands = subst (λ (k : Slotted L). StandsFor notices capacity k places) (sym is_old) all in
-      rw is_entity (entity_stands (record { participant = p; writers = ws; readers = rs }) places Participant new (with_notice places.participant notice) stands refl
-      (told places.participant (stands.each Participant)))
+  participant_tells p new ws rs old entity notice is_old is_entity told =
+      entity_tells _ _ old entity Participant notice is_old is_entity (rw is_entity refl)
+      (λ place stands. (new, told place stands, refl))
 
   handed_back : (slot : Option (Slot L)) (place : Option Place) → StandsAt notices capacity slot place
       → HandedBack notices capacity (listener_of slot) place
