@@ -27,7 +27,7 @@ impl ChangeKind {
     ///
     /// DDS 1.4, 2.2.2.4 (register_instance).
     pub fn is_write_or_dispose(self) -> bool
-        ensures { result ≡ is_write_or_dispose self }
+        ensures kind { result ≡ is_write_or_dispose self }
     {
         match self {
             ChangeKind::Unregister => false,
@@ -39,7 +39,7 @@ impl ChangeKind {
     ///
     /// DDS 1.4, 2.2.2.4 (unregister_instance).
     pub fn is_unregister(self) -> bool
-        ensures { result ≡ is_unregister self }
+        ensures kind { result ≡ is_unregister self }
     {
         match self {
             ChangeKind::Unregister | ChangeKind::DisposeUnregister => true,

@@ -59,7 +59,7 @@ pub enum Code {
 impl Code {
     /// The number by which a script, or a caller of another language, knows the code.
     pub fn number(self) -> u8
-        ensures { result ≡ number_of_code self }
+        ensures number { result ≡ number_of_code self }
     {
         match self {
             Code::Ok => 0,
@@ -85,7 +85,7 @@ impl Code {
     ///
     /// DDS 1.4, 2.2.1.1.
     pub fn as_str(self) -> &'static str
-        ensures { result.now ≡ name_of_code self }
+        ensures spelling { result.now ≡ name_of_code self }
     {
         match self {
             Code::Ok => "OK",

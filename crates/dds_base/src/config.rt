@@ -63,7 +63,7 @@ impl WriterConfig {
     ///
     /// DDS 1.4, 2.2.3 (supported QoS).
     pub fn new(entity: EntityId, topic: u32) -> WriterConfig
-        ensures { result ≡ record {
+        ensures defaults { result ≡ record {
           entity = entity;
           topic = topic;
           ownership = Shared;
@@ -93,7 +93,7 @@ impl ReaderConfig {
     ///
     /// DDS 1.4, 2.2.3 (supported QoS).
     pub fn new(entity: EntityId, topic: u32) -> ReaderConfig
-        ensures { result ≡ record {
+        ensures defaults { result ≡ record {
           entity = entity;
           topic = topic;
           ownership = Shared;

@@ -44,7 +44,7 @@ impl ConfigRule {
     /// The code with which a configuration that breaks the rule is refused: `InconsistentPolicy` for the last three rules,
     /// `BadParameter` for all others.
     pub fn code(self) -> Code
-        ensures { result ≡ code_of_rule self }
+        ensures code { result ≡ code_of_rule self }
     {
         match self {
             ConfigRule::DepthWithinMaximum | ConfigRule::SameOwnership | ConfigRule::OfferedLease =>
@@ -102,7 +102,7 @@ pub struct ConfigFault {
 impl ConfigFault {
     /// The code with which `Config::check` refuses the configuration.
     pub fn code(&self) -> Code
-        ensures { result ≡ code_of_rule self.now.rule }
+        ensures code { result ≡ code_of_rule self.now.rule }
     {
         self.rule.code()
     }

@@ -43,7 +43,7 @@ fn take_representation(bytes: &[u8]) -> Option<(Endianness, &[u8])>
 /// The sixteen octets of a key, and the bytes after them. `None` where there are fewer. Takes no memory.
 #[tactic(auto, unfolding(crate::specs::DatumAt::key_at))]
 pub fn take_key(bytes: &[u8]) -> Option<(Key, &[u8])>
-    ensures { option_map (λ x. (x.0, x.1.now)) result ≡ key_at bytes.now }
+    ensures key { option_map (λ x. (x.0, x.1.now)) result ≡ key_at bytes.now }
 {
     let (octets, rest) = take_octets(bytes, 16)?;
     let mut key = [0; 16];
@@ -126,8 +126,11 @@ pub fn decode_datum(alloc: Global, bytes: &[u8]) -> Result<Option<Datum>, Code>
 ///
 /// RTPS 2.5, clause 10.
 pub fn decode_datum_key(bytes: &[u8]) -> Option<Key>
+    // A key that is found is that of a datum that is spelled so.
     ensures found { IfSome result (λ k. (value : List ℕ) × ReadsDatum bytes.now (record { key = k; value = value })) }
+    // Where a datum is spelled so its key is found, and no other.
     ensures only { (d : Datum) → ReadsDatum bytes.now d → result ≡ Some d.key }
+    // Which of the two, in one step.
     ensures exact { result ≡ option_map (λ d. d.key) (datum_at bytes.now) }
 {
     datum_key_of(bytes)
@@ -145,8 +148,11 @@ pub fn decode_datum_key(bytes: &[u8]) -> Option<Key>
 ///
 /// RTPS 2.5, clause 10.
 pub fn encode_datum(alloc: Global, datum: &Datum) -> Result<Vec<u8>, Code>
-    requires { length datum.now.value ≤ MAX_VALUE }
+    // The value is not too long for a written form.
+    requires within { length datum.now.value ≤ MAX_VALUE }
+    // The bytes are the one spelling of the datum.
     ensures ok { IfOk result (λ bytes. bytes.items ≡ spelling_of_datum datum.now) }
+    // The only refusal is for want of memory.
     ensures memory { IfErr result (λ e. e ≡ Code.Memory) }
 {
     let mut out = Vec::new(alloc);
@@ -164,8 +170,11 @@ pub fn encode_datum(alloc: Global, datum: &Datum) -> Result<Vec<u8>, Code>
 ///
 /// RTPS 2.5, clause 10.
 pub fn decode_key(bytes: &[u8]) -> Option<Key>
+    // A key that is found is spelled so.
     ensures found { IfSome result (λ k. ReadsKey bytes.now k) }
+    // A key that is spelled so is found, and no other.
     ensures only { (k : Key) → ReadsKey bytes.now k → result ≡ Some k }
+    // Which of the two, in one step.
     ensures exact { result ≡ key_form_at bytes.now }
 {
     key_of(bytes)
@@ -179,7 +188,9 @@ pub fn decode_key(bytes: &[u8]) -> Option<Key>
 ///
 /// RTPS 2.5, clause 10.
 pub fn encode_key(alloc: Global, key: &Key) -> Result<Vec<u8>, Code>
+    // The bytes are the one spelling of the key.
     ensures ok { IfOk result (λ bytes. bytes.items ≡ spelling_of_key key.now) }
+    // The only refusal is for want of memory.
     ensures memory { IfErr result (λ e. e ≡ Code.Memory) }
 {
     let mut out = Vec::new(alloc);

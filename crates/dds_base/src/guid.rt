@@ -16,7 +16,9 @@ impl GuidPrefix {
 
     /// The twelve octets, in their order.
     pub fn as_slice(&self) -> &[u8]
+        // They are those that it is made of.
         ensures same { result.now ≡ self.now.0 }
+        // There are twelve.
         ensures len { length self.now.0 ≡ 12 }
     {
         &self.0
@@ -44,7 +46,7 @@ impl EntityId {
     ///
     /// RTPS 2.5, 9.3 (entity kind 0x02, a user-defined writer with a key).
     pub fn writer(key: [u8; 3]) -> EntityId
-        ensures { result.0 ≡ key ++ 2 ∷ [] }
+        ensures octets { result.0 ≡ key ++ 2 ∷ [] }
     {
         let [first, second, third] = key;
         EntityId([first, second, third, EntityId::WRITER_KIND])
@@ -54,7 +56,7 @@ impl EntityId {
     ///
     /// RTPS 2.5, 9.3 (entity kind 0x07, a user-defined reader with a key).
     pub fn reader(key: [u8; 3]) -> EntityId
-        ensures { result.0 ≡ key ++ 7 ∷ [] }
+        ensures octets { result.0 ≡ key ++ 7 ∷ [] }
     {
         let [first, second, third] = key;
         EntityId([first, second, third, EntityId::READER_KIND])
@@ -64,14 +66,16 @@ impl EntityId {
     ///
     /// RTPS 2.5, 9.3 (entityKind, the last octet).
     pub fn kind(self) -> u8
-        ensures { result ≡ slice_index self.0 3 }
+        ensures kind { result ≡ slice_index self.0 3 }
     {
         self.0[3]
     }
 
     /// The four octets, in their order.
     pub fn as_slice(&self) -> &[u8]
+        // They are those that it is made of.
         ensures same { result.now ≡ self.now.0 }
+        // There are four.
         ensures len { length self.now.0 ≡ 4 }
     {
         &self.0

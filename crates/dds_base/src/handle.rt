@@ -28,14 +28,14 @@ impl Handle {
 
     /// The handle of this number, from 1; of 0 it is `NIL`.
     pub const fn new(number: u64) -> Self
-        ensures { result ≡ number }
+        ensures number { result ≡ number }
     {
         Handle { number }
     }
 
     /// The number, 0 of `NIL`.
     pub const fn number(self) -> u64
-        ensures { result ≡ self }
+        ensures number { result ≡ self }
     {
         self.number
     }

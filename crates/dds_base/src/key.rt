@@ -11,7 +11,9 @@ pub struct Key(pub [u8; 16]);
 impl Key {
     /// The sixteen octets, in their order.
     pub fn as_slice(&self) -> &[u8]
+        // They are those that it is made of.
         ensures same { result.now ≡ self.now.0 }
+        // There are sixteen.
         ensures len { length self.now.0 ≡ 16 }
     {
         &self.0

@@ -23,39 +23,55 @@ use crate::mask::{InstanceStateMask, Masks, SampleStateMask, ViewStateMask};
 /// Where somebody is registered for an instance there is an owner, there is only one, and the definition that computes
 /// finds it. Acceptance under EXCLUSIVE asks for just that owner, among those registered before and the writer itself.
 pub fn owner_is_found()
+    // What the definition finds is an owner.
     ensures found { (q : ReaderQos) (ws : List ℕ) (w : ℕ) → owner_of q ws ≡ Some w → IsOwner q ws w }
+    // There are no two owners.
     ensures only { (q : ReaderQos) (ws : List ℕ) (v w : ℕ) → IsOwner q ws v → IsOwner q ws w → v ≡ w }
+    // Where somebody is registered for the instance an owner is found.
     ensures exists { (q : ReaderQos) (i : Key) (h : List Happening) → HaveOwnGuids q
         → registered_writers q i h ≢ [] → IsSome (owner_of q (registered_writers q i h)) }
+    // A writer outranks all others exactly if it owns among them and itself.
     ensures among { (q : ReaderQos) (ws : List ℕ) (w : ℕ) → IsTrue (outranks_all q ws w) ↔ IsOwner q (w ∷ ws) w }
 {}
 
 /// A value of `MAX_VALUE` octets has a written form, a longer one has none.
 pub fn max_value_is_the_longest()
-    ensures { (d : Datum) → IsDatum d ↔ (length d.key.0 ≡ 16) × (length d.value ≤ MAX_VALUE) }
+    ensures longest { (d : Datum)
+        → IsDatum d ↔ (length d.key.0 ≡ 16) × (length d.value ≤ MAX_VALUE) }
 {}
 
 /// What is written is read as itself, and no bytes are read as two.
 pub fn spelling_is_read()
+    // No bytes are read as two data.
     ensures one_datum { (bytes : List ℕ) (d e : Datum) → ReadsDatum bytes d → ReadsDatum bytes e → d ≡ e }
+    // No bytes are read as two keys.
     ensures one_key { (bytes : List ℕ) (k l : Key) → ReadsKey bytes k → ReadsKey bytes l → k ≡ l }
+    // A datum that is written is read as itself.
     ensures datum { (d : Datum) → IsDatum d → ReadsDatum (spelling_of_datum d) d }
+    // A key that is written is read as itself.
     ensures key { (k : Key) → length k.0 ≡ 16 → ReadsKey (spelling_of_key k) k }
 {}
 
 /// GUIDPREFIX_UNKNOWN and ENTITYID_UNKNOWN are zeros, and the kinds are those of a writer and of a reader with a key
 /// (RTPS 2.5, 9.3).
 pub fn unknown_names_are_zeros()
+    // GUIDPREFIX_UNKNOWN is the prefix of twelve zeros.
     ensures prefix { GuidPrefix.UNKNOWN ≡ unknown_prefix }
+    // ENTITYID_UNKNOWN is four zeros.
     ensures entity { EntityId.UNKNOWN ≡ record { 0 = replicate 4 0 } }
+    // A writer with a key is of kind 0x02.
     ensures writer_kind { EntityId.WRITER_KIND ≡ 2 }
+    // A reader with a key is of kind 0x07.
     ensures reader_kind { EntityId.READER_KIND ≡ 7 }
 {}
 
 /// HANDLE_NIL, which has the number 0: the handle of no instance and of no matched writer, since they count from 1.
 pub fn nil_is_no_handle() -> Handle
+    // It has the number 0.
     ensures nil { result ≡ 0 }
+    // No instance has it.
     ensures instance { (q : ReaderQos) (h : List Happening) → instance_of q h result ≡ None }
+    // No matched writer has it.
     ensures writer { (q : ReaderQos) → IsMatched q result → ⊥ }
 {
     Handle::NIL
@@ -64,26 +80,40 @@ pub fn nil_is_no_handle() -> Handle
 /// The bits of the constants are those of the states, and ANY asks for every state, and NOT_READ for what the
 /// next-sample forms look for (DDS 1.4, 2.3.3, 2.2.2.5).
 pub fn masks_ask_for_their_states()
+    // READ is the bit of samples that were read.
     ensures read { SampleStateMask.READ.0 ≡ sample_state_bit HasBeenRead }
+    // NOT_READ is the bit of samples that were not read.
     ensures not_read { SampleStateMask.NOT_READ.0 ≡ sample_state_bit NotRead }
+    // ANY_SAMPLE_STATE is 0xffff.
     ensures any_sample_state { SampleStateMask.ANY.0 ≡ 65535 }
+    // NEW is the bit of instances that are new.
     ensures new { ViewStateMask.NEW.0 ≡ view_state_bit New }
+    // NOT_NEW is the bit of instances that are not new.
     ensures not_new { ViewStateMask.NOT_NEW.0 ≡ view_state_bit NotNew }
+    // ANY_VIEW_STATE is 0xffff.
     ensures any_view_state { ViewStateMask.ANY.0 ≡ 65535 }
+    // ALIVE is the bit of instances that are alive.
     ensures alive { InstanceStateMask.ALIVE.0 ≡ instance_state_bit Alive }
+    // NOT_ALIVE_DISPOSED is the bit of instances that were disposed.
     ensures not_alive_disposed { InstanceStateMask.NOT_ALIVE_DISPOSED.0
         ≡ instance_state_bit NotAliveDisposed }
+    // NOT_ALIVE_NO_WRITERS is the bit of instances without writers.
     ensures not_alive_no_writers { InstanceStateMask.NOT_ALIVE_NO_WRITERS.0
         ≡ instance_state_bit NotAliveNoWriters }
+    // NOT_ALIVE has the bits of both.
     ensures not_alive { InstanceStateMask.NOT_ALIVE.0
         ≡ instance_state_bit NotAliveDisposed + instance_state_bit NotAliveNoWriters }
+    // ANY_INSTANCE_STATE is 0xffff.
     ensures any_instance_state { InstanceStateMask.ANY.0 ≡ 65535 }
+    // The masks of every state have each of these.
     ensures any { Masks.ANY ≡ record {
       samples = SampleStateMask.ANY;
       views = ViewStateMask.ANY;
       instances = InstanceStateMask.ANY;
     } }
+    // Each sample of a known instance meets them.
     ensures every_sample { (q : ReaderQos) (h : List Happening) (s : SamplePosition)
         → IsSome (instance_state_of q s.key h) → meets q h Masks.ANY s ≡ true }
+    // The masks of the next-sample forms are those of the definitions.
     ensures not_read_of_any { Masks.NOT_READ ≡ not_read }
 {}

@@ -25,14 +25,14 @@ impl Model for Moment {
 impl Moment {
     /// The moment this many units of 2^-32 second after the beginning; a peer takes those below 2^63.
     pub const fn new(units: u64) -> Self
-        ensures { result ≡ units }
+        ensures units { result ≡ units }
     {
         Moment { units }
     }
 
     /// The units of 2^-32 second since the beginning.
     pub const fn units(self) -> u64
-        ensures { result ≡ self }
+        ensures units { result ≡ self }
     {
         self.units
     }

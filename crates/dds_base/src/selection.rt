@@ -50,7 +50,7 @@ pub enum Scope {
 impl Scope {
     /// What such an access asks for, with the masks of a condition.
     pub fn selection(self, masks: Masks) -> Selection
-        ensures { result ≡ selection_in self masks }
+        ensures selection { result ≡ selection_in self masks }
     {
         match self {
             Scope::Any { max } => Selection::Any { max, masks },

@@ -26,21 +26,21 @@ impl<T> Model for Sequence<T> {
 impl<T> Sequence<T> {
     /// The list of these elements.
     pub fn from_vec(items: Vec<T>) -> Self
-        ensures { result ≡ items.items }
+        ensures elements { result ≡ items.items }
     {
         Sequence { items }
     }
 
     /// The elements, in their order.
     pub fn as_slice(&self) -> &[T]
-        ensures { result.now ≡ self.now }
+        ensures elements { result.now ≡ self.now }
     {
         self.items.as_slice()
     }
 
     /// The elements, to be owned.
     pub fn into_vec(self) -> Vec<T>
-        ensures { result.items ≡ self }
+        ensures elements { result.items ≡ self }
     {
         let Sequence { items } = self;
         items
@@ -54,7 +54,7 @@ impl<T: Copy> Sequence<T> {
     ///
     /// Where a growth was refused.
     pub fn copied(&self) -> Result<Sequence<T>, AllocError>
-        ensures { IfOk result (λ copy. copy ≡ self.now) }
+        ensures same { IfOk result (λ copy. copy ≡ self.now) }
     {
         let items = Vec::from_slice(*self.items.allocator(), self.items.as_slice())?;
         Ok(Sequence { items })
@@ -68,8 +68,10 @@ impl<T: Clone> Sequence<T> {
     ///
     /// Where a growth was refused.
     pub fn cloned(&self) -> Result<Sequence<T>, AllocError>
+        // A copy of an element is equal to it.
         requires exact { (element copy : T) → T.is_clone element copy → copy ≡ element }
-        ensures { IfOk result (λ copy. copy ≡ self.now) }
+        // The elements are the same ones, in their order.
+        ensures same { IfOk result (λ copy. copy ≡ self.now) }
     {
         let items = self.items.clone()?;
         Ok(Sequence { items })

@@ -25,14 +25,14 @@ impl Model for Sn {
 impl Sn {
     /// The number of a change, from 1 to 2^48; a greater one, or 0, is no change's.
     pub const fn new(number: u64) -> Self
-        ensures { result ≡ number }
+        ensures number { result ≡ number }
     {
         Sn { number }
     }
 
     /// The number as an integer.
     pub const fn number(self) -> u64
-        ensures { result ≡ self }
+        ensures number { result ≡ self }
     {
         self.number
     }
