@@ -74,7 +74,7 @@ impl SnSet {
 
     /// Whether a number is a member. Every number may be asked for.
     pub fn has(&self, number: Sn) -> bool
-        ensures { result ≡ has_number self.now number }
+        ensures has { result ≡ has_number self.now number }
     {
         let number = number.number();
         if number < self.base {
@@ -119,6 +119,8 @@ fn span_of(members: &[bool]) -> usize
 ///
 /// A law of the constant: the function does nothing.
 pub fn max_bits_is_the_width()
+    // It is 256.
     ensures width { MAX_BITS ≡ 256 }
+    // A set has so many places from its base on.
     ensures from { (base : ℕ) → length (empty_from base).members ≡ MAX_BITS }
 {}

@@ -79,7 +79,7 @@ impl Window {
     ///
     /// RTPS 2.5, 8.4.10 (ChangeFromWriter: status).
     pub fn mark_of(&self, number: Sn) -> Option<Mark>
-        ensures { result ≡ mark_of self.now number }
+        ensures mark { result ≡ mark_of self.now number }
     {
         find_mark(&self.marked, number.number())
     }

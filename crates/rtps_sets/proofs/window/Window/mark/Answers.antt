@@ -12,4 +12,4 @@ invariant_of-self-2 c =
 pub returns-clause-marks : goal.returns-clause-marks
 returns-clause-marks c n =
     let fresh : mark_in c.self.inside.marked.items c.number-number.result ≡ None = none_of _ (search rules) in
-    rw (c.in_ok-push.ensures.items, ← c.self.view_is, ← c.number-number.ensures) (marks_more _ _ _ n fresh)
+    rw (c.in_ok-push.ensures.items, ← c.self.view_is, ← c.number-number.ensures.number) (marks_more _ _ _ n fresh)
