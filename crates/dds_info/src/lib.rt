@@ -51,8 +51,11 @@ fn ranked(sample: &Picked, followers: Followers) -> SampleInfo
 ///
 /// DDS 1.4, 2.2.2.5 (SampleInfo).
 pub fn fill(alloc: Global, picked: &[Picked]) -> Result<Vec<SampleInfo>, Code>
+    // The two generation counts of each sample have a sum below 2^64.
     requires small { All (λ p. own_generations p < 2 ^ 64) picked.now }
+    // The infos are those of the definitions.
     ensures ok { IfOk result (λ infos. infos.items ≡ infos_of picked.now) }
+    // The only refusal is for want of memory.
     ensures memory { IfErr result (λ e. e ≡ Memory) }
     // Memory is taken for the infos alone.
     ensures grows { IfErr result (λ e. picked.now ≢ []) }
