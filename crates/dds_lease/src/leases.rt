@@ -211,7 +211,8 @@ impl Leases {
     ///
     /// DDS 1.4, 2.2.4.1 (LivelinessChangedStatus: last_publication_handle).
     pub fn last_turned(&self) -> Handle
-        ensures { (q : ReaderQos) (h : List Happening) → StandsFor self.now q h → result ≡ last_turned h }
+        ensures last { (q : ReaderQos) (h : List Happening) → StandsFor self.now q h
+            → result ≡ last_turned h }
     {
         self.last_turned
     }

@@ -5,9 +5,9 @@ use Rattle.dds_lease.proofs.track.find_over.Goals as goal
 
 pub loop-at-init : goal.loop-at-init
 loop-at-init c = record {
-  above = omega (arith, c.number-from.ensures);
+  above = omega (arith, c.number-from.ensures.number);
   same = first-skips c.args.after c.args.now 1 c.number-from.result c.args.tracks.now
-      (omega (arith, c.number-from.ensures))
+      (omega (arith, c.number-from.ensures.number))
       ∙ ap (λ (n : ℕ). first_over c.args.after c.args.now n (drop c.number-from.result c.args.tracks.now)) (omega arith);
 }
 
@@ -21,7 +21,7 @@ loop-at-preserved c = record {
 
 pub returns-then-is_over-clause-first : goal.returns-then-is_over-clause-first
 returns-then-is_over-clause-first c =
-    ap (λ (n : ℕ). Some n) c.new.ensures
+    ap (λ (n : ℕ). Some n) c.new.ensures.number
     ∙ sym (c.loop-at.invariant.same
     ∙ first-is c.args.after c.args.now c.loop-at.at c.args.tracks.now c.index-tracks-at.result
     c.loop-at-test.true c.index-tracks-at.is c.loop-at.invariant.above (sym c.is_over.ensures ∙ c.if-is_over.true))

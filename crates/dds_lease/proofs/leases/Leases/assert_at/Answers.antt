@@ -25,7 +25,7 @@ stays : (c : goal.Then-is_some)
     })
     (c.number.result - 1) c.args.now c.index.result.now
 stays c = record {
-  within = within _ _ c.args.writer c.number.result c.self.view_is c.requires.matched c.number.ensures;
+  within = within _ _ c.args.writer c.number.result c.self.view_is c.requires.matched c.number.ensures.number;
   is = c.index.ensures;
   tracks = refl;
   last = ap (λ (b : Bool). if b then c.self.inside.last_turned else 1 + (c.number.result - 1))
@@ -35,12 +35,12 @@ stays c = record {
 pub returns-then-is_some-clause-came : goal.returns-then-is_some-clause-came
 returns-then-is_some-clause-came c = λ q h a given writer moment.
     came-stands _ _ q h a c.args.now _ _ (stands-as _ _ q h c.self.view_is given) (stays c)
-    (omega (arith, c.requires.matched.0, c.number.ensures, writer)) moment
+    (omega (arith, c.requires.matched.0, c.number.ensures.number, writer)) moment
 
 pub returns-then-is_some-clause-heard : goal.returns-then-is_some-clause-heard
 returns-then-is_some-clause-heard c = λ q h given.
     heard-stands _ _ q h c.args.writer c.args.now _ _ (stands-as _ _ q h c.self.view_is given) (stays c)
-    (omega (arith, c.requires.matched.0, c.number.ensures))
+    (omega (arith, c.requires.matched.0, c.number.ensures.number))
 
 -- the tracks after both branches
 joined : (c : goal.After-writer-1)
@@ -57,9 +57,9 @@ turns : (c : goal.After-writer-1)
     (record { tracks = c.if-track.self-inside.tracks.items; last_turned = c.args.writer })
     (c.number.result - 1) c.args.now c.index.result.now
 turns c =
-    let here : c.args.writer ≡ 1 + (c.number.result - 1) = omega (arith, c.requires.matched.0, c.number.ensures) in
+    let here : c.args.writer ≡ 1 + (c.number.result - 1) = omega (arith, c.requires.matched.0, c.number.ensures.number) in
     record {
-      within = within _ _ c.args.writer c.number.result c.self.view_is c.requires.matched c.number.ensures;
+      within = within _ _ c.args.writer c.number.result c.self.view_is c.requires.matched c.number.ensures.number;
       is = c.index.ensures;
       tracks = joined c;
       last = here ∙ ap (λ (b : Bool). if b then c.self.inside.last_turned else 1 + (c.number.result - 1))
@@ -69,9 +69,9 @@ turns c =
 pub returns-clause-came : goal.returns-clause-came
 returns-clause-came c = λ q h a given writer moment.
     came-stands _ _ q h a c.args.now _ _ (stands-as _ _ q h c.self.view_is given) (turns c)
-    (omega (arith, c.requires.matched.0, c.number.ensures, writer)) moment
+    (omega (arith, c.requires.matched.0, c.number.ensures.number, writer)) moment
 
 pub returns-clause-heard : goal.returns-clause-heard
 returns-clause-heard c = λ q h given.
     heard-stands _ _ q h c.args.writer c.args.now _ _ (stands-as _ _ q h c.self.view_is given) (turns c)
-    (omega (arith, c.requires.matched.0, c.number.ensures))
+    (omega (arith, c.requires.matched.0, c.number.ensures.number))

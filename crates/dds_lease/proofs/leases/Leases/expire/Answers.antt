@@ -56,14 +56,14 @@ dies tracks kept w n now after track same number above over is =
 
 pub overflow_sub-self : goal.overflow_sub-self
 overflow_sub-self c =
-    let one = dies _ _ _ _ _ _ c.index-track.result.now c.deref.ensures.value c.number.ensures
+    let one = dies _ _ _ _ _ _ c.index-track.result.now c.deref.ensures.value c.number.ensures.number
     c.in_ok-writer.ensures.above c.in_ok-writer.ensures.over c.index-track.ensures in
     let counts = buried-counts _ _ c.index-track.result.now one.within one.is one.alive in
     omega (arith, c.self.invariant.0, counts.0)
 
 pub invariant_of-self : goal.invariant_of-self
 invariant_of-self c =
-    let one = dies _ _ _ _ _ _ c.index-track.result.now c.deref.ensures.value c.number.ensures
+    let one = dies _ _ _ _ _ _ c.index-track.result.now c.deref.ensures.value c.number.ensures.number
     c.in_ok-writer.ensures.above c.in_ok-writer.ensures.over c.index-track.ensures in
     let counts = buried-counts _ _ c.index-track.result.now one.within one.is one.alive in
     (omega (arith, c.self.invariant.0, counts.0), omega (arith, c.self.invariant.1, counts.1))
@@ -81,11 +81,11 @@ returns-clause-first c = λ q h given. sym (first c q h given)
 
 pub returns-clause-died : goal.returns-clause-died
 returns-clause-died c = λ q h given.
-    let one = dies _ _ _ _ _ _ c.index-track.result.now c.deref.ensures.value c.number.ensures
+    let one = dies _ _ _ _ _ _ c.index-track.result.now c.deref.ensures.value c.number.ensures.number
     c.in_ok-writer.ensures.above c.in_ok-writer.ensures.over c.index-track.ensures in
     let above = c.in_ok-writer.ensures.above in
     died-stands _ _ q h c.in_ok-writer.writer c.args.now (c.number.result - 1) c.index-track.result.now
-    (stands-as _ _ q h c.self.view_is given) (omega (arith, c.number.ensures, above.0)) one.within one.is one.alive
+    (stands-as _ _ q h c.self.view_is given) (omega (arith, c.number.ensures.number, above.0)) one.within one.is one.alive
     refl refl
 
 pub returns-clause-turn : goal.returns-clause-turn
@@ -94,7 +94,7 @@ returns-clause-turn c = λ q h given.
 
 pub returns-clause-overdue : goal.returns-clause-overdue
 returns-clause-overdue c =
-    let one = dies _ _ _ _ _ _ c.index-track.result.now c.deref.ensures.value c.number.ensures
+    let one = dies _ _ _ _ _ _ c.index-track.result.now c.deref.ensures.value c.number.ensures.number
     c.in_ok-writer.ensures.above c.in_ok-writer.ensures.over c.index-track.ensures in
     let fewer = buried-overdue _ _ c.args.now c.index-track.result.now one.within one.is one.over in
     let kept = ap (λ (k : Kept). overdue_of k c.args.now) c.self.view_is in

@@ -9,9 +9,9 @@ pub returns-then-at-eq0-clause-matched : goal.returns-then-at-eq0-clause-matched
 returns-then-at-eq0-clause-matched c = λ q h given matched.
     let count = matched-count _ q h (stands-as _ _ q h c.self.view_is given) in
     elim c.then-at-eq0.branch [
-      | then-at-eq0-via-then-at-eq0 w ↦ absurd (omega (arith, w.if-at-eq0.true, matched.0, c.number-at.ensures))
+      | then-at-eq0-via-then-at-eq0 w ↦ absurd (omega (arith, w.if-at-eq0.true, matched.0, c.number-at.ensures.number))
       | then-at-eq0-via-else-at-eq0+then-len-at w ↦ absurd
-          (omega (arith, w.if-len-at.true, w.len.ensures, matched.1, c.number-at.ensures, count))
+          (omega (arith, w.if-len-at.true, w.len.ensures, matched.1, c.number-at.ensures.number, count))
     ]
 
 pub returns-clause-matched : goal.returns-clause-matched
@@ -21,13 +21,13 @@ returns-clause-matched c = λ q h given matched.
     ∙ ap (λ (t : LeaseTrack). is_some t.since)
     (c.index.ensures
     ∙ kept-track _ q h c.args.writer (c.number-at.result - 1) c.index.result.now
-    (stands-as _ _ q h c.self.view_is given) (omega (arith, matched.0, c.number-at.ensures))
-    (omega (arith, matched.0, matched.1, c.number-at.ensures, count)))
+    (stands-as _ _ q h c.self.view_is given) (omega (arith, matched.0, c.number-at.ensures.number))
+    (omega (arith, matched.0, matched.1, c.number-at.ensures.number, count)))
 
 pub returns-clause-unmatched : goal.returns-clause-unmatched
 returns-clause-unmatched c = λ q h given unmatched.
     let count = matched-count _ q h (stands-as _ _ q h c.self.view_is given) in
     absurd (unmatched (
-      omega (arith, c.if-at-eq0.false, c.number-at.ensures),
-      omega (arith, c.if-len-at.false, c.len.ensures, c.number-at.ensures, count),
+      omega (arith, c.if-at-eq0.false, c.number-at.ensures.number),
+      omega (arith, c.if-len-at.false, c.len.ensures, c.number-at.ensures.number, count),
     ))
