@@ -121,7 +121,8 @@ impl History {
     ///
     /// DDS 1.4, 2.2.3 (RESOURCE_LIMITS).
     pub fn refusal(&self, change: &Change) -> Option<Code>
-        ensures { (w : WriterHistory) → StandsFor self.now w → result ≡ append_refusal w change.now }
+        ensures refusal { (w : WriterHistory) → StandsFor self.now w
+            → result ≡ append_refusal w change.now }
     {
         let key = &change.key;
         self.cause(key)
@@ -180,7 +181,7 @@ impl History {
     /// RTPS 2.5, 8.4.9 (ReaderProxy, acked_changes_set).
     pub fn acked(&mut self, reader: usize, to: Sn)
         // There is such a reader.
-        requires { reader < reader_count self.old }
+        requires reader { reader < reader_count self.old }
         // What it stands for knows of the acknowledgement, and of nothing else.
         ensures stands { (w : WriterHistory) → StandsFor self.old w → StandsFor self.new (acknowledge w reader to) }
         // The readers stay the same ones.
@@ -197,8 +198,11 @@ impl History {
     ///
     /// RTPS 2.5, 8.4.9 (ReaderProxy, acked_changes_set).
     pub fn acknowledged(&self, reader: usize) -> Sn
-        requires { reader < reader_count self.now }
-        ensures { (w : WriterHistory) → StandsFor self.now w → result ≡ slice_index w.acknowledged reader }
+        // There is such a reader.
+        requires reader { reader < reader_count self.now }
+        // It is the acknowledgement of the history that it stands for.
+        ensures acknowledged { (w : WriterHistory) → StandsFor self.now w
+            → result ≡ slice_index w.acknowledged reader }
     {
         Sn::new(self.acknowledged[reader])
     }
@@ -207,21 +211,23 @@ impl History {
     ///
     /// RTPS 2.5, 8.4.9 (ReaderProxy, unacked_changes).
     pub fn is_awaited(&self, number: Sn) -> bool
-        ensures { (w : WriterHistory) → StandsFor self.now w → result ≡ is_awaited w number }
+        ensures awaited { (w : WriterHistory) → StandsFor self.now w
+            → result ≡ is_awaited w number }
     {
         is_awaited(&self.acknowledged, number.number())
     }
 
     /// Whether the number is kept: it is a change's that is not dropped, and that some reader has not acknowledged.
     pub fn kept(&self, number: Sn) -> bool
-        ensures { (w : WriterHistory) → StandsFor self.now w → result ≡ is_kept w number }
+        ensures kept { (w : WriterHistory) → StandsFor self.now w → result ≡ is_kept w number }
     {
         find(&self.entries, number.number()).is_some()
     }
 
     /// The change of a kept number; `None` where the number is not kept.
     pub fn get(&self, number: Sn) -> Option<&Change>
-        ensures { (w : WriterHistory) → StandsFor self.now w → option_copied result ≡ kept_change w number }
+        ensures change { (w : WriterHistory) → StandsFor self.now w
+            → option_copied result ≡ kept_change w number }
     {
         let entry = find(&self.entries, number.number())?;
         Some(&entry.change)
@@ -231,7 +237,7 @@ impl History {
     ///
     /// RTPS 2.5, 8.3.8 (Heartbeat: firstSN).
     pub fn first(&self) -> Sn
-        ensures { (w : WriterHistory) → StandsFor self.now w → result ≡ first_kept w }
+        ensures first { (w : WriterHistory) → StandsFor self.now w → result ≡ first_kept w }
     {
         match self.entries.first() {
             Some(entry) => Sn::new(entry.number),

@@ -26,7 +26,7 @@ opened_stands c w s = stands_as c.args.self.now (opened c) w (sym c.self.view_is
 so_far : (c : After-index) → c.index.result.now ≡ get_or (opened c).acknowledged c.args.reader 0
 so_far c =
     let count = ap (λ (v : Held). length v.acknowledged) c.self.view_is in
-    c.index.ensures ∙ get_or_default (opened c).acknowledged c.args.reader _ 0 (omega (arith, count, c.requires))
+    c.index.ensures ∙ get_or_default (opened c).acknowledged c.args.reader _ 0 (omega (arith, count, c.requires.reader))
 
 pub returns-then-index-to-clause-stands : goal.returns-then-index-to-clause-stands
 returns-then-index-to-clause-stands c = λ w s.
@@ -44,7 +44,7 @@ returns-then-index-to-clause-stands c = λ w s.
     let moved = stands_as _ after (acknowledge w c.args.reader c.number-to.result)
     (ap (λ (es : List HeldChange). record after { entries = es }) entries)
     (stands-acked now w c.args.reader c.number-to.result (opened_stands at w s) lt) in
-    subst (λ (k : ℕ). StandsFor after (acknowledge w c.args.reader k)) c.number-to.ensures moved
+    subst (λ (k : ℕ). StandsFor after (acknowledge w c.args.reader k)) c.number-to.ensures.number moved
 
 pub returns-else-index-to-clause-stands : goal.returns-else-index-to-clause-stands
 returns-else-index-to-clause-stands c = λ w s.
@@ -54,4 +54,4 @@ returns-else-index-to-clause-stands c = λ w s.
     let le : c.number-to.result ≤ get_or now.acknowledged c.args.reader 0 = omega (arith, here, c.if-index-to.false) in
     let same = stands-unmoved now w c.args.reader c.number-to.result (opened_stands at w s) le in
     stands_as now c.args.self.now (acknowledge w c.args.reader c.args.to) c.self.view_is
-    (subst (λ (k : ℕ). StandsFor now (acknowledge w c.args.reader k)) c.number-to.ensures same)
+    (subst (λ (k : ℕ). StandsFor now (acknowledge w c.args.reader k)) c.number-to.ensures.number same)

@@ -8,22 +8,26 @@ use Rattle.dds_history.proofs.Numbering.{at_number}
 use Rattle.dds_history.proofs.history.History.get.Goals as goal
 
 pub returns-in_err-entry : goal.returns-in_err-entry
-returns-in_err-entry c = λ w s.
-    let now : Held = c.args.self.now in
-    let found = c.in_err-entry.ensures
-    ∙ (ap (λ (n : ℕ). find (at_number n) c.deref.result.now) c.number.ensures
-    ∙ ap (λ (es : List HeldChange). find (at_number c.args.number) es)
-    (c.deref.ensures.value ∙ ap (λ (v : Held). v.entries) c.self.view_is)) in
-    ap (λ (o : Option _). option_copied o) c.from_residual.ensures
-    ∙ (ap (λ (o : Option HeldChange). option_map (λ (e : HeldChange). e.change) o) found
-    ∙ sym (get_is now w c.args.number s))
+returns-in_err-entry c = record {
+  change = λ w s.
+      let now : Held = c.args.self.now in
+      let found = c.in_err-entry.ensures
+      ∙ (ap (λ (n : ℕ). find (at_number n) c.deref.result.now) c.number.ensures.number
+      ∙ ap (λ (es : List HeldChange). find (at_number c.args.number) es)
+      (c.deref.ensures.value ∙ ap (λ (v : Held). v.entries) c.self.view_is)) in
+      ap (λ (o : Option _). option_copied o) c.from_residual.ensures
+      ∙ (ap (λ (o : Option HeldChange). option_map (λ (e : HeldChange). e.change) o) found
+      ∙ sym (get_is now w c.args.number s));
+}
 
 pub returns : goal.returns
-returns c = λ w s.
-    let now : Held = c.args.self.now in
-    let found = c.in_ok-entry.ensures
-    ∙ (ap (λ (n : ℕ). find (at_number n) c.deref.result.now) c.number.ensures
-    ∙ ap (λ (es : List HeldChange). find (at_number c.args.number) es)
-    (c.deref.ensures.value ∙ ap (λ (v : Held). v.entries) c.self.view_is)) in
-    ap (λ (o : Option HeldChange). option_map (λ (e : HeldChange). e.change) o) found
-    ∙ sym (get_is now w c.args.number s)
+returns c = record {
+  change = λ w s.
+      let now : Held = c.args.self.now in
+      let found = c.in_ok-entry.ensures
+      ∙ (ap (λ (n : ℕ). find (at_number n) c.deref.result.now) c.number.ensures.number
+      ∙ ap (λ (es : List HeldChange). find (at_number c.args.number) es)
+      (c.deref.ensures.value ∙ ap (λ (v : Held). v.entries) c.self.view_is)) in
+      ap (λ (o : Option HeldChange). option_map (λ (e : HeldChange). e.change) o) found
+      ∙ sym (get_is now w c.args.number s);
+}
