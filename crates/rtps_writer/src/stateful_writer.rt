@@ -119,7 +119,8 @@ impl StatefulWriter {
     ///
     /// DDS 1.4, 2.2.2.4 (register_instance).
     pub fn is_registered(&self, key: Key) -> bool
-        ensures { (s : WriterState) → StandsFor self.now s → result ≡ is_key_registered key s.written }
+        ensures registered { (s : WriterState) → StandsFor self.now s
+            → result ≡ is_key_registered key s.written }
     {
         is_registered(&self.registered, key)
     }
@@ -151,7 +152,8 @@ impl StatefulWriter {
     ///
     /// DDS 1.4, 2.2.3 (RESOURCE_LIMITS).
     pub fn refusal(&self, change: &Change) -> Option<Code>
-        ensures { (s : WriterState) → StandsFor self.now s → result ≡ append_refusal (history_of s) change.now }
+        ensures refusal { (s : WriterState) → StandsFor self.now s
+            → result ≡ append_refusal (history_of s) change.now }
     {
         self.history.refusal(change)
     }
@@ -201,7 +203,8 @@ impl StatefulWriter {
 
     /// The change of a kept number; `None` where the number is not kept.
     pub fn get(&self, number: Sn) -> Option<&Change>
-        ensures { (s : WriterState) → StandsFor self.now s → option_copied result ≡ kept_change (history_of s) number }
+        ensures change { (s : WriterState) → StandsFor self.now s
+            → option_copied result ≡ kept_change (history_of s) number }
     {
         self.history.get(number)
     }
@@ -210,14 +213,15 @@ impl StatefulWriter {
     ///
     /// RTPS 2.5, 8.3.8 (Heartbeat: firstSN).
     pub fn first(&self) -> Sn
-        ensures { (s : WriterState) → StandsFor self.now s → result ≡ first_kept (history_of s) }
+        ensures first { (s : WriterState) → StandsFor self.now s
+            → result ≡ first_kept (history_of s) }
     {
         self.history.first()
     }
 
     /// The number of the last change; 0 before the first.
     pub fn last(&self) -> Sn
-        ensures { (s : WriterState) → StandsFor self.now s → result ≡ last_of s }
+        ensures last { (s : WriterState) → StandsFor self.now s → result ≡ last_of s }
     {
         self.history.last()
     }
@@ -236,8 +240,11 @@ impl StatefulWriter {
     ///
     /// RTPS 2.5, 8.4.9 (ReaderProxy, acked_changes_set).
     pub fn acknowledged(&self, reader: usize) -> Sn
-        requires { reader < reader_count self.now }
-        ensures { (s : WriterState) → StandsFor self.now s → result ≡ acknowledged_by s reader }
+        // There is such a reader.
+        requires reader { reader < reader_count self.now }
+        // It is what the reader has acknowledged of the writer that it stands for.
+        ensures acknowledged { (s : WriterState) → StandsFor self.now s
+            → result ≡ acknowledged_by s reader }
     {
         self.history.acknowledged(reader)
     }
@@ -246,8 +253,11 @@ impl StatefulWriter {
     ///
     /// RTPS 2.5, 8.4.9 (ReaderProxy, unacked_changes).
     pub fn is_behind(&self, reader: usize) -> bool
-        requires { reader < reader_count self.now }
-        ensures { (s : WriterState) → StandsFor self.now s → result ≡ is_reader_behind s reader }
+        // There is such a reader.
+        requires reader { reader < reader_count self.now }
+        // It is so exactly where the reader lacks a change of the writer that it stands for.
+        ensures behind { (s : WriterState) → StandsFor self.now s
+            → result ≡ is_reader_behind s reader }
     {
         self.history.acknowledged(reader).number() <= self.history.last().number()
     }
@@ -333,7 +343,7 @@ impl StatefulWriter {
     /// DDS 1.4, 2.2.4.1 (LIVELINESS_LOST), 2.2.4.2 (changes in status).
     pub fn is_lost(&self) -> bool
         // So it is while the status of the definitions has a change to tell.
-        ensures { (s : WriterState) → StandsFor self.now s
+        ensures lost { (s : WriterState) → StandsFor self.now s
             → result ≡ nat_lt 0 (liveliness_lost_status s.lease s.written).total_count_change }
     {
         self.liveliness.is_lost()
@@ -459,7 +469,7 @@ impl StatefulWriter {
         count: i32,
     ) -> Result<Answered, Code>
         // There is such a reader.
-        requires { reader < reader_count self.old }
+        requires reader { reader < reader_count self.old }
         // The acknowledgement and the count are the reader's, or nothing changes.
         ensures stands { (s : WriterState) → StandsFor self.old s
             → OnOk result (StandsFor self.new (after_acknack s reader base count)) }

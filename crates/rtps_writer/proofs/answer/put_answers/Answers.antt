@@ -16,13 +16,13 @@ loop-place-init c = (
 pub loop-place-preserved-then-is_requested : goal.loop-place-preserved-then-is_requested
 loop-place-preserved-then-is_requested c =
     let room = c.loop-place.invariant in
-    let base = c.number-base.ensures ∙ c.base.ensures.base in (
+    let base = c.number-base.ensures.number ∙ c.base.ensures.base in (
       omega (arith, room.0),
       omega (arith, room.1, c.put_before.ensures.len, c.put_before.ensures.capacity, c.loop-place-test.true),
       λ w given.
           let last = c.last-last.ensures.last w given in
           let number : c.new-number.result ≡ min (c.args.set.now.base + (c.loop-place.place - 1)) (2 ^ 64 - 1) =
-          omega (arith, c.new-number.ensures, c.saturating_add.ensures, base) in
+          omega (arith, c.new-number.ensures.number, c.saturating_add.ensures, base) in
           let is : is_requested c.args.set.now c.args.from (length w.changes) c.new-number.result ≡ true =
           ap (λ (n : ℕ). is_requested c.args.set.now c.args.from n c.new-number.result) (sym last)
           ∙ (sym c.is_requested.ensures ∙ c.if-is_requested.true) in
@@ -30,19 +30,19 @@ loop-place-preserved-then-is_requested c =
           ∙ step-requested (λ n. is_kept w n) c.loop-place.place c.new-number.result c.args.set.now c.args.from
           (length w.changes) c.kept.result c.loop-place.answers.items
           (omega (arith, c.loop-place-test.true)) room.0 number
-          (omega (arith, last, c.last-last.ensures.few w given)) is (room.2 w given) (c.kept.ensures w given),
+          (omega (arith, last, c.last-last.ensures.few w given)) is (room.2 w given) (c.kept.ensures.kept w given),
     )
 
 pub loop-place-preserved : goal.loop-place-preserved
 loop-place-preserved c =
     let room = c.loop-place.invariant in
-    let base = c.number-base.ensures ∙ c.base.ensures.base in (
+    let base = c.number-base.ensures.number ∙ c.base.ensures.base in (
       omega (arith, room.0),
       omega (arith, room.1, c.loop-place-test.true),
       λ w given.
           let last = c.last-last.ensures.last w given in
           let number : c.new-number.result ≡ min (c.args.set.now.base + (c.loop-place.place - 1)) (2 ^ 64 - 1) =
-          omega (arith, c.new-number.ensures, c.saturating_add.ensures, base) in
+          omega (arith, c.new-number.ensures.number, c.saturating_add.ensures, base) in
           let is : is_requested c.args.set.now c.args.from (length w.changes) c.new-number.result ≡ false =
           ap (λ (n : ℕ). is_requested c.args.set.now c.args.from n c.new-number.result) (sym last)
           ∙ (sym c.is_requested.ensures ∙ c.if-is_requested.false) in

@@ -17,7 +17,7 @@ returns-then-is_new_count c = λ s given.
     omega (
       arith,
       c.saturating_add.ensures,
-      c.number-then-is_new_count.ensures,
+      c.number-then-is_new_count.ensures.number,
       c.last.ensures.last
           (history_of s) h,
       c.last.ensures.few (history_of s) h,
@@ -25,7 +25,7 @@ returns-then-is_new_count c = λ s given.
     let same = to_z-of_z w32 c.args.count c.ranges.count in
     let is_new = ap (λ (z : ℤ). is_new_count c.index.result.now z) (sym same)
     ∙ (sym c.is_new_count.ensures ∙ c.if-is_new_count.true) in
-    ap (λ (n : ℕ). nat_le n c.saturating_add.result) c.number.ensures
+    ap (λ (n : ℕ). nat_le n c.saturating_add.result) c.number.ensures.number
     ∙ (ap (λ (n : ℕ). nat_le c.args.base n) last
     ∙ (ap (λ (b : Bool). b && nat_le c.args.base (last_of s + 1)) (sym is_new)
     ∙ sym (is_applied-at _ s c.args.reader c.args.base c.args.count c.index.result.now

@@ -22,9 +22,9 @@ returns-clause-acknowledged c = λ s given.
     let h = history_at _ c.args.self.now s c.self.view_is given in
     let moved = c.acked.ensures.stands (history_of s) h in
     c.if_later.ensures
-    ∙ (ap (λ (n : ℕ). if_later n c.acknowledged-after.result) (c.acknowledged-before.ensures (history_of s) h)
+    ∙ (ap (λ (n : ℕ). if_later n c.acknowledged-after.result) (c.acknowledged-before.ensures.acknowledged (history_of s) h)
     ∙ ap (λ (n : ℕ). if_later (acknowledged_by s c.args.reader) n)
-    (c.acknowledged-after.ensures (acknowledge (history_of s) c.args.reader c.args.base) moved))
+    (c.acknowledged-after.ensures.acknowledged (acknowledge (history_of s) c.args.reader c.args.base) moved))
 
 pub returns-clause-answers : goal.returns-clause-answers
 returns-clause-answers c = λ s given.
@@ -33,4 +33,4 @@ returns-clause-answers c = λ s given.
     c.put_answers.ensures (acknowledge (history_of s) c.args.reader c.args.base) moved
     ∙ ap (λ (n : ℕ). answers_to (λ k. is_kept (acknowledge (history_of s) c.args.reader c.args.base) k)
     (requested c.args.set.now n (last_of s)))
-    (c.acknowledged-after.ensures (acknowledge (history_of s) c.args.reader c.args.base) moved)
+    (c.acknowledged-after.ensures.acknowledged (acknowledge (history_of s) c.args.reader c.args.base) moved)

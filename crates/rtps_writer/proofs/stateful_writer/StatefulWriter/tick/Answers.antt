@@ -13,7 +13,7 @@ nothing : (c : goal.Joined-then-not-is_awaited) (s : _) → StandsFor c.args.sel
     → Idle c.args.self.now c.tick.new.self s c.args.now
 nothing c s given =
     let h = history_at _ c.args.self.now s c.self.view_is given in
-    let behind = c.is_awaited.ensures (history_of s) h
+    let behind = c.is_awaited.ensures.awaited (history_of s) h
     ∙ ap (λ (n : ℕ). is_awaited (history_of s) n) (c.last-last.ensures.last (history_of s) h) in
     let used = ap (λ (k : Kept). k.counts_used) c.self.view_is in
     let here = stands_as c.args.self.now _ s (sym c.self.view_is) given in
@@ -37,7 +37,7 @@ pub returns-clause-stands : goal.returns-clause-stands
 returns-clause-stands c = λ s given.
     let h = history_at _ c.args.self.now s c.self.view_is given in
     let here = stands_as c.args.self.now _ s (sym c.self.view_is) given in
-    let behind = c.is_awaited.ensures (history_of s) h
+    let behind = c.is_awaited.ensures.awaited (history_of s) h
     ∙ ap (λ (n : ℕ). is_awaited (history_of s) n) (c.last-last.ensures.last (history_of s) h) in
     subst (λ (k : Kept). StandsFor k (ticked s c.args.now)) (sym c.next_heartbeat.ensures.used)
     (stands-due _ c.tick.new.self s c.args.now here (c.tick.ensures s.lease s.written (is_behind s) here.liveliness)
@@ -46,7 +46,7 @@ returns-clause-stands c = λ s given.
 pub returns-clause-due : goal.returns-clause-due
 returns-clause-due c = λ s given.
     let h = history_at _ c.args.self.now s c.self.view_is given in
-    let behind = c.is_awaited.ensures (history_of s) h
+    let behind = c.is_awaited.ensures.awaited (history_of s) h
     ∙ ap (λ (n : ℕ). is_awaited (history_of s) n) (c.last-last.ensures.last (history_of s) h) in
     ap (λ (due : HeartbeatDue). Some due) (c.next_heartbeat.ensures.due (history_of s) h)
     ∙ sym (due _ s c.args.now (stands_as c.args.self.now _ s (sym c.self.view_is) given)
