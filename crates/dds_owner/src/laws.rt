@@ -15,7 +15,8 @@ ghost use Rattle.dds_owner.specs.Standing.{Kept, StandsFor};
 /// What stands for an instance of which nothing has come stands too for one of which nobody is registered,
 /// whatever happened.
 pub fn nobody_is_registered_anew()
-    ensures { (kept : Kept) (q : ReaderQos) (i : Key) (h : List Happening) → StandsFor kept q i []
+    ensures stands { (kept : Kept) (q : ReaderQos) (i : Key) (h : List Happening)
+        → StandsFor kept q i []
         → ((w : ℕ) → is_registered i w h ≡ false) → StandsFor kept q i h }
 {}
 

@@ -11,7 +11,7 @@ loop-at-preserved c =
     ap
     (λ (rs : List Registration). rs
     ++ blank_registrations (c.loop-at.at + 1 + 1) (c.args.writers - (c.loop-at.at + 1)))
-    (c.in_ok-push.ensures.items ∙ ap (λ (w : ℕ). done ++ unregistered w ∷ []) c.new.ensures)
+    (c.in_ok-push.ensures.items ∙ ap (λ (w : ℕ). done ++ unregistered w ∷ []) c.new.ensures.number)
     ∙ blank-step (c.loop-at.at + 1) c.loop-at.at c.args.writers done _ c.loop-at-test.true c.loop-at.invariant
 
 pub returns : goal.returns
