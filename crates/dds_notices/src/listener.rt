@@ -23,15 +23,15 @@ pub trait Listener: Drop {
 
     /// How many notices it can keep.
     fn room(&self) -> usize
-        ensures { result ≡ capacity self.now };
+        ensures capacity { result ≡ capacity self.now };
 
     /// Whether it keeps none.
     fn is_fresh(&self) -> bool
-        ensures { IsTrue result ↔ (notices self.now ≡ []) };
+        ensures fresh { IsTrue result ↔ (notices self.now ≡ []) };
 
     /// The notice that it keeps at this place, counted from 0, the oldest first. `None` from their number on.
     fn held(&self, at: usize) -> Option<Notice>
-        ensures { result ≡ slice_get (notices self.now) at };
+        ensures notice { result ≡ slice_get (notices self.now) at };
 
     /// It is told of a status.
     fn on_notice(&mut self, notice: &Notice)

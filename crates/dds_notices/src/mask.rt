@@ -50,7 +50,7 @@ impl StatusMask {
     ///
     /// DDS 1.4, 2.3.3 (StatusMask).
     pub fn names(self, status: &Status) -> bool
-        ensures { result ≡ names self status.now }
+        ensures named { result ≡ names self status.now }
     {
         match status {
             Status::SampleLost(_) => self.contains(StatusMask::SAMPLE_LOST),

@@ -112,7 +112,7 @@ impl<L: Listener> Slots<L> {
 
     /// Whether a listener is set at some entity.
     pub fn has_listeners(&self) -> bool
-        ensures { result ≡ is_any self.now }
+        ensures listeners { result ≡ is_any self.now }
     {
         self.participant.is_some() || is_any(&self.writers) || is_any(&self.readers)
     }
