@@ -19,7 +19,7 @@ pub trait Filter: Drop {
 
     /// Whether a sample passes: its key, and the octets of its value, none where it has no data.
     fn passes(&self, key: &Key, value: &[u8]) -> bool
-        ensures { result ≡ meaning self.now key.now value.now };
+        ensures meaning { result ≡ meaning self.now key.now value.now };
 }
 
 impl Filter for Box<dyn Filter + Send> {
@@ -43,7 +43,7 @@ pub trait Filters {
 
     /// Whether a sample passes the filter of this number: its key, and the octets of its value, none where it has no data.
     fn passes(&self, filter: u32, key: &Key, value: &[u8]) -> bool
-        ensures { result ≡ meaning self.now filter key.now value.now };
+        ensures meaning { result ≡ meaning self.now filter key.now value.now };
 }
 
 /// No filters: nothing passes one.

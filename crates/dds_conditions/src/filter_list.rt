@@ -28,7 +28,7 @@ impl<F> Model for FilterList<F> {
 impl<F: Filter> FilterList<F> {
     /// No filters. Takes no memory.
     pub fn new(alloc: Global) -> Self
-        ensures { result ≡ [] }
+        ensures empty { result ≡ [] }
     {
         FilterList {
             filters: Vec::new(alloc),
@@ -43,8 +43,9 @@ impl<F: Filter> FilterList<F> {
     pub fn add(&mut self, filter: F) -> Result<(), F>
         // It is the last one.
         ensures ok { OnOk result (self.new ≡ self.old ++ filter ∷ []) }
-        // A refusal hands it back, and changes nothing.
+        // A refusal hands it back.
         ensures refused { IfErr result (λ back. back ≡ filter) }
+        // A refusal changes nothing.
         ensures err { OnErr result (self.new ≡ self.old) }
     {
         match self.filters.push(filter) {
@@ -55,7 +56,7 @@ impl<F: Filter> FilterList<F> {
 
     /// The filter of this number, if there is one.
     pub fn filter(&self, number: u32) -> Option<&F>
-        ensures { option_copied result ≡ filter_at self.now number }
+        ensures found { option_copied result ≡ filter_at self.now number }
     {
         if number == 0 {
             return None;

@@ -32,7 +32,7 @@ impl Model for WaitSet {
 impl WaitSet {
     /// One with no conditions. Takes no memory.
     pub fn open(alloc: Global) -> WaitSet
-        ensures { result ≡ [] }
+        ensures empty { result ≡ [] }
     {
         WaitSet {
             conditions: Vec::new(alloc),
@@ -43,7 +43,7 @@ impl WaitSet {
     ///
     /// DDS 1.4, 2.2.2.1 (get_conditions).
     pub fn conditions(&self) -> &[Cond]
-        ensures { result.now ≡ self.now }
+        ensures conditions { result.now ≡ self.now }
     {
         self.conditions.as_slice()
     }
@@ -107,9 +107,10 @@ impl WaitSet {
     ///
     /// DDS 1.4, 2.2.2.1 (wait; get_trigger_value).
     pub fn is_active<T: FnMut(&Cond) -> bool>(&self, is_true: T) -> bool
-        requires { T.IsAlwaysCallable is_true }
+        // The test can be called at any time.
+        requires callable { T.IsAlwaysCallable is_true }
         // If the test tells these trigger values, and stays the same, one is true by these.
-        ensures { (trigger : Cond → Bool)
+        ensures active { (trigger : Cond → Bool)
             → ((c : Cond) (answer : Bool) (after : T) → CalledAt T.FnMut is_true c answer after
             → (answer ≡ trigger c) × (after ≡ is_true))
             → result ≡ list_any trigger self.now }
@@ -126,7 +127,8 @@ impl WaitSet {
     ///
     /// `Memory` where a growth was refused.
     pub fn active<T: FnMut(&Cond) -> bool>(&self, is_true: T) -> Result<Sequence<Cond>, Code>
-        requires { T.IsAlwaysCallable is_true }
+        // The test can be called at any time.
+        requires callable { T.IsAlwaysCallable is_true }
         // If the test tells these trigger values, and stays the same, they are those that are true by these.
         ensures ok { (trigger : Cond → Bool)
             → ((c : Cond) (answer : Bool) (after : T) → CalledAt T.FnMut is_true c answer after

@@ -77,7 +77,7 @@ impl Watch {
     ///
     /// Where a growth was refused.
     pub fn open(alloc: Global, writers: usize, readers: usize) -> Result<Watch, AllocError>
-        ensures { IfOk result (λ watch. watch ≡ opened writers readers) }
+        ensures opened { IfOk result (λ watch. watch ≡ opened writers readers) }
     {
         Ok(Watch {
             alloc,
@@ -93,7 +93,7 @@ impl Watch {
     /// The condition of this number, if there is one.
     pub fn condition(&self, number: u32) -> Option<Condition>
         // It was made with this number, and was not deleted.
-        ensures { result ≡ made self.now.conditions number }
+        ensures made { result ≡ made self.now.conditions number }
     {
         if number == 0 {
             return None;
@@ -106,7 +106,7 @@ impl Watch {
 
     /// Whether there is such a condition.
     pub fn knows(&self, condition: Cond) -> bool
-        ensures { result ≡ knows self.now condition }
+        ensures known { result ≡ knows self.now condition }
     {
         match condition {
             Cond::Status(entity) => self.knows_entity(entity),
@@ -116,7 +116,7 @@ impl Watch {
 
     /// Whether there is such an entity.
     pub fn knows_entity(&self, entity: Entity) -> bool
-        ensures { result ≡ knows_entity self.now entity }
+        ensures known { result ≡ knows_entity self.now entity }
     {
         match entity {
             Entity::Participant => true,
@@ -133,13 +133,15 @@ impl Watch {
     ///
     /// DDS 1.4, 2.2.2.1 (GuardCondition), 2.2.2.5 (create_readcondition).
     pub fn create(&mut self, condition: Condition) -> Result<u32, Code>
-        // It is the last one, by the next number.
+        // It is the last one.
         ensures ok { OnOk result (self.new ≡ with_condition self.old condition) }
+        // Its number is the next one.
         ensures number { IfOk result (λ number. number ≡ length self.old.conditions + 1) }
         // A number was left.
         ensures taken { OnOk result (number_refusal self.old.conditions ≡ None) }
-        // A refusal is for its cause, or for want of memory, and changes nothing.
+        // A refusal is for its cause, or for want of memory.
         ensures refused { IfErr result (λ code. Refuses (number_refusal self.old.conditions) code) }
+        // A refusal changes nothing.
         ensures err { OnErr result (self.new ≡ self.old) }
     {
         if self.conditions.len() >= u32::MAX as usize {
@@ -159,9 +161,11 @@ impl Watch {
     pub fn set_guard(&mut self, number: u32, value: bool) -> Result<(), Code>
         // It has the value, and the others are as before.
         ensures ok { OnOk result (self.new ≡ with_condition_at self.old number (Some (IsGuard value))) }
-        // A refusal is for its cause, and changes nothing.
+        // There is such a condition, and it is a guard.
         ensures taken { OnOk result (guard_refusal (made self.old.conditions number) ≡ None) }
+        // A refusal is for its cause.
         ensures refused { IfErr result (λ code. guard_refusal (made self.old.conditions number) ≡ Some code) }
+        // A refusal changes nothing.
         ensures err { OnErr result (self.new ≡ self.old) }
     {
         match self.condition(number) {
@@ -183,9 +187,11 @@ impl Watch {
     pub fn delete(&mut self, number: u32) -> Result<(), Code>
         // It is gone, and attached nowhere.
         ensures ok { OnOk result (self.new ≡ without_condition self.old number) }
-        // A refusal is for its cause, and changes nothing.
+        // There is such a condition.
         ensures taken { OnOk result (unless_there (is_some (made self.old.conditions number)) ≡ None) }
+        // A refusal is for its cause.
         ensures refused { IfErr result (λ code. unless_there (is_some (made self.old.conditions number)) ≡ Some code) }
+        // A refusal changes nothing.
         ensures err { OnErr result (self.new ≡ self.old) }
     {
         if self.condition(number).is_none() {
@@ -206,8 +212,9 @@ impl Watch {
     pub fn next_filter(&self) -> Result<u32, Code>
         // It is one more than there are filters.
         ensures number { IfOk result (λ number. number ≡ self.now.filters + 1) }
-        // A number is left exactly if one is given.
+        // A number was left.
         ensures taken { OnOk result (filter_refusal self.now ≡ None) }
+        // A refusal is for its cause.
         ensures refused { IfErr result (λ code. filter_refusal self.now ≡ Some code) }
     {
         self.filters.checked_add(1).ok_or(Code::OutOfResources)
@@ -221,12 +228,15 @@ impl Watch {
     ///
     /// DDS 1.4, 2.2.2.5 (QueryCondition).
     pub fn add_filter(&mut self) -> Result<u32, Code>
-        // It is the last one, by the next number.
+        // It is the last one.
         ensures ok { OnOk result (self.new ≡ with_filter self.old) }
+        // Its number is the next one.
         ensures number { IfOk result (λ number. number ≡ self.old.filters + 1) }
-        // A number was left, or the refusal is for want of one, and changes nothing.
+        // A number was left.
         ensures taken { OnOk result (filter_refusal self.old ≡ None) }
+        // A refusal is for want of a number.
         ensures refused { IfErr result (λ code. filter_refusal self.old ≡ Some code) }
+        // A refusal changes nothing.
         ensures err { OnErr result (self.new ≡ self.old) }
     {
         let number = self.next_filter()?;
@@ -236,7 +246,7 @@ impl Watch {
 
     /// Whether there is a filter of this number.
     pub fn has_filter(&self, number: u32) -> bool
-        ensures { result ≡ has_filter self.now number }
+        ensures has { result ≡ has_filter self.now number }
     {
         0 < number && number <= self.filters
     }
@@ -249,13 +259,15 @@ impl Watch {
     ///
     /// DDS 1.4, 2.2.2.1 (WaitSet).
     pub fn create_wait_set(&mut self) -> Result<u32, Code>
-        // It is the last one, by the next number.
+        // It is the last one.
         ensures ok { OnOk result (self.new ≡ with_wait_set self.old) }
+        // Its number is the next one.
         ensures number { IfOk result (λ number. number ≡ length self.old.wait_sets + 1) }
         // A number was left.
         ensures taken { OnOk result (number_refusal self.old.wait_sets ≡ None) }
-        // A refusal is for its cause, or for want of memory, and changes nothing.
+        // A refusal is for its cause, or for want of memory.
         ensures refused { IfErr result (λ code. Refuses (number_refusal self.old.wait_sets) code) }
+        // A refusal changes nothing.
         ensures err { OnErr result (self.new ≡ self.old) }
     {
         if self.wait_sets.len() >= u32::MAX as usize {
@@ -278,9 +290,11 @@ impl Watch {
     pub fn delete_wait_set(&mut self, number: u32) -> Result<(), Code>
         // It is gone, and the others are as before.
         ensures ok { OnOk result (self.new ≡ with_wait_set_at self.old number None) }
-        // A refusal is for its cause, and changes nothing.
+        // There is such a WaitSet, and nobody waited in it.
         ensures taken { OnOk result (free_refusal (made self.old.wait_sets number) ≡ None) }
+        // A refusal is for its cause.
         ensures refused { IfErr result (λ code. free_refusal (made self.old.wait_sets number) ≡ Some code) }
+        // A refusal changes nothing.
         ensures err { OnErr result (self.new ≡ self.old) }
     {
         let Some(index) = index_of(number, self.wait_sets.len()) else {
@@ -302,11 +316,14 @@ impl Watch {
     pub fn attach(&mut self, number: u32, condition: Cond) -> Result<(), Code>
         // It is attached, and the others are as before.
         ensures ok { OnOk result (self.new ≡ with_attached self.old number condition) }
-        // A refusal is for its cause, or for want of memory, and changes nothing.
+        // There is such a WaitSet, and such a condition.
         ensures taken { OnOk result (attach_refusal self.old number condition ≡ None) }
+        // A refusal is for its cause, or for want of memory.
         ensures refused { IfErr result (λ code. Refuses (attach_refusal self.old number condition) code) }
+        // Attached again, it is refused for its cause alone.
         ensures again { is_attached condition (conditions_of self.old number) ≡ true
             → IfErr result (λ code. attach_refusal self.old number condition ≡ Some code) }
+        // A refusal changes nothing.
         ensures err { OnErr result (self.new ≡ self.old) }
     {
         let is_known = self.knows(condition);
@@ -330,9 +347,11 @@ impl Watch {
     pub fn detach(&mut self, number: u32, condition: Cond) -> Result<(), Code>
         // It is no longer attached, and the others are as before.
         ensures ok { OnOk result (self.new ≡ with_detached self.old number condition) }
-        // A refusal is for its cause, and changes nothing.
+        // There is such a WaitSet, and such a condition, which was attached.
         ensures taken { OnOk result (detaching_refusal self.old number condition ≡ None) }
+        // A refusal is for its cause.
         ensures refused { IfErr result (λ code. detaching_refusal self.old number condition ≡ Some code) }
+        // A refusal changes nothing.
         ensures err { OnErr result (self.new ≡ self.old) }
     {
         let is_known = self.knows(condition);
@@ -353,8 +372,11 @@ impl Watch {
     ///
     /// DDS 1.4, 2.2.2.1 (get_conditions).
     pub fn conditions(&self, number: u32) -> Result<Sequence<Cond>, Code>
+        // They are those that are attached to it.
         ensures ok { IfOk result (λ conditions. conditions ≡ conditions_of self.now number) }
+        // There is such a WaitSet.
         ensures taken { OnOk result (unless_there (is_some (made self.now.wait_sets number)) ≡ None) }
+        // A refusal is for its cause, or for want of memory.
         ensures refused { IfErr result
             (λ code. Refuses (unless_there (is_some (made self.now.wait_sets number))) code) }
     {
@@ -385,10 +407,13 @@ impl Watch {
     ///
     /// DDS 1.4, 2.2.2.1 (wait).
     pub fn begin(&mut self, number: u32, deadline: Moment) -> Result<(), Code>
+        // Somebody waits in it up to the moment, and nothing else changes.
         ensures ok { OnOk result (self.new ≡ with_deadline self.old number (Some deadline)) }
-        // A refusal is for its cause, and changes nothing.
+        // There is such a WaitSet, and nobody waited in it.
         ensures taken { OnOk result (free_refusal (made self.old.wait_sets number) ≡ None) }
+        // A refusal is for its cause.
         ensures refused { IfErr result (λ code. free_refusal (made self.old.wait_sets number) ≡ Some code) }
+        // A refusal changes nothing.
         ensures err { OnErr result (self.new ≡ self.old) }
     {
         let Some(place) = index_of(number, self.wait_sets.len()) else {
@@ -409,10 +434,13 @@ impl Watch {
     ///
     /// DDS 1.4, 2.2.2.1 (wait).
     pub fn end(&mut self, number: u32) -> Result<(), Code>
+        // Nobody waits in it, and nothing else changes.
         ensures ok { OnOk result (self.new ≡ with_deadline self.old number None) }
-        // A refusal is for its cause, and changes nothing.
+        // There is such a WaitSet, and somebody waited in it.
         ensures taken { OnOk result (use_refusal (made self.old.wait_sets number) ≡ None) }
+        // A refusal is for its cause.
         ensures refused { IfErr result (λ code. use_refusal (made self.old.wait_sets number) ≡ Some code) }
+        // A refusal changes nothing.
         ensures err { OnErr result (self.new ≡ self.old) }
     {
         let Some(index) = index_of(number, self.wait_sets.len()) else {
@@ -433,9 +461,12 @@ impl Watch {
     ///
     /// DDS 1.4, 2.2.2.1 (wait: timeout).
     pub fn deadline(&self, number: u32) -> Result<Moment, Code>
+        // The wait is over exactly from this moment on.
         ensures ok { IfOk result
             (λ moment. (now : ℕ) → is_timed_out (made self.now.wait_sets number) now ≡ nat_le moment now) }
+        // There is such a WaitSet, and somebody waits in it.
         ensures taken { OnOk result (use_refusal (made self.now.wait_sets number) ≡ None) }
+        // A refusal is for its cause.
         ensures refused { IfErr result (λ code. use_refusal (made self.now.wait_sets number) ≡ Some code) }
     {
         let waiting = self.wait_set(number).ok_or(Code::BadParameter)?;
@@ -447,9 +478,10 @@ impl Watch {
     ///
     /// DDS 1.4, 2.2.2.1 (wait; get_trigger_value).
     pub fn is_active<T: FnMut(&Cond) -> bool>(&self, number: u32, is_true: T) -> bool
-        requires { T.IsAlwaysCallable is_true }
+        // The test can be called at any time.
+        requires callable { T.IsAlwaysCallable is_true }
         // If the test tells these trigger values, and stays the same, one is true by these.
-        ensures { (trigger : CondOf → Bool)
+        ensures active { (trigger : CondOf → Bool)
             → ((c : CondOf) (answer : Bool) (after : T) → CalledAt T.FnMut is_true c answer after
             → (answer ≡ trigger c) × (after ≡ is_true))
             → result ≡ list_any trigger (conditions_of self.now number) }
@@ -473,7 +505,8 @@ impl Watch {
         number: u32,
         is_true: T,
     ) -> Result<Sequence<Cond>, Code>
-        requires { T.IsAlwaysCallable is_true }
+        // The test can be called at any time.
+        requires callable { T.IsAlwaysCallable is_true }
         // If the test tells these trigger values, and stays the same, they are those that are true by these.
         ensures ok { (trigger : CondOf → Bool)
             → ((c : CondOf) (answer : Bool) (after : T) → CalledAt T.FnMut is_true c answer after
@@ -492,8 +525,10 @@ impl Watch {
     ///
     /// DDS 1.4, 2.2.2.1 (StatusCondition, get_enabled_statuses).
     pub fn enabled(&self, entity: Entity) -> Option<StatusMask>
+        // There is such an entity, and these are those that are enabled.
         ensures there { IfSome result
             (λ mask. (knows_entity self.now entity ≡ true) × ((none : Mask) → mask ≡ enabled_of self.now entity none)) }
+        // There is none only where there is no such entity.
         ensures none { IfNone result (knows_entity self.now entity ≡ false) }
     {
         if !self.knows_entity(entity) {
@@ -514,10 +549,13 @@ impl Watch {
     ///
     /// DDS 1.4, 2.2.2.1 (StatusCondition, set_enabled_statuses).
     pub fn enable(&mut self, entity: Entity, mask: StatusMask) -> Result<(), Code>
+        // These are enabled, and nothing else changes.
         ensures ok { OnOk result (self.new ≡ with_enabled self.old entity mask) }
-        // A refusal is for its cause, and changes nothing.
+        // There is such an entity.
         ensures taken { OnOk result (unless_there (knows_entity self.old entity) ≡ None) }
+        // A refusal is for its cause.
         ensures refused { IfErr result (λ code. unless_there (knows_entity self.old entity) ≡ Some code) }
+        // A refusal changes nothing.
         ensures err { OnErr result (self.new ≡ self.old) }
     {
         if !self.knows_entity(entity) {
