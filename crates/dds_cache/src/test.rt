@@ -17,7 +17,7 @@ pub trait Test {
 
     /// Whether a sample passes: its key, and the octets of its value, none where it has no data.
     fn passes(&self, key: &Key, value: &[u8]) -> bool
-        ensures { result ≡ meaning self.now key.now value.now };
+        ensures meaning { result ≡ meaning self.now key.now value.now };
 }
 
 /// The test that each sample passes.

@@ -15,7 +15,7 @@ loop-at-preserved c = record {
     arith,
     c.add_marker.ensures.len,
     c.loop-at.invariant.len,
-    marked-more c.args.instances.now c.loop-at.at c.new-handle.result c.new-handle.ensures,
+    marked-more c.args.instances.now c.loop-at.at c.new-handle.result c.new-handle.ensures.number,
   );
   capacity = omega (arith, c.add_marker.ensures.capacity, c.loop-at.invariant.capacity);
   small = λ small. c.add_marker.ensures.small (c.loop-at.invariant.small small);
@@ -25,7 +25,7 @@ loop-at-preserved c = record {
       let within : c.loop-at.at < length ks = omega (arith, c.loop-at-test.true, counted) in
       let x : Key = get_or ks c.loop-at.at (record { 0 = [] }) in
       let there : slice_get ks c.loop-at.at ≡ Some x = slice_get-get_or ks c.loop-at.at (record { 0 = [] }) within in
-      let named : instance_of q g c.new-handle.result ≡ Some x = ap (λ (n : ℕ). instance_of q g n) (c.new-handle.ensures ∙ (let next : c.loop-at.at + 1 ≡ suc c.loop-at.at = omega arith in next)) ∙ there in
+      let named : instance_of q g c.new-handle.result ≡ Some x = ap (λ (n : ℕ). instance_of q g n) (c.new-handle.ensures.number ∙ (let next : c.loop-at.at + 1 ≡ suc c.loop-at.at = omega arith in next)) ∙ there in
       adds-of-more q g (length h + 1) c.loop-at.at x c.args.samples.now.items c.loop-at.samples.items c.add_marker.new.samples.items there (c.loop-at.invariant.added q h stands counted fresh) (c.add_marker.ensures.samples q h x stands named (fresh x));
 }
 
@@ -35,7 +35,7 @@ returns-clause-samples c = λ q h stands counted fresh. adds-died q (Died c.args
 -- there is room for it, if it left one
 pub add_marker-requires : goal.add_marker-requires
 add_marker-requires c =
-    let more = marked-more c.args.instances.now c.loop-at.at c.new-handle.result c.new-handle.ensures in
+    let more = marked-more c.args.instances.now c.loop-at.at c.new-handle.result c.new-handle.ensures.number in
     let some = marked-some c.args.instances.now (c.loop-at.at + 1) in
     record { room = omega (arith, more, some, c.requires.room, c.loop-at.invariant.len, c.loop-at.invariant.capacity) }
 

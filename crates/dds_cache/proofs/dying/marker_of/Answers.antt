@@ -18,7 +18,7 @@ returns-clause-left c = λ q h i stands there fresh.
     let key : c.in_ok-known.known.key ≡ i = some-same _ _ (c.in_ok-known.ensures.key q g stands ∙ there) in
     let sample : k.sample ≡ sample_at i (length h + 1) = ap (λ (n : ℕ). sample_at c.in_ok-known.known.key n) at ∙ ap (λ (x : Key). sample_at x (length h + 1)) key in
     let known : IsKnown q g c.in_ok-known.known = c.in_ok-known.ensures.known q g stands in
-    let kept : IsKept q g k = kept-newest q (Died c.args.writer c.args.moment) h i c.in_ok-known.known k refl refl fresh sample known key (newest-died q c.args.writer c.args.moment h c.in_ok-known.known k known refl refl refl refl refl refl refl (c.from_vec.ensures ∙ c.new.ensures.items) refl (c.handle.ensures.handle q g stands)) in
+    let kept : IsKept q g k = kept-newest q (Died c.args.writer c.args.moment) h i c.in_ok-known.known k refl refl fresh sample known key (newest-died q c.args.writer c.args.moment h c.in_ok-known.known k known refl refl refl refl refl refl refl (c.from_vec.ensures.octets ∙ c.new.ensures.items) refl (c.handle.ensures.handle q g stands)) in
     let live : is_live q c.in_ok-known.known k ≡ true = sym c.is_position.ensures ∙ c.if-not-is_position.false in
     record {
       sample_is = sample;
