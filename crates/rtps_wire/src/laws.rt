@@ -17,32 +17,43 @@ use crate::header::MAX_MESSAGE;
 
 /// What is written is read as itself to its end, and no bytes are read as two messages.
 pub fn spelling_is_read()
+    // What is written is read as itself, to its end.
     ensures again { (m : Message) → IsWritable m
         → ReadsMessage (spelling_of m) m (length (spelling_of m)) }
+    // No bytes are read as two messages, or to two ends.
     ensures one { (bytes : List ℕ) (m n : Message) (o p : ℕ) → ReadsMessage bytes m o
         → ReadsMessage bytes n p → (m ≡ n) × (o ≡ p) }
 {}
 
 /// The limits are those of the grammar: a message of `MAX_MESSAGE` octets, and a number of `MAX_SN`, are the last.
 pub fn limits_are_of_the_grammar()
+    // A message has at most 65,535 octets.
     ensures message { MAX_MESSAGE ≡ 65535 }
+    // Nothing longer is written.
     ensures written { (m : Message) → IsWritable m → length (spelling_of m) ≤ MAX_MESSAGE }
+    // Nothing longer is read.
     ensures read { (bytes : List ℕ) (m : Message) (offset : ℕ) → ReadsMessage bytes m offset
         → length bytes ≤ MAX_MESSAGE }
+    // The greatest number is 2^62.
     ensures number { MAX_SN ≡ 2 ^ 62 }
+    // The last number of a HEARTBEAT is not above it.
     ensures heartbeat { (h : Heartbeat) → IsHeartbeat h → h.last_sn ≤ MAX_SN }
 {}
 
 /// At most 61 submessages that can be written one by one can be written together: each takes at most 1,072 octets.
 pub fn few_are_writable()
+    // A submessage takes at most 1,072 octets.
     ensures each { (s : Submessage) → IsSpellable s → length (spelling_of_submessage s) ≤ 1072 }
+    // At most 61 of those that can be written can be written together.
     ensures few { (m : Message) → length m.prefix.0 ≡ 12 → AllByRecursion IsSpellable m.submessages
         → length m.submessages ≤ 61 → IsWritable m }
 {}
 
 /// What a DATA says of a change means that change, and what a DATA says is what it says of the change that it means.
 pub fn contents_are_of_changes()
+    // What is said of a change means that change.
     ensures change { (c : Change) → IsEmptyUnlessWrite c
         → change_in (content_of c) c.source_timestamp ≡ c }
+    // What is said is what is said of the change that it means.
     ensures content { (c : DataContent) (moment : ℕ) → content_of (change_in c moment) ≡ c }
 {}

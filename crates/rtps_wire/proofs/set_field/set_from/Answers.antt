@@ -15,7 +15,7 @@ loop-i-preserved c =
     elim c.if-word-i-eq1.branch [
       | then-word-i-eq1 w ↦
           let is : get_or (flat_map word_bits c.args.words.now) c.loop-i.i false ≡ true = flag ∙ eq-eqb _ 1 w.if-word-i-eq1.true in
-          let place : w.new-then-word-i-eq1.result - c.loop-i.set.base ≡ c.loop-i.i = omega (arith, c.loop-i.invariant.base, w.new-then-word-i-eq1.ensures) in
+          let place : w.new-then-word-i-eq1.result - c.loop-i.set.base ≡ c.loop-i.i = omega (arith, c.loop-i.invariant.base, w.new-then-word-i-eq1.ensures.number) in
           rw w.set-is (record { base = w.insert.ensures.base ∙ c.loop-i.invariant.base; members = w.insert.ensures.members ∙ rw (place, c.loop-i.invariant.members) (filled_true (flat_map word_bits c.args.words.now) c.loop-i.i long small is) })
       | else-word-i-eq1 w ↦
           let is : get_or (flat_map word_bits c.args.words.now) c.loop-i.i false ≡ false = flag ∙ ne_eqb _ 1 w.if-word-i-eq1.false in
