@@ -13,28 +13,28 @@ use dds_base::owner_is_found;
 
 /// All that packets claim is true at the opening of every configuration.
 pub fn opens_sound()
-    ensures { OpensSound }
+    ensures opening { OpensSound }
 {}
 
 /// A step of a network's peers, on packets that were sent, is a step of the machine, and leaves all claims true.
 pub fn composes()
-    ensures { Composes }
+    ensures step { Composes }
 {}
 
 /// A run of a network's peers is a run of the machine.
 pub fn composes_runs()
-    ensures { ComposesRuns }
+    ensures run { ComposesRuns }
 {}
 
 /// No run passes over a change of a writer that keeps all.
 pub fn keep_all_is_kept()
-    ensures { KeepAllIsKept }
+    ensures kept { KeepAllIsKept }
 {}
 
 /// After every run, the changes of a writer that keeps all that came at a matched reader are the first ones of its list,
 /// as many as lie before the reader's place there.
 pub fn changes_come_in_order()
-    ensures { ChangesComeInOrder }
+    ensures order { ChangesComeInOrder }
 {}
 
 /// After every run, a reader's place in the list of a matched writer is at most one past the number of the last change.
@@ -51,14 +51,14 @@ pub fn places_are_bounded()
 
 /// `==` says of two events whether they are equal.
 pub fn events_are_compared(event: &Event, other: &Event) -> bool
-    ensures { IsTrue result ↔ (event.now ≡ other.now) }
+    ensures equal { IsTrue result ↔ (event.now ≡ other.now) }
 {
     event == other
 }
 
 /// `==` says of two outputs whether they are equal.
 pub fn outputs_are_compared(output: &Output, other: &Output) -> bool
-    ensures { IsTrue result ↔ (output.now ≡ other.now) }
+    ensures equal { IsTrue result ↔ (output.now ≡ other.now) }
 {
     output == other
 }
@@ -66,7 +66,9 @@ pub fn outputs_are_compared(output: &Output, other: &Output) -> bool
 /// Each reader of a configuration that is not refused tells its matched writers apart, by GUIDs and by publication handles:
 /// so an instance has an owner wherever a writer is registered for it.
 pub fn owners_exist()
+    // Each reader tells its matched writers apart.
     ensures apart { ReadersTellWritersApart }
+    // Wherever a writer is registered for an instance, the instance has an owner.
     ensures owner { OwnersExist }
 {
     owner_is_found();
@@ -116,7 +118,7 @@ pub fn counts_are_fresh()
 ///
 /// RTPS 2.5, 8.4.9, 8.4.12.
 pub fn window_catches_up()
-    ensures { WindowCatchesUp }
+    ensures window { WindowCatchesUp }
 {}
 
 /// After a round of repair of a writer and a matched reader, in a network by the rules, the reader has gone on by 256

@@ -2,4 +2,4 @@ use Rattle.dds_model.proofs.RunLaws.{keep_all_is_kept}
 use Rattle.dds_model.proofs.laws.keep_all_is_kept.Goals as goal
 
 pub returns : goal.returns
-returns c = keep_all_is_kept
+returns c = record { kept = keep_all_is_kept }

@@ -142,4 +142,4 @@ outputs a b =
     Decides-like (of_outputs.ghosts.eq a b) (λ h i. record { reply = h.0 i; packets = h.1.0 i; unsent = h.1.1 i }) (λ e. (cc, (cc, cc))) all
 
 pub returns : goal.returns
-returns c = Decides-at c.eq.result (of_outputs.ghosts.eq c.args.output.now c.args.other.now) c.eq.ensures (outputs c.args.output.now c.args.other.now)
+returns c = record { equal = Decides-at c.eq.result (of_outputs.ghosts.eq c.args.output.now c.args.other.now) c.eq.ensures (outputs c.args.output.now c.args.other.now) }

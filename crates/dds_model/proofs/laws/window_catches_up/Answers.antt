@@ -2,4 +2,4 @@ use Rattle.dds_model.proofs.CaughtUp.{window_catches_up}
 use Rattle.dds_model.proofs.laws.window_catches_up.Goals as goal
 
 pub returns : goal.returns
-returns c = window_catches_up
+returns c = record { window = window_catches_up }
