@@ -113,8 +113,9 @@ impl<F: Filter, L: Listener> Core<F, L> {
         ensures ok { IfOk result (λ number. Adds L.notices L.capacity self.old filter number self.new) }
         // A refusal is for want of a number, exactly then, or for want of memory.
         ensures refused { IfErr result (λ e. RefusesFilter L.notices L.capacity self.old e.0) }
-        // What is refused comes back, and changes nothing.
+        // What is refused comes back.
         ensures back { IfErr result (λ e. e.1 ≡ filter) }
+        // A refusal changes nothing.
         ensures err { OnErr result (self.new ≡ self.old) }
     {
         self.filtered.add_filter(filter)
@@ -139,8 +140,9 @@ impl<F: Filter, L: Listener> Core<F, L> {
         ensures ok { IfOk result (λ handed. Sets L.notices L.capacity self.old entity mask listener handed self.new) }
         // A refusal is by the first cause that there is, exactly then.
         ensures refused { IfErr result (λ e. RefusesListener L.notices L.capacity self.old entity listener e.0) }
-        // What is refused comes back, and changes nothing.
+        // What is refused comes back.
         ensures back { IfErr result (λ e. e.1 ≡ listener) }
+        // A refusal changes nothing.
         ensures err { OnErr result (self.new ≡ self.old) }
     {
         self.listeners.set(entity, mask, listener)

@@ -3,7 +3,7 @@ use Rattle.dds_core.proofs.Announcing.{says_so, writable_so}
 use Rattle.dds_core.proofs.sending.message.Goals as goal
 
 pub returns-clause-says : goal.returns-clause-says
-returns-clause-says c = says_so c.args.sender.now c.args.number c.args.content c.in_ok-content.field-0 _ c.units.result c.from_vec.result c.in_ok-content.was c.units.ensures (c.from_vec.ensures ∙ c.in_ok-submessages.ensures.items)
+returns-clause-says c = says_so c.args.sender.now c.args.number c.args.content c.in_ok-content.field-0 _ c.units.result c.from_vec.result c.in_ok-content.was c.units.ensures.units (c.from_vec.ensures ∙ c.in_ok-submessages.ensures.items)
 
 pub returns-clause-writable : goal.returns-clause-writable
 returns-clause-writable c =

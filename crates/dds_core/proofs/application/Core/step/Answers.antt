@@ -9,7 +9,7 @@ returns-then-not-has_listeners-clause-step g c =
     let kept : CoreKept g.row.F.Denot g.row.L.Denot = record { filtered = c.self.inside.filtered; listeners = c.self.inside.listeners } in
     subst (λ (k : CoreKept g.row.F.Denot g.row.L.Denot). Steps g.L.Listener.notices g.L.Listener.capacity (tests_of g.F.Filter.meaning k.filtered.filters) k c.args.event c.step.result (record { filtered = c.step.new.self; listeners = c.self.inside.listeners }))
     c.self.view_is
-    (steps_untold g.L.Listener.notices g.L.Listener.capacity (tests_of g.F.Filter.meaning kept.filtered.filters) kept c.args.event c.step.result c.step.new.self c.step.ensures.step (sym c.if-not-has_listeners.ensures))
+    (steps_untold g.L.Listener.notices g.L.Listener.capacity (tests_of g.F.Filter.meaning kept.filtered.filters) kept c.args.event c.step.result c.step.new.self c.step.ensures.step (sym c.if-not-has_listeners.ensures.listeners))
 
 pub returns-clause-step : goal.returns-clause-step
 returns-clause-step g c =

@@ -12,7 +12,7 @@ use Rattle.dds_core.proofs.peer.Peer.assert_liveliness.Goals as goal
 told : (c : goal.After-from_vec) → TellsOf c.self.inside.prefix c.index_mut.result.now c.from_vec.result c.in-Ok.field-0.unsent
 told c =
     subst (λ (ps : List Packet). TellsOf c.self.inside.prefix c.index_mut.result.now ps c.in-Ok.field-0.unsent)
-    (sym c.from_vec.ensures) c.in-Ok.ensures.tells
+    (sym c.from_vec.ensures.elements) c.in-Ok.ensures.tells
 
 pub returns-in-Ok-clause-step : goal.returns-in-Ok-clause-step
 returns-in-Ok-clause-step c = λ config peer given.

@@ -29,7 +29,7 @@ returns-in-Err-clause-takes c =
     let within : i < length c.args.message.now.submessages = omega arith in
     let here = drop_at c.args.message.now.submessages i c.submessage-item.result within in
     let report : Report = record { moves = c.from_vec.result; refused = Some i } in
-    let same_moves : c.from_vec.result ≡ c.loop-index.moves.items = c.from_vec.ensures ∙ c.in-Err.ensures.err.1 in
+    let same_moves : c.from_vec.result ≡ c.loop-index.moves.items = c.from_vec.ensures.elements ∙ c.in-Err.ensures.err.1 in
     let taken : TakesTo c.args.self.now c.args.message.now i (receiver_at c.loop-index.receiver) c.from_vec.result c.loop-index.self c.loop-index.sent =
     subst (λ (ms : List Move). TakesTo c.args.self.now c.args.message.now i (receiver_at c.loop-index.receiver) ms c.loop-index.self c.loop-index.sent) (sym same_moves) c.loop-index.invariant.taken in
     takes_some c.args.self.now c.loop-index.self c.take_submessage.new.self c.args.message.now i (receiver_at c.loop-index.receiver) (get_or c.args.message.now.submessages i c.submessage-item.result) report c.loop-index.sent c.take_submessage.new.sent taken c.in-Err.ensures.err.0 c.in-Err.ensures.err.2 here refl
@@ -66,7 +66,7 @@ returns-clause-takes c =
     let report : Report = record { moves = c.from_vec-2.result; refused = None } in
     let taken : TakesTo c.args.self.now c.args.message.now (length c.args.message.now.submessages) (receiver_at c.loop-index.receiver) c.from_vec-2.result c.loop-index.self c.loop-index.sent =
     subst (λ (n : ℕ). TakesTo c.args.self.now c.args.message.now n (receiver_at c.loop-index.receiver) c.from_vec-2.result c.loop-index.self c.loop-index.sent) end
-    (subst (λ (ms : List Move). TakesTo c.args.self.now c.args.message.now c.loop-index.index (receiver_at c.loop-index.receiver) ms c.loop-index.self c.loop-index.sent) (sym c.from_vec-2.ensures) c.loop-index.invariant.taken) in
+    (subst (λ (ms : List Move). TakesTo c.args.self.now c.args.message.now c.loop-index.index (receiver_at c.loop-index.receiver) ms c.loop-index.self c.loop-index.sent) (sym c.from_vec-2.ensures.elements) c.loop-index.invariant.taken) in
     takes_all c.args.self.now c.loop-index.self c.args.message.now (receiver_at c.loop-index.receiver) report c.loop-index.sent taken (drop_all c.args.message.now.submessages) refl
 
 pub take_submessage-requires-clause-bounded : goal.take_submessage-requires-clause-bounded

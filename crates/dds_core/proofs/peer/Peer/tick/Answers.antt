@@ -28,7 +28,7 @@ returns-in-Err-clause-step c = λ config peer given.
 -- what goes out, by what the peer keeps
 beats : (c : goal.After-from_vec) → BeatsOfAll c.self.inside.prefix c.self.inside.writers.items c.from_vec.result c.tick_all-packets.result.unsent
 beats c =
-    subst (λ (ps : List Packet). BeatsOfAll c.self.inside.prefix c.self.inside.writers.items ps c.tick_all-packets.result.unsent) (sym c.from_vec.ensures)
+    subst (λ (ps : List Packet). BeatsOfAll c.self.inside.prefix c.self.inside.writers.items ps c.tick_all-packets.result.unsent) (sym c.from_vec.ensures.elements)
     (subst (λ (ks : List WriterKept). BeatsOfAll c.self.inside.prefix ks c.tick_all-packets.result.packets.items c.tick_all-packets.result.unsent) c.as_mut_slice-2.ensures.value c.tick_all-packets.ensures.beats)
 
 pub returns-clause-step : goal.returns-clause-step

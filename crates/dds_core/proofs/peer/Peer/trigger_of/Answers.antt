@@ -40,5 +40,5 @@ returns-in-Made g c = λ config peer given.
     let tests = g.T.Filters.meaning c.args.filters.now in
     let here : c.self.inside.watch ≡ peer.part.dds.watch = ap (λ (k : PeerKept). k.watch) c.self.view_is ∙ sym given.watch in
     c.value_of.ensures config peer given
-    ∙ (ap (λ (x : Option Condition). value_of tests peer.part x) (c.condition.ensures ∙ ap (λ (w : Watched). made w.conditions c.in-Made.number) here)
+    ∙ (ap (λ (x : Option Condition). value_of tests peer.part x) (c.condition.ensures.made ∙ ap (λ (w : Watched). made w.conditions c.in-Made.number) here)
     ∙ ap (λ (x : Cond). trigger_value tests peer.part x) (sym c.in-Made.is))

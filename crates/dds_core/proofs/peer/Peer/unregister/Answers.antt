@@ -16,7 +16,7 @@ use Rattle.dds_core.proofs.peer.Peer.unregister.Goals as goal
 unregisters : (c : goal.After-make) → Steps c.args.self.now (event.Call (call.Unregister c.args.writer c.args.key)) c.make.result c.make.new.self × Sends c.args.self.now (event.Call (call.Unregister c.args.writer c.args.key)) c.make.result
 unregisters c =
     let i = c.in-Some.index in
-    let made = subst (λ (v : List ℕ). Makes c.args.self.now i c.unregister_kind-kind.result c.args.key v c.make.result c.make.new.self) (c.from_vec-none.ensures ∙ c.new.ensures.items) c.make.ensures.makes in
+    let made = subst (λ (v : List ℕ). Makes c.args.self.now i c.unregister_kind-kind.result c.args.key v c.make.result c.make.new.self) (c.from_vec-none.ensures.octets ∙ c.new.ensures.items) c.make.ensures.makes in
     let within : i < length c.args.self.now.writers = search rules in
     let here : i < length c.self.inside.writers.items = let same = ap (λ (k : PeerKept). length k.writers) c.self.view_is in omega (arith, within, same) in
     let first : slice_get c.self.inside.writers.items i ≡ Some c.index.result.now = slice_get-get_or c.self.inside.writers.items i _ here ∙ ap (λ (x : WriterKept). Some x) (sym c.index.ensures) in
