@@ -220,8 +220,9 @@ impl<F: Filter, L: Listener> World<F, L> {
         ensures ok { IfOk result (λ number. Adds L.notices L.capacity self.old peer filter number self.new) }
         // A refusal is by the first cause that there is, or for want of memory.
         ensures refused { IfErr result (λ e. RefusesFilter L.notices L.capacity self.old peer e.0) }
-        // What is refused comes back, and changes nothing.
+        // What is refused comes back.
         ensures back { IfErr result (λ e. e.1 ≡ filter) }
+        // A refusal changes nothing.
         ensures err { OnErr result (self.new ≡ self.old) }
     {
         match index_of(peer, self.count()) {
@@ -251,8 +252,9 @@ impl<F: Filter, L: Listener> World<F, L> {
             (λ handed. Sets L.notices L.capacity self.old peer entity mask listener handed self.new) }
         // A refusal is by the first cause that there is, exactly then.
         ensures refused { IfErr result (λ e. RefusesListener L.notices L.capacity self.old peer entity listener e.0) }
-        // What is refused comes back, and changes nothing.
+        // What is refused comes back.
         ensures back { IfErr result (λ e. e.1 ≡ listener) }
+        // A refusal changes nothing.
         ensures err { OnErr result (self.new ≡ self.old) }
     {
         match index_of(peer, self.count()) {
@@ -391,14 +393,14 @@ impl<F: Filter, L: Listener> World<F, L> {
 
     /// How many packets were sent.
     pub fn sent(&self) -> u64
-        ensures { result ≡ length self.now.sent }
+        ensures sent { result ≡ length self.now.sent }
     {
         self.sent.len() as u64
     }
 
     /// How many packets found no memory; it stays at its greatest value.
     pub fn unsent(&self) -> u64
-        ensures { result ≡ self.now.unsent }
+        ensures unsent { result ≡ self.now.unsent }
     {
         self.unsent
     }

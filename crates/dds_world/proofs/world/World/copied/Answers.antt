@@ -12,5 +12,5 @@ returns g c =
     let count = ap (λ (ps : List Packet). length ps) whole in
     let within : c.args.index < length sent = omega (arith, count) in
     let found : slice_get sent c.args.index ≡ Some packet = slice_get-get_or sent c.args.index packet within ∙ ap (λ (p : Packet). Some p) (sym c.index.ensures) in
-    let same : c.from_vec.result ≡ packet.bytes = c.from_vec.ensures ∙ (c.in_ok-bytes.ensures.items ∙ c.as_slice.ensures) in
+    let same : c.from_vec.result ≡ packet.bytes = c.from_vec.ensures.octets ∙ (c.in_ok-bytes.ensures.items ∙ c.as_slice.ensures.octets) in
     record { packet = packet; at = subst (λ (ps : List Packet). slice_get ps c.args.index ≡ Some packet) whole found; same = same }

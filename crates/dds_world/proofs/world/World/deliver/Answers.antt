@@ -17,7 +17,7 @@ returns-in-Some-clause-sends g c =
     subst (λ (n : ℕ). Announces (kept_of g.L.Listener.notices g.L.Listener.capacity c.args.self.now) (world.Deliver c.args.peer n) c.deliver_sent.result (kept_of g.L.Listener.notices g.L.Listener.capacity c.deliver_sent.new.self)) (sym c.in-Some.ensures.0) c.deliver_sent.ensures.sends
 
 pub returns-in-None-clause-step : goal.returns-in-None-clause-step
-returns-in-None-clause-step g c = no_packet_in g.F.Filter.meaning g.L.Listener.notices g.L.Listener.capacity c.args.self.now c.args.peer c.sent.result c.args.packet c.sent.ensures c.in-None.ensures
+returns-in-None-clause-step g c = no_packet_in g.F.Filter.meaning g.L.Listener.notices g.L.Listener.capacity c.args.self.now c.args.peer c.sent.result c.args.packet c.sent.ensures.sent c.in-None.ensures
 
 pub returns-in-None-clause-sends : goal.returns-in-None-clause-sends
 returns-in-None-clause-sends g c = quiet_delivery_sends (kept_of g.L.Listener.notices g.L.Listener.capacity c.args.self.now) c.args.peer c.args.packet (Refused BadParameter)

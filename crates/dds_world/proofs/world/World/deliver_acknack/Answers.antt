@@ -14,7 +14,7 @@ returns-clause-adds g c =
     let d = c.deliver_answers.ensures.steps in
     let mid = c.add_step.new.self in
     let later : List WorldEvent = answers_at c.args.m.now.reader.peer c.sent-sent.result (length mid.sent) in
-    let counted = ap (λ (n : ℕ). answers_at c.args.m.now.reader.peer n (length mid.sent)) c.sent-sent.ensures in (
+    let counted = ap (λ (n : ℕ). answers_at c.args.m.now.reader.peer n (length mid.sent)) c.sent-sent.ensures.sent in (
       world.Deliver c.args.m.now.writer.peer c.in-Some.packet ∷ later,
       a.0 ∷ d.0,
       d.1 ∙ (ap (λ (rs : List RoundReply). rs ++ d.0) a.1 ∙ append_assoc c.args.replies.now.items (a.0 ∷ []) d.0),
