@@ -14,7 +14,7 @@ pub struct Prefix(Octets);
 impl Prefix {
     /// The filter by these octets. Takes no memory.
     pub fn new(octets: Octets) -> Self
-        ensures { result.0 ≡ octets }
+        ensures octets { result.0 ≡ octets }
     {
         Prefix(octets)
     }
