@@ -23,7 +23,7 @@ impl Config {
     ///
     /// DDS 1.4, 2.2.1.1 (return codes), 2.2.3 (consistent and compatible policies).
     pub fn check(&self) -> Result<(), Code>
-        // It is taken where there is no cause to refuse it.
+        // Against what is taken there is no cause.
         ensures ok { IfOk result (λ done. check_refusal self.now.peers ≡ None) }
         // A refusal is by the first cause that there is.
         ensures err { IfErr result (λ code. check_refusal self.now.peers ≡ Some code) }

@@ -105,7 +105,7 @@ pub fn masks_ask_for_their_states()
         ≡ instance_state_bit NotAliveDisposed + instance_state_bit NotAliveNoWriters }
     // ANY_INSTANCE_STATE is 0xffff.
     ensures any_instance_state { InstanceStateMask.ANY.0 ≡ 65535 }
-    // The masks of every state have each of these.
+    // The masks that ask for every state have the ANY of each kind.
     ensures any { Masks.ANY ≡ record {
       samples = SampleStateMask.ANY;
       views = ViewStateMask.ANY;
