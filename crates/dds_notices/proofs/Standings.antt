@@ -99,33 +99,21 @@ module _ {L : Type 0} (notices : L → List Notice) (capacity : L → ℕ) where
       let one = told (at_entity places here) (stands.each here) in
       rw (is_entity, one.2) (entity_stands before places here one.0 (with_notice (at_entity places here) notice) stands has one.1)
 
-  -- the listener of a writer, as `tell_at` of src/slots.rt tells it
-  pub writer_tells : (p : Option (Slot L)) (ws rs new : List (Option (Slot L))) (old : Slotted L) (entity : Entity)
-      (n : ℕ) (notice : Notice)
-      → record { participant = p; writers = ws; readers = rs } ≡ old → entity ≡ Writer n → has_entity old entity ≡ true
-      → ((place : Option Place) → StandsAt notices capacity (at_number ws n) place → ToldAt notices capacity ws n notice place new)
+  -- the listener of this number, among those of the writers or of the readers, as `tell_at` of src/slots.rt tells it
+  pub numbered_tells : (among : List (Option (Slot L)) → Slotted L) (xs new : List (Option (Slot L))) (old : Slotted L)
+      (entity here : Entity) (n : ℕ) (notice : Notice) → at_entity (among xs) here ≡ at_number xs n
+      → ((slot : Option (Slot L)) → with_entity (among xs) here slot ≡ among (set xs (n - 1) slot))
+      → among xs ≡ old → entity ≡ here → has_entity old entity ≡ true
+      → ((place : Option Place) → StandsAt notices capacity (at_number xs n) place
+      → ToldAt notices capacity xs n notice place new)
       → (places : Places) → StandsFor notices capacity old places
-      → StandsFor notices capacity (record { participant = p; writers = new; readers = rs })
+      → StandsFor notices capacity (among new)
       (with_entity places entity (with_notice (at_entity places entity) notice))
-  writer_tells p ws rs new old entity n notice is_old is_entity there told =
-      entity_tells _ _ old entity (Writer n) notice is_old is_entity there
+  numbered_tells among xs new old entity here n notice at with_it is_old is_entity there told =
+      entity_tells (among xs) (among new) old entity here notice is_old is_entity there
       (λ place stands.
-      let one = told place stands in
-      (one.slot, one.stands, ap (λ xs. record { participant = p; writers = xs; readers = rs }) one.others))
-
-  -- that of a reader
-  pub reader_tells : (p : Option (Slot L)) (ws rs new : List (Option (Slot L))) (old : Slotted L) (entity : Entity)
-      (n : ℕ) (notice : Notice)
-      → record { participant = p; writers = ws; readers = rs } ≡ old → entity ≡ Reader n → has_entity old entity ≡ true
-      → ((place : Option Place) → StandsAt notices capacity (at_number rs n) place → ToldAt notices capacity rs n notice place new)
-      → (places : Places) → StandsFor notices capacity old places
-      → StandsFor notices capacity (record { participant = p; writers = ws; readers = new })
-      (with_entity places entity (with_notice (at_entity places entity) notice))
-  reader_tells p ws rs new old entity n notice is_old is_entity there told =
-      entity_tells _ _ old entity (Reader n) notice is_old is_entity there
-      (λ place stands.
-      let one = told place stands in
-      (one.slot, one.stands, ap (λ xs. record { participant = p; writers = ws; readers = xs }) one.others))
+      let one = told place (subst (λ (o : Option (Slot L)). StandsAt notices capacity o place) at stands) in
+      (one.slot, one.stands, ap (λ (ys : List (Option (Slot L))). among ys) one.others ∙ sym (with_it one.slot)))
 
   -- that of the participant, which is always there
   pub participant_tells : (p new : Option (Slot L)) (ws rs : List (Option (Slot L))) (old : Slotted L) (entity : Entity)

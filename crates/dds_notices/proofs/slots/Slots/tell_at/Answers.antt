@@ -1,4 +1,6 @@
-use Rattle.dds_notices.proofs.Standings.{participant_tells, writer_tells, reader_tells}
+use Rattle.std.proofs.Common.{refl}
+use Rattle.dds_base.specs.declared.entity.Entity.TheVariants.{Writer, Reader}
+use Rattle.dds_notices.proofs.Standings.{numbered_tells, participant_tells}
 use Rattle.dds_notices.proofs.slots.Slots.tell_at.Goals as goal
 
 pub returns-in-Participant : goal.returns-in-Participant
@@ -8,10 +10,14 @@ returns-in-Participant g c =
 
 pub returns-in-Writer : goal.returns-in-Writer
 returns-in-Writer g c =
-    writer_tells g.L.Listener.notices g.L.Listener.capacity _ _ _ _ c.args.self.now c.args.entity _ c.args.notice.now c.self.view_is c.in-Writer.is
+    numbered_tells g.L.Listener.notices g.L.Listener.capacity
+    (λ xs. record { participant = c.self.inside.participant; writers = xs; readers = c.self.inside.readers.items }) _ _
+    c.args.self.now c.args.entity (Writer _) _ c.args.notice.now refl (λ slot. refl) c.self.view_is c.in-Writer.is
     c.requires c.tell_number.ensures
 
 pub returns-in-Reader : goal.returns-in-Reader
 returns-in-Reader g c =
-    reader_tells g.L.Listener.notices g.L.Listener.capacity _ _ _ _ c.args.self.now c.args.entity _ c.args.notice.now c.self.view_is c.in-Reader.is
+    numbered_tells g.L.Listener.notices g.L.Listener.capacity
+    (λ xs. record { participant = c.self.inside.participant; writers = c.self.inside.writers.items; readers = xs }) _ _
+    c.args.self.now c.args.entity (Reader _) _ c.args.notice.now refl (λ slot. refl) c.self.view_is c.in-Reader.is
     c.requires c.tell_number-in-Reader.ensures
