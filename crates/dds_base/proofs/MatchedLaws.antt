@@ -14,9 +14,14 @@ any_in : (test : WriterConfig → Bool) (topic number : ℕ) (ws : List WriterCo
 any_in test topic number [] = refl
 any_in test topic number (w ∷ ws) = if_matched test w (of_writers_in (λ n v. v) topic (number + 1) ws) _ (same_topic w.topic topic) (any_in test topic (number + 1) ws)
 
-pub any_matched : (test : WriterConfig → Bool) (topic peer : ℕ) (ps : List PeerConfig) → list_any test (of_matched_writers (λ i p n w. w) topic peer ps) ≡ list_any (λ (p : PeerConfig). list_any (λ w. same_topic w.topic topic && test w) p.writers) ps
+-- a peer has a writer of the topic that passes the test
+abbrev pub any_of : (WriterConfig → Bool) → ℕ → PeerConfig → Bool
+any_of test topic p = list_any (λ w. same_topic w.topic topic && test w) p.writers
+
+pub any_matched : (test : WriterConfig → Bool) (topic peer : ℕ) (ps : List PeerConfig)
+    → list_any test (of_matched_writers (λ i p n w. w) topic peer ps) ≡ list_any (any_of test topic) ps
 any_matched test topic peer [] = refl
 any_matched test topic peer (p ∷ ps) =
     list_any-append test (of_writers_in (λ n w. w) topic 1 p.writers) (of_matched_writers (λ i q n w. w) topic (peer + 1) ps)
     ∙ (ap (λ (b : Bool). b || list_any test (of_matched_writers (λ i q n w. w) topic (peer + 1) ps)) (any_in test topic 1 p.writers)
-    ∙ ap (λ (b : Bool). list_any (λ w. same_topic w.topic topic && test w) p.writers || b) (any_matched test topic (peer + 1) ps))
+    ∙ ap (λ (b : Bool). any_of test topic p || b) (any_matched test topic (peer + 1) ps))
