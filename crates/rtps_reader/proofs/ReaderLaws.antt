@@ -52,10 +52,10 @@ pub at_get : (xs : List WriterProxy) (at : ℕ) (x : WriterProxy) → at < lengt
     → slice_get xs at ≡ Some x
 at_get xs at x lt is = slice_get-get_or xs at x lt ∙ ap (λ (p : WriterProxy). Some p) (sym is)
 
-pub opened : (reader : Proxies) (items : List WriterProxy) (writer : ℕ) (proxy : WriterProxy)
+pub opened : {reader : Proxies} {items : List WriterProxy} {writer : ℕ} {proxy : WriterProxy}
     → record { proxies = items } ≡ reader → writer < count_of reader → proxy ≡ get_or items writer proxy
     → Opened reader items writer proxy
-opened reader items writer proxy view lt is =
+opened {reader} {items} {writer} {proxy} view lt is =
     let same : length items ≡ count_of reader = ap (λ (r : Proxies). count_of r) view in
     record { view = view; at = at_get items writer proxy (omega (arith, same, lt)) is }
 
@@ -80,9 +80,9 @@ at_loop reader inside items at end len x view same whole last lt is =
     at_get items at x (omega (arith, first, same, whole, last, lt)) is
 
 -- something is known of the writer
-pub known_here : (reader : Proxies) (items : List WriterProxy) (writer : ℕ) (proxy : WriterProxy)
+pub known_here : {reader : Proxies} {items : List WriterProxy} {writer : ℕ} {proxy : WriterProxy}
     → Opened reader items writer proxy → (t : Tracked) × Tracks reader writer t
-known_here reader items writer proxy o =
+known_here {reader} {items} {writer} {proxy} o =
     subst (λ (u : Proxies). (t : Tracked) × Tracks u writer t) o.view
     (tracked proxy, (proxy, o.at, same_self (tracked proxy)))
 
@@ -121,16 +121,17 @@ moves_at match with_it before after items writer proxy new step at moves quiet t
       acknack = quiet.1;
     }
 
-pub moves_all : {E : Type 0} (q : ReaderQos) (source : Source) (moment : ℕ) (with_it : Tracked → Tracked)
-    (before after : List Happening → Type 0) (reader : Proxies) (items : List WriterProxy) (writer : ℕ)
-    (proxy new : WriterProxy) (r : Result Step E)
-    → Opened reader items writer proxy → source ≡ record { publication = writer + 1; moment = moment }
+pub moves_all : {E : Type 0} {reader : Proxies} {items : List WriterProxy} {writer : ℕ} {proxy : WriterProxy}
+    → Opened reader items writer proxy → (q : ReaderQos) (source : Source) (moment : ℕ) (with_it : Tracked → Tracked)
+    (before after : List Happening → Type 0) (new : WriterProxy) (r : Result Step E)
+    → source ≡ record { publication = writer + 1; moment = moment }
     → IfOk r (λ step. Moves (match_of q source) before after (with_it (tracked proxy)) step.to step.passed
     (tracked new)) → IfOk r (λ step. (step.heard ≡ false) × (step.acknack ≡ None))
     → IfOk r (λ step. (t : Tracked) (h : List Happening) → Tracks reader writer t → before h
     → MovesOn (match_at q writer moment) (with_it t) h step
     (Tracks (record { proxies = slice_set items writer new }) writer) after)
-moves_all q source moment with_it before after reader items writer proxy new (Ok step) o is moves quiet =
+moves_all {reader = reader} {items} {writer} {proxy} o q source moment with_it before after new (Ok step) is moves
+    quiet =
     subst (λ (u : Proxies). (t : Tracked) (h : List Happening) → Tracks u writer t → before h
     → MovesOn (match_at q writer moment) (with_it t) h step
     (Tracks (record { proxies = slice_set items writer new }) writer) after) o.view
@@ -138,7 +139,7 @@ moves_all q source moment with_it before after reader items writer proxy new (Ok
     → before h → MovesOn (match_of q s) (with_it t) h step
     (Tracks (record { proxies = slice_set items writer new }) writer) after) is
     (moves_at (match_of q source) with_it before after items writer proxy new step o.at moves quiet))
-moves_all q source moment with_it before after reader items writer proxy new (Err e) o is moves quiet = tt
+moves_all o q source moment with_it before after new (Err e) is moves quiet = tt
 
 -- what an accepted HEARTBEAT did at its writer's proxy, it did at the reader
 accepted_at : (match : Match) (before after : List Happening → Type 0) (items : List WriterProxy) (writer : ℕ)
@@ -160,17 +161,18 @@ accepted_at match before after items writer proxy new heartbeat step at moves t 
       stands = r.2;
     }
 
-pub accepted_all : {E : Type 0} (q : ReaderQos) (source : Source) (moment : ℕ) (before after : List Happening → Type 0)
-    (reader : Proxies) (items : List WriterProxy) (writer : ℕ) (proxy new : WriterProxy) (heartbeat : HeartbeatSeen)
-    (r : Result Step E)
-    → Opened reader items writer proxy → source ≡ record { publication = writer + 1; moment = moment }
+pub accepted_all : {E : Type 0} {reader : Proxies} {items : List WriterProxy} {writer : ℕ} {proxy : WriterProxy}
+    → Opened reader items writer proxy → (q : ReaderQos) (source : Source) (moment : ℕ)
+    (before after : List Happening → Type 0) (new : WriterProxy) (heartbeat : HeartbeatSeen) (r : Result Step E)
+    → source ≡ record { publication = writer + 1; moment = moment }
     → (is_later (tracked proxy).count heartbeat.count ≡ true
     → IfOk r (λ step. HeartbeatMoves (match_of q source) before after (tracked proxy) heartbeat step (tracked new)))
     → IfOk r (λ step. (t : Tracked) (h : List Happening) → Tracks reader writer t → before h
     → is_later t.count heartbeat.count ≡ true
     → TakesHeartbeat (match_at q writer moment) t h heartbeat step
     (Tracks (record { proxies = slice_set items writer new }) writer) after)
-accepted_all q source moment before after reader items writer proxy new heartbeat (Ok step) o is moves =
+accepted_all {reader = reader} {items} {writer} {proxy} o q source moment before after new heartbeat (Ok step) is
+    moves =
     subst (λ (u : Proxies). (t : Tracked) (h : List Happening) → Tracks u writer t → before h
     → is_later t.count heartbeat.count ≡ true
     → TakesHeartbeat (match_at q writer moment) t h heartbeat step
@@ -180,7 +182,7 @@ accepted_all q source moment before after reader items writer proxy new heartbea
     → TakesHeartbeat (match_of q s) t h heartbeat step
     (Tracks (record { proxies = slice_set items writer new }) writer) after) is
     (accepted_at (match_of q source) before after items writer proxy new heartbeat step o.at moves))
-accepted_all q source moment before after reader items writer proxy new heartbeat (Err e) o is moves = tt
+accepted_all o q source moment before after new heartbeat (Err e) is moves = tt
 
 idle_from : {E : Type 0} (place from : ℕ) (r : Result Step E) (X Y : Type 0) → place ≡ from → X → Y
     → IfOk r (λ step. IsIdle place step) → IfOk r (λ step. IsIdle from step × X × Y)
@@ -188,16 +190,17 @@ idle_from place from (Ok step) X Y e x y idle = (subst (λ (n : ℕ). IsIdle n s
 idle_from place from (Err error) X Y e x y idle = tt
 
 -- a repeated HEARTBEAT did nothing at its writer's proxy, and nothing at the reader
-pub repeated_all : {E S : Type 0} (stands : S → List Happening → Type 0) (reader : Proxies) (items : List WriterProxy)
-    (writer : ℕ) (proxy new : WriterProxy) (sink changed : S) (heartbeat : HeartbeatSeen) (r : Result Step E)
-    → Opened reader items writer proxy
+pub repeated_all : {E S : Type 0} {reader : Proxies} {items : List WriterProxy} {writer : ℕ} {proxy : WriterProxy}
+    → Opened reader items writer proxy → (stands : S → List Happening → Type 0) (new : WriterProxy) (sink changed : S)
+    (heartbeat : HeartbeatSeen) (r : Result Step E)
     → (is_later (tracked proxy).count heartbeat.count ≡ false
     → (new ≡ proxy) × (changed ≡ sink) × IsOk r × IfOk r (λ step. IsIdle (tracked proxy).place step))
     → (t : Tracked) (h : List Happening) → Tracks reader writer t → stands sink h
     → is_later t.count heartbeat.count ≡ false
     → IsOk r × IfOk r (λ step. IsIdle t.place step × Tracks (record { proxies = slice_set items writer new }) writer t
     × stands changed h)
-repeated_all {S = S} stands reader items writer proxy new sink changed heartbeat r o idle t h has was repeats =
+repeated_all {S = S} {reader = reader} {items} {writer} {proxy} o stands new sink changed heartbeat r idle t h has was
+    repeats =
     let is = known_of items writer proxy t o.at (subst (λ (u : Proxies). Tracks u writer t) (sym o.view) has) in
     let e = idle (ap (λ (u : Tracked). is_later u.count heartbeat.count) is ∙ repeats) in
     let known : Tracks (record { proxies = slice_set items writer new }) writer t =
@@ -220,23 +223,25 @@ stays (p ∷ rest) zero proxy new at same (suc k) t has = has
 stays (p ∷ rest) (suc writer) proxy new at same zero t has = has
 stays (p ∷ rest) (suc writer) proxy new at same (suc k) t has = stays rest writer proxy new at same k t has
 
-pub stays_all : {E : Type 0} (reader : Proxies) (items : List WriterProxy) (writer : ℕ) (proxy new : WriterProxy)
-    (r : Result Step E) → Opened reader items writer proxy → OnErr r (SameTracked (tracked proxy) (tracked new))
+pub stays_all : {E : Type 0} {reader : Proxies} {items : List WriterProxy} {writer : ℕ} {proxy : WriterProxy}
+    → Opened reader items writer proxy → (new : WriterProxy) (r : Result Step E)
+    → OnErr r (SameTracked (tracked proxy) (tracked new))
     → OnErr r (AllStay reader (record { proxies = slice_set items writer new }))
-stays_all reader items writer proxy new (Ok step) o same = tt
-stays_all reader items writer proxy new (Err e) o same = subst
+stays_all o new (Ok step) same = tt
+stays_all {items = items} {writer} {proxy} o new (Err e) same = subst
     (λ (u : Proxies). AllStay u (record { proxies = slice_set items writer new })) o.view
     (stays items writer proxy new o.at same)
 
-pub others_stay : (reader : Proxies) (items : List WriterProxy) (writer : ℕ) (new : WriterProxy)
-    → record { proxies = items } ≡ reader → OthersStay writer reader (record { proxies = slice_set items writer new })
-others_stay reader items writer new view =
-    subst (λ (u : Proxies). OthersStay writer u (record { proxies = slice_set items writer new })) view
+pub others_stay : {reader : Proxies} {items : List WriterProxy} {writer : ℕ} {proxy : WriterProxy}
+    → Opened reader items writer proxy → (new : WriterProxy)
+    → OthersStay writer reader (record { proxies = slice_set items writer new })
+others_stay {reader} {items} {writer} o new =
+    subst (λ (u : Proxies). OthersStay writer u (record { proxies = slice_set items writer new })) o.view
     (λ k t ne has. (has.0, get-set_other items writer new k ne ∙ has.1, has.2))
 
-pub ready_of : (reader : Proxies) (items : List WriterProxy) (writer : ℕ) (proxy : WriterProxy) (spare : ℕ)
-    → Opened reader items writer proxy → IsReady reader spare → IsProxyReady proxy spare
-ready_of reader items writer proxy spare o ready = ready writer proxy
+pub ready_of : {reader : Proxies} {items : List WriterProxy} {writer : ℕ} {proxy : WriterProxy}
+    → Opened reader items writer proxy → (spare : ℕ) → IsReady reader spare → IsProxyReady proxy spare
+ready_of {writer = writer} {proxy} o spare ready = ready writer proxy
     (ap (λ (r : Proxies). slice_get r.proxies writer) (sym o.view) ∙ o.at)
 
 pub sound_set : (items : List WriterProxy) (writer : ℕ) (new : WriterProxy) → AreSound items → IsSound new

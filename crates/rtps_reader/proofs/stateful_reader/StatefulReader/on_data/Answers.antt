@@ -3,37 +3,31 @@ use Rattle.rtps_reader.proofs.ReaderLaws.{Opened, opened, moves_all, stays_all, 
 use Rattle.rtps_reader.proofs.stateful_reader.StatefulReader.on_data.Given as given
 use Rattle.rtps_reader.proofs.stateful_reader.StatefulReader.on_data.Goals as goal
 
+-- the writer's proxy, of the reader that is open
 here : (g : given.Over) (c : goal.After-self-1 g)
     → Opened c.args.self.now c.self.inside.proxies.items c.args.writer c.index_mut-proxy.result.now
-here g c = opened c.args.self.now c.self.inside.proxies.items c.args.writer c.index_mut-proxy.result.now c.self.view_is
-    c.requires.matched c.index_mut-proxy.ensures.value
+here g c = opened c.self.view_is c.requires.matched c.index_mut-proxy.ensures.value
 
 pub on_data-requires-clause-sound : goal.on_data-requires-clause-sound
 on_data-requires-clause-sound g c = c.self.invariant c.args.writer c.index_mut-proxy.result.now
-    (opened c.args.self.now c.self.inside.proxies.items c.args.writer c.index_mut-proxy.result.now c.self.view_is
-    c.requires.matched c.index_mut-proxy.ensures.value).at
-
-pub invariant_of-self : goal.invariant_of-self
-invariant_of-self g c = sound_set c.self.inside.proxies.items c.args.writer c.on_data.new.self c.self.invariant
-    c.on_data.ensures.sound
-
-pub returns-clause-others : goal.returns-clause-others
-returns-clause-others g c = others_stay c.args.self.now c.self.inside.proxies.items c.args.writer c.on_data.new.self
-    c.self.view_is
+    (opened c.self.view_is c.requires.matched c.index_mut-proxy.ensures.value).at
 
 pub returns-clause-moves : goal.returns-clause-moves
 returns-clause-moves g c =
-    moves_all (g.S.Sink.qos c.args.sink.now) c.source_of-source.result c.args.moment
+    moves_all (here g c) (g.S.Sink.qos c.args.sink.now) c.source_of-source.result c.args.moment
     (with_data c.args.number c.args.change) (g.S.Sink.stands c.args.sink.now)
-    (g.S.Sink.stands c.on_data.new.sink) c.args.self.now c.self.inside.proxies.items c.args.writer
-    c.index_mut-proxy.result.now c.on_data.new.self c.on_data.result
-    (here g c) c.source_of-source.ensures c.on_data.ensures.moves c.on_data.ensures.quiet
+    (g.S.Sink.stands c.on_data.new.sink) c.on_data.new.self c.on_data.result c.source_of-source.ensures
+    c.on_data.ensures.moves c.on_data.ensures.quiet
+
+pub invariant_of-self : goal.invariant_of-self
+invariant_of-self g c = sound_set _ _ _ c.self.invariant c.on_data.ensures.sound
+
+pub returns-clause-others : goal.returns-clause-others
+returns-clause-others g c = others_stay (here g c) c.on_data.new.self
 
 pub returns-clause-err : goal.returns-clause-err
-returns-clause-err g c = stays_all c.args.self.now c.self.inside.proxies.items c.args.writer
-    c.index_mut-proxy.result.now c.on_data.new.self c.on_data.result (here g c) c.on_data.ensures.err
+returns-clause-err g c = stays_all (here g c) c.on_data.new.self c.on_data.result c.on_data.ensures.err
 
 pub returns-clause-succeeds : goal.returns-clause-succeeds
 returns-clause-succeeds g c ready = c.on_data.ensures.succeeds
-    (ready_of c.args.self.now c.self.inside.proxies.items c.args.writer c.index_mut-proxy.result.now
-    (g.S.Sink.spare c.args.sink.now) (here g c) ready)
+    (ready_of (here g c) (g.S.Sink.spare c.args.sink.now) ready)

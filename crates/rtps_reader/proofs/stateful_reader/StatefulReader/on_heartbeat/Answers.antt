@@ -3,43 +3,36 @@ use Rattle.rtps_reader.proofs.ReaderLaws.{sound_set}
 use Rattle.rtps_reader.proofs.stateful_reader.StatefulReader.on_heartbeat.Given as given
 use Rattle.rtps_reader.proofs.stateful_reader.StatefulReader.on_heartbeat.Goals as goal
 
+-- the writer's proxy, of the reader that is open
 here : (g : given.Over) (c : goal.After-self-1 g)
     → Opened c.args.self.now c.self.inside.proxies.items c.args.writer c.index_mut-proxy.result.now
-here g c = opened c.args.self.now c.self.inside.proxies.items c.args.writer c.index_mut-proxy.result.now c.self.view_is
-    c.requires.matched c.index_mut-proxy.ensures.value
+here g c = opened c.self.view_is c.requires.matched c.index_mut-proxy.ensures.value
 
 pub on_heartbeat-requires-clause-sound : goal.on_heartbeat-requires-clause-sound
 on_heartbeat-requires-clause-sound g c = c.self.invariant c.args.writer c.index_mut-proxy.result.now
-    (opened c.args.self.now c.self.inside.proxies.items c.args.writer c.index_mut-proxy.result.now c.self.view_is
-    c.requires.matched c.index_mut-proxy.ensures.value).at
-
-pub invariant_of-self : goal.invariant_of-self
-invariant_of-self g c = sound_set c.self.inside.proxies.items c.args.writer c.on_heartbeat.new.self c.self.invariant
-    c.on_heartbeat.ensures.sound
-
-pub returns-clause-others : goal.returns-clause-others
-returns-clause-others g c = others_stay c.args.self.now c.self.inside.proxies.items c.args.writer
-    c.on_heartbeat.new.self c.self.view_is
+    (opened c.self.view_is c.requires.matched c.index_mut-proxy.ensures.value).at
 
 pub returns-clause-accepted : goal.returns-clause-accepted
 returns-clause-accepted g c =
-    accepted_all (g.S.Sink.qos c.args.sink.now) c.source_of-source.result c.args.moment
-    (g.S.Sink.stands c.args.sink.now)
-    (g.S.Sink.stands c.on_heartbeat.new.sink) c.args.self.now c.self.inside.proxies.items c.args.writer
-    c.index_mut-proxy.result.now c.on_heartbeat.new.self c.args.heartbeat.now c.on_heartbeat.result
-    (here g c) c.source_of-source.ensures c.on_heartbeat.ensures.moves
+    accepted_all (here g c) (g.S.Sink.qos c.args.sink.now) c.source_of-source.result c.args.moment
+    (g.S.Sink.stands c.args.sink.now) (g.S.Sink.stands c.on_heartbeat.new.sink) c.on_heartbeat.new.self
+    c.args.heartbeat.now
+    c.on_heartbeat.result c.source_of-source.ensures c.on_heartbeat.ensures.moves
 
 pub returns-clause-repeated : goal.returns-clause-repeated
 returns-clause-repeated g c =
-    repeated_all g.S.Sink.stands c.args.self.now c.self.inside.proxies.items c.args.writer c.index_mut-proxy.result.now
-    c.on_heartbeat.new.self c.args.sink.now c.on_heartbeat.new.sink c.args.heartbeat.now c.on_heartbeat.result
-    (here g c) c.on_heartbeat.ensures.repeated
+    repeated_all (here g c) g.S.Sink.stands c.on_heartbeat.new.self c.args.sink.now c.on_heartbeat.new.sink
+    c.args.heartbeat.now c.on_heartbeat.result c.on_heartbeat.ensures.repeated
+
+pub invariant_of-self : goal.invariant_of-self
+invariant_of-self g c = sound_set _ _ _ c.self.invariant c.on_heartbeat.ensures.sound
+
+pub returns-clause-others : goal.returns-clause-others
+returns-clause-others g c = others_stay (here g c) c.on_heartbeat.new.self
 
 pub returns-clause-err : goal.returns-clause-err
-returns-clause-err g c = stays_all c.args.self.now c.self.inside.proxies.items c.args.writer
-    c.index_mut-proxy.result.now c.on_heartbeat.new.self c.on_heartbeat.result (here g c) c.on_heartbeat.ensures.err
+returns-clause-err g c = stays_all (here g c) c.on_heartbeat.new.self c.on_heartbeat.result c.on_heartbeat.ensures.err
 
 pub returns-clause-succeeds : goal.returns-clause-succeeds
 returns-clause-succeeds g c ready = c.on_heartbeat.ensures.succeeds
-    (ready_of c.args.self.now c.self.inside.proxies.items c.args.writer c.index_mut-proxy.result.now
-    (g.S.Sink.spare c.args.sink.now) (here g c) ready)
+    (ready_of (here g c) (g.S.Sink.spare c.args.sink.now) ready)
