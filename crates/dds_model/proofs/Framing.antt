@@ -66,15 +66,21 @@ with_same {X = X} xs (suc i) d = set_same xs i
 pub elsewhere : {X : Type 0} (xs : List X) (n : ℕ) (x : X) (m : ℕ) (d : X) → (m ≡ n → ⊥) → numbered (with_numbered xs n x) m d ≡ numbered xs m d
 elsewhere xs n x m d f = ⊎_elim (λ e. e) (λ s. absurd (f s.0)) (numbered-cases xs n x m d)
 
--- a reader with a matched writer is there
-pub has_reader : (part : Part) (r p : ℕ) (w : Endpoint) → place_of (own_proxies part r) w ≡ Some p → HasNumber part.rtps.readers r
-has_reader part zero p w h = cc
-has_reader part (suc i) p w h = (omega arith, within part.rtps.readers i h)
+-- a reader of whose matched writers something is found is there
+has_found : {X : Type 0} (found : List WriterProxy → Option X) → found [] ≡ None → (part : Part) (r : ℕ) (x : X)
+    → found (own_proxies part r) ≡ Some x → HasNumber part.rtps.readers r
+has_found {X = X} found none part zero x h = cc
+has_found {X = X} found none part (suc i) x h = (omega arith, within part.rtps.readers i h)
   where
-    within : (xs : List (List WriterProxy)) (i : ℕ) → place_of (get_or xs i []) w ≡ Some p → suc i ≤ length xs
+    within : (xs : List (List WriterProxy)) (i : ℕ) → found (get_or xs i []) ≡ Some x → suc i ≤ length xs
     within [] i h = cc
-    within (x ∷ xs) zero h = omega arith
-    within (x ∷ xs) (suc i) h = let k = within xs i h in omega (arith, k)
+    within (rows ∷ xs) zero h = omega arith
+    within (rows ∷ xs) (suc i) h = let k = within xs i h in omega (arith, k)
+
+-- a reader with a matched writer is there
+pub has_reader : (part : Part) (r p : ℕ) (w : Endpoint) → place_of (own_proxies part r) w ≡ Some p
+    → HasNumber part.rtps.readers r
+has_reader part r p w h = has_found (λ rows. place_of rows w) refl part r p h
 
 -- a row changed to what it was
 row_step : {X : Type 0} (change : X → X) (x : X) (xs rest : List X) (row : Option X) (b : Bool) → ((y : X) → cond b (Some x) row ≡ Some y → change y ≡ y) → (((y : X) → row ≡ Some y → change y ≡ y) → rest ≡ xs)
@@ -223,13 +229,7 @@ heard_there n k (p ∷ ps) w h = heard_step n k p (publication_from (n + 1) ps w
 
 -- a reader with a handle of a writer is there
 pub has_handle : (part : Part) (r p : ℕ) (w : Endpoint) → publication_of (own_proxies part r) w ≡ Some p → HasNumber part.rtps.readers r
-has_handle part zero p w h = cc
-has_handle part (suc i) p w h = (omega arith, within part.rtps.readers i h)
-  where
-    within : (xs : List (List WriterProxy)) (i : ℕ) → publication_of (get_or xs i []) w ≡ Some p → suc i ≤ length xs
-    within [] i h = cc
-    within (x ∷ xs) zero h = omega arith
-    within (x ∷ xs) (suc i) h = let k = within xs i h in omega (arith, k)
+has_handle part r p w h = has_found (λ rows. publication_of rows w) refl part r p h
 
 -- what is known of one writer at one reader was changed alone
 pub frames_known : (old : State) (v : Endpoint) (k : ℕ) (t : Tracked) → Frames old v k (record old { known = with_tracked old.known v k t })
