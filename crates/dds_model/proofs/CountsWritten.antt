@@ -95,6 +95,17 @@ alone own to x far zero at s h other = absurd (other h.1)
 alone own to x far (suc zero) at s h other = h
 alone own to x far (suc (suc index)) at s h other = absurd h
 
+-- so it is once the message was written and is read again
+read_alone : (own to : GuidPrefix) (x : Submessage) (read : Message) (offset : ℕ) (far : GuidPrefix) (index : ℕ)
+    (at : Receiver) (s : Submessage) → IsWritable (message_to own to (x ∷ []))
+    → ReadsMessage (spelling_of (message_to own to (x ∷ []))) read offset
+    → StandsAt far (receiver_of read.prefix) read.submessages index at s
+    → (s ≡ InfoDst to → ⊥) → (at ≡ addressed own to) × (s ≡ x)
+read_alone own to x read offset far index at s writable reads stands other =
+    let same = read_again (message_to own to (x ∷ [])) read offset writable reads in
+    alone own to x far index at s
+    (subst (λ (m : Message). StandsAt far (receiver_of m.prefix) m.submessages index at s) same stands) other
+
 no_beat : (h : HeartbeatBody) (to : GuidPrefix) → Heartbeat h ≡ InfoDst to → ⊥
 no_beat h to e = cc
 
@@ -116,11 +127,9 @@ pub one_beat : (config : Config) (own to : GuidPrefix) (body : HeartbeatBody) (w
     → IsWriter config own body.writer_id w × (count ≡ body.count)
 unfolding beat_of
 one_beat config own to body w count writable h =
-    let message = message_to own to (Heartbeat body ∷ []) in
-    let same = read_again message h.message h.offset writable h.is_read in
-    let stands : StandsAt h.own (receiver_of own) (InfoDst to ∷ Heartbeat body ∷ []) h.index h.at (Heartbeat h.heartbeat) =
-    subst (λ (m : Message). StandsAt h.own (receiver_of m.prefix) m.submessages h.index h.at (Heartbeat h.heartbeat)) same h.stands in
-    let here = alone own to (Heartbeat body) h.own h.index h.at (Heartbeat h.heartbeat) stands (no_beat h.heartbeat to) in
+    let here =
+    read_alone own to (Heartbeat body) h.message h.offset h.own h.index h.at (Heartbeat h.heartbeat) writable h.is_read
+    h.stands (no_beat h.heartbeat to) in
     let is : h.heartbeat ≡ body = ap (λ (s : Submessage). beat_of body s) here.1 in (
       subst (λ (b : HeartbeatBody). IsWriter config own b.writer_id w) is
           (subst (λ (x : Receiver). IsWriter config x.source_guid_prefix h.heartbeat.writer_id w) here.0 h.from),
@@ -131,11 +140,9 @@ pub one_beat_asks : (config : Config) (own to : GuidPrefix) (body : HeartbeatBod
     → IsWritable (message_to own to (Heartbeat body ∷ []))
     → HasAckNack config (spelling_of (message_to own to (Heartbeat body ∷ []))) w r count → ⊥
 one_beat_asks config own to body w r count writable h =
-    let message = message_to own to (Heartbeat body ∷ []) in
-    let same = read_again message h.message h.offset writable h.is_read in
-    let stands : StandsAt h.own (receiver_of own) (InfoDst to ∷ Heartbeat body ∷ []) h.index h.at (AckNack h.acknack) =
-    subst (λ (m : Message). StandsAt h.own (receiver_of m.prefix) m.submessages h.index h.at (AckNack h.acknack)) same h.stands in
-    let here = alone own to (Heartbeat body) h.own h.index h.at (AckNack h.acknack) stands (no_ask h.acknack to) in
+    let here =
+    read_alone own to (Heartbeat body) h.message h.offset h.own h.index h.at (AckNack h.acknack) writable h.is_read
+    h.stands (no_ask h.acknack to) in
     let e = here.1 in absurd cc
 
 -- an ACKNACK alone
@@ -145,11 +152,9 @@ pub one_ask : (config : Config) (own to : GuidPrefix) (body : AckNackBody) (w r 
     → (far : GuidPrefix) × IsToWriter config far (addressed own to) body.reader_id body.writer_id w r × (count ≡ body.count)
 unfolding ask_of
 one_ask config own to body w r count writable h =
-    let message = message_to own to (AckNack body ∷ []) in
-    let same = read_again message h.message h.offset writable h.is_read in
-    let stands : StandsAt h.own (receiver_of own) (InfoDst to ∷ AckNack body ∷ []) h.index h.at (AckNack h.acknack) =
-    subst (λ (m : Message). StandsAt h.own (receiver_of m.prefix) m.submessages h.index h.at (AckNack h.acknack)) same h.stands in
-    let here = alone own to (AckNack body) h.own h.index h.at (AckNack h.acknack) stands (no_ask h.acknack to) in
+    let here =
+    read_alone own to (AckNack body) h.message h.offset h.own h.index h.at (AckNack h.acknack) writable h.is_read
+    h.stands (no_ask h.acknack to) in
     let is : h.acknack ≡ body = ap (λ (s : Submessage). ask_of body s) here.1 in (
       h.own,
       subst (λ (b : AckNackBody). IsToWriter config h.own (addressed own to) b.reader_id b.writer_id w r) is
@@ -172,11 +177,9 @@ pub one_ask_beats : (config : Config) (own to : GuidPrefix) (body : AckNackBody)
     → IsWritable (message_to own to (AckNack body ∷ []))
     → HasHeartbeat config (spelling_of (message_to own to (AckNack body ∷ []))) w count → ⊥
 one_ask_beats config own to body w count writable h =
-    let message = message_to own to (AckNack body ∷ []) in
-    let same = read_again message h.message h.offset writable h.is_read in
-    let stands : StandsAt h.own (receiver_of own) (InfoDst to ∷ AckNack body ∷ []) h.index h.at (Heartbeat h.heartbeat) =
-    subst (λ (m : Message). StandsAt h.own (receiver_of m.prefix) m.submessages h.index h.at (Heartbeat h.heartbeat)) same h.stands in
-    let here = alone own to (AckNack body) h.own h.index h.at (Heartbeat h.heartbeat) stands (no_beat h.heartbeat to) in
+    let here =
+    read_alone own to (AckNack body) h.message h.offset h.own h.index h.at (Heartbeat h.heartbeat) writable h.is_read
+    h.stands (no_beat h.heartbeat to) in
     let e = here.1 in absurd cc
 
 -- ---- lists of messages
