@@ -17,7 +17,8 @@ use Rattle.rtps_wire.specs.Frames.{IsFrame}
 use Rattle.rtps_wire.specs.Submessages.{IsKnown, Reads}
 use Rattle.rtps_wire.specs.Sets.{set_of, bits_below}
 use Rattle.dds_model.specs.declared.reply.Move.TheVariants.{Heard}
-use Rattle.dds_model.specs.Claims.{every_reader, MayPass, PlaceReached, Asserts, Claims}
+use Rattle.dds_model.specs.Claims.{Claim, MayPass, PlaceReached, Asserts, Claims, Receiver, Says, StandsAt}
+use Rattle.dds_model.specs.Claims.{every_reader, receiver_of}
 use Rattle.dds_model.specs.Peer.{Delivery, IsApplied, IsNewest}
 use Rattle.dds_model.proofs.WorkedReceivers.{prefix_1, prefix_2, w1_id, r1_id, w1, r1, to_2, to_1, network, to_r1, from_r1}
 
@@ -60,6 +61,23 @@ packet-read from to id flags body submessage source destination long frame reads
   short = let all = octets from.0 to.0 body id flags source destination long in omega (arith, all);
 }
 
+-- and it claims what the submessage says to a peer, where the receiver is so
+packet-claims : (from to own : GuidPrefix) (id flags : ℕ) (body : List ℕ) (submessage : Submessage) (at : Receiver)
+    (claim : Claim) → ReadsMessage (packet from to id flags body) (message from to submessage) 68
+    → StandsAt own (receiver_of from) (InfoDst to ∷ submessage ∷ []) 1 at submessage
+    → Says network own at submessage claim → Claims network (packet from to id flags body) claim
+packet-claims from to own id flags body submessage at claim reads stands says = record {
+  message = message from to submessage;
+  offset = 68;
+  is_read = reads;
+  own = own;
+  index = 1;
+  at = at;
+  submessage = submessage;
+  stands = stands;
+  says = says;
+}
+
 -- ---- the GAP of gapStart 2 and the empty set from 3 on
 
 abbrev gap_body : List ℕ
@@ -92,17 +110,9 @@ gap-read = packet-read prefix_1 prefix_2 0x08 1 gap_body (Gap gap) refl refl ref
 
 -- so the packet lets r1 pass 2
 gap-claims : Claims network (packet prefix_1 prefix_2 0x08 1 gap_body) (MayPass w1 r1 2)
-gap-claims = record {
-  message = message prefix_1 prefix_2 (Gap gap);
-  offset = 68;
-  is_read = gap-read;
-  own = prefix_2;
-  index = 1;
-  at = to_2;
-  submessage = Gap gap;
-  stands = (refl, refl);
-  says = (to_r1 r1_id 0 (inl refl), omega arith, inl (omega arith, omega arith));
-}
+gap-claims =
+    packet-claims prefix_1 prefix_2 prefix_2 0x08 1 gap_body (Gap gap) to_2 (MayPass w1 r1 2) gap-read (refl, refl)
+    (to_r1 r1_id 0 (inl refl), omega arith, inl (omega arith, omega arith))
 
 -- ---- the ACKNACK of base 2 and the set with 2
 
@@ -138,17 +148,9 @@ acknack-read = packet-read prefix_2 prefix_1 0x06 1 acknack_body (AckNack acknac
 
 -- so r1 has reached 2
 acknack-claims : Claims network (packet prefix_2 prefix_1 0x06 1 acknack_body) (PlaceReached w1 r1 2)
-acknack-claims = record {
-  message = message prefix_2 prefix_1 (AckNack acknack);
-  offset = 68;
-  is_read = acknack-read;
-  own = prefix_1;
-  index = 1;
-  at = to_1;
-  submessage = AckNack acknack;
-  stands = (refl, refl);
-  says = (from_r1 r1_id (inl refl), refl);
-}
+acknack-claims =
+    packet-claims prefix_2 prefix_1 prefix_1 0x06 1 acknack_body (AckNack acknack) to_1 (PlaceReached w1 r1 2)
+    acknack-read (refl, refl) (from_r1 r1_id (inl refl), refl)
 
 -- ---- the first HEARTBEAT of a writer without changes, with the flags F and L
 
@@ -173,17 +175,9 @@ heartbeat-read : ReadsMessage heartbeat_packet (message prefix_1 prefix_2 (Heart
 heartbeat-read = packet-read prefix_1 prefix_2 0x07 7 heartbeat_body (Heartbeat heartbeat) refl refl refl (record { len = 28; small = omega arith; text = refl; extent = refl }) heartbeat-known
 
 heartbeat-claims : Claims network heartbeat_packet (Asserts w1 r1 (pos 1))
-heartbeat-claims = record {
-  message = message prefix_1 prefix_2 (Heartbeat heartbeat);
-  offset = 68;
-  is_read = heartbeat-read;
-  own = prefix_2;
-  index = 1;
-  at = to_2;
-  submessage = Heartbeat heartbeat;
-  stands = (refl, refl);
-  says = (to_r1 every_reader 0 (inr refl), refl, refl);
-}
+heartbeat-claims =
+    packet-claims prefix_1 prefix_2 prefix_2 0x07 7 heartbeat_body (Heartbeat heartbeat) to_2 (Asserts w1 r1 (pos 1))
+    heartbeat-read (refl, refl) (to_r1 every_reader 0 (inr refl), refl, refl)
 
 -- once it was applied at r1, its count is no longer the newest: the same packet is not heard again
 abbrev delivery : Delivery
