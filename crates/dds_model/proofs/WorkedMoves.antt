@@ -1,6 +1,6 @@
 -- Which moves a place makes, computed at two peers: over changes that come and over runs that are passed over. Peer 1 has a
 -- writer w1, peer 2 a matched reader r1.
-use Rattle.std.proofs.Common.{◌≡◌, ℕ, zero, suc, ◌+◌, ◌≤◌, true, Option, None, List, [], ◌∷◌, refl, ap, subst, arith}
+use Rattle.std.proofs.Common.{◌≡◌, ℕ, zero, suc, ◌+◌, ◌<◌, ◌≤◌, true, Option, None, List, [], ◌∷◌, refl, ap, subst, arith}
 use Rattle.std.specs.Prelude.{ℤ, slice_index}
 use Rattle.dds_base.specs.declared.change.Change.{Change}
 use Rattle.dds_base.specs.declared.config.Config.{Config}
@@ -86,37 +86,39 @@ came_1 = came 1 (write_of 1 1) ∷ []
 abbrev came_3 : List Happening
 came_3 = came 3 (write_of 1 3) ∷ came 2 (write_of 1 2) ∷ came_1
 
--- the change at r1's place comes, where there is room for it, and the place is then one more
-pub comes_next : (grounds : Grounds) (n : ℕ) (change : Change) (happened : List Happening) → grounds.is_change w1 1 n change → has_room (reader_qos (pair KeepAll).peers (reader r1_id 0)) happened (came n change) ≡ true
-    → AreMoves grounds (part_2 n None happened) (Place w1 1 (n + 1) [] ∷ []) (part_2 (n + 1) None (came n change ∷ happened))
-comes_next grounds n change happened is_change room = (
-  part_2 (n + 1) None (came n change ∷ happened),
+-- r1's place at w1 goes on to where the moves go
+place_goes : (grounds : Grounds) (place to : ℕ) (old happened : List Happening) (passed : List PassedRun) → place < to
+    → GoesTo (as_to grounds w1 1) (match_of (part_2 place None old) 1 1) (position place old) passed to (position to happened)
+    → AreMoves grounds (part_2 place None old) (Place w1 1 to passed ∷ []) (part_2 to None happened)
+place_goes grounds place to old happened passed forward goes = (
+  part_2 to None happened,
   record {
     publication = 1;
-    place = n;
+    place = place;
     matched = record { handle = refl; at = refl };
-    forward = omega arith;
-    end = position (n + 1) (came n change ∷ happened);
-    goes = (change ∷ [], (position (n + 1) (came n change ∷ happened), record { is_change = is_change; room = room; after = refl }, refl), refl);
+    forward = forward;
+    end = position to happened;
+    goes = goes;
     after = refl;
   },
   refl,
 )
+
+-- the change at r1's place comes, where there is room for it, and the place is then one more
+pub comes_next : (grounds : Grounds) (n : ℕ) (change : Change) (happened : List Happening) → grounds.is_change w1 1 n change → has_room (reader_qos (pair KeepAll).peers (reader r1_id 0)) happened (came n change) ≡ true
+    → AreMoves grounds (part_2 n None happened) (Place w1 1 (n + 1) [] ∷ []) (part_2 (n + 1) None (came n change ∷ happened))
+comes_next grounds n change happened is_change room =
+    let one : Position = position (n + 1) (came n change ∷ happened) in
+    place_goes grounds n (n + 1) happened (came n change ∷ happened) [] (omega arith)
+    (change ∷ [], (one, record { is_change = is_change; room = room; after = refl }, refl), refl)
 
 place-goes_to_2 : Delivers kept (part_2 1 None []) (Place w1 1 2 [] ∷ []) (part_2 2 None came_1)
 place-goes_to_2 = comes_next (grounds_at_2 kept) 1 (write_of 1 1) [] refl refl
 
 -- one move takes the place over two changes
 place-goes_to_4 : Delivers kept (part_2 2 None came_1) (Place w1 1 4 [] ∷ []) (part_2 4 None came_3)
-place-goes_to_4 = (
-  part_2 4 None came_3,
-  record {
-    publication = 1;
-    place = 2;
-    matched = record { handle = refl; at = refl };
-    forward = omega arith;
-    end = position 4 came_3;
-    goes = (
+place-goes_to_4 =
+    place_goes (grounds_of (machine kept (part_2 2 None came_1)) 2) 2 4 came_1 came_3 [] (omega arith) (
       write_of 1 2 ∷ write_of 1 3 ∷ [],
       (
         position 3 (came 2 (write_of 1 2) ∷ came_1),
@@ -124,11 +126,7 @@ place-goes_to_4 = (
         (position 4 came_3, record { is_change = refl; room = refl; after = refl }, refl),
       ),
       refl,
-    );
-    after = refl;
-  },
-  refl,
-)
+    )
 
 -- w1 and r1, as peer 2 has them
 abbrev the_match : Match
@@ -172,26 +170,16 @@ each_of_2_and_3 P two three (suc (suc (suc zero))) low high = three
 each_of_2_and_3 P two three (suc (suc (suc (suc n)))) low high = absurd (omega arith)
 
 place-passes_2 : Delivers one_dropped (part_2 2 None came_1) (Place w1 1 4 (run 2 2 ∷ []) ∷ []) (part_2 4 None lost_2)
-place-passes_2 = (
-  part_2 4 None lost_2,
-  record {
-    publication = 1;
-    place = 2;
-    matched = record { handle = refl; at = refl };
-    forward = omega arith;
-    end = position 4 lost_2;
-    goes = (
+place-passes_2 =
+    place_goes (grounds_of (machine one_dropped (part_2 2 None came_1)) 2) 2 4 came_1 lost_2 (run 2 2 ∷ [])
+    (omega arith) (
       position 2 came_1,
       position 3 (Passed 1 2 2 ∷ came_1),
       ([], refl, refl),
       record { begins = refl; ordered = omega arith; may_pass = each_of_one (Dropped one_dropped) 2 refl; after = refl },
       tt,
       (write_of 2 3 ∷ [], (position 4 lost_2, record { is_change = refl; room = refl; after = refl }, refl), refl),
-    );
-    after = refl;
-  },
-  refl,
-)
+    )
 
 -- with one more change of that key 2 and 3 are dropped: one run, entered by its first number and its last, behind which the
 -- place stands
