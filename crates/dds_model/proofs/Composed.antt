@@ -234,6 +234,12 @@ pub front_or_rest : {X : Type 0} (x : X) (xs : List X) (y : X) (k : ℕ) → k <
 front_or_rest x xs y zero lt is = inl is
 front_or_rest x xs y (suc k) lt is = inr (k, omega (arith, lt), is)
 
+-- what is in a list of one is that one
+pub is_alone : {X : Type 0} (x y : X) → Contains (x ∷ []) y → x ≡ y
+is_alone x y among =
+    ⊎_elim (λ e. e) (λ (o : Contains [] y). let lt = o.1 in absurd (omega (arith, lt)))
+    (front_or_rest x [] y among.0 among.1 among.2)
+
 pub later_in : {X : Type 0} (x : X) (xs : List X) (y : X) → Contains xs y → Contains (x ∷ xs) y
 later_in x xs y c = (suc c.0, omega (arith, c.1), c.2)
 

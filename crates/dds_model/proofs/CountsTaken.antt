@@ -30,7 +30,7 @@ use Rattle.dds_model.specs.Receipt.{prefix_of}
 use Rattle.dds_model.specs.Protocol.{Due, Known, State, InTurn, Goes, Idles, TakesHeartbeat, TakesAckNack, ReaderTakes, WriterTakes, Takes, Follows, TakesPacket, acknacks_due, answer_message, with_answered}
 use Rattle.dds_model.specs.Backed.{reader_at}
 use Rattle.dds_model.specs.Fresh.{HasHeartbeat, HasAckNack}
-use Rattle.dds_model.proofs.Composed.{front_or_rest}
+use Rattle.dds_model.proofs.Composed.{is_alone}
 use Rattle.dds_model.proofs.CountsWritten.{plain_beats, plain_asks, plain_answers, one_ask, one_ask_beats, each_of}
 use Rattle.dds_model.proofs.DuesAcknacks.{answer_names}
 use Rattle.dds_model.proofs.Framing.{pair_or_not}
@@ -160,7 +160,7 @@ ask_counted : (c : Counting) (at : Receiver) (reader_id writer_id : EntityId) (w
 ask_counted c at reader_id writer_id w r is t last final None a new here due among =
     let lt = among.1 in absurd (omega (arith, lt))
 ask_counted c at reader_id writer_id w r is t last final (Some x) a new here due among =
-    subst (λ (d : Due). IsCounted c new d) one (record {
+    subst (λ (d : Due). IsCounted c new d) (is_alone the due among) (record {
       beat = λ v count writable has. one_ask_beats c.config c.own at.source_guid_prefix body v count writable has;
       ask = λ v k count writable has.
           let found = one_ask c.config c.own at.source_guid_prefix body v k count writable has in
@@ -179,9 +179,6 @@ ask_counted c at reader_id writer_id w r is t last final (Some x) a new here due
 
     the : Due
     the = record { to = w.peer; message = record { prefix = c.own; submessages = InfoDst at.source_guid_prefix ∷ AckNack body ∷ [] } }
-
-    one : the ≡ due
-    one = ⊎_elim (λ e. e) (λ (o : Contains [] due). let lt = o.1 in absurd (omega (arith, lt))) (front_or_rest the [] due among.0 among.1 among.2)
 
 heartbeat_counts : (c : Counting) (at : Receiver) (h : HeartbeatBody) → IsUsed c at (Heartbeat h) → (old : State) (w : Endpoint) (r : ℕ)
     (is : IsToReader c.config c.own at h.reader_id h.writer_id w (reader_at c.peer r)) (moves : List Move) (dues : List Due) (new : State)

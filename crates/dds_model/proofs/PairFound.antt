@@ -31,7 +31,7 @@ use Rattle.dds_model.specs.World.{WorldState, peer_at}
 use Rattle.dds_model.specs.Backed.{reader_at}
 use Rattle.dds_model.specs.Fresh.{HasHeartbeat, HasAckNack}
 use Rattle.dds_model.specs.Rules.{RuledStep}
-use Rattle.dds_model.proofs.Composed.{front_or_rest, later_in}
+use Rattle.dds_model.proofs.Composed.{is_alone, later_in}
 use Rattle.dds_model.proofs.CountsWritten.{read_again, one_sought}
 use Rattle.dds_model.proofs.Dues.{addressed, message_to}
 use Rattle.dds_model.proofs.DuesHeartbeats.{of_all}
@@ -163,7 +163,7 @@ ask_found_among c ask among has = ⊎_elim (λ o. own o) (λ o. absurd (not_othe
     by None among = let lt = among.1 in absurd (omega (arith, lt))
     by (Some x) among =
         let due : Due = record { to = c.writer.peer; message = the x } in
-        let one : due ≡ d.due = ⊎_elim (λ e. e) (λ (o : Contains [] d.due). let lt = o.1 in absurd (omega (arith, lt))) (front_or_rest due [] d.due among.0 among.1 among.2) in
+        let one : due ≡ d.due = is_alone due d.due among in
         let message : the x ≡ d.due.message = ap (λ (y : Due). y.message) one in
         let bytes : ask.bytes ≡ spelling_of (the x) = ap (λ (q : Packet). q.bytes) d.is ∙ ap (λ (m : Message). spelling_of m) (sym message) in
         (x.count, subst (λ (b : List ℕ). HasAckNack c.config b c.writer c.reader x.count) (sym bytes) (is_ask x (subst (λ (m : Message). IsWritable m) (sym message) d.writable)))

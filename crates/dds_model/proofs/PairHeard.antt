@@ -36,7 +36,7 @@ use Rattle.dds_model.specs.Fresh.{HasAckNack}
 use Rattle.dds_model.specs.Repair.{Delivers, IsPair}
 use Rattle.dds_model.specs.Rules.{RuledStep}
 use Rattle.dds_model.proofs.Bounded.{steps_bounded}
-use Rattle.dds_model.proofs.Composed.{composes, front_or_rest}
+use Rattle.dds_model.proofs.Composed.{composes, is_alone}
 use Rattle.dds_model.proofs.Dues.{addressed, message_to}
 use Rattle.dds_model.proofs.DuesMatched.{same_end}
 use Rattle.dds_model.proofs.FreshCounts.{IsWrittenOf, steps_stays}
@@ -169,7 +169,7 @@ ask_found p h id m old new dues hp ask count of d = ⊎_elim (λ o. own o) (λ o
     by None e among = let lt = among.1 in absurd (omega (arith, lt))
     by (Some x) e among =
         let the : Due = record { to = p.writer.peer; message = message_to (reader_prefix p) (writer_prefix p) (AckNack (ask_body hp.hears.is.entity h.writer_id x) ∷ []) } in
-        let one : the ≡ d.due = ⊎_elim (λ e. e) (λ (o : Contains [] d.due). let lt = o.1 in absurd (omega (arith, lt))) (front_or_rest the [] d.due among.0 among.1 among.2) in
+        let one : the ≡ d.due = is_alone the d.due among in
         let message : d.due.message ≡ ask_message p hp.hears.is.entity x =
         ap (λ (y : Due). y.message) (sym one) ∙ ap (λ (i : EntityId). message_to (reader_prefix p) (writer_prefix p) (AckNack (ask_body hp.hears.is.entity i x) ∷ [])) id in
         record {

@@ -26,7 +26,7 @@ use Rattle.dds_model.specs.Claims.{Receiver, IsReader, IsToReader}
 use Rattle.dds_model.specs.Protocol.{Due, State, InTurn, Goes, Asserting, TakesHeartbeat, Idles, ReaderTakes, acknacks_due, with_tracked}
 use Rattle.dds_model.specs.Backed.{reader_at}
 use Rattle.dds_model.specs.Fresh.{HasAckNack}
-use Rattle.dds_model.proofs.Composed.{front_or_rest}
+use Rattle.dds_model.proofs.Composed.{is_alone}
 use Rattle.dds_model.proofs.CountsWritten.{one_ask, one_sought}
 use Rattle.dds_model.proofs.DuesAcknacks.{answer_names}
 use Rattle.dds_model.proofs.Framing.{Frames, frames_at, frames_known, has_handle, number_or_not}
@@ -149,7 +149,7 @@ due_asks : (c : Host) (at : Receiver) (reader_id writer_id : EntityId) (w : Endp
     (answer : Option AckNackDue) (due : Due) → Contains (acknacks_due c.own at.source_guid_prefix w.peer is.entity writer_id answer) due → Asks c k due
 due_asks c at reader_id writer_id w k is None due among = let lt = among.1 in absurd (omega (arith, lt))
 due_asks c at reader_id writer_id w k is (Some x) due among =
-    subst (λ (d : Due). Asks c k d) one (record {
+    subst (λ (d : Due). Asks c k d) (is_alone the due among) (record {
       named = λ reader writer has.
           subst (λ (i : EntityId). IsReader c.config c.own i (reader_at c.peer k)) (one_sought (sought.AckNack reader writer) at.source_guid_prefix (AckNack body) (λ none. none) has).0 is.to;
       is = λ v y count writable has.
@@ -162,9 +162,6 @@ due_asks c at reader_id writer_id w k is (Some x) due among =
 
     the : Due
     the = record { to = w.peer; message = record { prefix = c.own; submessages = InfoDst at.source_guid_prefix ∷ AckNack body ∷ [] } }
-
-    one : the ≡ due
-    one = ⊎_elim (λ e. e) (λ (o : Contains [] due). let lt = o.1 in absurd (omega (arith, lt))) (front_or_rest the [] due among.0 among.1 among.2)
 
 pub reader_asks : (c : Host) (at : Receiver) (s : Submessage) (k : ℕ) (old : State) (moves : List Move) (dues : List Due) (new : State)
     → ReaderTakes c.config c.own c.peer at s k old moves dues new → (due : Due) → Contains dues due → Asks c k due
