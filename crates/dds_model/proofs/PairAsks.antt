@@ -21,7 +21,7 @@ use Rattle.dds_model.specs.Repair.{BeginsRound, IsPair, StandsAt, HasAskOf}
 use Rattle.dds_model.proofs.CountsWritten.{contains_map}
 use Rattle.dds_model.proofs.Dues.{message_to}
 use Rattle.dds_model.proofs.PairAnswered.{asking, post, all_sent, due_writable}
-use Rattle.dds_model.proofs.PairBegun.{Begun, writer_is, pairing, body, hears, heard_of, the_last, acknacks, packet, place_heard}
+use Rattle.dds_model.proofs.PairBegun.{Begun, the_begun, writer_is, pairing, body, hears, heard_of, the_last, acknacks, packet, place_heard}
 use Rattle.dds_model.proofs.PairHeard.{writer_prefix, reader_prefix, reader_entities, back, ask_body}
 
 -- that of the reader
@@ -99,23 +99,8 @@ pub asks_are_sent : (config : Config) (tests : AllTests) (writer reader : Endpoi
     → IsBounded (machine_of old) → IsPair config writer reader → StandsAt old writer reader place acknowledged → length (writer_changes (writer_at (machine_of old) writer)) < 2 ^ 62 → acknacks_used_at old writer reader < 2 ^ 31 - 1
     → (begins : BeginsRound config tests writer reader old heard) → begins.lost_asks ≡ 0 → HasAskOf config writer reader begins.hears.step.packets
 asks_are_sent config tests writer reader place acknowledged old heard checked sound used bounded pair stands few left begins none =
-    let c : Begun = record {
-      config = config;
-      tests = tests;
-      writer = writer;
-      reader = reader;
-      place = place;
-      acknowledged = acknowledged;
-      old = old;
-      heard = heard;
-      checked = checked;
-      sound = sound;
-      used = used;
-      bounded = bounded;
-      pair = pair;
-      stands = stands;
-      begins = begins;
-    } in
+    let c : Begun =
+    the_begun config tests writer reader place acknowledged old heard checked sound used bounded pair stands begins in
     let last : length (writer_changes (writer_at (machine_of old) writer)) ≡ the_last c = ap (λ (w : Writer). length (writer_changes w)) (writer_is old writer) in
     let found = answered_by c (omega (arith, few, last)) left (hears c).answer refl (hears c).answers in
     ask_is_sent c none found.0 found.1

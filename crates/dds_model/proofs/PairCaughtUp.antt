@@ -50,7 +50,7 @@ use Rattle.dds_model.specs.declared.event.WorldEvent.{WorldEvent}
 use Rattle.dds_model.specs.Noticing.{world_ended}
 use Rattle.dds_model.specs.Part.{ReaderProxy}
 use Rattle.dds_model.proofs.PairEnded.{rows_ended, seat_ended, standing_ended}
-use Rattle.dds_model.proofs.PairBegun.{noted_beat, noted_tick, seat_noted, standing_noted, Begun, HasRow, writer_is, place_is, pairing, body, ticked_reader, match, knows_place, heard_reader, hears, heard_of, the_last, goes, forward, acknacks, heard_writer, same_answered, writer_heard, row_heard, changes_heard, place_heard, packet}
+use Rattle.dds_model.proofs.PairBegun.{noted_beat, noted_tick, seat_noted, standing_noted, Begun, the_begun, HasRow, writer_is, place_is, pairing, body, ticked_reader, match, knows_place, heard_reader, hears, heard_of, the_last, goes, forward, acknacks, heard_writer, same_answered, writer_heard, row_heard, changes_heard, place_heard, packet}
 
 -- a round, but for its answers
 record AskedRound : Type 0 where
@@ -305,23 +305,9 @@ few_packets c =
 the_asked : (config : Config) (tests : AllTests) (writer reader : Endpoint) (place acknowledged : ℕ) (old after : WorldState) → check_refusal config.peers ≡ None → Sound config old → HasUsedCounts config old
     → IsBounded (machine_of old) → IsPair config writer reader → StandsAt old writer reader place acknowledged → AsksInRound config tests writer reader old after → AskedRound
 the_asked config tests writer reader place acknowledged old after checked sound used bounded pair stands asks = record {
-  first = record {
-    config = config;
-    tests = tests;
-    writer = writer;
-    reader = reader;
-    place = place;
-    acknowledged = acknowledged;
-    old = old;
-    heard = asks.heard;
-    checked = checked;
-    sound = sound;
-    used = used;
-    bounded = bounded;
-    pair = pair;
-    stands = stands;
-    begins = asks.begins;
-  };
+  first =
+      the_begun config tests writer reader place acknowledged old asks.heard checked sound used bounded pair stands
+      asks.begins;
   ask = asks.ask;
   ask_sent = asks.ask_sent;
   ask_count = asks.ask_count;
