@@ -249,6 +249,11 @@ pub sound_set : (items : List WriterProxy) (writer : ℕ) (new : WriterProxy) �
 sound_set items writer new sound is k p at = ⊎_elim (λ here. subst (λ (q : WriterProxy). IsSound q) (sym here.1) is)
     (λ other. sound k p other.1) (set_cases items writer new k p at)
 
+-- the proxy that was opened is sound
+pub sound_here : {reader : Proxies} {items : List WriterProxy} {writer : ℕ} {proxy : WriterProxy}
+    → AreSound items → Opened reader items writer proxy → IsSound proxy
+sound_here {writer = writer} {proxy} sound o = sound writer proxy o.at
+
 pub sound_more : (items : List WriterProxy) (new : WriterProxy) → AreSound items → IsSound new
     → AreSound (items ++ new ∷ [])
 sound_more [] new sound is zero p at = subst (λ (q : WriterProxy). IsSound q) (same_Some new p at) is

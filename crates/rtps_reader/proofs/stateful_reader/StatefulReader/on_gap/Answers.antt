@@ -1,5 +1,5 @@
 use Rattle.rtps_reader.specs.Tracked.{with_gap}
-use Rattle.rtps_reader.proofs.ReaderLaws.{Opened, opened, moves_all, stays_all, others_stay, ready_of, sound_set}
+use Rattle.rtps_reader.proofs.ReaderLaws.{Opened, opened, moves_all, stays_all, others_stay, ready_of, sound_here, sound_set}
 use Rattle.rtps_reader.proofs.stateful_reader.StatefulReader.on_gap.Given as given
 use Rattle.rtps_reader.proofs.stateful_reader.StatefulReader.on_gap.Goals as goal
 
@@ -9,8 +9,11 @@ here : (g : given.Over) (c : goal.After-self-1 g)
 here g c = opened c.self.view_is c.requires.matched c.index_mut-proxy.ensures.value
 
 pub on_gap-requires-clause-sound : goal.on_gap-requires-clause-sound
-on_gap-requires-clause-sound g c = c.self.invariant c.args.writer c.index_mut-proxy.result.now
-    (opened c.self.view_is c.requires.matched c.index_mut-proxy.ensures.value).at
+on_gap-requires-clause-sound g c =
+    sound_here c.self.invariant (opened c.self.view_is c.requires.matched c.index_mut-proxy.ensures.value)
+
+pub invariant_of-self : goal.invariant_of-self
+invariant_of-self g c = sound_set _ _ _ c.self.invariant c.on_gap.ensures.sound
 
 pub returns-clause-moves : goal.returns-clause-moves
 returns-clause-moves g c =
@@ -19,9 +22,6 @@ returns-clause-moves g c =
     (g.S.Sink.stands c.on_gap.new.sink) c.on_gap.new.self c.on_gap.result c.source_of-source.ensures
     c.on_gap.ensures.moves c.on_gap.ensures.quiet
 
-pub invariant_of-self : goal.invariant_of-self
-invariant_of-self g c = sound_set _ _ _ c.self.invariant c.on_gap.ensures.sound
-
 pub returns-clause-others : goal.returns-clause-others
 returns-clause-others g c = others_stay (here g c) c.on_gap.new.self
 
@@ -29,5 +29,4 @@ pub returns-clause-err : goal.returns-clause-err
 returns-clause-err g c = stays_all (here g c) c.on_gap.new.self c.on_gap.result c.on_gap.ensures.err
 
 pub returns-clause-succeeds : goal.returns-clause-succeeds
-returns-clause-succeeds g c ready = c.on_gap.ensures.succeeds
-    (ready_of (here g c) (g.S.Sink.spare c.args.sink.now) ready)
+returns-clause-succeeds g c ready = c.on_gap.ensures.succeeds (ready_of (here g c) _ ready)

@@ -1,5 +1,5 @@
 use Rattle.rtps_reader.proofs.ReaderLaws.{Opened, opened, accepted_all, repeated_all, stays_all, others_stay, ready_of}
-use Rattle.rtps_reader.proofs.ReaderLaws.{sound_set}
+use Rattle.rtps_reader.proofs.ReaderLaws.{sound_here, sound_set}
 use Rattle.rtps_reader.proofs.stateful_reader.StatefulReader.on_heartbeat.Given as given
 use Rattle.rtps_reader.proofs.stateful_reader.StatefulReader.on_heartbeat.Goals as goal
 
@@ -9,23 +9,22 @@ here : (g : given.Over) (c : goal.After-self-1 g)
 here g c = opened c.self.view_is c.requires.matched c.index_mut-proxy.ensures.value
 
 pub on_heartbeat-requires-clause-sound : goal.on_heartbeat-requires-clause-sound
-on_heartbeat-requires-clause-sound g c = c.self.invariant c.args.writer c.index_mut-proxy.result.now
-    (opened c.self.view_is c.requires.matched c.index_mut-proxy.ensures.value).at
+on_heartbeat-requires-clause-sound g c =
+    sound_here c.self.invariant (opened c.self.view_is c.requires.matched c.index_mut-proxy.ensures.value)
+
+pub invariant_of-self : goal.invariant_of-self
+invariant_of-self g c = sound_set _ _ _ c.self.invariant c.on_heartbeat.ensures.sound
 
 pub returns-clause-accepted : goal.returns-clause-accepted
 returns-clause-accepted g c =
     accepted_all (here g c) (g.S.Sink.qos c.args.sink.now) c.source_of-source.result c.args.moment
     (g.S.Sink.stands c.args.sink.now) (g.S.Sink.stands c.on_heartbeat.new.sink) c.on_heartbeat.new.self
-    c.args.heartbeat.now
-    c.on_heartbeat.result c.source_of-source.ensures c.on_heartbeat.ensures.moves
+    c.args.heartbeat.now c.on_heartbeat.result c.source_of-source.ensures c.on_heartbeat.ensures.moves
 
 pub returns-clause-repeated : goal.returns-clause-repeated
 returns-clause-repeated g c =
     repeated_all (here g c) g.S.Sink.stands c.on_heartbeat.new.self c.args.sink.now c.on_heartbeat.new.sink
     c.args.heartbeat.now c.on_heartbeat.result c.on_heartbeat.ensures.repeated
-
-pub invariant_of-self : goal.invariant_of-self
-invariant_of-self g c = sound_set _ _ _ c.self.invariant c.on_heartbeat.ensures.sound
 
 pub returns-clause-others : goal.returns-clause-others
 returns-clause-others g c = others_stay (here g c) c.on_heartbeat.new.self
@@ -34,5 +33,4 @@ pub returns-clause-err : goal.returns-clause-err
 returns-clause-err g c = stays_all (here g c) c.on_heartbeat.new.self c.on_heartbeat.result c.on_heartbeat.ensures.err
 
 pub returns-clause-succeeds : goal.returns-clause-succeeds
-returns-clause-succeeds g c ready = c.on_heartbeat.ensures.succeeds
-    (ready_of (here g c) (g.S.Sink.spare c.args.sink.now) ready)
+returns-clause-succeeds g c ready = c.on_heartbeat.ensures.succeeds (ready_of (here g c) _ ready)
