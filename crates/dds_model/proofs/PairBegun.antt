@@ -59,23 +59,24 @@ abbrev pub the_begun : (config : Config) (tests : AllTests) (writer reader : End
     (old heard : WorldState) → check_refusal config.peers ≡ None → Sound config old → HasUsedCounts config old
     → IsBounded (machine_of old) → IsPair config writer reader → StandsAt old writer reader place acknowledged
     → BeginsRound config tests writer reader old heard → Begun
-the_begun config tests writer reader place acknowledged old heard checked sound used bounded pair stands begins = record {
-  config = config;
-  tests = tests;
-  writer = writer;
-  reader = reader;
-  place = place;
-  acknowledged = acknowledged;
-  old = old;
-  heard = heard;
-  checked = checked;
-  sound = sound;
-  used = used;
-  bounded = bounded;
-  pair = pair;
-  stands = stands;
-  begins = begins;
-}
+the_begun config tests writer reader place acknowledged old heard checked sound used bounded pair stands begins =
+    record {
+      config = config;
+      tests = tests;
+      writer = writer;
+      reader = reader;
+      place = place;
+      acknowledged = acknowledged;
+      old = old;
+      heard = heard;
+      checked = checked;
+      sound = sound;
+      used = used;
+      bounded = bounded;
+      pair = pair;
+      stands = stands;
+      begins = begins;
+    }
 
 -- the parts of the two peers before the round
 abbrev pub writer_part : Begun → Part

@@ -88,7 +88,8 @@ came_3 = came 3 (write_of 1 3) ∷ came 2 (write_of 1 2) ∷ came_1
 
 -- r1's place at w1 goes on to where the moves go
 place_goes : (grounds : Grounds) (place to : ℕ) (old happened : List Happening) (passed : List PassedRun) → place < to
-    → GoesTo (as_to grounds w1 1) (match_of (part_2 place None old) 1 1) (position place old) passed to (position to happened)
+    → GoesTo (as_to grounds w1 1) (match_of (part_2 place None old) 1 1) (position place old) passed to
+    (position to happened)
     → AreMoves grounds (part_2 place None old) (Place w1 1 to passed ∷ []) (part_2 to None happened)
 place_goes grounds place to old happened passed forward goes = (
   part_2 to None happened,
