@@ -1,6 +1,6 @@
 -- The samples that an access finds are those that the definitions say.
 use Rattle.std.proofs.Common.{◌≡◌, ℕ, ◌+◌, ◌≤◌, ◌<◌, ◌^◌, List, [], ◌∷◌, ◌++◌, length, get_or, take, map, filter, Bool, true, false, not, ◌==◌, ◌&&◌, ◌||◌, sym, ap, ◌∙◌, refl, subst, cond, arith, zero, suc, ⊎_elim, Option, Some}
-use Rattle.std.specs.Prelude.{if◌then◌else◌, nat_le, is_some, slice_get}
+use Rattle.std.specs.Prelude.{if◌then◌else◌, is_some, slice_get}
 use Rattle.std.specs.List.{list_any, All, flat_map, range_with_len, IsDistinct, AllByRecursion}
 use Rattle.std.specs.List.Sorted.{IsNonDecreasingBy, IsPermutation, IsStableByKey, ties}
 use Rattle.std.specs.Ordering.{nat_cmp, is_lt}
@@ -37,6 +37,7 @@ use Rattle.dds_cache.specs.Kept.{IsKept, is_live, sample_at, position_of, positi
 use Rattle.dds_cache.specs.Finding.{are_asked_for, is_asked_for, is_wanted, described_by, IsFound, IsCandidate, AreCandidates, Holds, sample_in, sample_of, handle_in}
 use Rattle.dds_base.proofs.KeyLaws.{key-same, same_key-comm}
 use Rattle.dds_cache.proofs.KeptLaws.{live-present, instance-of-handle, NumberAt, number-there}
+use Rattle.dds_cache.proofs.PresenceLaws.{count-grew}
 use Rattle.dds_cache.proofs.GroupLaws.{group, groups, grouped, by-key, flat_map-same, distinct-push, distinct-nil}
 
 -- what the masks ask for, by what is kept and known
@@ -71,31 +72,16 @@ described-is q h known_is k is_known key kept =
     let handle : k.handle ≡ handle_of q h s.key = kept.handle_is in
     cc
 
--- the counts never fell
-disposed-grew : (q : ReaderQos) (i : Key) (j : ℕ) (h : List Happening) → disposed_generations q i (as_of j h) ≤ disposed_generations q i h
-disposed-grew q i j [] = omega arith
-disposed-grew q i j (e ∷ h) =
-    ⊎_elim
-    (λ older. let is : disposed_generations q i (as_of j (e ∷ h)) ≡ disposed_generations q i (as_of j h) = ap (λ (b : Bool). disposed_generations q i (if b then as_of j h else e ∷ h)) older in let before : disposed_generations q i (as_of j h) ≤ disposed_generations q i h = disposed-grew q i j h in let more : disposed_generations q i h ≤ disposed_generations q i (e ∷ h) = omega arith in omega (arith, is, before, more))
-    (λ newer. let is : disposed_generations q i (as_of j (e ∷ h)) ≡ disposed_generations q i (e ∷ h) = ap (λ (b : Bool). disposed_generations q i (if b then as_of j h else e ∷ h)) newer in omega (arith, is))
-    (cases_Bool (nat_le j (length h)))
-
-no_writers-grew : (q : ReaderQos) (i : Key) (j : ℕ) (h : List Happening) → no_writers_generations q i (as_of j h) ≤ no_writers_generations q i h
-no_writers-grew q i j [] = omega arith
-no_writers-grew q i j (e ∷ h) =
-    ⊎_elim
-    (λ older. let is : no_writers_generations q i (as_of j (e ∷ h)) ≡ no_writers_generations q i (as_of j h) = ap (λ (b : Bool). no_writers_generations q i (if b then as_of j h else e ∷ h)) older in let before : no_writers_generations q i (as_of j h) ≤ no_writers_generations q i h = no_writers-grew q i j h in let more : no_writers_generations q i h ≤ no_writers_generations q i (e ∷ h) = omega arith in omega (arith, is, before, more))
-    (λ newer. let is : no_writers_generations q i (as_of j (e ∷ h)) ≡ no_writers_generations q i (e ∷ h) = ap (λ (b : Bool). no_writers_generations q i (if b then as_of j h else e ∷ h)) newer in omega (arith, is))
-    (cases_Bool (nat_le j (length h)))
-
 pub small-now : (q : ReaderQos) (h : List Happening) (known_is : KnownInstance) (k : Kept) → IsKnown q h known_is → known_is.key ≡ k.sample.key → IsKept q h k → known_is.disposed_generations + known_is.no_writers_generations < 2 ^ 64 → own_generations (described_by k known_is) < 2 ^ 64
 small-now q h known_is k is_known key kept small =
     let i : Key = k.sample.key in
     let j : ℕ = k.sample.position in
     let a : known_is.disposed_generations ≡ disposed_generations q i h = is_known.disposed_is ∙ ap (λ (x : Key). disposed_generations q x h) key in
     let b : known_is.no_writers_generations ≡ no_writers_generations q i h = is_known.no_writers_is ∙ ap (λ (x : Key). no_writers_generations q x h) key in
-    let c : disposed_generations q i (as_of j h) ≤ disposed_generations q i h = disposed-grew q i j h in
-    let d : no_writers_generations q i (as_of j h) ≤ no_writers_generations q i h = no_writers-grew q i j h in
+    let c : disposed_generations q i (as_of j h) ≤ disposed_generations q i h =
+    count-grew (λ g. disposed_generations q i g) (λ e g. omega arith) j h in
+    let d : no_writers_generations q i (as_of j h) ≤ no_writers_generations q i h =
+    count-grew (λ g. no_writers_generations q i g) (λ e g. omega arith) j h in
     omega (arith, a, b, c, d, kept.is_of.disposed_is, kept.is_of.no_writers_is, small)
 
 pub some-same : (a b : Key) → Some a ≡ Some b → a ≡ b

@@ -1,6 +1,6 @@
 -- The present samples after one more entry.
 use Rattle.std.proofs.Common.{◌≡◌, ℕ, ◌+◌, ◌-◌, ◌≤◌, ◌<◌, List, [], ◌∷◌, ◌++◌, length, map, filter, Bool, true, false, not, ◌&&◌, ◌||◌, sym, ap, ◌∙◌, refl, cond, Option, Some, None, arith, zero, suc, add-one, ⊎_elim}
-use Rattle.std.specs.Prelude.{if◌then◌else◌}
+use Rattle.std.specs.Prelude.{if◌then◌else◌, nat_le}
 use Rattle.std.specs.List.{list_any, All}
 use Rattle.std.proofs.lemmas.Bool.{cases_Bool, le-leb, lt-leb, lt-ltb, ltb-true, eqb-true, and_parts, or_cases}
 use Rattle.std.proofs.lemmas.List.{map-append}
@@ -29,6 +29,22 @@ as_of-older e h j older = ap (λ (b : Bool). if b then as_of j h else e ∷ h) (
 
 pub as_of-newest : (e : Happening) (h : List Happening) → as_of (length h + 1) (e ∷ h) ≡ e ∷ h
 as_of-newest e h = ap (λ (b : Bool). if b then as_of (length h + 1) h else e ∷ h) (lt-leb (length h + 1) (length h) (omega arith))
+
+-- a count that never falls was no greater as of a position
+pub count-grew : (count : List Happening → ℕ) → ((e : Happening) (h : List Happening) → count h ≤ count (e ∷ h))
+    → (j : ℕ) (h : List Happening) → count (as_of j h) ≤ count h
+count-grew count grows j [] = omega arith
+count-grew count grows j (e ∷ h) =
+    ⊎_elim
+    (λ older.
+    let is : count (as_of j (e ∷ h)) ≡ count (as_of j h) =
+    ap (λ (b : Bool). count (if b then as_of j h else e ∷ h)) older in
+    omega (arith, is, count-grew count grows j h, grows e h))
+    (λ newer.
+    let is : count (as_of j (e ∷ h)) ≡ count (e ∷ h) =
+    ap (λ (b : Bool). count (if b then as_of j h else e ∷ h)) newer in
+    omega (arith, is))
+    (cases_Bool (nat_le j (length h)))
 
 -- a history that keeps a write keeps it where fewer follow
 keeps-fewer : (history : HistoryQos) (m n : ℕ) → m ≤ n → keeps history n ≡ true → keeps history m ≡ true

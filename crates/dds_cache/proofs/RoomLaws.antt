@@ -1,6 +1,6 @@
 -- How many writes are present after a change.
 use Rattle.std.proofs.Common.{◌≡◌, ℕ, ◌+◌, ◌-◌, ◌≤◌, List, [], ◌∷◌, ◌++◌, length, filter, Bool, true, false, not, ◌==◌, ◌&&◌, ◌||◌, sym, ap, ◌∙◌, refl, subst, cond, Option, Some, arith, ⊎_elim}
-use Rattle.std.specs.Prelude.{if◌then◌else◌, nat_le}
+use Rattle.std.specs.Prelude.{if◌then◌else◌}
 use Rattle.std.specs.List.{list_any, All, count_by}
 use Rattle.std.proofs.lemmas.Bool.{cases_Bool}
 use Rattle.std.proofs.lemmas.Bool.Decides.{nat_tests}
@@ -26,21 +26,14 @@ use Rattle.dds_instances.proofs.TrackLaws.{accepted-other}
 use Rattle.dds_cache.specs.declared.kept.Kept.{Kept}
 use Rattle.dds_cache.specs.Kept.{Adds, IsFresh, IsKept, IsKeptAt, IsOf, positions_in, position_of, sample_at}
 use Rattle.dds_cache.specs.Room.{is_present_write, is_write_after}
-use Rattle.dds_cache.proofs.PresenceLaws.{as_of-newest, as_of-older, marker-future, present-next, unmarked-other}
+use Rattle.dds_cache.proofs.PresenceLaws.{as_of-newest, as_of-older, count-grew, marker-future, present-next}
+use Rattle.dds_cache.proofs.PresenceLaws.{unmarked-other}
 use Rattle.dds_cache.proofs.KeptLaws.{kept-quiet}
 use Rattle.dds_cache.proofs.StandingLaws.{adds-nothing, adds-one}
 use Rattle.dds_cache.proofs.GroupLaws.{unequal}
 use Rattle.dds_cache.proofs.CountLaws.{present-count}
 
 -- ---- what is kept, after a change
-
-writes-grew : (q : ReaderQos) (i : Key) (j : ℕ) (h : List Happening) → accepted_writes q i (as_of j h) ≤ accepted_writes q i h
-writes-grew q i j [] = omega arith
-writes-grew q i j (e ∷ h) =
-    ⊎_elim
-    (λ older. let is : accepted_writes q i (as_of j (e ∷ h)) ≡ accepted_writes q i (as_of j h) = ap (λ (b : Bool). accepted_writes q i (if b then as_of j h else e ∷ h)) older in let before : accepted_writes q i (as_of j h) ≤ accepted_writes q i h = writes-grew q i j h in let more : accepted_writes q i h ≤ accepted_writes q i (e ∷ h) = omega arith in omega (arith, is, before, more))
-    (λ newer. let is : accepted_writes q i (as_of j (e ∷ h)) ≡ accepted_writes q i (e ∷ h) = ap (λ (b : Bool). accepted_writes q i (if b then as_of j h else e ∷ h)) newer in omega (arith, is))
-    (cases_Bool (nat_le j (length h)))
 
 -- the last marker at an older position
 marker-older : (q : ReaderQos) (e : Happening) (h : List Happening) (i : Key) (j : ℕ) → j ≤ length h → is_at (last_marker q i (e ∷ h)) j ≡ (not (marks q i h e) && is_at (last_marker q i h) j)
@@ -68,7 +61,8 @@ write-next q a h known k is_known key kept =
     let writes : known.accepted_writes ≡ accepted_writes q i h = is_known.writes_are ∙ ap (λ (x : Key). accepted_writes q x h) key in
     let marker : known.last_marker ≡ last_marker q i h = is_known.marker_is ∙ ap (λ (x : Key). last_marker q x h) key in
     let past : as_of j (e ∷ h) ≡ as_of j h = as_of-older e h j kept.in_past in
-    let grew : accepted_writes q i (as_of j h) ≤ accepted_writes q i h = writes-grew q i j h in
+    let grew : accepted_writes q i (as_of j h) ≤ accepted_writes q i h =
+    count-grew (λ g. accepted_writes q i g) (λ e g. omega arith) j h in
     let number : k.number ≡ accepted_writes q i (as_of j h) = kept.is_of.number_is in
     let later : (known.accepted_writes - k.number) + one_if w ≡ accepted_writes q i (e ∷ h) - accepted_writes q i (as_of j h) = ap (λ (n : ℕ). (n - k.number) + one_if w) writes ∙ (let sum : (accepted_writes q i h - k.number) + one_if w ≡ (accepted_writes q i h + one_if w) - accepted_writes q i (as_of j h) = omega (arith, number, grew) in sum) in
     let at : (not m && is_at known.last_marker j) ≡ is_at (last_marker q i (e ∷ h)) j = ap (λ (x : Option ℕ). not m && is_at x j) marker ∙ sym (marker-older q e h i j kept.in_past) in
