@@ -275,6 +275,25 @@ removed-same ss ts (k ∷ ks) same =
 pub past-all : (q : ReaderQos) (h : List Happening) (ss : List SamplePosition) → All (IsReturnable q h) ss → All (λ (s : SamplePosition). s.position ≤ length h) ss
 past-all q h ss each = All-weaker (IsReturnable q h) (λ (s : SamplePosition). s.position ≤ length h) (λ s is. is.in_past) ss each
 
+-- an access is entered in a cache that is open, once its instances have entered it
+pub entered-as : (entry : List SamplePosition → Happening) (inside now : Stored) (ss xs : List SamplePosition)
+    (new : Table) (after : Stored) (h : List Happening) → inside ≡ now → xs ≡ ss → StandsFor now h
+    → All (IsReturnable now.qos h) ss
+    → ((q : ReaderQos) (g : List Happening) → Stands q inside.instances g → All (IsReturnable q g) xs
+    → Stands q new (entry xs ∷ g))
+    → (All (λ (s : SamplePosition). s.position ≤ length h) ss → Stands inside.qos new (entry ss ∷ h)
+    → StandsFor inside h → StandsFor after (entry ss ∷ h))
+    → StandsFor after (entry ss ∷ h)
+entered-as entry inside now ss xs new after h view same stands each enter make =
+    let old : StandsFor inside h = subst (λ (t : Stored). StandsFor t h) (sym view) stands in
+    let fits : All (IsReturnable inside.qos h) ss =
+    subst (λ (t : Stored). All (IsReturnable t.qos h) ss) (sym view) each in
+    let came : Stands inside.qos new (entry ss ∷ h) =
+    subst (λ (ys : List SamplePosition). Stands inside.qos new (entry ys ∷ h)) same
+    (enter inside.qos h old.instances
+    (subst (λ (ys : List SamplePosition). All (IsReturnable inside.qos h) ys) (sym same) fits)) in
+    make (past-all inside.qos h ss fits) came old
+
 -- a mark leaves the counts
 pub small-marked : (ss : List SamplePosition) (ks : List Kept) → All IsSmall ks → All IsSmall (map (marked ss) ks)
 small-marked ss ks small = All-map IsSmall (marked ss) ks (All-weaker IsSmall (λ (k : Kept). IsSmall (marked ss k)) (λ k is. is) ks small)
