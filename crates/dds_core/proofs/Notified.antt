@@ -1,9 +1,9 @@
 -- What a peer and its listeners stand for, as they are told of what was raised.
-use Rattle.std.proofs.Common.{◌≡◌, ℕ, ℤ, zero, suc, ◌+◌, ◌<◌, ◌≤◌, Bool, true, false, List, [], ◌∷◌, Option, Some, None, is_some, length, get_or, slice_get, arith, ⊎_elim, refl, ap, sym, ◌∙◌, subst}
+use Rattle.std.proofs.Common.{◌≡◌, ℕ, ℤ, zero, suc, ◌+◌, ◌-◌, ◌<◌, ◌≤◌, Bool, true, false, List, [], ◌∷◌, Option, Some, None, is_some, length, get_or, slice_get, arith, ⊎_elim, refl, ap, sym, ◌∙◌, subst}
 use Rattle.std.specs.Prelude.{nat_lt, if◌then◌else◌}
 use Rattle.std.proofs.lemmas.Bool.{cases_lt}
 use Rattle.std.proofs.lemmas.Bool.Decides.{nat_tests}
-use Rattle.std.proofs.lemmas.Option.{slice_get-get_or}
+use Rattle.std.proofs.lemmas.Option.{slice_get-get_or, slice_get_read}
 use Rattle.dds_base.specs.declared.config.Config.{Config}
 use Rattle.dds_base.specs.declared.entity.Entity.{Entity}
 use Rattle.dds_base.specs.declared.entity.Entity.TheVariants as entity
@@ -43,6 +43,17 @@ to_taker None part e status h = cc
 to_nobody : (o : Option Entity) (part : Part) (e : Entity) (status : Status) → is_some o ≡ false → told_to o part e status ≡ part
 to_nobody (Some taker) part e status h = cc
 to_nobody None part e status h = refl
+
+-- the writer of a number stands in an open peer at the index before it, and so it does in the peer
+pub writer_found : (inside now : PeerKept) (n from : ℕ) (k : WriterKept) → inside ≡ now → 1 ≤ n → n ≤ length now.writers
+    → from ≡ n → k ≡ get_or inside.writers (from - 1) k
+    → (suc (from - 1) ≡ n) × (from - 1 < length inside.writers) × (slice_get inside.writers (from - 1) ≡ Some k)
+    × (slice_get now.writers (from - 1) ≡ Some k)
+writer_found inside now n from k view low high number is =
+    let size = ap (λ (p : PeerKept). length p.writers) view in
+    let within : from - 1 < length inside.writers = omega (arith, low, high, number, size) in
+    let at = slice_get_read inside.writers (length inside.writers) (from - 1) k refl within is in
+    (omega (arith, low, number), within, at, subst (λ (p : PeerKept). slice_get p.writers (from - 1) ≡ Some k) view at)
 
 -- the listeners of a peer are the last thing that it stands for
 pub listeners_apart : (kept : PeerKept) (config : Config) (peer : Peer) (places : Places) → StandsFor kept config peer
@@ -165,11 +176,28 @@ module _ {L : Type 0} (notices : L → List Notice) (capacity : L → ℕ) where
       (tells_then (each_told tell n) (tell (suc n)) old slots mid between new after first
       (subst (λ (m : ℕ). Tells notices capacity (tell m) mid between new after) more second))
 
-  -- all of them
-  pub tells_all : (tell : ℕ → Part → Part) (old : PeerKept) (slots : Slotted L) (new : PeerKept) (after : Slotted L) (n count : ℕ) → n ≤ count → count ≤ n
-      → Tells notices capacity (each_told tell n) old slots new after → Tells notices capacity (each_told tell count) old slots new after
-  tells_all tell old slots new after n count low high h =
-      let same : n ≡ count = omega (arith, low, high) in
+  -- one entity more, which has a mark, in a loop over what is open
+  pub tells_marked : {M : Type 0} (marks : List M) (none : M) (IsMark : M → ℕ → Type 0) (tell : ℕ → Part → Part)
+      (old : PeerKept) (slots : Slotted L) (mid : PeerKept) (between : Slotted L) (new : PeerKept) (after : Slotted L)
+      (n end inside room : ℕ) → n < end → end ≡ inside → inside ≤ room → length marks ≡ room
+      → ((i : ℕ) (mark : M) → slice_get marks i ≡ Some mark → IsMark mark (suc i))
+      → Tells notices capacity (each_told tell n) old slots mid between
+      → (IsMark (get_or marks n none) (n + 1) → Tells notices capacity (tell (n + 1)) mid between new after)
+      → Tells notices capacity (each_told tell (n + 1)) old slots new after
+  tells_marked marks none IsMark tell old slots mid between new after n end inside room lt size few all are
+      first second =
+      let more : suc n ≡ n + 1 = omega arith in
+      let mark = are n (get_or marks n none) (slice_get-get_or marks n none (omega (arith, lt, size, few, all))) in
+      tells_next tell old slots mid between new after n first
+      (second (subst (λ (m : ℕ). IsMark (get_or marks n none) m) more mark))
+
+  -- all of them: a loop over what is open has come to its end
+  pub tells_all : (tell : ℕ → Part → Part) (old : PeerKept) (slots : Slotted L) (new : PeerKept) (after : Slotted L)
+      (n end inside count : ℕ) → n ≤ end → end ≤ n → end ≡ inside → inside ≡ count
+      → Tells notices capacity (each_told tell n) old slots new after
+      → Tells notices capacity (each_told tell count) old slots new after
+  tells_all tell old slots new after n end inside count low high size view h =
+      let same : n ≡ count = omega (arith, low, high, size, view) in
       subst (λ (m : ℕ). Tells notices capacity (each_told tell m) old slots new after) same h
 
 -- ---- what was raised

@@ -1,53 +1,43 @@
-use Rattle.std.proofs.Common.{◌≡◌, ℕ, suc, get_or, subst, ◌+◌, length, arith, rules, refl, ap, ◌∙◌}
-use Rattle.std.proofs.lemmas.Option.{slice_get-get_or}
+use Rattle.std.proofs.Common.{◌≡◌, length, arith, rules, refl, ap, ◌∙◌}
 use Rattle.dds_model.specs.Noticing.{losses_of, writer_told}
 use Rattle.dds_model.specs.Part.{own_writer}
 use Rattle.dds_core.specs.Kept.{PeerKept}
-use Rattle.dds_core.proofs.Notified.{tells_all, tells_first, tells_next}
+use Rattle.dds_core.proofs.Notified.{tells_all, tells_first, tells_marked}
 use Rattle.dds_core.proofs.peer.Peer.notify_writers.Goals as goal
 
 pub loop-index-init : goal.loop-index-init
 loop-index-init g c = record {
-  told = λ before marks. tells_first g.L.Listener.notices g.L.Listener.capacity (writer_told before) c.args.self.now c.args.slots.now;
+  told = λ before marks.
+      tells_first g.L.Listener.notices g.L.Listener.capacity (writer_told before) c.args.self.now c.args.slots.now;
   count = refl;
   readers = refl;
 }
 
 pub notify_writer-requires : goal.notify_writer-requires
 notify_writer-requires g c =
-    let lt = c.loop-index-test.true in
-    let size = c.len-index-end.ensures in
     let same = ap (λ (k : PeerKept). length k.writers) c.self.view_is in
     let count = c.loop-index.invariant.count in
-    record { within = (omega arith, omega (arith, lt, size, same, count)) }
+    record { within = (omega arith, omega (arith, c.loop-index-test.true, c.len-index-end.ensures, same, count)) }
 
 pub loop-index-preserved : goal.loop-index-preserved
-loop-index-preserved g c =
-    let lt = c.loop-index-test.true in
-    let size = c.len-index-end.ensures in
-    let few = c.self.invariant.0 in
-    let all : length c.args.marks.now.writers ≡ 16 = search rules in
-    let more : suc c.loop-index.index ≡ c.loop-index.index + 1 = omega arith in
-    record {
-      told = λ before marks.
-          let at = slice_get-get_or c.args.marks.now.writers c.loop-index.index 0 (omega (arith, lt, size, few, all)) in
-          tells_next g.L.Listener.notices g.L.Listener.capacity (writer_told before) c.args.self.now c.args.slots.now c.loop-index.self c.loop-index.slots
-          c.notify_writer.new.self c.notify_writer.new.slots c.loop-index.index (c.loop-index.invariant.told before marks)
-          (c.notify_writer.ensures.told before
-          (subst (λ (n : ℕ). get_or c.args.marks.now.writers c.loop-index.index 0 ≡ losses_of (own_writer before n)) more
-          (marks.writers c.loop-index.index (get_or c.args.marks.now.writers c.loop-index.index 0) at)));
-      count = c.notify_writer.ensures.writers ∙ c.loop-index.invariant.count;
-      readers = c.notify_writer.ensures.readers ∙ c.loop-index.invariant.readers;
-    }
+loop-index-preserved g c = record {
+  told = λ before marks.
+      tells_marked g.L.Listener.notices g.L.Listener.capacity c.args.marks.now.writers 0
+      (λ mark i. mark ≡ losses_of (own_writer before i)) (writer_told before)
+      c.args.self.now c.args.slots.now c.loop-index.self c.loop-index.slots c.notify_writer.new.self
+      c.notify_writer.new.slots c.loop-index.index _ _ 16 c.loop-index-test.true c.len-index-end.ensures
+      (omega (arith, c.self.invariant.0)) (search rules) marks.writers (c.loop-index.invariant.told before marks)
+      (c.notify_writer.ensures.told before);
+  count = c.notify_writer.ensures.writers ∙ c.loop-index.invariant.count;
+  readers = c.notify_writer.ensures.readers ∙ c.loop-index.invariant.readers;
+}
 
 pub returns-clause-told : goal.returns-clause-told
 returns-clause-told g c = λ before marks.
-    let low = c.loop-index.auto.index-end in
-    let high = c.loop-index-test.false in
-    let size = c.len-index-end.ensures in
-    let same = ap (λ (k : PeerKept). length k.writers) c.self.view_is in
-    tells_all g.L.Listener.notices g.L.Listener.capacity (writer_told before) c.args.self.now c.args.slots.now c.loop-index.self c.loop-index.slots
-    c.loop-index.index (length c.args.self.now.writers) (omega (arith, low, size, same)) (omega (arith, high, size, same)) (c.loop-index.invariant.told before marks)
+    tells_all g.L.Listener.notices g.L.Listener.capacity (writer_told before) c.args.self.now c.args.slots.now
+    c.loop-index.self c.loop-index.slots c.loop-index.index _ _ (length c.args.self.now.writers)
+    c.loop-index.auto.index-end c.loop-index-test.false c.len-index-end.ensures
+    (omega (arith, ap (λ (k : PeerKept). length k.writers) c.self.view_is)) (c.loop-index.invariant.told before marks)
 
 pub returns-clause-readers : goal.returns-clause-readers
 returns-clause-readers g c = c.loop-index.invariant.readers
