@@ -1,6 +1,7 @@
 -- Marks that are made in turn.
-use Rattle.std.proofs.Common.{◌≡◌, ℕ, zero, suc, ◌+◌, List, Some, replicate, slice_get, slice_set, arith, ap, sym, ◌∙◌, subst, ⊎_elim}
-use Rattle.std.proofs.lemmas.Option.{same_Some}
+use Rattle.std.proofs.Common.{◌≡◌, ℕ, zero, suc, ◌+◌, List, Some, replicate, get_or, length, ◌<◌, ◌≤◌, slice_get}
+use Rattle.std.proofs.Common.{slice_set, refl, arith, ap, sym, ◌∙◌, subst, ⊎_elim}
+use Rattle.std.proofs.lemmas.Option.{same_Some, slice_get_read}
 use Rattle.dds_core.specs.Noticing.{Marked}
 use Rattle.dds_core.proofs.Dying.{below}
 use Rattle.dds_core.proofs.Ready.{set-cases}
@@ -17,7 +18,7 @@ module _ {K M : Type 0} (Marks : K → M → Type 0) (nothing : M) where
   marked_none kept count i mark h = (λ lt k at. absurd (omega (arith, lt)), λ le. all_same count nothing i mark h)
 
   -- one more is marked
-  pub marked_more : (kept : List K) (n : ℕ) (marks : List M) (k : K) (mark : M) → Marked Marks nothing kept n marks
+  marked_more : (kept : List K) (n : ℕ) (marks : List M) (k : K) (mark : M) → Marked Marks nothing kept n marks
       → slice_get kept n ≡ Some k → Marks k mark → Marked Marks nothing kept (n + 1) (slice_set marks n mark)
   marked_more kept n marks k mark before at here i other h =
       ⊎_elim
@@ -34,3 +35,17 @@ module _ {K M : Type 0} (Marks : K → M → Type 0) (nothing : M) where
         λ le. old.1 (omega (arith, le)),
       ))
       (set-cases marks n mark i other h)
+
+  -- so it is of the one that is found at an index
+  pub marked_next : (kept : List K) (n : ℕ) (marks : List M) (k : K) (mark : M) → Marked Marks nothing kept n marks
+      → n < length kept → k ≡ get_or kept n k → Marks k mark → Marked Marks nothing kept (n + 1)
+      (slice_set marks n mark)
+  marked_next kept n marks k mark before lt is here =
+      marked_more kept n marks k mark before (slice_get_read kept (length kept) n k refl lt is) here
+
+  -- all are marked
+  pub marked_all : (kept : List K) (n : ℕ) (marks : List M) → n ≤ length kept → length kept ≤ n
+      → Marked Marks nothing kept n marks → Marked Marks nothing kept (length kept) marks
+  marked_all kept n marks low high h =
+      let all : n ≡ length kept = omega (arith, low, high) in
+      subst (λ (m : ℕ). Marked Marks nothing kept m marks) all h
