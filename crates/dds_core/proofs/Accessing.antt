@@ -22,6 +22,7 @@ use Rattle.dds_cache.specs.Standing.{Stored, qos_of, StandsFor as CacheStandsFor
 use Rattle.dds_model.specs.declared.call.Call.{Call}
 use Rattle.dds_model.specs.declared.call.Call.TheVariants as call
 use Rattle.dds_model.specs.declared.event.Event.TheVariants as event
+use Rattle.dds_model.specs.declared.event.Output.{Output}
 use Rattle.dds_model.specs.declared.reply.Reply.{Reply}
 use Rattle.dds_model.specs.declared.reply.Reply.TheVariants.{Samples, Refused}
 use Rattle.dds_model.specs.Calls.{Answers as CallAnswers, AnswersAccess, AnswersByCondition, CallStep, Effect, nothing, effect, effect_of, access_refusal, picked_at, with_happening}
@@ -41,7 +42,7 @@ use Rattle.dds_core.proofs.Rows.{writers_of}
 use Rattle.dds_core.specs.Kept.{ReaderKept, PeerKept}
 use Rattle.dds_core.specs.Receiving.{TakesOnly, access_reply}
 use Rattle.dds_core.specs.Standing.{IsFirstRow, ReaderStands, StandsFor}
-use Rattle.dds_core.proofs.CallSteps.{FollowsBy, refused_call, there_is}
+use Rattle.dds_core.proofs.CallSteps.{FollowsBy, follows_as, refused_call, still_stands, there_is}
 use Rattle.dds_core.proofs.Ends.{with_reader, own_reader_changed}
 use Rattle.dds_core.proofs.Taking.{silent}
 use Rattle.dds_core.proofs.Identities.{same_identity}
@@ -89,27 +90,32 @@ by_condition entry refusal asked_test test part reader asked selection reply dds
     (subst (λ (x : Selection). AnswersAccess entry test part reader x reply dds) is
     (subst (λ (f : Test). AnswersAccess entry f part reader asked reply dds) same access))
 
--- what was asked for is what the condition asks for
-pub record IsAsked (part : Part) (reader : ℕ) (scope : Scope) (condition : ℕ) (asked : Asked) : Type 0 where
-  pub taken : condition_refusal part reader scope condition ≡ None
-  pub selection : asked.selection ≡ condition_selection part scope condition
-  pub filter : asked.filter ≡ filter_of (made part.dds.watch.conditions condition)
+-- what was asked for is what the condition asks for, against which there is no cause
+abbrev IsAsked : Part → ℕ → Scope → ℕ → Asked → Type 0
+IsAsked part reader scope condition asked =
+    (condition_refusal part reader scope condition ≡ None)
+    × (asked.selection ≡ condition_selection part scope condition)
+    × (asked.filter ≡ filter_of (made part.dds.watch.conditions condition))
 
-pub read_by_is_access : (tests : Tests) (part : Part) (reader : ℕ) (scope : Scope) (condition : ℕ) (asked : Asked) → IsAsked part reader scope condition asked
+pub read_by_is_access : (tests : Tests) (part : Part) (reader : ℕ) (scope : Scope) (condition : ℕ) (asked : Asked)
+    → IsAsked part reader scope condition asked
     → IsAccess tests part (call.ReadByCondition reader scope condition) HasRead (test_of tests asked.filter) reader asked.selection
 read_by_is_access tests part reader scope condition asked is = record {
   quiet = read_is_quiet;
-  answers = λ reply dds a. by_condition HasRead _ (test_of tests asked.filter) _ part reader asked.selection _ reply dds is.taken
-      (ap (λ (f : Option ℕ). test_of tests f) is.filter) is.selection a;
+  answers = λ reply dds a.
+      by_condition HasRead _ (test_of tests asked.filter) _ part reader asked.selection _ reply dds is.0
+      (ap (λ (f : Option ℕ). test_of tests f) is.2) is.1 a;
   effect = λ reply. refl;
 }
 
-pub take_by_is_access : (tests : Tests) (part : Part) (reader : ℕ) (scope : Scope) (condition : ℕ) (asked : Asked) → IsAsked part reader scope condition asked
+pub take_by_is_access : (tests : Tests) (part : Part) (reader : ℕ) (scope : Scope) (condition : ℕ) (asked : Asked)
+    → IsAsked part reader scope condition asked
     → IsAccess tests part (call.TakeByCondition reader scope condition) Took (test_of tests asked.filter) reader asked.selection
 take_by_is_access tests part reader scope condition asked is = record {
   quiet = take_is_quiet;
-  answers = λ reply dds a. by_condition Took _ (test_of tests asked.filter) _ part reader asked.selection _ reply dds is.taken
-      (ap (λ (f : Option ℕ). test_of tests f) is.filter) is.selection a;
+  answers = λ reply dds a.
+      by_condition Took _ (test_of tests asked.filter) _ part reader asked.selection _ reply dds is.0
+      (ap (λ (f : Option ℕ). test_of tests f) is.2) is.1 a;
   effect = λ reply. refl;
 }
 
@@ -192,15 +198,17 @@ accessed tests entry c test i selection kept k k' config peer is s at same (Err 
     not_entered tests c kept i k k' config peer code s at (kept_same k k' same after) (is.answers (Refused code) peer.part.dds (subst (λ (o : Option Code). Refuses o code) (sym causes) answer, refl))
 
 -- the same of the reader of a number, where it stands in the opened peer
-pub accessed_at : (tests : Tests) (entry : List SamplePosition → Happening) (c : Call) (test : Test) (reader : ℕ)
-    (selection : Selection) (kept now : PeerKept) (i : ℕ) (k k' : ReaderKept) (config : Config) (peer : Peer)
+pub accessed_at : {tests : Tests} {entry : List SamplePosition → Happening} {c : Call} {test : Test} {reader : ℕ}
+    {selection : Selection} {kept now : PeerKept} (i : ℕ) (k k' : ReaderKept) (config : Config) (peer : Peer)
     → kept ≡ now → StandsFor now config peer → IsAccess tests peer.part c entry test reader selection
     → reader ≡ i + 1 → i < length kept.readers → k ≡ get_or kept.readers i k → TakesOnly k k' → (r : Result (List Sample) Code)
     → ((h : List Happening) → Holds k.store h → AnswersWith k.store.cache h selection test r)
     → ((h : List Happening) → Holds k.store h → AfterAccessWith entry k.store.cache h selection test r k'.store.cache)
-    → FollowsBy tests (with_reader kept i k') config peer (event.Call c) (silent (access_reply r))
-accessed_at tests entry c test reader selection kept now i k k' config peer view given is number lt element same r answer after =
-    let s = subst (λ (x : PeerKept). StandsFor x config peer) (sym view) given in
+    → (output : Output) (reply : Reply) → output ≡ silent reply → reply ≡ access_reply r
+    → FollowsBy tests (with_reader kept i k') config peer (event.Call c) output
+accessed_at {tests} {entry} {c} {test} {selection = selection} {kept} i k k' config peer view given is number lt element
+    same r answer after output reply told replied =
+    let s = still_stands view given in
     let at : slice_get kept.readers i ≡ Some k = slice_get_read kept.readers (length kept.readers) i k refl lt element in
     let index : i + 1 ≡ suc i = omega arith in
     let rs = s.readers.each i k at in
@@ -209,4 +217,7 @@ accessed_at tests entry c test reader selection kept now i k k' config peer view
     let known : has_number peer.part.dds.readers (suc i) ≡ true = there_is peer.part.dds.readers i (omega (arith, lt, count)) in
     let causes : access_refusal peer.part (suc i) selection ≡ refusal k.store.cache h selection =
     ap (λ (b : Bool). if not b then Some BadParameter else selection_refusal (own_reader peer.part (suc i)).qos h selection) known ∙ ap (λ (q : ReaderQos). selection_refusal q h selection) rs.qos_is in
-    accessed tests entry c test i selection kept k k' config peer (subst (λ (n : ℕ). IsAccess tests peer.part c entry test n selection) (number ∙ index) is) s at same r causes rs.qos_is (answer h rs.holds) (after h rs.holds)
+    follows_as _ config peer (event.Call c) (silent (access_reply r)) output (told ∙ ap silent replied)
+    (accessed tests entry c test i selection kept k k' config peer
+    (subst (λ (n : ℕ). IsAccess tests peer.part c entry test n selection) (number ∙ index) is) s at same r causes
+    rs.qos_is (answer h rs.holds) (after h rs.holds))

@@ -53,6 +53,11 @@ FollowsBy tests kept config peer ev output = (after : Peer) × PeerStep config t
 abbrev pub Follows : PeerKept → Config → Peer → Event → Output → Type 0
 Follows kept config peer ev output = FollowsBy no_filters kept config peer ev output
 
+-- what a peer stands for, it stands for once it is open
+pub still_stands : {inside now : PeerKept} {config : Config} {peer : Peer} → inside ≡ now → StandsFor now config peer
+    → StandsFor inside config peer
+still_stands {config = config} {peer} view s = subst (λ (k : PeerKept). StandsFor k config peer) (sym view) s
+
 -- the same of another name for the output
 pub follows_as : {tests : Tests} (kept : PeerKept) (config : Config) (peer : Peer) (ev : Event) (o p : Output) → p ≡ o
     → FollowsBy tests kept config peer ev o → FollowsBy tests kept config peer ev p
@@ -333,10 +338,15 @@ refused_tick kept config peer s now bad =
 pub number_is : (writer i : ℕ) → writer ≡ i + 1 → suc i ≡ writer
 number_is writer i is = let index : i + 1 ≡ suc i = omega arith in sym (is ∙ index)
 
+-- the end of a number is there
+pub known_end : {X : Type 0} (ends : List X) (number i count : ℕ) → number ≡ i + 1 → i < count → length ends ≡ count
+    → has_number ends number ≡ true
+known_end ends number i count is lt same =
+    subst (λ (n : ℕ). has_number ends n ≡ true) (number_is number i is) (there_is ends i (omega (arith, lt, same)))
+
 known_writer : (kept : PeerKept) (config : Config) (peer : Peer) → StandsFor kept config peer → (writer i : ℕ) → writer ≡ i + 1 → i < length kept.writers → has_number peer.part.rtps.writers writer ≡ true
 known_writer kept config peer s writer i is lt =
-    let count = s.writers.count in
-    subst (λ (n : ℕ). has_number peer.part.rtps.writers n ≡ true) (number_is writer i is) (there_is peer.part.rtps.writers i (omega (arith, lt, count)))
+    known_end peer.part.rtps.writers writer i (length kept.writers) is lt s.writers.count
 
 pub register_at : (kept : PeerKept) (writer i : ℕ) (k k' : WriterKept) (key : Key) (config : Config) (peer : Peer) → StandsFor kept config peer → writer ≡ i + 1 → slice_get kept.writers i ≡ Some k → i < length kept.writers → Enters k (Registered key) k'
     → Follows (with_writer kept i k') config peer (event.Call (call.Register writer key)) (silent Done)

@@ -1,7 +1,5 @@
-use Rattle.std.proofs.Common.{◌≡◌, ℕ, ◌∙◌, ◌+◌, ◌<◌, Bool, true, not, Option, Some, length, refl, sym, subst, ap, arith, rules}
+use Rattle.std.proofs.Common.{◌≡◌, ◌∙◌, ◌+◌, ◌<◌, Bool, true, not, Option, Some, length, refl, sym, subst, ap, rules}
 use Rattle.dds_model.specs.declared.call.Call.TheVariants as call
-use Rattle.dds_core.specs.Kept.{PeerKept}
-use Rattle.dds_core.specs.Standing.{StandsFor}
 use Rattle.std.specs.Prelude.{if◌then◌else◌}
 use Rattle.dds_base.specs.declared.code.Code.{Code}
 use Rattle.dds_base.specs.declared.code.Code.TheVariants.{BadParameter}
@@ -12,19 +10,16 @@ use Rattle.dds_model.specs.Calls.{IsAnsweredInMemory}
 use Rattle.dds_model.specs.Numbered.{has_number}
 use Rattle.dds_model.specs.Watching.{query_condition_refusal, read_condition_refusal}
 use Rattle.dds_core.specs.Watching.{made_reply}
-use Rattle.dds_core.proofs.CallSteps.{follows_as, number_is, there_is}
+use Rattle.dds_core.proofs.CallSteps.{follows_as, known_end, still_stands}
 use Rattle.dds_core.proofs.Watched.{given_in_memory}
 use Rattle.dds_core.proofs.peer.Peer.create_query_condition.Goals as goal
 
 pub returns-clause-step : goal.returns-clause-step
 returns-clause-step c = λ config peer given.
-    let s = subst (λ (k : PeerKept). StandsFor k config peer) (sym c.self.view_is) given in
-    let i = c.in-Some._reader in
-    let within : i < length c.self.inside.readers.items = search rules in
-    let count = s.readers.count in
+    let s = still_stands c.self.view_is given in
+    let within : c.in-Some._reader < length c.self.inside.readers.items = search rules in
     let known : has_number peer.part.dds.readers c.args.reader ≡ true =
-    subst (λ (n : ℕ). has_number peer.part.dds.readers n ≡ true) (number_is c.args.reader i c.in-Some.ensures.0)
-    (there_is peer.part.dds.readers i (omega (arith, within, count))) in
+    known_end peer.part.dds.readers c.args.reader c.in-Some._reader _ c.in-Some.ensures.0 within s.readers.count in
     let here : has_filter c.self.inside.watch c.args.filter ≡ true = search rules in
     let there : has_filter peer.part.dds.watch c.args.filter ≡ true = ap (λ (w : Watched). has_filter w c.args.filter) s.watch ∙ here in
     let free : query_condition_refusal peer.part c.args.reader c.args.filter ≡ number_refusal peer.part.dds.watch.conditions =

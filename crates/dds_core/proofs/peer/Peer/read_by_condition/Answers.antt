@@ -1,26 +1,18 @@
-use Rattle.std.proofs.Common.{◌<◌, length, ◌∙◌, ap, rules}
-use Rattle.dds_base.specs.declared.happening.Happening.TheVariants.{Read as HasRead}
-use Rattle.dds_model.specs.declared.call.Call.TheVariants as call
-use Rattle.dds_model.specs.Watching.{test_of}
+use Rattle.std.proofs.Common.{◌<◌, length, rules}
 use Rattle.dds_core.proofs.Accessing.{accessed_at, read_by_is_access}
 use Rattle.dds_core.proofs.CallSteps.{follows_as}
-use Rattle.dds_core.proofs.Taking.{silent}
 use Rattle.dds_core.proofs.Triggers.{no_read_by}
 use Rattle.dds_core.proofs.peer.Peer.read_by_condition.Goals as goal
 
 pub returns-clause-step : goal.returns-clause-step
 returns-clause-step g c = λ config peer given.
     let within : c.in-Some.index < length c.self.inside.readers.items = search rules in
-    let asked = c.in-Ok.asked in
-    let is = c.in-Ok.ensures config peer given in
     let done = c.read-samples in
-    follows_as _ config peer _ _ _ (c.answered.ensures ∙ ap silent c.reply_to_access.ensures)
-    (accessed_at (g.T.Filters.meaning c.args.filters.now) HasRead (call.ReadByCondition c.args.reader c.args.scope c.args.condition)
-    (test_of (g.T.Filters.meaning c.args.filters.now) asked.filter) c.args.reader asked.selection
-    _ _ c.in-Some.index c.index_mut.result.now done.new.self config peer c.self.view_is given
-    (read_by_is_access _ peer.part c.args.reader c.args.scope c.args.condition asked
-    (record { taken = is.0; selection = is.1; filter = is.2 })) c.in-Some.ensures.0 within c.index_mut.ensures.value
-    done.ensures.same done.result done.ensures.answer done.ensures.after)
+    accessed_at c.in-Some.index c.index_mut.result.now done.new.self config peer c.self.view_is given
+    (read_by_is_access (g.T.Filters.meaning c.args.filters.now) peer.part c.args.reader c.args.scope c.args.condition
+    c.in-Ok.asked (c.in-Ok.ensures config peer given)) c.in-Some.ensures.0 within c.index_mut.ensures.value
+    done.ensures.same done.result done.ensures.answer done.ensures.after _ _ c.answered.ensures
+    c.reply_to_access.ensures
 
 pub returns-in-Err-clause-step : goal.returns-in-Err-clause-step
 returns-in-Err-clause-step g c = λ config peer given.
