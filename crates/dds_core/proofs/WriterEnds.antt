@@ -72,6 +72,16 @@ opens_writer peers w ds names limit kept count counted sent matched limited stan
       };
     }
 
+-- a writer, by what its end has once it is open
+abbrev pub kept_as : EntityId → Bool → List Destination → List ReaderName → Kept → WriterKept
+kept_as entity autodispose destinations readers writer = record {
+  entity = entity;
+  autodispose = autodispose;
+  destinations = destinations;
+  readers = readers;
+  writer = writer;
+}
+
 -- what stands for a writer does so under another name
 pub stands_there : (kept now : WriterKept) (w : Writer) (answered : Endpoint → Option ℤ) → kept ≡ now → WriterStands now w answered → WriterStands kept w answered
 stands_there kept now w answered same s = subst (λ (k : WriterKept). WriterStands k w answered) (sym same) s

@@ -9,7 +9,7 @@ use Rattle.dds_core.specs.Beating.{assertions_of, told_to}
 use Rattle.dds_core.specs.Kept.{WriterKept}
 use Rattle.dds_core.specs.Standing.{state_of}
 use Rattle.dds_core.proofs.Asserting.{count_left, told_are, valid_told}
-use Rattle.dds_core.proofs.WriterEnds.{enters_if, stands_there}
+use Rattle.dds_core.proofs.WriterEnds.{enters_if, kept_as, stands_there}
 use Rattle.dds_core.proofs.writer_end.WriterEnd.assert.Goals as goal
 
 pub send_to_all-requires-clause-valid : goal.send_to_all-requires-clause-valid
@@ -25,13 +25,9 @@ returns-clause-ok c =
 
 pub returns-clause-tells : goal.returns-clause-tells
 returns-clause-tells c = λ w answered s.
-    let kept : WriterKept = record {
-      entity = c.self.inside.entity;
-      autodispose = c.self.inside.autodispose;
-      destinations = c.self.inside.destinations.items;
-      readers = c.self.inside.readers.items;
-      writer = c.self.inside.writer;
-    } in
+    let kept : WriterKept =
+    kept_as c.self.inside.entity c.self.inside.autodispose c.self.inside.destinations.items c.self.inside.readers.items
+    c.self.inside.writer in
     let beat : Beat = record { prefix = c.args.prefix; entity = c.self.inside.entity; due = c.in-Some.due; asserts = true } in
     let sent = c.send_to_all.result in
     let here = stands_there kept c.args.self.now w answered c.self.view_is s in

@@ -11,6 +11,7 @@ use Rattle.dds_core.specs.declared.matching.ReaderName.{ReaderName}
 use Rattle.dds_core.specs.Answering.{AreAnswerable, TakesAckNack}
 use Rattle.dds_core.specs.Kept.{WriterKept}
 use Rattle.dds_core.specs.Standing.{AreShort}
+use Rattle.dds_core.proofs.WriterEnds.{kept_as}
 use Rattle.dds_core.proofs.Replies.{acknack_taken, after-changes, answerable, few_answers}
 use Rattle.dds_core.proofs.writer_end.WriterEnd.take_acknack.Goals as goal
 
@@ -44,13 +45,9 @@ invariant_of-self c =
 
 pub returns-clause-takes : goal.returns-clause-takes
 returns-clause-takes c =
-    let old : WriterKept = record {
-      entity = c.self.inside.entity;
-      autodispose = c.self.inside.autodispose;
-      destinations = c.self.inside.destinations.items;
-      readers = c.self.inside.readers.items;
-      writer = c.self.inside.writer;
-    } in
+    let old : WriterKept =
+    kept_as c.self.inside.entity c.self.inside.autodispose c.self.inside.destinations.items c.self.inside.readers.items
+    c.self.inside.writer in
     let within : c.args.row < length c.self.inside.readers.items = let row = c.requires.row in let same = ap (λ (k : WriterKept). length k.readers) c.self.view_is in omega (arith, row, same) in
     subst (λ (k : WriterKept). TakesAckNack k c.args.prefix c.args.row c.args.body.now c.args.sent.now (record old { writer = c.take_acknack-acknowledged.new.self }) c.take_acknack-acknowledged.result.acknowledged c.send_answers.new.sent) c.self.view_is
     (acknack_taken old c.args.prefix c.args.row c.args.body.now c.args.sent.now c.take_acknack-acknowledged.new.self c.take_acknack-acknowledged.result.acknowledged c.send_answers.new.sent _ _ c.as_slice.result.now

@@ -9,7 +9,7 @@ use Rattle.dds_core.specs.Beating.{Adds, beats_of, beats_to}
 use Rattle.dds_core.specs.Kept.{WriterKept}
 use Rattle.dds_core.specs.Standing.{state_of}
 use Rattle.dds_core.proofs.Beating.{adds_none, beats_are, beats_none, valid_due}
-use Rattle.dds_core.proofs.WriterEnds.{stands_there, ticks}
+use Rattle.dds_core.proofs.WriterEnds.{kept_as, stands_there, ticks}
 use Rattle.dds_core.proofs.writer_end.WriterEnd.tick.Goals as goal
 
 pub send_beats-requires-clause-valid : goal.send_beats-requires-clause-valid
@@ -34,13 +34,9 @@ pub returns-clause-beats : goal.returns-clause-beats
 returns-clause-beats c = λ w answered s.
     let old = c.args.sent.now in
     let new = c.send_beats.new.sent in
-    let kept : WriterKept = record {
-      entity = c.self.inside.entity;
-      autodispose = c.self.inside.autodispose;
-      destinations = c.self.inside.destinations.items;
-      readers = c.self.inside.readers.items;
-      writer = c.self.inside.writer;
-    } in
+    let kept : WriterKept =
+    kept_as c.self.inside.entity c.self.inside.autodispose c.self.inside.destinations.items c.self.inside.readers.items
+    c.self.inside.writer in
     let beat : Beat = record { prefix = c.args.prefix; entity = c.self.inside.entity; due = c.in-Some.due; asserts = false } in
     let here = stands_there kept c.args.self.now w answered c.self.view_is s in
     let after = (ticks _ c.args.self.now c.args.now c.tick.new.self c.self.view_is c.tick.ensures.stands).stands w answered s in
