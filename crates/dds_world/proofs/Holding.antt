@@ -233,25 +233,52 @@ module _ {F L : Type 0} (notices : L → List Notice) (capacity : L → ℕ) whe
       subst (λ (n : ℕ). RefusesListener notices capacity old n entity listener code) next
       (inr ((omega arith, omega (arith, low)), λ config network s. refused config (get_or network.peers i no_peer) (core_stands old i core config network low here s)))
 
-  -- what a peer answers is what its network does
-  pub add_at : (old : Held F L) (i peer : ℕ) (filter : F) (core after : CoreKept F L) (result : Result ℕ (Code × F)) (new : Held F L) → peer ≡ i + 1 → i < length old.cores
-      → core ≡ get_or old.cores i core → new ≡ record old { cores = set old.cores i after } → IfOk result (λ number. CoreAdds notices capacity core filter number after)
-      → IfOk result (λ number. Adds notices capacity old peer filter number new)
-  add_at old i peer filter core after result new is low here same = ok_as result (λ number. adds_at old i peer filter number core after new is low here same)
+  -- an index below the number of peers is one of those that are kept
+  below_count : (old now : Held F L) (i count : ℕ) → old ≡ now → i < count → count ≡ length now.cores
+      → i < length old.cores
+  below_count old now i count view low counted =
+      let same = ap (λ (k : Held F L). length k.cores) view in omega (arith, same, low, counted)
 
-  pub refuse_at : (old : Held F L) (i peer : ℕ) (core : CoreKept F L) (result : Result ℕ (Code × F)) → peer ≡ i + 1 → i < length old.cores → core ≡ get_or old.cores i core
-      → IfErr result (λ e. CoreRefuses notices capacity core e.0) → IfErr result (λ e. RefusesFilter notices capacity old peer e.0)
-  refuse_at old i peer core result is low here = err_as result (λ e. refused_at old i peer core e.0 is low here)
+  -- what a peer answers is what its network does, which is open
+  pub add_at : (old now : Held F L) (i peer count : ℕ) (filter : F) (core after : CoreKept F L)
+      (result : Result ℕ (Code × F)) (new : Held F L) → old ≡ now → peer ≡ i + 1 → i < count → count ≡ length now.cores
+      → core ≡ get_or old.cores i core → new ≡ record old { cores = set old.cores i after }
+      → IfOk result (λ number. CoreAdds notices capacity core filter number after)
+      → IfOk result (λ number. Adds notices capacity now peer filter number new)
+  add_at old now i peer count filter core after result new view is low counted here same h =
+      subst (λ (k : Held F L). IfOk result (λ number. Adds notices capacity k peer filter number new)) view
+      (ok_as result (λ number. adds_at old i peer filter number core after new is
+      (below_count old now i count view low counted) here same) h)
 
-  pub set_at : (old : Held F L) (i peer : ℕ) (entity : Entity) (mask : StatusMask) (listener : Option L) (core after : CoreKept F L) (result : Result (Option L) (Code × Option L)) (new : Held F L)
-      → peer ≡ i + 1 → i < length old.cores → core ≡ get_or old.cores i core → new ≡ record old { cores = set old.cores i after }
-      → IfOk result (λ handed. CoreSets notices capacity core entity mask listener handed after) → IfOk result (λ handed. Sets notices capacity old peer entity mask listener handed new)
-  set_at old i peer entity mask listener core after result new is low here same = ok_as result (λ handed. sets_at old i peer entity mask listener handed core after new is low here same)
+  pub refuse_at : (old now : Held F L) (i peer count : ℕ) (core : CoreKept F L) (result : Result ℕ (Code × F))
+      → old ≡ now → peer ≡ i + 1 → i < count → count ≡ length now.cores → core ≡ get_or old.cores i core
+      → IfErr result (λ e. CoreRefuses notices capacity core e.0)
+      → IfErr result (λ e. RefusesFilter notices capacity now peer e.0)
+  refuse_at old now i peer count core result view is low counted here h =
+      subst (λ (k : Held F L). IfErr result (λ e. RefusesFilter notices capacity k peer e.0)) view
+      (err_as result (λ e. refused_at old i peer core e.0 is (below_count old now i count view low counted) here) h)
 
-  pub not_set_at : (old : Held F L) (i peer : ℕ) (entity : Entity) (listener : Option L) (core : CoreKept F L) (result : Result (Option L) (Code × Option L))
-      → peer ≡ i + 1 → i < length old.cores → core ≡ get_or old.cores i core → IfErr result (λ e. CoreRefusesListener notices capacity core entity listener e.0)
-      → IfErr result (λ e. RefusesListener notices capacity old peer entity listener e.0)
-  not_set_at old i peer entity listener core result is low here = err_as result (λ e. unset_at old i peer entity listener core e.0 is low here)
+  pub set_at : (old now : Held F L) (i peer count : ℕ) (entity : Entity) (mask : StatusMask) (listener : Option L)
+      (core after : CoreKept F L) (result : Result (Option L) (Code × Option L)) (new : Held F L)
+      → old ≡ now → peer ≡ i + 1 → i < count → count ≡ length now.cores → core ≡ get_or old.cores i core
+      → new ≡ record old { cores = set old.cores i after }
+      → IfOk result (λ handed. CoreSets notices capacity core entity mask listener handed after)
+      → IfOk result (λ handed. Sets notices capacity now peer entity mask listener handed new)
+  set_at old now i peer count entity mask listener core after result new view is low counted here same h =
+      subst (λ (k : Held F L). IfOk result (λ handed. Sets notices capacity k peer entity mask listener handed new))
+      view
+      (ok_as result (λ handed. sets_at old i peer entity mask listener handed core after new is
+      (below_count old now i count view low counted) here same) h)
+
+  pub not_set_at : (old now : Held F L) (i peer count : ℕ) (entity : Entity) (listener : Option L) (core : CoreKept F L)
+      (result : Result (Option L) (Code × Option L)) → old ≡ now → peer ≡ i + 1 → i < count → count ≡ length now.cores
+      → core ≡ get_or old.cores i core
+      → IfErr result (λ e. CoreRefusesListener notices capacity core entity listener e.0)
+      → IfErr result (λ e. RefusesListener notices capacity now peer entity listener e.0)
+  not_set_at old now i peer count entity listener core result view is low counted here h =
+      subst (λ (k : Held F L). IfErr result (λ e. RefusesListener notices capacity k peer entity listener e.0)) view
+      (err_as result (λ e. unset_at old i peer entity listener core e.0 is
+      (below_count old now i count view low counted) here) h)
 
 -- ---- events as steps
 
