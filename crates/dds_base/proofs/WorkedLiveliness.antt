@@ -1,7 +1,6 @@
 -- What the definitions of liveliness give on small lists of what happened, computed.
-use Rattle.std.proofs.Common.{◌≡◌, ℕ, List, [], ◌∷◌, false, refl, Some, None, Option}
+use Rattle.std.proofs.Common.{◌≡◌, ℕ, [], ◌∷◌, false, refl, Some, None, Option}
 use Rattle.std.specs.Prelude.{ℤ, pos, negsuc}
-use Rattle.dds_base.specs.declared.key.Key.{Key}
 use Rattle.dds_base.specs.declared.change.Change.{Change}
 use Rattle.dds_base.specs.declared.change.ChangeKind.TheVariants.{Write}
 use Rattle.dds_base.specs.declared.happening.Happening.{Happening}
@@ -13,7 +12,7 @@ use Rattle.dds_base.specs.declared.qos.OwnershipQos.TheVariants.{Shared}
 use Rattle.dds_base.specs.declared.qos.HistoryQos.TheVariants.{KeepAll}
 use Rattle.dds_base.specs.declared.status.LivelinessChangedStatus.{LivelinessChangedStatus}
 use Rattle.dds_base.specs.Liveliness.{dead_at, after_deaths, liveliness_changed_status}
-use Rattle.dds_base.specs.Written.{Written, Changed, Asserted, LookedAt, Ticked, liveliness_lost_status}
+use Rattle.dds_base.specs.Written.{Changed, Asserted, LookedAt, Ticked, liveliness_lost_status}
 
 abbrev leased : Option ℕ → MatchedWriter
 leased lease = record {

@@ -1,7 +1,7 @@
 -- Which matched writers are alive at a reader, when their leases run out, and what LIVELINESS_CHANGED says.
 --
 -- DDS 1.4, 2.2.3 (LIVELINESS), 2.2.4.1 (LIVELINESS_CHANGED).
-use Rattle.std.specs.Prelude.{ℕ, ◌+◌, ℤ, pos, ◌-ℤ◌, List, [], ◌∷◌, Bool, true, false, ◌&&◌, ◌==◌, not, Option, None, Some, is_some, if◌then◌else◌, filter, count_by}
+use Rattle.std.specs.Prelude.{ℕ, pos, ◌-ℤ◌, List, [], ◌∷◌, Bool, false, ◌&&◌, ◌==◌, not, Option, None, Some, is_some, if◌then◌else◌, filter, count_by}
 use Rattle.std.specs.List.{list_any}
 use Rattle.dds_base.specs.declared.happening.Happening.{Happening}
 use Rattle.dds_base.specs.declared.happening.Happening.TheVariants.{Came, Heard, Died}

@@ -16,6 +16,7 @@ use crate::field::{take_octets, take_u32};
 use crate::key::Key;
 use crate::octets::Octets;
 use std::alloc::Global;
+use std::marker::Model;
 
 /// The longest value, in octets.
 pub const MAX_VALUE: usize = 1024;
@@ -26,6 +27,44 @@ pub struct Datum {
     pub key: Key,
     /// At most `MAX_VALUE` octets, where it has a written form.
     pub value: Octets,
+}
+
+/// A datum whose value is lent: by the bytes in which it was read, or by whoever keeps it. Contracts see the datum.
+#[derive(Debug, Drop)]
+pub struct DatumRef<'a> {
+    key: Key,
+    value: &'a [u8],
+}
+
+impl<'a> Model for DatumRef<'a> {
+    ghost use Rattle.dds_base.specs.declared.datum.Datum.{Datum};
+
+    ghost Value = { Datum };
+
+    ghost view = { λ d. record { key = d.key; value = d.value.now } };
+}
+
+impl<'a> DatumRef<'a> {
+    /// The datum of this key and this value. Takes no memory.
+    pub fn new(key: Key, value: &'a [u8]) -> DatumRef<'a>
+        ensures datum { result ≡ record { key = key; value = value.now } }
+    {
+        DatumRef { key, value }
+    }
+
+    /// The key of its instance.
+    pub fn key(&self) -> Key
+        ensures key { result ≡ self.now.key }
+    {
+        self.key
+    }
+
+    /// The value, as it is lent.
+    pub fn value(&self) -> &[u8]
+        ensures value { result.now ≡ self.now.value }
+    {
+        self.value
+    }
 }
 
 /// The representation and its two option octets.
@@ -51,10 +90,10 @@ pub fn take_key(bytes: &[u8]) -> Option<(Key, &[u8])>
     Some((Key(key), rest))
 }
 
-/// The key and the value of the datum that the bytes begin with.
+/// The datum that the bytes begin with.
 #[tactic(auto, unfolding(crate::specs::DatumAt::datum_at))]
-fn datum_parts(bytes: &[u8]) -> Option<(Key, &[u8])>
-    ensures { option_map (λ x. record { key = x.0; value = x.1.now }) result ≡ datum_at bytes.now }
+fn datum_ref_of(bytes: &[u8]) -> Option<DatumRef<'_>>
+    ensures { result ≡ datum_at bytes.now }
 {
     let (order, rest) = take_representation(bytes)?;
     let (key, rest) = take_key(rest)?;
@@ -64,20 +103,21 @@ fn datum_parts(bytes: &[u8]) -> Option<(Key, &[u8])>
         return None;
     }
     let (value, _) = take_octets(rest, count)?;
-    Some((key, value))
+    Some(DatumRef::new(key, value))
 }
 
 fn datum_of(alloc: Global, bytes: &[u8]) -> Result<Option<Datum>, Code>
     ensures exact { MatchResult result (λ read. read ≡ datum_at bytes.now) (λ e. e ≡ Code.Memory) }
     ensures memory { IfErr result (λ e. (d : Datum) × (datum_at bytes.now ≡ Some d) × (d.value ≢ [])) }
 {
-    let Some((key, value)) = datum_parts(bytes) else {
+    let Some(datum) = datum_ref_of(bytes) else {
         return Ok(None);
     };
+    let value = datum.value();
     let mut octets = Vec::with_capacity(alloc, value.len())?;
     octets.extend_from_slice(value)?;
     Ok(Some(Datum {
-        key,
+        key: datum.key(),
         value: Octets::from_vec(octets),
     }))
 }
@@ -85,8 +125,8 @@ fn datum_of(alloc: Global, bytes: &[u8]) -> Result<Option<Datum>, Code>
 fn datum_key_of(bytes: &[u8]) -> Option<Key>
     ensures { result ≡ option_map (λ d. d.key) (datum_at bytes.now) }
 {
-    let (key, _) = datum_parts(bytes)?;
-    Some(key)
+    let datum = datum_ref_of(bytes)?;
+    Some(datum.key())
 }
 
 #[tactic(auto, unfolding(crate::specs::DatumAt::key_form_at))]
@@ -118,6 +158,22 @@ pub fn decode_datum(alloc: Global, bytes: &[u8]) -> Result<Option<Datum>, Code>
     ensures memory { IfErr result (λ e. (d : Datum) × ReadsDatum bytes.now d × (d.value ≢ [])) }
 {
     datum_of(alloc, bytes)
+}
+
+/// The datum that the bytes begin with, in either order of bytes; they lend its value. `None` where they begin with none.
+///
+/// What follows the datum is not looked at. Takes no memory.
+///
+/// RTPS 2.5, clause 10.
+pub fn decode_datum_ref(bytes: &[u8]) -> Option<DatumRef<'_>>
+    // What is read is spelled so.
+    ensures found { IfSome result (λ d. ReadsDatum bytes.now d) }
+    // What is spelled so is read, and nothing else.
+    ensures only { (d : Datum) → ReadsDatum bytes.now d → result ≡ Some d }
+    // Which of the two, in one step.
+    ensures exact { result ≡ datum_at bytes.now }
+{
+    datum_ref_of(bytes)
 }
 
 /// The key of the datum that the bytes begin with. `None` where they begin with none.

@@ -35,8 +35,8 @@ pub use code::Code;
 pub use config::{Config, PeerConfig, ReaderConfig, WriterConfig};
 pub use config_fault::{ConfigFault, ConfigPlace, ConfigRule};
 pub use datum::{
-    Datum, MAX_VALUE, decode_datum, decode_datum_key, decode_key, encode_datum, encode_key,
-    take_key,
+    Datum, DatumRef, MAX_VALUE, decode_datum, decode_datum_key, decode_datum_ref, decode_key,
+    encode_datum, encode_key, take_key,
 };
 pub use endianness::Endianness;
 pub use entity::Entity;
