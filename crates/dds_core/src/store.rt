@@ -53,6 +53,7 @@ impl Store {
     pub fn open(alloc: Global, qos: ReaderQos) -> Result<Store, Code>
         ensures opening { IfOk result (λ store. Holds store []) }
         ensures qos { IfOk result (λ store. qos_of store.cache ≡ qos) }
+        ensures memory { IfErr result (λ code. code ≡ Memory) }
     {
         let leases = Leases::open(alloc, &qos)?;
         Ok(Store {

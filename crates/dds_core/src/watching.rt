@@ -130,6 +130,7 @@ impl Peer {
     /// The number of the next filter.
     pub(crate) fn next_filter(&self) -> Result<u32, Code>
         ensures taken { OnOk result (filter_refusal self.now.watch ≡ None) }
+        ensures number { IfOk result (λ number. number ≡ self.now.watch.filters + 1) }
         ensures refused { IfErr result (λ code. filter_refusal self.now.watch ≡ Some code) }
     {
         self.watch.next_filter()
