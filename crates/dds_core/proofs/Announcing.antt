@@ -1,7 +1,5 @@
 -- The packets that announce a change.
 use Rattle.std.proofs.Common.{◌≡◌, ℕ, ◌+◌, ◌^◌, ◌<◌, ◌≤◌, List, [], ◌∷◌, ◌++◌, Some, set, take, length, get_or, refl, ap, sym, ◌∙◌, subst, arith, inl, inr, ⊎_elim, length-append, length-set}
-use Rattle.std.specs.Prelude.{Result, Ok, Err}
-use Rattle.std.specs.declared.alloc.AllocError.{AllocError}
 use Rattle.std.proofs.lemmas.List.{set-set, take_more}
 use Rattle.dds_base.specs.declared.guid.GuidPrefix.{GuidPrefix}
 use Rattle.rtps_wire.specs.declared.data.DataContent.{DataContent}
@@ -14,18 +12,17 @@ use Rattle.rtps_wire.proofs.LengthLaws.{short_writable}
 use Rattle.dds_model.specs.declared.event.Packet.{Packet}
 use Rattle.dds_core.specs.declared.matching.Destination.{Destination}
 use Rattle.dds_core.specs.declared.sending.Sender.{Sender}
-use Rattle.dds_core.specs.Sending.{announcement, IsAnnouncement, AreAnnouncements, Announces, AnnouncesCopy, AnnounceCopy, IsAddressable, AddsPacket}
+use Rattle.dds_core.specs.Sending.{announcement, IsAnnouncement, AreAnnouncements, Announces, IsAddressable, AddsPacket}
 
 abbrev message_with : GuidPrefix → List Submessage → Message
 message_with prefix submessages = record { prefix = prefix; submessages = submessages }
 
 -- the submessages of an announcement, by the units of its moment
-pub says_so : (sender : Sender) (number : ℕ) (content : Result DataContent AllocError) (c : DataContent) (to : GuidPrefix) (units : ℕ) (submessages : List Submessage) → content ≡ Ok c → units ≡ sender.moment
+pub says_so : (sender : Sender) (number : ℕ) (c : DataContent) (to : GuidPrefix) (units : ℕ) (submessages : List Submessage) → units ≡ sender.moment
     → submessages ≡ InfoDst to ∷ InfoTs (Some units) ∷ Data (record { reader_id = record { 0 = 0 ∷ 0 ∷ 0 ∷ 0 ∷ [] }; writer_id = sender.entity; writer_sn = number; content = c }) ∷ []
-    → AnnouncesCopy sender number content (message_with sender.prefix submessages)
-says_so sender number content c to units submessages is same all =
+    → Announces sender number c (message_with sender.prefix submessages)
+says_so sender number c to units submessages same all =
     let rest : ℕ → List Submessage = λ n. InfoDst to ∷ InfoTs (Some n) ∷ Data (record { reader_id = record { 0 = 0 ∷ 0 ∷ 0 ∷ 0 ∷ [] }; writer_id = sender.entity; writer_sn = number; content = c }) ∷ [] in
-    subst (λ (r : Result DataContent AllocError). AnnouncesCopy sender number r (message_with sender.prefix submessages)) (sym is)
     (record { peer = 0; prefix = to }, ap (λ (ss : List Submessage). message_with sender.prefix ss) (all ∙ ap rest same))
 
 -- an announcement can be written
@@ -42,9 +39,8 @@ writable_so sender number c to units submessages prefix entity moment valid firs
 pub addressable_again : (m : Message) (to : GuidPrefix) → IsAddressable m → IsAddressable (message_with m.prefix (set m.submessages 0 (InfoDst to)))
 addressable_again m to can other of_other = subst (λ (ss : List Submessage). IsWritable (message_with m.prefix ss)) (sym (set-set m.submessages 0 (InfoDst to) (InfoDst other))) (can other of_other)
 
-pub says_again : (sender : Sender) (number : ℕ) (content : Result DataContent AllocError) (m : Message) (to : GuidPrefix) → AnnouncesCopy sender number content m → AnnouncesCopy sender number content (message_with m.prefix (set m.submessages 0 (InfoDst to)))
-says_again sender number (Ok c) m to h = (record { peer = 0; prefix = to }, ap (λ (x : Message). message_with x.prefix (set x.submessages 0 (InfoDst to))) h.1)
-says_again sender number (Err e) m to h = absurd h
+pub says_again : (sender : Sender) (number : ℕ) (c : DataContent) (m : Message) (to : GuidPrefix) → Announces sender number c m → Announces sender number c (message_with m.prefix (set m.submessages 0 (InfoDst to)))
+says_again sender number c m to h = (record { peer = 0; prefix = to }, ap (λ (x : Message). message_with x.prefix (set x.submessages 0 (InfoDst to))) h.1)
 
 -- one more destination, to which a packet went or not
 
@@ -69,13 +65,12 @@ announces_one sender number c m d before after ds says can (inr more) h =
     record { to_is = refl; writable = subst (λ (x : Message). IsWritable x) is can; bytes = ap spelling_of is } in
     subst (λ (ps : List Packet). AreAnnouncements sender number c (ds ++ d ∷ []) ps) (sym more) (add_one sender number c ds before d _ h one)
 
-pub announces_more : (sender : Sender) (number : ℕ) (content : Result DataContent AllocError) (m m' : Message) (d : Destination) (before after : List Packet) (ds : List Destination) (i : ℕ) → i < length ds → AnnouncesCopy sender number content m
-    → m' ≡ message_with m.prefix (set m.submessages 0 (InfoDst (get_or ds i d).prefix)) → IsWritable m' → AddsPacket before m' (get_or ds i d).peer after → AnnounceCopy sender number content (take i ds) before
-    → AnnounceCopy sender number content (take (i + 1) ds) after
-announces_more sender number (Ok c) m m' d before after ds i lt says is can adds h =
+pub announces_more : (sender : Sender) (number : ℕ) (c : DataContent) (m m' : Message) (d : Destination) (before after : List Packet) (ds : List Destination) (i : ℕ) → i < length ds → Announces sender number c m
+    → m' ≡ message_with m.prefix (set m.submessages 0 (InfoDst (get_or ds i d).prefix)) → IsWritable m' → AddsPacket before m' (get_or ds i d).peer after → AreAnnouncements sender number c (take i ds) before
+    → AreAnnouncements sender number c (take (i + 1) ds) after
+announces_more sender number c m m' d before after ds i lt says is can adds h =
     subst (λ (es : List Destination). AreAnnouncements sender number c es after) (sym (take_more ds i d lt))
     (announces_one sender number c m (get_or ds i d) before after (take i ds) says (subst (λ (x : Message). IsWritable x) is can) (subst (λ (x : Message). AddsPacket before x (get_or ds i d).peer after) is adds) h)
-announces_more sender number (Err e) m m' d before after ds i lt says is can adds h = absurd says
 
 pub few_more : (before after : List Packet) (m : Message) (to i : ℕ) → AddsPacket before m to after → length before ≤ i → length after ≤ i + 1
 few_more before after m to i (inl same) few = let count = ap (λ (ps : List Packet). length ps) same in omega (arith, count, few)

@@ -1,7 +1,6 @@
 -- A change of one of the peer's writers is made and announced, or refused.
 use Rattle.std.proofs.Common.{◌≡◌, ℕ, zero, suc, ◌+◌, ◌-◌, ◌<◌, true, List, [], ◌∷◌, ◌++◌, Some, None, map, set, length, slice_get, refl, ap, sym, ◌∙◌, subst, arith, get_or-set_same}
-use Rattle.std.specs.Prelude.{nat_lt, if◌then◌else◌, Option, ℤ, Result, Ok, Err, IfOk}
-use Rattle.std.specs.declared.alloc.AllocError.{AllocError}
+use Rattle.std.specs.Prelude.{nat_lt, if◌then◌else◌, Option, ℤ}
 use Rattle.std.proofs.lemmas.Bool.Decides.{nat_tests}
 use Rattle.std.proofs.lemmas.Option.{same_Some}
 use Rattle.dds_base.specs.declared.change.Change.{Change}
@@ -10,10 +9,9 @@ use Rattle.dds_base.specs.declared.code.Code.{Code}
 use Rattle.dds_base.specs.declared.config.Config.{Config}
 use Rattle.dds_base.specs.declared.config.WriterConfig.{WriterConfig}
 use Rattle.dds_base.specs.declared.key.Key.{Key}
-use Rattle.dds_base.specs.Kept.{change_at, append_refusal}
+use Rattle.dds_base.specs.Kept.{WriterHistory, change_at, kept_change, append_refusal}
 use Rattle.dds_base.specs.Refusal.{Refuses}
 use Rattle.dds_base.specs.Written.{Changed, changes_of}
-use Rattle.rtps_wire.specs.declared.data.DataContent.{DataContent}
 use Rattle.rtps_wire.specs.Content.{content_of, change_in}
 use Rattle.rtps_wire.proofs.ContentLaws.{change_in-content_of}
 use Rattle.dds_model.specs.declared.endpoint.Endpoint.{Endpoint}
@@ -30,7 +28,7 @@ use Rattle.dds_core.specs.declared.matching.Destination.{Destination}
 use Rattle.dds_core.specs.declared.sending.Sender.{Sender}
 use Rattle.dds_core.specs.Kept.{WriterKept, PeerKept, WriterIdentity, writer_identity, configured_writer, identity_of, IsPeerOf}
 use Rattle.dds_core.specs.Making.{IsMade, IsNotMade, IsValueOf, entered}
-use Rattle.dds_core.specs.Sending.{AreAnnouncements, AnnounceCopy, AnnouncesAll, SendsChange}
+use Rattle.dds_core.specs.Sending.{AreAnnouncements, AnnouncesAll, AnnouncesKept, AnnouncesOf, SendsChange}
 use Rattle.dds_core.specs.Standing.{WriterStands, StandsFor, Enters}
 use Rattle.dds_core.specs.declared.matching.ReaderName.{ReaderName}
 use Rattle.dds_core.proofs.BeatsDue.{IsNamed, named, named_again}
@@ -39,6 +37,7 @@ use Rattle.dds_core.proofs.Destinations.{ends_of_names, reader_ends}
 use Rattle.dds_core.proofs.Ends.{with_writer, own_writer_stepped, unchanged_with}
 use Rattle.dds_core.proofs.Tellable.{tellable_entered}
 use Rattle.dds_core.proofs.Lists.{get-map, map-get, get-within}
+use Rattle.dds_core.proofs.Replies.{kept_there}
 use Rattle.dds_core.proofs.Sent.{IsOnly, IsThere, IsMatched, sends_change, sent_true}
 
 -- the last change of a list
@@ -83,22 +82,24 @@ own_writer_is config number kept is i k at =
       same_topic = refl;
     }
 
--- what was announced, whether or not it could be copied
-announced_so : (sender : Sender) (number : ℕ) (content : Result DataContent AllocError) (c : DataContent) (ds : List Destination) (packets : List Packet) → IfOk content (λ x. x ≡ c) → AnnounceCopy sender number content ds packets
-    → AreAnnouncements sender number c ds packets
-announced_so sender number (Ok x) c ds packets same h = subst (λ (y : DataContent). AreAnnouncements sender number y ds packets) same h
-announced_so sender number (Err e) c ds packets same h = subst (λ (ps : List Packet). AreAnnouncements sender number c ds ps) (sym h) tt
+-- what is kept of the change that was made last is that change
+kept_last : (w : WriterHistory) (number : ℕ) (change : Change) → change_at w.changes number ≡ Some change → (o : Option Change) → kept_change w number ≡ o
+    → (sender : Sender) (ds : List Destination) (packets : List Packet) → AnnouncesKept sender number o ds packets → AreAnnouncements sender number (content_of change) ds packets
+kept_last w number change last None is sender ds packets none = subst (λ (ps : List Packet). AreAnnouncements sender number (content_of change) ds ps) (sym none) tt
+kept_last w number change last (Some x) is sender ds packets h =
+    let same : x ≡ change = same_Some x change (sym (kept_there w number x is) ∙ last) in
+    subst (λ (y : Change). AreAnnouncements sender number (content_of y) ds packets) same h
 
 abbrev pub made_by : ChangeKind → Key → List ℕ → ℕ → Change
 made_by kind key value moment = record { kind = kind; key = key; value = value; source_timestamp = moment }
 
 -- the change is made
-made_there : (old : PeerKept) (i : ℕ) (k k' : WriterKept) (kind : ChangeKind) (key : Key) (value : List ℕ) (number : ℕ) (content : Result DataContent AllocError) (output : Output) (config : Config) (peer : Peer) → StandsFor old config peer
+made_there : (old : PeerKept) (i : ℕ) (k k' : WriterKept) (kind : ChangeKind) (key : Key) (value : List ℕ) (number : ℕ) (output : Output) (config : Config) (peer : Peer) → StandsFor old config peer
     → slice_get old.writers i ≡ Some k → Enters k (Changed (made_by kind key value old.moment)) k'
     → ((w : Writer) (answered : Endpoint → Option ℤ) → WriterStands k w answered → (append_refusal (history_of w) (made_by kind key value old.moment) ≡ None) × (number ≡ length (writer_changes w) + 1)) → IsValueOf kind value
-    → IfOk content (λ c. c ≡ content_of (made_by kind key value old.moment)) → output.reply ≡ Done → AnnouncesAll (with_writer old i k') i number content output
+    → output.reply ≡ Done → AnnouncesAll (with_writer old i k') i number output
     → IsMade config peer (suc i) (made_by kind key value old.moment) output (with_writer old i k')
-made_there old i k k' kind key value number content output config peer s at enters accepts valued copied reply all =
+made_there old i k k' kind key value number output config peer s at enters accepts valued reply all =
     let change : Change = made_by kind key value old.moment in
     let w : Writer = own_writer peer.part (suc i) in
     let ws : WriterStands k w (peer.known.answered (suc i)) = s.writers.each i k at in
@@ -110,10 +111,15 @@ made_there old i k k' kind key value number content output config peer s at ente
     let at_new : slice_get new.writers i ≡ Some k' = set_get old.writers i k k' at in
     let is_k : all.writer ≡ k' = same_Some all.writer k' (sym all.at ∙ at_new) in
     let sender : Sender = record { prefix = old.prefix; entity = k'.entity; moment = old.moment } in
-    let packets : AnnounceCopy sender number content k'.destinations output.packets =
-    subst (λ (x : WriterKept). AnnounceCopy (record { prefix = old.prefix; entity = x.entity; moment = old.moment }) number content x.destinations output.packets) is_k all.packets in
     let counted = subst (λ (x : WriterKept). length output.packets + output.unsent ≡ length x.destinations) is_k all.counted in
-    let are : AreAnnouncements sender number (content_of change) k'.destinations output.packets = announced_so sender number content (content_of change) k'.destinations output.packets copied packets in
+    let of_k : AnnouncesOf old.prefix old.moment k' number output.packets =
+    subst (λ (x : WriterKept). AnnouncesOf old.prefix old.moment x number output.packets) is_k all.packets in
+    let now : Writer = with_written w (Changed change) in
+    let last : change_at (changes_of now.written) number ≡ Some change =
+    ap (λ (n : ℕ). change_at (changes_of w.written ++ change ∷ []) n) a.1 ∙ change_at-last (changes_of w.written) change in
+    let are : AreAnnouncements sender number (content_of change) k'.destinations output.packets =
+    kept_last (history_of now) number change last (kept_change (history_of now) number) refl sender k'.destinations output.packets
+    (of_k now (peer.known.answered (suc i)) (enters.stands w (peer.known.answered (suc i)) ws)) in
     let own : IsOwnWriter config new peer.number i k' = own_writer_is config peer.number new stands.is_peer i k' at_new in
     let endpoint : Endpoint = record { peer = peer.number; number = suc i } in
     let names : map (λ (p : ReaderProxy). p.reader) w.readers ≡ reader_ends own.end.topic config.peers =
@@ -143,16 +149,16 @@ made_there old i k k' kind key value number content output config peer s at ente
     }
 
 -- the same, by the moment of the part
-pub made : (old : PeerKept) (i : ℕ) (k k' : WriterKept) (kind : ChangeKind) (key : Key) (value : List ℕ) (number : ℕ) (content : Result DataContent AllocError) (output : Output) (config : Config) (peer : Peer) → StandsFor old config peer
+pub made : (old : PeerKept) (i : ℕ) (k k' : WriterKept) (kind : ChangeKind) (key : Key) (value : List ℕ) (number : ℕ) (output : Output) (config : Config) (peer : Peer) → StandsFor old config peer
     → slice_get old.writers i ≡ Some k → Enters k (Changed (made_by kind key value old.moment)) k'
     → ((w : Writer) (answered : Endpoint → Option ℤ) → WriterStands k w answered → (append_refusal (history_of w) (made_by kind key value old.moment) ≡ None) × (number ≡ length (writer_changes w) + 1)) → IsValueOf kind value
-    → IfOk content (λ c. c ≡ content_of (made_by kind key value old.moment)) → output.reply ≡ Done → AnnouncesAll (with_writer old i k') i number content output
+    → output.reply ≡ Done → AnnouncesAll (with_writer old i k') i number output
     → IsMade config peer (i + 1) (change_made peer.part kind key value) output (with_writer old i k')
-made old i k k' kind key value number content output config peer s at enters accepts valued copied reply all =
+made old i k k' kind key value number output config peer s at enters accepts valued reply all =
     let index : i + 1 ≡ suc i = omega arith in
     subst (λ (n : ℕ). IsMade config peer n (change_made peer.part kind key value) output (with_writer old i k')) (sym index)
     (subst (λ (m : ℕ). IsMade config peer (suc i) (made_by kind key value m) output (with_writer old i k')) (sym s.moment)
-    (made_there old i k k' kind key value number content output config peer s at enters accepts valued copied reply all))
+    (made_there old i k k' kind key value number output config peer s at enters accepts valued reply all))
 
 -- the change is refused
 pub not_made : (old : PeerKept) (i : ℕ) (k k' : WriterKept) (kind : ChangeKind) (key : Key) (value : List ℕ) (code : Code) (output : Output) (config : Config) (peer : Peer) → StandsFor old config peer → slice_get old.writers i ≡ Some k → k' ≡ k

@@ -1,9 +1,11 @@
 -- The answers of a writer, and the messages with them.
-use Rattle.std.proofs.Common.{◌≡◌, ℕ, zero, suc, ◌+◌, ◌-◌, ◌^◌, ◌<◌, ◌≤◌, Bool, true, false, List, [], ◌∷◌, ◌++◌, Option, Some, None, map, take, length, get_or, slice_get, refl, ap, sym, ◌∙◌, subst, arith, ⊎_elim, length-append, append_assoc, append-nil, nat_lt, ◌==◌, ◌&&◌, not, cond, filter, min}
+use Rattle.std.proofs.Common.{◌≡◌, ℕ, zero, suc, ◌+◌, ◌-◌, ◌^◌, ◌<◌, ◌≤◌, Bool, true, false, List, [], ◌∷◌, ◌++◌, Option, Some, None, map, take, length, get_or, slice_get, refl, ap, sym, ◌∙◌, subst, arith, ⊎_elim, length-append, append_assoc, append-nil, nat_lt, ◌==◌, ◌&&◌, not, min}
 use Rattle.std.specs.Prelude.{ℤ, if◌then◌else◌, is_some, nat_le, slice_index_or}
 use Rattle.std.specs.List.{All, AllByRecursion, flat_map}
 use Rattle.std.proofs.lemmas.Bool.Decides.{nat_tests}
+use Rattle.std.proofs.lemmas.Grind.{flat_map-append}
 use Rattle.std.proofs.lemmas.List.{take_more}
+use Rattle.std.proofs.lemmas.List.Concat.{flat_map-cons}
 use Rattle.std.proofs.lemmas.List.Elements.{All-nil, All-tail, All-weaker}
 use Rattle.std.proofs.lemmas.Option.{same_Some, slice_get-get_or}
 use Rattle.dds_base.specs.declared.change.Change.{Change}
@@ -81,14 +83,27 @@ gap_spells reader writer first last old new of_reader of_writer from order small
     spells_more old (submessages_of [] reader writer (AnswersGap first last)) new is (omega arith)
     ((record { reader = of_reader; writer = of_writer; first = from; small = omega (arith, order, small) }, record { first = omega arith; small = omega (arith, small); places = refl }), tt)
 
--- the number of a kept change is one of the changes
-pub kept_within : (h : WriterHistory) (number : ℕ) (change : Change) → kept_change h number ≡ Some change → (1 ≤ number) × (number ≤ length h.changes)
-kept_within h number change is = inside (nat_lt 0 number) refl (at_change (is_kept h number) is)
+-- what stands for each of some, one after the other, stands for one more
+pub stands_more : {X Y : Type 0} (f : X → List Y) (head : Y) (old new : List Y) (xs : List X) (i : ℕ) (x : X) → i < length xs → x ≡ get_or xs i x
+    → old ≡ head ∷ flat_map f (take i xs) → new ≡ old ++ f x → new ≡ head ∷ flat_map f (take (i + 1) xs)
+stands_more f head old new xs i x lt is before after =
+    let one : flat_map f (get_or xs i x ∷ []) ≡ f x = flat_map-cons f (get_or xs i x) [] ∙ (append-nil (f (get_or xs i x)) ∙ ap f (sym is)) in
+    let all : flat_map f (take (i + 1) xs) ≡ flat_map f (take i xs) ++ f x =
+    ap (flat_map f) (take_more xs i x lt) ∙ (flat_map-append f (take i xs) (get_or xs i x ∷ []) ∙ ap (λ ys. flat_map f (take i xs) ++ ys) one) in
+    after ∙ (ap (λ ys. ys ++ f x) before ∙ ap (λ ys. head ∷ ys) (sym all))
+
+-- a kept change is one of the changes
+pub kept_there : (h : WriterHistory) (number : ℕ) (change : Change) → kept_change h number ≡ Some change → change_at h.changes number ≡ Some change
+kept_there h number change is = at_change (is_kept h number) is
   where
     at_change : (b : Bool) → (if b then change_at h.changes number else None) ≡ Some change → change_at h.changes number ≡ Some change
     at_change true e = e
     at_change false e = absurd cc
 
+-- so is its number
+pub kept_within : (h : WriterHistory) (number : ℕ) (change : Change) → kept_change h number ≡ Some change → (1 ≤ number) × (number ≤ length h.changes)
+kept_within h number change is = inside (nat_lt 0 number) refl (kept_there h number change is)
+  where
     short_of : (xs : List Change) (i : ℕ) → slice_get xs i ≡ Some change → i < length xs
     short_of [] i e = absurd cc
     short_of (x ∷ xs) zero e = omega arith

@@ -1,8 +1,7 @@
 -- What is sent: it claims the change to each matched reader, and nothing but the truth.
 use Rattle.std.proofs.Common.{◌≡◌, ◌≢◌, ◌⊎◌, ℕ, zero, suc, ◌+◌, ◌-◌, ◌^◌, ◌<◌, ◌≤◌, Bool, true, false, cond, ◌||◌, List, [], ◌∷◌, Option, Some, map, length, slice_get, refl, ap, sym, ◌∙◌, subst, arith, inl, inr, ⊎_elim, Contains}
-use Rattle.std.specs.Prelude.{nat_lt, nat_eq, if◌then◌else◌, AllPairs, Result, Ok, Err}
+use Rattle.std.specs.Prelude.{nat_lt, nat_eq, if◌then◌else◌, AllPairs}
 use Rattle.std.specs.List.{AllByRecursion}
-use Rattle.std.specs.declared.alloc.AllocError.{AllocError}
 use Rattle.std.proofs.lemmas.Bool.Decides.{nat_tests, Decides-eqb}
 use Rattle.std.proofs.lemmas.Slice.Eq.{slice_eq-Decides}
 use Rattle.std.proofs.lemmas.List.Elements.{All-from_recursion}
@@ -33,7 +32,7 @@ use Rattle.dds_model.specs.Protocol.{AreSent, changes_due}
 use Rattle.dds_core.specs.declared.matching.Destination.{Destination}
 use Rattle.dds_core.specs.declared.sending.Sender.{Sender}
 use Rattle.dds_core.specs.Matching.{has_reader, destinations}
-use Rattle.dds_core.specs.Sending.{announcement, IsAnnouncement, AreAnnouncements, AnnounceCopy, AreMessages, SendsChange}
+use Rattle.dds_core.specs.Sending.{announcement, IsAnnouncement, AreAnnouncements, AreMessages, SendsChange}
 use Rattle.dds_core.proofs.Destinations.{IsPeer, is_peer, IsReaderOf, is_reader, reader_ends, sends_to}
 
 abbrev data_of : Sender → ℕ → DataContent → Submessage
@@ -271,6 +270,5 @@ sent_true config sender own part ds number content packets only early there are 
     announcement_true config sender t.to own part number content packet claim only early there t.is h
 
 -- and is a message
-pub sent_messages : (sender : Sender) (number : ℕ) (content : Result DataContent AllocError) (ds : List Destination) (packets : List Packet) → AnnounceCopy sender number content ds packets → AreMessages packets
-sent_messages sender number (Ok c) ds packets are packet among = let t = target sender number c ds packets are packet among in is_message sender t.to number c packet t.is
-sent_messages sender number (Err e) ds packets none packet among = let lt = among.1 in let count = ap (λ (ps : List Packet). length ps) none in absurd (omega (arith, lt, count))
+pub sent_messages : (sender : Sender) (number : ℕ) (c : DataContent) (ds : List Destination) (packets : List Packet) → AreAnnouncements sender number c ds packets → AreMessages packets
+sent_messages sender number c ds packets are packet among = let t = target sender number c ds packets are packet among in is_message sender t.to number c packet t.is

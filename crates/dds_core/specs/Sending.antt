@@ -1,12 +1,13 @@
 -- What a peer sends.
 --
 -- RTPS 2.5, 8.4.9 (the behaviour of a reliable StatefulWriter), 8.3.7 (what stands in a message).
-use Rattle.std.specs.Prelude.{◌≡◌, ◌≢◌, ◌⊎◌, ℕ, ◌+◌, ◌++◌, length, Contains, Result, Ok, Err, AllPairs, IsSome, List, [], ◌∷◌, Some, set, slice_get}
-use Rattle.std.specs.declared.alloc.AllocError.{AllocError}
+use Rattle.std.specs.Prelude.{◌≡◌, ◌≢◌, ◌⊎◌, ℕ, ◌+◌, ◌++◌, ℤ, length, Contains, AllPairs, IsSome, List, [], ◌∷◌, Option, Some, None, set, slice_get}
 use Rattle.dds_base.specs.declared.change.Change.{Change}
 use Rattle.dds_base.specs.declared.config.Config.{Config}
 use Rattle.dds_base.specs.declared.guid.GuidPrefix.{GuidPrefix}
+use Rattle.dds_base.specs.Kept.{kept_change}
 use Rattle.dds_base.specs.Written.{Changed, Asserted}
+use Rattle.rtps_wire.specs.Content.{content_of}
 use Rattle.rtps_wire.specs.declared.data.DataContent.{DataContent}
 use Rattle.rtps_wire.specs.declared.message.Message.{Message}
 use Rattle.rtps_wire.specs.declared.submessage.Submessage.TheVariants.{InfoDst, InfoTs, Data}
@@ -16,7 +17,7 @@ use Rattle.dds_model.specs.declared.event.Event.{Event}
 use Rattle.dds_model.specs.declared.event.Event.TheVariants as event
 use Rattle.dds_model.specs.declared.event.Output.{Output}
 use Rattle.dds_model.specs.declared.event.Packet.{Packet}
-use Rattle.dds_model.specs.Part.{ReaderProxy, own_writer, acknowledged_of, writer_changes}
+use Rattle.dds_model.specs.Part.{ReaderProxy, Writer, history_of, own_writer, acknowledged_of, writer_changes}
 use Rattle.dds_model.specs.Calls.{Effect, writes, effect_of}
 use Rattle.dds_model.specs.Claims.{ChangeIs, Claims}
 use Rattle.dds_model.specs.Peer.{Peer}
@@ -27,7 +28,7 @@ use Rattle.dds_model.specs.Protocol.{Due, AreSent, changes_due, heartbeats_due, 
 use Rattle.dds_core.specs.declared.matching.Destination.{Destination}
 use Rattle.dds_core.specs.declared.sending.Sender.{Sender}
 use Rattle.dds_core.specs.Kept.{PeerKept, WriterKept}
-use Rattle.dds_core.specs.Standing.{StandsFor}
+use Rattle.dds_core.specs.Standing.{StandsFor, WriterStands}
 
 -- nothing is sent, and nothing found no memory
 pub record SendsNothing (output : Output) : Type 0 where
@@ -107,14 +108,10 @@ AreAnnouncements sender number content (d ∷ ds) (packet ∷ packets) =
 abbrev pub Announces : Sender → ℕ → DataContent → Message → Type 0
 Announces sender number content message = (to : Destination) × (message ≡ announcement sender to number content)
 
--- the same of what was copied
-abbrev pub AnnouncesCopy : Sender → ℕ → Result DataContent AllocError → Message → Type 0
-AnnouncesCopy sender number (Ok content) message = Announces sender number content message
-AnnouncesCopy sender number (Err e) message = ⊥
-
-abbrev pub AnnounceCopy : Sender → ℕ → Result DataContent AllocError → List Destination → List Packet → Type 0
-AnnounceCopy sender number (Ok content) ds packets = AreAnnouncements sender number content ds packets
-AnnounceCopy sender number (Err e) ds packets = packets ≡ []
+-- the packets announce the change that is kept, if one is, to some of these destinations
+abbrev pub AnnouncesKept : Sender → ℕ → Option Change → List Destination → List Packet → Type 0
+AnnouncesKept sender number (Some change) ds packets = AreAnnouncements sender number (content_of change) ds packets
+AnnouncesKept sender number None ds packets = packets ≡ []
 
 -- the message can be written, whichever peer of a name of twelve octets it is for
 abbrev pub IsAddressable : Message → Type 0
@@ -125,15 +122,16 @@ IsAddressable message = (to : GuidPrefix) → length to.0 ≡ 12
 abbrev pub AddsPacket : List Packet → Message → ℕ → List Packet → Type 0
 AddsPacket old message to new = (new ≡ old) ⊎ (new ≡ old ++ record { to = to; bytes = spelling_of message } ∷ [])
 
--- a writer of the peer, of this index, announces the change of this number, as it was copied, to each of its destinations
-pub record AnnouncesAll (kept : PeerKept) (index number : ℕ) (content : Result DataContent AllocError)
-    (output : Output) : Type 0 where
+-- a writer announces the change of this number, as its history keeps it, to each of its destinations
+abbrev pub AnnouncesOf : GuidPrefix → ℕ → WriterKept → ℕ → List Packet → Type 0
+AnnouncesOf prefix moment kept number packets =
+    (w : Writer) (answered : Endpoint → Option ℤ) → WriterStands kept w answered
+    → AnnouncesKept (record { prefix = prefix; entity = kept.entity; moment = moment }) number
+    (kept_change (history_of w) number) kept.destinations packets
+
+-- so it is of the peer's writer of this index
+pub record AnnouncesAll (kept : PeerKept) (index number : ℕ) (output : Output) : Type 0 where
   pub writer : WriterKept
   pub at : slice_get kept.writers index ≡ Some writer
   pub counted : length output.packets + output.unsent ≡ length writer.destinations
-  pub packets : AnnounceCopy
-      (record {
-        prefix = kept.prefix;
-        entity = writer.entity;
-        moment = kept.moment;
-      }) number content writer.destinations output.packets
+  pub packets : AnnouncesOf kept.prefix kept.moment writer number output.packets

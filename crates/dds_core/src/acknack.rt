@@ -23,7 +23,7 @@ fn message(
     reader: EntityId,
     writer: &WriterName,
     due: &AckNackDue,
-) -> Result<Message, AllocError>
+) -> Result<Message<'static>, AllocError>
     requires { IsSayable due.now }
     ensures says { IfOk result
         (λ m. m ≡ acknack_message own writer.now.guid.prefix reader writer.now.guid.entity due.now) }

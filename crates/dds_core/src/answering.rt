@@ -92,13 +92,12 @@ pub struct Answering {
     pub reader: ReaderName,
 }
 
-/// Adds a change with its moment.
-fn push_data(
-    alloc: Global,
-    submessages: &mut Vec<Submessage>,
+/// Adds a change, which lends its value, with its moment.
+fn push_data<'a>(
+    submessages: &mut Vec<Submessage<'a>>,
     answering: &Answering,
     number: Sn,
-    change: &Change,
+    change: &'a Change,
 ) -> Result<(), AllocError>
     requires short { length change.now.value ≤ 1024 }
     requires first { 1 ≤ number }
@@ -114,7 +113,7 @@ fn push_data(
         answering.entity.as_slice(),
     );
     let _key = change.key.as_slice();
-    let content = DataContent::of_change(alloc, change)?;
+    let content = DataContent::of_change(change);
     submessages.push(Submessage::InfoTs(Some(change.source_timestamp.units())))?;
     submessages.push(Submessage::Data(Data {
         reader_id: answering.reader.guid.entity,
@@ -127,7 +126,7 @@ fn push_data(
 
 /// Adds a GAP over these numbers.
 fn push_gap(
-    submessages: &mut Vec<Submessage>,
+    submessages: &mut Vec<Submessage<'_>>,
     answering: &Answering,
     first: Sn,
     last: Sn,
@@ -155,11 +154,10 @@ fn push_gap(
 }
 
 /// Adds what stands in a message for an answer.
-fn push_answer(
-    alloc: Global,
-    submessages: &mut Vec<Submessage>,
+fn push_answer<'a>(
+    submessages: &mut Vec<Submessage<'a>>,
     answering: &Answering,
-    writer: &StatefulWriter,
+    writer: &'a StatefulWriter,
     answer: Answer,
 ) -> Result<(), AllocError>
     requires { CanAnswer writer.now answer }
@@ -169,7 +167,7 @@ fn push_answer(
 {
     match answer {
         Answer::Data(number) => match writer.get(number) {
-            Some(change) => push_data(alloc, submessages, answering, number, change),
+            Some(change) => push_data(submessages, answering, number, change),
             None => Ok(()),
         },
         Answer::Gap { first, last } => push_gap(submessages, answering, first, last),
@@ -177,12 +175,12 @@ fn push_answer(
 }
 
 /// A message with these answers.
-fn message(
+fn message<'a>(
     alloc: Global,
     answering: &Answering,
-    writer: &StatefulWriter,
+    writer: &'a StatefulWriter,
     answers: &[Answer],
-) -> Result<Message, AllocError>
+) -> Result<Message<'a>, AllocError>
     requires can { AreAnswerable writer.now answers.now }
     requires few { length answers.now ≤ 8 }
     ensures says { (s : WriterState) → RtpsStandsFor writer.now s
@@ -199,7 +197,7 @@ fn message(
     );
     let mut submessages = vec![in alloc; Submessage::InfoDst(to)]?;
     for answer in answers {
-        push_answer(alloc, &mut submessages, answering, writer, *answer)?;
+        push_answer(&mut submessages, answering, writer, *answer)?;
     }
     Ok(Message {
         prefix: answering.own,

@@ -3,8 +3,6 @@
 //! DDS 1.4, 2.2.2.4 (DataWriter).
 
 ghost use Rattle.std.specs.Prelude.{◌≡◌, ◌&&◌, ◌+◌, ◌^◌, ◌<◌, ◌≤◌, false, length, nat_lt, nat_le, true, [], MatchOption};
-ghost use Rattle.std.specs.Result.{ForOk};
-ghost use Rattle.rtps_wire.specs.Data.{IsContent};
 ghost use Rattle.dds_model.specs.declared.reply.Reply.TheVariants.{Done, Refused};
 ghost use Rattle.dds_model.specs.declared.call.Call.TheVariants as call;
 ghost use Rattle.dds_model.specs.declared.event.Event.TheVariants as event;
@@ -14,12 +12,10 @@ ghost use Rattle.dds_core.specs.Sending.{Sends, SendsNothing, AnnouncesAll, AreM
 
 use crate::output::answered;
 use crate::peer::Peer;
-use crate::sending::{Announced, Sender, announce};
+use crate::sending::Announced;
 use dds_base::{Change, ChangeKind, Code, Key, MAX_VALUE, Octets, Sequence, Sn};
 use dds_conditions::Filters;
 use dds_model::{Call, Output, Reply};
-use rtps_wire::DataContent;
-use std::alloc::AllocError;
 
 /// The index of a writer or a reader of this number, counted from 1, among so many.
 pub fn index_of(number: u8, count: usize) -> Option<usize>
@@ -198,40 +194,28 @@ impl Peer {
             value,
             source_timestamp: self.moment,
         };
-        let content = DataContent::of_change(self.alloc, &change);
         let _key = key.as_slice();
         match self.writers[index].append(change) {
-            Ok(number) => self.announced(index, number, content),
+            Ok(number) => self.announced(index, number),
             Err(code) => self.refused(code),
         }
     }
 
     /// The answer to a call that made the change of this number, with the packets that announce it.
-    fn announced(
-        &self,
-        index: usize,
-        number: Sn,
-        content: Result<DataContent, AllocError>,
-    ) -> Output
+    fn announced(&self, index: usize, number: Sn) -> Output
         requires within { index < length self.now.writers }
         requires first { 1 ≤ number }
         requires small { number ≤ 2 ^ 48 }
-        requires valid { ForOk content (λ c. IsContent c) }
         ensures reply { result.reply ≡ Done }
-        ensures sends { AnnouncesAll self.now index number content result }
+        ensures sends { AnnouncesAll self.now index number result }
+        ensures messages { AreMessages result.packets }
     {
         let writer = &self.writers[index];
-        let sender = Sender {
-            prefix: self.prefix,
-            entity: writer.entity(),
-            moment: self.moment,
-        };
-        let Announced { packets, unsent } = announce(
+        let Announced { packets, unsent } = writer.announce(
             self.alloc,
-            &sender,
-            writer.destinations(),
+            self.prefix,
+            self.moment,
             number,
-            content,
         );
         Output {
             reply: Reply::Done,

@@ -33,7 +33,7 @@ pub struct Beat {
 }
 
 /// The HEARTBEAT, as a message to the peer of this prefix.
-fn message(alloc: Global, beat: &Beat, to: GuidPrefix) -> Result<Message, AllocError>
+fn message(alloc: Global, beat: &Beat, to: GuidPrefix) -> Result<Message<'static>, AllocError>
     requires { IsValid beat.now.due }
     ensures says { IfOk result (λ m. m ≡ message_to beat.now to) }
     ensures writable { IfOk result IsWritable }

@@ -202,8 +202,9 @@ fn told_by_data(alloc: Global, receiver: &MessageReceiver, body: &Data) -> Resul
     ensures told { IfOk result (IsToldBy (receiver_at receiver.now) (submessage.Data body.now)) }
     ensures memory { IfErr result (λ code. code ≡ Memory) }
 {
-    let content = body.content.try_clone(alloc)?;
-    let change = content.into_change(alloc, Moment::new(receiver.timestamp));
+    let change = body
+        .content
+        .to_change(alloc, Moment::new(receiver.timestamp))?;
     Ok(Told::Change {
         number: body.writer_sn,
         change,

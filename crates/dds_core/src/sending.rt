@@ -9,7 +9,7 @@ ghost use Rattle.rtps_wire.specs.declared.message.Message.{Message as MessageOf}
 ghost use Rattle.rtps_wire.specs.Messages.{IsWritable};
 ghost use Rattle.rtps_wire.specs.declared.submessage.Submessage.TheVariants.{InfoDst};
 ghost use Rattle.dds_core.specs.Beating.{AddsTo, due_to};
-ghost use Rattle.dds_core.specs.Sending.{AnnouncesCopy, AnnounceCopy, AddsPacket, AreMessages, IsAddressable};
+ghost use Rattle.dds_core.specs.Sending.{Announces, AreAnnouncements, AddsPacket, AreMessages, IsAddressable};
 
 use crate::matching::Destination;
 use dds_base::{EntityId, GuidPrefix, Moment, Octets, Sn};
@@ -34,16 +34,16 @@ pub struct Announced {
 }
 
 /// The message that announces a change, without a peer that it is for.
-fn message(
+fn message<'a>(
     alloc: Global,
     sender: &Sender,
     number: Sn,
-    content: Result<DataContent, AllocError>,
-) -> Result<Message, AllocError>
+    content: DataContent<'a>,
+) -> Result<Message<'a>, AllocError>
     requires first { 1 ≤ number }
     requires small { number ≤ 2 ^ 48 }
-    requires valid { ForOk content (λ c. IsContent c) }
-    ensures says { IfOk result (AnnouncesCopy sender.now number content) }
+    requires valid { IsContent content }
+    ensures says { IfOk result (Announces sender.now number content.entry) }
     ensures writable { IfOk result IsAddressable }
 {
     // These show the prover how many octets the names have.
@@ -52,7 +52,7 @@ fn message(
         reader_id: EntityId::UNKNOWN,
         writer_id: sender.entity,
         writer_sn: number,
-        content: content?,
+        content,
     };
     let submessages = vec![in alloc;
         Submessage::InfoDst(GuidPrefix::UNKNOWN),
@@ -66,9 +66,12 @@ fn message(
 }
 
 /// The message, for the peer of this prefix.
-fn addressed(message: Message, to: GuidPrefix) -> Message
+fn addressed(message: Message<'_>, to: GuidPrefix) -> Message<'_>
     requires { 1 ≤ length message.submessages }
-    ensures { result ≡ record { prefix = message.prefix; submessages = set message.submessages 0 (InfoDst to) } }
+    ensures { result ≡ record {
+      prefix = message.entry.prefix;
+      submessages = set message.entry.submessages 0 (InfoDst to);
+    } }
 {
     let Message {
         prefix,
@@ -94,12 +97,12 @@ pub fn push_packet(alloc: Global, packets: &mut Vec<Packet>, message: &Message, 
 }
 
 /// Sends a message that is due to a peer, or counts it where it finds no memory.
-pub fn send(alloc: Global, sent: &mut Announced, message: Result<Message, AllocError>, to: u8)
+pub fn send(alloc: Global, sent: &mut Announced, message: Result<Message<'_>, AllocError>, to: u8)
     requires writable { ForOk message IsWritable }
     requires some { ForOk message (λ m. 1 ≤ length m.submessages) }
     requires room { sent.old.unsent < 2 ^ 62 }
     ensures few { sent.new.unsent ≤ sent.old.unsent + 1 }
-    ensures adds { (m : MessageOf) → IfOk message (λ x. x ≡ m) → AddsTo (due_to to m ∷ []) sent.old sent.new }
+    ensures adds { (m : MessageOf) → IfOk message.entry (λ x. x ≡ m) → AddsTo (due_to to m ∷ []) sent.old sent.new }
     ensures messages { AreMessages sent.old.packets.items → AreMessages sent.new.packets.items }
 {
     let Ok(message) = message else {
@@ -113,19 +116,19 @@ pub fn send(alloc: Global, sent: &mut Announced, message: Result<Message, AllocE
     }
 }
 
-/// Announces the change of this number to each of these peers.
+/// Announces a change of this number, of which a DATA says so much, to each of these peers.
 pub fn announce(
     alloc: Global,
     sender: &Sender,
     destinations: &[Destination],
     number: Sn,
-    content: Result<DataContent, AllocError>,
+    content: DataContent<'_>,
 ) -> Announced
     requires first { 1 ≤ number }
     requires small { number ≤ 2 ^ 48 }
-    requires valid { ForOk content (λ c. IsContent c) }
+    requires valid { IsContent content }
     ensures counted { length result.packets.items + result.unsent ≡ length destinations.now }
-    ensures packets { AnnounceCopy sender.now number content destinations.now result.packets.items }
+    ensures packets { AreAnnouncements sender.now number content.entry destinations.now result.packets.items }
 {
     let mut packets = Vec::new(alloc);
     if let Ok(mut message) = message(alloc, sender, number, content) {

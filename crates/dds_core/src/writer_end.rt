@@ -19,7 +19,7 @@ ghost use Rattle.dds_core.specs.Kept.{writer_identity};
 ghost use Rattle.dds_core.specs.Noticing.{MarksWriter};
 ghost use Rattle.dds_core.specs.Opening.{OpensWriter};
 ghost use Rattle.dds_core.specs.Receiving.{receiver_at};
-ghost use Rattle.dds_core.specs.Sending.{AreMessages};
+ghost use Rattle.dds_core.specs.Sending.{AnnouncesOf, AreMessages};
 ghost use Rattle.dds_core.specs.Standing.{WriterStands, Enters, Ticks, AllTick};
 
 use crate::answering::{Answering, Room, rooms, send_answers};
@@ -27,7 +27,7 @@ use crate::heartbeat::{Beat, send_beats, send_to_all};
 use crate::limits::limit_of;
 use crate::matching::{Destination, ReaderName, destinations, matched_readers};
 use crate::receiver::MessageReceiver;
-use crate::sending::Announced;
+use crate::sending::{Announced, Sender, announce};
 use crate::status_bits::{LIVELINESS_LOST, bit_if};
 use bitflags::Flags;
 use dds_base::{
@@ -36,7 +36,7 @@ use dds_base::{
 };
 use dds_model::Endpoint;
 use dds_notices::StatusMask;
-use rtps_wire::AckNack;
+use rtps_wire::{AckNack, DataContent};
 use rtps_writer::{Answered, StatefulWriter};
 use std::alloc::{AllocError, Global};
 use std::marker::Model;
@@ -228,6 +228,39 @@ impl WriterEnd {
         ensures err { OnErr result (self.new ≡ self.old) }
     {
         self.writer.write(change)
+    }
+
+    /// Announces the change of this number to each peer with a matched reader, at the moment of its peer, of this prefix.
+    /// The history lends the change. A change that is not kept is one that nobody awaits.
+    pub fn announce(
+        &self,
+        alloc: Global,
+        prefix: GuidPrefix,
+        moment: Moment,
+        number: Sn,
+    ) -> Announced
+        requires first { 1 ≤ number }
+        requires small { number ≤ 2 ^ 48 }
+        ensures counted { length result.packets.items + result.unsent ≡ length self.now.destinations }
+        ensures announces { AnnouncesOf prefix moment self.now number result.packets.items }
+        ensures messages { AreMessages result.packets.items }
+    {
+        let destinations = self.destinations.as_slice();
+        let Some(change) = self.writer.get(number) else {
+            return Announced {
+                packets: Vec::new(alloc),
+                unsent: destinations.len() as u64,
+            };
+        };
+        // This shows the prover how many octets a key has.
+        let _key = change.key.as_slice();
+        let sender = Sender {
+            prefix,
+            entity: self.entity,
+            moment,
+        };
+        let content = DataContent::of_change(change);
+        announce(alloc, &sender, destinations, number, content)
     }
 
     /// The reader of this row.

@@ -1,17 +1,14 @@
 -- A submessage that is looked for, while a message is gone over.
-use Rattle.std.proofs.Common.{◌≡◌, ℕ, zero, suc, ◌-◌, ◌≤◌, ◌↔◌, IsTrue, Bool, true, false, ◌||◌, List, [], ◌∷◌, ◌++◌, length, Option, Some, None, Contains, refl, sym, ap, subst, ◌∙◌, ⊎_elim, append_assoc, arith}
-use Rattle.std.specs.Option.{option_map, unwrap_or}
+use Rattle.std.proofs.Common.{◌≡◌, ℕ, zero, suc, ◌-◌, ◌≤◌, ◌↔◌, IsTrue, Bool, true, false, ◌||◌, List, [], ◌∷◌, ◌++◌, length, Some, None, Contains, refl, sym, ap, subst, ◌∙◌, ⊎_elim, append_assoc, arith}
+use Rattle.std.specs.Option.{unwrap_or}
 use Rattle.std.proofs.lemmas.List.{append-nil}
 use Rattle.std.proofs.lemmas.List.Elements.{Contains-append_left, Contains-append_right, Contains-append_cases}
 use Rattle.dds_base.specs.declared.guid.GuidPrefix.{GuidPrefix}
 use Rattle.dds_base.proofs.FieldLaws.{AreOctets}
-use Rattle.rtps_wire.specs.declared.data.Data.{Data}
 use Rattle.rtps_wire.specs.declared.message.Message.{Message}
 use Rattle.rtps_wire.specs.declared.seek.Sought.{Sought}
-use Rattle.rtps_wire.specs.declared.seek.Sought.TheVariants as sought
 use Rattle.rtps_wire.specs.declared.submessage.Submessage.{Submessage}
 use Rattle.rtps_wire.specs.declared.submessage.Submessage.TheVariants as submessages
-use Rattle.rtps_wire.specs.DataAt.{data_at}
 use Rattle.rtps_wire.specs.FrameAt.{frame_at}
 use Rattle.rtps_wire.specs.HeaderAt.{header_at}
 use Rattle.rtps_wire.specs.Messages.{ReadsAll}
@@ -20,23 +17,6 @@ use Rattle.rtps_wire.specs.SubmessageAt.{known_at}
 use Rattle.rtps_wire.proofs.FrameLaws.{Frames, frame_none}
 use Rattle.rtps_wire.proofs.MessageLaws.{HasHeader, header_only, message_one, message_read}
 use Rattle.rtps_wire.proofs.SubmessageLaws.{Reads-found}
-
--- a DATA is never looked for
-
-never : (wanted : Sought) (o : Option Data) (id : ℕ) → IsSought wanted (unwrap_or (option_map submessages.Data o) (submessages.Other id)) → ⊥
-never (sought.Heartbeat w) None id h = h
-never (sought.Heartbeat w) (Some d) id h = h
-never (sought.AckNack r w) None id h = h
-never (sought.AckNack r w) (Some d) id h = h
-
-data_known : (flags : ℕ) (body : List ℕ) → known_at 21 flags body ≡ option_map submessages.Data (data_at flags body)
-unfolding known_at
-data_known flags body = refl
-
-pub never_data : (wanted : Sought) (id flags : ℕ) (body : List ℕ) → id ≡ 21 → IsSought wanted (unwrap_or (known_at id flags body) (submessages.Other id)) → ⊥
-never_data wanted id flags body is h =
-    let at : IsSought wanted (unwrap_or (known_at 21 flags body) (submessages.Other 21)) = subst (λ (n : ℕ). IsSought wanted (unwrap_or (known_at n flags body) (submessages.Other n))) is h in
-    never wanted (data_at flags body) 21 (subst (λ (o : Option Submessage). IsSought wanted (unwrap_or o (submessages.Other 21))) (data_known flags body) at)
 
 -- what was gone over so far, and whether it has one
 

@@ -6,72 +6,49 @@ ghost use Rattle.std.specs.Prelude.{◌≡◌, [], IfOk};
 ghost use Rattle.rtps_wire.specs.Content.{content_of, change_in};
 
 use crate::data::DataContent;
-use dds_base::{Change, ChangeKind, Datum, Moment, Octets};
+use dds_base::{Change, ChangeKind, DatumRef, Moment, Octets};
 use std::alloc::{AllocError, Global};
 
-impl DataContent {
-    /// What a DATA says of a change: its kind and its key, and of a write the value, which is copied.
+impl<'a> DataContent<'a> {
+    /// What a DATA says of a change: its kind and its key, and of a write the value, which the change lends. Takes no
+    /// memory.
+    pub fn of_change(change: &'a Change) -> DataContent<'a>
+        ensures says { result ≡ content_of change.now }
+    {
+        let key = change.key;
+        match change.kind {
+            ChangeKind::Write => DataContent::Write(DatumRef::new(key, change.value.as_slice())),
+            ChangeKind::Dispose => DataContent::Dispose(key),
+            ChangeKind::Unregister => DataContent::Unregister(key),
+            ChangeKind::DisposeUnregister => DataContent::DisposeUnregister(key),
+        }
+    }
+
+    /// The change that a DATA means, made at this moment, with a value of its own.
     ///
     /// # Errors
     ///
     /// Where no memory was found for the value.
-    pub fn of_change(alloc: Global, change: &Change) -> Result<DataContent, AllocError>
-        ensures { IfOk result (λ content. content ≡ content_of change.now) }
-    {
-        let key = change.key;
-        Ok(match change.kind {
-            ChangeKind::Write => {
-                let value = Vec::from_slice(alloc, change.value.as_slice())?;
-                DataContent::Write(Datum {
-                    key,
-                    value: Octets::from_vec(value),
-                })
-            }
-            ChangeKind::Dispose => DataContent::Dispose(key),
-            ChangeKind::Unregister => DataContent::Unregister(key),
-            ChangeKind::DisposeUnregister => DataContent::DisposeUnregister(key),
-        })
-    }
-
-    /// The change that a DATA means, made at this moment. The value is moved: no memory is taken.
-    pub fn into_change(self, alloc: Global, source_timestamp: Moment) -> Change
-        ensures { result ≡ change_in self source_timestamp }
+    pub fn to_change(&self, alloc: Global, source_timestamp: Moment) -> Result<Change, AllocError>
+        ensures means { IfOk result (λ change. change ≡ change_in self.now source_timestamp) }
     {
         let (kind, key, value) = match self {
-            DataContent::Write(Datum { key, value }) => (ChangeKind::Write, key, value),
-            DataContent::Dispose(key) => (ChangeKind::Dispose, key, no_octets(alloc)),
-            DataContent::Unregister(key) => (ChangeKind::Unregister, key, no_octets(alloc)),
+            DataContent::Write(datum) => (
+                ChangeKind::Write,
+                datum.key(),
+                Octets::from_vec(Vec::from_slice(alloc, datum.value())?),
+            ),
+            DataContent::Dispose(key) => (ChangeKind::Dispose, *key, no_octets(alloc)),
+            DataContent::Unregister(key) => (ChangeKind::Unregister, *key, no_octets(alloc)),
             DataContent::DisposeUnregister(key) => {
-                (ChangeKind::DisposeUnregister, key, no_octets(alloc))
+                (ChangeKind::DisposeUnregister, *key, no_octets(alloc))
             }
         };
-        Change {
+        Ok(Change {
             kind,
             key,
             value,
             source_timestamp,
-        }
-    }
-
-    /// The same again, with a value of its own.
-    ///
-    /// # Errors
-    ///
-    /// Where no memory was found for the value.
-    pub fn try_clone(&self, alloc: Global) -> Result<DataContent, AllocError>
-        ensures { IfOk result (λ content. content ≡ self.now) }
-    {
-        Ok(match self {
-            DataContent::Write(datum) => {
-                let value = Vec::from_slice(alloc, datum.value.as_slice())?;
-                DataContent::Write(Datum {
-                    key: datum.key,
-                    value: Octets::from_vec(value),
-                })
-            }
-            DataContent::Dispose(key) => DataContent::Dispose(*key),
-            DataContent::Unregister(key) => DataContent::Unregister(*key),
-            DataContent::DisposeUnregister(key) => DataContent::DisposeUnregister(*key),
         })
     }
 }

@@ -4,7 +4,7 @@
 //!
 //! RTPS 2.5, 9.4.5 (Data) and 9.6 (status info).
 
-ghost use Rattle.std.specs.Prelude.{◌≡◌, ◌≤◌, ◌++◌, length, OnOk, IfErr, IsTrue, ◌↔◌, MatchResult};
+ghost use Rattle.std.specs.Prelude.{◌≡◌, ◌≤◌, ◌++◌, length, OnOk, IfErr, IsTrue, ◌↔◌};
 ghost use Rattle.std.specs.Option.{option_map};
 ghost use Rattle.dds_base.specs.DatumText.{IsDatum};
 ghost use Rattle.rtps_wire.specs.Data.{IsData, IsContent, content_flags, text_of_end, text_of_content, text_of_data};
@@ -19,18 +19,17 @@ use crate::names::{
 use crate::parameters::{Parameters, put_parameter, take_parameters};
 use crate::payload::{put_datum, put_key_form};
 use dds_base::{
-    Code, Datum, Endianness, EntityId, Key, MAX_VALUE, Sn, decode_datum, decode_datum_key,
+    Code, DatumRef, Endianness, EntityId, Key, MAX_VALUE, Sn, decode_datum_key, decode_datum_ref,
     decode_key, take_octets, take_u16,
 };
-use std::alloc::Global;
 
-/// What is said of an instance: the kind of a change, with a datum or the key alone. `docs/WIRE.md`, "What a DATA means",
-/// has the table.
+/// What is said of an instance: the kind of a change, with a datum or the key alone. The value is lent: by the bytes of a
+/// packet that was read, or by the change that is written. `docs/WIRE.md`, "What a DATA means", has the table.
 ///
 /// RTPS 2.5, 8.2 (ChangeKind_t): a change that is no write carries the key alone.
 #[derive(Debug, Drop)]
-pub enum DataContent {
-    Write(Datum),
+pub enum DataContent<'a> {
+    Write(DatumRef<'a>),
     Dispose(Key),
     Unregister(Key),
     /// Both at once.
@@ -41,12 +40,12 @@ pub enum DataContent {
 ///
 /// RTPS 2.5, 8.3 (Data).
 #[derive(Debug, Drop)]
-pub struct Data {
+pub struct Data<'a> {
     pub reader_id: EntityId,
     pub writer_id: EntityId,
     /// From 1 to 2^62.
     pub writer_sn: Sn,
-    pub content: DataContent,
+    pub content: DataContent<'a>,
 }
 
 /// What DATA begins with.
@@ -93,7 +92,7 @@ fn shown_key(has_datum: bool, has_key: bool, key_hash: Option<Key>, payload: &[u
 }
 
 #[tactic(auto, unfolding(crate::specs::DataAt::ended_at))]
-fn ended(disposed: bool, unregistered: bool, key: Key) -> DataContent
+fn ended(disposed: bool, unregistered: bool, key: Key) -> DataContent<'static>
     ensures { result ≡ ended_at disposed unregistered key }
 {
     if !disposed {
@@ -107,14 +106,8 @@ fn ended(disposed: bool, unregistered: bool, key: Key) -> DataContent
 
 /// What is said, by the table of `docs/WIRE.md`, "What a DATA means".
 #[tactic(auto, unfolding(crate::specs::DataAt::content_by, crate::specs::DataAt::content_at))]
-fn content_of(
-    alloc: Global,
-    flags: u8,
-    found: Parameters,
-    payload: &[u8],
-) -> Result<Option<DataContent>, Code>
-    ensures { MatchResult result
-        (λ c. c ≡ content_at flags found payload.now) (λ e. e ≡ Code.Memory) }
+fn content_of(flags: u8, found: Parameters, payload: &[u8]) -> Option<DataContent<'_>>
+    ensures { result ≡ content_at flags found payload.now }
 {
     let status = found.status.unwrap_or(0);
     let disposed = has_flag(status, STATUS_DISPOSED);
@@ -123,12 +116,12 @@ fn content_of(
     let has_key = has_flag(flags, FLAG_KEY);
     if disposed || unregistered {
         let key = shown_key(has_datum, has_key, found.key_hash, payload);
-        return Ok(key.map(|key| ended(disposed, unregistered, key)));
+        return key.map(|key| ended(disposed, unregistered, key));
     }
     if has_datum && !has_key {
-        return Ok(decode_datum(alloc, payload)?.map(DataContent::Write));
+        return decode_datum_ref(payload).map(DataContent::Write);
     }
-    Ok(None)
+    None
 }
 
 /// The parameters, where flag Q is set, and the payload.
@@ -142,43 +135,31 @@ fn take_inline(flags: u8, bytes: &[u8]) -> Option<(Parameters, &[u8])>
     Some((Parameters::NONE, bytes))
 }
 
-/// The DATA of a body, where that is valid.
-///
-/// # Errors
-///
-/// `Memory` where no memory was found for the value.
+/// The DATA of a body, where that is valid. The body lends the value.
 #[tactic(auto, unfolding(crate::specs::DataAt::data_at))]
-pub fn data_of(alloc: Global, flags: u8, body: &[u8]) -> Result<Option<Data>, Code>
-    ensures { MatchResult result (λ d. d ≡ data_at flags body.now) (λ e. e ≡ Code.Memory) }
+pub fn data_of(flags: u8, body: &[u8]) -> Option<Data<'_>>
+    ensures { result ≡ data_at flags body.now }
 {
     if has_flag(flags, FLAG_NON_STANDARD) {
-        return Ok(None);
+        return None;
     }
-    let Some((head, rest)) = take_data_head(order_of(flags), body) else {
-        return Ok(None);
-    };
+    let (head, rest) = take_data_head(order_of(flags), body)?;
     if head.octets_to_inline_qos < LEAST_OCTETS_TO_INLINE_QOS {
-        return Ok(None);
+        return None;
     }
     let skipped = head.octets_to_inline_qos - LEAST_OCTETS_TO_INLINE_QOS;
-    let Some((_, rest)) = take_octets(rest, skipped as usize) else {
-        return Ok(None);
-    };
-    let Some((found, payload)) = take_inline(flags, rest) else {
-        return Ok(None);
-    };
-    let Some(content) = content_of(alloc, flags, found, payload)? else {
-        return Ok(None);
-    };
+    let (_, rest) = take_octets(rest, skipped as usize)?;
+    let (found, payload) = take_inline(flags, rest)?;
+    let content = content_of(flags, found, payload)?;
     if head.writer_sn < 1 {
-        return Ok(None);
+        return None;
     }
-    Ok(Some(Data {
+    Some(Data {
         reader_id: head.ids.reader,
         writer_id: head.ids.writer,
         writer_sn: Sn::new(head.writer_sn),
         content,
-    }))
+    })
 }
 
 /// The flags of a content.
@@ -237,17 +218,19 @@ pub fn content_len(content: &DataContent) -> usize
     ensures small { result ≤ 1048 }
 {
     match content {
-        DataContent::Write(datum) => LEN_DATUM_HEAD + datum.value.as_slice().len(),
+        DataContent::Write(datum) => LEN_DATUM_HEAD + datum.value().len(),
         _ => LEN_PARAMETERS + LEN_KEY_FORM,
     }
 }
 
 /// Whether a datum has a written form.
-fn is_datum(d: &Datum) -> bool
+fn is_datum(d: &DatumRef) -> bool
     ensures { IsTrue result ↔ IsDatum d.now }
 {
-    let _key = d.key.as_slice();
-    d.value.as_slice().len() <= MAX_VALUE
+    let key = d.key();
+    // This shows the prover how many octets a key has.
+    let _octets = key.as_slice();
+    d.value().len() <= MAX_VALUE
 }
 
 /// Whether a content has a written form.

@@ -7,17 +7,17 @@ use dds_base::GuidPrefix;
 ///
 /// RTPS 2.5, 8.3.2.
 #[derive(Debug, Drop)]
-pub struct Message {
+pub struct Message<'a> {
     /// The sender's.
     pub prefix: GuidPrefix,
     /// In the order in which they stand.
-    pub submessages: Submessages,
+    pub submessages: Submessages<'a>,
 }
 
-/// A message, and where its reading ended.
+/// A message, and where its reading ended. The bytes lend the values of its data.
 #[derive(Debug, Drop)]
-pub struct Read {
-    pub message: Message,
+pub struct Read<'a> {
+    pub message: Message<'a>,
     /// An offset into the bytes: their length, or where a submessage stands whose length passes the end, or where
     /// fewer than 4 bytes are left.
     pub stop: usize,

@@ -6,7 +6,7 @@ ghost use Rattle.std.specs.Prelude.{◌≡◌, ◌≤◌, ◌++◌, length, OnOk
 ghost use Rattle.dds_base.specs.DatumText.{spelling_of_datum, spelling_of_key};
 
 use crate::names::{CDR_LE, NO_OPTIONS};
-use dds_base::{Code, Datum, Key, MAX_VALUE};
+use dds_base::{Code, DatumRef, Key, MAX_VALUE};
 
 /// Appends the key form.
 pub fn put_key_form(out: &mut Vec<u8>, key: &Key) -> Result<(), Code>
@@ -20,13 +20,13 @@ pub fn put_key_form(out: &mut Vec<u8>, key: &Key) -> Result<(), Code>
 }
 
 /// Appends the datum. Its value is copied into the octets at once.
-pub fn put_datum(out: &mut Vec<u8>, datum: &Datum) -> Result<(), Code>
+pub fn put_datum(out: &mut Vec<u8>, datum: &DatumRef) -> Result<(), Code>
     requires { length datum.now.value ≤ MAX_VALUE }
     ensures ok { OnOk result (out.new.items ≡ out.old.items ++ spelling_of_datum datum.now) }
     ensures memory { IfErr result (λ e. e ≡ Code.Memory) }
 {
-    let value = datum.value.as_slice();
-    put_key_form(out, &datum.key)?;
+    let value = datum.value();
+    put_key_form(out, &datum.key())?;
     out.extend_from_slice(&(value.len() as u32).to_le_bytes())?;
     out.extend_from_slice(value)?;
     Ok(())

@@ -1,6 +1,6 @@
 //! Bytes to messages.
 
-ghost use Rattle.std.specs.Prelude.{◌≡◌, ◌≢◌, ◌+◌, ◌≤◌, ◌<◌, ℕ, List, length, IfOk, IfErr, IfSome, MatchResult, Some};
+ghost use Rattle.std.specs.Prelude.{◌≡◌, ◌+◌, ◌≤◌, ◌<◌, ℕ, List, length, IfOk, IfErr, IfSome, MatchResult, Some};
 ghost use Rattle.rtps_wire.specs.SubmessageAt.{known_at};
 ghost use Rattle.rtps_wire.specs.Submessages.{Reads};
 ghost use Rattle.rtps_wire.specs.Messages.{ReadsAll, ReadsMessage, HasFrame, HasSubmessage};
@@ -19,55 +19,44 @@ use crate::submessage::{Submessage, Submessages};
 use dds_base::Code;
 use std::alloc::Global;
 
-/// The submessage of a known kind, where it is valid, but for a DATA: none of these holds memory.
+/// The submessage of a known kind, where it is valid.
 #[tactic(auto, unfolding(crate::specs::SubmessageAt::known_at))]
-pub fn known_but_data(id: u8, flags: u8, body: &[u8]) -> Option<Submessage>
-    requires { id ≢ ID_DATA }
+pub fn known_of(id: u8, flags: u8, body: &[u8]) -> Option<Submessage<'_>>
     ensures { result ≡ known_at id flags body.now }
 {
     if id == ID_PAD {
         return Some(Submessage::Pad);
     }
     if id == ID_INFO_DST {
-        return info_dst_of(body).map(Submessage::InfoDst);
+        return Some(Submessage::InfoDst(info_dst_of(body)?));
     }
     if id == ID_INFO_TS {
-        return info_ts_of(flags, body).map(Submessage::InfoTs);
+        return Some(Submessage::InfoTs(info_ts_of(flags, body)?));
+    }
+    if id == ID_DATA {
+        return Some(Submessage::Data(data_of(flags, body)?));
     }
     if id == ID_HEARTBEAT {
-        return heartbeat_of(flags, body).map(Submessage::Heartbeat);
+        return Some(Submessage::Heartbeat(heartbeat_of(flags, body)?));
     }
     if id == ID_ACKNACK {
-        return acknack_of(flags, body).map(Submessage::AckNack);
+        return Some(Submessage::AckNack(acknack_of(flags, body)?));
     }
     if id == ID_GAP {
-        return gap_of(flags, body).map(Submessage::Gap);
+        return Some(Submessage::Gap(gap_of(flags, body)?));
     }
     None
 }
 
-/// The submessage of a known kind, where it is valid.
-#[tactic(auto, unfolding(crate::specs::SubmessageAt::known_at))]
-fn known_of(alloc: Global, id: u8, flags: u8, body: &[u8]) -> Result<Option<Submessage>, Code>
-    ensures { MatchResult result (λ s. s ≡ known_at id flags body.now) (λ e. e ≡ Code.Memory) }
-{
-    if id == ID_DATA {
-        let data = data_of(alloc, flags, body)?;
-        return Ok(data.map(Submessage::Data));
-    }
-    Ok(known_but_data(id, flags, body))
-}
-
 /// The submessage of an id, flags and a body.
-fn submessage_of(alloc: Global, id: u8, flags: u8, body: &[u8]) -> Result<Submessage, Code>
-    ensures { MatchResult result (λ s. Reads id flags body.now s) (λ e. e ≡ Code.Memory) }
+fn submessage_of(id: u8, flags: u8, body: &[u8]) -> Submessage<'_>
+    ensures { Reads id flags body.now result }
 {
-    let known = known_of(alloc, id, flags, body)?;
-    Ok(known.unwrap_or(Submessage::Other(id)))
+    known_of(id, flags, body).unwrap_or(Submessage::Other(id))
 }
 
 /// The submessages up to where reading ends, and what stands there.
-fn submessages_of(alloc: Global, bytes: &[u8]) -> Result<(Vec<Submessage>, &[u8]), Code>
+fn submessages_of(alloc: Global, bytes: &[u8]) -> Result<(Vec<Submessage<'_>>, &[u8]), Code>
     ensures { MatchResult result
         (λ x. ReadsAll bytes.now x.0.items x.1.now
         × (length x.0.items + length x.1.now ≤ length bytes.now))
@@ -76,7 +65,7 @@ fn submessages_of(alloc: Global, bytes: &[u8]) -> Result<(Vec<Submessage>, &[u8]
     let mut submessages = Vec::new(alloc);
     let mut left = bytes;
     while let Some((frame, rest)) = take_frame(left) {
-        submessages.push(submessage_of(alloc, frame.id, frame.flags, frame.body)?)?;
+        submessages.push(submessage_of(frame.id, frame.flags, frame.body))?;
         left = rest;
     }
     Ok((submessages, left))
@@ -86,14 +75,14 @@ fn submessages_of(alloc: Global, bytes: &[u8]) -> Result<(Vec<Submessage>, &[u8]
 /// `MAX_MESSAGE`.
 ///
 /// Each submessage stands in its order, one that is not known or not valid as `Submessage::Other` with its id. The
-/// bytes are gone over once, and only the values of data are copied.
+/// bytes are gone over once, and they lend the values of data: none is copied.
 ///
 /// # Errors
 ///
-/// `Memory` where no memory was found for a submessage or a value; bytes that have none need no memory.
+/// `Memory` where no memory was found for the list of submessages; bytes that have none need no memory.
 ///
 /// RTPS 2.5, 8.3.4 and 9.4.
-pub fn read_message(alloc: Global, bytes: &[u8]) -> Result<Option<Read>, Code>
+pub fn read_message(alloc: Global, bytes: &[u8]) -> Result<Option<Read<'_>>, Code>
     // What is read is the message of these bytes, and reading ends there.
     ensures found { IfOk result
         (λ read. IfSome read (λ r. ReadsMessage bytes.now r.message r.stop)) }

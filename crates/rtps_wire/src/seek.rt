@@ -10,8 +10,7 @@ ghost use Rattle.rtps_wire.specs.SubmessageAt.{known_at};
 
 use crate::frame::take_frame;
 use crate::header::{MAX_MESSAGE, take_header};
-use crate::names::ID_DATA;
-use crate::read::known_but_data;
+use crate::read::known_of;
 use crate::submessage::Submessage;
 use dds_base::EntityId;
 
@@ -38,17 +37,12 @@ fn is_sought(wanted: &Sought, submessage: &Submessage) -> bool
     }
 }
 
-/// Whether an id, flags and a body are such a submessage. A DATA is not read for it.
+/// Whether an id, flags and a body are such a submessage.
 fn is_frame_sought(wanted: &Sought, id: u8, flags: u8, body: &[u8]) -> bool
     ensures { IsTrue result ↔ IsSought wanted.now (unwrap_or (known_at id flags body.now) (submessages.Other id)) }
 {
-    if id == ID_DATA {
-        return false;
-    }
-    match known_but_data(id, flags, body) {
-        Some(submessage) => is_sought(wanted, &submessage),
-        None => false,
-    }
+    let known = known_of(id, flags, body);
+    is_sought(wanted, &known.unwrap_or(Submessage::Other(id)))
 }
 
 /// Whether there is such a submessage in bytes that follow a header.

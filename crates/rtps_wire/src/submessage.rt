@@ -9,18 +9,18 @@ use crate::heartbeat::Heartbeat;
 use dds_base::GuidPrefix;
 use std::marker::Model;
 
-/// One part of a message.
+/// One part of a message. The value of a datum is lent.
 ///
 /// RTPS 2.5, 8.3.4 and 9.4.5.
 #[derive(Debug, Drop)]
-pub enum Submessage {
+pub enum Submessage<'a> {
     /// Nothing: it only takes room.
     Pad,
     /// What follows is for the peer with this prefix; the zero prefix names every peer.
     InfoDst(GuidPrefix),
     /// What follows has this source timestamp, in units of 2^-32 second, or none.
     InfoTs(Option<u64>),
-    Data(Data),
+    Data(Data<'a>),
     Heartbeat(Heartbeat),
     AckNack(AckNack),
     Gap(Gap),
@@ -30,11 +30,11 @@ pub enum Submessage {
 
 /// Submessages, in the order in which they stand.
 #[derive(Debug, Drop)]
-pub struct Submessages {
-    items: Vec<Submessage>,
+pub struct Submessages<'a> {
+    items: Vec<Submessage<'a>>,
 }
 
-impl Model for Submessages {
+impl<'a> Model for Submessages<'a> {
     ghost use Rattle.std.specs.Prelude.{List};
     ghost use Rattle.rtps_wire.specs.declared.submessage.Submessage.{Submessage};
 
@@ -43,24 +43,24 @@ impl Model for Submessages {
     ghost view = { λ s. s.items.items };
 }
 
-impl Submessages {
+impl<'a> Submessages<'a> {
     /// The submessages of a `Vec`, as they stand there.
-    pub fn from_vec(items: Vec<Submessage>) -> Submessages
-        ensures { result ≡ items.items }
+    pub fn from_vec(items: Vec<Submessage<'a>>) -> Submessages<'a>
+        ensures items { result ≡ items.entry.items }
     {
         Submessages { items }
     }
 
     /// The submessages, in their order.
-    pub fn as_slice(&self) -> &[Submessage]
-        ensures { result.now ≡ self.now }
+    pub fn as_slice(&self) -> &[Submessage<'a>]
+        ensures items { result.now ≡ self.now }
     {
         self.items.as_slice()
     }
 
     /// The `Vec` that holds the submessages.
-    pub fn into_vec(self) -> Vec<Submessage>
-        ensures { result.items ≡ self }
+    pub fn into_vec(self) -> Vec<Submessage<'a>>
+        ensures items { result.items ≡ self.entry }
     {
         let Submessages { items } = self;
         items

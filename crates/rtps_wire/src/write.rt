@@ -173,7 +173,7 @@ fn spelling_len(submessage: &Submessage) -> usize
 /// Whether a message can be written: it has no `Submessage::Other`, each field is in its range, each value has at most
 /// 1,024 octets, and all of it at most `MAX_MESSAGE`.
 pub fn is_writable(message: &Message) -> bool
-    ensures { IsTrue result ↔ IsWritable message.now }
+    ensures writable { IsTrue result ↔ IsWritable message.now }
 {
     let _prefix = message.prefix.as_slice();
     let mut len = LEN_HEADER;
@@ -210,8 +210,11 @@ fn put_header(out: &mut Vec<u8>, prefix: &GuidPrefix) -> Result<(), Code>
 ///
 /// RTPS 2.5, 9.4.
 pub fn write_message(alloc: Global, message: &Message) -> Result<Vec<u8>, Code>
-    requires { IsWritable message.now }
+    // It has a written form.
+    requires writable { IsWritable message.now }
+    // The bytes are that form.
     ensures ok { IfOk result (λ bytes. bytes.items ≡ spelling_of message.now) }
+    // The only refusal is for want of memory.
     ensures memory { IfErr result (λ e. e ≡ Code.Memory) }
 {
     let mut out = Vec::new(alloc);

@@ -8,7 +8,7 @@ use crate::tests::rows::{
     Subject, Words, expect_rows, number_of, octets_of, push_hex, push_octets, words_of,
 };
 use crate::tests::sets::push_set;
-use dds_base::{Datum, EntityId, GuidPrefix, Key, Octets, Sn};
+use dds_base::{DatumRef, EntityId, GuidPrefix, Key, Sn};
 use headers::{CUT, HEADERS};
 use other_forms::OTHER_FORMS;
 use rtps_wire::{
@@ -45,9 +45,9 @@ fn push_key(text: &mut String, kind: &str, key: &Key) {
 fn push_content(text: &mut String, content: &DataContent) {
     match content {
         DataContent::Write(datum) => {
-            push_key(text, " write ", &datum.key);
+            push_key(text, " write ", &datum.key());
             let _ = text.push(' ');
-            push_hex(text, datum.value.as_slice());
+            push_hex(text, datum.value());
         }
         DataContent::Dispose(key) => push_key(text, " dispose ", key),
         DataContent::Unregister(key) => push_key(text, " unregister ", key),
@@ -177,17 +177,14 @@ fn push_cuts(alloc: Global, text: &mut String, octets: &[u8]) {
     }
 }
 
-fn content_of(alloc: Global, words: Words<'_>) -> DataContent {
+fn content_of<'a>(words: Words<'_>, value: &'a [u8]) -> DataContent<'a> {
     if words.first == "dispose" {
         return DataContent::Dispose(ONE);
     }
-    DataContent::Write(Datum {
-        key: ONE,
-        value: Octets::from_vec(octets_of(alloc, words.third)),
-    })
+    DataContent::Write(DatumRef::new(ONE, value))
 }
 
-fn submessage_of(alloc: Global, words: Words<'_>) -> Submessage {
+fn submessage_of<'a>(words: Words<'_>, value: &'a [u8]) -> Submessage<'a> {
     if words.first == "other" {
         return Submessage::Other(0x80);
     }
@@ -195,15 +192,15 @@ fn submessage_of(alloc: Global, words: Words<'_>) -> Submessage {
         reader_id: EntityId::UNKNOWN,
         writer_id: EntityId([0, 0, 1, 2]),
         writer_sn: Sn::new(number_of(words.second)),
-        content: content_of(alloc, words),
+        content: content_of(words, value),
     })
 }
 
-/// The message of so many submessages.
-fn made_of(alloc: Global, words: Words<'_>) -> Message {
+/// The message of so many submessages, whose values are this one.
+fn made_of<'a>(alloc: Global, words: Words<'_>, value: &'a [u8]) -> Message<'a> {
     let mut submessages = Vec::new(alloc);
     for _ in 0..number_of(words.fourth) {
-        let _ = submessages.push(submessage_of(alloc, words));
+        let _ = submessages.push(submessage_of(words, value));
     }
     Message {
         prefix: FIRST,
@@ -211,8 +208,11 @@ fn made_of(alloc: Global, words: Words<'_>) -> Message {
     }
 }
 
-fn push_writable(text: &mut String, message: &Message) {
-    let (count, fits) = (message.submessages.as_slice().len(), is_writable(message));
+/// Appends whether the message that the words name is writable.
+fn push_writable(alloc: Global, text: &mut String, words: Words<'_>) {
+    let value = octets_of(alloc, words.third);
+    let message = made_of(alloc, words, &value);
+    let (count, fits) = (message.submessages.as_slice().len(), is_writable(&message));
     let _ = write!(text, "{count} {fits}");
 }
 
@@ -226,7 +226,7 @@ impl Subject for Messages {
             "read" => push_message(alloc, text, &message_of(alloc, operands)),
             "whole" => push_message(alloc, text, &octets_of(alloc, operands)),
             "cut" => push_cuts(alloc, text, &message_of(alloc, operands)),
-            "make" => push_writable(text, &made_of(alloc, words_of(operands))),
+            "make" => push_writable(alloc, text, words_of(operands)),
             _ => {}
         }
     }

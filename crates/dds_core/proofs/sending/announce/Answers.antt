@@ -1,7 +1,7 @@
 use Rattle.std.proofs.Common.{sym, subst}
 use Rattle.rtps_wire.specs.declared.message.Message.{Message}
 use Rattle.rtps_wire.specs.Messages.{IsWritable}
-use Rattle.dds_core.specs.Sending.{AnnouncesCopy, IsAddressable}
+use Rattle.dds_core.specs.Sending.{Announces, IsAddressable}
 use Rattle.dds_core.proofs.Announcing.{addressable_again, says_again, announces_more, few_more, some_again}
 use Rattle.dds_core.proofs.sending.announce.Goals as goal
 
@@ -14,7 +14,7 @@ loop-destination-preserved c =
     let h = c.loop-destination.invariant in
     let can : IsWritable c.addressed-message.result = subst (λ (m : Message). IsWritable m) (sym c.addressed-message.ensures) (h.writable _ c.as_slice-prefix.ensures.len) in
     record {
-      says = subst (λ (m : Message). AnnouncesCopy c.args.sender.now c.args.number c.args.content m) (sym c.addressed-message.ensures) (says_again c.args.sender.now c.args.number c.args.content c.loop-destination.message _ h.says);
+      says = subst (λ (m : Message). Announces c.args.sender.now c.args.number c.args.content m) (sym c.addressed-message.ensures) (says_again c.args.sender.now c.args.number c.args.content c.loop-destination.message _ h.says);
       sent = announces_more c.args.sender.now c.args.number c.args.content c.loop-destination.message c.addressed-message.result _ c.loop-destination.packets.items c.push_packet.new.packets.items c.args.destinations.now i
           c.loop-destination-test.true h.says c.addressed-message.ensures can c.push_packet.ensures h.sent;
       writable = subst (λ (m : Message). IsAddressable m) (sym c.addressed-message.ensures) (addressable_again c.loop-destination.message _ h.writable);

@@ -13,12 +13,12 @@ returns-in_default-clause-only c = λ m stop r.
 pub returns-clause-found : goal.returns-clause-found
 returns-clause-found c =
     let h = header_found c.args.bytes.now (c.in-Some.prefix, c.in-Some.rest.now) (λ i. omega (arith, c.type_inv.bytes i)) (sym c.in-Some.ensures.value) in
-    rw c.from_vec-submessages.ensures (message_read c.args.bytes.now c.in-Some.rest.now c.in_ok-submessages.left.now c.in-Some.prefix c.in_ok-submessages.submessages.items (omega arith) h c.in_ok-submessages.ensures.0)
+    rw c.from_vec-submessages.ensures.items (message_read c.args.bytes.now c.in-Some.rest.now c.in_ok-submessages.left.now c.in-Some.prefix c.in_ok-submessages.submessages.items (omega arith) h c.in_ok-submessages.ensures.0)
 
 pub returns-clause-only : goal.returns-clause-only
 returns-clause-only c = λ m stop r.
     let h = header_found c.args.bytes.now (c.in-Some.prefix, c.in-Some.rest.now) (λ i. omega (arith, c.type_inv.bytes i)) (sym c.in-Some.ensures.value) in
-    let found : ReadsMessage c.args.bytes.now (record { prefix = c.in-Some.prefix; submessages = c.from_vec-submessages.result }) (length c.args.bytes.now - length c.in_ok-submessages.left.now) = rw c.from_vec-submessages.ensures (message_read c.args.bytes.now c.in-Some.rest.now c.in_ok-submessages.left.now c.in-Some.prefix c.in_ok-submessages.submessages.items (omega arith) h c.in_ok-submessages.ensures.0) in
+    let found : ReadsMessage c.args.bytes.now (record { prefix = c.in-Some.prefix; submessages = c.from_vec-submessages.result }) (length c.args.bytes.now - length c.in_ok-submessages.left.now) = rw c.from_vec-submessages.ensures.items (message_read c.args.bytes.now c.in-Some.rest.now c.in_ok-submessages.left.now c.in-Some.prefix c.in_ok-submessages.submessages.items (omega arith) h c.in_ok-submessages.ensures.0) in
     let same = message_one c.args.bytes.now (record { prefix = c.in-Some.prefix; submessages = c.from_vec-submessages.result }) m (length c.args.bytes.now - length c.in_ok-submessages.left.now) stop found r in
     cc
 

@@ -17,10 +17,10 @@ pub loop-frame-preserved : goal.loop-frame-preserved
 loop-frame-preserved c =
     let f = frame_found c.loop-frame.left.now (c.in-Some.frame.id, c.in-Some.frame.flags, c.in-Some.frame.body.now, c.in-Some.rest.now) c.loop-frame.invariant.octets (sym c.in-Some.ensures.value) in
     record {
-      on = λ ss end r. rw (c.in_ok-push.ensures.items, append_assoc) (c.loop-frame.invariant.on (c.in_ok-submessage_of.field-0 ∷ ss) end
-          (c.in-Some.frame.id, c.in-Some.frame.flags, c.in-Some.frame.body.now, c.in-Some.rest.now, f.frame, c.in_ok-submessage_of.ensures, r));
+      on = λ ss end r. rw (c.in_ok-push.ensures.items, append_assoc) (c.loop-frame.invariant.on (c.submessage_of.result ∷ ss) end
+          (c.in-Some.frame.id, c.in-Some.frame.flags, c.in-Some.frame.body.now, c.in-Some.rest.now, f.frame, c.submessage_of.ensures, r));
       fewer =
-          let longer = ap length c.in_ok-push.ensures.items ∙ length-append c.loop-frame.submessages.items (c.in_ok-submessage_of.field-0 ∷ []) in
+          let longer = ap length c.in_ok-push.ensures.items ∙ length-append c.loop-frame.submessages.items (c.submessage_of.result ∷ []) in
           let before = c.loop-frame.invariant.fewer in
           omega (arith, longer, before, c.in-Some.ensures.rest);
       first = inr (begins c.loop-frame.left.now c.args.bytes.now (c.in-Some.frame.id, c.in-Some.frame.flags, c.in-Some.frame.body.now, c.in-Some.rest.now, f.frame) c.loop-frame.invariant.first);
@@ -32,12 +32,6 @@ returns c =
     let none : frame_at c.loop-frame.left.now ≡ None = sym c.in_default.ensures.value in
     let all = c.loop-frame.invariant.on [] c.loop-frame.left.now (frame_none c.loop-frame.left.now c.loop-frame.invariant.octets none, refl) in
     (rw (← append-nil c.loop-frame.submessages.items) all, c.loop-frame.invariant.fewer)
-
-pub returns-in_err-submessage_of : goal.returns-in_err-submessage_of
-returns-in_err-submessage_of c =
-    let f = frame_found c.loop-frame.left.now (c.in-Some.frame.id, c.in-Some.frame.flags, c.in-Some.frame.body.now, c.in-Some.rest.now) c.loop-frame.invariant.octets (sym c.in-Some.ensures.value) in
-    let has : HasFrame c.args.bytes.now = begins c.loop-frame.left.now c.args.bytes.now (c.in-Some.frame.id, c.in-Some.frame.flags, c.in-Some.frame.body.now, c.in-Some.rest.now, f.frame) c.loop-frame.invariant.first in
-    search rules
 
 pub returns-in_err-push : goal.returns-in_err-push
 returns-in_err-push c =

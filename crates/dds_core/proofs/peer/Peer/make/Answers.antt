@@ -3,7 +3,6 @@ use Rattle.std.proofs.lemmas.Option.{slice_get-get_or}
 use Rattle.dds_core.specs.Kept.{WriterKept, PeerKept}
 use Rattle.dds_core.specs.Standing.{StandsFor}
 use Rattle.dds_core.proofs.Makes.{made, not_made}
-use Rattle.dds_core.proofs.Sent.{sent_messages}
 use Rattle.dds_core.proofs.peer.Peer.make.Goals as goal
 
 pub returns-in-Ok-clause-makes : goal.returns-in-Ok-clause-makes
@@ -12,13 +11,8 @@ returns-in-Ok-clause-makes c = λ config peer given.
     let s = subst (λ (k : PeerKept). StandsFor k config peer) (sym c.self.view_is) given in
     let within : i < length c.self.inside.writers.items = let lt = c.requires.within in let same = ap (λ (k : PeerKept). length k.writers) c.self.view_is in omega (arith, lt, same) in
     let at : slice_get c.self.inside.writers.items i ≡ Some c.index_mut.result.now = slice_get-get_or c.self.inside.writers.items i _ within ∙ ap (λ (x : WriterKept). Some x) (sym c.index_mut.ensures.value) in
-    inl (made _ i c.index_mut.result.now c.append.new.self c.args.kind c.args.key c.args.value c.in-Ok.number c.of_change-content.result c.announced.result config peer s at c.in-Ok.ensures.ok c.in-Ok.ensures.accepted c.requires.empty
-    c.of_change-content.ensures c.announced.ensures.reply c.announced.ensures.sends)
-
-pub returns-in-Ok-clause-messages : goal.returns-in-Ok-clause-messages
-returns-in-Ok-clause-messages c =
-    let all = c.announced.ensures.sends in
-    sent_messages _ c.in-Ok.number c.of_change-content.result all.writer.destinations c.announced.result.packets all.packets
+    inl (made _ i c.index_mut.result.now c.append.new.self c.args.kind c.args.key c.args.value c.in-Ok.number c.announced.result config peer s at c.in-Ok.ensures.ok c.in-Ok.ensures.accepted c.requires.empty
+    c.announced.ensures.reply c.announced.ensures.sends)
 
 pub returns-in-Err-clause-makes : goal.returns-in-Err-clause-makes
 returns-in-Err-clause-makes c = λ config peer given.

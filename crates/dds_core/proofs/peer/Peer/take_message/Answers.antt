@@ -18,7 +18,7 @@ loop-index-init c = record {
   few = let none = c.requires.zero in omega (arith, none);
   messages = no_messages c.args.sent.now.packets.items c.requires.none;
   same = refl;
-  whole = c.as_slice-submessage-items.ensures;
+  whole = c.as_slice-submessage-items.ensures.items;
 }
 
 pub returns-in-Err-clause-takes : goal.returns-in-Err-clause-takes
