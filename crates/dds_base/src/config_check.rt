@@ -44,7 +44,8 @@ impl Config {
         // What is taken has no fault.
         ensures none { IfNone result (check_refusal self.now.peers ≡ None) }
         // A fault has the code of the refusal.
-        ensures code { IfSome result (λ f. check_refusal self.now.peers ≡ Some (code_of_rule f.rule)) }
+        ensures code { IfSome result
+            (λ f. check_refusal self.now.peers ≡ Some (code_of_rule f.rule)) }
         // Its rule is broken at its place.
         ensures broken { IfSome result (λ fault. Breaks self.now.peers fault) }
     {

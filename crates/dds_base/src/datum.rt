@@ -108,7 +108,8 @@ fn datum_ref_of(bytes: &[u8]) -> Option<DatumRef<'_>>
 
 fn datum_of(alloc: Global, bytes: &[u8]) -> Result<Option<Datum>, Code>
     ensures exact { MatchResult result (λ read. read ≡ datum_at bytes.now) (λ e. e ≡ Code.Memory) }
-    ensures memory { IfErr result (λ e. (d : Datum) × (datum_at bytes.now ≡ Some d) × (d.value ≢ [])) }
+    ensures memory { IfErr result
+        (λ e. (d : Datum) × (datum_at bytes.now ≡ Some d) × (d.value ≢ [])) }
 {
     let Some(datum) = datum_ref_of(bytes) else {
         return Ok(None);
@@ -183,7 +184,8 @@ pub fn decode_datum_ref(bytes: &[u8]) -> Option<DatumRef<'_>>
 /// RTPS 2.5, clause 10.
 pub fn decode_datum_key(bytes: &[u8]) -> Option<Key>
     // A key that is found is that of a datum that is spelled so.
-    ensures found { IfSome result (λ k. (value : List ℕ) × ReadsDatum bytes.now (record { key = k; value = value })) }
+    ensures found { IfSome result
+        (λ k. (value : List ℕ) × ReadsDatum bytes.now (record { key = k; value = value })) }
     // Where a datum is spelled so its key is found, and no other.
     ensures only { (d : Datum) → ReadsDatum bytes.now d → result ≡ Some d.key }
     // Which of the two, in one step.

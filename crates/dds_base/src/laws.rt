@@ -24,14 +24,17 @@ use crate::mask::{InstanceStateMask, Masks, SampleStateMask, ViewStateMask};
 /// finds it. Acceptance under EXCLUSIVE asks for just that owner, among those registered before and the writer itself.
 pub fn owner_is_found()
     // What the definition finds is an owner.
-    ensures found { (q : ReaderQos) (ws : List ℕ) (w : ℕ) → owner_of q ws ≡ Some w → IsOwner q ws w }
+    ensures found { (q : ReaderQos) (ws : List ℕ) (w : ℕ) → owner_of q ws ≡ Some w
+        → IsOwner q ws w }
     // There are no two owners.
-    ensures only { (q : ReaderQos) (ws : List ℕ) (v w : ℕ) → IsOwner q ws v → IsOwner q ws w → v ≡ w }
+    ensures only { (q : ReaderQos) (ws : List ℕ) (v w : ℕ) → IsOwner q ws v → IsOwner q ws w
+        → v ≡ w }
     // Where somebody is registered for the instance an owner is found.
     ensures exists { (q : ReaderQos) (i : Key) (h : List Happening) → HaveOwnGuids q
         → registered_writers q i h ≢ [] → IsSome (owner_of q (registered_writers q i h)) }
     // A writer outranks all others exactly if it owns among them and itself.
-    ensures among { (q : ReaderQos) (ws : List ℕ) (w : ℕ) → IsTrue (outranks_all q ws w) ↔ IsOwner q (w ∷ ws) w }
+    ensures among { (q : ReaderQos) (ws : List ℕ) (w : ℕ) → IsTrue (outranks_all q ws w)
+        ↔ IsOwner q (w ∷ ws) w }
 {}
 
 /// A value of `MAX_VALUE` octets has a written form, a longer one has none.
@@ -43,7 +46,8 @@ pub fn max_value_is_the_longest()
 /// What is written is read as itself, and no bytes are read as two.
 pub fn spelling_is_read()
     // No bytes are read as two data.
-    ensures one_datum { (bytes : List ℕ) (d e : Datum) → ReadsDatum bytes d → ReadsDatum bytes e → d ≡ e }
+    ensures one_datum { (bytes : List ℕ) (d e : Datum) → ReadsDatum bytes d → ReadsDatum bytes e
+        → d ≡ e }
     // No bytes are read as two keys.
     ensures one_key { (bytes : List ℕ) (k l : Key) → ReadsKey bytes k → ReadsKey bytes l → k ≡ l }
     // A datum that is written is read as itself.

@@ -46,8 +46,10 @@ pub fn left_by(
     is_write: bool,
 ) -> Option<Kept>
     ensures left { (h : List Happening) → Stands qos.now instances.now (Came arrival ∷ h)
-        → is_write ≡ ends_with_write qos.now arrival.change.key (Came arrival ∷ h) → IsFresh h arrival.change.key
-        → MatchOption result (is_present qos.now (Came arrival ∷ h) arrival.change.key (length h + 1) ≡ false)
+        → is_write ≡ ends_with_write qos.now arrival.change.key (Came arrival ∷ h)
+        → IsFresh h arrival.change.key
+        → MatchOption result
+        (is_present qos.now (Came arrival ∷ h) arrival.change.key (length h + 1) ≡ false)
         (IsKeptAt qos.now (Came arrival ∷ h) arrival.change.key (length h + 1)) }
     ensures small { IfSome result IsSmall }
 {
@@ -93,7 +95,8 @@ pub fn add_left(
     ensures len { vec_len samples.new ≤ vec_len samples.old + 1 }
     ensures capacity { vec_capacity samples.old ≤ vec_capacity samples.new }
     ensures samples { (h : List Happening) → Stands qos.now instances.now (Came arrival ∷ h)
-        → is_write ≡ ends_with_write qos.now arrival.change.key (Came arrival ∷ h) → IsFresh h arrival.change.key
+        → is_write ≡ ends_with_write qos.now arrival.change.key (Came arrival ∷ h)
+        → IsFresh h arrival.change.key
         → Adds qos.now (Came arrival) h samples.old.items samples.new.items }
     ensures small { All IsSmall samples.old.items → All IsSmall samples.new.items }
 {

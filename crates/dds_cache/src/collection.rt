@@ -65,7 +65,8 @@ pub fn gather(alloc: Global, samples: &[Kept], found: &[Candidate]) -> Result<Ac
     requires placed { All (IsPlaced (length samples.now)) found.now }
     ensures positions { IfOk result (λ access. access.positions.items ≡ map sample_in found.now) }
     ensures set { IfOk result (λ access. HaveSame access.returned.keys access.positions.items) }
-    ensures samples { IfOk result (λ access. IsCollection samples.now found.now access.samples.items) }
+    ensures samples { IfOk result
+        (λ access. IsCollection samples.now found.now access.samples.items) }
     ensures memory { IfErr result (λ e. e ≡ Memory) }
 {
     let collection = collect(alloc, samples, found)?;

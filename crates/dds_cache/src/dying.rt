@@ -27,7 +27,8 @@ fn marker_of(
     writer: Handle,
     moment: Moment,
 ) -> Option<Kept>
-    ensures left { (q : ReaderQos) (h : List Happening) (i : Key) → Stands q instances.now (Died writer moment ∷ h)
+    ensures left { (q : ReaderQos) (h : List Happening) (i : Key)
+        → Stands q instances.now (Died writer moment ∷ h)
         → instance_of q (Died writer moment ∷ h) handle ≡ Some i → IsFresh h i
         → MatchOption result (is_present q (Died writer moment ∷ h) i (length h + 1) ≡ false)
         (IsKeptAt q (Died writer moment ∷ h) i (length h + 1)) }
@@ -65,12 +66,16 @@ fn add_marker(
     writer: Handle,
     moment: Moment,
 )
-    requires room { vec_len samples.old + one_if (has_marked instances.now handle) ≤ vec_capacity samples.old }
-    ensures len { vec_len samples.new ≤ vec_len samples.old + one_if (has_marked instances.now handle) }
+    requires room { vec_len samples.old + one_if (has_marked instances.now handle)
+        ≤ vec_capacity samples.old }
+    ensures len { vec_len samples.new
+        ≤ vec_len samples.old + one_if (has_marked instances.now handle) }
     ensures capacity { vec_capacity samples.old ≤ vec_capacity samples.new }
-    ensures samples { (q : ReaderQos) (h : List Happening) (i : Key) → Stands q instances.now (Died writer moment ∷ h)
+    ensures samples { (q : ReaderQos) (h : List Happening) (i : Key)
+        → Stands q instances.now (Died writer moment ∷ h)
         → instance_of q (Died writer moment ∷ h) handle ≡ Some i → IsFresh h i
-        → AddsOf q (Died writer moment ∷ h) (length h + 1) (i ∷ []) samples.old.items samples.new.items }
+        → AddsOf q (Died writer moment ∷ h) (length h + 1)
+        (i ∷ []) samples.old.items samples.new.items }
     ensures small { All IsSmall samples.old.items → All IsSmall samples.new.items }
 {
     if let Some(kept) = marker_of(alloc, instances, handle, writer, moment) {
@@ -92,7 +97,8 @@ pub fn add_markers(
     requires room { vec_len samples.old + marked_of instances.now ≤ vec_capacity samples.old }
     ensures len { vec_len samples.new ≤ vec_len samples.old + marked_of instances.now }
     ensures capacity { vec_capacity samples.old ≤ vec_capacity samples.new }
-    ensures samples { (q : ReaderQos) (h : List Happening) → Stands q instances.now (Died writer moment ∷ h)
+    ensures samples { (q : ReaderQos) (h : List Happening)
+        → Stands q instances.now (Died writer moment ∷ h)
         → count ≡ length (known_instances q (Died writer moment ∷ h)) → ((i : Key) → IsFresh h i)
         → Adds q (Died writer moment) h samples.old.items samples.new.items }
     ensures small { All IsSmall samples.old.items → All IsSmall samples.new.items }

@@ -167,7 +167,8 @@ impl ReaderCache {
     /// Takes up a death, in the room that there is for it.
     fn bury(&mut self, writer: Handle, moment: Moment)
         requires reserved { 1 ≤ deaths_of self.old }
-        ensures stands { (h : List Happening) → StandsFor self.old h → StandsFor self.new (Died writer moment ∷ h) }
+        ensures stands { (h : List Happening) → StandsFor self.old h
+            → StandsFor self.new (Died writer moment ∷ h) }
         ensures qos { qos_of self.new ≡ qos_of self.old }
         ensures room { room_of self.old ≤ room_of self.new + 1 }
         ensures deaths { deaths_of self.new + 1 ≡ deaths_of self.old }
@@ -192,7 +193,8 @@ impl ReaderCache {
     /// Takes up a change, in the room that there is.
     fn take_up(&mut self, arrival: Arrival)
         requires room { 1 ≤ room_of self.old }
-        ensures stands { (h : List Happening) → StandsFor self.old h → StandsFor self.new (Came arrival ∷ h) }
+        ensures stands { (h : List Happening) → StandsFor self.old h
+            → StandsFor self.new (Came arrival ∷ h) }
         ensures qos { qos_of self.new ≡ qos_of self.old }
         ensures room { room_of self.new + 1 ≡ room_of self.old }
     {
@@ -232,7 +234,8 @@ impl ReaderCache {
             ((h : List Happening) (w first last : ℕ) → StandsFor self.old h
             → StandsFor self.new (Passed w first last ∷ h)) }
         ensures heard { OnOk result
-            ((h : List Happening) (w moment : ℕ) → StandsFor self.old h → StandsFor self.new (Heard w moment ∷ h)) }
+            ((h : List Happening) (w moment : ℕ) → StandsFor self.old h
+            → StandsFor self.new (Heard w moment ∷ h)) }
         ensures qos { qos_of self.new ≡ qos_of self.old }
         ensures reserved { 1 ≤ room_of self.old → IsOk result }
         ensures room { room_of self.old ≤ room_of self.new + 1 }
@@ -257,7 +260,8 @@ impl ReaderCache {
         // The writer is a matched one.
         requires matched { IsMatched (qos_of self.old) arrival.writer }
         // The change came, and nothing else happened.
-        ensures ok { OnOk result ((h : List Happening) → StandsFor self.old h → StandsFor self.new (Came arrival ∷ h)) }
+        ensures ok { OnOk result ((h : List Happening) → StandsFor self.old h
+            → StandsFor self.new (Came arrival ∷ h)) }
         // The policies stay.
         ensures qos { qos_of self.new ≡ qos_of self.old }
         // Where there is room it comes.
@@ -287,7 +291,8 @@ impl ReaderCache {
         requires matched { IsMatched (qos_of self.old) writer }
         // They were passed over, and nothing else happened.
         ensures ok { OnOk result
-            ((h : List Happening) → StandsFor self.old h → StandsFor self.new (Passed writer first last ∷ h)) }
+            ((h : List Happening) → StandsFor self.old h
+            → StandsFor self.new (Passed writer first last ∷ h)) }
         // The policies stay.
         ensures qos { qos_of self.new ≡ qos_of self.old }
         // Where there is room it is taken up.
@@ -316,7 +321,8 @@ impl ReaderCache {
         requires matched { IsMatched (qos_of self.old) writer }
         // It was heard, and nothing else happened.
         ensures ok { OnOk result
-            ((h : List Happening) → StandsFor self.old h → StandsFor self.new (Heard writer moment ∷ h)) }
+            ((h : List Happening) → StandsFor self.old h
+            → StandsFor self.new (Heard writer moment ∷ h)) }
         // The policies stay.
         ensures qos { qos_of self.new ≡ qos_of self.old }
         // Where there is room it is taken up.
@@ -345,7 +351,8 @@ impl ReaderCache {
         requires matched { IsMatched (qos_of self.old) writer }
         // The writer died, and nothing else happened.
         ensures ok { OnOk result
-            ((h : List Happening) → StandsFor self.old h → StandsFor self.new (Died writer moment ∷ h)) }
+            ((h : List Happening) → StandsFor self.old h
+            → StandsFor self.new (Died writer moment ∷ h)) }
         // The policies stay.
         ensures qos { qos_of self.new ≡ qos_of self.old }
         // Where there is room for a death it is taken up.
@@ -466,7 +473,8 @@ impl ReaderCache {
     pub fn read(&mut self, selection: Selection) -> Result<Sequence<Sample>, Code>
         // The samples are those that the definitions pick of what happened, or there is none; or it is refused by the
         // first cause that there is, or for want of memory.
-        ensures answer { (h : List Happening) → StandsFor self.old h → Answers self.old h selection result }
+        ensures answer { (h : List Happening) → StandsFor self.old h
+            → Answers self.old h selection result }
         // The read is entered, and nothing else; one that is refused is not.
         ensures after { (h : List Happening) → StandsFor self.old h
             → AfterAccess Read self.old h selection result self.new }
@@ -520,7 +528,8 @@ impl ReaderCache {
     pub fn take(&mut self, selection: Selection) -> Result<Sequence<Sample>, Code>
         // The samples are those that the definitions pick of what happened, or there is none; or it is refused by the
         // first cause that there is, or for want of memory.
-        ensures answer { (h : List Happening) → StandsFor self.old h → Answers self.old h selection result }
+        ensures answer { (h : List Happening) → StandsFor self.old h
+            → Answers self.old h selection result }
         // The take is entered, and nothing else; one that is refused is not.
         ensures after { (h : List Happening) → StandsFor self.old h
             → AfterAccess Took self.old h selection result self.new }
@@ -615,7 +624,8 @@ fn data_after(data_at: u64, before: usize, after: usize, position: u64) -> u64
 
 /// The samples of an access, or that there is none.
 fn answer_of(access: Access) -> Result<Sequence<Sample>, Code>
-    ensures { result ≡ (if length access.positions.items == 0 then Err NoData else Ok access.samples.items) }
+    ensures { result
+        ≡ (if length access.positions.items == 0 then Err NoData else Ok access.samples.items) }
 {
     let Access {
         positions,

@@ -34,7 +34,8 @@ pub fn mark_all(samples: &mut Vec<Kept>, returned: &IndexSet<SamplePosition>)
 
 /// Removes the samples that a take returned.
 pub fn remove_all(samples: &mut Vec<Kept>, returned: &IndexSet<SamplePosition>)
-    ensures items { samples.new.items ≡ filter (λ k. not (is_among returned.now.keys k)) samples.old.items }
+    ensures items { samples.new.items
+        ≡ filter (λ k. not (is_among returned.now.keys k)) samples.old.items }
     ensures len { vec_len samples.new ≤ vec_len samples.old }
     ensures capacity { vec_capacity samples.old ≤ vec_capacity samples.new }
 {

@@ -52,8 +52,11 @@ fn keeps_to(limit: Option<u32>, count: usize, one_more: bool) -> bool
 
 /// Whether there may be so many instances after an accepted change.
 fn instances_fit(instances: &Instances, qos: &ReaderQos, arrival: &Arrival) -> bool
-    ensures { (h : List Happening) → Stands qos.now instances.now h → is_accepted qos.now h (Came arrival.now) ≡ true
-        → result ≡ is_within qos.now.max_instances (length (known_instances qos.now (Came arrival.now ∷ h))) }
+    ensures { (h : List Happening) → Stands qos.now instances.now h
+        → is_accepted qos.now h (Came arrival.now) ≡ true
+        → result
+        ≡ is_within qos.now.max_instances
+        (length (known_instances qos.now (Came arrival.now ∷ h))) }
 {
     let is_new = instances.known(arrival.change.key).is_none();
     keeps_to(qos.max_instances, instances.len(), is_new)
@@ -70,7 +73,8 @@ fn is_write_then(
 ) -> bool
     ensures { (h : List Happening) → Stands qos.now instances.now h
         → is_write ≡ ends_with_write qos.now arrival.now.change.key (Came arrival.now ∷ h)
-        → is_marked ≡ marks qos.now arrival.now.change.key h (Came arrival.now) → IsKept qos.now h kept.now
+        → is_marked ≡ marks qos.now arrival.now.change.key h (Came arrival.now)
+        → IsKept qos.now h kept.now
         → result ≡ is_present_write qos.now (Came arrival.now ∷ h) kept.now }
 {
     match instances.at(kept.handle) {
@@ -93,7 +97,8 @@ fn count_writes(
 ) -> usize
     ensures { (h : List Happening) → Stands qos.now instances.now h
         → is_write ≡ ends_with_write qos.now arrival.now.change.key (Came arrival.now ∷ h)
-        → is_marked ≡ marks qos.now arrival.now.change.key h (Came arrival.now) → All (IsKept qos.now h) samples.now
+        → is_marked ≡ marks qos.now arrival.now.change.key h (Came arrival.now)
+        → All (IsKept qos.now h) samples.now
         → result ≡ count_by (is_present_write qos.now (Came arrival.now ∷ h)) samples.now }
 {
     let mut count = 0;
@@ -107,7 +112,8 @@ fn count_writes(
 
 /// Whether there may be so many present writes after an accepted change.
 fn samples_fit(instances: &Instances, qos: &ReaderQos, arrival: &Arrival, samples: &[Kept]) -> bool
-    ensures { (h : List Happening) → Holds qos.now instances.now samples.now h → IsFresh h arrival.now.change.key
+    ensures { (h : List Happening) → Holds qos.now instances.now samples.now h
+        → IsFresh h arrival.now.change.key
         → is_accepted qos.now h (Came arrival.now) ≡ true
         → result ≡ is_within qos.now.max_samples (present_writes qos.now (Came arrival.now ∷ h)) }
 {
@@ -129,8 +135,10 @@ pub fn is_room(
     arrivals: u32,
     arrival: &Arrival,
 ) -> bool
-    ensures { (h : List Happening) → Holds qos.now instances.now samples.now h → IsFresh h arrival.now.change.key
-        → arrivals ≡ min (arrivals_of h) (2 ^ 31 - 1) → result ≡ has_room qos.now h (Came arrival.now) }
+    ensures { (h : List Happening) → Holds qos.now instances.now samples.now h
+        → IsFresh h arrival.now.change.key
+        → arrivals ≡ min (arrivals_of h) (2 ^ 31 - 1)
+        → result ≡ has_room qos.now h (Came arrival.now) }
 {
     arrivals < MAX_ARRIVALS - 1
         && (!instances.accepts(qos, arrival)

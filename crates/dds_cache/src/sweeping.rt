@@ -15,7 +15,8 @@ const SWEPT_FROM: usize = 16;
 
 /// Whether a kept sample may still be present.
 fn is_still_live(instances: &Instances, qos: &ReaderQos, kept: &Kept) -> bool
-    ensures { (h : List Happening) → Stands qos.now instances.now h → result ≡ stays qos.now h kept.now }
+    ensures { (h : List Happening) → Stands qos.now instances.now h
+        → result ≡ stays qos.now h kept.now }
 {
     match instances.at(kept.handle) {
         None => true,

@@ -160,11 +160,13 @@ impl Watch {
     /// DDS 1.4, 2.2.2.1 (GuardCondition, set_trigger_value).
     pub fn set_guard(&mut self, number: u32, value: bool) -> Result<(), Code>
         // It has the value, and the others are as before.
-        ensures ok { OnOk result (self.new ≡ with_condition_at self.old number (Some (IsGuard value))) }
+        ensures ok { OnOk result (self.new
+            ≡ with_condition_at self.old number (Some (IsGuard value))) }
         // There is such a condition, and it is a guard.
         ensures taken { OnOk result (guard_refusal (made self.old.conditions number) ≡ None) }
         // A refusal is for its cause.
-        ensures refused { IfErr result (λ code. guard_refusal (made self.old.conditions number) ≡ Some code) }
+        ensures refused { IfErr result
+            (λ code. guard_refusal (made self.old.conditions number) ≡ Some code) }
         // A refusal changes nothing.
         ensures err { OnErr result (self.new ≡ self.old) }
     {
@@ -188,9 +190,11 @@ impl Watch {
         // It is gone, and attached nowhere.
         ensures ok { OnOk result (self.new ≡ without_condition self.old number) }
         // There is such a condition.
-        ensures taken { OnOk result (unless_there (is_some (made self.old.conditions number)) ≡ None) }
+        ensures taken { OnOk result (unless_there (is_some (made self.old.conditions number))
+            ≡ None) }
         // A refusal is for its cause.
-        ensures refused { IfErr result (λ code. unless_there (is_some (made self.old.conditions number)) ≡ Some code) }
+        ensures refused { IfErr result
+            (λ code. unless_there (is_some (made self.old.conditions number)) ≡ Some code) }
         // A refusal changes nothing.
         ensures err { OnErr result (self.new ≡ self.old) }
     {
@@ -293,7 +297,8 @@ impl Watch {
         // There is such a WaitSet, and nobody waited in it.
         ensures taken { OnOk result (free_refusal (made self.old.wait_sets number) ≡ None) }
         // A refusal is for its cause.
-        ensures refused { IfErr result (λ code. free_refusal (made self.old.wait_sets number) ≡ Some code) }
+        ensures refused { IfErr result
+            (λ code. free_refusal (made self.old.wait_sets number) ≡ Some code) }
         // A refusal changes nothing.
         ensures err { OnErr result (self.new ≡ self.old) }
     {
@@ -319,7 +324,8 @@ impl Watch {
         // There is such a WaitSet, and such a condition.
         ensures taken { OnOk result (attach_refusal self.old number condition ≡ None) }
         // A refusal is for its cause, or for want of memory.
-        ensures refused { IfErr result (λ code. Refuses (attach_refusal self.old number condition) code) }
+        ensures refused { IfErr result
+            (λ code. Refuses (attach_refusal self.old number condition) code) }
         // Attached again, it is refused for its cause alone.
         ensures again { is_attached condition (conditions_of self.old number) ≡ true
             → IfErr result (λ code. attach_refusal self.old number condition ≡ Some code) }
@@ -350,7 +356,8 @@ impl Watch {
         // There is such a WaitSet, and such a condition, which was attached.
         ensures taken { OnOk result (detaching_refusal self.old number condition ≡ None) }
         // A refusal is for its cause.
-        ensures refused { IfErr result (λ code. detaching_refusal self.old number condition ≡ Some code) }
+        ensures refused { IfErr result
+            (λ code. detaching_refusal self.old number condition ≡ Some code) }
         // A refusal changes nothing.
         ensures err { OnErr result (self.new ≡ self.old) }
     {
@@ -375,7 +382,8 @@ impl Watch {
         // They are those that are attached to it.
         ensures ok { IfOk result (λ conditions. conditions ≡ conditions_of self.now number) }
         // There is such a WaitSet.
-        ensures taken { OnOk result (unless_there (is_some (made self.now.wait_sets number)) ≡ None) }
+        ensures taken { OnOk result (unless_there (is_some (made self.now.wait_sets number))
+            ≡ None) }
         // A refusal is for its cause, or for want of memory.
         ensures refused { IfErr result
             (λ code. Refuses (unless_there (is_some (made self.now.wait_sets number))) code) }
@@ -412,7 +420,8 @@ impl Watch {
         // There is such a WaitSet, and nobody waited in it.
         ensures taken { OnOk result (free_refusal (made self.old.wait_sets number) ≡ None) }
         // A refusal is for its cause.
-        ensures refused { IfErr result (λ code. free_refusal (made self.old.wait_sets number) ≡ Some code) }
+        ensures refused { IfErr result
+            (λ code. free_refusal (made self.old.wait_sets number) ≡ Some code) }
         // A refusal changes nothing.
         ensures err { OnErr result (self.new ≡ self.old) }
     {
@@ -439,7 +448,8 @@ impl Watch {
         // There is such a WaitSet, and somebody waited in it.
         ensures taken { OnOk result (use_refusal (made self.old.wait_sets number) ≡ None) }
         // A refusal is for its cause.
-        ensures refused { IfErr result (λ code. use_refusal (made self.old.wait_sets number) ≡ Some code) }
+        ensures refused { IfErr result
+            (λ code. use_refusal (made self.old.wait_sets number) ≡ Some code) }
         // A refusal changes nothing.
         ensures err { OnErr result (self.new ≡ self.old) }
     {
@@ -463,11 +473,13 @@ impl Watch {
     pub fn deadline(&self, number: u32) -> Result<Moment, Code>
         // The wait is over exactly from this moment on.
         ensures ok { IfOk result
-            (λ moment. (now : ℕ) → is_timed_out (made self.now.wait_sets number) now ≡ nat_le moment now) }
+            (λ moment. (now : ℕ)
+            → is_timed_out (made self.now.wait_sets number) now ≡ nat_le moment now) }
         // There is such a WaitSet, and somebody waits in it.
         ensures taken { OnOk result (use_refusal (made self.now.wait_sets number) ≡ None) }
         // A refusal is for its cause.
-        ensures refused { IfErr result (λ code. use_refusal (made self.now.wait_sets number) ≡ Some code) }
+        ensures refused { IfErr result
+            (λ code. use_refusal (made self.now.wait_sets number) ≡ Some code) }
     {
         let waiting = self.wait_set(number).ok_or(Code::BadParameter)?;
         waiting.deadline.ok_or(Code::PreconditionNotMet)
@@ -527,7 +539,8 @@ impl Watch {
     pub fn enabled(&self, entity: Entity) -> Option<StatusMask>
         // There is such an entity, and these are those that are enabled.
         ensures there { IfSome result
-            (λ mask. (knows_entity self.now entity ≡ true) × ((none : Mask) → mask ≡ enabled_of self.now entity none)) }
+            (λ mask. (knows_entity self.now entity ≡ true)
+            × ((none : Mask) → mask ≡ enabled_of self.now entity none)) }
         // There is none only where there is no such entity.
         ensures none { IfNone result (knows_entity self.now entity ≡ false) }
     {
@@ -554,7 +567,8 @@ impl Watch {
         // There is such an entity.
         ensures taken { OnOk result (unless_there (knows_entity self.old entity) ≡ None) }
         // A refusal is for its cause.
-        ensures refused { IfErr result (λ code. unless_there (knows_entity self.old entity) ≡ Some code) }
+        ensures refused { IfErr result
+            (λ code. unless_there (knows_entity self.old entity) ≡ Some code) }
         // A refusal changes nothing.
         ensures err { OnErr result (self.new ≡ self.old) }
     {

@@ -39,7 +39,8 @@ impl Peer {
     }
 
     pub(crate) fn get_key_value(&self, reader: u8, instance: Handle) -> Output
-        ensures step { Steps self.now (event.Call (call.GetKeyValue reader instance)) result self.now }
+        ensures step { Steps self.now
+            (event.Call (call.GetKeyValue reader instance)) result self.now }
         ensures sends { SendsNothing result }
     {
         let Some(index) = index_of(reader, self.readers.len()) else {
@@ -52,7 +53,8 @@ impl Peer {
     }
 
     pub(crate) fn lookup_instance(&self, reader: u8, key: Key) -> Output
-        ensures step { Steps self.now (event.Call (call.LookupInstance reader key)) result self.now }
+        ensures step { Steps self.now
+            (event.Call (call.LookupInstance reader key)) result self.now }
         ensures sends { SendsNothing result }
     {
         let Some(index) = index_of(reader, self.readers.len()) else {
@@ -74,7 +76,8 @@ impl Peer {
     }
 
     pub(crate) fn get_liveliness_changed(&mut self, reader: u8) -> Output
-        ensures step { Steps self.old (event.Call (call.GetLivelinessChanged reader)) result self.new }
+        ensures step { Steps self.old
+            (event.Call (call.GetLivelinessChanged reader)) result self.new }
         ensures sends { SendsNothing result }
     {
         let Some(index) = index_of(reader, self.readers.len()) else {

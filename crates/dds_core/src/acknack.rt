@@ -26,7 +26,8 @@ fn message(
 ) -> Result<Message<'static>, AllocError>
     requires { IsSayable due.now }
     ensures says { IfOk result
-        (λ m. m ≡ acknack_message own writer.now.guid.prefix reader writer.now.guid.entity due.now) }
+        (λ m. m ≡ acknack_message own writer.now.guid.prefix reader writer.now.guid.entity
+        due.now) }
     ensures writable { IfOk result IsWritable }
     ensures some { IfOk result (λ m. 1 ≤ length m.submessages) }
 {
@@ -61,7 +62,9 @@ pub fn send_acknack(
     requires sayable { IfSome due IsSayable }
     requires room { sent.old.unsent < 2 ^ 62 }
     ensures few { sent.new.unsent ≤ sent.old.unsent + 1 }
-    ensures adds { AddsTo (acknacks_due own writer.now.guid.prefix writer.now.writer.peer reader writer.now.guid.entity due) sent.old sent.new }
+    ensures adds { AddsTo
+        (acknacks_due own writer.now.guid.prefix writer.now.writer.peer reader
+        writer.now.guid.entity due) sent.old sent.new }
     ensures messages { AreMessages sent.old.packets.items → AreMessages sent.new.packets.items }
 {
     if let Some(due) = due {

@@ -70,7 +70,8 @@ pub fn rooms(
     entity: EntityId,
     readers: &[ReaderName],
 ) -> Result<Vec<Option<Room>>, AllocError>
-    ensures { IfOk result (λ all. AreRooms own.now entity (receiver_at receiver.now) body.now readers.now all.items) }
+    ensures { IfOk result
+        (λ all. AreRooms own.now entity (receiver_at receiver.now) body.now readers.now all.items) }
 {
     let mut rooms = Vec::new(alloc);
     for name in readers {
@@ -137,7 +138,8 @@ fn push_gap(
     ensures spells { OnOk result (SpellsMore submessages.old.items submessages.new.items) }
     ensures adds { OnOk result
         (submessages.new.items ≡ submessages.old.items
-        ++ submessages_of [] answering.now.reader.guid.entity answering.now.entity (answer.Gap first last)) }
+        ++ submessages_of [] answering.now.reader.guid.entity answering.now.entity
+        (answer.Gap first last)) }
 {
     // These show the prover how many octets the names have.
     let (_reader, _writer) = (
@@ -163,7 +165,10 @@ fn push_answer<'a>(
     requires { CanAnswer writer.now answer }
     ensures spells { OnOk result (SpellsMore submessages.old.items submessages.new.items) }
     ensures adds { (s : WriterState) → RtpsStandsFor writer.now s
-        → OnOk result (submessages.new.items ≡ submessages.old.items ++ submessages_of (changes_of s.written) answering.now.reader.guid.entity answering.now.entity answer) }
+        → OnOk result (submessages.new.items
+        ≡ submessages.old.items
+        ++ submessages_of
+        (changes_of s.written) answering.now.reader.guid.entity answering.now.entity answer) }
 {
     match answer {
         Answer::Data(number) => match writer.get(number) {
@@ -184,7 +189,9 @@ fn message<'a>(
     requires can { AreAnswerable writer.now answers.now }
     requires few { length answers.now ≤ 8 }
     ensures says { (s : WriterState) → RtpsStandsFor writer.now s
-        → IfOk result (λ m. m ≡ answer_message answering.now.own answering.now.reader.guid.prefix answering.now.reader.guid.entity answering.now.entity (changes_of s.written) answers.now) }
+        → IfOk result
+        (λ m. m ≡ answer_message answering.now.own answering.now.reader.guid.prefix
+        answering.now.reader.guid.entity answering.now.entity (changes_of s.written) answers.now) }
     ensures writable { IfOk result IsWritable }
     ensures some { IfOk result (λ m. 1 ≤ length m.submessages) }
 {

@@ -49,7 +49,8 @@ impl<F: Filter, L: Listener> Core<F, L> {
     pub fn open(alloc: Global, config: &Config, peer: u8) -> Result<Core<F, L>, Code>
         // The peer stands for its opening in the configuration.
         ensures opening { IfOk result
-            (λ core. StandsFor L.notices L.capacity core config.now (opening_peer config.now peer)) }
+            (λ core. StandsFor L.notices L.capacity core config.now
+            (opening_peer config.now peer)) }
         // It has no filters.
         ensures none { IfOk result (λ core. core.filtered.filters ≡ []) }
         // Against what is opened there is no cause.
@@ -110,7 +111,8 @@ impl<F: Filter, L: Listener> Core<F, L> {
     /// DDS 1.4, 2.2.2.5 (QueryCondition).
     pub fn add_filter(&mut self, filter: F) -> Result<u32, (Code, F)>
         // It is the last one, by the next number, and nothing else changes.
-        ensures ok { IfOk result (λ number. Adds L.notices L.capacity self.old filter number self.new) }
+        ensures ok { IfOk result
+            (λ number. Adds L.notices L.capacity self.old filter number self.new) }
         // A refusal is for want of a number, exactly then, or for want of memory.
         ensures refused { IfErr result (λ e. RefusesFilter L.notices L.capacity self.old e.0) }
         // What is refused comes back.
@@ -137,9 +139,11 @@ impl<F: Filter, L: Listener> Core<F, L> {
         listener: Option<L>,
     ) -> Result<Option<L>, (Code, Option<L>)>
         // It is set, and nothing else changes; the one of before has kept the last ones of all that it was told.
-        ensures ok { IfOk result (λ handed. Sets L.notices L.capacity self.old entity mask listener handed self.new) }
+        ensures ok { IfOk result
+            (λ handed. Sets L.notices L.capacity self.old entity mask listener handed self.new) }
         // A refusal is by the first cause that there is, exactly then.
-        ensures refused { IfErr result (λ e. RefusesListener L.notices L.capacity self.old entity listener e.0) }
+        ensures refused { IfErr result
+            (λ e. RefusesListener L.notices L.capacity self.old entity listener e.0) }
         // What is refused comes back.
         ensures back { IfErr result (λ e. e.1 ≡ listener) }
         // A refusal changes nothing.
@@ -151,7 +155,8 @@ impl<F: Filter, L: Listener> Core<F, L> {
     /// The peer's moment: 0, or that of the last tick that was done.
     pub fn moment(&self) -> Moment
         // It is the moment of each state that the peer stands for.
-        ensures moment { (config : ConfigOf) (peer : PeerState) → PeerStandsFor self.now.filtered.peer config peer
+        ensures moment { (config : ConfigOf) (peer : PeerState)
+            → PeerStandsFor self.now.filtered.peer config peer
             → result ≡ peer.part.dds.moment }
     {
         self.filtered.moment()
@@ -164,7 +169,8 @@ impl<F: Filter, L: Listener> Core<F, L> {
     pub fn pair(&self, writer: u8, reader: Endpoint) -> Option<Pair>
         // They are matched exactly if a pair is found, and the ids are those of the configuration; the reader is behind
         // exactly where it has not acknowledged some change, and the last number is how many changes the writer has made.
-        ensures pair { (config : ConfigOf) (peer : PeerState) → PeerStandsFor self.now.filtered.peer config peer
+        ensures pair { (config : ConfigOf) (peer : PeerState)
+            → PeerStandsFor self.now.filtered.peer config peer
             → IsPair config peer writer reader result }
     {
         self.filtered.pair(writer, reader)
@@ -176,7 +182,8 @@ impl<F: Filter, L: Listener> Core<F, L> {
     /// RTPS 2.5, 8.4.10 (StatefulReader, WriterProxy).
     pub fn place(&self, reader: u8, writer: Endpoint) -> Option<Sn>
         // It is the place in each state that the peer stands for, and there is one exactly if they are matched.
-        ensures place { (config : ConfigOf) (peer : PeerState) → PeerStandsFor self.now.filtered.peer config peer
+        ensures place { (config : ConfigOf) (peer : PeerState)
+            → PeerStandsFor self.now.filtered.peer config peer
             → result ≡ place_of (own_proxies peer.part reader) writer }
     {
         self.filtered.place(reader, writer)

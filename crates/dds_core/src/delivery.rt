@@ -76,7 +76,8 @@ impl Peer {
         requires can { CanTakeAt self.old.readers index ready }
         requires room { vec_len moves.old + 2 ≤ vec_capacity moves.old }
         requires low { sent.old.unsent < 2 ^ 62 }
-        ensures takes { TakesAt self.old index ready moves.old.items sent.old self.new moves.new.items sent.new }
+        ensures takes { TakesAt self.old index ready moves.old.items sent.old self.new
+            moves.new.items sent.new }
         ensures len { vec_len moves.new ≤ vec_len moves.old + 2 }
         ensures capacity { vec_capacity moves.new ≡ vec_capacity moves.old }
         ensures few { sent.new.unsent ≤ sent.old.unsent + 1 }
@@ -98,7 +99,8 @@ impl Peer {
         requires room { vec_len moves.old + 2 * length ready.items ≤ vec_capacity moves.old }
         requires few { length ready.items ≤ 16 }
         requires low { sent.old.unsent < 2 ^ 60 }
-        ensures takes { TakesAll self.old ready.items moves.old.items sent.old self.new moves.new.items sent.new }
+        ensures takes { TakesAll self.old ready.items moves.old.items sent.old self.new
+            moves.new.items sent.new }
         ensures prefix { self.new.prefix ≡ self.old.prefix }
         ensures few { sent.new.unsent ≤ sent.old.unsent + length ready.items }
         ensures messages { AreMessages sent.old.packets.items → AreMessages sent.new.packets.items }
@@ -118,7 +120,8 @@ impl Peer {
         submessage: &Submessage,
     ) -> Result<Vec<Option<Ready>>, Code>
         ensures ready { IfOk result
-            (λ all. AreReady self.old.prefix (receiver_at receiver.now) submessage.now self.new.readers all.items) }
+            (λ all. AreReady self.old.prefix
+            (receiver_at receiver.now) submessage.now self.new.readers all.items) }
         ensures few { IfOk result (λ all. length all.items ≤ 16) }
         ensures stands { StandsAsWell self.old self.new }
         ensures count { length self.new.readers ≡ length self.old.readers }
@@ -145,9 +148,12 @@ impl Peer {
         requires bounded { IsBounded submessage.now }
         requires low { sent.old.unsent < 2 ^ 60 }
         ensures ok { OnOk result
-            (TellsReaders self.old (receiver_at receiver.now) submessage.now moves.old.items sent.old self.new moves.new.items sent.new) }
+            (TellsReaders self.old
+            (receiver_at receiver.now) submessage.now moves.old.items sent.old self.new
+            moves.new.items sent.new) }
         ensures err { OnErr result
-            (StandsAsWell self.old self.new × (moves.new.items ≡ moves.old.items) × (sent.new ≡ sent.old)) }
+            (StandsAsWell self.old self.new × (moves.new.items ≡ moves.old.items)
+            × (sent.new ≡ sent.old)) }
         ensures memory { IfErr result (λ code. code ≡ Memory) }
         ensures prefix { self.new.prefix ≡ self.old.prefix }
         ensures few { sent.new.unsent ≤ sent.old.unsent + 16 }
@@ -170,9 +176,12 @@ impl Peer {
         requires bounded { IsBounded submessage.now }
         requires low { sent.old.unsent < 2 ^ 59 }
         ensures ok { OnOk result
-            (TakesOneMore self.old (receiver_at receiver.now) submessage.now moves.old.items sent.old self.new moves.new.items sent.new) }
+            (TakesOneMore self.old
+            (receiver_at receiver.now) submessage.now moves.old.items sent.old self.new
+            moves.new.items sent.new) }
         ensures err { OnErr result
-            (StandsAsWell self.old self.new × (moves.new.items ≡ moves.old.items) × (sent.new ≡ sent.old)) }
+            (StandsAsWell self.old self.new × (moves.new.items ≡ moves.old.items)
+            × (sent.new ≡ sent.old)) }
         ensures memory { IfErr result (λ code. code ≡ Memory) }
         ensures prefix { self.new.prefix ≡ self.old.prefix }
         ensures few { sent.new.unsent ≤ sent.old.unsent + 2 ^ 16 }

@@ -49,7 +49,8 @@ impl<F: Filter> FilteredPeer<F> {
     /// number; `Memory` where a growth was refused.
     pub fn open(alloc: Global, config: &Config, peer: u8) -> Result<FilteredPeer<F>, Code>
         // The peer stands for its opening in the configuration.
-        ensures opening { IfOk result (λ core. StandsFor core config.now (opening_peer config.now peer)) }
+        ensures opening { IfOk result
+            (λ core. StandsFor core config.now (opening_peer config.now peer)) }
         // It has no filters.
         ensures none { IfOk result (λ core. core.filters ≡ []) }
         // Against what is opened there is no cause.
@@ -80,7 +81,8 @@ impl<F: Filter> FilteredPeer<F> {
         // afterwards; a delivered packet is taken up by the rules of the protocol, and what is due by them is sent.
         ensures step { Steps (tests_of F.meaning self.old.filters) self.old event result self.new }
         // The same of what it keeps beside the filters.
-        ensures peer { SoundStepsBy (tests_of F.meaning self.old.filters) self.old.peer event result self.new.peer }
+        ensures peer { SoundStepsBy
+            (tests_of F.meaning self.old.filters) self.old.peer event result self.new.peer }
         // What goes out at a call or a tick, and what is counted as unsent.
         ensures sends { Sends self.old.peer event result }
         // What goes out is the written form of a message.
@@ -143,7 +145,8 @@ impl<F: Filter> FilteredPeer<F> {
     /// The end of an event, before which the peer had these marks: listeners are told what it raised.
     pub(crate) fn end<L: Listener>(&mut self, slots: &mut Slots<L>, marks: &Marks)
         ensures told { (before : Part) → AreMarksOf marks.now before
-            → Tells L.notices L.capacity (at_end before) self.old.peer slots.old self.new.peer slots.new }
+            → Tells L.notices L.capacity
+            (at_end before) self.old.peer slots.old self.new.peer slots.new }
         ensures filters { self.new.filters ≡ self.old.filters }
     {
         self.peer.end(slots, marks);
@@ -152,7 +155,8 @@ impl<F: Filter> FilteredPeer<F> {
     /// The peer's moment: 0, or that of the last tick that was done.
     pub fn moment(&self) -> Moment
         // It is the moment of each state that the peer stands for.
-        ensures moment { (config : ConfigOf) (peer : PeerState) → PeerStandsFor self.now.peer config peer
+        ensures moment { (config : ConfigOf) (peer : PeerState)
+            → PeerStandsFor self.now.peer config peer
             → result ≡ peer.part.dds.moment }
     {
         self.peer.moment()
@@ -165,7 +169,8 @@ impl<F: Filter> FilteredPeer<F> {
     pub fn pair(&self, writer: u8, reader: Endpoint) -> Option<Pair>
         // They are matched exactly if a pair is found, and the ids are those of the configuration; the reader is behind
         // exactly where it has not acknowledged some change, and the last number is how many changes the writer has made.
-        ensures pair { (config : ConfigOf) (peer : PeerState) → PeerStandsFor self.now.peer config peer
+        ensures pair { (config : ConfigOf) (peer : PeerState)
+            → PeerStandsFor self.now.peer config peer
             → IsPair config peer writer reader result }
     {
         self.peer.pair(writer, reader)
@@ -177,7 +182,8 @@ impl<F: Filter> FilteredPeer<F> {
     /// RTPS 2.5, 8.4.10 (StatefulReader, WriterProxy).
     pub fn place(&self, reader: u8, writer: Endpoint) -> Option<Sn>
         // It is the place in each state that the peer stands for, and there is one exactly if they are matched.
-        ensures place { (config : ConfigOf) (peer : PeerState) → PeerStandsFor self.now.peer config peer
+        ensures place { (config : ConfigOf) (peer : PeerState)
+            → PeerStandsFor self.now.peer config peer
             → result ≡ place_of (own_proxies peer.part reader) writer }
     {
         self.peer.place(reader, writer)

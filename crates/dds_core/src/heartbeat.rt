@@ -67,7 +67,8 @@ fn message(alloc: Global, beat: &Beat, to: GuidPrefix) -> Result<Message<'static
 fn is_peer_behind(writer: &StatefulWriter, readers: &[ReaderName], peer: u8) -> bool
     requires { reader_count writer.now ≡ length readers.now }
     ensures { (w : Writer) (answered : Endpoint → Option ℤ)
-        → map (λ (p : ReaderProxy). p.reader) w.readers ≡ map (λ (r : NameOf). r.reader) readers.now → RtpsStandsFor writer.now (state_of w answered)
+        → map (λ (p : ReaderProxy). p.reader) w.readers ≡ map (λ (r : NameOf). r.reader) readers.now
+        → RtpsStandsFor writer.now (state_of w answered)
         → result ≡ is_peer_behind w peer }
 {
     for (index, name) in readers.iter().enumerate() {
@@ -92,7 +93,8 @@ pub fn send_beats(
     requires few { length destinations.now ≤ 16 }
     requires room { sent.old.unsent ≤ 256 }
     ensures few { sent.new.unsent ≤ sent.old.unsent + 16 }
-    ensures beats { Beats beat.now writer.now readers.now destinations.now sent.old.packets.items sent.old.unsent sent.new.packets.items sent.new.unsent }
+    ensures beats { Beats beat.now writer.now readers.now destinations.now sent.old.packets.items
+        sent.old.unsent sent.new.packets.items sent.new.unsent }
     ensures messages { AreMessages sent.old.packets.items → AreMessages sent.new.packets.items }
 {
     for destination in destinations {

@@ -70,7 +70,8 @@ fn push_readers(
 ) -> Result<(), AllocError>
     requires few { length peer.now.readers ≤ 16 }
     ensures names { OnOk result
-        (all.new.items ≡ all.old.items ++ of_readers_in (reader_name number peer.now) topic 1 peer.now.readers) }
+        (all.new.items
+        ≡ all.old.items ++ of_readers_in (reader_name number peer.now) topic 1 peer.now.readers) }
     ensures few { OnOk result (length all.new.items ≤ length all.old.items + 16) }
 {
     for (index, reader) in peer.readers.as_slice().iter().enumerate() {
@@ -161,8 +162,10 @@ pub fn matched_writers(
     topic: u32,
 ) -> Result<MatchedWriters, AllocError>
     requires checked { check_refusal peers.now ≡ None }
-    ensures names { IfOk result (λ all. all.names.items ≡ of_matched_writers writer_name topic 1 peers.now) }
-    ensures qos { IfOk result (λ all. all.qos.items ≡ of_matched_writers matched_writer topic 1 peers.now) }
+    ensures names { IfOk result
+        (λ all. all.names.items ≡ of_matched_writers writer_name topic 1 peers.now) }
+    ensures qos { IfOk result
+        (λ all. all.qos.items ≡ of_matched_writers matched_writer topic 1 peers.now) }
     ensures many { IfOk result (λ all. length all.qos.items ≤ 256) }
 {
     let mut all = MatchedWriters {

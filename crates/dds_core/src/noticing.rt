@@ -33,7 +33,8 @@ impl Peer {
     )
         requires within { (1 ≤ number) × (number ≤ length self.old.readers) }
         ensures told { Tells L.notices L.capacity
-            (λ part. told part (entity.Reader number) raised) self.old slots.old self.new slots.new }
+            (λ part. told part (entity.Reader number) raised) self.old slots.old self.new
+            slots.new }
         ensures readers { length self.new.readers ≡ length self.old.readers }
     {
         let Some(status) = raised else {
@@ -50,7 +51,8 @@ impl Peer {
     fn notify_reader<L: Listener>(&mut self, slots: &mut Slots<L>, number: u8, mark: &ReaderMark)
         requires within { (1 ≤ number) × (number ≤ length self.old.readers) }
         ensures told { (before : Part) → IsMarkOf mark.now (own_reader before number)
-            → Tells L.notices L.capacity (reader_told before number) self.old slots.old self.new slots.new }
+            → Tells L.notices L.capacity
+            (reader_told before number) self.old slots.old self.new slots.new }
         ensures readers { length self.new.readers ≡ length self.old.readers }
     {
         let index = usize::from(number) - 1;
@@ -66,7 +68,8 @@ impl Peer {
     fn notify_writer<L: Listener>(&mut self, slots: &mut Slots<L>, number: u8, losses: u64)
         requires within { (1 ≤ number) × (number ≤ length self.old.writers) }
         ensures told { (before : Part) → losses ≡ losses_of (own_writer before number)
-            → Tells L.notices L.capacity (writer_told before number) self.old slots.old self.new slots.new }
+            → Tells L.notices L.capacity
+            (writer_told before number) self.old slots.old self.new slots.new }
         ensures writers { length self.new.writers ≡ length self.old.writers }
         ensures readers { length self.new.readers ≡ length self.old.readers }
     {
@@ -86,7 +89,9 @@ impl Peer {
     /// Tells of what was raised at its writers.
     fn notify_writers<L: Listener>(&mut self, slots: &mut Slots<L>, marks: &Marks)
         ensures told { (before : Part) → AreMarksOf marks.now before
-            → Tells L.notices L.capacity (each_told (writer_told before) (length self.old.writers)) self.old slots.old self.new slots.new }
+            → Tells L.notices L.capacity
+            (each_told (writer_told before) (length self.old.writers)) self.old slots.old self.new
+            slots.new }
         ensures readers { length self.new.readers ≡ length self.old.readers }
     {
         for index in 0..self.writers.len() {
@@ -97,7 +102,9 @@ impl Peer {
     /// Tells of what was raised at its readers.
     fn notify_readers<L: Listener>(&mut self, slots: &mut Slots<L>, marks: &Marks)
         ensures told { (before : Part) → AreMarksOf marks.now before
-            → Tells L.notices L.capacity (each_told (reader_told before) (length self.old.readers)) self.old slots.old self.new slots.new }
+            → Tells L.notices L.capacity
+            (each_told (reader_told before) (length self.old.readers)) self.old slots.old self.new
+            slots.new }
     {
         for index in 0..self.readers.len() {
             self.notify_reader(slots, index as u8 + 1, &marks.readers[index]);

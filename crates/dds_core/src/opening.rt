@@ -75,7 +75,8 @@ impl Peer {
     /// number; `Memory` where a growth was refused.
     pub fn open(alloc: Global, config: &Config, peer: u8) -> Result<Peer, Code>
         // The peer stands for its opening in the configuration.
-        ensures opening { IfOk result (λ core. StandsFor core config.now (opening_peer config.now peer)) }
+        ensures opening { IfOk result
+            (λ core. StandsFor core config.now (opening_peer config.now peer)) }
         // Against what is opened there is no cause.
         ensures taken { IfOk result (λ core. core_refusal config.now.peers peer ≡ None) }
         // A refusal is by the first cause that there is, or for want of memory.

@@ -183,7 +183,9 @@ impl ReaderEnd {
         ensures found { IfSome result
             (IsNamedFor own.now self.now (receiver_at receiver.now) reader_id.now writer_id.now) }
         ensures none { IfNone result
-            ((k : ℕ) → IsNamedFor own.now self.now (receiver_at receiver.now) reader_id.now writer_id.now k → ⊥) }
+            ((k : ℕ)
+            → IsNamedFor own.now self.now (receiver_at receiver.now) reader_id.now writer_id.now k
+            → ⊥) }
     {
         let is_named = *reader_id == self.entity || *reader_id == EntityId::UNKNOWN;
         if !is_named || !is_for(receiver, own) {
@@ -243,7 +245,8 @@ struct Ids {
 
 /// Whom a submessage names, if it is one of a writer.
 fn ids_of(submessage: &Submessage) -> Option<Ids>
-    ensures { MatchOption result (NamesNobody submessage.now) (λ ids. NamedBy submessage.now ids.reader ids.writer) }
+    ensures { MatchOption result (NamesNobody submessage.now)
+        (λ ids. NamedBy submessage.now ids.reader ids.writer) }
 {
     match submessage {
         Submessage::Data(body) => Some(Ids {
@@ -269,7 +272,8 @@ fn told_by(
     submessage: &Submessage,
 ) -> Result<Option<Told>, Code>
     ensures told { IfOk result
-        (λ told. MatchOption told (NamesNobody submessage.now) (IsToldBy (receiver_at receiver.now) submessage.now)) }
+        (λ told. MatchOption told (NamesNobody submessage.now)
+        (IsToldBy (receiver_at receiver.now) submessage.now)) }
     ensures memory { IfErr result (λ code. code ≡ Memory) }
 {
     match submessage {
@@ -316,7 +320,8 @@ impl ReaderEnd {
         receiver: &MessageReceiver,
         submessage: &Submessage,
     ) -> Result<Option<Ready>, Code>
-        ensures ready { IfOk result (IsReadyFor own.now (receiver_at receiver.now) submessage.now self.new) }
+        ensures ready { IfOk result
+            (IsReadyFor own.now (receiver_at receiver.now) submessage.now self.new) }
         ensures alike { IsAlike self.old self.new }
         ensures memory { IfErr result (λ code. code ≡ Memory) }
     {
@@ -400,7 +405,8 @@ impl ReaderEnd {
         ensures answer { (h : List Happening) → Holds self.old.store h
             → AnswersWith self.old.store.cache h selection (T.meaning test.now) result }
         ensures after { (h : List Happening) → Holds self.old.store h
-            → AfterAccessWith Read self.old.store.cache h selection (T.meaning test.now) result self.new.store.cache }
+            → AfterAccessWith Read self.old.store.cache h selection
+            (T.meaning test.now) result self.new.store.cache }
         ensures same { TakesOnly self.old self.new }
     {
         self.store.read(selection, test)
@@ -422,7 +428,8 @@ impl ReaderEnd {
         ensures answer { (h : List Happening) → Holds self.old.store h
             → AnswersWith self.old.store.cache h selection (T.meaning test.now) result }
         ensures after { (h : List Happening) → Holds self.old.store h
-            → AfterAccessWith Took self.old.store.cache h selection (T.meaning test.now) result self.new.store.cache }
+            → AfterAccessWith Took self.old.store.cache h selection
+            (T.meaning test.now) result self.new.store.cache }
         ensures same { TakesOnly self.old self.new }
     {
         self.store.take(selection, test)
@@ -466,7 +473,8 @@ impl ReaderEnd {
     /// DDS 1.4, 2.2.2.5 (get_sample_lost_status).
     pub fn get_sample_lost(&mut self) -> SampleLostStatus
         ensures status { TellsLost self.old result }
-        ensures seen { self.new ≡ record self.old { seen = record self.old.seen { lost = result.total_count } } }
+        ensures seen { self.new
+            ≡ record self.old { seen = record self.old.seen { lost = result.total_count } } }
     {
         let status = self.sample_lost();
         self.seen.lost = status.total_count;
@@ -478,7 +486,9 @@ impl ReaderEnd {
     /// DDS 1.4, 2.2.4.1 (LivelinessChangedStatus).
     fn liveliness_changed(&self) -> LivelinessChangedStatus
         ensures { (h : List Happening) → Holds self.now.store h
-            → result ≡ liveliness_changed_status (qos_of self.now.store.cache) h self.now.seen.alive self.now.seen.not_alive }
+            → result
+            ≡ liveliness_changed_status
+            (qos_of self.now.store.cache) h self.now.seen.alive self.now.seen.not_alive }
     {
         let leases = self.store.leases();
         let alive = leases.alive_count() as i32;
@@ -560,7 +570,8 @@ impl ReaderEnd {
     ///
     /// DDS 1.4, 2.2.4.2.2 (changes in read communication statuses).
     fn see_data(&mut self)
-        ensures seen { self.new ≡ record self.old { seen = record self.old.seen { brought = self.new.seen.brought } } }
+        ensures seen { self.new
+            ≡ record self.old { seen = record self.old.seen { brought = self.new.seen.brought } } }
         ensures at { (h : List Happening) → Holds self.old.store h
             → self.new.seen.brought ≡ data_available_at (qos_of self.old.store.cache) h }
     {

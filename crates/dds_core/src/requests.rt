@@ -30,7 +30,8 @@ impl Peer {
     /// The first writer of this entity.
     fn writer_of(&self, entity: &EntityId) -> Option<usize>
         ensures found { IfSome result (λ index. IsWriterOf self.now.writers entity.now index) }
-        ensures none { IfNone result ((index : ℕ) → IsWriterOf self.now.writers entity.now index → ⊥) }
+        ensures none { IfNone result ((index : ℕ) → IsWriterOf self.now.writers entity.now index
+            → ⊥) }
     {
         for (index, writer) in self.writers.iter().enumerate() {
             if has_entity(writer, entity) {
@@ -51,12 +52,14 @@ impl Peer {
         body: &AckNack,
         room: Room,
     )
-        requires within { (k : WriterKept) × (slice_get self.old.writers index ≡ Some k) × (row < length k.readers) }
+        requires within { (k : WriterKept) × (slice_get self.old.writers index ≡ Some k)
+            × (row < length k.readers) }
         requires base { 1 ≤ body.now.reader_sn_state.base }
         requires room { HasRoom body.now.reader_sn_state room }
         requires moves { vec_len moves.old + 1 ≤ vec_capacity moves.old }
         requires low { sent.old.unsent < 2 ^ 60 }
-        ensures takes { TakesRow self.old index row body.now moves.old.items sent.old self.new moves.new.items sent.new }
+        ensures takes { TakesRow self.old index row body.now moves.old.items sent.old self.new
+            moves.new.items sent.new }
         ensures len { vec_len moves.new ≤ vec_len moves.old + 1 }
         ensures capacity { vec_capacity moves.new ≡ vec_capacity moves.old }
         ensures few { sent.new.unsent ≤ sent.old.unsent + 256 }
@@ -91,7 +94,8 @@ impl Peer {
         requires rooms { HaveRoom body.now.reader_sn_state rooms.items }
         requires moves { vec_len moves.old + length rooms.items ≤ vec_capacity moves.old }
         requires low { sent.old.unsent < 2 ^ 59 }
-        ensures takes { TakesAllRows self.old index body.now rooms.items moves.old.items sent.old self.new moves.new.items sent.new }
+        ensures takes { TakesAllRows self.old index body.now rooms.items moves.old.items sent.old
+            self.new moves.new.items sent.new }
         ensures few { sent.new.unsent ≤ sent.old.unsent + 2 ^ 16 }
         ensures messages { AreMessages sent.old.packets.items → AreMessages sent.new.packets.items }
     {
@@ -115,9 +119,11 @@ impl Peer {
         requires low { sent.old.unsent < 2 ^ 59 }
         ensures ok { OnOk result
             (TakesOneMore self.old (receiver_at receiver.now)
-            (submessage.AckNack body.now) moves.old.items sent.old self.new moves.new.items sent.new) }
+            (submessage.AckNack body.now) moves.old.items sent.old self.new moves.new.items
+            sent.new) }
         ensures err { OnErr result
-            (StandsAsWell self.old self.new × (moves.new.items ≡ moves.old.items) × (sent.new ≡ sent.old)) }
+            (StandsAsWell self.old self.new × (moves.new.items ≡ moves.old.items)
+            × (sent.new ≡ sent.old)) }
         ensures memory { IfErr result (λ code. code ≡ Memory) }
         ensures prefix { self.new.prefix ≡ self.old.prefix }
         ensures few { sent.new.unsent ≤ sent.old.unsent + 2 ^ 16 }

@@ -102,7 +102,8 @@ pub fn send(alloc: Global, sent: &mut Announced, message: Result<Message<'_>, Al
     requires some { ForOk message (λ m. 1 ≤ length m.submessages) }
     requires room { sent.old.unsent < 2 ^ 62 }
     ensures few { sent.new.unsent ≤ sent.old.unsent + 1 }
-    ensures adds { (m : MessageOf) → IfOk message.entry (λ x. x ≡ m) → AddsTo (due_to to m ∷ []) sent.old sent.new }
+    ensures adds { (m : MessageOf) → IfOk message.entry (λ x. x ≡ m)
+        → AddsTo (due_to to m ∷ []) sent.old sent.new }
     ensures messages { AreMessages sent.old.packets.items → AreMessages sent.new.packets.items }
 {
     let Ok(message) = message else {
@@ -128,7 +129,8 @@ pub fn announce(
     requires small { number ≤ 2 ^ 48 }
     requires valid { IsContent content }
     ensures counted { length result.packets.items + result.unsent ≡ length destinations.now }
-    ensures packets { AreAnnouncements sender.now number content.entry destinations.now result.packets.items }
+    ensures packets { AreAnnouncements sender.now number content.entry destinations.now
+        result.packets.items }
 {
     let mut packets = Vec::new(alloc);
     if let Ok(mut message) = message(alloc, sender, number, content) {

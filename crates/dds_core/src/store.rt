@@ -114,7 +114,8 @@ impl Store {
     ///
     /// DDS 1.4, 2.2.4.1 (DATA_AVAILABLE).
     pub fn data_at(&self) -> u64
-        ensures { (h : List Happening) → Holds self.now h → result ≡ data_available_at (qos_of self.now.cache) h }
+        ensures { (h : List Happening) → Holds self.now h
+            → result ≡ data_available_at (qos_of self.now.cache) h }
     {
         self.cache.data_at()
     }
@@ -154,7 +155,8 @@ impl Store {
         ensures qos { qos_of self.new.cache ≡ qos_of self.old.cache }
         ensures room { OnOk result (HasRoomForDeaths now self.new) }
         ensures refused { IfErr result (λ code. (code ≡ Memory)
-            × ((h : List Happening) → Holds self.old h → 1 ≤ length (dead_at (qos_of self.old.cache) now h))) }
+            × ((h : List Happening) → Holds self.old h
+            → 1 ≤ length (dead_at (qos_of self.old.cache) now h))) }
     {
         let count = self.leases.overdue(now);
         if count == 0 {
@@ -189,7 +191,8 @@ impl Store {
         ensures answer { (h : List Happening) → Holds self.old h
             → AnswersWith self.old.cache h selection (T.meaning test.now) result }
         ensures after { (h : List Happening) → Holds self.old h
-            → AfterAccessWith Read self.old.cache h selection (T.meaning test.now) result self.new.cache }
+            → AfterAccessWith Read self.old.cache h selection
+            (T.meaning test.now) result self.new.cache }
         ensures qos { qos_of self.new.cache ≡ qos_of self.old.cache }
         ensures leases { self.new.leases ≡ self.old.leases }
         ensures lost { self.new.lost ≡ self.old.lost }
@@ -207,7 +210,8 @@ impl Store {
         ensures answer { (h : List Happening) → Holds self.old h
             → AnswersWith self.old.cache h selection (T.meaning test.now) result }
         ensures after { (h : List Happening) → Holds self.old h
-            → AfterAccessWith Took self.old.cache h selection (T.meaning test.now) result self.new.cache }
+            → AfterAccessWith Took self.old.cache h selection
+            (T.meaning test.now) result self.new.cache }
         ensures qos { qos_of self.new.cache ≡ qos_of self.old.cache }
         ensures leases { self.new.leases ≡ self.old.leases }
         ensures lost { self.new.lost ≡ self.old.lost }
@@ -218,14 +222,16 @@ impl Store {
 
     /// The key of a known instance, by its handle.
     pub fn key_value(&self, instance: Handle) -> Option<Key>
-        ensures { (h : List Happening) → Holds self.now h → result ≡ instance_of (qos_of self.now.cache) h instance }
+        ensures { (h : List Happening) → Holds self.now h
+            → result ≡ instance_of (qos_of self.now.cache) h instance }
     {
         self.cache.key_value(instance)
     }
 
     /// The handle of an instance, `NIL` of one that is not known.
     pub fn lookup(&self, key: Key) -> Handle
-        ensures { (h : List Happening) → Holds self.now h → result ≡ handle_of (qos_of self.now.cache) h key }
+        ensures { (h : List Happening) → Holds self.now h
+            → result ≡ handle_of (qos_of self.now.cache) h key }
     {
         self.cache.lookup(key)
     }

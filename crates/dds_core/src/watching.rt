@@ -95,7 +95,8 @@ fn asked_for(reader: u8, scope: Scope, condition: Option<Condition>) -> Result<A
 
 impl Peer {
     pub(crate) fn create_read_condition(&mut self, reader: u8, masks: Masks) -> Output
-        ensures step { Steps self.old (event.Call (call.CreateReadCondition reader masks)) result self.new }
+        ensures step { Steps self.old
+            (event.Call (call.CreateReadCondition reader masks)) result self.new }
         ensures sends { SendsNothing result }
     {
         let Some(_index) = index_of(reader, self.readers.len()) else {
@@ -110,7 +111,8 @@ impl Peer {
     }
 
     pub(crate) fn create_query_condition(&mut self, reader: u8, masks: Masks, filter: u32) -> Output
-        ensures step { Steps self.old (event.Call (call.CreateQueryCondition reader masks filter)) result self.new }
+        ensures step { Steps self.old
+            (event.Call (call.CreateQueryCondition reader masks filter)) result self.new }
         ensures sends { SendsNothing result }
     {
         let Some(_reader) = index_of(reader, self.readers.len()) else {
@@ -138,7 +140,8 @@ impl Peer {
 
     /// One filter more can be named, by the next number.
     pub(crate) fn add_filter(&mut self) -> Result<u32, Code>
-        ensures ok { OnOk result (self.new ≡ record self.old { watch = with_filter self.old.watch }) }
+        ensures ok { OnOk result (self.new
+            ≡ record self.old { watch = with_filter self.old.watch }) }
         ensures number { IfOk result (λ number. number ≡ self.old.watch.filters + 1) }
         ensures refused { IfErr result (λ code. filter_refusal self.old.watch ≡ Some code) }
         ensures err { OnErr result (self.new ≡ self.old) }
@@ -155,7 +158,8 @@ impl Peer {
     }
 
     pub(crate) fn set_trigger_value(&mut self, condition: u32, value: bool) -> Output
-        ensures step { Steps self.old (event.Call (call.SetTriggerValue condition value)) result self.new }
+        ensures step { Steps self.old
+            (event.Call (call.SetTriggerValue condition value)) result self.new }
         ensures sends { SendsNothing result }
     {
         let done = self.watch.set_guard(condition, value);
@@ -163,7 +167,8 @@ impl Peer {
     }
 
     pub(crate) fn delete_condition(&mut self, condition: u32) -> Output
-        ensures step { Steps self.old (event.Call (call.DeleteCondition condition)) result self.new }
+        ensures step { Steps self.old
+            (event.Call (call.DeleteCondition condition)) result self.new }
         ensures sends { SendsNothing result }
     {
         let done = self.watch.delete(condition);
@@ -187,7 +192,8 @@ impl Peer {
     }
 
     pub(crate) fn attach_condition(&mut self, wait_set: u32, condition: Cond) -> Output
-        ensures step { Steps self.old (event.Call (call.AttachCondition wait_set condition)) result self.new }
+        ensures step { Steps self.old
+            (event.Call (call.AttachCondition wait_set condition)) result self.new }
         ensures sends { SendsNothing result }
     {
         let done = self.watch.attach(wait_set, condition);
@@ -195,7 +201,8 @@ impl Peer {
     }
 
     pub(crate) fn detach_condition(&mut self, wait_set: u32, condition: Cond) -> Output
-        ensures step { Steps self.old (event.Call (call.DetachCondition wait_set condition)) result self.new }
+        ensures step { Steps self.old
+            (event.Call (call.DetachCondition wait_set condition)) result self.new }
         ensures sends { SendsNothing result }
     {
         let done = self.watch.detach(wait_set, condition);
@@ -203,7 +210,8 @@ impl Peer {
     }
 
     pub(crate) fn wait_begin(&mut self, wait_set: u32, deadline: Moment) -> Output
-        ensures step { Steps self.old (event.Call (call.WaitBegin wait_set deadline)) result self.new }
+        ensures step { Steps self.old
+            (event.Call (call.WaitBegin wait_set deadline)) result self.new }
         ensures sends { SendsNothing result }
     {
         let done = self.watch.begin(wait_set, deadline);
@@ -219,7 +227,8 @@ impl Peer {
     }
 
     pub(crate) fn set_enabled_statuses(&mut self, entity: Entity, mask: StatusMask) -> Output
-        ensures step { Steps self.old (event.Call (call.SetEnabledStatuses entity mask)) result self.new }
+        ensures step { Steps self.old
+            (event.Call (call.SetEnabledStatuses entity mask)) result self.new }
         ensures sends { SendsNothing result }
     {
         let done = self.watch.enable(entity, mask);
@@ -371,7 +380,8 @@ impl Peer {
         ensures { TellsActive (T.meaning filters.now) self.now wait_set result }
     {
         let is_true = |condition: &Cond|
-            ensures trigger { TellsTrigger (T.meaning filters.entry.now) self.entry.now condition.entry.now result }
+            ensures trigger { TellsTrigger
+                (T.meaning filters.entry.now) self.entry.now condition.entry.now result }
             ensures same { (self.exit ≡ self.entry) × (filters.exit ≡ filters.entry) }
         { self.trigger_of(filters, *condition) };
         self.watch.is_active(wait_set, is_true)
@@ -383,7 +393,8 @@ impl Peer {
         ensures memory { IfErr result (λ code. code ≡ Memory) }
     {
         let is_true = |condition: &Cond|
-            ensures trigger { TellsTrigger (T.meaning filters.entry.now) self.entry.now condition.entry.now result }
+            ensures trigger { TellsTrigger
+                (T.meaning filters.entry.now) self.entry.now condition.entry.now result }
             ensures same { (self.exit ≡ self.entry) × (filters.exit ≡ filters.entry) }
         { self.trigger_of(filters, *condition) };
         self.watch.active(wait_set, is_true)
@@ -393,7 +404,8 @@ impl Peer {
     fn end_active<T: Filters>(&mut self, filters: &T, wait_set: u32) -> Output
         requires used { use_refusal (made self.old.watch.wait_sets wait_set) ≡ None }
         requires active { TellsActive (T.meaning filters.now) self.old wait_set true }
-        ensures step { StepsBy (T.meaning filters.now) self.old (event.Call (call.WaitLook wait_set)) result self.new }
+        ensures step { StepsBy (T.meaning filters.now) self.old
+            (event.Call (call.WaitLook wait_set)) result self.new }
         ensures sends { SendsNothing result }
     {
         match self.active(filters, wait_set) {
@@ -406,7 +418,8 @@ impl Peer {
     }
 
     pub(crate) fn wait_look<T: Filters>(&mut self, filters: &T, wait_set: u32) -> Output
-        ensures step { StepsBy (T.meaning filters.now) self.old (event.Call (call.WaitLook wait_set)) result self.new }
+        ensures step { StepsBy (T.meaning filters.now) self.old
+            (event.Call (call.WaitLook wait_set)) result self.new }
         ensures sends { SendsNothing result }
     {
         let deadline = match self.watch.deadline(wait_set) {

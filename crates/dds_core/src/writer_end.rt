@@ -120,8 +120,11 @@ impl WriterEnd {
     /// Whether the matched reader of this row, from 0, has not acknowledged all its changes.
     pub fn is_behind(&self, row: usize) -> bool
         requires within { row < length self.now.readers }
-        ensures behind { (w : Writer) (answered : EndpointOf → Option ℤ) → WriterStands self.now w answered
-            → result ≡ nat_le (slice_index (map (λ (p : ReaderProxy). p.acknowledged) w.readers) row) (length (writer_changes w)) }
+        ensures behind { (w : Writer) (answered : EndpointOf → Option ℤ)
+            → WriterStands self.now w answered
+            → result
+            ≡ nat_le (slice_index (map (λ (p : ReaderProxy). p.acknowledged) w.readers) row)
+            (length (writer_changes w)) }
     {
         self.writer.is_behind(row)
     }
@@ -177,7 +180,8 @@ impl WriterEnd {
     ///
     /// DDS 1.4, 2.2.2.4 (get_liveliness_lost_status).
     pub fn get_liveliness_lost(&mut self) -> LivelinessLostStatus
-        ensures status { (w : Writer) (answered : EndpointOf → Option ℤ) → WriterStands self.old w answered
+        ensures status { (w : Writer) (answered : EndpointOf → Option ℤ)
+            → WriterStands self.old w answered
             → result ≡ liveliness_lost_status w.lease w.written }
         ensures enters { Enters self.old LookedAt self.new }
     {
@@ -219,10 +223,13 @@ impl WriterEnd {
         requires short { length change.value ≤ 1024 }
         ensures ok { OnOk result (Enters self.old (Changed change) self.new) }
         ensures accepted { IfOk result
-            (λ number. (w : Writer) (answered : EndpointOf → Option ℤ) → WriterStands self.old w answered →
-            (append_refusal (history_of w) change ≡ None) × (number ≡ length (writer_changes w) + 1)) }
+            (λ number. (w : Writer) (answered : EndpointOf → Option ℤ)
+            → WriterStands self.old w answered →
+            (append_refusal (history_of w) change ≡ None)
+            × (number ≡ length (writer_changes w) + 1)) }
         ensures refused { IfErr result
-            (λ code. (w : Writer) (answered : EndpointOf → Option ℤ) → WriterStands self.old w answered
+            (λ code. (w : Writer) (answered : EndpointOf → Option ℤ)
+            → WriterStands self.old w answered
             → Refuses (append_refusal (history_of w) change) code) }
         ensures number { IfOk result (λ number. (1 ≤ number) × (number ≤ 2 ^ 48)) }
         ensures err { OnErr result (self.new ≡ self.old) }
@@ -241,7 +248,8 @@ impl WriterEnd {
     ) -> Announced
         requires first { 1 ≤ number }
         requires small { number ≤ 2 ^ 48 }
-        ensures counted { length result.packets.items + result.unsent ≡ length self.now.destinations }
+        ensures counted { length result.packets.items + result.unsent
+            ≡ length self.now.destinations }
         ensures announces { AnnouncesOf prefix moment self.now number result.packets.items }
         ensures messages { AreMessages result.packets.items }
     {
@@ -266,7 +274,8 @@ impl WriterEnd {
     /// The reader of this row.
     pub fn reader(&self, row: usize) -> Endpoint
         requires { row < length self.now.readers }
-        ensures { (name : NameOf) → slice_get self.now.readers row ≡ Some name → result ≡ name.reader }
+        ensures { (name : NameOf) → slice_get self.now.readers row ≡ Some name
+            → result ≡ name.reader }
     {
         self.readers[row].reader
     }
@@ -285,7 +294,8 @@ impl WriterEnd {
     ) -> Result<Vec<Option<Room>>, AllocError>
         ensures few { IfOk result (λ all. length all.items ≤ 256) }
         ensures rooms { IfOk result
-            (λ all. AreRooms own.now self.now.entity (receiver_at receiver.now) body.now self.now.readers all.items) }
+            (λ all. AreRooms own.now self.now.entity
+            (receiver_at receiver.now) body.now self.now.readers all.items) }
     {
         let readers = self.readers.as_slice();
         rooms(alloc, own, receiver, body, self.entity, readers)
@@ -308,7 +318,8 @@ impl WriterEnd {
         requires base { 1 ≤ body.now.reader_sn_state.base }
         requires room { HasRoom body.now.reader_sn_state room }
         requires low { sent.old.unsent < 2 ^ 60 }
-        ensures takes { TakesAckNack self.old prefix row body.now sent.old self.new result sent.new }
+        ensures takes { TakesAckNack self.old prefix row body.now sent.old self.new result
+            sent.new }
         ensures same { writer_identity self.new ≡ writer_identity self.old }
         ensures few { sent.new.unsent ≤ sent.old.unsent + 256 }
         ensures messages { AreMessages sent.old.packets.items → AreMessages sent.new.packets.items }
@@ -344,7 +355,8 @@ impl WriterEnd {
         now: Moment,
     ) -> Result<Announced, Code>
         ensures ok { OnOk result (Enters self.old (Asserted now) self.new) }
-        ensures tells { IfOk result (λ sent. TellsOf prefix self.old sent.packets.items sent.unsent) }
+        ensures tells { IfOk result
+            (λ sent. TellsOf prefix self.old sent.packets.items sent.unsent) }
         ensures refused { IfErr result (λ code. (code ≡ OutOfResources) × HasNoCount self.old) }
         ensures messages { IfOk result (λ sent. AreMessages sent.packets.items) }
         ensures err { OnErr result (self.new ≡ self.old) }
@@ -371,7 +383,8 @@ impl WriterEnd {
         requires room { sent.old.unsent ≤ 256 }
         ensures few { sent.new.unsent ≤ sent.old.unsent + 16 }
         ensures ticks { Ticks self.old now self.new }
-        ensures beats { BeatsOf prefix self.old sent.old.packets.items sent.old.unsent sent.new.packets.items sent.new.unsent }
+        ensures beats { BeatsOf prefix self.old sent.old.packets.items sent.old.unsent
+            sent.new.packets.items sent.new.unsent }
         ensures messages { AreMessages sent.old.packets.items → AreMessages sent.new.packets.items }
     {
         let Some(due) = self.writer.tick(now) else {

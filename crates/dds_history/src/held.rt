@@ -73,7 +73,8 @@ pub fn add(
     number: u64,
     change: Change,
 ) -> Result<(), Code>
-    ensures ok { OnOk result (entries.new.items ≡ with_change policy entries.old.items number change) }
+    ensures ok { OnOk result (entries.new.items
+        ≡ with_change policy entries.old.items number change) }
     ensures memory { IfErr result (λ code. code ≡ Memory) }
     ensures err { OnErr result (entries.new.items ≡ entries.old.items) }
 {

@@ -96,7 +96,8 @@ impl History {
     pub fn append(&mut self, change: Change) -> Result<Sn, Code>
         // Against an accepted change there is no cause; it gets the next number, and is the newest.
         ensures ok { (w : WriterHistory) → StandsFor self.old w → IfOk result (λ number.
-            (append_refusal w change ≡ None) × (number ≡ length w.changes + 1) × StandsFor self.new (appended w change)) }
+            (append_refusal w change ≡ None) × (number ≡ length w.changes + 1)
+            × StandsFor self.new (appended w change)) }
         // A refusal is by the first cause that there is, or for want of memory.
         ensures refused { (w : WriterHistory) → StandsFor self.old w
             → IfErr result (Refuses (append_refusal w change)) }
@@ -147,7 +148,8 @@ impl History {
     fn is_full(&self, key: &Key) -> bool
         requires { self.now.last < 2 ^ 48 }
         ensures { result ≡ exceeds self.now.max_samples
-            (kept_after self.now.policy self.now.entries key.now (awaits self.now.acknowledged (self.now.last + 1))) }
+            (kept_after self.now.policy self.now.entries key.now
+            (awaits self.now.acknowledged (self.now.last + 1))) }
     {
         match self.max_samples {
             Some(most) => (most as usize) < self.kept_with(key),
@@ -170,7 +172,8 @@ impl History {
         // An index below it names a reader.
         ensures readers { result ≡ reader_count self.now }
         // So many acknowledgements are known.
-        ensures acknowledged { (w : WriterHistory) → StandsFor self.now w → result ≡ length w.acknowledged }
+        ensures acknowledged { (w : WriterHistory) → StandsFor self.now w
+            → result ≡ length w.acknowledged }
     {
         self.acknowledged.len()
     }
@@ -183,7 +186,8 @@ impl History {
         // There is such a reader.
         requires reader { reader < reader_count self.old }
         // What it stands for knows of the acknowledgement, and of nothing else.
-        ensures stands { (w : WriterHistory) → StandsFor self.old w → StandsFor self.new (acknowledge w reader to) }
+        ensures stands { (w : WriterHistory) → StandsFor self.old w
+            → StandsFor self.new (acknowledge w reader to) }
         // The readers stay the same ones.
         ensures readers { reader_count self.new ≡ reader_count self.old }
     {

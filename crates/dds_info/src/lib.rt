@@ -19,7 +19,8 @@ use std::alloc::Global;
 /// The info of a sample, by those of its instance that follow it in the collection.
 fn ranked(sample: &Picked, followers: Followers) -> SampleInfo
     requires own { own_generations sample.now < 2 ^ 64 }
-    ensures { (later : List Picked) → IsFollowed sample.now later followers → result ≡ with_ranks sample.now later }
+    ensures { (later : List Picked) → IsFollowed sample.now later followers
+        → result ≡ with_ranks sample.now later }
 {
     let own = generations(sample);
     SampleInfo {

@@ -97,7 +97,8 @@ impl Instances {
     /// `Memory` where a growth was refused, or where more than 2^64 - 1 entries would be counted; nothing has changed then.
     pub fn reserve(&mut self, additional: usize) -> Result<(), Code>
         // It stands for what it stood for.
-        ensures same { (q : ReaderQos) (h : List Happening) → Stands q self.old h → Stands q self.new h }
+        ensures same { (q : ReaderQos) (h : List Happening) → Stands q self.old h
+            → Stands q self.new h }
         // There is room for so many entries.
         ensures room { OnOk result (additional ≤ room_of self.new) }
         // There is no less room than before.
@@ -152,7 +153,8 @@ impl Instances {
     pub fn come(&mut self, qos: &ReaderQos, arrival: &Arrival) -> Result<(), Code>
         // The change came.
         ensures ok { OnOk result
-            ((h : List Happening) → Stands qos.now self.old h → Stands qos.now self.new (Came arrival.now ∷ h)) }
+            ((h : List Happening) → Stands qos.now self.old h
+            → Stands qos.now self.new (Came arrival.now ∷ h)) }
         // Where there is room it comes.
         ensures reserved { 1 ≤ room_of self.old → IsOk result }
         // It takes the room of one entry at most.
@@ -245,11 +247,13 @@ impl Instances {
     pub fn returned(&mut self, samples: &[SamplePosition]) -> Result<(), Code>
         // A read returned them.
         ensures read { OnOk result
-            ((q : ReaderQos) (h : List Happening) → Stands q self.old h → All (IsReturnable q h) samples.now
+            ((q : ReaderQos) (h : List Happening) → Stands q self.old h
+            → All (IsReturnable q h) samples.now
             → Stands q self.new (Read samples.now ∷ h)) }
         // A take returned them.
         ensures took { OnOk result
-            ((q : ReaderQos) (h : List Happening) → Stands q self.old h → All (IsReturnable q h) samples.now
+            ((q : ReaderQos) (h : List Happening) → Stands q self.old h
+            → All (IsReturnable q h) samples.now
             → Stands q self.new (Took samples.now ∷ h)) }
         // Where there is room it is taken up.
         ensures reserved { 1 ≤ room_of self.old → IsOk result }
@@ -271,7 +275,8 @@ impl Instances {
         // It is the number of those that were taken up.
         ensures entries { result ≡ happened_of self.now }
         // It is the number of all that happened.
-        ensures happened { (q : ReaderQos) (h : List Happening) → Stands q self.now h → result ≡ length h }
+        ensures happened { (q : ReaderQos) (h : List Happening) → Stands q self.now h
+            → result ≡ length h }
     {
         self.happened
     }
@@ -323,7 +328,8 @@ impl Instances {
     /// DDS 1.4, 2.2.2.5 (view_state).
     pub fn view(&self, key: Key) -> ViewState
         // It is that of the definitions.
-        ensures view { (q : ReaderQos) (h : List Happening) → Stands q self.now h → result ≡ view_state_of q key h }
+        ensures view { (q : ReaderQos) (h : List Happening) → Stands q self.now h
+            → result ≡ view_state_of q key h }
     {
         match look_up(&self.index, &self.tracks, key) {
             Some(track) => view_of(track),
@@ -336,7 +342,8 @@ impl Instances {
     /// DDS 1.4, 2.2.2.5 (instance_handle, lookup_instance).
     pub fn handle(&self, key: Key) -> Handle
         // It is that of the definitions.
-        ensures handle { (q : ReaderQos) (h : List Happening) → Stands q self.now h → result ≡ handle_of q h key }
+        ensures handle { (q : ReaderQos) (h : List Happening) → Stands q self.now h
+            → result ≡ handle_of q h key }
     {
         match find(&self.index, key) {
             Some(at) => Handle::new(at as u64 + 1),
@@ -349,7 +356,8 @@ impl Instances {
     /// DDS 1.4, 2.2.2.5 (get_key_value).
     pub fn key(&self, handle: Handle) -> Option<Key>
         // It is that of the definitions.
-        ensures key { (q : ReaderQos) (h : List Happening) → Stands q self.now h → result ≡ instance_of q h handle }
+        ensures key { (q : ReaderQos) (h : List Happening) → Stands q self.now h
+            → result ≡ instance_of q h handle }
     {
         match track_of(&self.tracks, handle) {
             Some(track) => Some(track.key),
@@ -363,12 +371,14 @@ impl Instances {
         ensures key { (q : ReaderQos) (h : List Happening) → Stands q self.now h
             → option_map (λ known. known.key) result ≡ instance_of q h handle }
         // What is told is what the definitions say.
-        ensures known { (q : ReaderQos) (h : List Happening) → Stands q self.now h → IfSome result (IsKnown q h) }
+        ensures known { (q : ReaderQos) (h : List Happening) → Stands q self.now h
+            → IfSome result (IsKnown q h) }
         // Its last marker is of the newest entry, if that left one.
         ensures marker { IfSome result
             (λ known. is_at known.last_marker (happened_of self.now) ≡ has_marked self.now handle) }
         // The two generation counts can be added.
-        ensures small { IfSome result (λ known. known.disposed_generations + known.no_writers_generations < 2 ^ 64) }
+        ensures small { IfSome result
+            (λ known. known.disposed_generations + known.no_writers_generations < 2 ^ 64) }
     {
         match track_of(&self.tracks, handle) {
             Some(track) => Some(told(track)),
@@ -382,9 +392,11 @@ impl Instances {
         ensures key { (q : ReaderQos) (h : List Happening) → Stands q self.now h
             → MatchOption result (instance_state_of q key h ≡ None) (λ known. known.key ≡ key) }
         // What is told is what the definitions say.
-        ensures known { (q : ReaderQos) (h : List Happening) → Stands q self.now h → IfSome result (IsKnown q h) }
+        ensures known { (q : ReaderQos) (h : List Happening) → Stands q self.now h
+            → IfSome result (IsKnown q h) }
         // The two generation counts can be added.
-        ensures small { IfSome result (λ known. known.disposed_generations + known.no_writers_generations < 2 ^ 64) }
+        ensures small { IfSome result
+            (λ known. known.disposed_generations + known.no_writers_generations < 2 ^ 64) }
     {
         match look_up(&self.index, &self.tracks, key) {
             Some(track) => Some(told(track)),
@@ -397,7 +409,8 @@ impl Instances {
     /// DDS 1.4, 2.2.2.4 (register_instance, unregister_instance).
     pub fn is_registered(&self, key: Key, writer: Handle) -> bool
         // It is so by the definitions.
-        ensures registered { (q : ReaderQos) (h : List Happening) → Stands q self.now h → IsMatched q writer
+        ensures registered { (q : ReaderQos) (h : List Happening) → Stands q self.now h
+            → IsMatched q writer
             → result ≡ is_registered key writer h }
     {
         match look_up(&self.index, &self.tracks, key) {

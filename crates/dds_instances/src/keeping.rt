@@ -37,7 +37,8 @@ pub fn change_known(
     ensures len { vec_len tracks.new ≡ vec_len tracks.old }
     ensures capacity { vec_capacity tracks.new ≡ vec_capacity tracks.old }
     ensures follows { (h : List Happening) → length h + 1 ≡ position → IsLawful qos.now h
-        → Follows qos.now h tracks.old.items → Follows qos.now (Came arrival.now ∷ h) tracks.new.items }
+        → Follows qos.now h tracks.old.items
+        → Follows qos.now (Came arrival.now ∷ h) tracks.new.items }
 {
     tracks[at].change(qos, arrival, position);
 }
@@ -63,7 +64,8 @@ pub fn introduce(
     ensures spare { spare index.old ≤ spare index.new + 1 }
     ensures len { vec_len tracks.new ≡ vec_len tracks.old + 1 }
     ensures capacity { vec_capacity tracks.old ≤ vec_capacity tracks.new }
-    ensures follows { (h : List Happening) → length h + 1 ≡ position → ((i : Key) → StandsFor blank qos.now i [])
+    ensures follows { (h : List Happening) → length h + 1 ≡ position
+        → ((i : Key) → StandsFor blank qos.now i [])
         → IsLawful qos.now h → Follows qos.now h tracks.old.items
         → Follows qos.now (Came arrival.now ∷ h) tracks.new.items }
 {
@@ -80,8 +82,10 @@ pub fn bury_all(tracks: &mut Vec<InstanceTrack>, writer: Handle, position: u64)
     ensures len { vec_len tracks.new ≡ vec_len tracks.old }
     ensures capacity { vec_capacity tracks.new ≡ vec_capacity tracks.old }
     ensures marked { count_by is_alive_track tracks.new.items + count_by
-        (λ t. is_at t.last_marker position) tracks.new.items ≤ count_by is_alive_track tracks.old.items }
-    ensures follows { (q : ReaderQos) (h : List Happening) (now : ℕ) → length h + 1 ≡ position → IsLawful q h
+        (λ t. is_at t.last_marker position) tracks.new.items
+        ≤ count_by is_alive_track tracks.old.items }
+    ensures follows { (q : ReaderQos) (h : List Happening) (now : ℕ) → length h + 1 ≡ position
+        → IsLawful q h
         → Follows q h tracks.old.items → Follows q (Died writer now ∷ h) tracks.new.items }
 {
     for at in 0..tracks.len() {
@@ -97,7 +101,8 @@ fn see_sample(index: &IndexSet<Key>, tracks: &mut Vec<InstanceTrack>, sample: Sa
     ensures len { vec_len tracks.new ≡ vec_len tracks.old }
     ensures capacity { vec_capacity tracks.new ≡ vec_capacity tracks.old }
     ensures sees { (q : ReaderQos) (h : List Happening) (samples : List SamplePosition)
-        → Each q (Read samples ∷ h) tracks.old.items → Each q (Read (samples ++ sample ∷ []) ∷ h) tracks.new.items }
+        → Each q (Read samples ∷ h) tracks.old.items
+        → Each q (Read (samples ++ sample ∷ []) ∷ h) tracks.new.items }
 {
     if let Some(at) = find(index, sample.key) {
         tracks[at].see(sample.position);
@@ -142,7 +147,8 @@ pub fn take_up(
     ensures blanks_len { vec_len blanks.old ≤ vec_len blanks.new + 1 }
     ensures blanks { (n : ℕ) → AreBlank n blanks.old.items → AreBlank n blanks.new.items }
     ensures follows { (h : List Happening) → length h + 1 ≡ position
-        → AreBlank (length qos.now.writers) blanks.old.items → IsLawful qos.now h → Follows qos.now h tracks.old.items
+        → AreBlank (length qos.now.writers) blanks.old.items → IsLawful qos.now h
+        → Follows qos.now h tracks.old.items
         → Follows qos.now (Came arrival.now ∷ h) tracks.new.items }
 {
     match find(index, arrival.change.key) {

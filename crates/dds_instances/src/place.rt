@@ -12,7 +12,8 @@ use indexmap::IndexSet;
 
 /// The index of a key, if it is there.
 pub fn find(index: &IndexSet<Key>, key: Key) -> Option<usize>
-    ensures { MatchOption result (list_any (same_key key) index.now.keys ≡ false) (IsPlaceOf index.now.keys key) }
+    ensures { MatchOption result (list_any (same_key key) index.now.keys
+        ≡ false) (IsPlaceOf index.now.keys key) }
 {
     let _ = index.len(); // its contract says that no two keys are one
     index.get_index_of(&key)

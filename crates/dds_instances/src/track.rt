@@ -177,7 +177,8 @@ impl InstanceTrack {
     /// Counts an entry, once its owners have taken it up.
     fn count(&mut self, before: Option<InstanceState>, kind: Option<ChangeKind>, position: u64)
         requires writes { self.old.accepted_writes < position }
-        requires generations { self.old.disposed_generations + self.old.no_writers_generations < position }
+        requires generations { self.old.disposed_generations + self.old.no_writers_generations
+            < position }
         ensures { Counts before kind position self.old self.new }
     {
         self.last_accepted = first_there(kind, self.last_accepted);
@@ -203,9 +204,11 @@ impl InstanceTrack {
     ) -> Option<ChangeKind>
         requires fits { Fits position self.old }
         ensures advances { Advances result position self.old self.new }
-        ensures accepted { (h : List Happening) → StandsFor self.old.owners qos.now arrival.now.change.key h
+        ensures accepted { (h : List Happening)
+            → StandsFor self.old.owners qos.now arrival.now.change.key h
             → result ≡ accepted_kind qos.now arrival.now.change.key h (Came arrival.now) }
-        ensures came { (h : List Happening) → StandsFor self.old.owners qos.now arrival.now.change.key h
+        ensures came { (h : List Happening)
+            → StandsFor self.old.owners qos.now arrival.now.change.key h
             → StandsFor self.new.owners qos.now arrival.now.change.key (Came arrival.now ∷ h) }
     {
         let before = self.state();
@@ -220,7 +223,8 @@ impl InstanceTrack {
         requires fits { Fits position self.old }
         ensures advances { Advances None position self.old self.new }
         ensures died { (q : ReaderQos) (i : Key) (h : List Happening) (moment : ℕ)
-            → StandsFor self.old.owners q i h → StandsFor self.new.owners q i (Died writer moment ∷ h) }
+            → StandsFor self.old.owners q i h
+            → StandsFor self.new.owners q i (Died writer moment ∷ h) }
         ensures fewer { has_writers self.new.owners ≡ true → has_writers self.old.owners ≡ true }
     {
         let before = self.state();

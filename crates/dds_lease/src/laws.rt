@@ -17,21 +17,26 @@ pub fn deaths_go_in_turn()
     ensures begins { (q : ReaderQos) (now : ℕ) (h : List Happening)
         → after_deaths_above q now 0 h ≡ after_deaths q now h }
     // Nobody dies twice.
-    ensures once { (q : ReaderQos) (now : ℕ) (h : List Happening) → dead_at q now (after_deaths q now h) ≡ [] }
+    ensures once { (q : ReaderQos) (now : ℕ) (h : List Happening)
+        → dead_at q now (after_deaths q now h) ≡ [] }
 {}
 
 /// What neither asserts a writer nor is its death says nothing of leases: what stood for all before stands for it too.
 pub fn other_entries_change_nothing()
     // Changes were passed over.
-    ensures passed { (kept : Kept) (q : ReaderQos) (h : List Happening) (w first last : ℕ) → StandsFor kept q h
+    ensures passed { (kept : Kept) (q : ReaderQos) (h : List Happening) (w first last : ℕ)
+        → StandsFor kept q h
         → StandsFor kept q (Passed w first last ∷ h) }
     // A read returned samples.
-    ensures read { (kept : Kept) (q : ReaderQos) (h : List Happening) (samples : List SamplePosition)
+    ensures read { (kept : Kept) (q : ReaderQos) (h : List Happening)
+        (samples : List SamplePosition)
         → StandsFor kept q h → StandsFor kept q (Read samples ∷ h) }
     // A take returned samples.
-    ensures took { (kept : Kept) (q : ReaderQos) (h : List Happening) (samples : List SamplePosition)
+    ensures took { (kept : Kept) (q : ReaderQos) (h : List Happening)
+        (samples : List SamplePosition)
         → StandsFor kept q h → StandsFor kept q (Took samples ∷ h) }
     // A status was looked at.
-    ensures looked { (kept : Kept) (q : ReaderQos) (h : List Happening) (kind : StatusKind) → StandsFor kept q h
+    ensures looked { (kept : Kept) (q : ReaderQos) (h : List Happening) (kind : StatusKind)
+        → StandsFor kept q h
         → StandsFor kept q (Looked kind ∷ h) }
 {}

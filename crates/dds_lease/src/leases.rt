@@ -130,7 +130,8 @@ impl Leases {
         // It is a matched writer above this handle.
         ensures above { IfSome result (λ w. (after < w) × (w ≤ writer_count self.new)) }
         // One lease fewer is over at this moment, if a writer died.
-        ensures overdue { IfSome result (λ w. overdue_of self.new now + 1 ≡ overdue_of self.old now) }
+        ensures overdue { IfSome result
+            (λ w. overdue_of self.new now + 1 ≡ overdue_of self.old now) }
         // Where there is none nothing has changed.
         ensures none { IfNone result (self.new ≡ self.old) }
         // The writers stay the same ones.
@@ -168,7 +169,8 @@ impl Leases {
     /// DDS 1.4, 2.2.3 (LIVELINESS).
     pub fn is_alive(&self, writer: Handle) -> bool
         // It is so by the definitions.
-        ensures matched { (q : ReaderQos) (h : List Happening) → StandsFor self.now q h → IsMatched q writer
+        ensures matched { (q : ReaderQos) (h : List Happening) → StandsFor self.now q h
+            → IsMatched q writer
             → result ≡ is_alive writer h }
         // A handle that names no writer names none that is alive.
         ensures unmatched { (q : ReaderQos) (h : List Happening) → StandsFor self.now q h

@@ -49,7 +49,8 @@ pub fn fresh_tracks(alloc: Global, writers: &[MatchedWriter]) -> Result<Vec<Leas
 pub fn find_over(tracks: &[LeaseTrack], after: Handle, now: Moment) -> Option<Handle>
     ensures first { result ≡ first_over after now 1 tracks.now }
     ensures above { IfSome result (λ w. (after < w) × (w ≤ length tracks.now)) }
-    ensures over { IfSome result (λ w. (d : LeaseTrack) → is_over_at now (get_or tracks.now (w - 1) d) ≡ true) }
+    ensures over { IfSome result
+        (λ w. (d : LeaseTrack) → is_over_at now (get_or tracks.now (w - 1) d) ≡ true) }
 {
     let from = after.number() as usize;
     for at in from..tracks.len() {

@@ -36,7 +36,8 @@ pub trait Listener: Drop {
     /// It is told of a status.
     fn on_notice(&mut self, notice: &Notice)
         // It keeps the last ones of what it kept, and of this.
-        ensures notices { notices self.new ≡ told (capacity self.old) (notices self.old) notice.now }
+        ensures notices { notices self.new
+            ≡ told (capacity self.old) (notices self.old) notice.now }
         // It can keep as many as before.
         ensures capacity { capacity self.new ≡ capacity self.old };
 }

@@ -27,7 +27,8 @@ impl<L> Model for Slot<L> {
 
 /// Whether a listener is there, and is told of the status.
 pub(crate) fn takes<L: Listener>(slot: Option<&Slot<L>>, status: &Status) -> bool
-    ensures takes { (place : Option Place) → StandsAt L.notices L.capacity (option_copied slot.entry) place
+    ensures takes { (place : Option Place)
+        → StandsAt L.notices L.capacity (option_copied slot.entry) place
         → result ≡ takes place status.now }
     ensures there { result ≡ true → is_some (option_copied slot.entry) ≡ true }
 {

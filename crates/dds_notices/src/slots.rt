@@ -74,7 +74,8 @@ fn at_number<L: Listener>(slots: &[Option<Slot<L>>], number: u8) -> Option<&Slot
 /// Tells the one that has this number.
 fn tell_number<L: Listener>(slots: &mut Vec<Option<Slot<L>>>, number: u8, notice: &Notice)
     requires { is_number number (length slots.old.items) ≡ true }
-    ensures { (place : Option Place) → StandsAt L.notices L.capacity (at_number slots.old.items number) place
+    ensures { (place : Option Place)
+        → StandsAt L.notices L.capacity (at_number slots.old.items number) place
         → ToldAt L.notices L.capacity slots.old.items number notice.now place slots.new.items }
 {
     tell(&mut slots[usize::from(number) - 1], notice);
@@ -154,7 +155,8 @@ impl<L: Listener> Slots<L> {
     fn tell_at(&mut self, entity: Entity, notice: &Notice)
         requires { has_entity self.old entity ≡ true }
         ensures { (places : Places) → StandsFor L.notices L.capacity self.old places
-            → StandsFor L.notices L.capacity self.new (with_entity places entity (with_notice (at_entity places entity) notice.now)) }
+            → StandsFor L.notices L.capacity self.new
+            (with_entity places entity (with_notice (at_entity places entity) notice.now)) }
     {
         match entity {
             Entity::Participant => tell(&mut self.participant, notice),
@@ -207,9 +209,11 @@ impl<L: Listener> Slots<L> {
         listener: Option<L>,
     ) -> Result<Option<L>, (Code, Option<L>)>
         // It is set, and the one of before is handed back with the last notices that it was told of.
-        ensures ok { IfOk result (λ back. Sets L.notices L.capacity self.old entity mask listener back self.new) }
+        ensures ok { IfOk result
+            (λ back. Sets L.notices L.capacity self.old entity mask listener back self.new) }
         // A refusal is for its cause.
-        ensures refused { IfErr result (λ e. listener_refusal L.notices self.old entity listener ≡ Some e.0) }
+        ensures refused { IfErr result
+            (λ e. listener_refusal L.notices self.old entity listener ≡ Some e.0) }
         // A refused listener is handed back.
         ensures back { IfErr result (λ e. e.1 ≡ listener) }
         // A refusal changes nothing.

@@ -33,12 +33,15 @@ pub fn other_entries_change_nothing()
     ensures heard { (kept : Kept) (q : ReaderQos) (i : Key) (h : List Happening) (w moment : ℕ)
         → StandsFor kept q i h → StandsFor kept q i (Heard w moment ∷ h) }
     // A read returned samples.
-    ensures read { (kept : Kept) (q : ReaderQos) (i : Key) (h : List Happening) (samples : List SamplePosition)
+    ensures read { (kept : Kept) (q : ReaderQos) (i : Key) (h : List Happening)
+        (samples : List SamplePosition)
         → StandsFor kept q i h → StandsFor kept q i (Read samples ∷ h) }
     // A take returned samples.
-    ensures took { (kept : Kept) (q : ReaderQos) (i : Key) (h : List Happening) (samples : List SamplePosition)
+    ensures took { (kept : Kept) (q : ReaderQos) (i : Key) (h : List Happening)
+        (samples : List SamplePosition)
         → StandsFor kept q i h → StandsFor kept q i (Took samples ∷ h) }
     // A status was looked at.
-    ensures looked { (kept : Kept) (q : ReaderQos) (i : Key) (h : List Happening) (kind : StatusKind)
+    ensures looked { (kept : Kept) (q : ReaderQos) (i : Key) (h : List Happening)
+        (kind : StatusKind)
         → StandsFor kept q i h → StandsFor kept q i (Looked kind ∷ h) }
 {}

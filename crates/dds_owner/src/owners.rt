@@ -63,7 +63,8 @@ impl Owners {
     /// DDS 1.4, 2.2.2.4 (register_instance).
     pub fn register(&mut self, writer: Handle)
         // A change of it came that does not unregister.
-        ensures came { (q : ReaderQos) (h : List Happening) (a : Arrival) → StandsFor self.old q a.change.key h
+        ensures came { (q : ReaderQos) (h : List Happening) (a : Arrival)
+            → StandsFor self.old q a.change.key h
             → a.writer ≡ writer → is_unregister a.change.kind ≡ false
             → StandsFor self.new q a.change.key (Came a ∷ h) }
     {
@@ -75,7 +76,8 @@ impl Owners {
     /// DDS 1.4, 2.2.2.4 (unregister_instance).
     pub fn unregister(&mut self, writer: Handle)
         // A change of it came that unregisters.
-        ensures came { (q : ReaderQos) (h : List Happening) (a : Arrival) → StandsFor self.old q a.change.key h
+        ensures came { (q : ReaderQos) (h : List Happening) (a : Arrival)
+            → StandsFor self.old q a.change.key h
             → a.writer ≡ writer → is_unregister a.change.kind ≡ true
             → StandsFor self.new q a.change.key (Came a ∷ h) }
     {
@@ -87,7 +89,8 @@ impl Owners {
     /// DDS 1.4, 2.2.3 (LIVELINESS).
     pub fn drop_writer(&mut self, dead: Handle)
         // It died.
-        ensures died { (q : ReaderQos) (i : Key) (h : List Happening) (moment : ℕ) → StandsFor self.old q i h
+        ensures died { (q : ReaderQos) (i : Key) (h : List Happening) (moment : ℕ)
+            → StandsFor self.old q i h
             → StandsFor self.new q i (Died dead moment ∷ h) }
         // Nobody is registered by it.
         ensures fewer { has_writers self.new ≡ true → has_writers self.old ≡ true }
@@ -122,7 +125,8 @@ impl Owners {
         ensures matched { (q : ReaderQos) (i : Key) (h : List Happening) → StandsFor self.now q i h
             → IsMatched q writer → result ≡ is_registered i writer h }
         // A handle that names no writer names none that is registered.
-        ensures unmatched { (q : ReaderQos) (i : Key) (h : List Happening) → StandsFor self.now q i h
+        ensures unmatched { (q : ReaderQos) (i : Key) (h : List Happening)
+            → StandsFor self.now q i h
             → (IsMatched q writer → ⊥) → result ≡ false }
     {
         is_writer_there(&self.registrations, writer)
@@ -146,8 +150,10 @@ impl Owners {
     /// DDS 1.4, 2.2.2.5 (instance_state).
     pub fn would_have_writers(&self, arrival: &Arrival) -> bool
         // It is so by the definitions.
-        ensures anybody { (q : ReaderQos) (h : List Happening) → StandsFor self.now q arrival.now.change.key h
-            → result ≡ not (is_nobody (registered_writers q arrival.now.change.key (Came arrival.now ∷ h))) }
+        ensures anybody { (q : ReaderQos) (h : List Happening)
+            → StandsFor self.now q arrival.now.change.key h
+            → result
+            ≡ not (is_nobody (registered_writers q arrival.now.change.key (Came arrival.now ∷ h))) }
     {
         let is_entered = !arrival.change.kind.is_unregister();
         would_anybody_be_there(&self.registrations, arrival.writer, is_entered)
@@ -161,7 +167,8 @@ impl Owners {
     /// DDS 1.4, 2.2.3 (OWNERSHIP).
     pub fn accepted(&self, qos: &ReaderQos, arrival: &Arrival) -> Option<ChangeKind>
         // It is that of the definitions.
-        ensures accepted { (h : List Happening) → StandsFor self.now qos.now arrival.now.change.key h
+        ensures accepted { (h : List Happening)
+            → StandsFor self.now qos.now arrival.now.change.key h
             → result ≡ accepted_kind qos.now arrival.now.change.key h (Came arrival.now) }
     {
         accepted_by(

@@ -59,7 +59,8 @@ impl Round {
     /// Whether the reader has come to the next 256 changes of the writer, or to all.
     pub fn has_caught_up(&self) -> bool
         // It is so where the place is at least the smaller one of 256 more than before and one more than the last number.
-        ensures caught_up { IsTrue result ↔ (min (self.now.from + 256) (self.now.last + 1) ≤ self.now.to) }
+        ensures caught_up { IsTrue result
+            ↔ (min (self.now.from + 256) (self.now.last + 1) ≤ self.now.to) }
     {
         self.last < self.to || self.to.number().saturating_sub(self.from.number()) >= 256
     }
@@ -106,14 +107,17 @@ impl<F: Filter, L: Listener> World<F, L> {
         // the two stood before it, and the reader's place after it. The reader has then caught up, unless the answer shows
         // what hindered it.
         ensures round { IfOk result
-            (λ answer. Rounds (tests_in F.meaning self.old) (kept_of L.notices L.capacity self.old) writer reader answer
+            (λ answer. Rounds (tests_in F.meaning self.old)
+            (kept_of L.notices L.capacity self.old) writer reader answer
             (kept_of L.notices L.capacity self.new)) }
         // No filter is added.
         ensures filters { filters_of self.new ≡ filters_of self.old }
         // There is a round only where the two are matched.
-        ensures matched { IfOk result (λ answer. AreMatched (kept_of L.notices L.capacity self.old) writer reader) }
+        ensures matched { IfOk result
+            (λ answer. AreMatched (kept_of L.notices L.capacity self.old) writer reader) }
         // It is refused where they are not, or else for want of memory.
-        ensures refused { IfErr result (RefusesRound (kept_of L.notices L.capacity self.old) writer reader) }
+        ensures refused { IfErr result
+            (RefusesRound (kept_of L.notices L.capacity self.old) writer reader) }
         // A refusal leaves the network as it was.
         ensures err { OnErr result (self.new ≡ self.old) }
     {
@@ -146,8 +150,10 @@ impl<F: Filter, L: Listener> World<F, L> {
 
     /// The writer and the reader with what a round needs, if they are matched.
     fn matched(&self, writer: Endpoint, reader: Endpoint) -> Option<Matched>
-        ensures { MatchOption result (NotMatched (kept_of L.notices L.capacity self.now) writer reader)
-            (λ m. (m.writer ≡ writer) × (m.reader ≡ reader) × IsKnown (kept_of L.notices L.capacity self.now) m) }
+        ensures { MatchOption result
+            (NotMatched (kept_of L.notices L.capacity self.now) writer reader)
+            (λ m. (m.writer ≡ writer) × (m.reader ≡ reader)
+            × IsKnown (kept_of L.notices L.capacity self.now) m) }
     {
         let Some(index) = index_of(writer.peer, self.count()) else {
             return None;
@@ -182,7 +188,8 @@ impl<F: Filter, L: Listener> World<F, L> {
     fn add_step(&mut self, event: WorldEvent, replies: &mut Vec<RoundReply>)
         requires room { vec_len replies.old < vec_capacity replies.old }
         ensures step { (reply : ReplyOf) × (replies.new.items ≡ replies.old.items ++ reply ∷ [])
-            × IsStep (tests_in F.meaning self.old) (kept_of L.notices L.capacity self.old) event reply
+            × IsStep (tests_in F.meaning self.old)
+            (kept_of L.notices L.capacity self.old) event reply
             (kept_of L.notices L.capacity self.new) }
         ensures filters { filters_of self.new ≡ filters_of self.old }
         ensures capacity { vec_capacity replies.old ≤ vec_capacity replies.new }
@@ -244,7 +251,9 @@ impl<F: Filter, L: Listener> World<F, L> {
     fn deliver_answers(&mut self, peer: u8, from: u64, replies: &mut Vec<RoundReply>)
         requires room { vec_len replies.old + 32 ≤ vec_capacity replies.old }
         ensures steps { (added : List ReplyOf) × (replies.new.items ≡ replies.old.items ++ added)
-            × AreSteps (tests_in F.meaning self.old) (kept_of L.notices L.capacity self.old) (answers_at peer from (length self.old.sent)) added (kept_of L.notices L.capacity self.new) }
+            × AreSteps (tests_in F.meaning self.old) (kept_of L.notices L.capacity self.old)
+            (answers_at peer from (length self.old.sent)) added
+            (kept_of L.notices L.capacity self.new) }
         ensures filters { filters_of self.new ≡ filters_of self.old }
     {
         let count = self.sent().saturating_sub(from).min(MAX_ANSWERS);

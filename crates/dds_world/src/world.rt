@@ -93,7 +93,8 @@ fn open_peer<F: Filter, L: Listener>(
     requires within { index < length config.now.peers }
     requires few { length config.now.peers ≤ 16 }
     ensures opening { IfOk result
-        (λ core. CoreStandsFor L.notices L.capacity core config.now (opening_peer config.now (index + 1))) }
+        (λ core. CoreStandsFor L.notices L.capacity core config.now
+        (opening_peer config.now (index + 1))) }
     ensures none { IfOk result (λ core. core.filtered.filters ≡ []) }
     ensures taken { IfOk result (λ core. check_refusal config.now.peers ≡ None) }
     ensures refused { IfErr result (Refuses (check_refusal config.now.peers)) }
@@ -110,7 +111,8 @@ fn open_peers<F: Filter, L: Listener>(
     requires some { 1 ≤ length config.now.peers }
     requires few { length config.now.peers ≤ 16 }
     ensures opening { IfOk result
-        (λ peers. OpensFirst L.notices L.capacity config.now (length config.now.peers) peers.items) }
+        (λ peers. OpensFirst L.notices L.capacity config.now
+        (length config.now.peers) peers.items) }
     ensures refused { IfErr result (Refuses (check_refusal config.now.peers)) }
 {
     let mut peers = Vec::new(alloc);
@@ -130,11 +132,14 @@ impl<F: Filter, L: Listener> World<F, L> {
     pub fn open(alloc: Global, config: &Config) -> Result<World<F, L>, Code>
         // The network stands for the opening of its configuration.
         ensures opening { IfOk result
-            (λ world. StandsFor (kept_of L.notices L.capacity world) config.now (opening_world config.now)) }
+            (λ world. StandsFor (kept_of L.notices L.capacity world) config.now
+            (opening_world config.now)) }
         // No peer has a filter.
-        ensures none { IfOk result (λ world. (peer : ℕ) → numbered (filters_of world) peer [] ≡ []) }
+        ensures none { IfOk result
+            (λ world. (peer : ℕ) → numbered (filters_of world) peer [] ≡ []) }
         // Nothing was sent, and nothing is counted.
-        ensures quiet { IfOk result (λ world. traffic (kept_of L.notices L.capacity world) ≡ no_traffic) }
+        ensures quiet { IfOk result
+            (λ world. traffic (kept_of L.notices L.capacity world) ≡ no_traffic) }
         // Against what is opened there is no cause.
         ensures taken { IfOk result (λ world. check_refusal config.now.peers ≡ None) }
         // A refusal is by the first cause that there is, or for want of memory.
@@ -159,7 +164,8 @@ impl<F: Filter, L: Listener> World<F, L> {
     pub fn step(&mut self, event: WorldEvent) -> Reply
         // For each state that the network stands for, the reply is one that the machine without packets gives, by what the
         // filters mean, and the network stands for the state at the event's end, once listeners were told: this is the theorem.
-        ensures step { Steps (tests_in F.meaning self.old) (kept_of L.notices L.capacity self.old) event result
+        ensures step { Steps (tests_in F.meaning self.old)
+            (kept_of L.notices L.capacity self.old) event result
             (kept_of L.notices L.capacity self.new) }
         // What is sent at the event, and what is counted as unsent.
         ensures sends { Announces (kept_of L.notices L.capacity self.old) event result
@@ -167,7 +173,8 @@ impl<F: Filter, L: Listener> World<F, L> {
         // A delivered packet is taken up, submessage by submessage: what it brings that is due is not left out.
         ensures progress { MovesOn (kept_of L.notices L.capacity self.old) event result }
         // The event is one by the rules of the protocol: each message that they make due is sent, or counted.
-        ensures rules { KeepsRules (tests_in F.meaning self.old) (kept_of L.notices L.capacity self.old) event result
+        ensures rules { KeepsRules (tests_in F.meaning self.old)
+            (kept_of L.notices L.capacity self.old) event result
             (kept_of L.notices L.capacity self.new) }
         // No filter is added.
         ensures filters { filters_of self.new ≡ filters_of self.old }
@@ -187,7 +194,8 @@ impl<F: Filter, L: Listener> World<F, L> {
     pub fn run(&mut self, events: Vec<WorldEvent>) -> Result<Sequence<Reply>, Code>
         // The replies are a run of the network's peers, and of the machine without packets.
         ensures run { IfOk result
-            (λ replies. Runs (tests_in F.meaning self.old) (kept_of L.notices L.capacity self.old) events.items replies
+            (λ replies. Runs (tests_in F.meaning self.old)
+            (kept_of L.notices L.capacity self.old) events.items replies
             (kept_of L.notices L.capacity self.new)) }
         // No filter is added.
         ensures filters { filters_of self.new ≡ filters_of self.old }
@@ -217,7 +225,8 @@ impl<F: Filter, L: Listener> World<F, L> {
     /// DDS 1.4, 2.2.2.5 (QueryCondition).
     pub fn add_filter(&mut self, peer: u8, filter: F) -> Result<u32, (Code, F)>
         // It is the last one there, by the next number, and nothing else changes.
-        ensures ok { IfOk result (λ number. Adds L.notices L.capacity self.old peer filter number self.new) }
+        ensures ok { IfOk result
+            (λ number. Adds L.notices L.capacity self.old peer filter number self.new) }
         // A refusal is by the first cause that there is, or for want of memory.
         ensures refused { IfErr result (λ e. RefusesFilter L.notices L.capacity self.old peer e.0) }
         // What is refused comes back.
@@ -249,9 +258,11 @@ impl<F: Filter, L: Listener> World<F, L> {
     ) -> Result<Option<L>, (Code, Option<L>)>
         // It is set, and nothing else changes; the one of before has kept the last ones of all that it was told.
         ensures ok { IfOk result
-            (λ handed. Sets L.notices L.capacity self.old peer entity mask listener handed self.new) }
+            (λ handed. Sets L.notices L.capacity self.old peer entity mask listener handed
+            self.new) }
         // A refusal is by the first cause that there is, exactly then.
-        ensures refused { IfErr result (λ e. RefusesListener L.notices L.capacity self.old peer entity listener e.0) }
+        ensures refused { IfErr result
+            (λ e. RefusesListener L.notices L.capacity self.old peer entity listener e.0) }
         // What is refused comes back.
         ensures back { IfErr result (λ e. e.1 ≡ listener) }
         // A refusal changes nothing.
@@ -271,8 +282,10 @@ impl<F: Filter, L: Listener> World<F, L> {
     }
 
     fn call(&mut self, peer: u8, call: Call) -> Reply
-        ensures step { StepsIn F.meaning L.notices L.capacity self.old (event.Call peer call) result self.new }
-        ensures sends { Announces (kept_of L.notices L.capacity self.old) (event.Call peer call) result
+        ensures step { StepsIn F.meaning L.notices L.capacity self.old
+            (event.Call peer call) result self.new }
+        ensures sends { Announces (kept_of L.notices L.capacity self.old)
+            (event.Call peer call) result
             (kept_of L.notices L.capacity self.new) }
     {
         match index_of(peer, self.count()) {
@@ -282,8 +295,10 @@ impl<F: Filter, L: Listener> World<F, L> {
     }
 
     fn tick(&mut self, peer: u8, now: Moment) -> Reply
-        ensures step { StepsIn F.meaning L.notices L.capacity self.old (event.Tick peer now) result self.new }
-        ensures sends { Announces (kept_of L.notices L.capacity self.old) (event.Tick peer now) result
+        ensures step { StepsIn F.meaning L.notices L.capacity self.old
+            (event.Tick peer now) result self.new }
+        ensures sends { Announces (kept_of L.notices L.capacity self.old)
+            (event.Tick peer now) result
             (kept_of L.notices L.capacity self.new) }
     {
         match index_of(peer, self.count()) {
@@ -293,8 +308,10 @@ impl<F: Filter, L: Listener> World<F, L> {
     }
 
     fn deliver(&mut self, peer: u8, packet: u64) -> Reply
-        ensures step { StepsIn F.meaning L.notices L.capacity self.old (event.Deliver peer packet) result self.new }
-        ensures sends { Announces (kept_of L.notices L.capacity self.old) (event.Deliver peer packet) result
+        ensures step { StepsIn F.meaning L.notices L.capacity self.old
+            (event.Deliver peer packet) result self.new }
+        ensures sends { Announces (kept_of L.notices L.capacity self.old)
+            (event.Deliver peer packet) result
             (kept_of L.notices L.capacity self.new) }
     {
         match packet_index(packet, self.sent()) {
@@ -306,8 +323,10 @@ impl<F: Filter, L: Listener> World<F, L> {
     /// Delivers the packet of this index.
     fn deliver_sent(&mut self, peer: u8, sent: usize) -> Reply
         requires sent { sent < length self.old.sent }
-        ensures step { StepsIn F.meaning L.notices L.capacity self.old (event.Deliver peer (sent + 1)) result self.new }
-        ensures sends { Announces (kept_of L.notices L.capacity self.old) (event.Deliver peer (sent + 1)) result
+        ensures step { StepsIn F.meaning L.notices L.capacity self.old
+            (event.Deliver peer (sent + 1)) result self.new }
+        ensures sends { Announces (kept_of L.notices L.capacity self.old)
+            (event.Deliver peer (sent + 1)) result
             (kept_of L.notices L.capacity self.new) }
     {
         match index_of(peer, self.count()) {
@@ -323,7 +342,8 @@ impl<F: Filter, L: Listener> World<F, L> {
         requires sent { sent < length self.old.sent }
         ensures step { StepsIn F.meaning L.notices L.capacity self.old
             (event.Deliver (index + 1) (sent + 1)) result self.new }
-        ensures sends { Announces (kept_of L.notices L.capacity self.old) (event.Deliver (index + 1) (sent + 1)) result
+        ensures sends { Announces (kept_of L.notices L.capacity self.old)
+            (event.Deliver (index + 1) (sent + 1)) result
             (kept_of L.notices L.capacity self.new) }
     {
         match self.copied(sent) {
@@ -365,8 +385,10 @@ impl<F: Filter, L: Listener> World<F, L> {
         ensures reply { result ≡ output.reply }
         ensures cores { self.new.cores ≡ self.old.cores }
         ensures posted { Posts self.old.sent output.packets self.new.sent }
-        ensures unsent { Counts (kept_of L.notices L.capacity self.old) output (kept_of L.notices L.capacity self.new) }
-        ensures quiet { IsQuiet (kept_of L.notices L.capacity self.old) output (kept_of L.notices L.capacity self.new) }
+        ensures unsent { Counts (kept_of L.notices L.capacity self.old) output
+            (kept_of L.notices L.capacity self.new) }
+        ensures quiet { IsQuiet (kept_of L.notices L.capacity self.old) output
+            (kept_of L.notices L.capacity self.new) }
     {
         let Output {
             reply,

@@ -59,7 +59,8 @@ pub trait Sink {
         // The writer is a matched one.
         requires matched { IsMatched (qos self.old) arrival.writer }
         // The change came, and nothing else happened.
-        ensures ok { OnOk result ((h : List Happening) → stands self.old h → stands self.new (Came arrival ∷ h)) }
+        ensures ok { OnOk result ((h : List Happening) → stands self.old h
+            → stands self.new (Came arrival ∷ h)) }
         // A refusal leaves what happened as it was.
         ensures err { OnErr result ((h : List Happening) → stands self.old h → stands self.new h) }
         // The policies stay.

@@ -55,7 +55,8 @@ impl StatefulReader {
         // It has so many.
         ensures count { IfOk result (λ reader. count_of reader ≡ writers) }
         // Of each nothing was heard.
-        ensures fresh { IfOk result (λ reader. (index : ℕ) → index < writers → Tracks reader index fresh) }
+        ensures fresh { IfOk result
+            (λ reader. (index : ℕ) → index < writers → Tracks reader index fresh) }
         // It is refused for want of memory alone.
         ensures memory { IfErr result (λ code. code ≡ Memory) }
     {
@@ -148,7 +149,8 @@ impl StatefulReader {
         // A refusal leaves all that is known as it was.
         ensures err { OnErr result (AllStay self.old self.new) }
         // A refusal leaves what happened as it was.
-        ensures err_sink { OnErr result ((h : List Happening) → S.stands sink.old h → S.stands sink.new h) }
+        ensures err_sink { OnErr result ((h : List Happening) → S.stands sink.old h
+            → S.stands sink.new h) }
         // It is refused for want of memory alone.
         ensures memory { IfErr result (λ code. code ≡ Memory) }
         // Where memory was made for it, it succeeds.
@@ -200,7 +202,8 @@ impl StatefulReader {
         // A refusal leaves all that is known as it was.
         ensures err { OnErr result (AllStay self.old self.new) }
         // A refusal leaves what happened as it was.
-        ensures err_sink { OnErr result ((h : List Happening) → S.stands sink.old h → S.stands sink.new h) }
+        ensures err_sink { OnErr result ((h : List Happening) → S.stands sink.old h
+            → S.stands sink.new h) }
         // It is refused for want of memory alone.
         ensures memory { IfErr result (λ code. code ≡ Memory) }
         // Where memory was made for it, it succeeds.
@@ -238,13 +241,17 @@ impl StatefulReader {
         requires first { heartbeat.now.first ≤ 2 ^ 62 }
         // One of a greater count is heard, moves the place, and is answered.
         ensures accepted { IfOk result (λ step. (t : Tracked) (h : List Happening)
-            → Tracks self.old writer t → S.stands sink.old h → is_later t.count heartbeat.now.count ≡ true
+            → Tracks self.old writer t → S.stands sink.old h
+            → is_later t.count heartbeat.now.count ≡ true
             → TakesHeartbeat (match_at (S.qos sink.old) writer moment) t h heartbeat.now step
             (Tracks self.new writer) (S.stands sink.new)) }
         // Any other does nothing.
         ensures repeated { (t : Tracked) (h : List Happening)
-            → Tracks self.old writer t → S.stands sink.old h → is_later t.count heartbeat.now.count ≡ false
-            → IsOk result × IfOk result (λ step. IsIdle t.place step × Tracks self.new writer t × S.stands sink.new h) }
+            → Tracks self.old writer t → S.stands sink.old h
+            → is_later t.count heartbeat.now.count ≡ false
+            → IsOk result
+            × IfOk result
+            (λ step. IsIdle t.place step × Tracks self.new writer t × S.stands sink.new h) }
         // An ACKNACK that is due can be written.
         ensures sayable { IfOk result (λ step. IfSome step.acknack IsSayable) }
         // Nothing becomes known of other writers.
@@ -256,7 +263,8 @@ impl StatefulReader {
         // A refusal leaves all that is known as it was.
         ensures err { OnErr result (AllStay self.old self.new) }
         // A refusal leaves what happened as it was.
-        ensures err_sink { OnErr result ((h : List Happening) → S.stands sink.old h → S.stands sink.new h) }
+        ensures err_sink { OnErr result ((h : List Happening) → S.stands sink.old h
+            → S.stands sink.new h) }
         // It is refused for want of memory alone.
         ensures memory { IfErr result (λ code. code ≡ Memory) }
         // Where memory was made for it, it succeeds.

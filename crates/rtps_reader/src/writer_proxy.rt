@@ -91,7 +91,8 @@ fn mark_named(window: &mut Window, start: Sn, list: &SnSet)
     ensures place { place_of window.new ≡ place_of window.old }
     ensures marks { (n : ℕ) → mark_of window.new n ≡ mark_named start list.now
         (place_of window.old + 256) window.old n }
-    ensures small { (n : ℕ) → 2 ^ 62 + 256 ≤ n → mark_of window.old n ≡ None → mark_of window.new n ≡ None }
+    ensures small { (n : ℕ) → 2 ^ 62 + 256 ≤ n → mark_of window.old n ≡ None
+        → mark_of window.new n ≡ None }
 {
     let place = window.place().number();
     for number in place..place + WIDTH {
@@ -104,8 +105,10 @@ fn mark_named(window: &mut Window, start: Sn, list: &SnSet)
 fn position_of(held: &[Arrival], number: Sn) -> Option<usize>
     ensures within { IfSome result (λ at. at < length held.now) }
     ensures found { IfSome result
-        (λ at. (d : Arrival) → change_at held.now number ≡ Some (slice_index_or held.now at d).change) }
-    ensures number { IfSome result (λ at. (d : Arrival) → (slice_index_or held.now at d).number ≡ number) }
+        (λ at. (d : Arrival)
+        → change_at held.now number ≡ Some (slice_index_or held.now at d).change) }
+    ensures number { IfSome result
+        (λ at. (d : Arrival) → (slice_index_or held.now at d).number ≡ number) }
     ensures none { IfNone result (change_at held.now number ≡ None) }
 {
     for (at, arrival) in held.iter().enumerate() {
@@ -121,7 +124,8 @@ fn stamp(held: &mut Vec<Arrival>, at: usize, source: &Source)
     requires within { at < vec_len held.old }
     ensures changes { (n : ℕ) → change_at held.new.items n ≡ change_at held.old.items n }
     ensures arrival { (d : Arrival)
-        → slice_index_or held.new.items at d ≡ stamped source.now (slice_index_or held.old.items at d) }
+        → slice_index_or held.new.items at d
+        ≡ stamped source.now (slice_index_or held.old.items at d) }
     ensures len { vec_len held.new ≡ vec_len held.old }
     ensures capacity { vec_capacity held.new ≡ vec_capacity held.old }
 {
@@ -134,7 +138,8 @@ fn stamp(held: &mut Vec<Arrival>, at: usize, source: &Source)
 fn take_out(held: &mut Vec<Arrival>, at: usize) -> Arrival
     requires within { at < vec_len held.old }
     ensures taken { (d : Arrival) → result ≡ slice_index_or held.old.items at d }
-    ensures others { (n : ℕ) → n ≢ result.number → change_at held.new.items n ≡ change_at held.old.items n }
+    ensures others { (n : ℕ) → n ≢ result.number
+        → change_at held.new.items n ≡ change_at held.old.items n }
     ensures len { vec_len held.new + 1 ≡ vec_len held.old }
     ensures capacity { vec_capacity held.new ≡ vec_capacity held.old }
 {
@@ -260,9 +265,11 @@ impl WriterProxy {
         requires runs { vec_len runs.old < vec_capacity runs.old }
         requires spare { 1 ≤ S.spare sink.old }
         ensures sound { IsSound self.new }
-        ensures passes { PassesOver source.now.publication (S.stands sink.old) (S.stands sink.new) (tracked self.old)
+        ensures passes { PassesOver source.now.publication (S.stands sink.old) (S.stands sink.new)
+            (tracked self.old)
             (tracked self.new) runs.old.items runs.new.items }
-        ensures outside { (n : ℕ) → mark_of self.old.window n ≡ None → mark_of self.new.window n ≡ None }
+        ensures outside { (n : ℕ) → mark_of self.old.window n ≡ None
+            → mark_of self.new.window n ≡ None }
         ensures runs { vec_len runs.new ≤ vec_len runs.old + 1 }
         ensures capacity { vec_capacity runs.old ≤ vec_capacity runs.new }
         ensures qos { S.qos sink.new ≡ S.qos sink.old }
@@ -282,16 +289,20 @@ impl WriterProxy {
         requires spare { 1 ≤ S.spare sink.old }
         ensures sound { IsSound self.new }
         ensures handed { result ≡ true
-            → HandsOn (match_of (S.qos sink.old) source.now) (S.stands sink.old) (S.stands sink.new) (tracked self.old)
+            → HandsOn (match_of (S.qos sink.old) source.now) (S.stands sink.old) (S.stands sink.new)
+            (tracked self.old)
             (tracked self.new) }
-        ensures stays { result ≡ false → SameTracked (tracked self.old) (tracked self.new) × (sink.new ≡ sink.old) }
+        ensures stays { result ≡ false → SameTracked (tracked self.old) (tracked self.new)
+            × (sink.new ≡ sink.old) }
         ensures full { result ≡ false → (change : Change) (h : List Happening)
             → (tracked self.old).slot (place_of self.old.window) ≡ Held change → S.stands sink.old h
             → has_room (S.qos sink.old) h
             (coming (match_of (S.qos sink.old) source.now)
             (record { place = place_of self.old.window; happened = h }) change) ≡ false }
-        ensures was_marked { result ≡ true → mark_of self.old.window (place_of self.old.window) ≡ Some mark.Held }
-        ensures outside { (n : ℕ) → mark_of self.old.window n ≡ None → mark_of self.new.window n ≡ None }
+        ensures was_marked { result ≡ true
+            → mark_of self.old.window (place_of self.old.window) ≡ Some mark.Held }
+        ensures outside { (n : ℕ) → mark_of self.old.window n ≡ None
+            → mark_of self.new.window n ≡ None }
         ensures fewer { result ≡ true → vec_len self.new.held + 1 ≡ vec_len self.old.held }
         ensures qos { S.qos sink.new ≡ S.qos sink.old }
         ensures spare { S.spare sink.old ≤ S.spare sink.new + 1 }
@@ -321,10 +332,12 @@ impl WriterProxy {
         requires matched { IsMatched (S.qos sink.old) source.now.publication }
         requires none { runs.old.items ≡ [] }
         requires len { vec_len runs.old ≡ 0 }
-        requires memory { CanMove (vec_len self.old.held) (vec_capacity runs.old) (S.spare sink.old) }
+        requires memory { CanMove (vec_len self.old.held) (vec_capacity runs.old)
+            (S.spare sink.old) }
         ensures sound { IsSound self.new }
         ensures qos { S.qos sink.new ≡ S.qos sink.old }
-        ensures moves { Moves (match_of (S.qos sink.old) source.now) (S.stands sink.old) (S.stands sink.new)
+        ensures moves { Moves (match_of (S.qos sink.old) source.now) (S.stands sink.old)
+            (S.stands sink.new)
             (tracked self.old) (place_of self.new.window) runs.new.items (tracked self.new) }
     {
         // Nothing is known of numbers past the window: the proof has it from here.
@@ -344,7 +357,8 @@ impl WriterProxy {
         requires marks { 1 ≤ room_of self.old.window }
         requires changes { vec_len self.old.held < vec_capacity self.old.held }
         ensures sound { IsSound self.new }
-        ensures holds { SameTracked (with_data arrival.number arrival.change (tracked self.old)) (tracked self.new) }
+        ensures holds { SameTracked (with_data arrival.number arrival.change (tracked self.old))
+            (tracked self.new) }
         ensures held { vec_len self.new.held ≤ vec_len self.old.held + 1 }
         ensures runs { self.new.runs ≡ self.old.runs }
     {
@@ -362,7 +376,8 @@ impl WriterProxy {
         requires small { list.now.base ≤ 2 ^ 62 }
         requires marks { 256 ≤ room_of self.old.window }
         ensures sound { IsSound self.new }
-        ensures forgets { SameTracked (with_gap start list.now (tracked self.old)) (tracked self.new) }
+        ensures forgets { SameTracked (with_gap start list.now (tracked self.old))
+            (tracked self.new) }
         ensures held { self.new.held ≡ self.old.held }
         ensures runs { self.new.runs ≡ self.old.runs }
     {
@@ -374,7 +389,8 @@ impl WriterProxy {
         requires sound { IsSound self.old }
         requires small { heartbeat.now.first ≤ 2 ^ 62 }
         ensures sound { IsSound self.new }
-        ensures tells { SameTracked (with_heartbeat heartbeat.now.first heartbeat.now.count (tracked self.old))
+        ensures tells { SameTracked
+            (with_heartbeat heartbeat.now.first heartbeat.now.count (tracked self.old))
             (tracked self.new) }
         ensures held { self.new.held ≡ self.old.held }
         ensures runs { self.new.runs ≡ self.old.runs }
@@ -423,11 +439,13 @@ impl WriterProxy {
     fn moved<S: Sink>(&mut self, sink: &mut S, source: &Source) -> Step
         requires sound { IsSound self.old }
         requires matched { IsMatched (S.qos sink.old) source.now.publication }
-        requires memory { CanMove (vec_len self.old.held) (vec_capacity self.old.runs) (S.spare sink.old) }
+        requires memory { CanMove (vec_len self.old.held) (vec_capacity self.old.runs)
+            (S.spare sink.old) }
         ensures sound { IsSound self.new }
         ensures quiet { (result.heard ≡ false) × (result.acknack ≡ None) }
         ensures qos { S.qos sink.new ≡ S.qos sink.old }
-        ensures moves { Moves (match_of (S.qos sink.old) source.now) (S.stands sink.old) (S.stands sink.new)
+        ensures moves { Moves (match_of (S.qos sink.old) source.now) (S.stands sink.old)
+            (S.stands sink.new)
             (tracked self.old) result.to result.passed (tracked self.new) }
     {
         let mut runs = mem::replace(&mut self.runs, Vec::new(self.alloc));
@@ -454,12 +472,14 @@ impl WriterProxy {
         requires small { number ≤ 2 ^ 62 }
         ensures sound { IsSound self.new }
         ensures moves { IfOk result
-            (λ step. Moves (match_of (S.qos sink.old) source.now) (S.stands sink.old) (S.stands sink.new)
+            (λ step. Moves (match_of (S.qos sink.old) source.now) (S.stands sink.old)
+            (S.stands sink.new)
             (with_data number change (tracked self.old)) step.to step.passed (tracked self.new)) }
         ensures quiet { IfOk result (λ step. (step.heard ≡ false) × (step.acknack ≡ None)) }
         ensures qos { S.qos sink.new ≡ S.qos sink.old }
         ensures err { OnErr result (SameTracked (tracked self.old) (tracked self.new)) }
-        ensures sink_err { OnErr result ((h : List Happening) → S.stands sink.old h → S.stands sink.new h) }
+        ensures sink_err { OnErr result ((h : List Happening) → S.stands sink.old h
+            → S.stands sink.new h) }
         ensures memory { IfErr result (λ code. code ≡ Memory) }
         ensures succeeds { IsProxyReady self.old (S.spare sink.old) → IsOk result }
     {
@@ -486,12 +506,14 @@ impl WriterProxy {
         requires small { list.now.base ≤ 2 ^ 62 }
         ensures sound { IsSound self.new }
         ensures moves { IfOk result
-            (λ step. Moves (match_of (S.qos sink.old) source.now) (S.stands sink.old) (S.stands sink.new)
+            (λ step. Moves (match_of (S.qos sink.old) source.now) (S.stands sink.old)
+            (S.stands sink.new)
             (with_gap start list.now (tracked self.old)) step.to step.passed (tracked self.new)) }
         ensures quiet { IfOk result (λ step. (step.heard ≡ false) × (step.acknack ≡ None)) }
         ensures qos { S.qos sink.new ≡ S.qos sink.old }
         ensures err { OnErr result (SameTracked (tracked self.old) (tracked self.new)) }
-        ensures sink_err { OnErr result ((h : List Happening) → S.stands sink.old h → S.stands sink.new h) }
+        ensures sink_err { OnErr result ((h : List Happening) → S.stands sink.old h
+            → S.stands sink.new h) }
         ensures memory { IfErr result (λ code. code ≡ Memory) }
         ensures succeeds { IsProxyReady self.old (S.spare sink.old) → IsOk result }
     {
@@ -512,14 +534,18 @@ impl WriterProxy {
         requires small { heartbeat.now.first ≤ 2 ^ 62 }
         ensures sound { IsSound self.new }
         ensures moves { is_later self.old.count heartbeat.now.count ≡ true
-            → IfOk result (λ step. HeartbeatMoves (match_of (S.qos sink.old) source.now) (S.stands sink.old)
+            → IfOk result
+            (λ step. HeartbeatMoves (match_of (S.qos sink.old) source.now) (S.stands sink.old)
             (S.stands sink.new) (tracked self.old) heartbeat.now step (tracked self.new)) }
-        ensures repeated { is_later self.old.count heartbeat.now.count ≡ false → (self.new ≡ self.old)
-            × (sink.new ≡ sink.old) × IsOk result × IfOk result (λ step. IsIdle (tracked self.old).place step) }
+        ensures repeated { is_later self.old.count heartbeat.now.count ≡ false
+            → (self.new ≡ self.old)
+            × (sink.new ≡ sink.old) × IsOk result
+            × IfOk result (λ step. IsIdle (tracked self.old).place step) }
         ensures sayable { IfOk result (λ step. IfSome step.acknack IsSayable) }
         ensures qos { S.qos sink.new ≡ S.qos sink.old }
         ensures err { OnErr result (SameTracked (tracked self.old) (tracked self.new)) }
-        ensures sink_err { OnErr result ((h : List Happening) → S.stands sink.old h → S.stands sink.new h) }
+        ensures sink_err { OnErr result ((h : List Happening) → S.stands sink.old h
+            → S.stands sink.new h) }
         ensures memory { IfErr result (λ code. code ≡ Memory) }
         ensures succeeds { IsProxyReady self.old (S.spare sink.old) → IsOk result }
     {

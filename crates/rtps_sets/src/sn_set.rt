@@ -67,7 +67,8 @@ impl SnSet {
         // The number is a member, and each other one is if it was.
         ensures member { (n : ℕ) → has_number self.new n ≡ (has_number self.old n || n == number) }
         // Its flag is set.
-        ensures members { self.new.members ≡ slice_set self.old.members (number - self.old.base) true }
+        ensures members { self.new.members
+            ≡ slice_set self.old.members (number - self.old.base) true }
     {
         self.members[(number.number() - self.base) as usize] = true;
     }

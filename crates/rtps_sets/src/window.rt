@@ -70,7 +70,8 @@ impl Window {
         // The number that the window begins with.
         ensures place { result ≡ place_of self.now }
         // Nothing is known of a number outside.
-        ensures window { (n : ℕ) → is_in_window (place_of self.now) n ≡ false → mark_of self.now n ≡ None }
+        ensures window { (n : ℕ) → is_in_window (place_of self.now) n ≡ false
+            → mark_of self.now n ≡ None }
     {
         Sn::new(self.place)
     }
@@ -122,7 +123,8 @@ impl Window {
         // It takes room for one mark at most.
         ensures room { room_of self.old ≤ room_of self.new + 1 }
         // A number that takes no mark changes nothing.
-        ensures refused { can_mark self.old number ≡ false → (result ≡ Ok false) × (self.new ≡ self.old) }
+        ensures refused { can_mark self.old number ≡ false → (result ≡ Ok false)
+            × (self.new ≡ self.old) }
         // Where there is room it succeeds.
         ensures succeeds { 0 < room_of self.old → IsOk result }
         // It is refused for want of memory alone.
@@ -169,7 +171,8 @@ impl Window {
         // It goes no further than asked.
         ensures asked { place_of self.new ≤ max (place_of self.old) to }
         // It goes over marked numbers alone.
-        ensures over { (n : ℕ) → place_of self.old ≤ n → n < place_of self.new → IsSome (mark_of self.old n) }
+        ensures over { (n : ℕ) → place_of self.old ≤ n → n < place_of self.new
+            → IsSome (mark_of self.old n) }
         // It stops short of where it was asked to go only at a number without a mark.
         ensures stops { place_of self.new < to → mark_of self.old (place_of self.new) ≡ None }
         // Marks below the place are forgotten, and all others stay.
@@ -193,7 +196,8 @@ impl Window {
         // The place is where it was asked to go.
         ensures place { place_of self.new ≡ to }
         // Marks below the place are forgotten, and all others stay.
-        ensures marks { (n : ℕ) → mark_of self.new n ≡ (if nat_le to n then mark_of self.old n else None) }
+        ensures marks { (n : ℕ)
+            → mark_of self.new n ≡ (if nat_le to n then mark_of self.old n else None) }
         // It has no less room than before.
         ensures room { room_of self.old ≤ room_of self.new }
     {

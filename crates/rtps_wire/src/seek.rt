@@ -39,7 +39,8 @@ fn is_sought(wanted: &Sought, submessage: &Submessage) -> bool
 
 /// Whether an id, flags and a body are such a submessage.
 fn is_frame_sought(wanted: &Sought, id: u8, flags: u8, body: &[u8]) -> bool
-    ensures { IsTrue result ↔ IsSought wanted.now (unwrap_or (known_at id flags body.now) (submessages.Other id)) }
+    ensures { IsTrue result
+        ↔ IsSought wanted.now (unwrap_or (known_at id flags body.now) (submessages.Other id)) }
 {
     let known = known_of(id, flags, body);
     is_sought(wanted, &known.unwrap_or(Submessage::Other(id)))

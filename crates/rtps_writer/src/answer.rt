@@ -83,7 +83,8 @@ pub fn put_answers(answers: &mut Vec<Answer>, history: &History, set: &SnSet, fr
     requires none { answers.old.items ≡ [] }
     requires room { vec_len answers.old + span set.now.members ≤ vec_capacity answers.old }
     ensures { (w : WriterHistory) → HistoryStandsFor history.now w
-        → answers.new.items ≡ answers_to (λ n. is_kept w n) (requested set.now from (length w.changes)) }
+        → answers.new.items
+        ≡ answers_to (λ n. is_kept w n) (requested set.now from (length w.changes)) }
 {
     let base = set.base().number();
     let last = history.last();

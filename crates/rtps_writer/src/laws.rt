@@ -15,14 +15,17 @@ ghost use Rattle.rtps_writer.specs.WriterState.{WriterState, acknowledged_by, hi
 pub fn answers_are_right()
     // A DATA names a kept number, a GAP numbers that are not kept, and each lies among those asked for.
     ensures right { (s : WriterState) (reader : ℕ) (set : NumberSet)
-        → All (IsRight (λ n. is_kept (history_of s) n) (IsBetween set (acknowledged_by s reader) (last_of s)))
+        → All (IsRight
+        (λ n. is_kept (history_of s) n) (IsBetween set (acknowledged_by s reader) (last_of s)))
         (answers_after s reader set) }
     // Each number of a GAP is dropped, since the reader itself awaits it.
-    ensures dropped { (s : WriterState) (reader : ℕ) (set : NumberSet) → reader < length s.acknowledged
+    ensures dropped { (s : WriterState) (reader : ℕ) (set : NumberSet)
+        → reader < length s.acknowledged
         → 0 < acknowledged_by s reader
         → All (GapsAre (λ n. is_dropped (history_of s) n ≡ true)) (answers_after s reader set) }
     // A number is answered exactly if it is asked for.
-    ensures complete { (s : WriterState) (reader : ℕ) (set : NumberSet) (n : ℕ) → length set.members ≤ 256
+    ensures complete { (s : WriterState) (reader : ℕ) (set : NumberSet) (n : ℕ)
+        → length set.members ≤ 256
         → list_any (is_answer_to n) (answers_after s reader set)
         ≡ is_requested set (acknowledged_by s reader) (last_of s) n }
 {}
@@ -35,6 +38,7 @@ pub fn acknowledgements_count_from_1()
     ensures opening { (policy : HistoryQos) (max_samples lease : Option ℕ) (readers : ℕ)
         → All (λ n. 0 < n) (opening policy max_samples lease readers).acknowledged }
     // No ACKNACK takes one below 1.
-    ensures acknack { (s : WriterState) (reader base : ℕ) (count : ℤ) → All (λ n. 0 < n) s.acknowledged
+    ensures acknack { (s : WriterState) (reader base : ℕ) (count : ℤ)
+        → All (λ n. 0 < n) s.acknowledged
         → All (λ n. 0 < n) (after_acknack s reader base count).acknowledged }
 {}

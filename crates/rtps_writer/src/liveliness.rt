@@ -50,7 +50,8 @@ impl Liveliness {
 
     /// The writer is asserted at this moment, by a change or without one.
     pub fn assert_at(&mut self, now: Moment)
-        ensures changed { (lease : Option ℕ) (c : List Written) (change : Change) → IsLiveliness self.old lease c
+        ensures changed { (lease : Option ℕ) (c : List Written) (change : Change)
+            → IsLiveliness self.old lease c
             → change.source_timestamp ≡ now → IsLiveliness self.new lease (Changed change ∷ c) }
         ensures asserted { (lease : Option ℕ) (c : List Written) → IsLiveliness self.old lease c
             → IsLiveliness self.new lease (Asserted now ∷ c) }
@@ -60,7 +61,8 @@ impl Liveliness {
 
     /// The time of its peer has gone on: the writer is lost where its lease is over.
     pub fn tick(&mut self, now: Moment)
-        ensures { (lease : Option ℕ) (c : List Written) (behind : Bool) → IsLiveliness self.old lease c
+        ensures { (lease : Option ℕ) (c : List Written) (behind : Bool)
+            → IsLiveliness self.old lease c
             → IsLiveliness self.new lease (Ticked now behind ∷ c) }
     {
         if is_over(self.lease, self.since, now) {

@@ -19,7 +19,8 @@ pub fn is_registered(keys: &[Key], key: Key) -> bool
 /// Registers an instance, whether or not it is registered. There is room for one more.
 pub fn register(keys: &mut Vec<Key>, key: Key)
     requires { vec_len keys.old < vec_capacity keys.old }
-    ensures registered { (k : Key) → is_among keys.new.items k ≡ (same_key key k || is_among keys.old.items k) }
+    ensures registered { (k : Key)
+        → is_among keys.new.items k ≡ (same_key key k || is_among keys.old.items k) }
     ensures known { is_among keys.old.items key ≡ true → keys.new.items ≡ keys.old.items }
 {
     if is_registered(keys, key) {
@@ -32,7 +33,9 @@ pub fn register(keys: &mut Vec<Key>, key: Key)
 
 /// Ends the registration of an instance.
 pub fn unregister(keys: &mut Vec<Key>, key: Key)
-    ensures { (k : Key) → is_among keys.new.items k ≡ (if same_key key k then false else is_among keys.old.items k) }
+    ensures { (k : Key)
+        → is_among keys.new.items k
+        ≡ (if same_key key k then false else is_among keys.old.items k) }
 {
     keys.retain(|k| *k != key);
 }
@@ -40,7 +43,8 @@ pub fn unregister(keys: &mut Vec<Key>, key: Key)
 /// Makes the room that a change of this kind needs.
 pub fn reserve(keys: &mut Vec<Key>, kind: ChangeKind) -> Result<(), AllocError>
     ensures keys { keys.new.items ≡ keys.old.items }
-    ensures room { OnOk result (is_unregister kind ≡ false → vec_len keys.new < vec_capacity keys.new) }
+    ensures room { OnOk result (is_unregister kind ≡ false
+        → vec_len keys.new < vec_capacity keys.new) }
     ensures none { is_unregister kind ≡ true → IsOk result }
 {
     if kind.is_unregister() {

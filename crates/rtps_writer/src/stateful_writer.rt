@@ -97,7 +97,8 @@ impl StatefulWriter {
         readers: usize,
     ) -> Result<StatefulWriter, Code>
         // It stands for a writer at which nothing has happened.
-        ensures ok { IfOk result (λ writer. StandsFor writer (opening policy max_samples lease readers)) }
+        ensures ok { IfOk result
+            (λ writer. StandsFor writer (opening policy max_samples lease readers)) }
         // It has this many readers.
         ensures readers { IfOk result (λ writer. reader_count writer ≡ readers) }
         // The only refusal is for want of memory.
@@ -231,7 +232,8 @@ impl StatefulWriter {
         // An index below it names a reader.
         ensures readers { result ≡ reader_count self.now }
         // So many acknowledgements are known.
-        ensures acknowledged { (s : WriterState) → StandsFor self.now s → result ≡ length s.acknowledged }
+        ensures acknowledged { (s : WriterState) → StandsFor self.now s
+            → result ≡ length s.acknowledged }
     {
         self.history.readers()
     }
@@ -318,7 +320,8 @@ impl StatefulWriter {
     /// DDS 1.4, 2.2.4.1 (LIVELINESS_LOST, LivelinessLostStatus).
     pub fn liveliness_status(&self) -> LivelinessLostStatus
         // It is the status of the definitions.
-        ensures status { (s : WriterState) → StandsFor self.now s → result ≡ liveliness_lost_status s.lease s.written }
+        ensures status { (s : WriterState) → StandsFor self.now s
+            → result ≡ liveliness_lost_status s.lease s.written }
     {
         self.liveliness.status()
     }
@@ -331,7 +334,8 @@ impl StatefulWriter {
         ensures status { (s : WriterState) → StandsFor self.old s
             → result ≡ liveliness_lost_status s.lease s.written }
         // The look is entered.
-        ensures stands { (s : WriterState) → StandsFor self.old s → StandsFor self.new (entering s LookedAt) }
+        ensures stands { (s : WriterState) → StandsFor self.old s
+            → StandsFor self.new (entering s LookedAt) }
         // The readers stay the same ones.
         ensures readers { reader_count self.new ≡ reader_count self.old }
     {
@@ -357,7 +361,8 @@ impl StatefulWriter {
     /// RTPS 2.5, 8.4.9 (reliable StatefulWriter: heartbeatPeriod).
     pub fn tick(&mut self, now: Moment) -> Option<HeartbeatDue>
         // The tick is entered, with whether some reader was behind.
-        ensures stands { (s : WriterState) → StandsFor self.old s → StandsFor self.new (ticked s now) }
+        ensures stands { (s : WriterState) → StandsFor self.old s
+            → StandsFor self.new (ticked s now) }
         // A HEARTBEAT is due exactly where some reader is behind and a count is left, with the numbers that are kept.
         ensures due { (s : WriterState) → StandsFor self.old s → result ≡ heartbeat_due s now }
         // The readers stay the same ones.
@@ -374,7 +379,8 @@ impl StatefulWriter {
     /// Whether an ACKNACK of this reader is applied.
     fn applies(&self, reader: usize, base: Sn, count: i32) -> bool
         requires { reader < reader_count self.now }
-        ensures { (s : WriterState) → StandsFor self.now s → result ≡ is_applied s reader base count }
+        ensures { (s : WriterState) → StandsFor self.now s
+            → result ≡ is_applied s reader base count }
     {
         is_new_count(self.counts[reader], count)
             && base.number() <= self.history.last().number().saturating_add(1)
@@ -392,7 +398,8 @@ impl StatefulWriter {
         requires reader { reader < reader_count self.old }
         requires none { room.items ≡ [] }
         requires room { span set.now.members ≤ vec_capacity room }
-        ensures stands { (s : WriterState) → StandsFor self.old s → StandsFor self.new (applied s reader base count) }
+        ensures stands { (s : WriterState) → StandsFor self.old s
+            → StandsFor self.new (applied s reader base count) }
         ensures acknowledged { (s : WriterState) → StandsFor self.old s
             → result.acknowledged ≡ newly_acknowledged s (applied s reader base count) reader }
         ensures answers { (s : WriterState) → StandsFor self.old s
@@ -434,7 +441,8 @@ impl StatefulWriter {
             → StandsFor self.new (after_acknack s reader base count) }
         // It says whether the reader has acknowledged more than before.
         ensures acknowledged { (s : WriterState) → StandsFor self.old s
-            → result.acknowledged ≡ newly_acknowledged s (after_acknack s reader base count) reader }
+            → result.acknowledged
+            ≡ newly_acknowledged s (after_acknack s reader base count) reader }
         // Each member from there to the last number is answered, in order.
         ensures answers { (s : WriterState) → StandsFor self.old s
             → result.answers.items ≡ acknack_answers s reader base set.now count }
@@ -475,7 +483,8 @@ impl StatefulWriter {
             → OnOk result (StandsFor self.new (after_acknack s reader base count)) }
         // It says whether the reader has acknowledged more than before.
         ensures acknowledged { (s : WriterState) → StandsFor self.old s → IfOk result (λ answered.
-            answered.acknowledged ≡ newly_acknowledged s (after_acknack s reader base count) reader) }
+            answered.acknowledged
+            ≡ newly_acknowledged s (after_acknack s reader base count) reader) }
         // Each member from there to the last number is answered, in order.
         ensures answers { (s : WriterState) → StandsFor self.old s → IfOk result (λ answered.
             answered.answers.items ≡ acknack_answers s reader base set.now count) }
