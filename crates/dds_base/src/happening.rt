@@ -22,7 +22,7 @@ pub struct Arrival {
     pub moment: Moment,
 }
 
-/// The changes from `first` to `last` of a writer, both of them too, which a reader passed over.
+/// The changes from `first` to `last` of a writer, both of them too, which a reader passed over. `first` is at most `last`.
 #[derive(Clone, Copy, Debug, PartialEq, Eq)]
 pub struct PassedRun {
     pub first: Sn,

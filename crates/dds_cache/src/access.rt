@@ -1,4 +1,6 @@
 //! What a read or a take returns.
+//!
+//! DDS 1.4, 2.2.2.5 (read, take, SampleInfo).
 
 ghost use Rattle.std.specs.Prelude.{◌≡◌, ◌+◌, ◌&&◌, Some, if◌then◌else◌, ◌<◌, ◌^◌, List, ℕ, false, true, map, filter, All, MatchOption, length, IfSome, IfOk, OnOk};
 ghost use Rattle.std.specs.List.Sorted.{IsPermutation, IsNonDecreasingBy, IsStableByKey};

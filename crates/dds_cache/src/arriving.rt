@@ -1,4 +1,6 @@
 //! The samples that an entry leaves.
+//!
+//! DDS 1.4, 2.2.2.5 (samples), 2.2.3 (HISTORY).
 
 ghost use Rattle.std.specs.Prelude.{◌≡◌, ◌+◌, ◌∷◌, [], ℕ, List, false, true, length, All, MatchOption, IfSome, ◌<◌, ◌≤◌, vec_len, vec_capacity};
 ghost use Rattle.dds_base.specs.declared.happening.Happening.{Happening};

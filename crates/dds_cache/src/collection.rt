@@ -1,4 +1,6 @@
 //! The collection of the samples that an access returns.
+//!
+//! DDS 1.4, 2.2.2.5 (SampleInfo: ranks).
 
 ghost use Rattle.std.specs.Prelude.{◌≡◌, length, map, All, IfOk, IfErr};
 ghost use Rattle.dds_base.specs.declared.code.Code.TheVariants.{Memory};

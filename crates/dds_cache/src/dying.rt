@@ -1,4 +1,6 @@
 //! The samples without data that a death leaves.
+//!
+//! DDS 1.4, 2.2.2.5 (instance_state), 2.2.3 (LIVELINESS).
 
 ghost use Rattle.std.specs.Prelude.{◌≡◌, ◌+◌, ◌∷◌, [], ℕ, List, Some, true, false, length, All, MatchOption, IfSome, ◌<◌, ◌≤◌, vec_len, vec_capacity};
 ghost use Rattle.dds_base.specs.declared.happening.Happening.{Happening};

@@ -1,4 +1,6 @@
 //! A sample that is kept.
+//!
+//! DDS 1.4, 2.2.2.5 (sample_state), 2.2.3 (HISTORY).
 
 ghost use Rattle.std.specs.Prelude.{◌≡◌, ◌+◌};
 ghost use Rattle.dds_base.specs.Presence.{keeps, is_at};

@@ -2,6 +2,7 @@
 //!
 //! DDS 1.4, 2.2.2.5 (read, take, SampleInfo), 2.2.3 (OWNERSHIP, HISTORY). `docs/MODEL.md`, "What is
 //! present" and "What an access returns".
+//! Not here: which changes come, and when.
 #![tactic(auto)]
 
 mod access;

@@ -1,4 +1,6 @@
 //! What a mask asks for.
+//!
+//! DDS 1.4, 2.2.2.5 (sample, view and instance states).
 
 ghost use Rattle.std.specs.Prelude.{◌≡◌};
 ghost use Rattle.dds_base.specs.Access.{asks_for_sample_state, asks_for_view_state, asks_for_instance_state};

@@ -1,4 +1,6 @@
 //! What a read or a take leaves of the kept samples.
+//!
+//! DDS 1.4, 2.2.2.5 (read: samples are READ afterwards; take: they are gone).
 
 ghost use Rattle.std.specs.Prelude.{◌≡◌, ◌≤◌, map, filter, not, IfOk, IfErr, vec_len, vec_capacity};
 ghost use Rattle.dds_base.specs.declared.code.Code.TheVariants.{Memory};

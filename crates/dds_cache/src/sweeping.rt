@@ -1,4 +1,6 @@
 //! Samples that are no longer present are let go.
+//!
+//! DDS 1.4, 2.2.3 (HISTORY).
 
 ghost use Rattle.std.specs.Prelude.{◌≡◌, ◌≤◌, ◌+◌, ◌-◌, ◌*◌, ◌^◌, min, List, All, filter, vec_len, vec_capacity};
 ghost use Rattle.dds_base.specs.declared.happening.Happening.{Happening};

@@ -1,4 +1,5 @@
--- What a peer does when one of its writers is to make a change.
+-- What a peer does when one of its writers is to make a change. Inner functions alone cite this: nothing here has to be
+-- believed.
 use Rattle.std.specs.Prelude.{◌≡◌, ◌≢◌, ◌⊎◌, ℕ, ◌+◌, Contains, [], None, List}
 use Rattle.dds_base.specs.declared.change.Change.{Change}
 use Rattle.dds_base.specs.declared.change.ChangeKind.{ChangeKind}

@@ -1,4 +1,5 @@
--- What a reader stores. Inner functions alone cite this: nothing here has to be believed.
+-- What a reader stores. But for what it is made of (`StoreKept`), inner functions alone cite this: nothing else here has to
+-- be believed.
 use Rattle.std.specs.Prelude.{◌≡◌, ℕ, ◌+◌, ◌-◌, ◌^◌, min, List}
 use Rattle.dds_base.specs.declared.happening.Happening.{Happening}
 use Rattle.dds_base.specs.Statuses.{lost_count}

@@ -1,4 +1,6 @@
 //! How a peer is opened.
+//!
+//! DDS 1.4, 2.2.3 (policies of matched entities); RTPS 2.5, 8.2 (Participant, Endpoint).
 
 ghost use Rattle.std.specs.Prelude.{◌≡◌, ◌<◌, length, None, IfOk, IfErr};
 ghost use Rattle.dds_base.specs.Checked.{check_refusal};

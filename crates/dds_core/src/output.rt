@@ -1,4 +1,6 @@
 //! What a peer gives back.
+//!
+//! DDS 1.4, 2.2.1.1 (return codes).
 
 ghost use Rattle.std.specs.Prelude.{◌≡◌, []};
 ghost use Rattle.dds_core.specs.Receiving.{access_reply};

@@ -1,4 +1,6 @@
 //! A peer, and the one way in.
+//!
+//! DDS 1.4, 2.2.2.4 and 2.2.2.5 (DataWriter, DataReader); RTPS 2.5, 8.4 (behaviour).
 
 ghost use Rattle.std.specs.Prelude.{◌≡◌};
 ghost use Rattle.dds_model.specs.declared.event.Event.TheVariants as event;

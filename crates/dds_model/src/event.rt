@@ -7,7 +7,7 @@ use crate::reply::Reply;
 use dds_base::{Moment, Octets, Sequence};
 use std::alloc::AllocError;
 
-/// The bytes of a packet, and the number of the peer that it goes to.
+/// The bytes of a packet, and the number of the peer that it goes to, from 1. A network may deliver it anywhere.
 #[derive(Debug, Drop, PartialEq, Eq)]
 pub struct Packet {
     pub to: u8,
@@ -17,12 +17,13 @@ pub struct Packet {
 /// What happens to one peer.
 #[derive(Debug, Drop, PartialEq, Eq)]
 pub enum Event {
+    /// A call of the application; `Call` says what answers it.
     Call(Call),
     /// The time goes on to this moment: those whose lease is over die at the peer's readers, and then the HEARTBEATs are
     /// sent that are due. `BadParameter` where it would go back, or to 2^63 units of 2^-32 second and beyond; `Memory`
     /// only where somebody dies.
     Tick(Moment),
-    /// The bytes of a packet come.
+    /// The bytes of a packet come, whatever they are. The answer is a `Report`.
     Deliver(Octets),
 }
 
@@ -30,13 +31,16 @@ pub enum Event {
 #[derive(Debug, Drop, PartialEq, Eq)]
 pub struct Output {
     pub reply: Reply,
+    /// In the order in which they are sent.
     pub packets: Sequence<Packet>,
+    /// Of this event alone.
     pub unsent: u64,
 }
 
 /// What happens to a network of peers, which are numbered from 1.
 #[derive(Debug, Drop)]
 pub enum WorldEvent {
+    /// A call at a peer, as `Event::Call` says.
     Call { peer: u8, call: Call },
     /// The time of a peer goes on to this moment, as `Event::Tick` says.
     Tick { peer: u8, now: Moment },

@@ -1,8 +1,8 @@
 //! The machine without packets, the world of peers, and the laws between them: what a peer's events and replies are,
 //! and which replies are right.
 //!
-//! It has no code that runs: its functions are laws, and `specs/` holds the definitions that the contracts of peers and
-//! of networks cite.
+//! `specs/` holds the definitions that the contracts of peers and of networks cite; the functions are laws.
+//! Not here: code that runs, but for the copies of events and replies.
 #![tactic(auto)]
 
 mod call;

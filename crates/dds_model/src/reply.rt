@@ -11,7 +11,9 @@ use dds_conditions::Cond;
 use dds_notices::StatusMask;
 use std::alloc::AllocError;
 
-/// What a delivery moved.
+/// What a delivery moved. Peers, writers and readers are numbered from 1.
+///
+/// RTPS 2.5, 8.4.12 (WriterProxy), 8.4.9 (ReaderProxy).
 #[derive(Debug, Drop, PartialEq, Eq)]
 pub enum Move {
     /// The place of the peer's reader in a writer's list is now `to`: the changes before it came, but for those of the
@@ -40,21 +42,30 @@ pub enum Move {
 #[derive(Debug, Drop, PartialEq, Eq)]
 pub struct Report {
     pub moves: Sequence<Move>,
+    /// 0 also where the message could not be read for want of memory.
     pub refused: Option<u32>,
 }
 
 /// The answer to an event.
 #[derive(Debug, Drop, PartialEq, Eq)]
 pub enum Reply {
+    /// It was done: a call that answers nothing else, and a tick.
     Done,
+    /// What a read or a take returns: never none, which is `NoData`.
     Samples(Sequence<Sample>),
+    /// The key of a known instance.
     KeyValue(Key),
+    /// The handle of an instance; HANDLE_NIL where it is not known.
     InstanceHandle(Handle),
+    /// A look at SAMPLE_LOST.
     SampleLost(SampleLostStatus),
+    /// A look at LIVELINESS_CHANGED.
     LivelinessChanged(LivelinessChangedStatus),
+    /// A look at LIVELINESS_LOST.
     LivelinessLost(LivelinessLostStatus),
     /// The number of the condition or of the WaitSet that was made, from 1.
     Created(u32),
+    /// Whether a condition is true.
     TriggerValue(bool),
     /// The conditions of a WaitSet, in the order in which they were attached.
     Conditions(Sequence<Cond>),
@@ -64,7 +75,9 @@ pub enum Reply {
     Waiting,
     /// The statuses that are flagged.
     StatusChanges(StatusMask),
+    /// What a delivered packet did.
     Reported(Report),
+    /// A refusal, with its cause. Nothing changed, but that `NoData` is entered as the access that it is.
     Refused(Code),
 }
 

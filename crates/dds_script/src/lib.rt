@@ -1,7 +1,8 @@
 //! What the programs share: the words and numbers of a script, the options of writers and readers, the calls that words
 //! ask for, lines of input, and how replies are printed.
 //!
-//! Nothing is claimed by contracts here: what the programs read and print is tested.
+//! Contracts say which values a `Prefix` passes, and nothing else: what the programs read and print is tested.
+//! Not here: which lines a program takes.
 #![tactic(auto)]
 
 mod call;

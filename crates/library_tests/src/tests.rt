@@ -1,3 +1,5 @@
+//! The tests, by the crate of which they are.
+
 mod base;
 mod cache;
 mod conditions;

@@ -1,4 +1,5 @@
--- The instances that a writer has registered, as a list of their keys.
+-- The instances that a writer has registered, as a list of their keys. Inner functions alone cite this: nothing here
+-- has to be believed.
 use Rattle.std.specs.Prelude.{Bool, List}
 use Rattle.std.specs.List.{list_any}
 use Rattle.dds_base.specs.declared.key.Key.{Key}

@@ -1,4 +1,5 @@
-//! Forms that are read: those that other products send, those in big-endian, and those that are not valid.
+//! Forms that are read and that this project doesn't write: in big-endian, with other flags, parameters and versions; and
+//! those that are not valid.
 
 /// What follows the header, and what is read of it: where reading ends, the submessages, and how they are written, if they are.
 pub const OTHER_FORMS: &str = "\
