@@ -4,7 +4,7 @@ use Rattle.std.specs.Prelude.{if◌then◌else◌, nat_lt}
 use Rattle.std.specs.List.{list_any, All}
 use Rattle.std.proofs.lemmas.Bool.{cases_Bool, and_parts}
 use Rattle.std.proofs.lemmas.List.{append-nil}
-use Rattle.std.proofs.lemmas.List.Elements.{All-append, All-nil, All-cons, All-weaker, All-head, All-tail, All-map}
+use Rattle.std.proofs.lemmas.List.Elements.{All-append, All-nil, All-cons, All-weaker, All-filter, All-head, All-tail, All-map}
 use Rattle.dds_base.specs.declared.key.Key.{Key}
 use Rattle.dds_base.specs.declared.happening.SamplePosition.{SamplePosition}
 use Rattle.dds_base.specs.declared.happening.Arrival.{Arrival}
@@ -25,7 +25,10 @@ use Rattle.dds_cache.specs.Finding.{Holds, IsCandidate, IsSmall, sample_in}
 use Rattle.dds_cache.specs.Picking.{Picks, IsAccess}
 use Rattle.dds_cache.specs.declared.kept.Kept.{Kept}
 use Rattle.dds_cache.specs.Kept.{IsKept, IsKeptAt, IsFresh, IsNewAt, Adds, sample_at, is_here, position_of, positions_in, is_among, marked, HaveSame}
-use Rattle.dds_cache.specs.Standing.{Stored, StandsFor}
+use Rattle.dds_cache.specs.declared.access_kind.AccessKind.{AccessKind}
+use Rattle.dds_cache.specs.declared.access_kind.AccessKind.TheVariants.{Read as Reading, Take as Taking}
+use Rattle.dds_cache.specs.Settling.{settled}
+use Rattle.dds_cache.specs.Standing.{Stored, StandsFor, entry_of}
 use Rattle.dds_cache.proofs.PresenceLaws.{present-next, present-dropped, quiet-absent, other-absent}
 use Rattle.dds_cache.proofs.KeptLaws.{kept-quiet, kept-next}
 use Rattle.dds_cache.proofs.GroupLaws.{unequal}
@@ -297,3 +300,30 @@ entered-as entry inside now ss xs new after h view same stands each enter make =
 -- a mark leaves the counts
 pub small-marked : (ss : List SamplePosition) (ks : List Kept) → All IsSmall ks → All IsSmall (map (marked ss) ks)
 small-marked ss ks small = All-map IsSmall (marked ss) ks (All-weaker IsSmall (λ (k : Kept). IsSmall (marked ss k)) (λ k is. is) ks small)
+
+-- what an access returned has entered the instances, by its kind
+pub returned-as : {old new : Table} {ss : List SamplePosition} (kind : AccessKind)
+    → ((q : ReaderQos) (h : List Happening) → Stands q old h → All (IsReturnable q h) ss → Stands q new (Read ss ∷ h))
+    → ((q : ReaderQos) (h : List Happening) → Stands q old h → All (IsReturnable q h) ss → Stands q new (Took ss ∷ h))
+    → (q : ReaderQos) (h : List Happening) → Stands q old h → All (IsReturnable q h) ss → Stands q new (entry_of kind ss ∷ h)
+returned-as Reading read took = read
+returned-as Taking read took = took
+
+-- an access by the same samples leaves the same
+pub settled-same : (kind : AccessKind) (ss ts : List SamplePosition) (ks : List Kept) → HaveSame ss ts
+    → settled kind ss ks ≡ settled kind ts ks
+settled-same Reading = marked-same
+settled-same Taking = removed-same
+
+-- an access leaves the counts
+pub small-settled : (kind : AccessKind) (ss : List SamplePosition) (ks : List Kept) → All IsSmall ks → All IsSmall (settled kind ss ks)
+small-settled Reading = small-marked
+small-settled Taking = λ ss. All-filter (λ (k : Kept). not (is_among ss k)) IsSmall
+
+-- a cache stands for one access more, by its kind
+pub stands-entered : (kind : AccessKind) (q : ReaderQos) (ss : List SamplePosition) (h : List Happening) (old new : Stored)
+    → old.qos ≡ q → new.qos ≡ q → new.arrivals ≡ old.arrivals → new.data_at ≡ 0
+    → All (λ (s : SamplePosition). s.position ≤ length h) ss → Stands q new.instances (entry_of kind ss ∷ h)
+    → new.samples ≡ settled kind ss old.samples → StandsFor old h → StandsFor new (entry_of kind ss ∷ h)
+stands-entered Reading = stands-read
+stands-entered Taking = stands-took

@@ -4,5 +4,6 @@ pub mod Sound
 pub mod Finding
 pub mod Picking
 pub mod Room
+pub mod Settling
 pub mod Dying
 pub mod Sweeping

@@ -5,16 +5,19 @@ use Rattle.dds_base.specs.declared.code.Code.{Code}
 use Rattle.dds_base.specs.declared.code.Code.TheVariants.{NoData}
 use Rattle.dds_base.specs.declared.happening.SamplePosition.{SamplePosition}
 use Rattle.dds_base.specs.declared.happening.Happening.{Happening}
+use Rattle.dds_base.specs.declared.happening.Happening.TheVariants.{Read as HasRead, Took}
 use Rattle.dds_base.specs.declared.sample.Sample.{Sample}
 use Rattle.dds_base.specs.declared.qos.ReaderQos.{ReaderQos}
 use Rattle.dds_base.specs.declared.selection.Selection.{Selection}
 use Rattle.dds_base.specs.declared.key.Key.{Key}
 use Rattle.dds_base.specs.Happening.{is_read, is_taken, arrivals}
 use Rattle.dds_base.specs.Presence.{is_present, up_to}
-use Rattle.dds_base.specs.Access.{no_filter, collection_of}
+use Rattle.dds_base.specs.Access.{collection_of}
 use Rattle.dds_base.specs.Refusal.{Refuses}
 use Rattle.dds_base.specs.Selection.{picked_by, selection_refusal}
 use Rattle.dds_base.specs.StatusFlags.{data_available_at}
+use Rattle.dds_cache.specs.declared.access_kind.AccessKind.{AccessKind}
+use Rattle.dds_cache.specs.declared.access_kind.AccessKind.TheVariants.{Read, Take}
 use Rattle.dds_cache.specs.declared.kept.Kept.{Kept}
 use Rattle.dds_cache.specs.Kept.{IsKept, positions_in, sample_at}
 use Rattle.dds_instances.specs.Table.{Table, Stands}
@@ -55,13 +58,14 @@ pub record StandsFor (stored : Stored) (h : List Happening) : Type 0 where
   pub arrivals_are : stored.arrivals ≡ min (arrivals h) (2 ^ 31 - 1)
   pub data_is : stored.data_at ≡ data_available_at stored.qos h
 
--- what an access picks by a test
-abbrev pub picked_with : Stored → List Happening → Selection → (Key → List ℕ → Bool) → List SamplePosition
-picked_with stored h selection test = picked_by (qos_of stored) h selection test
+-- what happened where an access returned these samples
+abbrev pub entry_of : AccessKind → List SamplePosition → Happening
+entry_of Read samples = HasRead samples
+entry_of Take samples = Took samples
 
--- what an access without a filter picks
-abbrev pub picked : Stored → List Happening → Selection → List SamplePosition
-picked stored h selection = picked_with stored h selection no_filter
+-- the samples that an access picks by a test, in the order in which it returns them
+abbrev pub picked : Stored → List Happening → Selection → (Key → List ℕ → Bool) → List SamplePosition
+picked stored h selection test = picked_by (qos_of stored) h selection test
 
 -- why an access is refused
 abbrev pub refusal : Stored → List Happening → Selection → Option Code
@@ -69,29 +73,19 @@ refusal stored h selection = selection_refusal (qos_of stored) h selection
 
 -- the answer of an access by a test: the collection, or NO_DATA where nothing is picked; or the first cause that refuses
 -- it, or MEMORY where there is none
-abbrev pub AnswersWith : Stored → List Happening → Selection → (Key → List ℕ → Bool) → Result (List Sample) Code
+abbrev pub AccessAnswers : Stored → List Happening → Selection → (Key → List ℕ → Bool) → Result (List Sample) Code
     → Type 0
-AnswersWith stored h selection test (Ok samples) =
-    (refusal stored h selection ≡ None) × (picked_with stored h selection test ≢ [])
-    × (samples ≡ collection_of (qos_of stored) h (picked_with stored h selection test))
-AnswersWith stored h selection test (Err NoData) =
-    (refusal stored h selection ≡ None) × (picked_with stored h selection test ≡ [])
-AnswersWith stored h selection test (Err code) = Refuses (refusal stored h selection) code
-
--- the answer of one without a filter
-abbrev pub Answers : Stored → List Happening → Selection → Result (List Sample) Code → Type 0
-Answers stored h selection result = AnswersWith stored h selection no_filter result
+AccessAnswers stored h selection test (Ok samples) =
+    (refusal stored h selection ≡ None) × (picked stored h selection test ≢ [])
+    × (samples ≡ collection_of (qos_of stored) h (picked stored h selection test))
+AccessAnswers stored h selection test (Err NoData) =
+    (refusal stored h selection ≡ None) × (picked stored h selection test ≡ [])
+AccessAnswers stored h selection test (Err code) = Refuses (refusal stored h selection) code
 
 -- what a cache is after an access by a test that was answered so: it stands for one entry more, the access, also where
 -- that found nothing; any other refusal leaves it as it was
-abbrev pub AfterAccessWith : (List SamplePosition → Happening) → Stored → List Happening → Selection
-    → (Key → List ℕ → Bool) → Result (List Sample) Code → Stored → Type 0
-AfterAccessWith entry old h selection test (Ok samples) new =
-    StandsFor new (entry (picked_with old h selection test) ∷ h)
-AfterAccessWith entry old h selection test (Err NoData) new = StandsFor new (entry [] ∷ h)
-AfterAccessWith entry old h selection test (Err code) new = new ≡ old
-
--- after one without a filter
-abbrev pub AfterAccess : (List SamplePosition → Happening) → Stored → List Happening → Selection
+abbrev pub AfterAccess : AccessKind → Stored → List Happening → Selection → (Key → List ℕ → Bool)
     → Result (List Sample) Code → Stored → Type 0
-AfterAccess entry old h selection result new = AfterAccessWith entry old h selection no_filter result new
+AfterAccess kind old h selection test (Ok samples) new = StandsFor new (entry_of kind (picked old h selection test) ∷ h)
+AfterAccess kind old h selection test (Err NoData) new = StandsFor new (entry_of kind [] ∷ h)
+AfterAccess kind old h selection test (Err code) new = new ≡ old

@@ -6,6 +6,7 @@
 #![tactic(auto)]
 
 mod access;
+mod access_kind;
 mod arriving;
 mod collection;
 mod dying;
@@ -18,5 +19,6 @@ mod room;
 mod sweeping;
 mod test;
 
+pub use access_kind::AccessKind;
 pub use reader_cache::ReaderCache;
 pub use test::{Everything, Test};

@@ -2,7 +2,7 @@
 
 ghost use Rattle.std.specs.Prelude.{◌≡◌, ◌==◌, ℕ, ◌+◌, ◌≤◌, ◌∷◌, [], if◌then◌else◌, nat_lt, List, length, All, IsOk, OnOk, OnErr, IfOk, IfErr};
 ghost use Rattle.dds_base.specs.declared.happening.Happening.{Happening};
-ghost use Rattle.dds_base.specs.declared.happening.Happening.TheVariants.{Came, Passed, Heard, Died, Read, Took};
+ghost use Rattle.dds_base.specs.declared.happening.Happening.TheVariants.{Came, Passed, Heard, Died};
 ghost use Rattle.dds_base.specs.declared.code.Code.TheVariants.{Memory, NoData};
 ghost use Rattle.dds_base.specs.Access.{instance_of, handle_of, has_match};
 ghost use Rattle.dds_base.specs.Ownership.{IsMatched};
@@ -13,19 +13,20 @@ ghost use Rattle.dds_base.specs.StatusFlags.{data_available_at};
 ghost use Rattle.dds_instances.specs.Known.{IsReturnable};
 ghost use Rattle.dds_cache.specs.Kept.{HaveSame};
 ghost use Rattle.dds_cache.specs.Picking.{IsAccess};
-ghost use Rattle.dds_cache.specs.Standing.{deaths_of, qos_of, room_of, StandsFor};
-ghost use Rattle.dds_cache.specs.Standing.{Answers, AfterAccess, AnswersWith, AfterAccessWith};
+ghost use Rattle.dds_cache.specs.Standing.{deaths_of, qos_of, room_of, StandsFor, entry_of};
+ghost use Rattle.dds_cache.specs.Standing.{AccessAnswers, AfterAccess};
 
 use crate::access::is_any_match;
+use crate::access_kind::AccessKind;
 use crate::arriving::{add_left, is_accepted_write};
 use crate::collection::{Access, gather};
 use crate::dying::add_markers;
 use crate::kept::Kept;
 use crate::pick::pick;
-use crate::returned::{mark_all, remove_all};
+use crate::returned::settle;
 use crate::room::{count_arrival, is_room};
 use crate::sweeping::{next_sweep, sweep};
-use crate::test::{Everything, Test};
+use crate::test::Test;
 use dds_base::{
     Arrival, Code, Handle, Key, Masks, Moment, ReaderQos, Sample, SamplePosition, Selection,
     Sequence, Sn,
@@ -403,7 +404,7 @@ impl ReaderCache {
     }
 
     /// What an access by a test finds.
-    fn access<T: Test>(&self, selection: Selection, test: &T) -> Result<Access, Code>
+    fn find<T: Test>(&self, selection: Selection, test: &T) -> Result<Access, Code>
         ensures found { IfOk result (λ access. (h : List Happening) → StandsFor self.now h
             → IsAccess (qos_of self.now) h selection (T.meaning test.now)
             access.positions.items access.samples.items) }
@@ -423,45 +424,27 @@ impl ReaderCache {
         Ok(access)
     }
 
-    /// Takes up that a read returned these samples.
-    fn enter_read(&mut self, access: &Access) -> Result<(), Code>
+    /// Takes up that an access of this kind returned these samples.
+    fn enter(&mut self, kind: AccessKind, access: &Access) -> Result<(), Code>
         requires set { HaveSame access.now.returned.keys access.now.positions.items }
         ensures ok { OnOk result ((h : List Happening) → StandsFor self.old h
             → All (IsReturnable (qos_of self.old) h) access.now.positions.items
-            → StandsFor self.new (Read access.now.positions.items ∷ h)) }
+            → StandsFor self.new (entry_of kind access.now.positions.items ∷ h)) }
         ensures qos { qos_of self.new ≡ qos_of self.old }
         ensures room { room_of self.old ≤ room_of self.new + 1 }
         ensures err { OnErr result (self.new ≡ self.old) }
         ensures memory { IfErr result (λ e. e ≡ Memory) }
     {
         self.instances.returned(&access.positions)?;
-        mark_all(&mut self.samples, &access.returned);
+        settle(kind, &mut self.samples, &access.returned);
         self.room = self.room.saturating_sub(1);
         self.deaths = 0;
         self.data_at = 0;
         Ok(())
     }
 
-    /// Takes up that a take returned these samples.
-    fn enter_take(&mut self, access: &Access) -> Result<(), Code>
-        requires set { HaveSame access.now.returned.keys access.now.positions.items }
-        ensures ok { OnOk result ((h : List Happening) → StandsFor self.old h
-            → All (IsReturnable (qos_of self.old) h) access.now.positions.items
-            → StandsFor self.new (Took access.now.positions.items ∷ h)) }
-        ensures qos { qos_of self.new ≡ qos_of self.old }
-        ensures room { room_of self.old ≤ room_of self.new + 1 }
-        ensures err { OnErr result (self.new ≡ self.old) }
-        ensures memory { IfErr result (λ e. e ≡ Memory) }
-    {
-        self.instances.returned(&access.positions)?;
-        remove_all(&mut self.samples, &access.returned);
-        self.room = self.room.saturating_sub(1);
-        self.deaths = 0;
-        self.data_at = 0;
-        Ok(())
-    }
-
-    /// Reads the present samples that the selection asks for. They stay, and are READ from then on.
+    /// Reads or takes the present samples that the selection asks for and that pass the test; `Everything` is the test that
+    /// each sample passes. The next sample is picked without the test.
     ///
     /// # Errors
     ///
@@ -469,105 +452,29 @@ impl ReaderCache {
     /// known where it has to be; `NoData` where there is no such sample, and that too is an access, which lowers
     /// DATA_AVAILABLE; `Memory` where a growth was refused. But for `NoData` the cache is then as it was.
     ///
-    /// DDS 1.4, 2.2.2.5 (read, read_instance, read_next_instance, read_next_sample).
-    pub fn read(&mut self, selection: Selection) -> Result<Sequence<Sample>, Code>
-        // The samples are those that the definitions pick of what happened, or there is none; or it is refused by the
-        // first cause that there is, or for want of memory.
-        ensures answer { (h : List Happening) → StandsFor self.old h
-            → Answers self.old h selection result }
-        // The read is entered, and nothing else; one that is refused is not.
-        ensures after { (h : List Happening) → StandsFor self.old h
-            → AfterAccess Read self.old h selection result self.new }
-        // The policies stay.
-        ensures qos { qos_of self.new ≡ qos_of self.old }
-        // It takes the room of one entry at most.
-        ensures room { room_of self.old ≤ room_of self.new + 1 }
-    {
-        self.read_by(selection, &Everything)
-    }
-
-    /// Reads the present samples that the selection asks for and that pass the test. They stay, and are READ from then on.
-    /// The next sample is picked without the test.
-    ///
-    /// # Errors
-    ///
-    /// As those of `read`.
-    ///
-    /// DDS 1.4, 2.2.2.5 (read_w_condition, read_next_instance_w_condition).
-    pub fn read_by<T: Test>(
+    /// DDS 1.4, 2.2.2.5 (read, take, read_w_condition, take_w_condition, read_instance, take_instance,
+    /// read_next_instance, take_next_instance, read_next_instance_w_condition, take_next_instance_w_condition,
+    /// read_next_sample, take_next_sample).
+    pub fn access<T: Test>(
         &mut self,
+        kind: AccessKind,
         selection: Selection,
         test: &T,
     ) -> Result<Sequence<Sample>, Code>
         // The samples are those that the definitions pick by the test of what happened, or there is none; or it is
         // refused by the first cause that there is, or for want of memory.
         ensures answer { (h : List Happening) → StandsFor self.old h
-            → AnswersWith self.old h selection (T.meaning test.now) result }
-        // The read is entered, and nothing else; one that is refused is not.
+            → AccessAnswers self.old h selection (T.meaning test.now) result }
+        // The read or take is entered, and nothing else; one that is refused is not.
         ensures after { (h : List Happening) → StandsFor self.old h
-            → AfterAccessWith Read self.old h selection (T.meaning test.now) result self.new }
+            → AfterAccess kind self.old h selection (T.meaning test.now) result self.new }
         // The policies stay.
         ensures qos { qos_of self.new ≡ qos_of self.old }
         // It takes the room of one entry at most.
         ensures room { room_of self.old ≤ room_of self.new + 1 }
     {
-        let access = self.access(selection, test)?;
-        self.enter_read(&access)?;
-        answer_of(access)
-    }
-
-    /// Takes the present samples that the selection asks for. They are gone from then on.
-    ///
-    /// # Errors
-    ///
-    /// The first of these: `BadParameter` for a `max` that is neither -1 nor positive, and for an instance that is not
-    /// known where it has to be; `NoData` where there is no such sample, and that too is an access, which lowers
-    /// DATA_AVAILABLE; `Memory` where a growth was refused. But for `NoData` the cache is then as it was.
-    ///
-    /// DDS 1.4, 2.2.2.5 (take, take_instance, take_next_instance, take_next_sample).
-    pub fn take(&mut self, selection: Selection) -> Result<Sequence<Sample>, Code>
-        // The samples are those that the definitions pick of what happened, or there is none; or it is refused by the
-        // first cause that there is, or for want of memory.
-        ensures answer { (h : List Happening) → StandsFor self.old h
-            → Answers self.old h selection result }
-        // The take is entered, and nothing else; one that is refused is not.
-        ensures after { (h : List Happening) → StandsFor self.old h
-            → AfterAccess Took self.old h selection result self.new }
-        // The policies stay.
-        ensures qos { qos_of self.new ≡ qos_of self.old }
-        // It takes the room of one entry at most.
-        ensures room { room_of self.old ≤ room_of self.new + 1 }
-    {
-        self.take_by(selection, &Everything)
-    }
-
-    /// Takes the present samples that the selection asks for and that pass the test. They are gone from then on.
-    /// The next sample is picked without the test.
-    ///
-    /// # Errors
-    ///
-    /// As those of `take`.
-    ///
-    /// DDS 1.4, 2.2.2.5 (take_w_condition, take_next_instance_w_condition).
-    pub fn take_by<T: Test>(
-        &mut self,
-        selection: Selection,
-        test: &T,
-    ) -> Result<Sequence<Sample>, Code>
-        // The samples are those that the definitions pick by the test of what happened, or there is none; or it is
-        // refused by the first cause that there is, or for want of memory.
-        ensures answer { (h : List Happening) → StandsFor self.old h
-            → AnswersWith self.old h selection (T.meaning test.now) result }
-        // The take is entered, and nothing else; one that is refused is not.
-        ensures after { (h : List Happening) → StandsFor self.old h
-            → AfterAccessWith Took self.old h selection (T.meaning test.now) result self.new }
-        // The policies stay.
-        ensures qos { qos_of self.new ≡ qos_of self.old }
-        // It takes the room of one entry at most.
-        ensures room { room_of self.old ≤ room_of self.new + 1 }
-    {
-        let access = self.access(selection, test)?;
-        self.enter_take(&access)?;
+        let access = self.find(selection, test)?;
+        self.enter(kind, &access)?;
         answer_of(access)
     }
 

@@ -18,9 +18,10 @@ use Rattle.dds_base.specs.Refusal.{Refuses}
 use Rattle.dds_base.specs.Selection.{picked_by, selection_refusal}
 use Rattle.dds_base.specs.StatusFlags.{turned_at}
 use Rattle.dds_base.specs.Statuses.{lost_count}
-use Rattle.dds_cache.specs.Standing.{Stored, qos_of, StandsFor as CacheStandsFor, AnswersWith, AfterAccessWith, picked_with, refusal}
+use Rattle.dds_cache.specs.declared.access_kind.AccessKind.{AccessKind}
+use Rattle.dds_cache.specs.declared.access_kind.AccessKind.TheVariants.{Read as Reading, Take as Taking}
+use Rattle.dds_cache.specs.Standing.{Stored, qos_of, StandsFor as CacheStandsFor, entry_of, AccessAnswers, AfterAccess, picked, refusal}
 use Rattle.dds_model.specs.declared.call.Call.{Call}
-use Rattle.dds_model.specs.declared.call.Call.TheVariants as call
 use Rattle.dds_model.specs.declared.event.Event.TheVariants as event
 use Rattle.dds_model.specs.declared.event.Output.{Output}
 use Rattle.dds_model.specs.declared.reply.Reply.{Reply}
@@ -31,6 +32,7 @@ use Rattle.dds_conditions.specs.Watched.{made, no_filters}
 use Rattle.dds_model.specs.Part.{Part, Dds, Reader, WriterProxy, own_reader, own_proxies, Seen}
 use Rattle.dds_model.specs.Peer.{Peer}
 use Rattle.dds_model.specs.Watching.{Test, Tests, condition_refusal, condition_selection, filter_of, test_of}
+use Rattle.dds_core.specs.Accesses.{access_call, condition_call}
 use Rattle.dds_core.specs.declared.watching.Asked.{Asked}
 use Rattle.dds_core.specs.declared.matching.WriterName.{WriterName}
 use Rattle.rtps_reader.specs.Reader.{Proxies, Tracks}
@@ -54,32 +56,28 @@ pub record IsQuiet (entry : List SamplePosition → Happening) : Type 0 where
   pub turned : (samples : List SamplePosition) (h : List Happening) → turned_at (entry samples ∷ h) ≡ turned_at h
   pub leases : (kept : Leased) (q : ReaderQos) (samples : List SamplePosition) (h : List Happening) → LeasesStandFor kept q h → LeasesStandFor kept q (entry samples ∷ h)
 
--- the call is an access that enters so: it is answered as one, and does nothing at a writer
-pub record IsAccess (tests : Tests) (part : Part) (c : Call) (entry : List SamplePosition → Happening) (test : Test) (reader : ℕ) (selection : Selection) : Type 0 where
-  pub quiet : IsQuiet entry
-  pub answers : (reply : Reply) (dds : Dds) → AnswersAccess entry test part reader selection reply dds → CallAnswers tests part c reply dds
+-- the call is an access of this kind: it is answered as one, and does nothing at a writer
+pub record IsAccess (tests : Tests) (part : Part) (c : Call) (kind : AccessKind) (test : Test) (reader : ℕ) (selection : Selection) : Type 0 where
+  pub answers : (reply : Reply) (dds : Dds) → AnswersAccess (entry_of kind) test part reader selection reply dds → CallAnswers tests part c reply dds
   pub effect : (reply : Reply) → effect_of part c reply ≡ nothing
 
--- a read and a take are quiet
-pub read_is_quiet : IsQuiet HasRead
-read_is_quiet = record {
+-- an access is quiet
+pub access_is_quiet : (kind : AccessKind) → IsQuiet (entry_of kind)
+access_is_quiet Reading = record {
+  lost = λ samples h. refl;
+  turned = λ samples h. refl;
+  leases = λ kept q samples h s. record { tracks = s.tracks; last_turned = s.last_turned };
+}
+access_is_quiet Taking = record {
   lost = λ samples h. refl;
   turned = λ samples h. refl;
   leases = λ kept q samples h s. record { tracks = s.tracks; last_turned = s.last_turned };
 }
 
-pub take_is_quiet : IsQuiet Took
-take_is_quiet = record {
-  lost = λ samples h. refl;
-  turned = λ samples h. refl;
-  leases = λ kept q samples h s. record { tracks = s.tracks; last_turned = s.last_turned };
-}
-
-pub read_is_access : (part : Part) (reader : ℕ) (selection : Selection) → IsAccess no_filters part (call.Read reader selection) HasRead no_filter reader selection
-read_is_access part reader selection = record { quiet = read_is_quiet; answers = λ reply dds a. a; effect = λ reply. refl }
-
-pub take_is_access : (part : Part) (reader : ℕ) (selection : Selection) → IsAccess no_filters part (call.Take reader selection) Took no_filter reader selection
-take_is_access part reader selection = record { quiet = take_is_quiet; answers = λ reply dds a. a; effect = λ reply. refl }
+pub is_access : (kind : AccessKind) (part : Part) (reader : ℕ) (selection : Selection)
+    → IsAccess no_filters part (access_call kind reader selection) kind no_filter reader selection
+is_access Reading part reader selection = record { answers = λ reply dds a. a; effect = λ reply. refl }
+is_access Taking part reader selection = record { answers = λ reply dds a. a; effect = λ reply. refl }
 
 -- one by a condition against which there is no cause is such an access
 by_condition : (entry : List SamplePosition → Happening) (refusal : Option Code) (asked_test test : Test) (part : Part) (reader : ℕ) (asked selection : Selection) (reply : Reply) (dds : Dds)
@@ -97,22 +95,16 @@ IsAsked part reader scope condition asked =
     × (asked.selection ≡ condition_selection part scope condition)
     × (asked.filter ≡ filter_of (made part.dds.watch.conditions condition))
 
-pub read_by_is_access : (tests : Tests) (part : Part) (reader : ℕ) (scope : Scope) (condition : ℕ) (asked : Asked)
+pub is_access_by : (kind : AccessKind) (tests : Tests) (part : Part) (reader : ℕ) (scope : Scope) (condition : ℕ) (asked : Asked)
     → IsAsked part reader scope condition asked
-    → IsAccess tests part (call.ReadByCondition reader scope condition) HasRead (test_of tests asked.filter) reader asked.selection
-read_by_is_access tests part reader scope condition asked is = record {
-  quiet = read_is_quiet;
+    → IsAccess tests part (condition_call kind reader scope condition) kind (test_of tests asked.filter) reader asked.selection
+is_access_by Reading tests part reader scope condition asked is = record {
   answers = λ reply dds a.
       by_condition HasRead _ (test_of tests asked.filter) _ part reader asked.selection _ reply dds is.0
       (ap (λ (f : Option ℕ). test_of tests f) is.2) is.1 a;
   effect = λ reply. refl;
 }
-
-pub take_by_is_access : (tests : Tests) (part : Part) (reader : ℕ) (scope : Scope) (condition : ℕ) (asked : Asked)
-    → IsAsked part reader scope condition asked
-    → IsAccess tests part (call.TakeByCondition reader scope condition) Took (test_of tests asked.filter) reader asked.selection
-take_by_is_access tests part reader scope condition asked is = record {
-  quiet = take_is_quiet;
+is_access_by Taking tests part reader scope condition asked is = record {
   answers = λ reply dds a.
       by_condition Took _ (test_of tests asked.filter) _ part reader asked.selection _ reply dds is.0
       (ap (λ (f : Option ℕ). test_of tests f) is.2) is.1 a;
@@ -176,37 +168,37 @@ kept_same k k' same cache =
     reader_as a b x y p q s t i j e f g h l = cc
 
 -- what a cache answers is what the machine answers
-accessed : (tests : Tests) (entry : List SamplePosition → Happening) (c : Call) (test : Test) (i : ℕ) (selection : Selection) (kept : PeerKept) (k k' : ReaderKept) (config : Config) (peer : Peer)
-    → IsAccess tests peer.part c entry test (suc i) selection → StandsFor kept config peer
+accessed : (tests : Tests) (kind : AccessKind) (c : Call) (test : Test) (i : ℕ) (selection : Selection) (kept : PeerKept) (k k' : ReaderKept) (config : Config) (peer : Peer)
+    → IsAccess tests peer.part c kind test (suc i) selection → StandsFor kept config peer
     → slice_get kept.readers i ≡ Some k → TakesOnly k k' → (r : Result (List Sample) Code) → access_refusal peer.part (suc i) selection ≡ refusal k.store.cache (own_reader peer.part (suc i)).happened selection
-    → (own_reader peer.part (suc i)).qos ≡ qos_of k.store.cache → AnswersWith k.store.cache (own_reader peer.part (suc i)).happened selection test r
-    → AfterAccessWith entry k.store.cache (own_reader peer.part (suc i)).happened selection test r k'.store.cache → FollowsBy tests (with_reader kept i k') config peer (event.Call c) (silent (access_reply r))
-accessed tests entry c test i selection kept k k' config peer is s at same (Ok samples) causes qos answer after =
+    → (own_reader peer.part (suc i)).qos ≡ qos_of k.store.cache → AccessAnswers k.store.cache (own_reader peer.part (suc i)).happened selection test r
+    → AfterAccess kind k.store.cache (own_reader peer.part (suc i)).happened selection test r k'.store.cache → FollowsBy tests (with_reader kept i k') config peer (event.Call c) (silent (access_reply r))
+accessed tests kind c test i selection kept k k' config peer is s at same (Ok samples) causes qos answer after =
     let h : List Happening = (own_reader peer.part (suc i)).happened in
-    let found : picked_with k.store.cache h selection test ≡ picked_at test peer.part (suc i) selection = ap (λ (q : ReaderQos). picked_by q h selection test) (sym qos) in
+    let found : picked k.store.cache h selection test ≡ picked_at test peer.part (suc i) selection = ap (λ (q : ReaderQos). picked_by q h selection test) (sym qos) in
     let some : picked_at test peer.part (suc i) selection ≢ [] = λ none. answer.1 (found ∙ none) in
     let collected : samples ≡ collection_of (own_reader peer.part (suc i)).qos h (picked_at test peer.part (suc i) selection) =
     answer.2 ∙ (ap (λ (ps : List SamplePosition). collection_of (qos_of k.store.cache) h ps) found ∙ ap (λ (q : ReaderQos). collection_of q h (picked_at test peer.part (suc i) selection)) (sym qos)) in
-    entered tests entry is.quiet c kept i k k' config peer s at same (Samples samples) (picked_at test peer.part (suc i) selection) (subst (λ (ps : List SamplePosition). CacheStandsFor k'.store.cache (entry ps ∷ h)) found after)
-    (record { answers = is.answers (Samples samples) (with_happening peer.part (suc i) (entry (picked_at test peer.part (suc i) selection))) (causes ∙ answer.0, some, collected, refl); rtps = ap (λ (e : Effect). effect peer.part.rtps e) (sym (is.effect (Samples samples))) })
-accessed tests entry c test i selection kept k k' config peer is s at same (Err NoData) causes qos answer after =
+    entered tests (entry_of kind) (access_is_quiet kind) c kept i k k' config peer s at same (Samples samples) (picked_at test peer.part (suc i) selection) (subst (λ (ps : List SamplePosition). CacheStandsFor k'.store.cache (entry_of kind ps ∷ h)) found after)
+    (record { answers = is.answers (Samples samples) (with_happening peer.part (suc i) (entry_of kind (picked_at test peer.part (suc i) selection))) (causes ∙ answer.0, some, collected, refl); rtps = ap (λ (e : Effect). effect peer.part.rtps e) (sym (is.effect (Samples samples))) })
+accessed tests kind c test i selection kept k k' config peer is s at same (Err NoData) causes qos answer after =
     let h : List Happening = (own_reader peer.part (suc i)).happened in
-    let found : picked_with k.store.cache h selection test ≡ picked_at test peer.part (suc i) selection = ap (λ (q : ReaderQos). picked_by q h selection test) (sym qos) in
-    entered tests entry is.quiet c kept i k k' config peer s at same (Refused NoData) [] after
-    (record { answers = is.answers (Refused NoData) (with_happening peer.part (suc i) (entry [])) (causes ∙ answer.0, sym found ∙ answer.1, refl); rtps = ap (λ (e : Effect). effect peer.part.rtps e) (sym (is.effect (Refused NoData))) })
-accessed tests entry c test i selection kept k k' config peer is s at same (Err code) causes qos answer after =
+    let found : picked k.store.cache h selection test ≡ picked_at test peer.part (suc i) selection = ap (λ (q : ReaderQos). picked_by q h selection test) (sym qos) in
+    entered tests (entry_of kind) (access_is_quiet kind) c kept i k k' config peer s at same (Refused NoData) [] after
+    (record { answers = is.answers (Refused NoData) (with_happening peer.part (suc i) (entry_of kind [])) (causes ∙ answer.0, sym found ∙ answer.1, refl); rtps = ap (λ (e : Effect). effect peer.part.rtps e) (sym (is.effect (Refused NoData))) })
+accessed tests kind c test i selection kept k k' config peer is s at same (Err code) causes qos answer after =
     not_entered tests c kept i k k' config peer code s at (kept_same k k' same after) (is.answers (Refused code) peer.part.dds (subst (λ (o : Option Code). Refuses o code) (sym causes) answer, refl))
 
 -- the same of the reader of a number, where it stands in the opened peer
-pub accessed_at : {tests : Tests} {entry : List SamplePosition → Happening} {c : Call} {test : Test} {reader : ℕ}
+pub accessed_at : {tests : Tests} {kind : AccessKind} {c : Call} {test : Test} {reader : ℕ}
     {selection : Selection} {kept now : PeerKept} (i : ℕ) (k k' : ReaderKept) (config : Config) (peer : Peer)
-    → kept ≡ now → StandsFor now config peer → IsAccess tests peer.part c entry test reader selection
+    → kept ≡ now → StandsFor now config peer → IsAccess tests peer.part c kind test reader selection
     → reader ≡ i + 1 → i < length kept.readers → k ≡ get_or kept.readers i k → TakesOnly k k' → (r : Result (List Sample) Code)
-    → ((h : List Happening) → Holds k.store h → AnswersWith k.store.cache h selection test r)
-    → ((h : List Happening) → Holds k.store h → AfterAccessWith entry k.store.cache h selection test r k'.store.cache)
+    → ((h : List Happening) → Holds k.store h → AccessAnswers k.store.cache h selection test r)
+    → ((h : List Happening) → Holds k.store h → AfterAccess kind k.store.cache h selection test r k'.store.cache)
     → (output : Output) (reply : Reply) → output ≡ silent reply → reply ≡ access_reply r
     → FollowsBy tests (with_reader kept i k') config peer (event.Call c) output
-accessed_at {tests} {entry} {c} {test} {selection = selection} {kept} i k k' config peer view given is number lt element
+accessed_at {tests} {kind} {c} {test} {selection = selection} {kept} i k k' config peer view given is number lt element
     same r answer after output reply told replied =
     let s = still_stands view given in
     let at : slice_get kept.readers i ≡ Some k = slice_get_read kept.readers (length kept.readers) i k refl lt element in
@@ -218,6 +210,6 @@ accessed_at {tests} {entry} {c} {test} {selection = selection} {kept} i k k' con
     let causes : access_refusal peer.part (suc i) selection ≡ refusal k.store.cache h selection =
     ap (λ (b : Bool). if not b then Some BadParameter else selection_refusal (own_reader peer.part (suc i)).qos h selection) known ∙ ap (λ (q : ReaderQos). selection_refusal q h selection) rs.qos_is in
     follows_as _ config peer (event.Call c) (silent (access_reply r)) output (told ∙ ap silent replied)
-    (accessed tests entry c test i selection kept k k' config peer
-    (subst (λ (n : ℕ). IsAccess tests peer.part c entry test n selection) (number ∙ index) is) s at same r causes
+    (accessed tests kind c test i selection kept k k' config peer
+    (subst (λ (n : ℕ). IsAccess tests peer.part c kind test n selection) (number ∙ index) is) s at same r causes
     rs.qos_is (answer h rs.holds) (after h rs.holds))

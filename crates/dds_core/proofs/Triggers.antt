@@ -21,6 +21,9 @@ use Rattle.dds_model.specs.Calls.{AnswersByCondition, AnswersLook, IsAnswered, I
 use Rattle.dds_model.specs.Part.{Part, Dds}
 use Rattle.dds_model.specs.Peer.{Peer}
 use Rattle.dds_model.specs.Watching.{Test, Tests, condition_refusal, condition_selection, condition_test, trigger_value}
+use Rattle.dds_cache.specs.declared.access_kind.AccessKind.{AccessKind}
+use Rattle.dds_cache.specs.declared.access_kind.AccessKind.TheVariants.{Read as Reading, Take as Taking}
+use Rattle.dds_core.specs.Accesses.{condition_call}
 use Rattle.dds_core.specs.Kept.{PeerKept}
 use Rattle.dds_core.specs.Standing.{StandsFor}
 use Rattle.dds_core.proofs.CallSteps.{FollowsBy, unchanging_call}
@@ -33,19 +36,18 @@ not_by_condition : (entry : List SamplePosition → Happening) (refusal : Option
 not_by_condition entry refusal test part reader selection code some =
     subst (λ (o : Option Code). AnswersByCondition entry o test part reader selection (Refused code) part.dds) (sym some) (refl, refl)
 
-pub no_read_by : {tests : Tests} (kept : PeerKept) (config : Config) (peer : Peer) → StandsFor kept config peer → (reader : ℕ) (scope : Scope) (condition : ℕ) (code : Code)
+pub not_accessed_by : {tests : Tests} (kind : AccessKind) (kept : PeerKept) (config : Config) (peer : Peer)
+    → StandsFor kept config peer → (reader : ℕ) (scope : Scope) (condition : ℕ) (code : Code)
     → condition_refusal peer.part reader scope condition ≡ Some code
-    → FollowsBy tests kept config peer (event.Call (call.ReadByCondition reader scope condition)) (silent (Refused code))
-no_read_by {tests} kept config peer s reader scope condition code some =
+    → FollowsBy tests kept config peer (event.Call (condition_call kind reader scope condition)) (silent (Refused code))
+not_accessed_by {tests} Reading kept config peer s reader scope condition code some =
     unchanging_call kept config peer s (call.ReadByCondition reader scope condition) (Refused code) refl
-    (not_by_condition HasRead _ (condition_test tests peer.part condition) peer.part reader (condition_selection peer.part scope condition) code some)
-
-pub no_take_by : {tests : Tests} (kept : PeerKept) (config : Config) (peer : Peer) → StandsFor kept config peer → (reader : ℕ) (scope : Scope) (condition : ℕ) (code : Code)
-    → condition_refusal peer.part reader scope condition ≡ Some code
-    → FollowsBy tests kept config peer (event.Call (call.TakeByCondition reader scope condition)) (silent (Refused code))
-no_take_by {tests} kept config peer s reader scope condition code some =
+    (not_by_condition HasRead _ (condition_test tests peer.part condition) peer.part reader
+    (condition_selection peer.part scope condition) code some)
+not_accessed_by {tests} Taking kept config peer s reader scope condition code some =
     unchanging_call kept config peer s (call.TakeByCondition reader scope condition) (Refused code) refl
-    (not_by_condition Took _ (condition_test tests peer.part condition) peer.part reader (condition_selection peer.part scope condition) code some)
+    (not_by_condition Took _ (condition_test tests peer.part condition) peer.part reader
+    (condition_selection peer.part scope condition) code some)
 
 -- ---- a look at a WaitSet
 

@@ -9,6 +9,7 @@ pub mod Stored
 pub mod Beating
 pub mod Answering
 pub mod Pairs
+pub mod Accesses
 pub mod Expiring
 pub mod Watching
 pub mod Filtering

@@ -5,6 +5,7 @@
 ghost use Rattle.std.specs.Prelude.{◌≡◌};
 ghost use Rattle.dds_model.specs.declared.call.Call.TheVariants as call;
 ghost use Rattle.dds_model.specs.declared.event.Event.TheVariants as event;
+ghost use Rattle.dds_core.specs.Accesses.{access_call};
 ghost use Rattle.dds_core.specs.Standing.{Steps};
 ghost use Rattle.dds_core.specs.Sending.{SendsNothing};
 
@@ -12,29 +13,19 @@ use crate::calls::index_of;
 use crate::output::{answered, reply_to_access};
 use crate::peer::Peer;
 use dds_base::{Code, Handle, Key, Selection};
-use dds_cache::Everything;
+use dds_cache::{AccessKind, Everything};
 use dds_model::{Output, Reply};
 
 impl Peer {
-    pub(crate) fn read(&mut self, reader: u8, selection: Selection) -> Output
-        ensures step { Steps self.old (event.Call (call.Read reader selection)) result self.new }
+    pub(crate) fn access(&mut self, kind: AccessKind, reader: u8, selection: Selection) -> Output
+        ensures step { Steps self.old (event.Call (access_call kind reader selection))
+            result self.new }
         ensures sends { SendsNothing result }
     {
         let Some(index) = index_of(reader, self.readers.len()) else {
             return self.refused(Code::BadParameter);
         };
-        let samples = self.readers[index].read(selection, &Everything);
-        answered(self.alloc, reply_to_access(samples))
-    }
-
-    pub(crate) fn take(&mut self, reader: u8, selection: Selection) -> Output
-        ensures step { Steps self.old (event.Call (call.Take reader selection)) result self.new }
-        ensures sends { SendsNothing result }
-    {
-        let Some(index) = index_of(reader, self.readers.len()) else {
-            return self.refused(Code::BadParameter);
-        };
-        let samples = self.readers[index].take(selection, &Everything);
+        let samples = self.readers[index].access(kind, selection, &Everything);
         answered(self.alloc, reply_to_access(samples))
     }
 

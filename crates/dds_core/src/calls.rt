@@ -14,6 +14,7 @@ use crate::output::answered;
 use crate::peer::Peer;
 use crate::sending::Announced;
 use dds_base::{Change, ChangeKind, Code, Key, MAX_VALUE, Octets, Sequence, Sn};
+use dds_cache::AccessKind;
 use dds_conditions::Filters;
 use dds_model::{Call, Output, Reply};
 
@@ -41,8 +42,8 @@ impl Peer {
             Call::Dispose { writer, key } => self.dispose(writer, key),
             Call::Unregister { writer, key } => self.unregister(writer, key),
             Call::AssertLiveliness { writer } => self.assert_liveliness(writer),
-            Call::Read { reader, selection } => self.read(reader, selection),
-            Call::Take { reader, selection } => self.take(reader, selection),
+            Call::Read { reader, selection } => self.access(AccessKind::Read, reader, selection),
+            Call::Take { reader, selection } => self.access(AccessKind::Take, reader, selection),
             Call::GetKeyValue { reader, instance } => self.get_key_value(reader, instance),
             Call::LookupInstance { reader, key } => self.lookup_instance(reader, key),
             Call::GetSampleLost { reader } => self.get_sample_lost(reader),
@@ -52,12 +53,12 @@ impl Peer {
                 reader,
                 scope,
                 condition,
-            } => self.read_by_condition(filters, reader, scope, condition),
+            } => self.access_by_condition(filters, AccessKind::Read, reader, scope, condition),
             Call::TakeByCondition {
                 reader,
                 scope,
                 condition,
-            } => self.take_by_condition(filters, reader, scope, condition),
+            } => self.access_by_condition(filters, AccessKind::Take, reader, scope, condition),
             Call::CreateReadCondition { reader, masks } => {
                 self.create_read_condition(reader, masks)
             }

@@ -9,7 +9,6 @@ ghost use Rattle.dds_base.specs.Liveliness.{liveliness_changed_status};
 ghost use Rattle.dds_base.specs.StatusFlags.{data_available_at};
 ghost use Rattle.dds_base.specs.declared.code.Code.TheVariants.{Memory};
 ghost use Rattle.dds_base.specs.declared.happening.Happening.{Happening};
-ghost use Rattle.dds_base.specs.declared.happening.Happening.TheVariants.{Read, Took};
 ghost use Rattle.rtps_wire.specs.declared.submessage.Submessage.TheVariants as submessage;
 ghost use Rattle.rtps_reader.specs.Answer.{IsSayable};
 ghost use Rattle.rtps_reader.specs.Tracked.{Tracked};
@@ -19,7 +18,7 @@ ghost use Rattle.dds_core.specs.Noticing.{MarksReader, RaisesSo, SeesStatus};
 ghost use Rattle.dds_core.specs.Opening.{OpensReader};
 ghost use Rattle.dds_core.specs.Receiving.{receiver_at, IsFirstName, IsNamedFor, NamedBy, NamesNobody, IsToldBy, HasMemory, IsReadyFor, IsAlike, CanTake, TakesTold, SameReader, TakesOnly, TellsFlags, TellsLost, TellsLiveliness, TellsMatch, IsPlaceAt};
 ghost use Rattle.dds_core.specs.Stored.{Holds};
-ghost use Rattle.dds_cache.specs.Standing.{qos_of, AnswersWith, AfterAccessWith};
+ghost use Rattle.dds_cache.specs.Standing.{qos_of, AccessAnswers, AfterAccess};
 ghost use Rattle.dds_model.specs.Claims.{is_for, Names};
 ghost use Rattle.dds_model.specs.Noticing.{data_raised, lost_raised, turn_raised};
 
@@ -35,7 +34,7 @@ use dds_base::{
     Change, Code, EntityId, Guid, GuidPrefix, Handle, Key, LivelinessChangedStatus, Masks, Moment,
     PeerConfig, ReaderConfig, ReaderQos, Sample, SampleLostStatus, Selection, Sequence, Sn,
 };
-use dds_cache::Test;
+use dds_cache::{AccessKind, Test};
 use dds_notices::{Status, StatusMask};
 use rtps_reader::{HeartbeatSeen, StatefulReader, Step};
 use rtps_sets::SnSet;
@@ -389,50 +388,28 @@ impl ReaderEnd {
         self.store.expire(now);
     }
 
-    /// Reads samples that pass the test, as the reader's cache does.
+    /// Reads or takes samples that pass the test, as the reader's cache does.
     ///
     /// # Errors
     ///
     /// `BadParameter` where the selection is not valid; `NoData` where no sample is selected; `Memory` where a growth was
     /// refused. But for `NoData` the reader is then as it was.
     ///
-    /// DDS 1.4, 2.2.2.5 (read and its other forms).
-    pub fn read<T: Test>(
+    /// DDS 1.4, 2.2.2.5 (read, take and their other forms).
+    pub fn access<T: Test>(
         &mut self,
+        kind: AccessKind,
         selection: Selection,
         test: &T,
     ) -> Result<Sequence<Sample>, Code>
         ensures answer { (h : List Happening) → Holds self.old.store h
-            → AnswersWith self.old.store.cache h selection (T.meaning test.now) result }
+            → AccessAnswers self.old.store.cache h selection (T.meaning test.now) result }
         ensures after { (h : List Happening) → Holds self.old.store h
-            → AfterAccessWith Read self.old.store.cache h selection
+            → AfterAccess kind self.old.store.cache h selection
             (T.meaning test.now) result self.new.store.cache }
         ensures same { TakesOnly self.old self.new }
     {
-        self.store.read(selection, test)
-    }
-
-    /// Takes samples that pass the test, as the reader's cache does.
-    ///
-    /// # Errors
-    ///
-    /// `BadParameter` where the selection is not valid; `NoData` where no sample is selected; `Memory` where a growth was
-    /// refused. But for `NoData` the reader is then as it was.
-    ///
-    /// DDS 1.4, 2.2.2.5 (take and its other forms).
-    pub fn take<T: Test>(
-        &mut self,
-        selection: Selection,
-        test: &T,
-    ) -> Result<Sequence<Sample>, Code>
-        ensures answer { (h : List Happening) → Holds self.old.store h
-            → AnswersWith self.old.store.cache h selection (T.meaning test.now) result }
-        ensures after { (h : List Happening) → Holds self.old.store h
-            → AfterAccessWith Took self.old.store.cache h selection
-            (T.meaning test.now) result self.new.store.cache }
-        ensures same { TakesOnly self.old self.new }
-    {
-        self.store.take(selection, test)
+        self.store.access(kind, selection, test)
     }
 
     /// The key of a known instance, by its handle.

@@ -5,12 +5,11 @@
 ghost use Rattle.std.specs.Prelude.{◌≡◌, ◌≤◌, ℕ, List, [], if◌then◌else◌, IfOk, IfErr, OnOk, length};
 ghost use Rattle.dds_base.specs.declared.code.Code.TheVariants.{Memory};
 ghost use Rattle.dds_base.specs.declared.happening.Happening.{Happening};
-ghost use Rattle.dds_base.specs.declared.happening.Happening.TheVariants.{Read, Took};
 ghost use Rattle.dds_base.specs.Access.{handle_of, has_match, instance_of};
 ghost use Rattle.dds_base.specs.Liveliness.{after_deaths, dead_at};
 ghost use Rattle.dds_base.specs.Statuses.{lost_count};
 ghost use Rattle.dds_base.specs.StatusFlags.{data_available_at, turned_at};
-ghost use Rattle.dds_cache.specs.Standing.{qos_of, AnswersWith, AfterAccessWith, StandsFor as CacheStandsFor};
+ghost use Rattle.dds_cache.specs.Standing.{qos_of, AccessAnswers, AfterAccess, StandsFor as CacheStandsFor};
 ghost use Rattle.dds_lease.specs.Standing.{writer_count};
 ghost use Rattle.dds_core.specs.Expiring.{HasRoomForDeaths};
 ghost use Rattle.dds_core.specs.Stored.{StoreKept, Holds, Loses};
@@ -18,7 +17,7 @@ ghost use Rattle.dds_core.specs.Stored.{StoreKept, Holds, Loses};
 use dds_base::{
     Arrival, Code, Handle, Key, Masks, Moment, ReaderQos, Sample, Selection, Sequence, Sn,
 };
-use dds_cache::{ReaderCache, Test};
+use dds_cache::{AccessKind, ReaderCache, Test};
 use dds_lease::Leases;
 use rtps_reader::Sink;
 use std::alloc::Global;
@@ -182,42 +181,24 @@ impl Store {
         }
     }
 
-    /// Reads samples that pass the test, as the cache does.
-    pub fn read<T: Test>(
+    /// Reads or takes samples that pass the test, as the cache does.
+    pub fn access<T: Test>(
         &mut self,
+        kind: AccessKind,
         selection: Selection,
         test: &T,
     ) -> Result<Sequence<Sample>, Code>
         ensures answer { (h : List Happening) → Holds self.old h
-            → AnswersWith self.old.cache h selection (T.meaning test.now) result }
+            → AccessAnswers self.old.cache h selection (T.meaning test.now) result }
         ensures after { (h : List Happening) → Holds self.old h
-            → AfterAccessWith Read self.old.cache h selection
+            → AfterAccess kind self.old.cache h selection
             (T.meaning test.now) result self.new.cache }
         ensures qos { qos_of self.new.cache ≡ qos_of self.old.cache }
         ensures leases { self.new.leases ≡ self.old.leases }
         ensures lost { self.new.lost ≡ self.old.lost }
         ensures turned { self.new.turned ≡ self.old.turned }
     {
-        self.cache.read_by(selection, test)
-    }
-
-    /// Takes samples that pass the test, as the cache does.
-    pub fn take<T: Test>(
-        &mut self,
-        selection: Selection,
-        test: &T,
-    ) -> Result<Sequence<Sample>, Code>
-        ensures answer { (h : List Happening) → Holds self.old h
-            → AnswersWith self.old.cache h selection (T.meaning test.now) result }
-        ensures after { (h : List Happening) → Holds self.old h
-            → AfterAccessWith Took self.old.cache h selection
-            (T.meaning test.now) result self.new.cache }
-        ensures qos { qos_of self.new.cache ≡ qos_of self.old.cache }
-        ensures leases { self.new.leases ≡ self.old.leases }
-        ensures lost { self.new.lost ≡ self.old.lost }
-        ensures turned { self.new.turned ≡ self.old.turned }
-    {
-        self.cache.take_by(selection, test)
+        self.cache.access(kind, selection, test)
     }
 
     /// The key of a known instance, by its handle.

@@ -9,6 +9,7 @@ ghost use Rattle.dds_base.specs.Selection.{max_in};
 ghost use Rattle.dds_conditions.specs.Watched.{filter_refusal, made, use_refusal, with_filter};
 ghost use Rattle.dds_model.specs.declared.call.Call.TheVariants as call;
 ghost use Rattle.dds_model.specs.declared.event.Event.TheVariants as event;
+ghost use Rattle.dds_core.specs.Accesses.{condition_call};
 ghost use Rattle.dds_core.specs.Standing.{Steps, StepsBy};
 ghost use Rattle.dds_core.specs.Sending.{SendsNothing};
 ghost use Rattle.dds_core.specs.Watching.{AreActive, AsksBy, Tells, TellsActive, TellsStatuses, TellsTrigger, TellsValue, asked_of, conditions_reply, done_reply, made_reply};
@@ -19,6 +20,7 @@ use crate::output::{answered, reply_to_access};
 use crate::peer::Peer;
 use bitflags::Flags;
 use dds_base::{Code, Entity, Masks, Moment, Scope, Selection, Sequence};
+use dds_cache::AccessKind;
 use dds_conditions::{Cond, Condition, Filters};
 use dds_model::{Output, Reply};
 use dds_notices::StatusMask;
@@ -329,15 +331,16 @@ impl Peer {
         asked_for(reader, scope, self.watch.condition(condition))
     }
 
-    pub(crate) fn read_by_condition<T: Filters>(
+    pub(crate) fn access_by_condition<T: Filters>(
         &mut self,
         filters: &T,
+        kind: AccessKind,
         reader: u8,
         scope: Scope,
         condition: u32,
     ) -> Output
         ensures step { StepsBy (T.meaning filters.now) self.old
-            (event.Call (call.ReadByCondition reader scope condition)) result self.new }
+            (event.Call (condition_call kind reader scope condition)) result self.new }
         ensures sends { SendsNothing result }
     {
         let Asked { selection, filter } = match self.asked_by(reader, scope, condition) {
@@ -348,30 +351,7 @@ impl Peer {
             return self.refused(Code::BadParameter);
         };
         let test = ByFilter { filters, filter };
-        let samples = self.readers[index].read(selection, &test);
-        answered(self.alloc, reply_to_access(samples))
-    }
-
-    pub(crate) fn take_by_condition<T: Filters>(
-        &mut self,
-        filters: &T,
-        reader: u8,
-        scope: Scope,
-        condition: u32,
-    ) -> Output
-        ensures step { StepsBy (T.meaning filters.now) self.old
-            (event.Call (call.TakeByCondition reader scope condition)) result self.new }
-        ensures sends { SendsNothing result }
-    {
-        let Asked { selection, filter } = match self.asked_by(reader, scope, condition) {
-            Ok(asked) => asked,
-            Err(code) => return self.refused(code),
-        };
-        let Some(index) = index_of(reader, self.readers.len()) else {
-            return self.refused(Code::BadParameter);
-        };
-        let test = ByFilter { filters, filter };
-        let samples = self.readers[index].take(selection, &test);
+        let samples = self.readers[index].access(kind, selection, &test);
         answered(self.alloc, reply_to_access(samples))
     }
 

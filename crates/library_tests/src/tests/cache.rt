@@ -12,7 +12,7 @@ use dds_base::{
     MatchedWriter, Moment, Octets, OwnershipQos, ReaderQos, Sample, SampleInfo, SampleStateMask,
     Selection, Sequence, Sn,
 };
-use dds_cache::ReaderCache;
+use dds_cache::{AccessKind, Everything, ReaderCache};
 use readers::READERS;
 use std::alloc::{AllocError, Global};
 use std::io;
@@ -165,6 +165,11 @@ impl Reader {
         }
     }
 
+    /// What an access answers that takes each sample.
+    fn access(&mut self, kind: AccessKind, selection: Selection) -> Result<Sequence<Sample>, Code> {
+        self.cache.access(kind, selection, &Everything)
+    }
+
     fn come(&mut self, text: &mut String, writer: Handle, change: Change)
         requires low { 0 < writer }
         requires high { writer ≤ 2 }
@@ -196,8 +201,8 @@ impl Subject for Reader {
         };
         match name {
             "open" => self.begin(alloc, text, words),
-            "read" => push_access(text, self.cache.read(selection)),
-            "take" => push_access(text, self.cache.take(selection)),
+            "read" => push_access(text, self.access(AccessKind::Read, selection)),
+            "take" => push_access(text, self.access(AccessKind::Take, selection)),
             "died" => self.die(text, handle_of(words.first), number_of(words.second)),
             _ => self.come(text, handle_of(words.first), change_of(alloc, name, words)),
         }
@@ -247,7 +252,7 @@ fn count_taken(alloc: Global, count: u16) -> usize {
         max: -1,
         masks: Masks::ANY,
     };
-    match reader.cache.take(selection) {
+    match reader.access(AccessKind::Take, selection) {
         Ok(samples) => samples.as_slice().len(),
         Err(_) => 0,
     }

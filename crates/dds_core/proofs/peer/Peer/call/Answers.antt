@@ -18,10 +18,10 @@ pub returns-in-AssertLiveliness-clause-step : goal.returns-in-AssertLiveliness-c
 returns-in-AssertLiveliness-clause-step g c = plainly_called _ _ _ _ _ _ c.in-AssertLiveliness.is c.assert_liveliness.ensures.step refl
 
 pub returns-in-Read-clause-step : goal.returns-in-Read-clause-step
-returns-in-Read-clause-step g c = plainly_called _ _ _ _ _ _ c.in-Read.is c.read.ensures.step refl
+returns-in-Read-clause-step g c = plainly_called _ _ _ _ _ _ c.in-Read.is c.access.ensures.step refl
 
 pub returns-in-Take-clause-step : goal.returns-in-Take-clause-step
-returns-in-Take-clause-step g c = plainly_called _ _ _ _ _ _ c.in-Take.is c.take.ensures.step refl
+returns-in-Take-clause-step g c = plainly_called _ _ _ _ _ _ c.in-Take.is c.access-in-Take.ensures.step refl
 
 pub returns-in-GetKeyValue-clause-step : goal.returns-in-GetKeyValue-clause-step
 returns-in-GetKeyValue-clause-step g c = plainly_called _ _ _ _ _ _ c.in-GetKeyValue.is c.get_key_value.ensures.step refl
@@ -39,10 +39,10 @@ pub returns-in-GetLivelinessLost-clause-step : goal.returns-in-GetLivelinessLost
 returns-in-GetLivelinessLost-clause-step g c = plainly_called _ _ _ _ _ _ c.in-GetLivelinessLost.is c.get_liveliness_lost.ensures.step refl
 
 pub returns-in-ReadByCondition-clause-step : goal.returns-in-ReadByCondition-clause-step
-returns-in-ReadByCondition-clause-step g c = called _ _ _ _ _ _ c.in-ReadByCondition.is c.read_by_condition.ensures.step
+returns-in-ReadByCondition-clause-step g c = called _ _ _ _ _ _ c.in-ReadByCondition.is c.access_by_condition.ensures.step
 
 pub returns-in-TakeByCondition-clause-step : goal.returns-in-TakeByCondition-clause-step
-returns-in-TakeByCondition-clause-step g c = called _ _ _ _ _ _ c.in-TakeByCondition.is c.take_by_condition.ensures.step
+returns-in-TakeByCondition-clause-step g c = called _ _ _ _ _ _ c.in-TakeByCondition.is c.access_by_condition-in-TakeByCondition.ensures.step
 
 pub returns-in-CreateReadCondition-clause-step : goal.returns-in-CreateReadCondition-clause-step
 returns-in-CreateReadCondition-clause-step g c = plainly_called _ _ _ _ _ _ c.in-CreateReadCondition.is c.create_read_condition.ensures.step refl

@@ -19,7 +19,7 @@ use Rattle.dds_base.specs.Refusal.{Refuses}
 use Rattle.dds_base.specs.Selection.{selection_refusal}
 use Rattle.dds_cache.specs.Standing.{qos_of}
 use Rattle.dds_cache.proofs.StandingLaws.{holds, accessed}
-use Rattle.dds_cache.proofs.reader_cache.ReaderCache.access.Goals as goal
+use Rattle.dds_cache.proofs.reader_cache.ReaderCache.find.Goals as goal
 
 pub returns-in_err-access-clause-refused : goal.returns-in_err-access-clause-refused
 returns-in_err-access-clause-refused g c =

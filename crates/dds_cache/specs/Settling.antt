@@ -1,0 +1,14 @@
+-- What an access leaves of the kept samples, by its kind. Inner functions alone cite this: nothing here has to be believed.
+--
+-- DDS 1.4, 2.2.2.5 (read, take).
+use Rattle.std.specs.Prelude.{List, map, filter, not}
+use Rattle.dds_base.specs.declared.happening.SamplePosition.{SamplePosition}
+use Rattle.dds_cache.specs.declared.access_kind.AccessKind.{AccessKind}
+use Rattle.dds_cache.specs.declared.access_kind.AccessKind.TheVariants.{Read, Take}
+use Rattle.dds_cache.specs.declared.kept.Kept.{Kept}
+use Rattle.dds_cache.specs.Kept.{marked, is_among}
+
+-- the kept samples after an access that returned these: a read marks them, a take removes them
+abbrev pub settled : AccessKind → List SamplePosition → List Kept → List Kept
+settled Read returned kept = map (marked returned) kept
+settled Take returned kept = filter (λ k. not (is_among returned k)) kept
