@@ -44,6 +44,7 @@ use Rattle.dds_world.specs.WorldStanding.{KeepsRules, Posts, StandsFor}
 use Rattle.dds_world.proofs.Recorded.{are_told, stand_for}
 use Rattle.dds_world.proofs.Replaced.{peer_stands, with_peer}
 use Rattle.dds_world.proofs.Ruled.{called, delivered, not_delivered, ticked}
+use Rattle.dds_world.proofs.Sends.{called_sends, delivered_sends, quiet_delivery_sends, refused_call_sends, refused_tick_sends, ticked_sends}
 use Rattle.dds_world.proofs.WorldSteps.{unknown_call, unknown_delivery, unknown_packet, unknown_tick}
 
 -- the peer of an index, among those that are kept
@@ -284,41 +285,48 @@ module _ {F L : Type 0} (notices : L → List Notice) (capacity : L → ℕ) whe
 
 pub called_in : {F L : Type 0} (meaning : F → Key → List ℕ → Bool) (notices : L → List Notice) (capacity : L → ℕ) (old new : Held F L) (i peer : ℕ) (call : Call) (reply : Reply) → peer ≡ i + 1 → ActsIn meaning notices capacity old i (event.Call call) reply new
     → StepsIn meaning notices capacity old (world.Call peer call) reply new
-called_in meaning notices capacity old new i peer call reply is a = record { steps = called (kept_of notices capacity old) (kept_of notices capacity new) i peer call reply is a.acts; filters = a.filters }
+called_in meaning notices capacity old new i peer call reply is a = record { steps = called (kept_of notices capacity old) (kept_of notices capacity new) i peer call reply is a.acts; filters = a.filters; sends = called_sends (kept_of notices capacity old) (kept_of notices capacity new) i peer call reply is a.acts }
 
 pub ticked_in : {F L : Type 0} (meaning : F → Key → List ℕ → Bool) (notices : L → List Notice) (capacity : L → ℕ) (old new : Held F L) (i peer now : ℕ) (reply : Reply) → peer ≡ i + 1 → ActsIn meaning notices capacity old i (event.Tick now) reply new
     → StepsIn meaning notices capacity old (world.Tick peer now) reply new
-ticked_in meaning notices capacity old new i peer now reply is a = record { steps = ticked (kept_of notices capacity old) (kept_of notices capacity new) i peer now reply is a.acts; filters = a.filters }
+ticked_in meaning notices capacity old new i peer now reply is a = record { steps = ticked (kept_of notices capacity old) (kept_of notices capacity new) i peer now reply is a.acts; filters = a.filters; sends = ticked_sends (kept_of notices capacity old) (kept_of notices capacity new) i peer now reply is a.acts }
 
 pub delivered_in : {F L : Type 0} (meaning : F → Key → List ℕ → Bool) (notices : L → List Notice) (capacity : L → ℕ) (old new : Held F L) (i j : ℕ) (bytes : List ℕ) (reply : Reply) → IsCopy old.sent j bytes → ActsIn meaning notices capacity old i (event.Deliver bytes) reply new
     → StepsIn meaning notices capacity old (world.Deliver (i + 1) (j + 1)) reply new
-delivered_in meaning notices capacity old new i j bytes reply copy a = record { steps = delivered (kept_of notices capacity old) (kept_of notices capacity new) i j bytes reply copy a.acts; filters = a.filters }
+delivered_in meaning notices capacity old new i j bytes reply copy a = record { steps = delivered (kept_of notices capacity old) (kept_of notices capacity new) i j bytes reply copy a.acts; filters = a.filters; sends = delivered_sends (kept_of notices capacity old) (kept_of notices capacity new) i (i + 1) (j + 1) bytes reply a.acts }
 
 -- what is refused, and what finds no memory
 pub no_call_in : {F L : Type 0} (meaning : F → Key → List ℕ → Bool) (notices : L → List Notice) (capacity : L → ℕ) (old : Held F L) (peer count : ℕ) (call : Call) → count ≡ length old.cores → (nat_lt 0 peer && nat_le peer count) ≡ false
     → StepsIn meaning notices capacity old (world.Call peer call) (Refused BadParameter) old
 no_call_in {F} {L} meaning notices capacity old peer count call is none =
-    record { steps = unknown_call (kept_of notices capacity old) peer call (subst (λ (n : ℕ). (nat_lt 0 peer && nat_le peer n) ≡ false) (is ∙ sym (length-map old.cores (λ (c : CoreKept F L). c.filtered.peer))) none); filters = refl }
+    record { steps = unknown_call (kept_of notices capacity old) peer call (subst (λ (n : ℕ). (nat_lt 0 peer && nat_le peer n) ≡ false) (is ∙ sym (length-map old.cores (λ (c : CoreKept F L). c.filtered.peer))) none); filters = refl; sends = refused_call_sends (kept_of notices capacity old) peer call }
 
 pub no_tick_in : {F L : Type 0} (meaning : F → Key → List ℕ → Bool) (notices : L → List Notice) (capacity : L → ℕ) (old : Held F L) (peer count now : ℕ) → count ≡ length old.cores → (nat_lt 0 peer && nat_le peer count) ≡ false
     → StepsIn meaning notices capacity old (world.Tick peer now) (Refused BadParameter) old
 no_tick_in {F} {L} meaning notices capacity old peer count now is none =
-    record { steps = unknown_tick (kept_of notices capacity old) peer now (subst (λ (n : ℕ). (nat_lt 0 peer && nat_le peer n) ≡ false) (is ∙ sym (length-map old.cores (λ (c : CoreKept F L). c.filtered.peer))) none); filters = refl }
+    record { steps = unknown_tick (kept_of notices capacity old) peer now (subst (λ (n : ℕ). (nat_lt 0 peer && nat_le peer n) ≡ false) (is ∙ sym (length-map old.cores (λ (c : CoreKept F L). c.filtered.peer))) none); filters = refl; sends = refused_tick_sends (kept_of notices capacity old) peer now }
 
 pub no_delivery_in : {F L : Type 0} (meaning : F → Key → List ℕ → Bool) (notices : L → List Notice) (capacity : L → ℕ) (old : Held F L) (peer count number : ℕ) → count ≡ length old.cores → (nat_lt 0 peer && nat_le peer count) ≡ false
     → StepsIn meaning notices capacity old (world.Deliver peer number) (Refused BadParameter) old
 no_delivery_in {F} {L} meaning notices capacity old peer count number is none =
-    record { steps = unknown_delivery (kept_of notices capacity old) peer number (subst (λ (n : ℕ). (nat_lt 0 peer && nat_le peer n) ≡ false) (is ∙ sym (length-map old.cores (λ (c : CoreKept F L). c.filtered.peer))) none); filters = refl }
+    record { steps = unknown_delivery (kept_of notices capacity old) peer number (subst (λ (n : ℕ). (nat_lt 0 peer && nat_le peer n) ≡ false) (is ∙ sym (length-map old.cores (λ (c : CoreKept F L). c.filtered.peer))) none); filters = refl; sends = quiet_delivery_sends (kept_of notices capacity old) peer number (Refused BadParameter) }
 
 pub no_packet_in : {F L : Type 0} (meaning : F → Key → List ℕ → Bool) (notices : L → List Notice) (capacity : L → ℕ) (old : Held F L) (peer count number : ℕ) → count ≡ length old.sent → (nat_lt 0 number && nat_le number count) ≡ false
     → StepsIn meaning notices capacity old (world.Deliver peer number) (Refused BadParameter) old
 no_packet_in meaning notices capacity old peer count number is none =
-    record { steps = unknown_packet (kept_of notices capacity old) peer number (subst (λ (n : ℕ). (nat_lt 0 number && nat_le number n) ≡ false) is none); filters = refl }
+    record { steps = unknown_packet (kept_of notices capacity old) peer number (subst (λ (n : ℕ). (nat_lt 0 number && nat_le number n) ≡ false) is none); filters = refl; sends = quiet_delivery_sends (kept_of notices capacity old) peer number (Refused BadParameter) }
 
 pub not_delivered_in : {F L : Type 0} (meaning : F → Key → List ℕ → Bool) (notices : L → List Notice) (capacity : L → ℕ) (old : Held F L) (i j : ℕ) → i < length old.cores → j < length old.sent
     → StepsIn meaning notices capacity old (world.Deliver (i + 1) (j + 1)) (Reported (record { moves = []; refused = Some 0 })) old
 not_delivered_in {F} {L} meaning notices capacity old i j low high =
-    record { steps = not_delivered (kept_of notices capacity old) i j (subst (λ (n : ℕ). i < n) (sym (length-map old.cores (λ (c : CoreKept F L). c.filtered.peer))) low) high; filters = refl }
+    record { steps = not_delivered (kept_of notices capacity old) i j (subst (λ (n : ℕ). i < n) (sym (length-map old.cores (λ (c : CoreKept F L). c.filtered.peer))) low) high; filters = refl; sends = quiet_delivery_sends (kept_of notices capacity old) (i + 1) (j + 1) (Reported (record { moves = []; refused = Some 0 })) }
+
+-- a step at an event is one at the event that was given
+pub steps_as : {F L : Type 0} {meaning : F → Key → List ℕ → Bool} {notices : L → List Notice} {capacity : L → ℕ}
+    {old new : Held F L} {given ev : WorldEvent} {reply : Reply} → given ≡ ev
+    → StepsIn meaning notices capacity old ev reply new → StepsIn meaning notices capacity old given reply new
+steps_as {meaning = meaning} {notices} {capacity} {old} {new} {reply = reply} is steps =
+    subst (λ (e : WorldEvent). StepsIn meaning notices capacity old e reply new) (sym is) steps
 
 -- ---- what is said of the filters that there were before, where none was added
 

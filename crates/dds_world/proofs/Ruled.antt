@@ -21,34 +21,23 @@ use Rattle.dds_model.specs.World.{WorldState, peer_at}
 use Rattle.dds_core.specs.Kept.{PeerKept}
 use Rattle.dds_core.specs.Sending.{SendsFor, due_at_tick}
 use Rattle.dds_core.proofs.Lists.{element, get-within}
-use Rattle.dds_world.specs.WorldStanding.{WorldKept, StandsFor, Announces, Steps, KeepsRules, MovesOn}
+use Rattle.dds_world.specs.WorldStanding.{WorldKept, StandsFor, Steps, KeepsRules, MovesOn}
 use Rattle.dds_world.specs.Acting.{Acts, IsCopy, RuledSteps}
 use Rattle.dds_world.proofs.WorldSteps.{SendsItsDues, acts_ruled, calls_at, comes_to_nothing, contains_at, delivers_at, found_at, nothing_moved, posts_none, progresses, set_same, ticks_at}
 use Rattle.dds_model.specs.Machine.{AllTests}
 
--- a step by the rules, at the event that was given, is a step
+-- a step by the rules is a step
+pub steps_at : {tests : AllTests} (old new : WorldKept) (ev : WorldEvent) (reply : Reply)
+    → RuledSteps tests old ev reply new → Steps tests old ev reply new
+steps_at old new ev reply steps config network s = let t = steps config network s in (t.0, t.2.step, t.4, t.5)
 
-pub steps_at : {tests : AllTests} → (old new : WorldKept) (given ev : WorldEvent) (reply : Reply) → given ≡ ev
-    → RuledSteps tests old ev reply new → Steps tests old given reply new
-steps_at {tests} old new given ev reply is steps =
-    subst (λ (e : WorldEvent). Steps tests old e reply new) (sym is)
-    (λ config network s. let t = steps config network s in (t.0, t.2.step, t.4, t.5))
+pub rules_at : {tests : AllTests} (old new : WorldKept) (ev : WorldEvent) (reply : Reply)
+    → RuledSteps tests old ev reply new → KeepsRules tests old ev reply new
+rules_at old new ev reply steps config network s = let t = steps config network s in (t.0, t.1, t.2, t.3, t.5)
 
-pub rules_at : {tests : AllTests} → (old new : WorldKept) (given ev : WorldEvent) (reply : Reply) → given ≡ ev
-    → RuledSteps tests old ev reply new → KeepsRules tests old given reply new
-rules_at {tests} old new given ev reply is steps =
-    subst (λ (e : WorldEvent). KeepsRules tests old e reply new) (sym is)
-    (λ config network s. let t = steps config network s in (t.0, t.1, t.2, t.3, t.5))
-
-pub announces_at : (old new : WorldKept) (given ev : WorldEvent) (reply : Reply) → given ≡ ev
-    → Announces old ev reply new → Announces old given reply new
-announces_at old new given ev reply is sends =
-    subst (λ (e : WorldEvent). Announces old e reply new) (sym is) sends
-
-pub progresses_at : (tests : AllTests) (old new : WorldKept) (given ev : WorldEvent) (reply : Reply) → given ≡ ev
-    → RuledSteps tests old ev reply new → MovesOn old given reply
-progresses_at tests old new given ev reply is steps =
-    progresses tests old new given reply (steps_at old new given ev reply is steps)
+pub progresses_at : (tests : AllTests) (old new : WorldKept) (ev : WorldEvent) (reply : Reply)
+    → RuledSteps tests old ev reply new → MovesOn old ev reply
+progresses_at tests old new ev reply steps = progresses tests old new ev reply (steps_at old new ev reply steps)
 
 -- the number of the peer of this index
 numbered_so : (kept : WorldKept) (config : Config) (network : WorldState) (i : ℕ) (core : PeerKept) → StandsFor kept config network → slice_get kept.peers i ≡ Some core → (get_or network.peers i no_peer).number ≡ suc i

@@ -25,7 +25,7 @@ use Rattle.dds_model.specs.Numbered.{numbered, with_numbered, HasNumber}
 use Rattle.dds_model.specs.World.{WorldState, peer_at}
 use Rattle.dds_core.specs.Listening.{CoreKept}
 use Rattle.dds_world.specs.Acting.{Acts, RuledSteps}
-use Rattle.dds_world.specs.WorldStanding.{WorldKept, StandsFor}
+use Rattle.dds_world.specs.WorldStanding.{Announces, WorldKept, StandsFor}
 
 -- the peers with their filters and listeners, every packet that was sent, and how many found no memory
 pub record Held (F L : Type 0) : Type 0 where
@@ -131,10 +131,11 @@ pub record ActsIn {F L : Type 0} (meaning : F → Key → List ℕ → Bool) (no
   pub acts : Acts (tests_in meaning old) (kept_of notices capacity old) index event reply (kept_of notices capacity new)
   pub filters : filters_of new ≡ filters_of old
 
--- a step by the rules, which adds no filter
+-- a step by the rules, which adds no filter, and what is sent at it
 pub record StepsIn {F L : Type 0} (meaning : F → Key → List ℕ → Bool) (notices : L → List Notice) (capacity : L → ℕ)
     (old : Held F L) (event : WorldEvent)
     (reply : Reply) (new : Held F L) : Type 0 where
   pub steps : RuledSteps (tests_in meaning old) (kept_of notices capacity old) event reply
       (kept_of notices capacity new)
   pub filters : filters_of new ≡ filters_of old
+  pub sends : Announces (kept_of notices capacity old) event reply (kept_of notices capacity new)

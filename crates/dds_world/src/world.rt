@@ -179,11 +179,7 @@ impl<F: Filter, L: Listener> World<F, L> {
         // No filter is added.
         ensures filters { filters_of self.new ≡ filters_of self.old }
     {
-        match event {
-            WorldEvent::Call { peer, call } => self.call(peer, call),
-            WorldEvent::Tick { peer, now } => self.tick(peer, now),
-            WorldEvent::Deliver { peer, packet } => self.deliver(peer, packet),
-        }
+        self.happen(event)
     }
 
     /// Events one after the other, and the reply to each.
@@ -281,12 +277,19 @@ impl<F: Filter, L: Listener> World<F, L> {
         self.peers.len()
     }
 
+    fn happen(&mut self, event: WorldEvent) -> Reply
+        ensures { StepsIn F.meaning L.notices L.capacity self.old event result self.new }
+    {
+        match event {
+            WorldEvent::Call { peer, call } => self.call(peer, call),
+            WorldEvent::Tick { peer, now } => self.tick(peer, now),
+            WorldEvent::Deliver { peer, packet } => self.deliver(peer, packet),
+        }
+    }
+
     fn call(&mut self, peer: u8, call: Call) -> Reply
-        ensures step { StepsIn F.meaning L.notices L.capacity self.old
+        ensures { StepsIn F.meaning L.notices L.capacity self.old
             (event.Call peer call) result self.new }
-        ensures sends { Announces (kept_of L.notices L.capacity self.old)
-            (event.Call peer call) result
-            (kept_of L.notices L.capacity self.new) }
     {
         match index_of(peer, self.count()) {
             Some(index) => self.happen_at(index, Event::Call(call)),
@@ -295,11 +298,8 @@ impl<F: Filter, L: Listener> World<F, L> {
     }
 
     fn tick(&mut self, peer: u8, now: Moment) -> Reply
-        ensures step { StepsIn F.meaning L.notices L.capacity self.old
+        ensures { StepsIn F.meaning L.notices L.capacity self.old
             (event.Tick peer now) result self.new }
-        ensures sends { Announces (kept_of L.notices L.capacity self.old)
-            (event.Tick peer now) result
-            (kept_of L.notices L.capacity self.new) }
     {
         match index_of(peer, self.count()) {
             Some(index) => self.happen_at(index, Event::Tick(now)),
@@ -308,11 +308,8 @@ impl<F: Filter, L: Listener> World<F, L> {
     }
 
     fn deliver(&mut self, peer: u8, packet: u64) -> Reply
-        ensures step { StepsIn F.meaning L.notices L.capacity self.old
+        ensures { StepsIn F.meaning L.notices L.capacity self.old
             (event.Deliver peer packet) result self.new }
-        ensures sends { Announces (kept_of L.notices L.capacity self.old)
-            (event.Deliver peer packet) result
-            (kept_of L.notices L.capacity self.new) }
     {
         match packet_index(packet, self.sent()) {
             Some(sent) => self.deliver_sent(peer, sent),
@@ -323,11 +320,8 @@ impl<F: Filter, L: Listener> World<F, L> {
     /// Delivers the packet of this index.
     fn deliver_sent(&mut self, peer: u8, sent: usize) -> Reply
         requires sent { sent < length self.old.sent }
-        ensures step { StepsIn F.meaning L.notices L.capacity self.old
+        ensures { StepsIn F.meaning L.notices L.capacity self.old
             (event.Deliver peer (sent + 1)) result self.new }
-        ensures sends { Announces (kept_of L.notices L.capacity self.old)
-            (event.Deliver peer (sent + 1)) result
-            (kept_of L.notices L.capacity self.new) }
     {
         match index_of(peer, self.count()) {
             Some(index) => self.deliver_at(index, sent),
@@ -340,11 +334,8 @@ impl<F: Filter, L: Listener> World<F, L> {
     fn deliver_at(&mut self, index: usize, sent: usize) -> Reply
         requires within { index < length self.old.cores }
         requires sent { sent < length self.old.sent }
-        ensures step { StepsIn F.meaning L.notices L.capacity self.old
+        ensures { StepsIn F.meaning L.notices L.capacity self.old
             (event.Deliver (index + 1) (sent + 1)) result self.new }
-        ensures sends { Announces (kept_of L.notices L.capacity self.old)
-            (event.Deliver (index + 1) (sent + 1)) result
-            (kept_of L.notices L.capacity self.new) }
     {
         match self.copied(sent) {
             Ok(bytes) => self.happen_at(index, Event::Deliver(bytes)),

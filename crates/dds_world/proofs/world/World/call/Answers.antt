@@ -1,17 +1,12 @@
-use Rattle.dds_world.specs.Holding.{kept_of}
 use Rattle.dds_world.proofs.Holding.{called_in, no_call_in}
-use Rattle.dds_world.proofs.Sends.{called_sends, refused_call_sends}
 use Rattle.dds_world.proofs.world.World.call.Goals as goal
 
-pub returns-in-Some-clause-step : goal.returns-in-Some-clause-step
-returns-in-Some-clause-step g c = called_in g.F.Filter.meaning g.L.Listener.notices g.L.Listener.capacity c.args.self.now c.happen_at.new.self c.in-Some.index c.args.peer c.args.call c.happen_at.result c.in-Some.ensures.0 c.happen_at.ensures
+pub returns-in-Some : goal.returns-in-Some
+returns-in-Some g c =
+    called_in g.F.Filter.meaning g.L.Listener.notices g.L.Listener.capacity c.args.self.now c.happen_at.new.self
+    c.in-Some.index c.args.peer c.args.call c.happen_at.result c.in-Some.ensures.0 c.happen_at.ensures
 
-pub returns-in-Some-clause-sends : goal.returns-in-Some-clause-sends
-returns-in-Some-clause-sends g c =
-    called_sends (kept_of g.L.Listener.notices g.L.Listener.capacity c.args.self.now) (kept_of g.L.Listener.notices g.L.Listener.capacity c.happen_at.new.self) c.in-Some.index c.args.peer c.args.call c.happen_at.result c.in-Some.ensures.0 c.happen_at.ensures.acts
-
-pub returns-in-None-clause-step : goal.returns-in-None-clause-step
-returns-in-None-clause-step g c = no_call_in g.F.Filter.meaning g.L.Listener.notices g.L.Listener.capacity c.args.self.now c.args.peer c.count.result c.args.call c.count.ensures c.in-None.ensures
-
-pub returns-in-None-clause-sends : goal.returns-in-None-clause-sends
-returns-in-None-clause-sends g c = refused_call_sends (kept_of g.L.Listener.notices g.L.Listener.capacity c.args.self.now) c.args.peer c.args.call
+pub returns-in-None : goal.returns-in-None
+returns-in-None g c =
+    no_call_in g.F.Filter.meaning g.L.Listener.notices g.L.Listener.capacity c.args.self.now c.args.peer c.count.result
+    c.args.call c.count.ensures c.in-None.ensures
