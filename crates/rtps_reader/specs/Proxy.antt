@@ -1,4 +1,6 @@
 -- What a proxy keeps of its writer, and what that means.
+--
+-- RTPS 2.5, 8.4.10 (WriterProxy, ChangeFromWriter).
 use Rattle.std.specs.Prelude.{◌≡◌, ℕ, ◌+◌, ◌*◌, ◌<◌, ◌≤◌, ◌^◌, min, List, [], ◌∷◌, true, ◌==◌, ◌&&◌, nat_le, nat_lt}
 use Rattle.std.specs.Prelude.{Option, None, Some, is_some, is_none, if◌then◌else◌, vec_len, vec_capacity}
 use Rattle.dds_base.specs.declared.change.Change.{Change}

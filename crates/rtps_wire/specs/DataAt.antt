@@ -1,5 +1,7 @@
 -- Reading a DATA from left to right: what the code does, on lists. Nothing here has to be believed, since
 -- `read_message` says what it reads by `Data`.
+--
+-- RTPS 2.5, 9.4.5 (Data), 9.6 (key hash and status info).
 use Rattle.std.specs.Prelude.{ℕ, ◌-◌, Bool, true, false, List, Option, Some, None, nat_lt, if◌then◌else◌, unwrap_or}
 use Rattle.std.specs.Option.{option_map}
 use Rattle.std.specs.Int.{w16}

@@ -1,5 +1,7 @@
 -- Reading fields from left to right: what the code does, on lists. Nothing here has to be believed, since
 -- `read_message` says what it reads by the texts of `Fields`.
+--
+-- RTPS 2.5, 9.3 and 9.4.2.
 use Rattle.std.specs.Prelude.{ℕ, ◌+◌, ◌*◌, ◌^◌, List, Option, Some, None, nat_lt, if◌then◌else◌, ℤ}
 use Rattle.std.specs.Int.{w32, cast_signed}
 use Rattle.dds_base.specs.declared.endianness.Endianness.{Endianness}

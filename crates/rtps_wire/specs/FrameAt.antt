@@ -1,5 +1,7 @@
 -- Reading the header of a submessage from left to right: what the code does, on lists. Nothing here has to be
 -- believed, since `read_message` says where submessages end by `Frames`.
+--
+-- RTPS 2.5, 9.4.5.1 (submessage header).
 use Rattle.std.specs.Prelude.{ℕ, List, [], ◌∷◌, Option, Some, None, if◌then◌else◌}
 use Rattle.std.specs.Int.{w16}
 use Rattle.dds_base.specs.Fields.{number_at, octets_at, ◌>>=◌}

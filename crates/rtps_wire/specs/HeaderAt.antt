@@ -1,5 +1,7 @@
 -- Reading the header of a message from left to right: what the code does, on lists. Nothing here has to be
 -- believed, since `read_message` says what it reads by `Messages`.
+--
+-- RTPS 2.5, 9.4.4.
 use Rattle.std.specs.Prelude.{ℕ, ◌==◌, ◌&&◌, List, ◌∷◌, Option, None, if◌then◌else◌}
 use Rattle.dds_base.specs.declared.guid.GuidPrefix.{GuidPrefix}
 use Rattle.rtps_wire.specs.FieldAt.{prefix_at}

@@ -1,5 +1,7 @@
 -- Reading parameters from left to right: what the code does, on lists. Nothing here has to be believed, since
 -- `read_message` says what it reads by `Parameters`.
+--
+-- RTPS 2.5, 9.4.2 (ParameterList), 9.6 (key hash and status info).
 use Rattle.std.specs.Prelude.{ℕ, zero, suc, ◌%◌, ◌==◌, List, length, Option, Some, None, if◌then◌else◌, slice_index}
 use Rattle.std.specs.Option.{option_or}
 use Rattle.std.specs.Int.{w16}

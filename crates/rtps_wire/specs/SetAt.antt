@@ -1,5 +1,7 @@
 -- Reading a set from left to right: what the code does, on lists. Nothing here has to be believed, since
 -- `read_message` says what it reads by `Sets`.
+--
+-- RTPS 2.5, 9.4.2 (SequenceNumberSet).
 use Rattle.std.specs.Prelude.{ℕ, zero, suc, ◌||◌, List, [], ◌∷◌, Option, Some, None, nat_lt, if◌then◌else◌}
 use Rattle.std.specs.Int.{w32}
 use Rattle.dds_base.specs.declared.endianness.Endianness.{Endianness}

@@ -1,5 +1,7 @@
 -- Reading the body of a submessage from left to right: what the code does, on lists. Nothing here has to be
 -- believed, since `read_message` says what it reads by `Submessages`.
+--
+-- RTPS 2.5, 8.3.4 and 9.4.5.
 use Rattle.std.specs.Prelude.{ℕ, ◌+◌, ◌*◌, ◌^◌, ◌==◌, ◌||◌, List, Option, Some, None, nat_lt, if◌then◌else◌}
 use Rattle.std.specs.Option.{option_map}
 use Rattle.std.specs.Int.{w32}

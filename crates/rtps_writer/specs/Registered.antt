@@ -1,5 +1,7 @@
 -- The instances that a writer has registered, as a list of their keys. Inner functions alone cite this: nothing here
 -- has to be believed.
+--
+-- DDS 1.4, 2.2.2.4 (register_instance, unregister_instance).
 use Rattle.std.specs.Prelude.{Bool, List}
 use Rattle.std.specs.List.{list_any}
 use Rattle.dds_base.specs.declared.key.Key.{Key}
