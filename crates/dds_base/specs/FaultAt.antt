@@ -1,5 +1,7 @@
 -- The search for the first rule that a configuration breaks: what the code does, on lists. Nothing here has to be believed,
 -- since `Config::fault` says what it finds by `Checked` and `Faults` alone.
+--
+-- DDS 1.4, 2.2.1.1 (BAD_PARAMETER, INCONSISTENT_POLICY), 2.2.3.
 use Rattle.std.specs.Prelude.{ℕ, ◌+◌, ◌==◌, ◌||◌, Bool, not, List, [], ◌∷◌, length, nat_lt, Option, Some, None, if◌then◌else◌}
 use Rattle.std.specs.List.{list_any}
 use Rattle.dds_base.specs.declared.config.PeerConfig.{PeerConfig}

@@ -1,4 +1,6 @@
 -- What a death adds to the kept samples. Inner functions alone cite this: nothing here has to be believed.
+--
+-- DDS 1.4, 2.2.2.5 (instance_state, valid_data), 2.2.3 (LIVELINESS).
 use Rattle.std.specs.Prelude.{◌≡◌, ℕ, List, [], ◌∷◌, ◌++◌, All, ◌&&◌, if◌then◌else◌}
 use Rattle.std.specs.List.{list_any}
 use Rattle.dds_base.specs.declared.key.Key.{Key}

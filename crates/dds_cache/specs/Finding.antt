@@ -1,5 +1,7 @@
 -- The samples that an access finds among those that are kept. Inner functions alone cite this: nothing here has to be
 -- believed.
+--
+-- DDS 1.4, 2.2.2.5 (read, take: sample_states, view_states, instance_states).
 use Rattle.std.specs.Prelude.{◌≡◌, ℕ, ◌+◌, if◌then◌else◌, ◌<◌, ◌^◌, List, length, Bool, true, ◌&&◌, map, filter, All, Option, IsTrue, slice_index_or}
 use Rattle.std.specs.List.{list_any}
 use Rattle.dds_base.specs.declared.happening.SamplePosition.{SamplePosition}

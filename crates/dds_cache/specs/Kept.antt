@@ -1,5 +1,7 @@
 -- What is kept of a sample. Inner functions cite this, and what a cache stands for, which nobody looks into: nothing
 -- here has to be believed.
+--
+-- DDS 1.4, 2.2.2.5 (SampleInfo), 2.2.3 (HISTORY); RTPS 2.5, 8.2 (HistoryCache of a reader).
 use Rattle.std.specs.Prelude.{◌≡◌, ℕ, ◌+◌, ◌-◌, ◌≤◌, List, [], ◌∷◌, ◌++◌, All, if◌then◌else◌, length, Bool, true, false, ◌&&◌, ◌||◌, map, filter, IsTrue, Option}
 use Rattle.std.specs.List.{list_any}
 use Rattle.dds_base.specs.declared.key.Key.{Key}

@@ -1,5 +1,7 @@
 -- The samples that an access picks among those that it finds, by its form. Inner functions alone cite this: nothing here
 -- has to be believed.
+--
+-- DDS 1.4, 2.2.2.5 (read, take, and their instance, next-instance and next-sample forms).
 use Rattle.std.specs.Prelude.{◌≡◌, ℕ, List, [], ◌∷◌, All, map, filter, Bool, true, false, ◌==◌, nat_lt, Option, None, Some, Result, Ok, Err, ℤ, if◌then◌else◌}
 use Rattle.dds_base.specs.declared.code.Code.{Code}
 use Rattle.dds_base.specs.declared.code.Code.TheVariants.{BadParameter}

@@ -1,5 +1,7 @@
 -- The present writes of a reader, as they are counted among the kept samples. Inner functions alone cite this: nothing
 -- here has to be believed.
+--
+-- DDS 1.4, 2.2.3 (RESOURCE_LIMITS, HISTORY).
 use Rattle.std.specs.Prelude.{◌+◌, ◌-◌, List, Bool, ◌&&◌, ◌||◌, not}
 use Rattle.dds_base.specs.declared.happening.Happening.{Happening}
 use Rattle.dds_base.specs.declared.qos.ReaderQos.{ReaderQos}

@@ -1,4 +1,7 @@
 -- What is true of a cache as it is kept. Inner functions alone cite this: nothing here has to be believed.
+--
+-- What it is a cache for is in DDS 1.4, 2.2.2.5 (read, take), and RTPS 2.5, 8.2 (HistoryCache of a reader); memory
+-- and its room are this project's own.
 use Rattle.std.specs.Prelude.{◌≤◌, ◌<◌, ◌+◌, ◌^◌, All, vec_len, vec_capacity}
 use Rattle.dds_cache.specs.declared.reader_cache.ReaderCache.TheInside.{Inside}
 use Rattle.dds_cache.specs.Standing.{Stored}

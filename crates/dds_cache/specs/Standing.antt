@@ -1,5 +1,7 @@
 -- What contracts see of a reader's cache: what happened as it stands for it, and what an access answers and leaves.
 -- Nobody looks into `StandsFor`: what it has to say is in the clauses of each call.
+--
+-- DDS 1.4, 2.2.2.5 (read, take), 2.2.3 (HISTORY, RESOURCE_LIMITS); RTPS 2.5, 8.2 (HistoryCache of a reader).
 use Rattle.std.specs.Prelude.{Bool, ◌≡◌, ◌≢◌, ℕ, ◌<◌, ◌-◌, ◌^◌, min, List, [], ◌∷◌, length, filter, All, false, Option, None, Result, Ok, Err}
 use Rattle.dds_base.specs.declared.code.Code.{Code}
 use Rattle.dds_base.specs.declared.code.Code.TheVariants.{NoData}

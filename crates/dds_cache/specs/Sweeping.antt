@@ -1,4 +1,6 @@
 -- Which kept samples a sweep leaves. Inner functions alone cite this: nothing here has to be believed.
+--
+-- DDS 1.4, 2.2.3 (HISTORY).
 use Rattle.std.specs.Prelude.{List, Bool, true, Option, Some, None}
 use Rattle.dds_base.specs.declared.key.Key.{Key}
 use Rattle.dds_base.specs.declared.happening.Happening.{Happening}

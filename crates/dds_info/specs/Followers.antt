@@ -1,5 +1,7 @@
 -- The samples of the same instance that follow a sample in a collection. Inner functions alone cite this: nothing here has
 -- to be believed.
+--
+-- DDS 1.4, 2.2.2.5 (sample_rank, generation_rank, absolute_generation_rank).
 use Rattle.std.specs.Prelude.{◌≡◌, ℕ, List, [], ◌∷◌, Bool, false, count_by}
 use Rattle.dds_base.specs.declared.sample.Picked.{Picked}
 use Rattle.dds_base.specs.Access.{is_of, most_recent, own_generations}

@@ -1,4 +1,7 @@
 -- What is true of the instances as they are kept. Inner functions alone cite this: nothing here has to be believed.
+--
+-- What is kept of instances is in DDS 1.4, 2.2.2.5 (SampleInfo); the index, memory and its room are this project's
+-- own.
 use Rattle.std.specs.Prelude.{◌≡◌, ◌+◌, ◌<◌, ◌≤◌, ◌^◌, map, count_by, All, vec_len, vec_capacity}
 use Rattle.indexmap.specs.IndexSet.{spare}
 use Rattle.dds_instances.specs.declared.instances.Instances.TheInside.{Inside}

@@ -1,5 +1,7 @@
 -- When what is kept of the instances stands for what happened. Public contracts name the counts of it, and look no further
 -- into it.
+--
+-- DDS 1.4, 2.2.2.5 (SampleInfo: instance_handle, instance_state, view_state, the two generation counts).
 use Rattle.std.specs.Prelude.{◌≡◌, ◌≢◌, ℕ, zero, suc, slice_get, ◌<◌, List, [], length, map, count_by, All, Bool, false, Option, None, slice_index_or}
 use Rattle.std.specs.List.{list_any}
 use Rattle.std.specs.Option.{option_and_then}

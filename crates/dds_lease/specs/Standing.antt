@@ -1,4 +1,6 @@
 -- When what is kept of the leases of a reader's matched writers stands for what happened at that reader.
+--
+-- DDS 1.4, 2.2.3 (LIVELINESS), 2.2.4.1 (LIVELINESS_CHANGED).
 use Rattle.std.specs.Prelude.{◌≡◌, ℕ, List, count_by, length, map, filter, nat_lt}
 use Rattle.dds_base.specs.declared.happening.Happening.{Happening}
 use Rattle.dds_base.specs.declared.qos.ReaderQos.{ReaderQos}

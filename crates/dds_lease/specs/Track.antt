@@ -1,5 +1,7 @@
 -- What is known of the liveliness of one matched writer. Public contracts count the leases that are over by it, and look no
 -- further into it.
+--
+-- DDS 1.4, 2.2.3 (LIVELINESS: lease_duration), 2.2.4.1 (LIVELINESS_CHANGED).
 use Rattle.std.specs.Prelude.{ℕ, ◌+◌, Bool, true, false, ◌&&◌, not, nat_lt, List, [], ◌∷◌, Option, Some, None, is_some, if◌then◌else◌}
 use Rattle.std.specs.List.{list_any}
 use Rattle.dds_base.specs.declared.happening.Happening.{Happening}

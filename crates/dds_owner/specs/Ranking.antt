@@ -1,5 +1,7 @@
 -- Which of the registered writers comes first. Inner functions alone cite this: nothing here has to be
 -- believed.
+--
+-- DDS 1.4, 2.2.3 (OWNERSHIP, OWNERSHIP_STRENGTH).
 use Rattle.std.specs.Prelude.{ℕ, List, [], ◌∷◌, Bool, true, ◌&&◌, ◌||◌, ◌==◌, not, Option, Some, None, if◌then◌else◌}
 use Rattle.std.specs.List.{list_all}
 use Rattle.dds_base.specs.declared.change.ChangeKind.{ChangeKind}

@@ -1,5 +1,7 @@
 -- Who is registered for an instance, as a list with an entry for each matched writer. Inner functions alone
 -- cite this: nothing here has to be believed.
+--
+-- DDS 1.4, 2.2.2.4 (register_instance, unregister_instance), 2.2.3 (LIVELINESS).
 use Rattle.std.specs.Prelude.{ℕ, zero, suc, ◌+◌, List, [], ◌∷◌, Bool, false, ◌&&◌, ◌==◌, if◌then◌else◌}
 use Rattle.std.specs.List.{list_any}
 use Rattle.dds_base.specs.declared.key.Key.{Key}

@@ -1,4 +1,6 @@
 -- When what is kept of the registrations for an instance stands for what happened at a reader.
+--
+-- DDS 1.4, 2.2.3 (OWNERSHIP, LIVELINESS), 2.2.2.4 (register_instance, unregister_instance).
 use Rattle.std.specs.Prelude.{◌≡◌, List, map, Bool}
 use Rattle.std.specs.List.{list_any}
 use Rattle.dds_base.specs.declared.key.Key.{Key}
