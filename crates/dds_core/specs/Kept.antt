@@ -1,4 +1,7 @@
 -- What a peer keeps: what never changes, which the configuration says, and what events change.
+--
+-- RTPS 2.5, 8.2 (Participant, Endpoint), 8.4.7 (StatefulWriter, ReaderProxy), 8.4.10 (StatefulReader,
+-- WriterProxy).
 use Rattle.std.specs.Prelude.{◌≡◌, ◌≤◌, ℕ, Bool, List, length, map, None}
 use Rattle.dds_base.specs.declared.config.Config.{Config}
 use Rattle.dds_base.specs.declared.config.PeerConfig.{PeerConfig}

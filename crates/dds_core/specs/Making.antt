@@ -1,5 +1,7 @@
 -- What a peer does when one of its writers is to make a change. Inner functions alone cite this: nothing here has to be
 -- believed.
+--
+-- DDS 1.4, 2.2.2.4 (write, dispose, unregister_instance); RTPS 2.5, 8.4.7 (StatefulWriter).
 use Rattle.std.specs.Prelude.{◌≡◌, ◌≢◌, ◌⊎◌, ℕ, ◌+◌, Contains, [], None, List}
 use Rattle.dds_base.specs.declared.change.Change.{Change}
 use Rattle.dds_base.specs.declared.change.ChangeKind.{ChangeKind}

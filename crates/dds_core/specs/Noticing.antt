@@ -1,5 +1,7 @@
 -- What is kept of a peer before an event, and what telling its listeners does. Inner functions alone cite this: nothing here
 -- has to be believed.
+--
+-- DDS 1.4, 2.2.4.1 (communication statuses), 2.2.4.2 (listeners).
 use Rattle.std.specs.Prelude.{◌≡◌, ℕ, suc, ◌<◌, ◌≤◌, List, length, slice_get, Option, Some, ℤ}
 use Rattle.dds_base.specs.declared.config.Config.{Config}
 use Rattle.dds_base.specs.Statuses.{lost_count}

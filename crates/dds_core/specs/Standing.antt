@@ -1,5 +1,8 @@
 -- What a peer stands for: each of its writers for a writer of the machine, each of its readers for a reader, and what
 -- never changes for what the configuration says of it.
+--
+-- RTPS 2.5, 8.4.7 (StatefulWriter, ReaderProxy), 8.4.10 (StatefulReader, WriterProxy): the machine has them
+-- without packets.
 use Rattle.std.specs.Prelude.{◌≡◌, ℕ, suc, ◌^◌, ◌<◌, ◌≤◌, List, [], map, length, get_or, slice_get, Option, Some, ℤ, All}
 use Rattle.std.specs.List.{AllZip}
 use Rattle.dds_base.specs.declared.config.Config.{Config}

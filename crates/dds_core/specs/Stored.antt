@@ -1,5 +1,8 @@
 -- What a reader stores. But for what it is made of (`StoreKept`), inner functions alone cite this: nothing else here has to
 -- be believed.
+--
+-- RTPS 2.5, 8.2 (HistoryCache of a reader); DDS 1.4, 2.2.3 (LIVELINESS), 2.2.4.1 (SAMPLE_LOST,
+-- LIVELINESS_CHANGED).
 use Rattle.std.specs.Prelude.{◌≡◌, ℕ, ◌+◌, ◌-◌, ◌^◌, min, List}
 use Rattle.dds_base.specs.declared.happening.Happening.{Happening}
 use Rattle.dds_base.specs.Statuses.{lost_count}

@@ -1,4 +1,7 @@
 -- What a peer knows is what the packets that came to it claim.
+--
+-- A notion of this project, of what a reader knows by RTPS 2.5, 8.4.10 (WriterProxy, ChangeFromWriter), and a
+-- packet says by 8.3.8.
 use Rattle.std.specs.Prelude.{◌≡◌, ℕ, ◌≤◌, true, false, List, Some, ℤ, Contains}
 use Rattle.dds_base.specs.declared.change.Change.{Change}
 use Rattle.dds_base.specs.declared.config.Config.{Config}

@@ -1,4 +1,6 @@
 -- No reader's place goes past the end of a writer's list.
+--
+-- A law of this project, of RTPS 2.5, 8.4.10 (WriterProxy).
 use Rattle.std.specs.Prelude.{◌≡◌, ℕ, ◌+◌, ◌≤◌, Some, List, length}
 use Rattle.dds_base.specs.declared.config.Config.{Config}
 use Rattle.dds_model.specs.declared.endpoint.Endpoint.{Endpoint}

@@ -1,4 +1,7 @@
 -- The changes that came at a reader are the first ones of the writer's list.
+--
+-- A law of this project, of DDS 1.4, 2.2.3 (RELIABILITY; HISTORY: KEEP_ALL) and RTPS 2.5, 8.2 (HistoryCache,
+-- add_change).
 use Rattle.std.specs.Prelude.{◌≡◌, ℕ, ◌+◌, ◌==◌, if◌then◌else◌, Some, IsSome, List, [], ◌∷◌, ◌++◌, length}
 use Rattle.dds_base.specs.declared.change.Change.{Change}
 use Rattle.dds_base.specs.declared.config.Config.{Config}

@@ -1,4 +1,7 @@
--- What holds of every network and every run.
+-- What holds of every network and every run, by the definitions of the machine, of claims and of the protocol.
+--
+-- The laws are this project's own; what they speak of is in RTPS 2.5, 8.3.8 and 8.4 (behaviour), and DDS 1.4,
+-- 2.2.3 (HISTORY: KEEP_ALL; OWNERSHIP).
 use Rattle.std.specs.Prelude.{◌≡◌, ◌≢◌, ℕ, ◌≤◌, Some, None, IsSome, List, [], ◌∷◌, length, Contains}
 use Rattle.std.specs.List.{All}
 use Rattle.dds_base.specs.declared.config.Config.{Config}

@@ -1,5 +1,8 @@
 -- The machine without packets: each writer is a list of changes, and each matched reader has a place in it that goes over
 -- changes which come, and passes over those alone that the writer's history had dropped.
+--
+-- No clause has this machine: it is what RTPS 2.5, 8.4.9 (reliable StatefulWriter) and 8.4.12 (reliable
+-- StatefulReader) come to, whatever becomes of packets; HISTORY (DDS 1.4, 2.2.3) says what is dropped.
 use Rattle.std.specs.Prelude.{◌≡◌, ◌⊎◌, ℕ, ◌<◌, ◌≤◌, true, List, Option, Some}
 use Rattle.dds_base.specs.declared.code.Code.TheVariants.{BadParameter}
 use Rattle.dds_base.specs.Kept.{change_at, is_dropped}

@@ -1,4 +1,6 @@
 -- Lists whose elements are numbered from 1.
+--
+-- No clause has these numbers: peers, writers, readers and packets go by them here. GUIDs are in RTPS 2.5, 8.2.
 use Rattle.std.specs.Prelude.{ℕ, zero, suc, ◌≤◌, List, get_or, set, length, Bool, ◌&&◌, nat_le, nat_lt}
 
 -- the element of this number, or the one given where there is none

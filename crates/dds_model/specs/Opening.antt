@@ -1,5 +1,8 @@
 -- The opening of a configuration: writers and readers of equal topic are matched, nothing has happened, each place is 1
 -- and nothing is acknowledged.
+--
+-- DDS 1.4, 2.2.2.3, 2.2.3 (policies of matched entities); RTPS 2.5, 8.4.7 (matched_readers), 8.4.10
+-- (matched_writers).
 use Rattle.std.specs.Prelude.{ℕ, ◌+◌, List, [], ◌∷◌, length, map, None}
 use Rattle.dds_base.specs.declared.config.Config.{Config}
 use Rattle.dds_base.specs.declared.config.PeerConfig.{PeerConfig}

@@ -1,5 +1,8 @@
 -- One peer: what it keeps to, its part of the machine, and what was delivered to it. Its step rests on what delivered
 -- packets claim, and what it sends claims only what is true of its own lists and places.
+--
+-- RTPS 2.5, 8.2 (Participant), 8.4 (behaviour). That packets make claims, on which a step rests, is a notion of
+-- this project.
 use Rattle.std.specs.Prelude.{◌≡◌, ◌⊎◌, ℕ, ◌<◌, true, List, [], ◌∷◌, map, Option, Some, None, ℤ, ◌<ℤ◌, Contains}
 use Rattle.dds_base.specs.declared.config.Config.{Config}
 use Rattle.dds_base.specs.declared.guid.GuidPrefix.{GuidPrefix}

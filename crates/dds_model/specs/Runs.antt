@@ -1,4 +1,6 @@
 -- Runs: replies to lists of events, with the packets that are sent meanwhile.
+--
+-- Runs are this project's own. What is sent in them is in RTPS 2.5, 8.4.7 (StatefulWriter), 8.4.9 and 8.4.12.
 use Rattle.std.specs.Prelude.{◌≡◌, ◌≢◌, ◌⊎◌, ℕ, ◌+◌, ◌-◌, ◌^◌, List, [], ◌∷◌, ◌++◌, length, min, IsSome, Contains, AllPairs}
 use Rattle.dds_base.specs.declared.change.Change.{Change}
 use Rattle.dds_base.specs.declared.config.Config.{Config}

@@ -1,4 +1,7 @@
 -- A network: peers, and all packets that were ever sent, of which an event delivers any one, at any peer.
+--
+-- This network is this project's own: it loses, repeats and reorders packets at will, which reliable writers and
+-- readers are to bear (RTPS 2.5, 8.4.9, 8.4.12).
 use Rattle.std.specs.Prelude.{◌≡◌, ◌⊎◌, ℕ, ◌-◌, ◌<◌, ◌≤◌, true, Some, List, ◌++◌, length, slice_get, map, Contains}
 use Rattle.dds_base.specs.declared.code.Code.TheVariants.{BadParameter}
 use Rattle.dds_base.specs.declared.config.Config.{Config}

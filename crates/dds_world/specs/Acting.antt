@@ -1,5 +1,7 @@
 -- What an event of one peer does to the network, and how the peers are opened. Inner functions alone cite this: nothing
 -- here has to be believed.
+--
+-- The network is this project's own; its peers behave by RTPS 2.5, 8.4, and their listeners by DDS 1.4, 2.2.4.2.
 use Rattle.std.specs.Prelude.{◌≡◌, ℕ, suc, ◌+◌, ◌-◌, ◌^◌, ◌≤◌, min, List, length, set, get_or, slice_get, Some, None, []}
 use Rattle.dds_base.specs.declared.config.Config.{Config}
 use Rattle.dds_base.specs.Checked.{check_refusal}

@@ -1,4 +1,6 @@
 -- The stages of a round, by what a network keeps. Inner functions alone cite this: nothing here has to be believed.
+--
+-- RTPS 2.5, 8.4.9 (reliable StatefulWriter), 8.4.12 (reliable StatefulReader).
 use Rattle.std.specs.Prelude.{◌≡◌, ◌⊎◌, ℕ, List, [], ◌∷◌, ◌++◌, length, IsSome, None}
 use Rattle.dds_base.specs.declared.config.Config.{Config}
 use Rattle.rtps_wire.specs.declared.seek.Sought.TheVariants as sought

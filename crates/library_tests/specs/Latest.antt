@@ -1,4 +1,6 @@
 -- What a listener keeps that keeps the latest notice alone.
+--
+-- DDS 1.4, 2.2.4.2 (Listener).
 use Rattle.std.specs.Prelude.{List, [], ◌∷◌, Option, None, Some}
 
 -- the notice, if there is one
