@@ -1,4 +1,6 @@
 //! Where the changes go that a reader hands on.
+//!
+//! RTPS 2.5, 8.2 (HistoryCache of a reader, add_change).
 
 ghost use Rattle.std.specs.Prelude.{◌≡◌, ℕ, ◌+◌, ◌≤◌, List, ◌∷◌, OnOk, OnErr, IsOk, IfErr};
 ghost use Rattle.dds_base.specs.declared.code.Code.TheVariants.{Memory};

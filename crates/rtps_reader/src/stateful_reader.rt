@@ -1,4 +1,6 @@
 //! A reliable reader and its matched writers.
+//!
+//! RTPS 2.5, 8.4.10 (StatefulReader), 8.4.12.
 
 ghost use Rattle.std.specs.Prelude.{◌≡◌, ℕ, ◌+◌, ◌-◌, ◌^◌, ◌<◌, ◌≤◌, List, length, true, false, OnOk, OnErr, IsOk, IfOk, IfErr, IfSome};
 ghost use Rattle.dds_base.specs.declared.code.Code.TheVariants.{Memory};

@@ -1,4 +1,6 @@
 //! What a submessage of a writer says to a reader, and what it did there.
+//!
+//! RTPS 2.5, 8.3.8 (Heartbeat, AckNack), 8.4.12 (reliable StatefulReader).
 
 use dds_base::{PassedRun, Sequence, Sn};
 use rtps_sets::SnSet;

@@ -1,4 +1,6 @@
 //! What a reader keeps of one matched writer.
+//!
+//! RTPS 2.5, 8.4.10 (WriterProxy, ChangeFromWriter).
 
 ghost use Rattle.std.specs.Prelude.{◌≡◌, ◌≢◌, ℕ, ◌+◌, ◌-◌, ◌*◌, ◌^◌, ◌<◌, ◌≤◌, ◌&&◌, ◌||◌, ◌==◌, min, List, ◌∷◌, ◌++◌, [], length, Bool, true, false, nat_lt, nat_le, is_none, None, Some, if◌then◌else◌, slice_index_or, OnOk, OnErr, IsOk, IfOk, IfErr, IfSome, IfNone, vec_len, vec_capacity};
 ghost use Rattle.dds_base.specs.declared.code.Code.TheVariants.{Memory};

@@ -1,4 +1,6 @@
 //! A set of sequence numbers from its base on.
+//!
+//! RTPS 2.5, 8.3.5.5 (SequenceNumberSet).
 
 ghost use Rattle.std.specs.Prelude.{◌≡◌, ◌≤◌, ◌<◌, ◌+◌, ◌-◌, ◌==◌, ◌||◌, ℕ, false, true, IsTrue, length, slice_set};
 ghost use Rattle.rtps_sets.specs.NumberSet.{empty_from, has_number, span};

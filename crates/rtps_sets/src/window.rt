@@ -1,4 +1,6 @@
 //! The numbers of one writer that a reader has heard of but not yet passed.
+//!
+//! RTPS 2.5, 8.4.10 (ChangeFromWriter: status), 8.4.12.
 
 ghost use Rattle.std.specs.Prelude.{◌≡◌, ◌≤◌, ◌<◌, ◌+◌, ◌&&◌, ◌==◌, ℕ, false, nat_le, is_none, max, Some, None, Ok, IsTrue, IsOk, IsSome, IfOk, IfErr, OnOk, OnErr, filter, vec_len, vec_capacity, if◌then◌else◌};
 ghost use Rattle.dds_base.specs.declared.code.Code.TheVariants.{Memory};

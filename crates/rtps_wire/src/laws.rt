@@ -1,4 +1,6 @@
 //! What holds of every message, and of every change and what a DATA says of it. The functions do nothing.
+//!
+//! RTPS 2.5, 8.2 (CacheChange), 8.3 (messages) and 9.4 (their bytes).
 
 ghost use Rattle.std.specs.Prelude.{◌≡◌, ◌≤◌, ◌^◌, ℕ, List, length};
 ghost use Rattle.std.specs.List.{AllByRecursion};

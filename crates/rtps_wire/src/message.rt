@@ -1,4 +1,6 @@
 //! What a peer sends in one packet.
+//!
+//! RTPS 2.5, 8.3.2 and 9.4.4.
 
 use crate::submessage::Submessages;
 use dds_base::GuidPrefix;

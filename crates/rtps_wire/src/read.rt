@@ -1,4 +1,6 @@
 //! Bytes to messages.
+//!
+//! RTPS 2.5, 8.3.4 (the message receiver) and 9.4.
 
 ghost use Rattle.std.specs.Prelude.{◌≡◌, ◌+◌, ◌≤◌, ◌<◌, ℕ, List, length, IfOk, IfErr, IfSome, MatchResult, Some};
 ghost use Rattle.rtps_wire.specs.SubmessageAt.{known_at};

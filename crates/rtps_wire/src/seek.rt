@@ -1,4 +1,6 @@
 //! Whether a message has a certain submessage. No memory is needed to look for it.
+//!
+//! RTPS 2.5, 8.3.4 and 8.3.8.
 
 ghost use Rattle.std.specs.Prelude.{◌↔◌, ℕ, IsTrue, List};
 ghost use Rattle.std.specs.Option.{unwrap_or};

@@ -1,4 +1,6 @@
 //! What a message is made of.
+//!
+//! RTPS 2.5, 8.3.4 and 9.4.5.
 
 ghost use Rattle.std.specs.Prelude.{◌≡◌};
 

@@ -1,4 +1,6 @@
 //! Messages to bytes.
+//!
+//! RTPS 2.5, 8.3.2 and 9.4.
 
 ghost use Rattle.std.specs.Prelude.{◌≡◌, ◌<◌, ◌≤◌, [], ◌++◌, length, replicate, OnOk, IfOk, IfErr, IsTrue, ◌↔◌};
 ghost use Rattle.rtps_wire.specs.Submessages.{id_of, flags_of, text_of, padding, IsSpellable, spelling_of_submessage};

@@ -1,4 +1,6 @@
 //! The answers to a reader that asks for changes.
+//!
+//! RTPS 2.5, 8.4.9 (ReaderProxy, requested_changes), 8.3.8 (AckNack, Data, Gap).
 
 ghost use Rattle.std.specs.Prelude.{◌≡◌, ◌≤◌, ◌<◌, ◌+◌, ℕ, [], ◌∷◌, vec_len, vec_capacity, length};
 ghost use Rattle.dds_base.specs.Kept.{WriterHistory, is_kept};

@@ -1,4 +1,6 @@
 //! The HEARTBEAT that a tick asks for, or that tells an assertion.
+//!
+//! RTPS 2.5, 8.4.9 (reliable StatefulWriter: heartbeatPeriod), 8.3.8 (Heartbeat), 8.7.2.2 (LIVELINESS).
 
 use dds_base::Sn;
 

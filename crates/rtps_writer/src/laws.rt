@@ -1,4 +1,6 @@
 //! What holds of the answers to an ACKNACK: functions that do nothing, and whose clauses are the laws.
+//!
+//! RTPS 2.5, 8.4.9 (ReaderProxy, requested_changes, acked_changes_set).
 
 ghost use Rattle.std.specs.Prelude.{◌≡◌, ◌≤◌, ◌<◌, ℕ, ℤ, Option, length, true};
 ghost use Rattle.std.specs.List.{All, list_any};

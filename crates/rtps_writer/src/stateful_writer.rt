@@ -1,4 +1,6 @@
 //! A writer with its matched reliable readers.
+//!
+//! RTPS 2.5, 8.4.7 (StatefulWriter), 8.4.9 (ReaderProxy).
 
 ghost use Rattle.std.specs.Prelude.{◌≡◌, ◌≤◌, ◌<◌, ◌+◌, ◌-◌, ◌^◌, pos, [], nat_lt, length, vec_capacity, None, Some, IfOk, IfErr, OnOk, OnErr};
 ghost use Rattle.std.specs.Option.{option_copied};
