@@ -1,4 +1,6 @@
 //! What a writer does to an instance.
+//!
+//! RTPS 2.5, 8.2 (CacheChange, ChangeKind_t); DDS 1.4, 2.2.2.4 (write, dispose, unregister_instance).
 
 ghost use Rattle.std.specs.Prelude.{◌≡◌};
 ghost use Rattle.dds_base.specs.Happening.{is_unregister, is_write_or_dispose};

@@ -1,4 +1,6 @@
 //! Which configurations are taken, and why the others are not.
+//!
+//! DDS 1.4, 2.2.1.1 (BAD_PARAMETER, INCONSISTENT_POLICY), 2.2.3 (supported QoS).
 
 ghost use Rattle.std.specs.Prelude.{◌≡◌, None, Some, IfOk, IfErr, IfSome, IfNone};
 ghost use Rattle.dds_base.specs.Checked.{check_refusal};

@@ -1,4 +1,6 @@
 //! Which rule a configuration breaks, and where.
+//!
+//! DDS 1.4, 2.2.1.1 (BAD_PARAMETER, INCONSISTENT_POLICY), 2.2.3 (supported QoS).
 
 ghost use Rattle.std.specs.Prelude.{◌≡◌};
 ghost use Rattle.dds_base.specs.Faults.{code_of_rule};

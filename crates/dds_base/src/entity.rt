@@ -1,4 +1,6 @@
 //! The entities of a peer.
+//!
+//! DDS 1.4, 2.2.2.1 (Entity).
 
 /// The participant, a writer or a reader of a peer. Writers and readers are numbered from 1, in the order of the
 /// configuration.

@@ -1,4 +1,6 @@
 //! The handle of an instance or of a writer.
+//!
+//! DDS 1.4, 2.2.2.5 (instance_handle, publication_handle).
 
 ghost use Rattle.std.specs.Prelude.{◌≡◌};
 

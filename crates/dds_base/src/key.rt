@@ -1,4 +1,6 @@
 //! The key of an instance.
+//!
+//! RTPS 2.5, 9.6 (key hash).
 
 ghost use Rattle.std.specs.Prelude.{◌≡◌, length};
 

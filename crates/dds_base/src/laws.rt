@@ -1,4 +1,7 @@
 //! What holds of the definitions and the constants: functions that do nothing, and whose clauses are the laws.
+//!
+//! DDS 1.4, 2.2.2.5 (masks, handles), 2.2.3 (OWNERSHIP); RTPS 2.5, 9.3 (entity kinds), clause 10
+//! (SerializedPayload).
 
 ghost use Rattle.std.specs.Prelude.{◌≡◌, ◌≢◌, ◌↔◌, ◌≤◌, ◌+◌, ℕ, List, [], ◌∷◌, IsTrue, IsSome, Some, None, length, replicate, true};
 ghost use Rattle.dds_base.specs.Access.{sample_state_bit, view_state_bit, instance_state_bit, meets, instance_of, not_read};

@@ -1,6 +1,8 @@
 //! What every crate of a peer speaks of: keys, values and their bytes, names, numbers, changes, what happens at a
 //! reader, and the configuration.
 //!
+//! DDS 1.4, 2.2.1.1 (return codes), 2.2.2.5 (SampleInfo), 2.2.3 (supported QoS); RTPS 2.5, 8.2 (names, numbers,
+//! changes), clause 10 (the bytes of a datum).
 //! `specs/` holds the definitions that the contracts of several crates share.
 //! Not here: what a writer keeps, what a reader holds, and messages.
 #![tactic(auto)]

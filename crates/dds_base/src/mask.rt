@@ -1,4 +1,6 @@
 //! The states that a call asks for, as sets of bits.
+//!
+//! DDS 1.4, 2.2.2.5 (SampleStateMask, ViewStateMask, InstanceStateMask), 2.3.3.
 
 ghost use Rattle.std.specs.Prelude.{⊤, List, [], ◌∷◌, codes};
 

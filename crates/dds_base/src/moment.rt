@@ -1,4 +1,6 @@
 //! A moment of a peer.
+//!
+//! DDS 1.4, 2.3.3 (Time_t); RTPS 2.5, 9.3.
 
 ghost use Rattle.std.specs.Prelude.{◌≡◌};
 

@@ -1,4 +1,6 @@
 //! The QoS policies of writers and readers, behind a checked configuration.
+//!
+//! DDS 1.4, 2.2.3 (supported QoS).
 
 use crate::guid::Guid;
 use crate::sequence::Sequence;

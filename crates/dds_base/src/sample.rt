@@ -1,4 +1,6 @@
 //! What a read or a take says of a sample.
+//!
+//! DDS 1.4, 2.2.2.5 (SampleInfo).
 
 ghost use Rattle.std.specs.Prelude.{◌≡◌};
 

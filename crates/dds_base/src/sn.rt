@@ -1,4 +1,6 @@
 //! The number of a change.
+//!
+//! RTPS 2.5, 8.2 (SequenceNumber_t).
 
 ghost use Rattle.std.specs.Prelude.{◌≡◌};
 

@@ -1,4 +1,6 @@
 //! The samples of a reader and its instances, kept up with what happens.
+//!
+//! DDS 1.4, 2.2.2.5 (read, take, SampleInfo); RTPS 2.5, 8.2 (HistoryCache of a reader).
 
 ghost use Rattle.std.specs.Prelude.{◌≡◌, ◌==◌, ℕ, ◌+◌, ◌≤◌, ◌∷◌, [], if◌then◌else◌, nat_lt, List, length, All, IsOk, OnOk, OnErr, IfOk, IfErr};
 ghost use Rattle.dds_base.specs.declared.happening.Happening.{Happening};

@@ -1,4 +1,6 @@
 //! The test by which an access picks.
+//!
+//! DDS 1.4, 2.2.2.5 (QueryCondition).
 
 ghost use Rattle.std.specs.Prelude.{◌≡◌};
 

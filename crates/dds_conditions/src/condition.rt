@@ -1,4 +1,6 @@
 //! The conditions of a peer.
+//!
+//! DDS 1.4, 2.2.2.1 (Condition, GuardCondition, StatusCondition), 2.2.2.5 (ReadCondition, QueryCondition).
 
 use dds_base::{Entity, Masks};
 

@@ -1,4 +1,6 @@
 //! What a query condition asks of a sample.
+//!
+//! DDS 1.4, 2.2.2.5 (QueryCondition).
 
 ghost use Rattle.std.specs.Prelude.{◌≡◌};
 

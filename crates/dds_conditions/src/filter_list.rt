@@ -1,4 +1,6 @@
 //! The filters of a peer, in a list.
+//!
+//! DDS 1.4, 2.2.2.5 (QueryCondition).
 
 ghost use Rattle.std.specs.Prelude.{◌≡◌, ◌++◌, ◌∷◌, [], OnOk, OnErr, IfErr};
 ghost use Rattle.std.specs.Option.{option_copied};

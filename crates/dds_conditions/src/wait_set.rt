@@ -1,4 +1,6 @@
 //! What an application waits for.
+//!
+//! DDS 1.4, 2.2.2.1 (WaitSet: attach_condition, detach_condition, wait).
 
 ghost use Rattle.std.specs.Prelude.{◌≡◌, [], Bool, true, filter, IsOk, IfOk, IfErr, OnOk, OnErr, None, Some};
 ghost use Rattle.std.specs.Fn.{CalledAt};

@@ -1,4 +1,6 @@
 //! A WaitSet, and who waits in it.
+//!
+//! DDS 1.4, 2.2.2.1 (WaitSet, wait: timeout).
 
 use crate::wait_set::WaitSet;
 use dds_base::Moment;

@@ -1,4 +1,6 @@
 //! The changes that a history holds, with how many more of their keys each of them outlives.
+//!
+//! DDS 1.4, 2.2.3 (HISTORY); RTPS 2.5, 8.2 (HistoryCache, CacheChange).
 
 ghost use Rattle.std.specs.Prelude.{◌≡◌, ◌+◌, ◌==◌, find, map, filter, IfErr, OnOk, OnErr};
 ghost use Rattle.std.specs.Option.{option_copied};

@@ -1,4 +1,6 @@
 //! The history of a writer.
+//!
+//! DDS 1.4, 2.2.3 (HISTORY, RESOURCE_LIMITS); RTPS 2.5, 8.2 (HistoryCache).
 
 ghost use Rattle.std.specs.Prelude.{◌≡◌, ◌+◌, ◌^◌, ◌<◌, ◌≤◌, None, [], length, replicate, slice_index, IfOk, IfErr, OnErr};
 ghost use Rattle.std.specs.Option.{option_copied};

@@ -1,4 +1,6 @@
 //! The instances of a reader, kept up with what happens at it.
+//!
+//! DDS 1.4, 2.2.2.5 (SampleInfo: instance_handle, instance_state, view_state, the two generation counts).
 
 ghost use Rattle.std.specs.Prelude.{◌≡◌, ◌+◌, ◌≤◌, ◌<◌, ◌^◌, ◌∷◌, [], List, ℕ, length, All, IsOk, OnOk, OnErr, IfErr, IfOk, IfSome, None, MatchOption};
 ghost use Rattle.std.specs.Option.{option_map};

@@ -1,4 +1,6 @@
 //! What an entry changes at the instances that are kept.
+//!
+//! DDS 1.4, 2.2.2.5 (SampleInfo: instance_state, view_state, the two generation counts), 2.2.3 (LIVELINESS).
 
 ghost use Rattle.std.specs.Prelude.{◌≡◌, ◌+◌, ◌<◌, ◌≤◌, ◌++◌, ◌∷◌, [], List, ℕ, true, false, None, option_copied, is_some, IsTrue, MatchOption, IfSome, IfErr, OnOk, map, count_by, length, All, vec_len, vec_capacity, take};
 ghost use Rattle.std.specs.List.{list_any};

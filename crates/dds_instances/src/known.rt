@@ -1,4 +1,6 @@
 //! What is told of an instance.
+//!
+//! DDS 1.4, 2.2.2.5 (SampleInfo: instance_state, view_state, the two generation counts).
 
 ghost use Rattle.std.specs.Prelude.{◌≡◌, ◌+◌, ◌<◌, ◌^◌, if◌then◌else◌};
 ghost use Rattle.dds_base.specs.Access.{state_of_known};

@@ -1,4 +1,6 @@
 //! Where an instance is kept.
+//!
+//! DDS 1.4, 2.2.2.5 (lookup_instance).
 
 ghost use Rattle.std.specs.Prelude.{◌≡◌, ◌+◌, ◌<◌, ◌≤◌, ◌++◌, ◌∷◌, [], false, MatchOption, vec_len, vec_capacity};
 ghost use Rattle.std.specs.List.{list_any};

@@ -1,4 +1,6 @@
 //! What holds of leases and deaths: functions that do nothing, and whose clauses are the laws.
+//!
+//! DDS 1.4, 2.2.3 (LIVELINESS: lease_duration).
 
 ghost use Rattle.std.specs.Prelude.{◌≡◌, ℕ, List, [], ◌∷◌};
 ghost use Rattle.dds_base.specs.declared.happening.Happening.{Happening};

@@ -1,4 +1,6 @@
 //! What is known of the liveliness of one matched writer.
+//!
+//! DDS 1.4, 2.2.3 (LIVELINESS: lease_duration).
 
 ghost use Rattle.std.specs.Prelude.{◌≡◌, ◌-◌, ◌<◌, ◌≤◌, length, get_or, map, IfOk, IfSome, count_by, true};
 ghost use Rattle.dds_lease.specs.declared.track.LeaseTrack.{LeaseTrack};

@@ -1,4 +1,6 @@
 //! Whoever is told of statuses.
+//!
+//! DDS 1.4, 2.2.4.2 (Listener).
 
 ghost use Rattle.std.specs.Prelude.{◌≡◌};
 

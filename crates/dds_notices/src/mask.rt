@@ -1,4 +1,6 @@
 //! Sets of communication statuses.
+//!
+//! DDS 1.4, 2.3.3 (StatusMask), 2.2.4.1 (communication statuses).
 
 ghost use Rattle.std.specs.Prelude.{⊤, ◌≡◌, [], ◌∷◌, codes};
 

@@ -1,4 +1,6 @@
 //! A listener that only keeps what it is told.
+//!
+//! DDS 1.4, 2.2.4.2 (Listener).
 
 ghost use Rattle.std.specs.Prelude.{◌≡◌, IfOk, IfErr, OnOk, None};
 ghost use Rattle.dds_base.specs.Refusal.{Refuses};

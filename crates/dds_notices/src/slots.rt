@@ -1,4 +1,7 @@
 //! The listeners of a peer's entities.
+//!
+//! DDS 1.4, 2.2.2.1 (Entity: set_listener), 2.2.4.2 (listeners: the one of the entity, or else of what contains
+//! it).
 
 ghost use Rattle.std.specs.Prelude.{◌≡◌, ◌-◌, true, Option, set, replicate, length, is_some, None, Some, IfOk, IfErr, OnErr};
 ghost use Rattle.std.specs.List.{list_any};

@@ -1,4 +1,6 @@
 //! What holds of registrations: functions that do nothing, and whose clauses are the laws.
+//!
+//! DDS 1.4, 2.2.2.4 (register_instance, unregister_instance), 2.2.3 (LIVELINESS).
 
 ghost use Rattle.std.specs.Prelude.{◌≡◌, ◌∷◌, [], ℕ, List, false};
 ghost use Rattle.dds_base.specs.declared.happening.Arrival.{Arrival};

@@ -1,4 +1,6 @@
 //! Which of the registered writers comes first.
+//!
+//! DDS 1.4, 2.2.3 (OWNERSHIP, OWNERSHIP_STRENGTH).
 
 ghost use Rattle.std.specs.Prelude.{◌≡◌, None, Some, option_copied, if◌then◌else◌};
 ghost use Rattle.std.specs.List.{list_all};
