@@ -1,4 +1,6 @@
 //! A peer with the filters and the listeners of its application, and the one way in.
+//!
+//! DDS 1.4, 2.2.2.1 (Entity, set_listener), 2.2.2.5 (QueryCondition), 2.2.4.2 (listeners).
 
 ghost use Rattle.std.specs.Prelude.{◌≡◌, [], None, IfErr, IfOk, OnErr};
 ghost use Rattle.dds_base.specs.Refusal.{Refuses};

@@ -1,4 +1,6 @@
 //! The test of a condition.
+//!
+//! DDS 1.4, 2.2.2.5 (QueryCondition).
 
 use dds_base::Key;
 use dds_cache::Test;

@@ -1,5 +1,7 @@
 //! One peer: its writers and readers, and what its calls, its time and the packets that come to it do to them.
 //!
+//! DDS 1.4, 2.2.2.1, 2.2.2.4 and 2.2.2.5 (Entity, DataWriter, DataReader); RTPS 2.5, 8.2 (Participant), 8.4
+//! (behaviour).
 //! Not here: the network between peers (`dds_world`), the bytes of messages (`rtps_wire`), a writer and what it
 //! keeps (`rtps_writer`), what a reader holds (`dds_cache`) and whose leases are over (`dds_lease`).
 #![tactic(auto)]

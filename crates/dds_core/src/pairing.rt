@@ -1,5 +1,7 @@
 //! What a network may ask of a peer: its moment, by which entity ids a writer of it and a matched reader go, and the place
 //! of a reader of it.
+//!
+//! RTPS 2.5, 8.4.7 (StatefulWriter, matched_readers), 8.4.10 (StatefulReader, matched_writers).
 
 ghost use Rattle.std.specs.Prelude.{◌≡◌, ℕ, slice_get, Some, MatchOption};
 ghost use Rattle.dds_base.specs.declared.config.Config.{Config};

@@ -1,4 +1,6 @@
 //! Whom the rest of a message is for, and when its changes were made.
+//!
+//! RTPS 2.5, 8.3.4 (the message receiver), 9.4.5 (InfoDestination, InfoTimestamp).
 
 ghost use Rattle.std.specs.Prelude.{◌≡◌};
 ghost use Rattle.dds_model.specs.Claims.{receiver_of, is_for, stamp_of, after_submessage};

@@ -1,4 +1,6 @@
 //! What an application asks of its peer.
+//!
+//! DDS 1.4, 2.2.2.1 (Entity, Condition, WaitSet), 2.2.2.4 (DataWriter), 2.2.2.5 (DataReader).
 
 ghost use Rattle.std.specs.Prelude.{◌≡◌};
 

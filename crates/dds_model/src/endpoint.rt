@@ -1,4 +1,6 @@
 //! The names of writers and readers among all peers.
+//!
+//! RTPS 2.5, 8.2 (Endpoint).
 
 /// A writer or a reader, by its peer and by its number there; both count from 1, in the order of the configuration. Writers
 /// and readers are numbered apart, so an endpoint alone doesn't say which of the two it is.

@@ -1,4 +1,6 @@
 //! What happens to a peer, and to a network of peers.
+//!
+//! DDS 1.4, 2.2.2.4 and 2.2.2.5 (calls); RTPS 2.5, 8.3 (messages), 8.3.4 (the message receiver).
 
 ghost use Rattle.std.specs.Prelude.{◌≡◌};
 

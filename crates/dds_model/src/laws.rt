@@ -1,4 +1,7 @@
 //! What holds of every network and every run.
+//!
+//! The laws are this project's own; what they speak of is in RTPS 2.5, 8.3.8 and 8.4 (behaviour), and DDS 1.4,
+//! 2.2.3.
 
 ghost use Rattle.std.specs.Prelude.{◌≡◌, ◌↔◌, IsTrue};
 ghost use Rattle.dds_model.specs.Bounds.{OpensBounded, RunsBounded, StepsBounded};

@@ -1,4 +1,6 @@
 //! What a peer answers.
+//!
+//! DDS 1.4, 2.2.1.1 (return codes), 2.2.2.4 and 2.2.2.5 (what calls return); RTPS 2.5, 8.4 (behaviour).
 
 ghost use Rattle.std.specs.Prelude.{◌≡◌};
 

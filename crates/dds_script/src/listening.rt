@@ -1,4 +1,6 @@
 //! The listeners that lines ask for.
+//!
+//! DDS 1.4, 2.2.4.2 (Listener).
 
 use crate::number::decimal;
 use crate::operand::{entity, status_mask};

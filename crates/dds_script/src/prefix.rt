@@ -1,4 +1,6 @@
 //! The filters that lines ask for.
+//!
+//! DDS 1.4, 2.2.2.5 (QueryCondition).
 
 ghost use Rattle.std.specs.Prelude.{◌≡◌};
 

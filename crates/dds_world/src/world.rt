@@ -1,4 +1,6 @@
 //! The network.
+//!
+//! It is this project's own; its peers behave by RTPS 2.5, 8.4, and answer by DDS 1.4, 2.2.2.4 and 2.2.2.5.
 
 ghost use Rattle.std.specs.Prelude.{◌≡◌, ℕ, ◌&&◌, ◌+◌, ◌-◌, ◌^◌, ◌<◌, ◌≤◌, false, nat_lt, nat_le, IfOk, IfErr, OnErr, MatchOption, length, slice_get, None, Some, []};
 ghost use Rattle.std.specs.Option.{option_copied};
