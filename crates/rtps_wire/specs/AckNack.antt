@@ -21,6 +21,7 @@ pub record ReadsAckNack (flags : ℕ) (body : List ℕ) (a : AckNack) : Type 0 w
   pub set : ReadsSet (order_of flags) from_set a.reader_sn_state from_count
   pub count : from_count ≡ count_text (order_of flags) a.count ++ rest
 
+-- It is valid: its ids have 4 octets each, and its count fits 32 bits with a sign.
 pub record IsAckNack (a : AckNack) : Type 0 where
   pub reader : IsEntityId a.reader_id
   pub writer : IsEntityId a.writer_id

@@ -99,6 +99,7 @@ text_of_end status k =
     ++ parameter_text Little (record { id = pid_sentinel; value = [] })
     ++ spelling_of_key k
 
+-- what follows the head of a DATA: the datum of a write, or the parameters and the key form of the others
 abbrev pub text_of_content : DataContent → List ℕ
 text_of_content (Write d) = spelling_of_datum d
 text_of_content (Dispose k) = text_of_end status_disposed k

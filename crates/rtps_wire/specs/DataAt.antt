@@ -59,6 +59,7 @@ unfoldable pub inline_at : ℕ → List ℕ → Option (Parameters × List ℕ)
 inline_at flags bytes = if has_flag flags flag_inline_qos then parameters_at (order_of flags) bytes
     else Some (record { key_hash = None; status = None }, bytes)
 
+-- the DATA that a body is, by the flags: none where flag N is set, or the body is no DATA
 unfoldable pub data_at : ℕ → List ℕ → Option Data
 data_at flags body = if has_flag flags flag_non_standard then None else (do
   x ← data_head_at (order_of flags) body

@@ -18,24 +18,31 @@ vendor_unknown = 0 ∷ 0 ∷ []
 
 -- ---- ids of submessages
 
+-- the id of PAD
 abbrev pub id_pad : ℕ
 id_pad = 0x01
 
+-- the id of ACKNACK
 abbrev pub id_acknack : ℕ
 id_acknack = 0x06
 
+-- the id of HEARTBEAT
 abbrev pub id_heartbeat : ℕ
 id_heartbeat = 0x07
 
+-- the id of GAP
 abbrev pub id_gap : ℕ
 id_gap = 0x08
 
+-- the id of INFO_TS
 abbrev pub id_info_ts : ℕ
 id_info_ts = 0x09
 
+-- the id of INFO_DST
 abbrev pub id_info_dst : ℕ
 id_info_dst = 0x0e
 
+-- the id of DATA
 abbrev pub id_data : ℕ
 id_data = 0x15
 

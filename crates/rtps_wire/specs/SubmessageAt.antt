@@ -18,16 +18,19 @@ use Rattle.rtps_wire.specs.SetAt.{set_at}
 use Rattle.rtps_wire.specs.DataAt.{data_at}
 use Rattle.rtps_wire.specs.Names.{flag_final, flag_invalidate, flag_liveliness, id_acknack, id_data, id_gap, id_heartbeat, id_info_dst, id_info_ts, id_pad}
 
+-- the prefix of an INFO_DST, if the body is long enough
 unfoldable pub info_dst_at : List ℕ → Option GuidPrefix
 info_dst_at body = do
   prefix ← prefix_at body
   Some prefix.0
 
+-- the moment of an INFO_TS in units of 2^-32 second, or that it has none, by flag I; if the body is long enough
 unfoldable pub info_ts_at : ℕ → List ℕ → Option (Option ℕ)
 info_ts_at flags body = if has_flag flags flag_invalidate then Some None else (do
   x ← both (number_at (order_of flags) w32) (number_at (order_of flags) w32) body
   Some (Some (x.0.0 * 2 ^ 32 + x.0.1)))
 
+-- the HEARTBEAT that a body is: firstSN is at least 1, and at most one more than lastSN
 unfoldable pub heartbeat_at : ℕ → List ℕ → Option Heartbeat
 heartbeat_at flags body = do
   x ← both (both (both (both entity_id_at entity_id_at) (sn_at (order_of flags))) (sn_at (order_of flags)))
@@ -42,6 +45,7 @@ heartbeat_at flags body = do
     liveliness_flag = has_flag flags flag_liveliness;
   })
 
+-- the ACKNACK that a body is, if it has a set in it and is long enough
 unfoldable pub acknack_at : ℕ → List ℕ → Option AckNack
 acknack_at flags body = do
   ids ← both entity_id_at entity_id_at body
@@ -55,6 +59,7 @@ acknack_at flags body = do
     final_flag = has_flag flags flag_final;
   })
 
+-- the GAP that a body is: gapStart is at least 1
 unfoldable pub gap_at : ℕ → List ℕ → Option Gap
 gap_at flags body = do
   x ← both (both entity_id_at entity_id_at) (sn_at (order_of flags)) body
@@ -62,6 +67,7 @@ gap_at flags body = do
   if nat_lt x.0.1 1 then None
       else Some (record { reader_id = x.0.0.0; writer_id = x.0.0.1; gap_start = x.0.1; gap_list = set.0 })
 
+-- the submessage of this id that a body is, by the flags; none where the id is not known, or the body not of its kind
 unfoldable pub known_at : ℕ → ℕ → List ℕ → Option Submessage
 known_at id flags body =
     if id == id_pad then Some submessages.Pad else

@@ -79,6 +79,7 @@ IsSpellable s = IsValid s
 
 -- ---- as written: little-endian, with no flag but the one that says so and those of the submessage
 
+-- the flags of a submessage, as it is written
 abbrev pub flags_of : Submessage → ℕ
 flags_of (InfoTs None) = flag_endianness + flag_invalidate
 flags_of (Data d) = content_flags d.content
@@ -102,8 +103,10 @@ text_of (Other id) = []
 abbrev pub padding : ℕ → List ℕ
 padding len = replicate ((len_aligned - len % len_aligned) % len_aligned) 0
 
+-- the body of a submessage, as it is written: its fields, and zeros up to a multiple of 4 octets
 abbrev pub body_of : Submessage → List ℕ
 body_of s = text_of s ++ padding (length (text_of s))
 
+-- the one written form of a submessage: its id, its flags, the length of its body, and the body
 abbrev pub spelling_of_submessage : Submessage → List ℕ
 spelling_of_submessage s = frame_text (id_of s) (flags_of s) (length (body_of s)) (body_of s)
