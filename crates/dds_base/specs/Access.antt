@@ -31,15 +31,17 @@ use Rattle.dds_base.specs.Presence.{ends_with_write, present_samples}
 abbrev pub sample_state_of : List Happening → SamplePosition → SampleState
 sample_state_of h s = if is_read s h then HasBeenRead else NotRead
 
--- the bits of the states in a mask (2.3.3)
+-- the bit of a sample state in a mask: READ 1, NOT_READ 2 (2.3.3)
 abbrev pub sample_state_bit : SampleState → ℕ
 sample_state_bit HasBeenRead = 1
 sample_state_bit NotRead = 2
 
+-- the bit of a view state in a mask: NEW 1, NOT_NEW 2 (2.3.3)
 abbrev pub view_state_bit : ViewState → ℕ
 view_state_bit New = 1
 view_state_bit NotNew = 2
 
+-- the bit of an instance state in a mask: ALIVE 1, NOT_ALIVE_DISPOSED 2, NOT_ALIVE_NO_WRITERS 4 (2.3.3)
 abbrev pub instance_state_bit : InstanceState → ℕ
 instance_state_bit Alive = 1
 instance_state_bit NotAliveDisposed = 2
@@ -49,13 +51,15 @@ instance_state_bit NotAliveNoWriters = 4
 abbrev pub has_bit : ℕ → ℕ → Bool
 has_bit mask bit = bit_and mask bit == bit
 
--- a mask asks for a state
+-- the mask asks for this sample state
 abbrev pub asks_for_sample_state : SampleStateMask → SampleState → Bool
 asks_for_sample_state mask state = has_bit mask.0 (sample_state_bit state)
 
+-- the mask asks for this view state
 abbrev pub asks_for_view_state : ViewStateMask → ViewState → Bool
 asks_for_view_state mask state = has_bit mask.0 (view_state_bit state)
 
+-- the mask asks for this instance state; an instance that is not known has none, and no mask asks for it
 abbrev pub asks_for_instance_state : InstanceStateMask → Option InstanceState → Bool
 asks_for_instance_state mask None = false
 asks_for_instance_state mask (Some state) = has_bit mask.0 (instance_state_bit state)

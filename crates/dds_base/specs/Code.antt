@@ -3,6 +3,7 @@ use Rattle.std.specs.Prelude.{ℕ, List, codes}
 use Rattle.dds_base.specs.declared.code.Code.{Code}
 use Rattle.dds_base.specs.declared.code.Code.TheVariants.{Ok, Error, Unsupported, BadParameter, PreconditionNotMet, OutOfResources, NotEnabled, ImmutablePolicy, InconsistentPolicy, AlreadyDeleted, Timeout, NoData, IllegalOperation, Memory, Link, Mismatch}
 
+-- the number: below 100 that of the standard (2.3.3, ReturnCode_t), from 100 on this project's own
 abbrev pub number_of_code : Code → ℕ
 number_of_code Ok = 0
 number_of_code Error = 1

@@ -57,6 +57,7 @@ abbrev pub fault_at : ConfigPlace → Option ConfigRule → Option ConfigFault
 fault_at place None = None
 fault_at place (Some rule) = Some (record { place = place; rule = rule })
 
+-- the first fault, or, where there is none, the later one
 abbrev pub or_else : Option ConfigFault → Option ConfigFault → Option ConfigFault
 or_else None later = later
 or_else (Some fault) later = Some fault
@@ -66,18 +67,23 @@ abbrev pub first_at : {X : Type 0} → (ℕ → X → Option ConfigFault) → �
 first_at tell number [] = None
 first_at tell number (x ∷ xs) = or_else (tell number x) (first_at tell (number + 1) xs)
 
+-- the first rule that a writer breaks in this pass, with the numbers of its peer and its own, both from 1
 abbrev pub writer_fault : Pass → ℕ → PeerConfig → ℕ → WriterConfig → Option ConfigFault
 writer_fault pass peer p writer w = fault_at (Writer peer writer) (first_broken (writer_rules pass p w))
 
+-- the first rule that a reader breaks in this pass, with the numbers of its peer and its own, both from 1
 abbrev pub reader_fault : Pass → List PeerConfig → ℕ → PeerConfig → ℕ → ReaderConfig → Option ConfigFault
 reader_fault pass peers peer p reader r = fault_at (Reader peer reader) (first_broken (reader_rules pass peers p r))
 
+-- the first fault among the writers of a peer in this pass, in their order
 abbrev pub writers_fault : Pass → ℕ → PeerConfig → Option ConfigFault
 writers_fault pass peer p = first_at (writer_fault pass peer p) 1 p.writers
 
+-- the first fault among the readers of a peer in this pass, in their order
 abbrev pub readers_fault : Pass → List PeerConfig → ℕ → PeerConfig → Option ConfigFault
 readers_fault pass peers peer p = first_at (reader_fault pass peers peer p) 1 p.readers
 
+-- the first fault at a peer in this pass: its own, then that of a writer, then that of a reader
 abbrev pub peer_fault : Pass → List PeerConfig → ℕ → PeerConfig → Option ConfigFault
 peer_fault pass peers peer p = or_else (fault_at (Peer peer) (first_broken (peer_rules pass peers p)))
     (or_else (writers_fault pass peer p) (readers_fault pass peers peer p))

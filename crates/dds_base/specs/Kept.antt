@@ -33,6 +33,7 @@ is_dropped_by KeepAll changes number = false
 is_dropped_by (KeepLast n) changes number =
     option_map_or (λ (c : Change). nat_le n (later_changes changes number c.key)) (change_at changes number) false
 
+-- the writer's history has dropped the change of this number (2.2.3, HISTORY)
 abbrev pub is_dropped : WriterHistory → ℕ → Bool
 is_dropped w number = is_dropped_by w.policy w.changes number
 

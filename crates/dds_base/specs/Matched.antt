@@ -26,18 +26,23 @@ of_matched_ends ends topic_of tell topic peer [] = []
 of_matched_ends ends topic_of tell topic peer (p ∷ ps) =
     of_ends_in topic_of (tell peer p) topic 1 (ends p) ++ of_matched_ends ends topic_of tell topic (peer + 1) ps
 
--- a reader's matched writers, in the order of its publication handles from 1 on (DDS 1.4, 2.2.2.5, publication_handle)
+-- what is told of each writer of the topic among these, by its number, which counts on from this one; so a reader's
+-- matched writers come in the order of its publication handles (DDS 1.4, 2.2.2.5, publication_handle)
 abbrev pub of_writers_in : {X : Type 0} → (ℕ → WriterConfig → X) → ℕ → ℕ → List WriterConfig → List X
 of_writers_in = of_ends_in (λ (w : WriterConfig). w.topic)
 
+-- what is told of each matched writer of a reader of the topic, at all of these peers; the first of them has this
+-- number
 abbrev pub of_matched_writers : {X : Type 0} → (ℕ → PeerConfig → ℕ → WriterConfig → X) → ℕ → ℕ → List PeerConfig
     → List X
 of_matched_writers = of_matched_ends (λ (p : PeerConfig). p.writers) (λ (w : WriterConfig). w.topic)
 
--- a writer's matched readers
+-- what is told of each reader of the topic among these, by its number, which counts on from this one
 abbrev pub of_readers_in : {X : Type 0} → (ℕ → ReaderConfig → X) → ℕ → ℕ → List ReaderConfig → List X
 of_readers_in = of_ends_in (λ (r : ReaderConfig). r.topic)
 
+-- what is told of each matched reader of a writer of the topic, at all of these peers; the first of them has this
+-- number
 abbrev pub of_matched_readers : {X : Type 0} → (ℕ → PeerConfig → ℕ → ReaderConfig → X) → ℕ → ℕ → List PeerConfig
     → List X
 of_matched_readers = of_matched_ends (λ (p : PeerConfig). p.readers) (λ (r : ReaderConfig). r.topic)

@@ -52,10 +52,11 @@ pub record IsCandidate (q : ReaderQos) (h : List Happening) (ks : List Kept) (c 
   pub picked_is : c.picked ≡ picked_of q h c.sample
   pub small : own_generations c.picked < 2 ^ 64
 
--- the sample of a candidate, and that of a kept one
+-- the sample of a candidate
 abbrev pub sample_in : Candidate → SamplePosition
 sample_in c = c.sample
 
+-- the sample of a kept one
 abbrev pub sample_of : Kept → SamplePosition
 sample_of k = k.sample
 
@@ -63,6 +64,7 @@ sample_of k = k.sample
 abbrev pub handle_in : Candidate → ℕ
 handle_in c = c.picked.instance_handle
 
+-- what is known of a candidate before its ranks
 abbrev pub picked_in : Candidate → Picked
 picked_in c = c.picked
 
