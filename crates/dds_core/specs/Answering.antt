@@ -118,6 +118,7 @@ pub record TookAckNack (old : WriterKept) (own : GuidPrefix) (row : ℕ) (a : Ac
       → SendsAnswers (record { own = own; entity = old.entity; reader = name }) (changes_of s.written)
       (acknack_answers s row a.reader_sn_state.base a.reader_sn_state a.count) sent gone
 
+-- for each state that a writer's old values stand for, it took the ACKNACK of its reader of this row
 abbrev pub TakesAckNack : WriterKept → GuidPrefix → ℕ → AckNackBody → Announced → WriterKept → Option ℕ → Announced
     → Type 0
 TakesAckNack old own row a sent new acknowledged gone =
@@ -146,6 +147,7 @@ pub record RowTook (old : PeerKept) (index row : ℕ) (a : AckNackBody) (k : Wri
   pub new_is : new ≡ record old { writers = set old.writers index writer }
   pub after_is : after ≡ moves ++ acknowledged_moves (index + 1) name.reader acknowledged
 
+-- the writer of this index took the ACKNACK of its reader of this row, if there are both
 abbrev pub TakesRow : PeerKept → ℕ → ℕ → AckNackBody → List Move → Announced → PeerKept → List Move → Announced → Type 0
 TakesRow old index row a moves sent new after gone =
     (k : WriterKept) (name : ReaderName) → slice_get old.writers index ≡ Some k → slice_get k.readers row ≡ Some name
@@ -177,6 +179,7 @@ pub record TakesRows (old : PeerKept) (index : ℕ) (a : AckNackBody) (k : Write
   pub prefix : now.prefix ≡ old.prefix
   pub others : length now.writers ≡ length old.writers
 
+-- the writer of this index took the ACKNACK as to each of its readers, if there is such a writer
 abbrev pub TakesAllRows : PeerKept → ℕ → AckNackBody → List (Option Room) → List Move → Announced → PeerKept → List Move
     → Announced → Type 0
 TakesAllRows old index a rooms moves sent new after gone =

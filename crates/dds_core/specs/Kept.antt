@@ -44,6 +44,7 @@ pub record FitsWriters (names : List WriterName) (reader : Proxies) (store : Sto
   pub fits : length names ≤ length (qos_of store.cache).writers
   pub many : length (qos_of store.cache).writers ≤ 256
 
+-- a peer: its name, its moment in units of 2^-32 second, its writers and readers, and what its application watches
 pub record PeerKept : Type 0 where
   pub prefix : GuidPrefix
   pub moment : ℕ
@@ -51,34 +52,40 @@ pub record PeerKept : Type 0 where
   pub readers : List ReaderKept
   pub watch : Watched
 
--- what never changes of a writer, a reader and a peer: their names, and those of the ends that they are matched with
+-- what never changes of a writer: its name, whether an unregister disposes too, to which peers it sends, and the names
+-- of its matched readers
 pub record WriterIdentity : Type 0 where
   pub entity : EntityId
   pub autodispose : Bool
   pub destinations : List Destination
   pub readers : List ReaderName
 
+-- what never changes of a reader: its name, and those of its matched writers
 pub record ReaderIdentity : Type 0 where
   pub entity : EntityId
   pub writers : List WriterName
 
+-- what never changes of a peer: its name, and that of its writers and its readers
 pub record Identity : Type 0 where
   pub prefix : GuidPrefix
   pub writers : List WriterIdentity
   pub readers : List ReaderIdentity
 
+-- what never changes of this writer
 abbrev pub writer_identity : WriterKept → WriterIdentity
 writer_identity w = record
     { entity = w.entity; autodispose = w.autodispose; destinations = w.destinations; readers = w.readers }
 
+-- what never changes of this reader
 abbrev pub reader_identity : ReaderKept → ReaderIdentity
 reader_identity r = record { entity = r.entity; writers = r.writers }
 
+-- what never changes of this peer
 abbrev pub identity_of : PeerKept → Identity
 identity_of kept = record
     { prefix = kept.prefix; writers = map writer_identity kept.writers; readers = map reader_identity kept.readers }
 
--- the same, as the configuration says it
+-- what never changes of a writer, as the configuration says it
 abbrev pub configured_writer : List PeerConfig → WriterConfig → WriterIdentity
 configured_writer peers w =
     record {
@@ -88,6 +95,7 @@ configured_writer peers w =
       readers = reader_names w.topic peers;
     }
 
+-- what never changes of a reader, as the configuration says it
 abbrev pub configured_reader : List PeerConfig → ReaderConfig → ReaderIdentity
 configured_reader peers r = record { entity = r.entity; writers = writer_names r.topic peers }
 

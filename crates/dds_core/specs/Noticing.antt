@@ -38,9 +38,11 @@ abbrev pub Marked : {K M : Type 0} → (K → M → Type 0) → M → List K →
 Marked {K} {M} Marks nothing kept n marks = (i : ℕ) (mark : M) → slice_get marks i ≡ Some mark
     → (i < n → (k : K) → slice_get kept i ≡ Some k → Marks k mark) × (n ≤ i → mark ≡ nothing)
 
+-- the first so many of these writers are marked by how often each lost its liveliness, the others by 0
 abbrev pub MarksWriters : List WriterKept → ℕ → List ℕ → Type 0
 MarksWriters kept n marks = Marked MarksWriter 0 kept n marks
 
+-- the first so many of these readers are marked, the others by zeros
 abbrev pub MarksReaders : List ReaderKept → ℕ → List ReaderMark → Type 0
 MarksReaders kept n marks = Marked MarksReader (record { lost = 0; happened = 0 }) kept n marks
 

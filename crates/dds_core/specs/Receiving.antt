@@ -83,11 +83,13 @@ NamedBy (Gap g) reader_id writer_id = (reader_id ≡ g.reader_id) × (writer_id 
 NamedBy (Heartbeat h) reader_id writer_id = (reader_id ≡ h.reader_id) × (writer_id ≡ h.writer_id)
 NamedBy submessage reader_id writer_id = ⊥
 
+-- it names no reader and no writer, as it is no submessage of a writer
 abbrev pub NamesNobody : Submessage → Type 0
 NamesNobody submessage = (reader_id writer_id : EntityId) → NamedBy submessage reader_id writer_id → ⊥
 
 -- ---- what it tells
 
+-- this is what a submessage of a writer tells a reader; a change has the source timestamp that the receiver has then
 abbrev pub IsToldBy : Receiver → Submessage → Told → Type 0
 IsToldBy at (Data d) (told.Change number change) = (number ≡ d.writer_sn) × (change ≡ change_in d.content at.timestamp)
 IsToldBy at (Gap g) (told.Gap start list) = (start ≡ g.gap_start) × (list ≡ g.gap_list)
@@ -109,9 +111,11 @@ IsBounded (Heartbeat h) = h.first_sn ≤ 2 ^ 62
 IsBounded (AckNack a) = 1 ≤ a.reader_sn_state.base
 IsBounded submessage = Unit {0}
 
+-- so it is of each of these submessages
 abbrev pub AreBounded : List Submessage → Type 0
 AreBounded submessages = (i : ℕ) (s : Submessage) → slice_get submessages i ≡ Some s → IsBounded s
 
+-- what a reader is told is such: the number of a change, the base of a set or firstSN is at most 2^62
 abbrev pub IsToldBounded : Told → Type 0
 IsToldBounded (told.Change number change) = number ≤ 2 ^ 62
 IsToldBounded (told.Gap start list) = list.base ≤ 2 ^ 62
@@ -133,6 +137,7 @@ pub record IsReadyWith (own : GuidPrefix) (at : Receiver) (submessage : Submessa
   pub told : IsToldBy at submessage ready.told
   pub room : HasMemory kept
 
+-- what is ready for a reader, or nothing, where the submessage does not name it
 abbrev pub IsReadyFor : GuidPrefix → Receiver → Submessage → ReaderKept → Option Ready → Type 0
 IsReadyFor own at submessage kept None =
     (reader_id writer_id : EntityId) → NamedBy submessage reader_id writer_id → (k : ℕ)
@@ -155,6 +160,7 @@ pub record IsAlike (old new : ReaderKept) : Type 0 where
   pub seen : new.seen ≡ old.seen
   pub holds : (h : List Happening) → Holds old.store h → Holds new.store h
 
+-- readers with more memory, and nothing else, in their order
 pub record AreAlike (old new : List ReaderKept) : Type 0 where
   pub count : length new ≡ length old
   pub each : (i : ℕ) (a b : ReaderKept) → slice_get old i ≡ Some a → slice_get new i ≡ Some b → IsAlike a b
@@ -203,9 +209,11 @@ moves_of writer reader from step =
 
 -- ---- what a peer does
 
+-- the reader of this index can be told what is ready
 abbrev pub CanTakeAt : List ReaderKept → ℕ → Ready → Type 0
 CanTakeAt readers index ready = (k : ReaderKept) × (slice_get readers index ≡ Some k) × CanTake k ready
 
+-- each reader for which something is ready can be told that
 abbrev pub AllCanTake : List ReaderKept → List (Option Ready) → Type 0
 AllCanTake readers ready = (i : ℕ) (one : Ready) → slice_get ready i ≡ Some (Some one) → CanTakeAt readers i one
 
@@ -225,6 +233,7 @@ pub record TookAt (old : PeerKept) (index : ℕ) (ready : Ready) (k : ReaderKept
   pub answer : AddsTo (acknacks_due old.prefix name.guid.prefix name.writer.peer k.entity name.guid.entity step.acknack)
       sent gone
 
+-- the reader of this index, if there is one, was told what was ready, and the ACKNACK that is then due was sent
 abbrev pub TakesAt : PeerKept → ℕ → Ready → List Move → Announced → PeerKept → List Move → Announced → Type 0
 TakesAt old index ready moves sent new after gone =
     (k : ReaderKept) → slice_get old.readers index ≡ Some k → TookAt old index ready k moves sent new after gone
@@ -243,6 +252,7 @@ pub record ReadersTook (config : Config) (own : GuidPrefix) (at : Receiver) (sub
   pub stands : StandsFor new config (with_state peer state)
   pub adds : AddsTo dues sent gone
 
+-- the same, said of each state that the old values stand for
 abbrev pub ReadersTake : PeerKept → Receiver → Submessage → ℕ → List Move → Announced → PeerKept → Announced → Type 0
 ReadersTake old at submessage count made sent new gone =
     (config : Config) (peer : Peer) → StandsFor old config peer
@@ -305,6 +315,7 @@ pub record TookMessage (config : Config) (peer : Peer) (own : GuidPrefix) (messa
   pub stands : StandsFor new config (with_state peer state)
   pub sent : AreSent dues gone.packets.items gone.unsent
 
+-- the same, said of each state that the old values stand for
 abbrev pub TakesMessage : PeerKept → Message → Report → PeerKept → Announced → Type 0
 TakesMessage old message report new gone =
     (config : Config) (peer : Peer) → StandsFor old config peer
@@ -322,6 +333,7 @@ pub record TakenTo (old : PeerKept) (message : Message) (index : ℕ) (at : Rece
       → Follows config old.prefix peer.number 0 (receiver_of message.prefix) message.submessages (state_of peer)
       (moves ++ later) refused (dues ++ last) after
 
+-- the same, said of each state that the old values stand for
 abbrev pub TakesTo : PeerKept → Message → ℕ → Receiver → List Move → PeerKept → Announced → Type 0
 TakesTo old message index at moves now gone =
     (config : Config) (peer : Peer) → StandsFor old config peer
@@ -336,6 +348,7 @@ pub record ReceivedPacket (config : Config) (peer : Peer) (bytes : List ℕ) (re
   pub stands : StandsFor new config (with_state peer state)
   pub sent : AreSent dues gone.packets.items gone.unsent
 
+-- the same, said of each state that the old values stand for
 abbrev pub ReceivesPacket : PeerKept → List ℕ → Report → PeerKept → Announced → Type 0
 ReceivesPacket old bytes report new gone =
     (config : Config) (peer : Peer) → StandsFor old config peer → ReceivedPacket config peer bytes report new gone

@@ -137,6 +137,7 @@ pub record IsTakenByRules (config : Config) (old : Peer) (packet : List ℕ) (ou
   pub takes : TakesPacket config old.number packet (network_of old) report dues (network_of new)
   pub sent : AreSent dues output.packets output.unsent
 
+-- a delivery follows the rules of the protocol (RTPS 2.5, 8.4.9, 8.4.12); of other events they say nothing here
 abbrev pub KeepsRules : Config → Peer → Event → Output → Peer → Type 0
 KeepsRules config old (event.Deliver packet) output new = IsTakenByRules config old packet output new
 KeepsRules config old other output new = Unit {0}

@@ -142,6 +142,7 @@ pub data Effect : Type 0 where
 abbrev pub with_written : Writer → Written → Writer
 with_written w entry = record w { written = entry ∷ w.written }
 
+-- a peer's writers and places after an effect: one more thing has happened at one writer, or nothing
 abbrev pub effect : Rtps → Effect → Rtps
 effect old nothing = old
 effect old (writes writer entry) =

@@ -63,6 +63,7 @@ pub record Receiver : Type 0 where
 abbrev pub every_peer : GuidPrefix
 every_peer = unknown_prefix
 
+-- the receiver at the begin of a message of this prefix: what follows is for every peer, at moment 0
 abbrev pub receiver_of : GuidPrefix → Receiver
 receiver_of prefix = record { source_guid_prefix = prefix; dest_guid_prefix = every_peer; timestamp = 0 }
 

@@ -73,6 +73,7 @@ PassesNone writer (Place w reader to [] ∷ moves) = PassesNone writer moves
 PassesNone writer (Place w reader to (run ∷ runs) ∷ moves) = (w ≡ writer → ⊥) × PassesNone writer moves
 PassesNone writer (m ∷ moves) = PassesNone writer moves
 
+-- no reply reports that a change of this writer was passed over
 abbrev pub LosesNone : Endpoint → List Reply → Type 0
 LosesNone writer [] = Unit {0}
 LosesNone writer (Reported report ∷ replies) = PassesNone writer report.moves × LosesNone writer replies

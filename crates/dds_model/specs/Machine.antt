@@ -22,9 +22,11 @@ use Rattle.dds_conditions.specs.Watched.{no_filters}
 pub record Machine : Type 0 where
   pub parts : List Part
 
+-- the part of the peer of this number; one without writers and readers where there is no such peer
 abbrev pub part_at : Machine → ℕ → Part
 part_at m peer = numbered m.parts peer no_part
 
+-- the writer of this endpoint; one that has done nothing where there is no such writer
 abbrev pub writer_at : Machine → Endpoint → Writer
 writer_at m writer = own_writer (part_at m writer.peer) writer.number
 

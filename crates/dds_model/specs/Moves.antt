@@ -39,6 +39,7 @@ pub record IsMatched (part : Part) (writer : Endpoint) (reader publication place
   pub handle : publication_of (own_proxies part reader) writer ≡ Some publication
   pub at : place_of (own_proxies part reader) writer ≡ Some place
 
+-- the peer's reader of this number, at this place in a writer's list, with what happened there so far
 abbrev pub position_of : Part → ℕ → ℕ → Position
 position_of part reader place = record { place = place; happened = (own_reader part reader).happened }
 

@@ -82,20 +82,23 @@ abbrev pub told : Part → Entity → Option Status → Part
 told part entity None = part
 told part entity (Some status) = told_to (taker_of part.dds.listeners entity status) part entity status
 
--- the statuses of the reader of this number, by ascending bit
+-- a part, once SAMPLE_LOST of the reader of this number was told, if it was raised since the part was as before
 abbrev pub lost_told : Part → ℕ → Part → Part
 lost_told before n part = told part (entity.Reader n) (lost_raised (own_reader before n) (own_reader part n))
 
+-- a part, once DATA_AVAILABLE of the reader of this number was told, if it was raised since the part was as before
 abbrev pub data_told : Part → ℕ → Part → Part
 data_told before n part = told part (entity.Reader n) (data_raised (own_reader before n) (own_reader part n))
 
+-- a part, once LIVELINESS_CHANGED of the reader of this number was told, if it was raised since the part was as before
 abbrev pub turn_told : Part → ℕ → Part → Part
 turn_told before n part = told part (entity.Reader n) (turn_raised (own_reader before n) (own_reader part n))
 
+-- a part, once the raised statuses of the reader of this number were told, by ascending bit (2.3.3)
 abbrev pub reader_told : Part → ℕ → Part → Part
 reader_told before n part = turn_told before n (data_told before n (lost_told before n part))
 
--- the status of the writer of this number
+-- a part, once LIVELINESS_LOST of the writer of this number was told, if it was raised since the part was as before
 abbrev pub writer_told : Part → ℕ → Part → Part
 writer_told before n part = told part (entity.Writer n) (loss_raised (own_writer before n) (own_writer part n))
 

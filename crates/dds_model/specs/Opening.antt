@@ -52,6 +52,7 @@ writer_qos topic ps = of_matched_writers
       lease = w.lease;
     }) topic 1 ps
 
+-- a reader's policies, as its configuration has them, with its matched writers among these peers
 abbrev pub reader_qos : List PeerConfig → ReaderConfig → ReaderQos
 reader_qos peers r = record {
   ownership = r.ownership;
@@ -61,6 +62,7 @@ reader_qos peers r = record {
   writers = writer_qos r.topic peers;
 }
 
+-- a writer that has done nothing, with its matched readers, each of which has acknowledged nothing
 abbrev pub opening_writer : List PeerConfig → WriterConfig → Writer
 opening_writer peers w =
     record {
@@ -72,6 +74,7 @@ opening_writer peers w =
       readers = matched_readers w.topic 1 peers;
     }
 
+-- the part of a peer to which nothing has happened: at moment 0, with nothing watched and no listener
 abbrev pub opening_part : List PeerConfig → PeerConfig → Part
 opening_part peers p = record {
   rtps = record {
@@ -87,6 +90,7 @@ opening_part peers p = record {
   };
 }
 
+-- these peers, numbered on from this number, at their opening: nothing is known, and nothing was delivered
 abbrev pub opening_peers : List PeerConfig → ℕ → List PeerConfig → List Peer
 opening_peers peers number [] = []
 opening_peers peers number (p ∷ ps) =

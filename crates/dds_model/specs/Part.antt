@@ -76,10 +76,12 @@ pub record Dds : Type 0 where
   pub watch : Watched
   pub listeners : Places
 
+-- a peer's part: what other peers may learn of, and what only its own calls ask for
 pub record Part : Type 0 where
   pub rtps : Rtps
   pub dds : Dds
 
+-- in the place of a writer that is not there: one that has done nothing, and is matched with nobody
 abbrev pub no_writer : Writer
 no_writer = record {
   policy = KeepAll;
@@ -90,6 +92,7 @@ no_writer = record {
   readers = [];
 }
 
+-- in the place of a reader that is not there: one at which nothing has happened, and that is matched with nobody
 abbrev pub no_reader : Reader
 no_reader = record {
   qos = record
@@ -99,19 +102,22 @@ no_reader = record {
   seen = nothing_seen;
 }
 
+-- in the place of the part of a peer that is not there: it has no writers and no readers
 abbrev pub no_part : Part
 no_part = record {
   rtps = record { writers = []; readers = [] };
   dds = record { moment = 0; readers = []; watch = nothing_watched 0 0; listeners = nobody 0 0 };
 }
 
--- a peer's own writer and reader, by their numbers
+-- a peer's own writer, by its number
 abbrev pub own_writer : Part → ℕ → Writer
 own_writer part writer = numbered part.rtps.writers writer no_writer
 
+-- the matched writers of a peer's own reader, by its number
 abbrev pub own_proxies : Part → ℕ → List WriterProxy
 own_proxies part reader = numbered part.rtps.readers reader []
 
+-- a peer's own reader, by its number
 abbrev pub own_reader : Part → ℕ → Reader
 own_reader part reader = numbered part.dds.readers reader no_reader
 
@@ -143,6 +149,7 @@ abbrev pub acknowledged_of : List ReaderProxy → Endpoint → Option ℕ
 acknowledged_of rows reader =
     option_map (λ (p : ReaderProxy). p.acknowledged) (row_of (λ (p : ReaderProxy). p.reader) rows reader)
 
+-- these rows, once this reader has acknowledged all changes below the number
 abbrev pub with_acknowledged : List ReaderProxy → Endpoint → ℕ → List ReaderProxy
 with_acknowledged rows reader to =
     with_row (λ (p : ReaderProxy). p.reader) (λ (p : ReaderProxy). record p { acknowledged = to }) rows reader
@@ -151,6 +158,7 @@ with_acknowledged rows reader to =
 abbrev pub place_of : List WriterProxy → Endpoint → Option ℕ
 place_of rows writer = option_map (λ (p : WriterProxy). p.place) (row_of (λ (p : WriterProxy). p.writer) rows writer)
 
+-- these rows, once the place in this writer's list is the number
 abbrev pub with_place : List WriterProxy → Endpoint → ℕ → List WriterProxy
 with_place rows writer to =
     with_row (λ (p : WriterProxy). p.writer) (λ (p : WriterProxy). record p { place = to }) rows writer
@@ -159,6 +167,7 @@ with_place rows writer to =
 abbrev pub heard_of : List WriterProxy → Endpoint → Option (Option ℤ)
 heard_of rows writer = option_map (λ (p : WriterProxy). p.heard) (row_of (λ (p : WriterProxy). p.writer) rows writer)
 
+-- these rows, once this writer was heard by a HEARTBEAT of this count
 abbrev pub with_heard : List WriterProxy → Endpoint → ℤ → List WriterProxy
 with_heard rows writer count =
     with_row (λ (p : WriterProxy). p.writer) (λ (p : WriterProxy). record p { heard = Some count }) rows writer

@@ -39,6 +39,7 @@ pub record Peer : Type 0 where
   pub known : Known
   pub delivered : List Delivery
 
+-- in the place of a peer that is not there: its number is 0
 abbrev pub no_peer : Peer
 no_peer = record { number = 0; part = no_part; known = knows_nothing; delivered = [] }
 
@@ -46,6 +47,7 @@ no_peer = record { number = 0; part = no_part; known = knows_nothing; delivered 
 abbrev pub state_of : Peer → State
 state_of p = record { part = p.part; known = p.known }
 
+-- the octets of each packet that was delivered
 abbrev pub packets_of : List Delivery → List (List ℕ)
 packets_of ds = map (λ (d : Delivery). d.packet) ds
 

@@ -189,13 +189,16 @@ ReaderTakes config own peer at (Heartbeat h) reader old moves dues new =
     (Idles old moves dues new)
 ReaderTakes config own peer at submessage reader old moves dues new = Idles old moves dues new
 
--- what stands in a message for an answer: a change with its moment, or a GAP over a run of numbers (RTPS 2.5, 8.3.8)
+-- what stands in a message for the change of a number: its moment in an INFO_TS, then the DATA; nothing where there is
+-- no such change (RTPS 2.5, 8.3.8)
 abbrev pub data_of : EntityId → EntityId → ℕ → Option Change → List Submessage
 data_of reader writer number None = []
 data_of reader writer number (Some change) =
     InfoTs (Some change.source_timestamp) ∷ Data
     (record { reader_id = reader; writer_id = writer; writer_sn = number; content = content_of change }) ∷ []
 
+-- what an answer to an ACKNACK puts into a message: the change of its number, or the GAP from its first number to its
+-- last
 abbrev pub submessages_of : List Change → EntityId → EntityId → Answer → List Submessage
 submessages_of changes reader writer (AnswersData number) = data_of reader writer number (change_at changes number)
 submessages_of changes reader writer (AnswersGap first last) =
@@ -304,6 +307,7 @@ abbrev pub change_message : (own to : GuidPrefix) (writer : EntityId) → ℕ �
 change_message own to writer number change =
     record { prefix = own; submessages = InfoDst to ∷ data_of every_reader writer number (Some change) }
 
+-- what is due once a writer has made the change of this number: a message to each peer with one of these readers
 abbrev pub changes_due : Config → Endpoint → List ReaderProxy → ℕ → Change → List Due
 changes_due config writer readers number change =
     map (λ to. record {
@@ -350,6 +354,7 @@ heartbeats_of config peer number w =
     (peers_of (readers_behind w))
     else []
 
+-- the HEARTBEATs that are due at a tick from these writers, the first of which has this number
 abbrev pub heartbeats_from : Config → ℕ → ℕ → List Writer → List Due
 heartbeats_from config peer number [] = []
 heartbeats_from config peer number (w ∷ ws) =

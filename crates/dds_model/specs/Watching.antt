@@ -48,11 +48,12 @@ is_loss_flagged w = nat_lt 0 (liveliness_lost_status w.lease w.written).total_co
 abbrev pub bit_if : Bool → ℕ → ℕ
 bit_if b bit = if b then bit else 0
 
--- the flagged statuses of a reader and of a writer, as a mask (2.3.3)
+-- the flagged statuses of a reader, as a mask: SAMPLE_LOST, DATA_AVAILABLE and LIVELINESS_CHANGED (2.3.3)
 abbrev pub reader_statuses : Reader → StatusMask
 reader_statuses r = record
     { 0 = bit_if (is_lost_flagged r) 128 + (bit_if (is_data_flagged r) 1024 + bit_if (is_turn_flagged r) 4096) }
 
+-- the flagged statuses of a writer, as a mask: LIVELINESS_LOST alone (2.3.3)
 abbrev pub writer_statuses : Writer → StatusMask
 writer_statuses w = record { 0 = bit_if (is_loss_flagged w) 2048 }
 

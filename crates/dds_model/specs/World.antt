@@ -27,6 +27,7 @@ pub record WorldState : Type 0 where
   pub peers : List Peer
   pub sent : List Packet
 
+-- the peer of this number; one without writers and readers where there is none
 abbrev pub peer_at : WorldState → ℕ → Peer
 peer_at world peer = numbered world.peers peer no_peer
 

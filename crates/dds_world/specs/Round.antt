@@ -84,10 +84,11 @@ pub record IsFirst (Is : Packet → Type 0) (sent : List Packet) (from to k : �
   pub is : Is packet
   pub first : HasNone Is sent from (k - 1)
 
--- the HEARTBEAT of the writer, and the ACKNACK of the reader to it
+-- the HEARTBEAT of the writer, by its entity id
 abbrev pub heartbeat_of : Config → Endpoint → Sought
 heartbeat_of config writer = sought.Heartbeat (writer_entity config writer.peer writer.number)
 
+-- the ACKNACK of the reader to the writer, by their entity ids
 abbrev pub acknack_of : Config → Endpoint → Endpoint → Sought
 acknack_of config writer reader =
     sought.AckNack (reader_entity config reader.peer reader.number) (writer_entity config writer.peer writer.number)
@@ -130,6 +131,7 @@ is_whole Done = true
 is_whole (Reported report) = not (is_some report.refused)
 is_whole other = false
 
+-- memory was found for all of what these answer
 abbrev pub are_whole : List RoundReply → Bool
 are_whole replies = list_all (λ (r : RoundReply). is_whole r.reply) replies
 
@@ -147,6 +149,7 @@ IsHindered network writer reader answer =
     ⊎ ((length answer.replies ≡ 1) × (answer.was_behind ≡ true) × (2 ^ 31 - 1 ≤ heartbeats_used_at network writer))
     ⊎ ((length answer.replies ≡ 2) × (2 ^ 31 - 1 ≤ acknacks_used_at network writer reader))
 
+-- the replies alone, without the counts of packets beside them
 abbrev pub replies_of : List RoundReply → List Reply
 replies_of replies = map (λ (r : RoundReply). r.reply) replies
 
