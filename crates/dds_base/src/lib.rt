@@ -5,6 +5,31 @@
 //! changes), clause 10 (the bytes of a datum).
 //! `specs/` holds the definitions that the contracts of several crates share.
 //! Not here: what a writer keeps, what a reader holds, and messages.
+//!
+//! Two peers on topic 0, a writer at the first and a reader at the second:
+//!
+//! ```rust
+//! use dds_base::{
+//!     Config, EntityId, GuidPrefix, PeerConfig, ReaderConfig, Sequence, WriterConfig,
+//! };
+//!
+//! let writer = WriterConfig::new(EntityId::writer([0, 0, 1]), 0);
+//! let reader = ReaderConfig::new(EntityId::reader([0, 0, 1]), 0);
+//! let first = PeerConfig {
+//!     prefix: GuidPrefix([1; 12]),
+//!     writers: Sequence::from_vec(vec![in alloc; writer]?),
+//!     readers: Sequence::from_vec(Vec::new(alloc)),
+//! };
+//! let second = PeerConfig {
+//!     prefix: GuidPrefix([2; 12]),
+//!     writers: Sequence::from_vec(Vec::new(alloc)),
+//!     readers: Sequence::from_vec(vec![in alloc; reader]?),
+//! };
+//! let config = Config {
+//!     peers: Sequence::from_vec(vec![in alloc; first, second]?),
+//! };
+//! config.check()?; // taken; else the code of the first cause, whose rule and place `config.fault()` names
+//! ```
 #![tactic(auto)]
 
 mod change;
