@@ -5,6 +5,31 @@
 //! for each submessage, and in words in `docs/WIRE.md`. Not here: what a peer does at a submessage.
 //!
 //! RTPS 2.5, 8.3 (messages) and 9.4 (their bytes).
+//!
+//! A message with change 1 of a writer, written and read again:
+//!
+//! ```rust
+//! use dds_base::{DatumRef, EntityId, GuidPrefix, Key, Sn};
+//! use rtps_wire::{
+//!     Data, DataContent, Message, Submessage, Submessages, is_writable, read_message, write_message,
+//! };
+//!
+//! let value = [0x61, 0x62];
+//! let data = Data {
+//!     reader_id: EntityId::UNKNOWN,
+//!     writer_id: EntityId::writer([0, 0, 1]),
+//!     writer_sn: Sn::new(1),
+//!     content: DataContent::Write(DatumRef::new(Key([7; 16]), &value)),
+//! };
+//! let message = Message {
+//!     prefix: GuidPrefix([1; 12]),
+//!     submessages: Submessages::from_vec(vec![in alloc; Submessage::Data(data)]?),
+//! };
+//! if is_writable(&message) {
+//!     let bytes = write_message(alloc, &message)?;
+//!     let read = read_message(alloc, &bytes)?; // Some: this message, with `stop` at the end of the bytes
+//! }
+//! ```
 #![tactic(auto)]
 
 mod acknack;
