@@ -4,6 +4,35 @@
 //! (behaviour).
 //! Not here: the network between peers (`dds_world`), the bytes of messages (`rtps_wire`), a writer and what it
 //! keeps (`rtps_writer`), what a reader holds (`dds_cache`) and whose leases are over (`dds_lease`).
+//!
+//! Both peers of the configuration in the head of `dds_base`, whose packets the caller carries:
+//!
+//! ```rust
+//! use dds_base::{Key, Masks, Octets, Selection};
+//! use dds_core::Core;
+//! use dds_model::{Call, Event};
+//!
+//! let mut writers: Core = Core::open(alloc, &config, 1)?;
+//! let mut readers: Core = Core::open(alloc, &config, 2)?;
+//! let call = Call::Write {
+//!     writer: 1,
+//!     key: Key([7; 16]),
+//!     value: Octets::from_vec(vec![in alloc; 0x61, 0x62]?),
+//! };
+//! let output = writers.step(Event::Call(call)); // Done, with a packet for peer 2
+//! for packet in output.packets.into_vec() {
+//!     let _ = readers.step(Event::Deliver(packet.bytes)); // Reported: the place is now 2
+//! }
+//! let selection = Selection::Any {
+//!     max: -1,
+//!     masks: Masks::ANY,
+//! };
+//! let call = Call::Take {
+//!     reader: 1,
+//!     selection,
+//! };
+//! let output = readers.step(Event::Call(call)); // Samples
+//! ```
 #![tactic(auto)]
 
 mod access;
