@@ -4,6 +4,8 @@ use Rattle.std.proofs.Common.{arith, length, ◌⊎◌, inl, inr, ⊎_elim, get_
 use Rattle.std.specs.Prelude.{None, Some, slice_get, slice_set, Result, Ok, Err, IfOk, OnErr, IsOk}
 use Rattle.std.proofs.lemmas.Bool.{cases_lt}
 use Rattle.std.proofs.lemmas.Option.{same_Some, slice_get-get_or}
+use Rattle.std.proofs.Math.ListN.{length-set}
+use Rattle.dds_base.specs.declared.code.Code.{Code}
 use Rattle.dds_base.specs.declared.happening.Happening.{Happening}
 use Rattle.dds_base.specs.declared.qos.ReaderQos.{ReaderQos}
 use Rattle.dds_base.specs.Places.{Match}
@@ -14,9 +16,9 @@ use Rattle.rtps_reader.specs.Tracked.{Tracked, SameTracked, is_later}
 use Rattle.rtps_reader.specs.Advance.{Advances, Moves}
 use Rattle.rtps_reader.specs.Answer.{HeartbeatMoves, IsIdle, Accepts}
 use Rattle.rtps_reader.specs.declared.writer_proxy.Source.{Source}
-use Rattle.rtps_reader.specs.Proxy.{match_of, tracked, IsSound, IsProxyReady}
+use Rattle.rtps_reader.specs.Proxy.{match_of, tracked, IsSound, IsProxyReady, ProxyKeepsRest}
 use Rattle.rtps_reader.specs.Reader.{Proxies, Tracks, count_of, IsReady, AreSound, AllStay, OthersStay, match_at}
-use Rattle.rtps_reader.specs.Reader.{MovesOn, TakesHeartbeat}
+use Rattle.rtps_reader.specs.Reader.{MovesOn, TakesHeartbeat, KeepsRest}
 use Rattle.rtps_reader.proofs.MoveLaws.{same_is}
 
 get-set_same : {X : Type 0} (xs : List X) (i : ℕ) (x y : X) → slice_get xs i ≡ Some y
@@ -223,7 +225,7 @@ stays (p ∷ rest) zero proxy new at same (suc k) t has = has
 stays (p ∷ rest) (suc writer) proxy new at same zero t has = has
 stays (p ∷ rest) (suc writer) proxy new at same (suc k) t has = stays rest writer proxy new at same k t has
 
-pub stays_all : {E : Type 0} {reader : Proxies} {items : List WriterProxy} {writer : ℕ} {proxy : WriterProxy}
+stays_all : {E : Type 0} {reader : Proxies} {items : List WriterProxy} {writer : ℕ} {proxy : WriterProxy}
     → Opened reader items writer proxy → (new : WriterProxy) (r : Result Step E)
     → OnErr r (SameTracked (tracked proxy) (tracked new))
     → OnErr r (AllStay reader (record { proxies = slice_set items writer new }))
@@ -232,17 +234,34 @@ stays_all {items = items} {writer} {proxy} o new (Err e) same = subst
     (λ (u : Proxies). AllStay u (record { proxies = slice_set items writer new })) o.view
     (stays items writer proxy new o.at same)
 
-pub others_stay : {reader : Proxies} {items : List WriterProxy} {writer : ℕ} {proxy : WriterProxy}
+others_stay : {reader : Proxies} {items : List WriterProxy} {writer : ℕ} {proxy : WriterProxy}
     → Opened reader items writer proxy → (new : WriterProxy)
     → OthersStay writer reader (record { proxies = slice_set items writer new })
 others_stay {reader} {items} {writer} o new =
     subst (λ (u : Proxies). OthersStay writer u (record { proxies = slice_set items writer new })) o.view
     (λ k t ne has. (has.0, get-set_other items writer new k ne ∙ has.1, has.2))
 
-pub ready_of : {reader : Proxies} {items : List WriterProxy} {writer : ℕ} {proxy : WriterProxy}
+ready_of : {reader : Proxies} {items : List WriterProxy} {writer : ℕ} {proxy : WriterProxy}
     → Opened reader items writer proxy → (spare : ℕ) → IsReady reader spare → IsProxyReady proxy spare
 ready_of {writer = writer} {proxy} o spare ready = ready writer proxy
     (ap (λ (r : Proxies). slice_get r.proxies writer) (sym o.view) ∙ o.at)
+
+-- what the proxy of a writer leaves alone, the reader does, and so for its refusals
+pub keeps_all : {S : Type 0} {Stands : S → List Happening → Type 0} {policies : S → ReaderQos} {spare : S → ℕ}
+    {reader : Proxies} {items : List WriterProxy} {writer : ℕ} {proxy new : WriterProxy} {before after : S}
+    {answer : Result Step Code}
+    → Opened reader items writer proxy → ProxyKeepsRest Stands policies spare proxy new before after answer
+    → KeepsRest Stands policies spare writer reader (record { proxies = slice_set items writer new }) before after answer
+keeps_all {reader = reader} {items} {writer} {new = new} {answer = answer} o keeps = record {
+  sayable = keeps.sayable;
+  others = others_stay o new;
+  count = length-set items writer new ∙ ap (λ (r : Proxies). count_of r) o.view;
+  qos = keeps.qos;
+  err = stays_all o new answer keeps.err;
+  err_sink = keeps.err_sink;
+  memory = keeps.memory;
+  succeeds = λ ready. keeps.succeeds (ready_of o _ ready);
+}
 
 pub sound_set : (items : List WriterProxy) (writer : ℕ) (new : WriterProxy) → AreSound items → IsSound new
     → AreSound (slice_set items writer new)

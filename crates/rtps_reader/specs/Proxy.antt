@@ -3,17 +3,23 @@
 -- RTPS 2.5, 8.4.10 (WriterProxy, ChangeFromWriter).
 use Rattle.std.specs.Prelude.{◌≡◌, ℕ, ◌+◌, ◌*◌, ◌<◌, ◌≤◌, ◌^◌, min, List, [], ◌∷◌, true, ◌==◌, ◌&&◌, nat_le, nat_lt}
 use Rattle.std.specs.Prelude.{Option, None, Some, is_some, is_none, if◌then◌else◌, vec_len, vec_capacity}
+use Rattle.std.specs.Prelude.{Result, OnErr, IsOk, IfOk, IfErr, IfSome}
 use Rattle.dds_base.specs.declared.change.Change.{Change}
+use Rattle.dds_base.specs.declared.code.Code.{Code}
+use Rattle.dds_base.specs.declared.code.Code.TheVariants.{Memory}
 use Rattle.dds_base.specs.declared.happening.Arrival.{Arrival}
+use Rattle.dds_base.specs.declared.happening.Happening.{Happening}
 use Rattle.dds_base.specs.declared.qos.ReaderQos.{ReaderQos}
 use Rattle.dds_base.specs.Places.{Match}
 use Rattle.rtps_sets.specs.Window.{Marks, mark_of, place_of, room_of}
 use Rattle.rtps_sets.specs.NumberSet.{NumberSet}
 use Rattle.rtps_sets.specs.declared.window.Mark.{Mark}
 use Rattle.rtps_sets.specs.declared.window.Mark.TheVariants as mark
+use Rattle.rtps_reader.specs.declared.step.Step.{Step}
 use Rattle.rtps_reader.specs.declared.writer_proxy.WriterProxy.{WriterProxy}
 use Rattle.rtps_reader.specs.declared.writer_proxy.Source.{Source}
-use Rattle.rtps_reader.specs.Tracked.{Slot, Missing, Held, Irrelevant, Tracked, is_named}
+use Rattle.rtps_reader.specs.Tracked.{Slot, Missing, Held, Irrelevant, Tracked, SameTracked, is_named}
+use Rattle.rtps_reader.specs.Answer.{IsSayable}
 
 -- a reader's match with the writer that is heard
 abbrev pub match_of : ReaderQos → Source → Match
@@ -69,3 +75,14 @@ pub record IsProxyReady (p : WriterProxy) (sink_spare : ℕ) : Type 0 where
 abbrev pub mark_named : ℕ → NumberSet → ℕ → Marks → ℕ → Option Mark
 mark_named start list to w n = if is_named start list n &&
     ((nat_le (place_of w) n && nat_lt n to) && is_none (mark_of w n)) then Some mark.Irrelevant else mark_of w n
+
+-- what any submessage leaves alone, and how it may be refused: at the proxy, and at the sink, as KeepsRest has it of a reader
+pub record ProxyKeepsRest {S : Type 0} (Stands : S → List Happening → Type 0) (policies : S → ReaderQos) (spare : S → ℕ)
+    (old new : WriterProxy) (before after : S) (answer : Result Step Code) : Type 0 where
+  pub sound : IsSound new
+  pub sayable : IfOk answer (λ step. IfSome step.acknack IsSayable)
+  pub qos : policies after ≡ policies before
+  pub err : OnErr answer (SameTracked (tracked old) (tracked new))
+  pub err_sink : OnErr answer ((h : List Happening) → Stands before h → Stands after h)
+  pub memory : IfErr answer (λ code. code ≡ Memory)
+  pub succeeds : IsProxyReady old (spare before) → IsOk answer

@@ -2,6 +2,9 @@
 --
 -- RTPS 2.5, 8.4.10 (StatefulReader: matched_writers), 8.4.12.
 use Rattle.std.specs.Prelude.{◌≡◌, ◌≢◌, ℕ, ◌+◌, List, length, false, None, Some, slice_get}
+use Rattle.std.specs.Prelude.{Result, OnErr, IsOk, IfOk, IfErr, IfSome}
+use Rattle.dds_base.specs.declared.code.Code.{Code}
+use Rattle.dds_base.specs.declared.code.Code.TheVariants.{Memory}
 use Rattle.dds_base.specs.declared.happening.Happening.{Happening}
 use Rattle.dds_base.specs.declared.qos.ReaderQos.{ReaderQos}
 use Rattle.dds_base.specs.Places.{Match}
@@ -10,7 +13,7 @@ use Rattle.rtps_reader.specs.declared.step.HeartbeatSeen.{HeartbeatSeen}
 use Rattle.rtps_reader.specs.declared.step.Step.{Step}
 use Rattle.rtps_reader.specs.Tracked.{Tracked, SameTracked}
 use Rattle.rtps_reader.specs.Advance.{Advances}
-use Rattle.rtps_reader.specs.Answer.{Accepts}
+use Rattle.rtps_reader.specs.Answer.{Accepts, IsSayable}
 use Rattle.rtps_reader.specs.Proxy.{tracked, IsSound, IsProxyReady}
 
 -- what a reader keeps; callers see it through Tracks, count_of and IsReady
@@ -64,3 +67,24 @@ pub record TakesHeartbeat (match : Match) (t : Tracked) (h : List Happening) (he
   pub accepts : Accepts match t h heartbeat step new after
   pub known : Knows new
   pub stands : Stands after
+
+-- what any submessage of a writer leaves alone, and how it may be refused: of the reader, and of its sink, which is seen
+-- by what it stands for, its policies, and how many more entries can't fail
+pub record KeepsRest {S : Type 0} (Stands : S → List Happening → Type 0) (policies : S → ReaderQos) (spare : S → ℕ)
+    (writer : ℕ) (old new : Proxies) (before after : S) (answer : Result Step Code) : Type 0 where
+  -- an ACKNACK that is due can be written
+  pub sayable : IfOk answer (λ step. IfSome step.acknack IsSayable)
+  -- nothing becomes known of other writers
+  pub others : OthersStay writer old new
+  -- the writers stay
+  pub count : count_of new ≡ count_of old
+  -- the policies stay
+  pub qos : policies after ≡ policies before
+  -- a refusal leaves all that is known as it was
+  pub err : OnErr answer (AllStay old new)
+  -- a refusal leaves what happened as it was
+  pub err_sink : OnErr answer ((h : List Happening) → Stands before h → Stands after h)
+  -- it is refused for want of memory alone
+  pub memory : IfErr answer (λ code. code ≡ Memory)
+  -- where memory was made for it, it succeeds
+  pub succeeds : IsReady old (spare before) → IsOk answer

@@ -2,12 +2,12 @@
 //!
 //! RTPS 2.5, 8.4.10 (StatefulReader), 8.4.12.
 
-ghost use Rattle.std.specs.Prelude.{◌≡◌, ℕ, ◌+◌, ◌-◌, ◌^◌, ◌<◌, ◌≤◌, List, length, true, false, OnOk, OnErr, IsOk, IfOk, IfErr, IfSome};
+ghost use Rattle.std.specs.Prelude.{◌≡◌, ℕ, ◌+◌, ◌-◌, ◌^◌, ◌<◌, ◌≤◌, List, length, true, false, OnOk, IsOk, IfOk, IfErr};
 ghost use Rattle.dds_base.specs.declared.code.Code.TheVariants.{Memory};
 ghost use Rattle.dds_base.specs.declared.happening.Happening.{Happening};
 ghost use Rattle.rtps_reader.specs.Tracked.{Tracked, fresh, is_later, with_data, with_gap};
-ghost use Rattle.rtps_reader.specs.Answer.{IsIdle, IsSayable};
-ghost use Rattle.rtps_reader.specs.Reader.{Tracks, count_of, IsReady, AllStay, OthersStay, match_at, MovesOn, TakesHeartbeat};
+ghost use Rattle.rtps_reader.specs.Answer.{IsIdle};
+ghost use Rattle.rtps_reader.specs.Reader.{Tracks, count_of, IsReady, AllStay, match_at, MovesOn, TakesHeartbeat, KeepsRest};
 
 use crate::sink::Sink;
 use crate::step::{HeartbeatSeen, Step};
@@ -140,23 +140,9 @@ impl StatefulReader {
             → Tracks self.old writer t → S.stands sink.old h
             → MovesOn (match_at (S.qos sink.old) writer moment) (with_data number change t) h step
             (Tracks self.new writer) (S.stands sink.new)) }
-        // An ACKNACK that is due can be written.
-        ensures sayable { IfOk result (λ step. IfSome step.acknack IsSayable) }
-        // Nothing becomes known of other writers.
-        ensures others { OthersStay writer self.old self.new }
-        // The writers stay.
-        ensures count { count_of self.new ≡ count_of self.old }
-        // The policies stay.
-        ensures qos { S.qos sink.new ≡ S.qos sink.old }
-        // A refusal leaves all that is known as it was.
-        ensures err { OnErr result (AllStay self.old self.new) }
-        // A refusal leaves what happened as it was.
-        ensures err_sink { OnErr result ((h : List Happening) → S.stands sink.old h
-            → S.stands sink.new h) }
-        // It is refused for want of memory alone.
-        ensures memory { IfErr result (λ code. code ≡ Memory) }
-        // Where memory was made for it, it succeeds.
-        ensures succeeds { IsReady self.old (S.spare sink.old) → IsOk result }
+        // Nothing else changes; a refusal, for want of memory alone, changes nothing at all.
+        ensures keeps { KeepsRest S.stands S.qos S.spare writer
+            self.old self.new sink.old sink.new result }
     {
         let proxy = &mut self.proxies[writer];
         let source = source_of(writer, moment);
@@ -193,23 +179,9 @@ impl StatefulReader {
             → Tracks self.old writer t → S.stands sink.old h
             → MovesOn (match_at (S.qos sink.old) writer moment) (with_gap start list.now t) h step
             (Tracks self.new writer) (S.stands sink.new)) }
-        // An ACKNACK that is due can be written.
-        ensures sayable { IfOk result (λ step. IfSome step.acknack IsSayable) }
-        // Nothing becomes known of other writers.
-        ensures others { OthersStay writer self.old self.new }
-        // The writers stay.
-        ensures count { count_of self.new ≡ count_of self.old }
-        // The policies stay.
-        ensures qos { S.qos sink.new ≡ S.qos sink.old }
-        // A refusal leaves all that is known as it was.
-        ensures err { OnErr result (AllStay self.old self.new) }
-        // A refusal leaves what happened as it was.
-        ensures err_sink { OnErr result ((h : List Happening) → S.stands sink.old h
-            → S.stands sink.new h) }
-        // It is refused for want of memory alone.
-        ensures memory { IfErr result (λ code. code ≡ Memory) }
-        // Where memory was made for it, it succeeds.
-        ensures succeeds { IsReady self.old (S.spare sink.old) → IsOk result }
+        // Nothing else changes; a refusal, for want of memory alone, changes nothing at all.
+        ensures keeps { KeepsRest S.stands S.qos S.spare writer
+            self.old self.new sink.old sink.new result }
     {
         let proxy = &mut self.proxies[writer];
         let source = source_of(writer, moment);
@@ -254,23 +226,9 @@ impl StatefulReader {
             → IsOk result
             × IfOk result
             (λ step. IsIdle t.place step × Tracks self.new writer t × S.stands sink.new h) }
-        // An ACKNACK that is due can be written.
-        ensures sayable { IfOk result (λ step. IfSome step.acknack IsSayable) }
-        // Nothing becomes known of other writers.
-        ensures others { OthersStay writer self.old self.new }
-        // The writers stay.
-        ensures count { count_of self.new ≡ count_of self.old }
-        // The policies stay.
-        ensures qos { S.qos sink.new ≡ S.qos sink.old }
-        // A refusal leaves all that is known as it was.
-        ensures err { OnErr result (AllStay self.old self.new) }
-        // A refusal leaves what happened as it was.
-        ensures err_sink { OnErr result ((h : List Happening) → S.stands sink.old h
-            → S.stands sink.new h) }
-        // It is refused for want of memory alone.
-        ensures memory { IfErr result (λ code. code ≡ Memory) }
-        // Where memory was made for it, it succeeds.
-        ensures succeeds { IsReady self.old (S.spare sink.old) → IsOk result }
+        // Nothing else changes; a refusal, for want of memory alone, changes nothing at all.
+        ensures keeps { KeepsRest S.stands S.qos S.spare writer
+            self.old self.new sink.old sink.new result }
     {
         let proxy = &mut self.proxies[writer];
         let source = source_of(writer, moment);

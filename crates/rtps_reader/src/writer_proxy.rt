@@ -2,7 +2,7 @@
 //!
 //! RTPS 2.5, 8.4.10 (WriterProxy, ChangeFromWriter).
 
-ghost use Rattle.std.specs.Prelude.{◌≡◌, ◌≢◌, ℕ, ◌+◌, ◌-◌, ◌*◌, ◌^◌, ◌<◌, ◌≤◌, ◌&&◌, ◌||◌, ◌==◌, min, List, ◌∷◌, ◌++◌, [], length, Bool, true, false, nat_lt, nat_le, is_none, None, Some, if◌then◌else◌, slice_index_or, OnOk, OnErr, IsOk, IfOk, IfErr, IfSome, IfNone, vec_len, vec_capacity};
+ghost use Rattle.std.specs.Prelude.{◌≡◌, ◌≢◌, ℕ, ◌+◌, ◌-◌, ◌*◌, ◌^◌, ◌<◌, ◌≤◌, ◌&&◌, ◌||◌, ◌==◌, min, List, ◌∷◌, ◌++◌, [], length, Bool, true, false, nat_lt, nat_le, is_none, None, Some, if◌then◌else◌, slice_index_or, OnOk, IsOk, IfOk, IfErr, IfSome, IfNone, vec_len, vec_capacity};
 ghost use Rattle.dds_base.specs.declared.code.Code.TheVariants.{Memory};
 ghost use Rattle.dds_base.specs.declared.change.Change.{Change};
 ghost use Rattle.dds_base.specs.declared.happening.Arrival.{Arrival};
@@ -14,7 +14,7 @@ ghost use Rattle.rtps_sets.specs.Window.{mark_of, place_of, room_of, can_mark};
 ghost use Rattle.rtps_sets.specs.declared.window.Mark.TheVariants as mark;
 ghost use Rattle.rtps_reader.specs.Tracked.{Tracked, Held, fresh, is_named, is_passable, is_later, with_data, with_gap, with_heartbeat, SameTracked};
 ghost use Rattle.rtps_reader.specs.Advance.{ArePassable, PassesOver, HandsOn, Moves, run_of, passed_from};
-ghost use Rattle.rtps_reader.specs.Proxy.{match_of, change_at, stamped, tracked, mark_named, IsSound, CanMove, IsProxyReady};
+ghost use Rattle.rtps_reader.specs.Proxy.{match_of, change_at, stamped, tracked, mark_named, IsSound, CanMove, IsProxyReady, ProxyKeepsRest};
 ghost use Rattle.rtps_reader.specs.Answer.{Answers, HeartbeatMoves, IsIdle, IsSayable, answered, heard_after};
 
 use crate::sink::Sink;
@@ -472,18 +472,13 @@ impl WriterProxy {
         requires sound { IsSound self.old }
         requires matched { IsMatched (S.qos sink.old) source.now.publication }
         requires small { number ≤ 2 ^ 62 }
-        ensures sound { IsSound self.new }
         ensures moves { IfOk result
             (λ step. Moves (match_of (S.qos sink.old) source.now) (S.stands sink.old)
             (S.stands sink.new)
             (with_data number change (tracked self.old)) step.to step.passed (tracked self.new)) }
         ensures quiet { IfOk result (λ step. (step.heard ≡ false) × (step.acknack ≡ None)) }
-        ensures qos { S.qos sink.new ≡ S.qos sink.old }
-        ensures err { OnErr result (SameTracked (tracked self.old) (tracked self.new)) }
-        ensures sink_err { OnErr result ((h : List Happening) → S.stands sink.old h
-            → S.stands sink.new h) }
-        ensures memory { IfErr result (λ code. code ≡ Memory) }
-        ensures succeeds { IsProxyReady self.old (S.spare sink.old) → IsOk result }
+        ensures keeps { ProxyKeepsRest S.stands S.qos S.spare
+            self.old self.new sink.old sink.new result }
     {
         self.reserve(sink)?;
         self.hold(Arrival {
@@ -506,18 +501,13 @@ impl WriterProxy {
         requires sound { IsSound self.old }
         requires matched { IsMatched (S.qos sink.old) source.now.publication }
         requires small { list.now.base ≤ 2 ^ 62 }
-        ensures sound { IsSound self.new }
         ensures moves { IfOk result
             (λ step. Moves (match_of (S.qos sink.old) source.now) (S.stands sink.old)
             (S.stands sink.new)
             (with_gap start list.now (tracked self.old)) step.to step.passed (tracked self.new)) }
         ensures quiet { IfOk result (λ step. (step.heard ≡ false) × (step.acknack ≡ None)) }
-        ensures qos { S.qos sink.new ≡ S.qos sink.old }
-        ensures err { OnErr result (SameTracked (tracked self.old) (tracked self.new)) }
-        ensures sink_err { OnErr result ((h : List Happening) → S.stands sink.old h
-            → S.stands sink.new h) }
-        ensures memory { IfErr result (λ code. code ≡ Memory) }
-        ensures succeeds { IsProxyReady self.old (S.spare sink.old) → IsOk result }
+        ensures keeps { ProxyKeepsRest S.stands S.qos S.spare
+            self.old self.new sink.old sink.new result }
     {
         self.reserve(sink)?;
         self.make_irrelevant(start, list);
@@ -534,7 +524,6 @@ impl WriterProxy {
         requires sound { IsSound self.old }
         requires matched { IsMatched (S.qos sink.old) source.now.publication }
         requires small { heartbeat.now.first ≤ 2 ^ 62 }
-        ensures sound { IsSound self.new }
         ensures moves { is_later self.old.count heartbeat.now.count ≡ true
             → IfOk result
             (λ step. HeartbeatMoves (match_of (S.qos sink.old) source.now) (S.stands sink.old)
@@ -543,13 +532,8 @@ impl WriterProxy {
             → (self.new ≡ self.old)
             × (sink.new ≡ sink.old) × IsOk result
             × IfOk result (λ step. IsIdle (tracked self.old).place step) }
-        ensures sayable { IfOk result (λ step. IfSome step.acknack IsSayable) }
-        ensures qos { S.qos sink.new ≡ S.qos sink.old }
-        ensures err { OnErr result (SameTracked (tracked self.old) (tracked self.new)) }
-        ensures sink_err { OnErr result ((h : List Happening) → S.stands sink.old h
-            → S.stands sink.new h) }
-        ensures memory { IfErr result (λ code. code ≡ Memory) }
-        ensures succeeds { IsProxyReady self.old (S.spare sink.old) → IsOk result }
+        ensures keeps { ProxyKeepsRest S.stands S.qos S.spare
+            self.old self.new sink.old sink.new result }
     {
         if !self.is_later(heartbeat.count) {
             return Ok(Step {

@@ -1,5 +1,5 @@
 use Rattle.rtps_reader.specs.Tracked.{with_data}
-use Rattle.rtps_reader.proofs.ReaderLaws.{Opened, opened, moves_all, stays_all, others_stay, ready_of, sound_here, sound_set}
+use Rattle.rtps_reader.proofs.ReaderLaws.{Opened, opened, moves_all, keeps_all, sound_here, sound_set}
 use Rattle.rtps_reader.proofs.stateful_reader.StatefulReader.on_data.Given as given
 use Rattle.rtps_reader.proofs.stateful_reader.StatefulReader.on_data.Goals as goal
 
@@ -13,7 +13,7 @@ on_data-requires-clause-sound g c =
     sound_here c.self.invariant (opened c.self.view_is c.requires.matched c.index_mut-proxy.ensures.value)
 
 pub invariant_of-self : goal.invariant_of-self
-invariant_of-self g c = sound_set _ _ _ c.self.invariant c.on_data.ensures.sound
+invariant_of-self g c = sound_set _ _ _ c.self.invariant c.on_data.ensures.keeps.sound
 
 pub returns-clause-moves : goal.returns-clause-moves
 returns-clause-moves g c =
@@ -22,11 +22,5 @@ returns-clause-moves g c =
     (g.S.Sink.stands c.on_data.new.sink) c.on_data.new.self c.on_data.result c.source_of-source.ensures
     c.on_data.ensures.moves c.on_data.ensures.quiet
 
-pub returns-clause-others : goal.returns-clause-others
-returns-clause-others g c = others_stay (here g c) c.on_data.new.self
-
-pub returns-clause-err : goal.returns-clause-err
-returns-clause-err g c = stays_all (here g c) c.on_data.new.self c.on_data.result c.on_data.ensures.err
-
-pub returns-clause-succeeds : goal.returns-clause-succeeds
-returns-clause-succeeds g c ready = c.on_data.ensures.succeeds (ready_of (here g c) _ ready)
+pub returns-clause-keeps : goal.returns-clause-keeps
+returns-clause-keeps g c = keeps_all (here g c) c.on_data.ensures.keeps

@@ -1,5 +1,4 @@
-use Rattle.rtps_reader.proofs.ReaderLaws.{Opened, opened, accepted_all, repeated_all, stays_all, others_stay, ready_of}
-use Rattle.rtps_reader.proofs.ReaderLaws.{sound_here, sound_set}
+use Rattle.rtps_reader.proofs.ReaderLaws.{Opened, opened, accepted_all, repeated_all, keeps_all, sound_here, sound_set}
 use Rattle.rtps_reader.proofs.stateful_reader.StatefulReader.on_heartbeat.Given as given
 use Rattle.rtps_reader.proofs.stateful_reader.StatefulReader.on_heartbeat.Goals as goal
 
@@ -13,7 +12,7 @@ on_heartbeat-requires-clause-sound g c =
     sound_here c.self.invariant (opened c.self.view_is c.requires.matched c.index_mut-proxy.ensures.value)
 
 pub invariant_of-self : goal.invariant_of-self
-invariant_of-self g c = sound_set _ _ _ c.self.invariant c.on_heartbeat.ensures.sound
+invariant_of-self g c = sound_set _ _ _ c.self.invariant c.on_heartbeat.ensures.keeps.sound
 
 pub returns-clause-accepted : goal.returns-clause-accepted
 returns-clause-accepted g c =
@@ -26,11 +25,5 @@ returns-clause-repeated g c =
     repeated_all (here g c) g.S.Sink.stands c.on_heartbeat.new.self c.args.sink.now c.on_heartbeat.new.sink
     c.args.heartbeat.now c.on_heartbeat.result c.on_heartbeat.ensures.repeated
 
-pub returns-clause-others : goal.returns-clause-others
-returns-clause-others g c = others_stay (here g c) c.on_heartbeat.new.self
-
-pub returns-clause-err : goal.returns-clause-err
-returns-clause-err g c = stays_all (here g c) c.on_heartbeat.new.self c.on_heartbeat.result c.on_heartbeat.ensures.err
-
-pub returns-clause-succeeds : goal.returns-clause-succeeds
-returns-clause-succeeds g c ready = c.on_heartbeat.ensures.succeeds (ready_of (here g c) _ ready)
+pub returns-clause-keeps : goal.returns-clause-keeps
+returns-clause-keeps g c = keeps_all (here g c) c.on_heartbeat.ensures.keeps
