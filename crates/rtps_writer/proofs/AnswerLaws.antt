@@ -62,6 +62,12 @@ third_fails false b c h = refl
 pub requested-within : (set : NumberSet) (from to n : ℕ) → is_requested set from to n ≡ true → n ≤ to
 requested-within set from to n h = leb-true n to (third_of (has_number set n) (nat_le from n) (nat_le n to) h)
 
+-- what a test has answered of a number is whether it is requested, by another name of the last one
+pub requested-at : (set : NumberSet) (from last to n : ℕ) (answer b : Bool) → last ≡ to
+    → answer ≡ is_requested set from last n → answer ≡ b → is_requested set from to n ≡ b
+requested-at set from last to n answer b same tests is =
+    ap (λ (k : ℕ). is_requested set from k n) (sym same) ∙ (sym tests ∙ is)
+
 -- the answers from one place earlier on, whose number is requested; a number past 2^64 - 1 is none
 pub step-requested : (kept : ℕ → Bool) (place number : ℕ) (set : NumberSet) (from to : ℕ) (b : Bool)
     (answers : List Answer)

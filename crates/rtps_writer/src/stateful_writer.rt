@@ -388,36 +388,35 @@ impl StatefulWriter {
             && base.number() <= self.history.last().number().saturating_add(1)
     }
 
-    /// What an ACKNACK of this reader that is applied does.
-    fn apply(
-        &mut self,
-        reader: usize,
-        base: Sn,
-        set: &SnSet,
-        count: i32,
-        room: Vec<Answer>,
-    ) -> Answered
-        requires reader { reader < reader_count self.old }
-        requires none { room.items ≡ [] }
-        requires room { span set.now.members ≤ vec_capacity room }
+    /// An ACKNACK of this reader is applied: the number below which it has acknowledged all, where that is greater than
+    /// before.
+    fn apply(&mut self, reader: usize, base: Sn, count: i32) -> Option<Sn>
+        requires { reader < reader_count self.old }
         ensures stands { (s : WriterState) → StandsFor self.old s
             → StandsFor self.new (applied s reader base count) }
         ensures acknowledged { (s : WriterState) → StandsFor self.old s
-            → result.acknowledged ≡ newly_acknowledged s (applied s reader base count) reader }
-        ensures answers { (s : WriterState) → StandsFor self.old s
-            → result.answers.items ≡ answers_after (applied s reader base count) reader set.now }
+            → result ≡ newly_acknowledged s (applied s reader base count) reader }
         ensures readers { reader_count self.new ≡ reader_count self.old }
     {
-        let mut answers = room;
         let before = self.history.acknowledged(reader);
         self.history.acked(reader, base);
         self.counts[reader] = Some(count);
         let after = self.history.acknowledged(reader);
-        put_answers(&mut answers, &self.history, set, after);
-        Answered {
-            acknowledged: if_later(before, after),
-            answers,
-        }
+        if_later(before, after)
+    }
+
+    /// The answers to the members of the set from what this reader has acknowledged on. There is room for them.
+    fn answer(&self, reader: usize, set: &SnSet, room: Vec<Answer>) -> Vec<Answer>
+        requires reader { reader < reader_count self.now }
+        requires none { room.items ≡ [] }
+        requires room { span set.now.members ≤ vec_capacity room }
+        ensures { (s : WriterState) → StandsFor self.now s
+            → result.items ≡ answers_after s reader set.now }
+    {
+        let mut answers = room;
+        let from = self.history.acknowledged(reader);
+        put_answers(&mut answers, &self.history, set, from);
+        answers
     }
 
     /// An ACKNACK of this reader, as `on_acknack` has it, with room for the answers, which was made before: it is never
@@ -452,7 +451,11 @@ impl StatefulWriter {
         ensures readers { reader_count self.new ≡ reader_count self.old }
     {
         if self.applies(reader, base, count) {
-            self.apply(reader, base, set, count, room)
+            let acknowledged = self.apply(reader, base, count);
+            Answered {
+                acknowledged,
+                answers: self.answer(reader, set, room),
+            }
         } else {
             Answered {
                 acknowledged: None,

@@ -1,7 +1,7 @@
 use Rattle.std.proofs.Common.{◌≡◌, ◌+◌, ◌-◌, ◌^◌, ℕ, List, min, length, true, false, ap, sym, ◌∙◌, arith}
 use Rattle.dds_base.specs.Kept.{is_kept}
-use Rattle.rtps_writer.specs.Answers.{answers_to, is_requested}
-use Rattle.rtps_writer.proofs.AnswerLaws.{from-first, nothing-past, requested_from, step-other, step-requested}
+use Rattle.rtps_writer.specs.Answers.{answers_to}
+use Rattle.rtps_writer.proofs.AnswerLaws.{from-first, nothing-past, requested-at, requested_from, step-other, step-requested}
 use Rattle.rtps_writer.proofs.answer.put_answers.Goals as goal
 
 pub loop-place-init : goal.loop-place-init
@@ -23,14 +23,13 @@ loop-place-preserved-then-is_requested c =
           let last = c.last-last.ensures.last w given in
           let number : c.new-number.result ≡ min (c.args.set.now.base + (c.loop-place.place - 1)) (2 ^ 64 - 1) =
           omega (arith, c.new-number.ensures.number, c.saturating_add.ensures, base) in
-          let is : is_requested c.args.set.now c.args.from (length w.changes) c.new-number.result ≡ true =
-          ap (λ (n : ℕ). is_requested c.args.set.now c.args.from n c.new-number.result) (sym last)
-          ∙ (sym c.is_requested.ensures ∙ c.if-is_requested.true) in
           c.put_before.ensures.items
           ∙ step-requested (λ n. is_kept w n) c.loop-place.place c.new-number.result c.args.set.now c.args.from
           (length w.changes) c.kept.result c.loop-place.answers.items
           (omega (arith, c.loop-place-test.true)) room.0 number
-          (omega (arith, last, c.last-last.ensures.few w given)) is (room.2 w given) (c.kept.ensures.kept w given),
+          (omega (arith, last, c.last-last.ensures.few w given))
+          (requested-at c.args.set.now c.args.from _ _ c.new-number.result _ true last c.is_requested.ensures
+          c.if-is_requested.true) (room.2 w given) (c.kept.ensures.kept w given),
     )
 
 pub loop-place-preserved : goal.loop-place-preserved
@@ -43,13 +42,12 @@ loop-place-preserved c =
           let last = c.last-last.ensures.last w given in
           let number : c.new-number.result ≡ min (c.args.set.now.base + (c.loop-place.place - 1)) (2 ^ 64 - 1) =
           omega (arith, c.new-number.ensures.number, c.saturating_add.ensures, base) in
-          let is : is_requested c.args.set.now c.args.from (length w.changes) c.new-number.result ≡ false =
-          ap (λ (n : ℕ). is_requested c.args.set.now c.args.from n c.new-number.result) (sym last)
-          ∙ (sym c.is_requested.ensures ∙ c.if-is_requested.false) in
           step-other (λ n. is_kept w n) c.loop-place.place c.new-number.result c.args.set.now c.args.from
           (length w.changes) c.loop-place.answers.items
           (omega (arith, c.loop-place-test.true)) room.0 number
-          (omega (arith, last, c.last-last.ensures.few w given)) is (room.2 w given),
+          (omega (arith, last, c.last-last.ensures.few w given))
+          (requested-at c.args.set.now c.args.from _ _ c.new-number.result _ false last c.is_requested.ensures
+          c.if-is_requested.false) (room.2 w given),
     )
 
 pub returns : goal.returns

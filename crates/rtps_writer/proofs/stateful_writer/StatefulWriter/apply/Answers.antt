@@ -1,9 +1,8 @@
 use Rattle.std.proofs.Common.{ℕ, ℤ, Some, set, ap, sym, ◌∙◌, w32}
 use Rattle.std.proofs.lemmas.Int.{to_z-of_z}
-use Rattle.dds_base.specs.Kept.{acknowledge, is_kept}
+use Rattle.dds_base.specs.Kept.{acknowledge}
 use Rattle.rtps_writer.specs.Acknack.{if_later}
-use Rattle.rtps_writer.specs.Answers.{answers_to, requested}
-use Rattle.rtps_writer.specs.WriterState.{acknowledged_by, history_of, last_of}
+use Rattle.rtps_writer.specs.WriterState.{acknowledged_by, history_of}
 use Rattle.rtps_writer.proofs.AcknackLaws.{acknack-stands}
 use Rattle.rtps_writer.proofs.Parts.{history_at, stands_as}
 use Rattle.rtps_writer.proofs.stateful_writer.StatefulWriter.apply.Goals as goal
@@ -25,12 +24,3 @@ returns-clause-acknowledged c = λ s given.
     ∙ (ap (λ (n : ℕ). if_later n c.acknowledged-after.result) (c.acknowledged-before.ensures.acknowledged (history_of s) h)
     ∙ ap (λ (n : ℕ). if_later (acknowledged_by s c.args.reader) n)
     (c.acknowledged-after.ensures.acknowledged (acknowledge (history_of s) c.args.reader c.args.base) moved))
-
-pub returns-clause-answers : goal.returns-clause-answers
-returns-clause-answers c = λ s given.
-    let h = history_at _ c.args.self.now s c.self.view_is given in
-    let moved = c.acked.ensures.stands (history_of s) h in
-    c.put_answers.ensures (acknowledge (history_of s) c.args.reader c.args.base) moved
-    ∙ ap (λ (n : ℕ). answers_to (λ k. is_kept (acknowledge (history_of s) c.args.reader c.args.base) k)
-    (requested c.args.set.now n (last_of s)))
-    (c.acknowledged-after.ensures.acknowledged (acknowledge (history_of s) c.args.reader c.args.base) moved)

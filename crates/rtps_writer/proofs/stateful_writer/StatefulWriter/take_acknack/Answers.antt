@@ -7,22 +7,22 @@ use Rattle.rtps_writer.proofs.stateful_writer.StatefulWriter.take_acknack.Goals 
 
 pub returns-then-applies-clause-stands : goal.returns-then-applies-clause-stands
 returns-then-applies-clause-stands c = λ s given.
-    subst (λ (z : ℤ). StandsFor c.apply.new.self (after_acknack s c.args.reader c.args.base z))
+    subst (λ (z : ℤ). StandsFor c.apply-acknowledged.new.self (after_acknack s c.args.reader c.args.base z))
     (to_z-of_z w32 c.args.count c.ranges.count)
     (stands-applied _ s c.args.reader c.args.base _ (sym (c.applies.ensures s given) ∙ c.if-applies.true)
-    (c.apply.ensures.stands s given))
+    (c.apply-acknowledged.ensures.stands s given))
 
 pub returns-then-applies-clause-acknowledged : goal.returns-then-applies-clause-acknowledged
 returns-then-applies-clause-acknowledged c = λ s given.
     newly-applied s c.args.reader c.args.base _ _ (sym (c.applies.ensures s given) ∙ c.if-applies.true)
-    (c.apply.ensures.acknowledged s given)
+    (c.apply-acknowledged.ensures.acknowledged s given)
     ∙ ap (λ (z : ℤ). newly_acknowledged s (after_acknack s c.args.reader c.args.base z) c.args.reader)
     (to_z-of_z w32 c.args.count c.ranges.count)
 
 pub returns-then-applies-clause-answers : goal.returns-then-applies-clause-answers
 returns-then-applies-clause-answers c = λ s given.
     answers-applied s c.args.reader c.args.base c.args.set.now _ _
-    (sym (c.applies.ensures s given) ∙ c.if-applies.true) (c.apply.ensures.answers s given)
+    (sym (c.applies.ensures s given) ∙ c.if-applies.true) (c.answer.ensures _ (c.apply-acknowledged.ensures.stands s given))
     ∙ ap (λ (z : ℤ). acknack_answers s c.args.reader c.args.base c.args.set.now z)
     (to_z-of_z w32 c.args.count c.ranges.count)
 
