@@ -16,7 +16,7 @@ use Rattle.dds_base.specs.declared.guid.Guid.{Guid}
 use Rattle.dds_base.specs.declared.happening.Happening.{Happening}
 use Rattle.dds_base.specs.declared.qos.MatchedWriter.{MatchedWriter}
 use Rattle.dds_base.specs.declared.qos.ReaderQos.{ReaderQos}
-use Rattle.dds_base.specs.Ownership.{numbers_from, IsMatched, is_registered, registered_writers, guid_cmp, writer_cmp, writer_of, is_above, outranks, outranks_all, IsOwner, owner_of, HaveOwnGuids}
+use Rattle.dds_base.specs.Ownership.{numbered_from, IsMatched, is_registered, registered_writers, guid_cmp, writer_cmp, writer_of, is_above, outranks, outranks_all, IsOwner, owner_of, HaveOwnGuids}
 
 -- ---- the order of writers
 
@@ -235,13 +235,13 @@ owner-one q ws v w own_v own_w =
     (λ other. let differ : v ≢ w = eqb-false v w other in absurd (outranks-one_way (writer_of q.writers v) (writer_of q.writers w) (own_v.is_greatest w own_w.is_registered (λ e. differ (sym e))) (own_w.is_greatest v own_v.is_registered differ)))
     (cases_Bool (v == w))
 
-numbers-matched : (q : ReaderQos) (i : Key) (h : List Happening) (xs : List MatchedWriter) (k : ℕ) → 0 < k → k + length xs ≤ length q.writers + 1 → AllMatched q (filter (λ w. is_registered i w h) (numbers_from k xs))
+numbers-matched : (q : ReaderQos) (i : Key) (h : List Happening) (xs : List MatchedWriter) (k : ℕ) → 0 < k → k + length xs ≤ length q.writers + 1 → AllMatched q (filter (λ w. is_registered i w h) (numbered_from k xs))
 numbers-matched q i h [] k low high = tt
 numbers-matched q i h (x ∷ xs) k low high =
-    let rest : AllMatched q (filter (λ w. is_registered i w h) (numbers_from (k + 1) xs)) = numbers-matched q i h xs (k + 1) (omega arith) (omega arith) in
+    let rest : AllMatched q (filter (λ w. is_registered i w h) (numbered_from (k + 1) xs)) = numbers-matched q i h xs (k + 1) (omega arith) (omega arith) in
     ⊎_elim
-    (λ is_there. subst (λ (b : Bool). AllMatched q (cond b (k ∷ filter (λ w. is_registered i w h) (numbers_from (k + 1) xs)) (filter (λ w. is_registered i w h) (numbers_from (k + 1) xs)))) (sym is_there) ((low, omega arith), rest))
-    (λ is_gone. subst (λ (b : Bool). AllMatched q (cond b (k ∷ filter (λ w. is_registered i w h) (numbers_from (k + 1) xs)) (filter (λ w. is_registered i w h) (numbers_from (k + 1) xs)))) (sym is_gone) rest)
+    (λ is_there. subst (λ (b : Bool). AllMatched q (cond b (k ∷ filter (λ w. is_registered i w h) (numbered_from (k + 1) xs)) (filter (λ w. is_registered i w h) (numbered_from (k + 1) xs)))) (sym is_there) ((low, omega arith), rest))
+    (λ is_gone. subst (λ (b : Bool). AllMatched q (cond b (k ∷ filter (λ w. is_registered i w h) (numbered_from (k + 1) xs)) (filter (λ w. is_registered i w h) (numbered_from (k + 1) xs)))) (sym is_gone) rest)
     (cases_Bool (is_registered i k h))
 
 exists-in : (q : ReaderQos) (ws : List ℕ) → HaveOwnGuids q → AllMatched q ws → ws ≢ [] → IsSome (owner_of q ws)

@@ -19,13 +19,13 @@ use Rattle.dds_base.specs.declared.qos.OwnershipQos.TheVariants.{Shared, Exclusi
 use Rattle.dds_base.specs.Happening.{same_key, is_write_or_dispose, is_unregister}
 
 -- the numbers of a list's elements, from k on
-abbrev pub numbers_from : {X : Type 0} → ℕ → List X → List ℕ
-numbers_from k [] = []
-numbers_from k (x ∷ xs) = k ∷ numbers_from (k + 1) xs
+abbrev pub numbered_from : {X : Type 0} → ℕ → List X → List ℕ
+numbered_from k [] = []
+numbered_from k (x ∷ xs) = k ∷ numbered_from (k + 1) xs
 
 -- the publication handles of the matched writers: their numbers from 1 (2.2.2.5, publication_handle)
 abbrev pub publication_handles : ReaderQos → List ℕ
-publication_handles q = numbers_from 1 q.writers
+publication_handles q = numbered_from 1 q.writers
 
 -- w is a matched writer's publication handle
 abbrev pub IsMatched : ReaderQos → ℕ → Type 0

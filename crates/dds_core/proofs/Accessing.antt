@@ -27,7 +27,7 @@ use Rattle.dds_model.specs.declared.event.Output.{Output}
 use Rattle.dds_model.specs.declared.reply.Reply.{Reply}
 use Rattle.dds_model.specs.declared.reply.Reply.TheVariants.{Samples, Refused}
 use Rattle.dds_model.specs.Calls.{Answers as CallAnswers, AnswersAccess, AnswersByCondition, CallStep, Effect, nothing, effect, effect_of, access_refusal, picked_at, with_happening}
-use Rattle.dds_model.specs.Numbered.{has_number}
+use Rattle.dds_model.specs.Numbered.{has_element}
 use Rattle.dds_conditions.specs.Watched.{made, no_filters}
 use Rattle.dds_model.specs.Part.{Part, Dds, Reader, WriterProxy, own_reader, own_proxies, Seen}
 use Rattle.dds_model.specs.Peer.{Peer}
@@ -206,7 +206,7 @@ accessed_at {tests} {kind} {c} {test} {selection = selection} {kept} i k k' conf
     let rs = s.readers.each i k at in
     let count = s.readers.count in
     let h : List Happening = (own_reader peer.part (suc i)).happened in
-    let known : has_number peer.part.dds.readers (suc i) ≡ true = there_is peer.part.dds.readers i (omega (arith, lt, count)) in
+    let known : has_element peer.part.dds.readers (suc i) ≡ true = there_is peer.part.dds.readers i (omega (arith, lt, count)) in
     let causes : access_refusal peer.part (suc i) selection ≡ refusal k.store.cache h selection =
     ap (λ (b : Bool). if not b then Some BadParameter else selection_refusal (own_reader peer.part (suc i)).qos h selection) known ∙ ap (λ (q : ReaderQos). selection_refusal q h selection) rs.qos_is in
     follows_as _ config peer (event.Call c) (silent (access_reply r)) output (told ∙ ap silent replied)

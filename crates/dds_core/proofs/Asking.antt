@@ -12,7 +12,7 @@ use Rattle.dds_model.specs.declared.call.Call.TheVariants as call
 use Rattle.dds_model.specs.declared.event.Event.TheVariants as event
 use Rattle.dds_model.specs.declared.reply.Reply.TheVariants.{KeyValue, InstanceHandle, Refused}
 use Rattle.dds_model.specs.Calls.{look_refusal, key_of, key_refusal}
-use Rattle.dds_model.specs.Numbered.{has_number}
+use Rattle.dds_model.specs.Numbered.{has_element}
 use Rattle.dds_model.specs.Part.{Part, own_reader}
 use Rattle.dds_model.specs.Peer.{Peer}
 use Rattle.dds_core.specs.Kept.{ReaderKept, PeerKept}
@@ -28,12 +28,12 @@ record IsAsked (kept : PeerKept) (config : Config) (peer : Peer) (reader i : ℕ
   within : i < length kept.readers
   at : slice_get kept.readers i ≡ Some k
 
-known_reader : (kept : PeerKept) (config : Config) (peer : Peer) (reader i : ℕ) (k : ReaderKept) → IsAsked kept config peer reader i k → has_number peer.part.dds.readers reader ≡ true
+known_reader : (kept : PeerKept) (config : Config) (peer : Peer) (reader i : ℕ) (k : ReaderKept) → IsAsked kept config peer reader i k → has_element peer.part.dds.readers reader ≡ true
 known_reader kept config peer reader i k a =
     let count = a.stands.readers.count in
     let within = a.within in
     let number : suc i ≡ reader = let index : i + 1 ≡ suc i = omega arith in sym (a.number ∙ index) in
-    subst (λ (n : ℕ). has_number peer.part.dds.readers n ≡ true) number (there_is peer.part.dds.readers i (omega (arith, within, count)))
+    subst (λ (n : ℕ). has_element peer.part.dds.readers n ≡ true) number (there_is peer.part.dds.readers i (omega (arith, within, count)))
 
 -- what the store says of all that happened, the machine says
 by_store : {X : Type 0} (of : ReaderQos → List Happening → X) (kept : PeerKept) (config : Config) (peer : Peer) (reader i : ℕ) (k : ReaderKept) (answer : X) → IsAsked kept config peer reader i k
@@ -61,7 +61,7 @@ key_told kept config peer reader i k instance key s is lt at says =
     let a : IsAsked kept config peer reader i k = record { stands = s; number = is; within = lt; at = at } in
     let found : key_of peer.part reader instance ≡ Some key = sym (by_store (λ q h. instance_of q h instance) kept config peer reader i k (Some key) a says) in
     unchanging_call kept config peer s (call.GetKeyValue reader instance) (KeyValue key) refl
-    (key_there (has_number peer.part.dds.readers reader) (key_of peer.part reader instance) key (known_reader kept config peer reader i k a) found, found, refl)
+    (key_there (has_element peer.part.dds.readers reader) (key_of peer.part reader instance) key (known_reader kept config peer reader i k a) found, found, refl)
 
 -- an unknown one has none
 pub key_not_told : (kept : PeerKept) (config : Config) (peer : Peer) (reader i : ℕ) (k : ReaderKept) (instance : ℕ) → StandsFor kept config peer → reader ≡ i + 1 → i < length kept.readers → slice_get kept.readers i ≡ Some k
@@ -69,10 +69,10 @@ pub key_not_told : (kept : PeerKept) (config : Config) (peer : Peer) (reader i :
 key_not_told kept config peer reader i k instance s is lt at says =
     let a : IsAsked kept config peer reader i k = record { stands = s; number = is; within = lt; at = at } in
     unchanging_call kept config peer s (call.GetKeyValue reader instance) (Refused BadParameter) refl
-    (key_missing (has_number peer.part.dds.readers reader) (key_of peer.part reader instance) (sym (by_store (λ q h. instance_of q h instance) kept config peer reader i k None a says)), refl)
+    (key_missing (has_element peer.part.dds.readers reader) (key_of peer.part reader instance) (sym (by_store (λ q h. instance_of q h instance) kept config peer reader i k None a says)), refl)
 
 -- a key is asked of a reader that the peer does not have
-pub no_key : (part : Part) (reader instance : ℕ) → has_number part.dds.readers reader ≡ false → key_refusal part reader instance ≡ Some BadParameter
+pub no_key : (part : Part) (reader instance : ℕ) → has_element part.dds.readers reader ≡ false → key_refusal part reader instance ≡ Some BadParameter
 no_key part reader instance none = ap (λ (b : Bool). if not b || not (is_some (key_of part reader instance)) then Some BadParameter else None) none
 
 -- the handle of an instance

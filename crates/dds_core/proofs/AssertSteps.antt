@@ -13,7 +13,7 @@ use Rattle.dds_model.specs.declared.event.Event.TheVariants as event
 use Rattle.dds_model.specs.declared.event.Packet.{Packet}
 use Rattle.dds_model.specs.declared.reply.Reply.TheVariants.{Done, Refused}
 use Rattle.dds_model.specs.Calls.{CallStep, assert_refusal}
-use Rattle.dds_model.specs.Numbered.{has_number}
+use Rattle.dds_model.specs.Numbered.{has_element}
 use Rattle.dds_conditions.specs.Watched.{no_filters}
 use Rattle.dds_model.specs.Part.{ReaderProxy, Writer, has_readers, heartbeats_used, own_writer, peers_of}
 use Rattle.dds_model.specs.Peer.{Peer}
@@ -72,7 +72,7 @@ asserts : (kept : PeerKept) (i : ℕ) (k k' : WriterKept) (config : Config) (pee
     → Follows (with_writer kept i k') config peer (event.Call (call.AssertLiveliness (suc i))) (record { reply = Done; packets = packets; unsent = unsent })
 asserts kept i k k' config peer s at lt enters packets unsent tells =
     let count = s.writers.count in
-    let known : has_number peer.part.rtps.writers (suc i) ≡ true = there_is peer.part.rtps.writers i (omega (arith, lt, count)) in
+    let known : has_element peer.part.rtps.writers (suc i) ≡ true = there_is peer.part.rtps.writers i (omega (arith, lt, count)) in
     let w : Writer = own_writer peer.part (suc i) in
     let now : ℕ = peer.part.dds.moment in
     let told = told_at kept i k config peer s at packets unsent tells in
@@ -117,7 +117,7 @@ refuses : (kept : PeerKept) (i : ℕ) (k : WriterKept) (config : Config) (peer :
     → Follows kept config peer (event.Call (call.AssertLiveliness (suc i))) (silent (Refused OutOfResources))
 refuses kept i k config peer s at lt used =
     let count = s.writers.count in
-    let known : has_number peer.part.rtps.writers (suc i) ≡ true = there_is peer.part.rtps.writers i (omega (arith, lt, count)) in
+    let known : has_element peer.part.rtps.writers (suc i) ≡ true = there_is peer.part.rtps.writers i (omega (arith, lt, count)) in
     let w : Writer = own_writer peer.part (suc i) in
     let is : assert_refusal peer.part (suc i) ≡ Some OutOfResources =
     ap (λ (b : Bool). if not b then Some BadParameter else (if nat_le (2 ^ 31 - 1) (heartbeats_used w) then Some OutOfResources else None)) known

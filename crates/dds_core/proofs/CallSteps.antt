@@ -21,7 +21,7 @@ use Rattle.dds_model.specs.declared.reply.Reply.{Reply}
 use Rattle.dds_model.specs.declared.reply.Reply.TheVariants.{Done, LivelinessLost, Refused}
 use Rattle.dds_model.specs.declared.endpoint.Endpoint.{Endpoint}
 use Rattle.dds_model.specs.Calls.{Effect, nothing, writes, effect, effect_of, IsDoneUnless, Answers, CallStep, register_refusal, write_refusal, dispose_refusal, unregister_refusal, change_refusal, change_made, unregister_kind, tick_refusal, after_tick, is_deadly, RefusesTick, TickStep, writer_look_refusal}
-use Rattle.dds_model.specs.Numbered.{has_number}
+use Rattle.dds_model.specs.Numbered.{has_element}
 use Rattle.dds_conditions.specs.Watched.{no_filters}
 use Rattle.dds_model.specs.Part.{Part, Dds, Writer, own_writer}
 use Rattle.dds_model.specs.Peer.{Peer, PeerStep}
@@ -119,10 +119,10 @@ refused_call kept config peer s c code is = unchanging_call kept config peer s c
 
 -- numbers of writers and readers
 
-pub no_such : {X : Type 0} (xs : List X) (n count : ℕ) → length xs ≡ count → (nat_lt 0 n && nat_le n count) ≡ false → has_number xs n ≡ false
+pub no_such : {X : Type 0} (xs : List X) (n count : ℕ) → length xs ≡ count → (nat_lt 0 n && nat_le n count) ≡ false → has_element xs n ≡ false
 no_such xs n count same none = ap (λ (m : ℕ). nat_lt 0 n && nat_le n m) same ∙ none
 
-pub there_is : {X : Type 0} (xs : List X) (i : ℕ) → i < length xs → has_number xs (suc i) ≡ true
+pub there_is : {X : Type 0} (xs : List X) (i : ℕ) → i < length xs → has_element xs (suc i) ≡ true
 there_is xs i lt = grind (arith, nat_tests)
 
 bad_first : (b : Bool) (rest : Option Code) → b ≡ false → Refuses (if not b then Some BadParameter else rest) BadParameter
@@ -135,15 +135,15 @@ bad_or false b rest h = refl
 
 -- calls at a writer that the peer does not have
 
-pub no_dispose : (part : Part) (w : ℕ) (key : Key) → has_number part.rtps.writers w ≡ false → Answers no_filters part (call.Dispose w key) (Refused BadParameter) part.dds
-no_dispose part w key none = (bad_first (has_number part.rtps.writers w) _ none, refl)
+pub no_dispose : (part : Part) (w : ℕ) (key : Key) → has_element part.rtps.writers w ≡ false → Answers no_filters part (call.Dispose w key) (Refused BadParameter) part.dds
+no_dispose part w key none = (bad_first (has_element part.rtps.writers w) _ none, refl)
 
-pub no_unregister : (part : Part) (w : ℕ) (key : Key) → has_number part.rtps.writers w ≡ false → Answers no_filters part (call.Unregister w key) (Refused BadParameter) part.dds
-no_unregister part w key none = (bad_first (has_number part.rtps.writers w) _ none, refl)
+pub no_unregister : (part : Part) (w : ℕ) (key : Key) → has_element part.rtps.writers w ≡ false → Answers no_filters part (call.Unregister w key) (Refused BadParameter) part.dds
+no_unregister part w key none = (bad_first (has_element part.rtps.writers w) _ none, refl)
 
 -- a value that is too long
 pub long_write : (part : Part) (w : ℕ) (key : Key) (value : List ℕ) → 1024 < length value → Answers no_filters part (call.Write w key value) (Refused BadParameter) part.dds
-long_write part w key value long = (bad_second (not (has_number part.rtps.writers w)) (nat_lt 1024 (length value)) _ (grind (arith, nat_tests)), refl)
+long_write part w key value long = (bad_second (not (has_element part.rtps.writers w)) (nat_lt 1024 (length value)) _ (grind (arith, nat_tests)), refl)
   where
     bad_second : (a b : Bool) (rest : Option Code) → b ≡ true → Refuses (if a || b then Some BadParameter else rest) BadParameter
     bad_second true b rest h = refl
@@ -151,9 +151,9 @@ long_write part w key value long = (bad_second (not (has_number part.rtps.writer
     bad_second false false rest h = absurd cc
 
 -- an instance that is not registered
-pub unregistered : (part : Part) (w : ℕ) (key : Key) → has_number part.rtps.writers w ≡ true → is_key_registered key (own_writer part w).written ≡ false
+pub unregistered : (part : Part) (w : ℕ) (key : Key) → has_element part.rtps.writers w ≡ true → is_key_registered key (own_writer part w).written ≡ false
     → Answers no_filters part (call.Unregister w key) (Refused PreconditionNotMet) part.dds
-unregistered part w key known none = (unknown_there (has_number part.rtps.writers w) (is_key_registered key (own_writer part w).written) _ known none, refl)
+unregistered part w key known none = (unknown_there (has_element part.rtps.writers w) (is_key_registered key (own_writer part w).written) _ known none, refl)
   where
     unknown_there : (a b : Bool) (rest : Option Code) → a ≡ true → b ≡ false → Refuses (if not a then Some BadParameter else (if not b then Some PreconditionNotMet else rest)) PreconditionNotMet
     unknown_there true false rest h k = refl
@@ -162,17 +162,17 @@ unregistered part w key known none = (unknown_there (has_number part.rtps.writer
 
 -- a register
 
-pub good_register : (part : Part) (w : ℕ) → has_number part.rtps.writers w ≡ true → register_refusal part w ≡ None
+pub good_register : (part : Part) (w : ℕ) → has_element part.rtps.writers w ≡ true → register_refusal part w ≡ None
 good_register part w known = ap (λ (b : Bool). if not b then Some BadParameter else None) known
 
-pub register_memory : (part : Part) (w : ℕ) (key : Key) → has_number part.rtps.writers w ≡ true → Answers no_filters part (call.Register w key) (Refused Memory) part.dds
+pub register_memory : (part : Part) (w : ℕ) (key : Key) → has_element part.rtps.writers w ≡ true → Answers no_filters part (call.Register w key) (Refused Memory) part.dds
 register_memory part w key known = (subst (λ (o : Option Code). Refuses o Memory) (sym (good_register part w known)) refl, refl)
 
 pub registers : (kept : PeerKept) (i : ℕ) (k k' : WriterKept) (key : Key) (config : Config) (peer : Peer) → StandsFor kept config peer → slice_get kept.writers i ≡ Some k → i < length kept.writers → Enters k (Registered key) k'
     → Follows (with_writer kept i k') config peer (event.Call (call.Register (suc i) key)) (silent Done)
 registers kept i k k' key config peer s at lt enters =
     let count = s.writers.count in
-    let known : has_number peer.part.rtps.writers (suc i) ≡ true = there_is peer.part.rtps.writers i (omega (arith, lt, count)) in (
+    let known : has_element peer.part.rtps.writers (suc i) ≡ true = there_is peer.part.rtps.writers i (omega (arith, lt, count)) in (
       entered_at peer (suc i) (Registered key),
       record { same_number = refl; knows = refl; step = (record { answers = (good_register peer.part (suc i) known, refl); rtps = refl }, refl); sent = λ p x m h. absurd (omega (arith, m.1)) },
       own_writer_stepped kept i k k' (Registered key) config peer s at enters (tellable_entered peer (suc i) (Registered key) s.tellable tt),
@@ -211,24 +211,24 @@ both_good true true rest h k = absurd cc
 both_good true false rest h k = refl
 both_good false b rest h k = absurd cc
 
-pub write_makes : (part : Part) (w : ℕ) (key : Key) (value : List ℕ) → has_number part.rtps.writers w ≡ true → length value ≤ 1024 → MakesChange part (call.Write w key value) w (change_made part kind.Write key value)
+pub write_makes : (part : Part) (w : ℕ) (key : Key) (value : List ℕ) → has_element part.rtps.writers w ≡ true → length value ≤ 1024 → MakesChange part (call.Write w key value) w (change_made part kind.Write key value)
 write_makes part w key value known short = record {
   answers = λ reply dds h. done_as (write_refusal part w key value) (change_refusal part w (change_made part kind.Write key value)) part reply dds
-      (both_good (has_number part.rtps.writers w) (nat_lt 1024 (length value)) _ known (grind (arith, nat_tests))) h;
+      (both_good (has_element part.rtps.writers w) (nat_lt 1024 (length value)) _ known (grind (arith, nat_tests))) h;
   enters = refl;
 }
 
-pub dispose_makes : (part : Part) (w : ℕ) (key : Key) → has_number part.rtps.writers w ≡ true → MakesChange part (call.Dispose w key) w (change_made part kind.Dispose key [])
+pub dispose_makes : (part : Part) (w : ℕ) (key : Key) → has_element part.rtps.writers w ≡ true → MakesChange part (call.Dispose w key) w (change_made part kind.Dispose key [])
 dispose_makes part w key known = record {
-  answers = λ reply dds h. done_as (dispose_refusal part w key) (change_refusal part w (change_made part kind.Dispose key [])) part reply dds (first_true (has_number part.rtps.writers w) _ known) h;
+  answers = λ reply dds h. done_as (dispose_refusal part w key) (change_refusal part w (change_made part kind.Dispose key [])) part reply dds (first_true (has_element part.rtps.writers w) _ known) h;
   enters = refl;
 }
 
-pub unregister_makes : (part : Part) (w : ℕ) (key : Key) → has_number part.rtps.writers w ≡ true → is_key_registered key (own_writer part w).written ≡ true
+pub unregister_makes : (part : Part) (w : ℕ) (key : Key) → has_element part.rtps.writers w ≡ true → is_key_registered key (own_writer part w).written ≡ true
     → MakesChange part (call.Unregister w key) w (change_made part (unregister_kind (own_writer part w).autodispose) key [])
 unregister_makes part w key known there = record {
   answers = λ reply dds h. done_as (unregister_refusal part w key) (change_refusal part w (change_made part (unregister_kind (own_writer part w).autodispose) key [])) part reply dds
-      (first_true (has_number part.rtps.writers w) _ known ∙ first_there (is_key_registered key (own_writer part w).written) _ there) h;
+      (first_true (has_element part.rtps.writers w) _ known ∙ first_there (is_key_registered key (own_writer part w).written) _ there) h;
   enters = refl;
 }
   where
@@ -340,11 +340,11 @@ number_is writer i is = let index : i + 1 ≡ suc i = omega arith in sym (is ∙
 
 -- the end of a number is there
 pub known_end : {X : Type 0} (ends : List X) (number i count : ℕ) → number ≡ i + 1 → i < count → length ends ≡ count
-    → has_number ends number ≡ true
+    → has_element ends number ≡ true
 known_end ends number i count is lt same =
-    subst (λ (n : ℕ). has_number ends n ≡ true) (number_is number i is) (there_is ends i (omega (arith, lt, same)))
+    subst (λ (n : ℕ). has_element ends n ≡ true) (number_is number i is) (there_is ends i (omega (arith, lt, same)))
 
-known_writer : (kept : PeerKept) (config : Config) (peer : Peer) → StandsFor kept config peer → (writer i : ℕ) → writer ≡ i + 1 → i < length kept.writers → has_number peer.part.rtps.writers writer ≡ true
+known_writer : (kept : PeerKept) (config : Config) (peer : Peer) → StandsFor kept config peer → (writer i : ℕ) → writer ≡ i + 1 → i < length kept.writers → has_element peer.part.rtps.writers writer ≡ true
 known_writer kept config peer s writer i is lt =
     known_end peer.part.rtps.writers writer i (length kept.writers) is lt s.writers.count
 

@@ -3,7 +3,7 @@ use Rattle.std.proofs.Common.{◌≡◌, ℕ, zero, suc, ◌+◌, ◌<◌, Bool,
 use Rattle.std.specs.Option.{option_map}
 use Rattle.std.proofs.lemmas.Option.{same_Some}
 use Rattle.dds_model.specs.declared.endpoint.Endpoint.{Endpoint}
-use Rattle.dds_model.specs.Part.{WriterProxy, same_endpoint, row_of, with_row, place_of, publication_from, publication_of}
+use Rattle.dds_model.specs.Part.{WriterProxy, same_endpoint, row_of, with_row, place_of, publication_from, publication_among}
 use Rattle.dds_model.proofs.InOrder.{same_self}
 use Rattle.dds_model.proofs.Tables.{same_is}
 use Rattle.dds_core.specs.declared.matching.WriterName.{WriterName}
@@ -67,7 +67,7 @@ handle_from (p ∷ ps) e (suc k) n first =
     let same : n + 1 + k ≡ n + suc k = omega arith in
     miss (same_endpoint p.writer e) (Some n) (publication_from (n + 1) ps e) first.0 ∙ (handle_from ps e k (n + 1) first.1 ∙ ap (λ (m : ℕ). Some m) same)
 
-pub handle_is : (proxies : List WriterProxy) (e : Endpoint) (k : ℕ) → IsFirstOf (proxied proxies) e k → publication_of proxies e ≡ Some (k + 1)
+pub handle_is : (proxies : List WriterProxy) (e : Endpoint) (k : ℕ) → IsFirstOf (proxied proxies) e k → publication_among proxies e ≡ Some (k + 1)
 handle_is proxies e k first = let same : 1 + k ≡ k + 1 = omega arith in handle_from proxies e k 1 first ∙ ap (λ (m : ℕ). Some m) same
 
 -- there is a place

@@ -24,7 +24,7 @@ use Rattle.dds_model.specs.Claims.{Receiver, IsNumbered, IsWriter, IsToWriter, N
 use Rattle.dds_model.specs.Dues.{AreTellable}
 use Rattle.dds_model.specs.Part.{Part, ReaderProxy, Writer, no_writer, same_endpoint, history_of, at_writer, writer_changes}
 use Rattle.dds_model.specs.Peer.{Peer, state_of as network_of}
-use Rattle.dds_model.specs.Protocol.{Due, State, Known, WriterTakes, AreGrouped, TakesAckNack as TakesByRules, acknowledging, answer_message, is_taken, with_answered}
+use Rattle.dds_model.specs.Protocol.{Due, State, Known, WriterTakes, AreGrouped, TakesAckNack as TakesByRules, acknowledging, answer_message, is_taken_up, with_answered}
 use Rattle.dds_model.proofs.Framing.{with_same}
 use Rattle.dds_model.proofs.InOrder.{same_self}
 use Rattle.dds_core.specs.declared.matching.ReaderName.{ReaderName}
@@ -278,7 +278,7 @@ row_applied c o at a from moves sent new after gone t is = record {
         most : 1 ≤ max r.proxy.acknowledged base
         most = low_of w.readers c.name.reader c.row r.proxy base r.only (stood c).begun
 
-    taken : is_taken (network_of c.peer) (suc c.i) c.name.reader a ≡ true
+    taken : is_taken_up (network_of c.peer) (suc c.i) c.name.reader a ≡ true
     taken = sym (applied_is w (answered_of c) c.name.reader c.row r.proxy base a.count r.only) ∙ is
 
     answers_are : acknack_answers s c.row base a.reader_sn_state a.count ≡ answers_to (is_kept (history_of there)) (requested a.reader_sn_state (max r.proxy.acknowledged base) (length (writer_changes there)))

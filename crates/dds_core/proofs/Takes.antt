@@ -15,7 +15,7 @@ use Rattle.rtps_reader.specs.declared.step.AckNackDue.{AckNackDue}
 use Rattle.rtps_reader.specs.declared.step.HeartbeatSeen.{HeartbeatSeen}
 use Rattle.rtps_reader.specs.Tracked.{Tracked, is_later, with_heartbeat}
 use Rattle.rtps_reader.specs.Advance.{Advances}
-use Rattle.rtps_reader.specs.Answer.{Answers, answered, heard_after}
+use Rattle.rtps_reader.specs.Answer.{AnswersHeartbeat, answered, heard_after}
 use Rattle.rtps_reader.specs.Reader.{Tracks, OthersStay, match_at, MovesOn, TakesHeartbeat as HeartbeatTold}
 use Rattle.rtps_wire.specs.declared.heartbeat.Heartbeat.{Heartbeat as HeartbeatBody}
 use Rattle.dds_model.specs.declared.endpoint.Endpoint.{Endpoint}
@@ -23,7 +23,7 @@ use Rattle.dds_model.specs.declared.reply.Move.{Move}
 use Rattle.dds_model.specs.declared.reply.Move.TheVariants.{Place, Heard}
 use Rattle.dds_model.specs.Numbered.{with_numbered, HasNumber}
 use Rattle.dds_model.specs.Part.{Part, Reader, WriterProxy, no_reader, own_proxies, own_reader, place_of, with_place, with_heard, at_reader}
-use Rattle.dds_model.specs.Moves.{IsMatched, match_of}
+use Rattle.dds_model.specs.Moves.{IsMatchedAt, match_of}
 use Rattle.dds_model.specs.Claims.{Receiver}
 use Rattle.dds_model.specs.Peer.{Peer, state_of}
 use Rattle.dds_model.specs.Protocol.{Known, State, Goes, Asserting, TakesHeartbeat, with_tracked, acknacks_due}
@@ -134,7 +134,7 @@ stands_after c k' t happened proxies known counts a writers here elsewhere is ot
 
 -- the writer's row, before and after something was heard of it: its place and its handle
 matched_by : (c : Telling) (part : Part) → proxied (own_proxies part (suc c.i)) ≡ writers_of c.k.writers → ((p : ℕ) → place_of (own_proxies part (suc c.i)) c.writer ≡ Some p → (known_of c).place ≡ p)
-    → IsMatched part c.writer (suc c.i) (c.row + 1) (known_of c).place
+    → IsMatchedAt part c.writer (suc c.i) (c.row + 1) (known_of c).place
 matched_by c part same places =
     let first = stands_first c (own_proxies part (suc c.i)) same in
     let there = place_there (own_proxies part (suc c.i)) c.writer c.row first in
@@ -364,7 +364,7 @@ heartbeat_on c own at entity k' h seen from step seen_is same others at_place la
       goes = goes;
       moves_are = moves_are;
       answer = step.acknack;
-      answers = subst (λ (x : Tracked). Answers x h.last_sn h.final_flag step.acknack) (sym known_there) (subst (λ (s : HeartbeatSeen). Answers mid s.last s.is_final step.acknack) seen_is m.accepts.answers);
+      answers = subst (λ (x : Tracked). AnswersHeartbeat x h.last_sn h.final_flag step.acknack) (sym known_there) (subst (λ (s : HeartbeatSeen). AnswersHeartbeat mid s.last s.is_final step.acknack) seen_is m.accepts.answers);
       dues_are = refl;
       after = refl;
     }

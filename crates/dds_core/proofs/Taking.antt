@@ -31,7 +31,7 @@ use Rattle.dds_model.specs.Calls.{Effect, nothing, writes, effect, effect_of, Ti
 use Rattle.dds_model.specs.Claims.{Receiver, receiver_of, after_submessage, IsNumbered}
 use Rattle.dds_model.specs.Part.{Part, Rtps, place_of, heard_of}
 use Rattle.dds_model.specs.Peer.{Peer, packets_of, state_of}
-use Rattle.dds_model.specs.Protocol.{Due, State, InTurn, ReaderTakes, Takes, Follows, AreSent}
+use Rattle.dds_model.specs.Protocol.{Due, State, InTurn, ReaderTakes, Takes, FollowsMessage, AreSent}
 use Rattle.dds_model.specs.Receipt.{prefix_of, IsNotTaken}
 use Rattle.dds_core.specs.declared.sending.Announced.{Announced}
 use Rattle.dds_core.specs.Beating.{AddsTo}
@@ -115,8 +115,8 @@ takes_none old message at moves gone begins none quiet zero_lost config peer s =
   stands = stands_again old config peer (with_state peer (state_of peer)) refl refl refl s;
   sent = (quiet, zero_lost);
   on = λ later refused last after h.
-      subst (λ (ms : List Move). Follows config old.prefix peer.number 0 (receiver_of message.prefix) message.submessages (state_of peer) (ms ++ later) refused last after) (sym none)
-      (subst (λ (r : Receiver). Follows config old.prefix peer.number 0 r message.submessages (state_of peer) later refused last after) begins h);
+      subst (λ (ms : List Move). FollowsMessage config old.prefix peer.number 0 (receiver_of message.prefix) message.submessages (state_of peer) (ms ++ later) refused last after) (sym none)
+      (subst (λ (r : Receiver). FollowsMessage config old.prefix peer.number 0 r message.submessages (state_of peer) later refused last after) begins h);
 }
 
 -- one more is taken up
@@ -131,13 +131,13 @@ takes_more old now new message index at submessage moves more sent gone taken he
       sent = written_adds t.dues r.dues sent gone t.sent r.adds;
       on = λ later refused last after h.
           let took : Takes config old.prefix peer.number at submessage t.state takes.made r.dues r.state = subst (λ (p : GuidPrefix). Takes config p peer.number at submessage t.state takes.made r.dues r.state) same r.takes in
-          let together : Follows config old.prefix peer.number index at (submessage ∷ drop (index + 1) message.submessages) t.state (takes.made ++ later) refused (r.dues ++ last) after =
+          let together : FollowsMessage config old.prefix peer.number index at (submessage ∷ drop (index + 1) message.submessages) t.state (takes.made ++ later) refused (r.dues ++ last) after =
           inr (takes.made, later, r.dues, last, r.state, refl, refl, took, h) in
           let whole = t.on (takes.made ++ later) refused (r.dues ++ last) after
-          (subst (λ (ss : List Submessage). Follows config old.prefix peer.number index at ss t.state (takes.made ++ later) refused (r.dues ++ last) after) (sym here) together) in
-          subst (λ (ms : List Move). Follows config old.prefix peer.number 0 (receiver_of message.prefix) message.submessages (state_of peer) ms refused ((t.dues ++ r.dues) ++ last) after)
+          (subst (λ (ss : List Submessage). FollowsMessage config old.prefix peer.number index at ss t.state (takes.made ++ later) refused (r.dues ++ last) after) (sym here) together) in
+          subst (λ (ms : List Move). FollowsMessage config old.prefix peer.number 0 (receiver_of message.prefix) message.submessages (state_of peer) ms refused ((t.dues ++ r.dues) ++ last) after)
           (sym (append_assoc moves takes.made later) ∙ ap (λ (ms : List Move). ms ++ later) (sym takes.after_is))
-          (subst (λ (ds : List Due). Follows config old.prefix peer.number 0 (receiver_of message.prefix) message.submessages (state_of peer) (moves ++ (takes.made ++ later)) refused ds after)
+          (subst (λ (ds : List Due). FollowsMessage config old.prefix peer.number 0 (receiver_of message.prefix) message.submessages (state_of peer) (moves ++ (takes.made ++ later)) refused ds after)
           (sym (append_assoc t.dues r.dues last)) whole);
     }
   where
@@ -149,11 +149,11 @@ takes_more old now new message index at submessage moves more sent gone taken he
 
 -- what was taken up is all: what follows does nothing
 ends_here : (old now : PeerKept) (message : Message) (index : ℕ) (at : Receiver) (report : Report) (gone : Announced) (config : Config) (peer : Peer) (t : TakenTo old message index at report.moves now gone config peer)
-    → Follows config old.prefix peer.number index at (drop index message.submessages) t.state [] report.refused [] t.state
-    → Follows config old.prefix peer.number 0 (receiver_of message.prefix) message.submessages (state_of peer) report.moves report.refused t.dues t.state
+    → FollowsMessage config old.prefix peer.number index at (drop index message.submessages) t.state [] report.refused [] t.state
+    → FollowsMessage config old.prefix peer.number 0 (receiver_of message.prefix) message.submessages (state_of peer) report.moves report.refused t.dues t.state
 ends_here old now message index at report gone config peer t end =
-    subst (λ (ms : List Move). Follows config old.prefix peer.number 0 (receiver_of message.prefix) message.submessages (state_of peer) ms report.refused t.dues t.state) (append-nil report.moves)
-    (subst (λ (ds : List Due). Follows config old.prefix peer.number 0 (receiver_of message.prefix) message.submessages (state_of peer) (report.moves ++ []) report.refused ds t.state) (append-nil t.dues)
+    subst (λ (ms : List Move). FollowsMessage config old.prefix peer.number 0 (receiver_of message.prefix) message.submessages (state_of peer) ms report.refused t.dues t.state) (append-nil report.moves)
+    (subst (λ (ds : List Due). FollowsMessage config old.prefix peer.number 0 (receiver_of message.prefix) message.submessages (state_of peer) (report.moves ++ []) report.refused ds t.state) (append-nil t.dues)
     (t.on [] report.refused [] t.state end))
 
 -- all are taken up, or one finds no memory
@@ -162,16 +162,16 @@ pub takes_all : (old now : PeerKept) (message : Message) (at : Receiver) (report
 takes_all old now message at report gone taken none fine config peer s =
     let count : ℕ = length message.submessages in
     let t : TakenTo old message count at report.moves now gone config peer = taken config peer s in
-    let end : Follows config old.prefix peer.number count at (drop count message.submessages) t.state [] report.refused [] t.state =
-    subst (λ (ss : List Submessage). Follows config old.prefix peer.number count at ss t.state [] report.refused [] t.state) (sym none) (fine, (refl, refl, refl)) in
+    let end : FollowsMessage config old.prefix peer.number count at (drop count message.submessages) t.state [] report.refused [] t.state =
+    subst (λ (ss : List Submessage). FollowsMessage config old.prefix peer.number count at ss t.state [] report.refused [] t.state) (sym none) (fine, (refl, refl, refl)) in
     record { state = t.state; dues = t.dues; follows = ends_here old now message count at report gone config peer t end; stands = t.stands; sent = t.sent }
 
 pub takes_some : (old now new : PeerKept) (message : Message) (index : ℕ) (at : Receiver) (submessage : Submessage) (report : Report) (sent gone : Announced) → TakesTo old message index at report.moves now sent → StandsAsWell now new → gone ≡ sent
     → drop index message.submessages ≡ submessage ∷ drop (index + 1) message.submessages → report.refused ≡ Some index → TakesMessage old message report new gone
 takes_some old now new message index at submessage report sent gone taken well same here refused config peer s =
     let t : TakenTo old message index at report.moves now sent config peer = taken config peer s in
-    let end : Follows config old.prefix peer.number index at (drop index message.submessages) t.state [] report.refused [] t.state =
-    subst (λ (ss : List Submessage). Follows config old.prefix peer.number index at ss t.state [] report.refused [] t.state) (sym here) (inl (refused, (refl, refl, refl))) in
+    let end : FollowsMessage config old.prefix peer.number index at (drop index message.submessages) t.state [] report.refused [] t.state =
+    subst (λ (ss : List Submessage). FollowsMessage config old.prefix peer.number index at ss t.state [] report.refused [] t.state) (sym here) (inl (refused, (refl, refl, refl))) in
     record {
       state = t.state;
       dues = t.dues;
@@ -192,7 +192,7 @@ receives_message old new bytes read report gone reads takes config peer s =
         message = read.message;
         offset = read.stop;
         is_read = reads;
-        follows = subst (λ (p : GuidPrefix). Follows config p peer.number 0 (receiver_of read.message.prefix) read.message.submessages (state_of peer) report.moves report.refused r.dues r.state) (sym (prefix_is old config peer s)) r.follows;
+        follows = subst (λ (p : GuidPrefix). FollowsMessage config p peer.number 0 (receiver_of read.message.prefix) read.message.submessages (state_of peer) report.moves report.refused r.dues r.state) (sym (prefix_is old config peer s)) r.follows;
       });
       stands = r.stands;
       sent = r.sent;

@@ -7,7 +7,7 @@ use Rattle.dds_base.specs.declared.config.Config.{Config}
 use Rattle.dds_base.specs.declared.entity.Entity.{Entity}
 use Rattle.dds_notices.specs.declared.mask.StatusMask.{StatusMask}
 use Rattle.dds_notices.specs.declared.notice.Notice.{Notice}
-use Rattle.dds_notices.specs.Listeners.{HandedBack, Slotted, StandsFor as SlotsStandFor, at_entity, listener_refusal, place_of}
+use Rattle.dds_notices.specs.Listeners.{HandedBack, Slotted, StandsFor as SlotsStandFor, at_entity, listener_refusal, listener_place}
 use Rattle.dds_model.specs.declared.event.Event.{Event}
 use Rattle.dds_model.specs.declared.event.Output.{Output}
 use Rattle.dds_model.specs.Filters.{peer_with_filter}
@@ -67,8 +67,8 @@ pub record Sets {F L : Type 0} (notices : L → List Notice) (capacity : L → �
   pub sets : (config : Config) (peer : Peer) → StandsFor notices capacity old config peer
       → (listener_refusal notices peer.part.dds.listeners entity listener ≡ None)
       × HandedBack notices capacity handed (at_entity peer.part.dds.listeners entity)
-      × StandsFor notices capacity new config (peer_with_place peer entity (place_of capacity mask listener))
-      × (IsSound config peer → IsSound config (peer_with_place peer entity (place_of capacity mask listener)))
+      × StandsFor notices capacity new config (peer_with_place peer entity (listener_place capacity mask listener))
+      × (IsSound config peer → IsSound config (peer_with_place peer entity (listener_place capacity mask listener)))
 
 -- for each state that the old values stand for, a listener is refused so
 abbrev pub RefusesListener : {F L : Type 0} → (L → List Notice) → (L → ℕ) → CoreKept F L → Entity → Option L → Code

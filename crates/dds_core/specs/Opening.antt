@@ -10,7 +10,7 @@ use Rattle.dds_base.specs.declared.config.WriterConfig.{WriterConfig}
 use Rattle.dds_base.specs.declared.config.ReaderConfig.{ReaderConfig}
 use Rattle.dds_base.specs.Checked.{check_refusal}
 use Rattle.rtps_reader.specs.Tracked.{fresh}
-use Rattle.dds_model.specs.Numbered.{has_number}
+use Rattle.dds_model.specs.Numbered.{has_element}
 use Rattle.dds_model.specs.Opening.{opening_writer, matched_writers, reader_qos, opening_world}
 use Rattle.dds_model.specs.Part.{nothing_seen}
 use Rattle.dds_model.specs.Peer.{Peer}
@@ -22,7 +22,7 @@ use Rattle.dds_core.specs.Standing.{WriterStands, ReaderStands, StandsFor}
 abbrev pub core_refusal : List PeerConfig → ℕ → Option Code
 core_refusal peers peer =
     if is_some (check_refusal peers) then check_refusal peers
-    else (if has_number peers peer then None else Some BadParameter)
+    else (if has_element peers peer then None else Some BadParameter)
 
 -- the peer of this number, at the opening
 abbrev pub opening_peer : Config → ℕ → Peer

@@ -40,7 +40,7 @@ use Rattle.dds_model.specs.Claims.{Receiver, receiver_of, is_for, Names}
 use Rattle.dds_model.specs.Peer.{Peer, state_of}
 use Rattle.dds_model.specs.Part.{Reader, Seen, WriterProxy}
 use Rattle.dds_model.specs.Watching.{reader_statuses}
-use Rattle.dds_model.specs.Protocol.{Due, State, InTurn, ReaderTakes, Takes, Follows, TakesPacket, AreSent, acknacks_due}
+use Rattle.dds_model.specs.Protocol.{Due, State, InTurn, ReaderTakes, Takes, FollowsMessage, TakesPacket, AreSent, acknacks_due}
 use Rattle.dds_core.specs.declared.matching.WriterName.{WriterName}
 use Rattle.dds_core.specs.declared.reader_end.Ready.{Ready}
 use Rattle.dds_core.specs.declared.reader_end.Told.{Told}
@@ -310,7 +310,7 @@ pub record TookMessage (config : Config) (peer : Peer) (own : GuidPrefix) (messa
     (new : PeerKept) (gone : Announced) : Type 0 where
   pub state : State
   pub dues : List Due
-  pub follows : Follows config own peer.number 0 (receiver_of message.prefix) message.submessages
+  pub follows : FollowsMessage config own peer.number 0 (receiver_of message.prefix) message.submessages
       (state_of peer) report.moves report.refused dues state
   pub stands : StandsFor new config (with_state peer state)
   pub sent : AreSent dues gone.packets.items gone.unsent
@@ -329,8 +329,8 @@ pub record TakenTo (old : PeerKept) (message : Message) (index : ℕ) (at : Rece
   pub stands : StandsFor now config (with_state peer state)
   pub sent : AreSent dues gone.packets.items gone.unsent
   pub on : (later : List Move) (refused : Option ℕ) (last : List Due) (after : State)
-      → Follows config old.prefix peer.number index at (drop index message.submessages) state later refused last after
-      → Follows config old.prefix peer.number 0 (receiver_of message.prefix) message.submessages (state_of peer)
+      → FollowsMessage config old.prefix peer.number index at (drop index message.submessages) state later refused last after
+      → FollowsMessage config old.prefix peer.number 0 (receiver_of message.prefix) message.submessages (state_of peer)
       (moves ++ later) refused (dues ++ last) after
 
 -- the same, said of each state that the old values stand for

@@ -19,7 +19,7 @@ use Rattle.dds_conditions.specs.Watched.{conditions_of, made}
 use Rattle.dds_model.specs.declared.reply.Reply.{Reply}
 use Rattle.dds_model.specs.declared.reply.Reply.TheVariants.{Done, Created, Conditions, Refused}
 use Rattle.dds_model.specs.Peer.{Peer}
-use Rattle.dds_model.specs.Watching.{Tests, condition_refusal, condition_selection, filter_of, status_changes, trigger_value, value_of}
+use Rattle.dds_model.specs.Watching.{Tests, condition_refusal, condition_selection, filter_of, status_changes, trigger_value, condition_value}
 use Rattle.dds_core.specs.declared.watching.Asked.{Asked}
 use Rattle.dds_core.specs.Kept.{PeerKept}
 use Rattle.dds_core.specs.Standing.{StandsFor}
@@ -50,7 +50,7 @@ TellsStatuses kept entity mask = Tells kept (λ part. mask ≡ status_changes pa
 
 -- the trigger value of a condition that may have been made
 abbrev pub TellsValue : Tests → PeerKept → Option Condition → Bool → Type 0
-TellsValue tests kept condition answer = Tells kept (λ part. answer ≡ value_of tests part condition)
+TellsValue tests kept condition answer = Tells kept (λ part. answer ≡ condition_value tests part condition)
 
 -- the trigger value of a condition
 abbrev pub TellsTrigger : Tests → PeerKept → Cond → Bool → Type 0

@@ -15,7 +15,7 @@ use Rattle.dds_base.specs.declared.sample.InstanceState.TheVariants.{Alive, NotA
 use Rattle.dds_base.specs.declared.qos.MatchedWriter.{MatchedWriter}
 use Rattle.dds_base.specs.declared.qos.ReaderQos.{ReaderQos}
 use Rattle.dds_base.specs.Happening.{same_key, is_write_or_dispose, is_unregister}
-use Rattle.dds_base.specs.Ownership.{accepted_kind, numbers_from, is_registered, registered_writers}
+use Rattle.dds_base.specs.Ownership.{accepted_kind, numbered_from, is_registered, registered_writers}
 use Rattle.dds_base.specs.Instance.{or_else, state_after, is_nobody, last_accepted, instance_state_of}
 use Rattle.dds_base.specs.Presence.{becomes_not_alive, marks}
 use Rattle.dds_base.proofs.KeyLaws.{same_key-refl}
@@ -37,15 +37,15 @@ marks-tracked q h a t kind left tracks kind_is left_is =
 
 -- ---- of an instance that is unknown
 
-nobody-but : (p : ℕ → Bool) (w k : ℕ) (xs : List MatchedWriter) → ((v : ℕ) → p v ≡ (w == v)) → is_nobody (filter p (numbers_from k xs)) ≡ not (nat_le k w && nat_lt w (k + length xs))
+nobody-but : (p : ℕ → Bool) (w k : ℕ) (xs : List MatchedWriter) → ((v : ℕ) → p v ≡ (w == v)) → is_nobody (filter p (numbered_from k xs)) ≡ not (nat_le k w && nat_lt w (k + length xs))
 nobody-but p w k [] is = none k w
   where
     none : (k w : ℕ) → true ≡ not (nat_le k w && nat_lt w (k + 0))
     none k w = grind (arith, nat_tests)
 nobody-but p w k (x ∷ xs) is =
     ⊎_elim
-    (λ same. ap (λ (b : Bool). is_nobody (cond b (k ∷ filter p (numbers_from (k + 1) xs)) (filter p (numbers_from (k + 1) xs)))) (is k ∙ same) ∙ here k w (length xs) (eqb-true w k same))
-    (λ other. ap (λ (b : Bool). is_nobody (cond b (k ∷ filter p (numbers_from (k + 1) xs)) (filter p (numbers_from (k + 1) xs)))) (is k ∙ other) ∙ (nobody-but p w (k + 1) xs is ∙ later k w (length xs) (eqb-false w k other)))
+    (λ same. ap (λ (b : Bool). is_nobody (cond b (k ∷ filter p (numbered_from (k + 1) xs)) (filter p (numbered_from (k + 1) xs)))) (is k ∙ same) ∙ here k w (length xs) (eqb-true w k same))
+    (λ other. ap (λ (b : Bool). is_nobody (cond b (k ∷ filter p (numbered_from (k + 1) xs)) (filter p (numbered_from (k + 1) xs)))) (is k ∙ other) ∙ (nobody-but p w (k + 1) xs is ∙ later k w (length xs) (eqb-false w k other)))
     (cases_Bool (w == k))
   where
     here : (k w n : ℕ) → w ≡ k → false ≡ not (nat_le k w && nat_lt w (k + suc n))

@@ -10,7 +10,7 @@ use Rattle.dds_base.specs.declared.qos.MatchedWriter.{MatchedWriter}
 use Rattle.dds_base.specs.declared.qos.ReaderQos.{ReaderQos}
 use Rattle.dds_base.specs.Instance.{or_else}
 use Rattle.dds_base.specs.Liveliness.{after_deaths, alive_since, dead_at, is_overdue, lease_of, with_deaths}
-use Rattle.dds_base.specs.Ownership.{numbers_from, publication_handles, writer_of}
+use Rattle.dds_base.specs.Ownership.{numbered_from, publication_handles, writer_of}
 use Rattle.dds_base.specs.Written.{is_over}
 use Rattle.dds_lease.specs.Standing.{after_deaths_above}
 
@@ -18,10 +18,10 @@ use Rattle.dds_lease.specs.Standing.{after_deaths_above}
 
 -- numbers that count on from above the handle are all above it
 all_above : (after k : ℕ) (due : ℕ → Bool) (ws : List MatchedWriter) → after < k
-    → filter (nat_lt after) (filter due (numbers_from k ws)) ≡ filter due (numbers_from k ws)
+    → filter (nat_lt after) (filter due (numbered_from k ws)) ≡ filter due (numbered_from k ws)
 all_above after k due [] low = refl
 all_above after k due (w ∷ ws) low =
-    kept (due k) (filter due (numbers_from (k + 1) ws)) (all_above after (k + 1) due ws (omega (arith, low)))
+    kept (due k) (filter due (numbered_from (k + 1) ws)) (all_above after (k + 1) due ws (omega (arith, low)))
   where
     kept : (b : Bool) (rest : List ℕ) → filter (nat_lt after) rest ≡ rest
         → filter (nat_lt after) (cond b (k ∷ rest) rest) ≡ cond b (k ∷ rest) rest
@@ -38,10 +38,10 @@ above_none q now h =
 
 -- what is found is not below the number that these count on from
 found_from : (after k w : ℕ) (due : ℕ → Bool) (ws : List MatchedWriter)
-    → find (nat_lt after) (filter due (numbers_from k ws)) ≡ Some w → k ≤ w
+    → find (nat_lt after) (filter due (numbered_from k ws)) ≡ Some w → k ≤ w
 found_from after k w due [] is = absurd (cc)
 found_from after k w due (x ∷ ws) is =
-    found (due k) (filter due (numbers_from (k + 1) ws)) (λ e. found_from after (k + 1) w due ws e) is
+    found (due k) (filter due (numbered_from (k + 1) ws)) (λ e. found_from after (k + 1) w due ws e) is
   where
     here : (b : Bool) (rest : List ℕ) → (find (nat_lt after) rest ≡ Some w → k + 1 ≤ w)
         → cond b (Some k) (find (nat_lt after) rest) ≡ Some w → k ≤ w
@@ -94,11 +94,11 @@ first_of after k w true rest all mine higher later is = ⊎_elim
 
 -- those above the handle are the first of them, and then those above that one
 first_above : (after k w : ℕ) (due : ℕ → Bool) (ws : List MatchedWriter)
-    → find (nat_lt after) (filter due (numbers_from k ws)) ≡ Some w
-    → filter (nat_lt after) (filter due (numbers_from k ws)) ≡ w ∷ filter (nat_lt w) (filter due (numbers_from k ws))
+    → find (nat_lt after) (filter due (numbered_from k ws)) ≡ Some w
+    → filter (nat_lt after) (filter due (numbered_from k ws)) ≡ w ∷ filter (nat_lt w) (filter due (numbered_from k ws))
 first_above after k w due [] is = absurd (cc)
 first_above after k w due (x ∷ ws) is =
-    first_of after k w (due k) (filter due (numbers_from (k + 1) ws))
+    first_of after k w (due k) (filter due (numbered_from (k + 1) ws))
     (λ low. all_above after (k + 1) due ws (omega (arith, low)))
     (λ same. all_above w (k + 1) due ws (omega (arith, same)))
     (λ e. found_from after (k + 1) w due ws e)

@@ -8,7 +8,7 @@ use Rattle.dds_base.specs.declared.happening.Happening.{Happening}
 use Rattle.dds_base.specs.declared.qos.MatchedWriter.{MatchedWriter}
 use Rattle.dds_base.specs.declared.qos.ReaderQos.{ReaderQos}
 use Rattle.dds_base.specs.Liveliness.{is_overdue}
-use Rattle.dds_base.specs.Ownership.{numbers_from}
+use Rattle.dds_base.specs.Ownership.{numbered_from}
 use Rattle.dds_base.proofs.Lists.{drop-step}
 use Rattle.dds_lease.specs.declared.track.LeaseTrack.{LeaseTrack}
 use Rattle.dds_lease.specs.Track.{first_over, is_over_at, track_of}
@@ -29,11 +29,11 @@ first-of after k false rest = ⊎_elim
     (cases_Bool (nat_lt after k))
 
 pub first-dead : (q : ReaderQos) (now after k : ℕ) (h : List Happening) (ws : List MatchedWriter)
-    → find (nat_lt after) (filter (is_overdue q now h) (numbers_from k ws))
-    ≡ first_over after now k (map (track_of q h) (numbers_from k ws))
+    → find (nat_lt after) (filter (is_overdue q now h) (numbered_from k ws))
+    ≡ first_over after now k (map (track_of q h) (numbered_from k ws))
 first-dead q now after k h [] = refl
 first-dead q now after k h (w ∷ ws) =
-    first-of after k (is_overdue q now h k) (filter (is_overdue q now h) (numbers_from (k + 1) ws))
+    first-of after k (is_overdue q now h k) (filter (is_overdue q now h) (numbered_from (k + 1) ws))
     ∙ ap (λ (o : Option ℕ). if nat_lt after k && is_overdue q now h k then Some k else o)
     (first-dead q now after (k + 1) h ws)
 
@@ -91,12 +91,12 @@ first-none after now at ts past =
 -- ---- how many there are
 
 lengths-dead : (q : ReaderQos) (now k : ℕ) (h : List Happening) (ws : List MatchedWriter)
-    → length (filter (is_over_at now) (map (track_of q h) (numbers_from k ws)))
-    ≡ length (filter (is_overdue q now h) (numbers_from k ws))
+    → length (filter (is_over_at now) (map (track_of q h) (numbered_from k ws)))
+    ≡ length (filter (is_overdue q now h) (numbered_from k ws))
 lengths-dead q now k h [] = refl
 lengths-dead q now k h (w ∷ ws) =
-    counted (is_overdue q now h k) (filter (is_over_at now) (map (track_of q h) (numbers_from (k + 1) ws)))
-    (filter (is_overdue q now h) (numbers_from (k + 1) ws)) (lengths-dead q now (k + 1) h ws)
+    counted (is_overdue q now h k) (filter (is_over_at now) (map (track_of q h) (numbered_from (k + 1) ws)))
+    (filter (is_overdue q now h) (numbered_from (k + 1) ws)) (lengths-dead q now (k + 1) h ws)
   where
     counted : (due : Bool) (ts : List LeaseTrack) (ns : List ℕ) → length ts ≡ length ns
         → length (cond due (track_of q h k ∷ ts) ts) ≡ length (cond due (k ∷ ns) ns)
@@ -104,7 +104,7 @@ lengths-dead q now k h (w ∷ ws) =
     counted false ts ns is = is
 
 pub count-dead : (q : ReaderQos) (now k : ℕ) (h : List Happening) (ws : List MatchedWriter)
-    → count_by (is_over_at now) (map (track_of q h) (numbers_from k ws))
-    ≡ length (filter (is_overdue q now h) (numbers_from k ws))
+    → count_by (is_over_at now) (map (track_of q h) (numbered_from k ws))
+    ≡ length (filter (is_overdue q now h) (numbered_from k ws))
 count-dead q now k h ws =
-    sym (length-filter (is_over_at now) (map (track_of q h) (numbers_from k ws))) ∙ lengths-dead q now k h ws
+    sym (length-filter (is_over_at now) (map (track_of q h) (numbered_from k ws))) ∙ lengths-dead q now k h ws

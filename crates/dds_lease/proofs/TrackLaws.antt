@@ -10,7 +10,7 @@ use Rattle.dds_base.specs.declared.qos.MatchedWriter.{MatchedWriter}
 use Rattle.dds_base.specs.declared.qos.ReaderQos.{ReaderQos}
 use Rattle.dds_base.specs.Instance.{or_else}
 use Rattle.dds_base.specs.Liveliness.{lease_of}
-use Rattle.dds_base.specs.Ownership.{numbers_from, publication_handles, writer_of}
+use Rattle.dds_base.specs.Ownership.{numbered_from, publication_handles, writer_of}
 use Rattle.dds_lease.specs.declared.track.LeaseTrack.{LeaseTrack}
 use Rattle.dds_lease.specs.Track.{asserted, buried, fresh, is_dead_track, is_live_track, track_of}
 
@@ -18,11 +18,11 @@ use Rattle.dds_lease.specs.Track.{asserted, buried, fresh, is_dead_track, is_liv
 
 fresh-from : (q : ReaderQos) (k : ℕ) (rest : List MatchedWriter)
     → ((at : ℕ) → writer_of q.writers (k + at) ≡ slice_get rest at)
-    → map (track_of q []) (numbers_from k rest) ≡ map fresh rest
+    → map (track_of q []) (numbered_from k rest) ≡ map fresh rest
 fresh-from q k [] is = refl
 fresh-from q k (r ∷ rest) is =
     ap (λ (o : Option MatchedWriter). (record { lease = lease_of o; since = None; has_died = false })
-    ∷ map (track_of q []) (numbers_from (k + 1) rest))
+    ∷ map (track_of q []) (numbered_from (k + 1) rest))
     (ap (λ (w : ℕ). writer_of q.writers w) (omega arith) ∙ is 0)
     ∙ ap (λ (ts : List LeaseTrack). fresh r ∷ ts)
     (fresh-from q (k + 1) rest (λ at. ap (λ (w : ℕ). writer_of q.writers w) (omega arith) ∙ is (suc at)))
@@ -78,10 +78,10 @@ unchanged f g change w k is differ =
 
 same-from : (f g : ℕ → LeaseTrack) (change : LeaseTrack → LeaseTrack) (w k : ℕ) (ws : List MatchedWriter)
     → ((v : ℕ) → g v ≡ (if w == v then change (f v) else f v)) → w < k
-    → map g (numbers_from k ws) ≡ map f (numbers_from k ws)
+    → map g (numbered_from k ws) ≡ map f (numbered_from k ws)
 same-from f g change w k [] is below = refl
 same-from f g change w k (x ∷ ws) is below =
-    ap (λ (t : LeaseTrack). t ∷ map g (numbers_from (k + 1) ws))
+    ap (λ (t : LeaseTrack). t ∷ map g (numbered_from (k + 1) ws))
     (unchanged f g change w k is (λ same. omega (arith, same, below)))
     ∙ ap (λ (ts : List LeaseTrack). f k ∷ ts) (same-from f g change w (k + 1) ws is (omega (arith, below)))
 
@@ -91,25 +91,25 @@ itself k = ⊎_elim (λ same. same) (λ differ. absurd (eqb-false k k differ ref
 pub changed-at : (f g : ℕ → LeaseTrack) (change : LeaseTrack → LeaseTrack) (w k at : ℕ) (d : LeaseTrack)
     (ws : List MatchedWriter) → ((v : ℕ) → g v ≡ (if w == v then change (f v) else f v)) → k + at ≡ w
     → at < length ws
-    → map g (numbers_from k ws)
-    ≡ set (map f (numbers_from k ws)) at (change (get_or (map f (numbers_from k ws)) at d))
+    → map g (numbered_from k ws)
+    ≡ set (map f (numbered_from k ws)) at (change (get_or (map f (numbered_from k ws)) at d))
 changed-at f g change w k at d [] is here within = absurd (omega (arith, within))
 changed-at f g change w k zero d (x ∷ ws) is here within =
     let same : k ≡ w = omega (arith, here) in
     let one : (w == k) ≡ true = ap (λ (v : ℕ). w == v) same ∙ itself w in
-    ap (λ (t : LeaseTrack). t ∷ map g (numbers_from (k + 1) ws))
+    ap (λ (t : LeaseTrack). t ∷ map g (numbered_from (k + 1) ws))
     (is k ∙ ap (λ (b : Bool). if b then change (f k) else f k) one)
     ∙ ap (λ (ts : List LeaseTrack). change (f k) ∷ ts)
     (same-from f g change w (k + 1) ws is (omega (arith, same)))
 changed-at f g change w k (suc at) d (x ∷ ws) is here within =
-    ap (λ (t : LeaseTrack). t ∷ map g (numbers_from (k + 1) ws))
+    ap (λ (t : LeaseTrack). t ∷ map g (numbered_from (k + 1) ws))
     (unchanged f g change w k is (λ same. omega (arith, same, here)))
     ∙ ap (λ (ts : List LeaseTrack). f k ∷ ts)
     (changed-at f g change w (k + 1) at d ws is (omega (arith, here)) (omega (arith, within)))
 
 -- what is known of one of them
 pub track-at : (f : ℕ → LeaseTrack) (w k at : ℕ) (d : LeaseTrack) (ws : List MatchedWriter) → k + at ≡ w
-    → at < length ws → get_or (map f (numbers_from k ws)) at d ≡ f w
+    → at < length ws → get_or (map f (numbered_from k ws)) at d ≡ f w
 track-at f w k at d [] here within = absurd (omega (arith, within))
 track-at f w k zero d (x ∷ ws) here within = ap f (omega (arith, here))
 track-at f w k (suc at) d (x ∷ ws) here within =
@@ -117,7 +117,7 @@ track-at f w k (suc at) d (x ∷ ws) here within =
 
 -- how many they are
 pub track-count : (f : ℕ → LeaseTrack) (k : ℕ) (ws : List MatchedWriter)
-    → length (map f (numbers_from k ws)) ≡ length ws
+    → length (map f (numbered_from k ws)) ≡ length ws
 track-count f k [] = refl
 track-count f k (x ∷ ws) = ap suc (track-count f (k + 1) ws)
 

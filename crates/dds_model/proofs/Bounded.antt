@@ -18,7 +18,7 @@ use Rattle.dds_model.specs.declared.reply.Move.TheVariants.{Place, Acknowledged,
 use Rattle.dds_model.specs.declared.reply.Reply.{Reply}
 use Rattle.dds_model.specs.declared.reply.Reply.TheVariants.{Reported}
 use Rattle.dds_model.specs.Part.{WriterProxy, Part, Rtps, no_part, own_proxies, place_of, with_place, with_heard, writer_changes}
-use Rattle.dds_model.specs.Moves.{as_to, match_of, position_of, IsMove, AreMoves, DeliveryStep}
+use Rattle.dds_model.specs.Moves.{as_to, match_of, position_at, IsMove, AreMoves, DeliveryStep}
 use Rattle.dds_model.specs.Calls.{Effect, nothing, writes, effect, effect_of}
 use Rattle.dds_model.specs.Machine.{Machine, AllTests, part_at, writer_at, grounds_of, Step}
 use Rattle.dds_model.specs.Numbered.{numbered, with_numbered}
@@ -101,7 +101,7 @@ moved_within m rows w from to at old le v p h =
 move_within : (m : Machine) (i : ℕ) (old : Part) (mv : Move) (new : Part) → IsMove (grounds_of m i) old mv new → Within m old → Within m new
 move_within m i old (Place w r to passed) new h low =
     let from = low r w h.place h.matched.at in
-    let within = goes_within (as_to (grounds_of m i) w r) (length (writer_changes (writer_at m w))) (speaks_to m i w r) (match_of old r h.publication) (position_of old r h.place) passed to h.end h.goes from in
+    let within = goes_within (as_to (grounds_of m i) w r) (length (writer_changes (writer_at m w))) (speaks_to m i w r) (match_of old r h.publication) (position_at old r h.place) passed to h.end h.goes from in
     subst (λ (q : Part). Within m q) (sym h.after)
     (set_within m old r (with_place (own_proxies old r) w to) low (moved_within m (own_proxies old r) w h.place to h.matched.at (low r) within))
 move_within m i old (Heard w r) new h low =

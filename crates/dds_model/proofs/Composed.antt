@@ -24,7 +24,7 @@ use Rattle.dds_model.specs.declared.reply.Reply.TheVariants.{Reported}
 use Rattle.dds_model.specs.Numbered.{with_numbered, HasNumber}
 use Rattle.dds_model.specs.Part.{ReaderProxy, Writer, Part, no_part, no_writer, own_writer, own_proxies, acknowledged_of, with_acknowledged, place_of, writer_changes, history_of, is_assertion, IsBelow, IsAtMost, NoLess}
 use Rattle.dds_base.proofs.PlaceLaws.{SayAsMuch, goes_on}
-use Rattle.dds_model.specs.Moves.{Grounds, as_to, match_of, position_of, IsMove, AreMoves, DeliveryStep}
+use Rattle.dds_model.specs.Moves.{Grounds, as_to, match_of, position_at, IsMove, AreMoves, DeliveryStep}
 use Rattle.dds_model.specs.Receipt.{HasNoRoom, MovesOver, TakesUp, Receives, prefix_of}
 use Rattle.dds_model.specs.Progress.{ReceivesIn, Progresses}
 use Rattle.dds_model.specs.Calls.{CallStep, TickStep}
@@ -86,7 +86,7 @@ sound_move m i g t old (Place w r to passed) new low h =
       matched = h.matched;
       forward = h.forward;
       end = h.end;
-      goes = goes_on (as_to g w r) (as_to (grounds_of m i) w r) h.place (says_as_much m i g t w r h.place from) (match_of old r h.publication) (position_of old r h.place) passed to h.end (omega arith) h.goes;
+      goes = goes_on (as_to g w r) (as_to (grounds_of m i) w r) h.place (says_as_much m i g t w r h.place from) (match_of old r h.publication) (position_at old r h.place) passed to h.end (omega arith) h.goes;
       after = h.after;
     }
 sound_move m i g t old (Acknowledged w r to) new low h = record {

@@ -13,7 +13,7 @@ use Rattle.dds_base.specs.Checked.{check_refusal}
 use Rattle.dds_base.specs.Kept.{numbers_from}
 use Rattle.rtps_reader.specs.declared.step.AckNackDue.{AckNackDue}
 use Rattle.rtps_reader.specs.Tracked.{Tracked, with_data, with_gap, with_heartbeat}
-use Rattle.rtps_reader.specs.Answer.{Answers, answered}
+use Rattle.rtps_reader.specs.Answer.{AnswersHeartbeat, answered}
 use Rattle.rtps_wire.specs.declared.acknack.AckNack.{AckNack as AckNackBody}
 use Rattle.rtps_wire.specs.declared.heartbeat.Heartbeat.{Heartbeat as HeartbeatBody}
 use Rattle.rtps_wire.specs.declared.submessage.Submessage.{Submessage}
@@ -27,7 +27,7 @@ use Rattle.dds_model.specs.declared.reply.Report.{Report}
 use Rattle.dds_model.specs.Part.{ReaderProxy, same_endpoint, own_writer, writer_changes}
 use Rattle.dds_model.specs.Claims.{Receiver, receiver_of, after_submessage, StandsAt, IsWriter, IsToReader, IsToWriter}
 use Rattle.dds_model.specs.Receipt.{prefix_of}
-use Rattle.dds_model.specs.Protocol.{Due, Known, State, InTurn, Goes, Idles, TakesHeartbeat, TakesAckNack, ReaderTakes, WriterTakes, Takes, Follows, TakesPacket, acknacks_due, answer_message, with_answered}
+use Rattle.dds_model.specs.Protocol.{Due, Known, State, InTurn, Goes, Idles, TakesHeartbeat, TakesAckNack, ReaderTakes, WriterTakes, Takes, FollowsMessage, TakesPacket, acknacks_due, answer_message, with_answered}
 use Rattle.dds_model.specs.Backed.{reader_at}
 use Rattle.dds_model.specs.Fresh.{HasHeartbeat, HasAckNack}
 use Rattle.dds_model.proofs.Composed.{is_alone}
@@ -155,7 +155,7 @@ answered_more (Some due) t = omega arith
 -- the ACKNACK that is due to a HEARTBEAT
 ask_counted : (c : Counting) (at : Receiver) (reader_id writer_id : EntityId) (w : Endpoint) (r : ℕ)
     (is : IsToReader c.config c.own at reader_id writer_id w (reader_at c.peer r)) (t : Tracked) (last : ℕ) (final : Bool)
-    (answer : Option AckNackDue) → Answers t last final answer → (new : State) → new.known.tracked w r ≡ answered answer t
+    (answer : Option AckNackDue) → AnswersHeartbeat t last final answer → (new : State) → new.known.tracked w r ≡ answered answer t
     → (due : Due) → Contains (acknacks_due c.own at.source_guid_prefix w.peer is.entity writer_id answer) due → IsCounted c new due
 ask_counted c at reader_id writer_id w r is t last final None a new here due among =
     let lt = among.1 in absurd (omega (arith, lt))
@@ -194,7 +194,7 @@ heartbeat_counts c at h used old w r is moves dues new k =
     inr (subst (λ (z : ℤ). z ≤ℤ pos (c.beats w)) is_count (used w is.from)))
     (λ due among.
     ask_counted c at h.reader_id h.writer_id w r is k.goes.known h.last_sn h.final_flag k.answer
-    (subst (λ (t : Tracked). Answers t h.last_sn h.final_flag k.answer) known k.answers) new learned.here due
+    (subst (λ (t : Tracked). AnswersHeartbeat t h.last_sn h.final_flag k.answer) known k.answers) new learned.here due
     (subst (λ (ds : List Due). Contains ds due) k.dues_are among))
 
 reader_counts : (c : Counting) (at : Receiver) (s : Submessage) → IsUsed c at s → (r : ℕ) (old : State) (moves : List Move) (dues : List Due) (new : State)
@@ -291,7 +291,7 @@ abbrev pub AreUsed : Counting → Receiver → List Submessage → Type 0
 AreUsed c from ss = (index : ℕ) (at : Receiver) (s : Submessage) → StandsAt c.own from ss index at s → IsUsed c at s
 
 follows_counts : (c : Counting) (index : ℕ) (at : Receiver) (ss : List Submessage) → AreUsed c at ss → (old : State) (moves : List Move) (refused : Option ℕ) (dues : List Due) (new : State)
-    → Follows c.config c.own c.peer index at ss old moves refused dues new → Counts c old dues new
+    → FollowsMessage c.config c.own c.peer index at ss old moves refused dues new → Counts c old dues new
 follows_counts c index at [] used old moves refused dues new h = counts_idle c old moves dues new h.1
 follows_counts c index at (s ∷ ss) used old moves refused dues new (inl h) = counts_idle c old moves dues new h.1
 follows_counts c index at (s ∷ ss) used old moves refused dues new (inr h) =
@@ -306,7 +306,7 @@ pub packet_counts : (c : Counting) (bytes : List ℕ) → c.own ≡ prefix_of c.
     → (old : State) (report : Report) (dues : List Due) (new : State) → TakesPacket c.config c.peer bytes old report dues new → Counts c old dues new
 packet_counts c bytes name beats asks old report dues new (inl h) =
     follows_counts c 0 (receiver_of h.message.prefix) h.message.submessages used old report.moves report.refused dues new
-    (subst (λ (p : GuidPrefix). Follows c.config p c.peer 0 (receiver_of h.message.prefix) h.message.submessages old report.moves report.refused dues new) (sym name) h.follows)
+    (subst (λ (p : GuidPrefix). FollowsMessage c.config p c.peer 0 (receiver_of h.message.prefix) h.message.submessages old report.moves report.refused dues new) (sym name) h.follows)
   where
     used_at : (index : ℕ) (at : Receiver) (s : Submessage) → StandsAt c.own (receiver_of h.message.prefix) h.message.submessages index at s → IsUsed c at s
     used_at index at (Heartbeat b) stands = λ w from. beats w b.count (record { message = h.message; offset = h.offset; is_read = h.is_read; own = c.own; index = index; at = at; heartbeat = b; stands = stands; from = from; same_count = refl })

@@ -7,7 +7,7 @@ use Rattle.dds_base.specs.declared.guid.EntityId.{EntityId}
 use Rattle.dds_base.specs.declared.guid.GuidPrefix.{GuidPrefix}
 use Rattle.dds_base.specs.Checked.{same_prefix, check_refusal}
 use Rattle.rtps_reader.specs.declared.step.AckNackDue.{AckNackDue}
-use Rattle.rtps_reader.specs.Answer.{Answers}
+use Rattle.rtps_reader.specs.Answer.{AnswersHeartbeat}
 use Rattle.rtps_reader.specs.Tracked.{Tracked}
 use Rattle.rtps_wire.specs.declared.acknack.AckNack.{AckNack as AckNackBody}
 use Rattle.rtps_wire.specs.declared.heartbeat.Heartbeat.{Heartbeat as HeartbeatBody}
@@ -132,7 +132,7 @@ heartbeat_answered : (c : Coming) (h : HeartbeatBody) (w : Endpoint) (r : ℕ)
 heartbeat_answered c h w r is old made dues new k =
     subst (λ (ds : List Due). AreTruthful c.config c.peer new.part ds) (sym k.dues_are) (by k.answer k.answers)
   where
-    by : (answer : Option AckNackDue) → Answers (k.there.known.tracked w r) h.last_sn h.final_flag answer
+    by : (answer : Option AckNackDue) → AnswersHeartbeat (k.there.known.tracked w r) h.last_sn h.final_flag answer
         → AreTruthful c.config c.peer new.part
         (acknacks_due c.own c.at.source_guid_prefix w.peer is.entity h.writer_id answer)
     by None a = All-nil (IsTruthful c.config c.peer new.part)

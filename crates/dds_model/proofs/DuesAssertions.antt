@@ -15,7 +15,7 @@ use Rattle.rtps_wire.specs.declared.submessage.Submessage.TheVariants.{Heartbeat
 use Rattle.dds_model.specs.declared.call.Call.TheVariants.{AssertLiveliness}
 use Rattle.dds_model.specs.declared.endpoint.Endpoint.{Endpoint}
 use Rattle.dds_model.specs.declared.reply.Reply.TheVariants.{Done}
-use Rattle.dds_model.specs.Numbered.{numbered, HasNumber, has_number}
+use Rattle.dds_model.specs.Numbered.{numbered, HasNumber, has_element}
 use Rattle.dds_model.specs.Part.{Part, ReaderProxy, Rtps, Writer, acknowledged_of, has_readers, heartbeats_used, is_assertion, no_writer, own_writer, peers_of, NoLess}
 use Rattle.dds_model.specs.Calls.{CallStep, effect, with_written, writes}
 use Rattle.dds_model.specs.Watching.{Tests}
@@ -175,7 +175,7 @@ assertions_writable config tests peer writer old new of step sized small =
   where
     used : nat_le (2 ^ 31 - 1) (heartbeats_used (own_writer old writer)) ≡ false
     used =
-        left_if_done (has_number old.rtps.writers writer) (nat_le (2 ^ 31 - 1) (heartbeats_used (own_writer old writer)))
+        left_if_done (has_element old.rtps.writers writer) (nat_le (2 ^ 31 - 1) (heartbeats_used (own_writer old writer)))
         step.answers.0
 
     left : heartbeats_used (own_writer old writer) < 2 ^ 31 - 1

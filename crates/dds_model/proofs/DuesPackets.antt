@@ -20,7 +20,7 @@ use Rattle.dds_model.specs.Part.{Part, ReaderProxy, own_writer, acknowledged_of,
 use Rattle.dds_model.specs.Calls.{TickStep}
 use Rattle.dds_model.specs.Claims.{Receiver, receiver_of, after_submessage, Claim, Claims}
 use Rattle.dds_model.specs.Peer.{Delivery, packets_of, IsTrueAt}
-use Rattle.dds_model.specs.Protocol.{Due, State, Follows, TakesMessage, TakesPacket, AreSent, heartbeats_due}
+use Rattle.dds_model.specs.Protocol.{Due, State, FollowsMessage, TakesMessage, TakesPacket, AreSent, heartbeats_due}
 use Rattle.dds_model.specs.Backed.{IsBacked}
 use Rattle.dds_model.specs.Dues.{AreTellable, IsPartOf, IsTruthful, AreTruthful, IsSized, HasSmallChanges, HasPlaces}
 use Rattle.dds_model.specs.Dues.{CanBeWritten}
@@ -90,7 +90,7 @@ followed_none p old dues new none same = record {
 followed : (p : Arrival) (index : ℕ) (at : Receiver) (ss : List Submessage) → IsRest p index at ss
     → AllByRecursion HasBase ss → (old : State) (moves : List Move) (refused : Option ℕ) (dues : List Due) (new : State)
     → Backed p (Some index) old → AreTellable old.part
-    → Follows p.config (own p) p.peer index at ss old moves refused dues new → Followed p old dues new
+    → FollowsMessage p.config (own p) p.peer index at ss old moves refused dues new → Followed p old dues new
 followed p index at [] rest bases old moves refused dues new b t h = followed_none p old dues new h.1.1 h.1.2
 followed p index at (s ∷ ss) rest bases old moves refused dues new b t (inl h) =
     followed_none p old dues new h.1.1 h.1.2

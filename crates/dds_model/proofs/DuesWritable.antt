@@ -13,7 +13,7 @@ use Rattle.dds_base.specs.declared.guid.EntityId.{EntityId}
 use Rattle.dds_base.specs.declared.guid.GuidPrefix.{GuidPrefix}
 use Rattle.dds_base.specs.Kept.{WriterHistory, change_at, is_kept, first_kept, numbers_from}
 use Rattle.rtps_reader.specs.declared.step.AckNackDue.{AckNackDue}
-use Rattle.rtps_reader.specs.Answer.{Answers}
+use Rattle.rtps_reader.specs.Answer.{AnswersHeartbeat}
 use Rattle.rtps_reader.specs.Tracked.{Tracked}
 use Rattle.rtps_wire.specs.declared.data.Data.{Data as DataBody}
 use Rattle.rtps_wire.specs.declared.submessage.Submessage.{Submessage}
@@ -45,7 +45,7 @@ pub record Ends (own to : GuidPrefix) (reader writer : EntityId) : Type 0 where
 
 -- One that tells what is known can be written, where its set has all its places.
 pub acknack_writable : (own to : GuidPrefix) (reader writer : EntityId) → Ends own to reader writer
-    → (t : Tracked) (last : ℕ) (is_final : Bool) (due : AckNackDue) → Answers t last is_final (Some due) → 1 ≤ t.place
+    → (t : Tracked) (last : ℕ) (is_final : Bool) (due : AckNackDue) → AnswersHeartbeat t last is_final (Some due) → 1 ≤ t.place
     → length due.missing.members ≡ 256 → IsWritable (acknack_message own to reader writer due)
 acknack_writable own to reader writer ends t last is_final due a low places =
     let base = a.3.set_base in

@@ -11,7 +11,7 @@ use Rattle.dds_base.specs.Kept.{change_at, is_kept}
 use Rattle.dds_base.proofs.PlaceLaws.{goes_forward}
 use Rattle.rtps_reader.specs.declared.step.AckNackDue.{AckNackDue}
 use Rattle.rtps_reader.specs.Advance.{known}
-use Rattle.rtps_reader.specs.Answer.{Answers}
+use Rattle.rtps_reader.specs.Answer.{AnswersHeartbeat}
 use Rattle.rtps_reader.specs.Tracked.{Tracked, with_heartbeat}
 use Rattle.rtps_sets.specs.NumberSet.{NumberSet}
 use Rattle.rtps_wire.specs.declared.acknack.AckNack.{AckNack as AckNackBody}
@@ -81,7 +81,7 @@ place_low old w r t moves new g low =
 
 acknack_written : (c : Coming) (h : HeartbeatBody) (w : Endpoint) (r : ℕ)
     (is : IsToReader c.config c.own c.at h.reader_id h.writer_id w (reader_at c.peer r)) → IsSized c.config
-    → (t : Tracked) → 1 ≤ t.place → (answer : Option AckNackDue) → Answers t h.last_sn h.final_flag answer
+    → (t : Tracked) → 1 ≤ t.place → (answer : Option AckNackDue) → AnswersHeartbeat t h.last_sn h.final_flag answer
     → All CanBeWritten (acknacks_due c.own c.at.source_guid_prefix w.peer is.entity h.writer_id answer)
 acknack_written c h w r is sized t low None a = All-nil CanBeWritten
 acknack_written c h w r is sized t low (Some due) a =

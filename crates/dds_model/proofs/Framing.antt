@@ -6,7 +6,7 @@ use Rattle.rtps_reader.specs.Tracked.{Tracked}
 use Rattle.dds_model.specs.declared.endpoint.Endpoint.{Endpoint}
 use Rattle.dds_model.specs.Numbered.{numbered, with_numbered, HasNumber}
 use Rattle.std.proofs.lemmas.Option.{same_Some}
-use Rattle.dds_model.specs.Part.{Part, WriterProxy, ReaderProxy, Reader, Writer, no_reader, no_writer, same_endpoint, own_writer, own_proxies, own_reader, acknowledged_of, with_acknowledged, at_writer, row_of, with_row, place_of, with_place, heard_of, with_heard, publication_from, publication_of, at_reader}
+use Rattle.dds_model.specs.Part.{Part, WriterProxy, ReaderProxy, Reader, Writer, no_reader, no_writer, same_endpoint, own_writer, own_proxies, own_reader, acknowledged_of, with_acknowledged, at_writer, row_of, with_row, place_of, with_place, heard_of, with_heard, publication_from, publication_among, at_reader}
 use Rattle.dds_model.specs.Protocol.{Known, State, with_tracked}
 use Rattle.dds_model.proofs.InOrder.{publication_kept, same_self}
 use Rattle.dds_model.proofs.Tables.{numbered-cases, numbered-same, length-with_numbered, same_is, row-cases, row-hits}
@@ -141,7 +141,7 @@ pub record Frames (old : State) (v : Endpoint) (k : ℕ) (new : State) : Type 0 
   pub places : (w : Endpoint) → (w ≡ v → ⊥) → place_of (own_proxies new.part k) w ≡ place_of (own_proxies old.part k) w
   pub heard : (w : Endpoint) → (w ≡ v → ⊥) → heard_of (own_proxies new.part k) w ≡ heard_of (own_proxies old.part k) w
   -- handles never change
-  pub handles : (w : Endpoint) → publication_of (own_proxies new.part k) w ≡ publication_of (own_proxies old.part k) w
+  pub handles : (w : Endpoint) → publication_among (own_proxies new.part k) w ≡ publication_among (own_proxies old.part k) w
 
 pub frames_none : (s : State) (v : Endpoint) (k : ℕ) → Frames s v k s
 frames_none s v k = record {
@@ -195,7 +195,7 @@ frames_at old v k change kept happened known there same =
       tracked = same;
       places = λ w f. ap (λ (xs : List WriterProxy). place_of xs w) here ∙ place_elsewhere change kept (own_proxies old.part k) v w f;
       heard = λ w f. ap (λ (xs : List WriterProxy). heard_of xs w) here ∙ heard_elsewhere change kept (own_proxies old.part k) v w f;
-      handles = λ w. ap (λ (xs : List WriterProxy). publication_of xs w) here ∙ publication_kept change kept (own_proxies old.part k) v w;
+      handles = λ w. ap (λ (xs : List WriterProxy). publication_among xs w) here ∙ publication_kept change kept (own_proxies old.part k) v w;
     }
 
 -- a place changed says nothing of what was heard
@@ -228,8 +228,8 @@ heard_there n k [] w h = cc
 heard_there n k (p ∷ ps) w h = heard_step n k p (publication_from (n + 1) ps w) (row_of (λ (q : WriterProxy). q.writer) ps w) (same_endpoint p.writer w) h (λ e. heard_there (n + 1) k ps w e)
 
 -- a reader with a handle of a writer is there
-pub has_handle : (part : Part) (r p : ℕ) (w : Endpoint) → publication_of (own_proxies part r) w ≡ Some p → HasNumber part.rtps.readers r
-has_handle part r p w h = has_found (λ rows. publication_of rows w) refl part r p h
+pub has_handle : (part : Part) (r p : ℕ) (w : Endpoint) → publication_among (own_proxies part r) w ≡ Some p → HasNumber part.rtps.readers r
+has_handle part r p w h = has_found (λ rows. publication_among rows w) refl part r p h
 
 -- what is known of one writer at one reader was changed alone
 pub frames_known : (old : State) (v : Endpoint) (k : ℕ) (t : Tracked) → Frames old v k (record old { known = with_tracked old.known v k t })

@@ -8,7 +8,7 @@ use Rattle.dds_base.specs.Kept.{change_at}
 use Rattle.dds_model.specs.declared.endpoint.Endpoint.{Endpoint}
 use Rattle.dds_base.specs.declared.happening.PassedRun.{PassedRun}
 use Rattle.dds_base.specs.Places.{WriterGrounds, Match, Position, coming, AllCome, GoesTo}
-use Rattle.dds_model.specs.Part.{same_endpoint, WriterProxy, row_of, with_row, place_of, publication_from, publication_of}
+use Rattle.dds_model.specs.Part.{same_endpoint, WriterProxy, row_of, with_row, place_of, publication_from, publication_among}
 use Rattle.dds_model.specs.InOrder.{came_from}
 use Rattle.dds_model.proofs.Tables.{same_is}
 
@@ -50,7 +50,7 @@ publication_from-kept change kept n [] w v = refl
 publication_from-kept change kept n (p ∷ ps) w v = kept_step change n p ps w v (same_endpoint p.writer w) (kept p) (publication_from-kept change kept (n + 1) ps w v)
 
 pub publication_kept : (change : WriterProxy → WriterProxy) → ((p : WriterProxy) → (change p).writer ≡ p.writer) → (rows : List WriterProxy) (w v : Endpoint)
-    → publication_of (with_row (λ (q : WriterProxy). q.writer) change rows w) v ≡ publication_of rows v
+    → publication_among (with_row (λ (q : WriterProxy). q.writer) change rows w) v ≡ publication_among rows v
 publication_kept change kept rows w v = publication_from-kept change kept 1 rows w v
 
 handle_step : (n place : ℕ) (p : WriterProxy) (ps : List WriterProxy) (w : Endpoint) (b : Bool) → option_map (λ (q : WriterProxy). q.place) (cond b (Some p) (row_of (λ (q : WriterProxy). q.writer) ps w)) ≡ Some place
@@ -147,5 +147,5 @@ others_go p g match old (run ∷ runs) to new f h =
     others_go p g match h.1 runs to new f h.5
     ∙ (ap (λ (x : Position). came_from p x.happened) h.3.after ∙ others_come p g match old h.2.0 h.0 f h.2.1)
 
-pub different : (rows : List WriterProxy) (v w : Endpoint) (p q : ℕ) → publication_of rows v ≡ Some p → publication_of rows w ≡ Some q → (v ≡ w → ⊥) → p ≡ q → ⊥
+pub different : (rows : List WriterProxy) (v w : Endpoint) (p q : ℕ) → publication_among rows v ≡ Some p → publication_among rows w ≡ Some q → (v ≡ w → ⊥) → p ≡ q → ⊥
 different rows v w p q g h f e = f (publications_same 1 q rows v w (g ∙ ap (λ (x : ℕ). Some x) e) h)

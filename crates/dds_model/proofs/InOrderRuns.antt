@@ -30,8 +30,8 @@ use Rattle.dds_base.specs.declared.happening.PassedRun.{PassedRun}
 use Rattle.dds_model.specs.declared.reply.Reply.{Reply}
 use Rattle.dds_model.specs.declared.reply.Reply.TheVariants.{Done, Samples, KeyValue, InstanceHandle, SampleLost, LivelinessChanged, LivelinessLost, Reported, Refused}
 use Rattle.dds_model.specs.Numbered.{numbered, with_numbered, HasNumber}
-use Rattle.dds_model.specs.Part.{same_endpoint, WriterProxy, Reader, Dds, Part, no_reader, no_part, own_writer, own_proxies, own_reader, at_reader, at_writer, row_of, place_of, with_place, with_heard, with_acknowledged, publication_of, writer_changes, nothing_seen, Seen}
-use Rattle.dds_model.specs.Moves.{Grounds, as_to, match_of, IsMatched, position_of, AreMoves, Places, Hears, DeliveryStep}
+use Rattle.dds_model.specs.Part.{same_endpoint, WriterProxy, Reader, Dds, Part, no_reader, no_part, own_writer, own_proxies, own_reader, at_reader, at_writer, row_of, place_of, with_place, with_heard, with_acknowledged, publication_among, writer_changes, nothing_seen, Seen}
+use Rattle.dds_model.specs.Moves.{Grounds, as_to, match_of, IsMatchedAt, position_at, AreMoves, Places, Hears, DeliveryStep}
 use Rattle.dds_model.specs.Calls.{Effect, nothing, writes, effect, effect_of, after_look, seen_lost, seen_liveliness, with_happening, register_refusal, write_refusal, dispose_refusal, unregister_refusal, IsDoneUnless, AnswersAccess, AnswersByCondition, AnswersLook, IsAnswered, IsAnsweredInMemory, Answers, CallStep, TickStep, reader_ticked}
 use Rattle.dds_model.specs.Watching.{Test, Tests}
 use Rattle.dds_model.specs.Machine.{Machine, AllTests, part_at, writer_at, place_at, grounds_of, Step}
@@ -58,12 +58,12 @@ record Lane (changes : List Change) (part : Part) (w : Endpoint) (r : ℕ) : Typ
   own : HasNumber part.dds.readers r
   publication : ℕ
   place : ℕ
-  matched : IsMatched part w r publication place
-  along : Along changes publication (position_of part r place)
+  matched : IsMatchedAt part w r publication place
+  along : Along changes publication (position_at part r place)
 
 -- the reader has the same writers and places as before, and was entered what did not come
 lane_as : (changes : List Change) (old new : Part) (w : Endpoint) (r : ℕ) → (l : Lane changes old w r) → HasNumber new.rtps.readers r → HasNumber new.dds.readers r
-    → publication_of (own_proxies new r) w ≡ publication_of (own_proxies old r) w → place_of (own_proxies new r) w ≡ place_of (own_proxies old r) w
+    → publication_among (own_proxies new r) w ≡ publication_among (own_proxies old r) w → place_of (own_proxies new r) w ≡ place_of (own_proxies old r) w
     → came_from l.publication (own_reader new r).happened ≡ came_from l.publication (own_reader old r).happened → Lane changes new w r
 lane_as changes old new w r l rows own handles places came = record {
   rows = rows;
@@ -71,7 +71,7 @@ lane_as changes old new w r l rows own handles places came = record {
   publication = l.publication;
   place = l.place;
   matched = record { handle = handles ∙ l.matched.handle; at = places ∙ l.matched.at };
-  along = along_as changes l.publication l.publication (position_of old r l.place) (position_of new r l.place) l.along came refl;
+  along = along_as changes l.publication l.publication (position_at old r l.place) (position_at new r l.place) l.along came refl;
 }
 
 -- a delivery
@@ -81,11 +81,11 @@ moved_other changes old w r k rows happened f l =
     let reader : Reader = record (own_reader old k) { happened = happened } in
     let same : numbered (with_numbered old.rtps.readers k rows) r [] ≡ numbered old.rtps.readers r [] = numbered-other old.rtps.readers k rows r [] f in
     lane_as changes old (at_reader old k rows happened) w r l (has_with old.rtps.readers k rows r l.rows) (has_with old.dds.readers k reader r l.own)
-    (ap (λ (x : List WriterProxy). publication_of x w) same) (ap (λ (x : List WriterProxy). place_of x w) same)
+    (ap (λ (x : List WriterProxy). publication_among x w) same) (ap (λ (x : List WriterProxy). place_of x w) same)
     (ap (λ (x : Reader). came_from l.publication x.happened) (numbered-other old.dds.readers k reader r no_reader f))
 
 -- the reader itself has these rows now, and this happened there
-moved_here : (changes : List Change) (old : Part) (w : Endpoint) (r publication place : ℕ) (rows : List WriterProxy) (happened : List Happening) → Lane changes old w r → publication_of rows w ≡ Some publication
+moved_here : (changes : List Change) (old : Part) (w : Endpoint) (r publication place : ℕ) (rows : List WriterProxy) (happened : List Happening) → Lane changes old w r → publication_among rows w ≡ Some publication
     → place_of rows w ≡ Some place → Along changes publication (record { place = place; happened = happened }) → Lane changes (at_reader old r rows happened) w r
 moved_here changes old w r publication place rows happened l handle at a =
     let reader : Reader = record (own_reader old r) { happened = happened } in
@@ -97,8 +97,8 @@ moved_here changes old w r publication place rows happened l handle at a =
       own = has_with old.dds.readers r reader r l.own;
       publication = publication;
       place = place;
-      matched = record { handle = ap (λ (x : List WriterProxy). publication_of x w) proxies ∙ handle; at = ap (λ (x : List WriterProxy). place_of x w) proxies ∙ at };
-      along = along_as changes publication publication (record { place = place; happened = happened }) (position_of new r place) a (ap (λ (x : List Happening). came_from publication x) reads) refl;
+      matched = record { handle = ap (λ (x : List WriterProxy). publication_among x w) proxies ∙ handle; at = ap (λ (x : List WriterProxy). place_of x w) proxies ∙ at };
+      along = along_as changes publication publication (record { place = place; happened = happened }) (position_at new r place) a (ap (λ (x : List Happening). came_from publication x) reads) refl;
     }
 
 same_writer : (changes : List Change) (g : Grounds) (old : Part) (w : Endpoint) (r to : ℕ) (passed : List PassedRun) (new : Part) → RestsOn changes (as_to g w r) → Lane changes old w r → (h : Places g old w r to passed new)
@@ -107,9 +107,9 @@ same_writer changes g old w r to passed new f l h =
     let rows = with_place (own_proxies old r) w to in
     let same_handle : l.publication ≡ h.publication = same_Some l.publication h.publication (sym l.matched.handle ∙ h.matched.handle) in
     let same_place : l.place ≡ h.place = same_Some l.place h.place (sym l.matched.at ∙ h.matched.at) in
-    let begins : Along changes h.publication (position_of old r h.place) =
-    along_as changes l.publication h.publication (position_of old r l.place) (position_of old r h.place) l.along (ap (λ (x : ℕ). came_from x (own_reader old r).happened) (sym same_handle)) (sym same_place) in
-    let end = goes_along changes (as_to g w r) (match_of old r h.publication) (position_of old r h.place) passed to h.end f h.goes begins in
+    let begins : Along changes h.publication (position_at old r h.place) =
+    along_as changes l.publication h.publication (position_at old r l.place) (position_at old r h.place) l.along (ap (λ (x : ℕ). came_from x (own_reader old r).happened) (sym same_handle)) (sym same_place) in
+    let end = goes_along changes (as_to g w r) (match_of old r h.publication) (position_at old r h.place) passed to h.end f h.goes begins in
     moved_here changes old w r h.publication to rows h.end.happened l
     (publication_kept (λ (p : WriterProxy). record p { place = to }) (λ p. refl) (own_proxies old r) w w ∙ h.matched.handle) (place-hits (own_proxies old r) w h.place to h.matched.at)
     (along_as changes h.publication h.publication h.end (record { place = to; happened = h.end.happened }) end.0 refl (sym end.1))
@@ -122,8 +122,8 @@ other_writer changes g old w v r to passed new f l h =
     let apart : h.publication ≡ l.publication → ⊥ = different (own_proxies old r) v w h.publication l.publication h.matched.handle l.matched.handle (λ e. f (sym e)) in
     moved_here changes old w r l.publication l.place rows h.end.happened l
     (publication_kept (λ (p : WriterProxy). record p { place = to }) (λ p. refl) (own_proxies old r) v w ∙ l.matched.handle) (same ∙ l.matched.at)
-    (along_as changes l.publication l.publication (position_of old r l.place) (record { place = l.place; happened = h.end.happened }) l.along
-    (others_go l.publication (as_to g v r) (match_of old r h.publication) (position_of old r h.place) passed to h.end apart h.goes) refl)
+    (along_as changes l.publication l.publication (position_at old r l.place) (record { place = l.place; happened = h.end.happened }) l.along
+    (others_go l.publication (as_to g v r) (match_of old r h.publication) (position_at old r h.place) passed to h.end apart h.goes) refl)
 
 either_writer : (changes : List Change) (g : Grounds) (old : Part) (w v : Endpoint) (r to : ℕ) (passed : List PassedRun) (new : Part) (b : Bool) → same_endpoint v w ≡ b → RestsOn changes (as_to g w r) → Lane changes old w r
     → (h : Places g old v r to passed new) → Lane changes (at_reader old r (with_place (own_proxies old r) v to) h.end.happened) w r
@@ -152,7 +152,7 @@ heard_here changes old w v r publication count l =
     let happened = WasHeard publication old.dds.moment ∷ (own_reader old r).happened in
     moved_here changes old w r l.publication l.place rows happened l
     (publication_kept (λ (p : WriterProxy). record p { heard = Some count }) (λ p. refl) (own_proxies old r) v w ∙ l.matched.handle) (place-heard (own_proxies old r) v count w ∙ l.matched.at)
-    (along_as changes l.publication l.publication (position_of old r l.place) (record { place = l.place; happened = happened }) l.along refl refl)
+    (along_as changes l.publication l.publication (position_at old r l.place) (record { place = l.place; happened = happened }) l.along refl refl)
 
 lane_heard : (changes : List Change) (g : Grounds) (old : Part) (w v : Endpoint) (r k : ℕ) (new : Part) (b : Bool) → (k == r) ≡ b → Lane changes old w r → Hears g old v k new → Lane changes new w r
 lane_heard changes g old w v r k new true e l h =
@@ -294,7 +294,7 @@ effect_rows old new (writes v entry) h = ap (λ x. x.readers) h
 lane_same : (changes : List Change) (old new : Part) (w : Endpoint) (r : ℕ) → (l : Lane changes old w r) → new.rtps.readers ≡ old.rtps.readers → HasNumber new.dds.readers r
     → came_from l.publication (own_reader new r).happened ≡ came_from l.publication (own_reader old r).happened → Lane changes new w r
 lane_same changes old new w r l rows own came =
-    lane_as changes old new w r l (subst (λ (x : List (List WriterProxy)). HasNumber x r) (sym rows) l.rows) own (ap (λ (x : List (List WriterProxy)). publication_of (numbered x r []) w) rows)
+    lane_as changes old new w r l (subst (λ (x : List (List WriterProxy)). HasNumber x r) (sym rows) l.rows) own (ap (λ (x : List (List WriterProxy)). publication_among (numbered x r []) w) rows)
     (ap (λ (x : List (List WriterProxy)). place_of (numbered x r []) w) rows) came
 
 lane_call : (changes : List Change) (tests : Tests) (old : Part) (w : Endpoint) (r : ℕ) (c : Call) (reply : Reply) (new : Part) → Lane changes old w r → CallStep tests old c reply new → Lane changes new w r
@@ -397,7 +397,7 @@ ended_in_order before e m w r o =
           (lane_as (writer_changes (writer_at m w)) old new w r.number o.lane
           (subst (λ (xs : List (List WriterProxy)). HasNumber xs r.number) (sym alike.rows) o.lane.rows)
           (subst (λ (n : ℕ). (1 ≤ r.number) × (r.number ≤ n)) (sym alike.readers) o.lane.own)
-          (ap (λ (xs : List WriterProxy). publication_of xs w) rows) (ap (λ (xs : List WriterProxy). place_of xs w) rows)
+          (ap (λ (xs : List WriterProxy). publication_among xs w) rows) (ap (λ (xs : List WriterProxy). place_of xs w) rows)
           (ap (λ (h : List Happening). came_from o.lane.publication h) (alike.happened r.number)));
     }
 

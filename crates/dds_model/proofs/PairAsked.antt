@@ -12,7 +12,7 @@ use Rattle.dds_model.specs.declared.reply.Move.{Move}
 use Rattle.dds_model.specs.Numbered.{HasNumber}
 use Rattle.dds_model.specs.Part.{Part, ReaderProxy, Writer, no_writer, same_endpoint, row_of, own_writer, acknowledged_of, writer_changes}
 use Rattle.dds_model.specs.Claims.{Receiver, IsToWriter}
-use Rattle.dds_model.specs.Protocol.{Due, Known, State, InTurn, TakesAckNack, is_taken, WriterTakes, Takes, with_answered}
+use Rattle.dds_model.specs.Protocol.{Due, Known, State, InTurn, TakesAckNack, is_taken_up, WriterTakes, Takes, with_answered}
 use Rattle.dds_model.specs.Backed.{reader_at}
 use Rattle.dds_model.proofs.Framing.{number_or_not}
 use Rattle.dds_model.proofs.InOrder.{same_self}
@@ -48,7 +48,7 @@ ByRows c k rows old moves dues new = InTurn (λ (p : ReaderProxy). ByWriter c k 
 
 -- the writer of this number takes none of it
 abbrev TakesNone : Asking → ℕ → State → Type 0
-TakesNone c k s = (x : Endpoint) → IsToWriter c.host.config c.host.own c.at c.body.reader_id c.body.writer_id (reader_at c.host.peer k) x → is_taken s k x c.body ≡ false
+TakesNone c k s = (x : Endpoint) → IsToWriter c.host.config c.host.own c.at c.body.reader_id c.body.writer_id (reader_at c.host.peer k) x → is_taken_up s k x c.body ≡ false
 
 rows_idle : (c : Asking) (k : ℕ) (rows : List ReaderProxy) (old : State) (moves : List Move) (dues : List Due) (new : State) → TakesNone c k old → ByRows c k rows old moves dues new → (dues ≡ []) × (new ≡ old)
 rows_idle c k [] old moves dues new none h = (h.1, h.2)
@@ -66,7 +66,7 @@ answered_here known w r n =
     ∙ ap (λ (b : Bool). cond b (Some n) (known.answered w r)) (same_self r)
 
 -- once it was taken it is no longer new
-taken_once : (c : Asking) (k : ℕ) (x : Endpoint) (entity : EntityId) (old : State) (made : List Move) (dues : List Due) (new : State) → TakesAckNack c.host.own c.at old k x entity c.body made dues new → is_taken new k x c.body ≡ false
+taken_once : (c : Asking) (k : ℕ) (x : Endpoint) (entity : EntityId) (old : State) (made : List Move) (dues : List Due) (new : State) → TakesAckNack c.host.own c.at old k x entity c.body made dues new → is_taken_up new k x c.body ≡ false
 taken_once c k x entity old made dues new t =
     ap (λ (o : Option ℤ). is_later o c.body.count && nat_le c.body.reader_sn_state.base (length (writer_changes (own_writer new.part k)) + 1))
     (ap (λ (s : State). s.known.answered k x) t.after ∙ answered_here old.known k x c.body.count)
@@ -84,7 +84,7 @@ row_later p ps r h = by (same_endpoint p.reader r) refl h.1
     by true e k = inl (same_is p.reader r e)
     by false e k = inr (h.0, k)
 
-rows_take : (c : Asking) (rows : List ReaderProxy) (old : State) (moves : List Move) (dues : List Due) (new : State) → is_taken old c.writer c.reader c.body ≡ true → HasRow rows c.reader
+rows_take : (c : Asking) (rows : List ReaderProxy) (old : State) (moves : List Move) (dues : List Due) (new : State) → is_taken_up old c.writer c.reader c.body ≡ true → HasRow rows c.reader
     → ByRows c c.writer rows old moves dues new → Took c old dues new
 rows_take c [] old moves dues new taken row h = let none = row.1 in absurd cc
 rows_take c (p ∷ ps) old moves dues new taken row h = by h.7 (λ same next. rows_take c ps old h.1 h.3 new taken next (subst (λ (s : State). ByRows c c.writer ps s h.1 h.3 new) same h.8))
@@ -96,7 +96,7 @@ rows_take c (p ∷ ps) old moves dues new taken row h = by h.7 (λ same next. ro
         let none : TakesNone c c.writer h.4 =
         λ x to.
         let is : x ≡ p.reader = (c.names c.writer x to).1 ∙ sym same in
-        subst (λ (y : Endpoint). is_taken h.4 c.writer y c.body ≡ false) (sym is) (taken_once c c.writer p.reader t.entity old h.0 h.2 h.4 k) in
+        subst (λ (y : Endpoint). is_taken_up h.4 c.writer y c.body ≡ false) (sym is) (taken_once c c.writer p.reader t.entity old h.0 h.2 h.4 k) in
         let rest = rows_idle c c.writer ps h.4 h.1 h.3 new none h.8 in
         let all : dues ≡ h.2 = h.6 ∙ (ap (λ (ds : List Due). h.2 ++ ds) rest.0 ∙ append_nothing h.2) in
         let one : TookOf c p.reader old h.2 h.4 = record { is = t; moves = h.0; takes = k } in
@@ -109,7 +109,7 @@ rows_take c (p ∷ ps) old moves dues new taken row h = by h.7 (λ same next. ro
         ⊎_elim
         (λ same.
         let no = t.0 (subst (λ (x : Endpoint). IsToWriter c.host.config c.host.own c.at c.body.reader_id c.body.writer_id (reader_at c.host.peer c.writer) x) (sym same) c.is_to) in
-        let is = ap (λ (x : Endpoint). is_taken old c.writer x c.body) same in absurd cc)
+        let is = ap (λ (x : Endpoint). is_taken_up old c.writer x c.body) same in absurd cc)
         (λ next. subst (λ (ds : List Due). Took c old ds new) (sym (h.6 ∙ ap (λ (ds : List Due). ds ++ h.3) t.1.1)) (later t.1.2 next))
         (row_later p ps c.reader row)
 
@@ -129,7 +129,7 @@ writers_idle c start first (suc count) old moves dues new past h =
     let rest = writers_idle c start (first + 1) count h.4 h.1 h.3 new (omega (arith, past)) h.8 in
     (h.6 ∙ (ap (λ (ds : List Due). ds ++ h.3) one.0 ∙ rest.0), rest.1 ∙ one.1)
 
-first_takes : (c : Asking) (start : State) (count : ℕ) (old : State) (moves : List Move) (dues : List Due) (new : State) → is_taken old c.writer c.reader c.body ≡ true → HasRow (own_writer start.part c.writer).readers c.reader
+first_takes : (c : Asking) (start : State) (count : ℕ) (old : State) (moves : List Move) (dues : List Due) (new : State) → is_taken_up old c.writer c.reader c.body ≡ true → HasRow (own_writer start.part c.writer).readers c.reader
     → ByWriters c start c.writer (suc count) old moves dues new → Took c old dues new
 first_takes c start count old moves dues new taken row h =
     let one : Took c old h.2 h.4 = rows_take c (own_writer start.part c.writer).readers old h.0 h.2 h.4 taken row h.7 in
@@ -138,7 +138,7 @@ first_takes c start count old moves dues new taken row h =
     subst (λ (ds : List Due). Took c old ds new) (sym all) (subst (λ (s : State). Took c old h.2 s) (sym rest.1) one)
 
 writers_take : (c : Asking) (start : State) (first count : ℕ) (old : State) (moves : List Move) (dues : List Due) (new : State) → first ≤ c.writer → c.writer < first + count
-    → is_taken old c.writer c.reader c.body ≡ true → HasRow (own_writer start.part c.writer).readers c.reader → ByWriters c start first count old moves dues new → Took c old dues new
+    → is_taken_up old c.writer c.reader c.body ≡ true → HasRow (own_writer start.part c.writer).readers c.reader → ByWriters c start first count old moves dues new → Took c old dues new
 writers_take c start first zero old moves dues new low high taken row h = absurd (omega (arith, low, high))
 writers_take c start first (suc count) old moves dues new low high taken row h =
     ⊎_elim (λ e. first_takes c start count old moves dues new taken row (subst (λ (n : ℕ). ByWriters c start n (suc count) old moves dues new) (sym e) h))
@@ -161,7 +161,7 @@ has_writer part (suc i) r h = (omega arith, within part.rtps.writers i h.1)
     within (w ∷ ws) (suc i) e = let k = within ws i e in omega (arith, k)
 
 -- an ACKNACK that is new, and whose base is not past the next number, is taken
-pub asked_takes : (c : Asking) (old : State) (moves : List Move) (dues : List Due) (new : State) → is_taken old c.writer c.reader c.body ≡ true → HasRow (own_writer old.part c.writer).readers c.reader
+pub asked_takes : (c : Asking) (old : State) (moves : List Move) (dues : List Due) (new : State) → is_taken_up old c.writer c.reader c.body ≡ true → HasRow (own_writer old.part c.writer).readers c.reader
     → Takes c.host.config c.host.own c.host.peer c.at (AckNack c.body) old moves dues new → Took c old dues new
 asked_takes c old moves dues new taken row h =
     let there = has_writer old.part c.writer c.reader row in

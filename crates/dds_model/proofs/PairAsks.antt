@@ -3,7 +3,7 @@ use Rattle.std.proofs.Common.{◌≡◌, ℕ, ◌^◌, ◌-◌, ◌<◌, false, 
 use Rattle.dds_base.specs.declared.config.Config.{Config}
 use Rattle.dds_base.specs.Checked.{check_refusal}
 use Rattle.rtps_reader.specs.declared.step.AckNackDue.{AckNackDue}
-use Rattle.rtps_reader.specs.Answer.{Answers}
+use Rattle.rtps_reader.specs.Answer.{AnswersHeartbeat}
 use Rattle.rtps_wire.specs.declared.submessage.Submessage.TheVariants.{AckNack}
 use Rattle.rtps_wire.specs.declared.seek.Sought.TheVariants as sought
 use Rattle.rtps_wire.specs.Messages.{IsWritable, spelling_of}
@@ -70,7 +70,7 @@ ask_is_sent c none x is = record {
         due_writable c.begins.hears.step.dues c.begins.hears.step.packets c.begins.lost_asks (ask_due c x) none
         c.begins.hears.step.are_sent due
 
-answered_by : (c : Begun) → the_last c < 2 ^ 62 → acknacks_used_at c.old c.writer c.reader < 2 ^ 31 - 1 → (a : Option AckNackDue) → (hears c).answer ≡ a → Answers (heard_of c) (the_last c) false a
+answered_by : (c : Begun) → the_last c < 2 ^ 62 → acknacks_used_at c.old c.writer c.reader < 2 ^ 31 - 1 → (a : Option AckNackDue) → (hears c).answer ≡ a → AnswersHeartbeat (heard_of c) (the_last c) false a
     → (x : AckNackDue) × ((hears c).answer ≡ Some x)
 answered_by c few left None is (inl (inl far)) = let le = place_heard c in absurd (omega (arith, few, le, far))
 answered_by c few left None is (inl (inr used)) = let same = acknacks c in absurd (omega (arith, left, used, same))

@@ -12,7 +12,7 @@ use Rattle.dds_model.specs.declared.endpoint.Endpoint.{Endpoint}
 use Rattle.dds_model.specs.declared.event.WorldEvent.TheVariants as world
 use Rattle.dds_model.specs.declared.reply.Reply.TheVariants.{Done, Reported}
 use Rattle.dds_model.specs.Numbered.{numbered}
-use Rattle.dds_model.specs.Part.{Part, WriterProxy, ReaderProxy, Writer, no_writer, own_writer, own_proxies, own_reader, acknowledged_of, place_of, publication_of, writer_changes, heartbeats_used}
+use Rattle.dds_model.specs.Part.{Part, WriterProxy, ReaderProxy, Writer, no_writer, own_writer, own_proxies, own_reader, acknowledged_of, place_of, publication_among, writer_changes, heartbeats_used}
 use Rattle.dds_model.specs.Moves.{match_of}
 use Rattle.dds_model.specs.Dues.{IsPartOf}
 use Rattle.dds_model.specs.Machine.{AllTests, writer_at, place_at}
@@ -137,7 +137,7 @@ place_ticked c =
     ap (λ (rows : List (List WriterProxy)). place_of (numbered rows c.reader.number []) c.writer) (left c c.reader.peer).rows
     ∙ (sym (place_is c.old c.reader c.writer) ∙ c.stands.place_is)
 
-abbrev pub handle_of : (c : Begun) → (k : ℕ) × (publication_of (own_proxies (ticked_reader c).part c.reader.number) c.writer ≡ Some k)
+abbrev pub handle_of : (c : Begun) → (k : ℕ) × (publication_among (own_proxies (ticked_reader c).part c.reader.number) c.writer ≡ Some k)
 handle_of c = publication_there 1 c.place (own_proxies (ticked_reader c).part c.reader.number) c.writer (place_ticked c)
 
 pub match : Begun → Match

@@ -14,7 +14,7 @@ use Rattle.dds_base.specs.Places.{coming}
 use Rattle.dds_base.specs.Presence.{has_room}
 use Rattle.rtps_reader.specs.declared.step.AckNackDue.{AckNackDue}
 use Rattle.rtps_reader.specs.Tracked.{is_later}
-use Rattle.rtps_reader.specs.Answer.{Answers, Tells, answered}
+use Rattle.rtps_reader.specs.Answer.{AnswersHeartbeat, Tells, answered}
 use Rattle.rtps_wire.specs.Messages.{IsWritable}
 use Rattle.rtps_writer.specs.declared.answer.Answer.{Answer}
 use Rattle.rtps_writer.specs.Answers.{requested}
@@ -23,10 +23,10 @@ use Rattle.dds_model.specs.declared.event.Packet.{Packet}
 use Rattle.dds_model.specs.declared.event.WorldEvent.TheVariants as world
 use Rattle.dds_model.specs.declared.reply.Reply.TheVariants.{Reported}
 use Rattle.dds_model.specs.Part.{Writer, own_reader, acknowledged_of, writer_changes, history_of, NoLess}
-use Rattle.dds_model.specs.Moves.{match_of, position_of}
+use Rattle.dds_model.specs.Moves.{match_of, position_at}
 use Rattle.dds_model.specs.Machine.{AllTests, writer_at}
 use Rattle.dds_model.specs.Peer.{Peer, state_of}
-use Rattle.dds_model.specs.Protocol.{Due, State, is_taken, TakesPacket}
+use Rattle.dds_model.specs.Protocol.{Due, State, is_taken_up, TakesPacket}
 use Rattle.dds_model.specs.World.{WorldState, peer_at, machine_of, Sound}
 use Rattle.dds_model.specs.Bounds.{IsBounded}
 use Rattle.dds_model.specs.CatchUp.{Standing, TakesAnswers, IsRepaired, IsFull, HasGoneOn}
@@ -70,8 +70,8 @@ asked c =
 
 tells : (c : AskedRound) → Tells (heard_of c.first) (the_last c.first) (asked c).x
 tells c =
-    let a : Answers (heard_of c.first) (the_last c.first) false (Some (asked c).x) =
-    subst (λ (o : Option AckNackDue). Answers (heard_of c.first) (the_last c.first) false o) (asked c).answer (hears c.first).answers in
+    let a : AnswersHeartbeat (heard_of c.first) (the_last c.first) false (Some (asked c).x) =
+    subst (λ (o : Option AckNackDue). AnswersHeartbeat (heard_of c.first) (the_last c.first) false o) (asked c).answer (hears c.first).answers in
     a.3
 
 -- where the reader stands once its ACKNACK was made
@@ -89,7 +89,7 @@ both_true : (a b : Bool) → a ≡ true → b ≡ true → (a && b) ≡ true
 both_true true b e f = f
 both_true false b e f = cc
 
-ask_new : (c : AskedRound) → is_taken (heard_writer c.first) c.first.writer.number c.first.reader (asks c).body ≡ true
+ask_new : (c : AskedRound) → is_taken_up (heard_writer c.first) c.first.writer.number c.first.reader (asks c).body ≡ true
 ask_new c =
     both_true (is_later ((heard_writer c.first).known.answered c.first.writer.number c.first.reader) (asked c).x.count) (nat_le (asked c).x.missing.base (length (writer_changes (writer_heard c.first)) + 1)) later within
   where
@@ -271,8 +271,8 @@ without_room c f = record {
   handle = (repaired c).seat.handle;
   change = f.change;
   held = f.held;
-  no_room = subst (λ (q : ReaderQos). has_room q (own_reader (new_reader c).part c.given.first.reader.number).happened (coming (match_of (new_reader c).part c.given.first.reader.number (match c.given.first).publication) (position_of (new_reader c).part c.given.first.reader.number (tracked_at c.new c.given.first.writer c.given.first.reader).place) f.change) ≡ false) (sym (repaired c).seat.qos)
-      (subst (λ (n : ℕ). has_room (match c.given.first).qos (own_reader (new_reader c).part c.given.first.reader.number).happened (coming (record { qos = (match c.given.first).qos; publication = (match c.given.first).publication; moment = n }) (position_of (new_reader c).part c.given.first.reader.number (tracked_at c.new c.given.first.writer c.given.first.reader).place) f.change) ≡ false) (sym (repaired c).seat.moment) f.no_room);
+  no_room = subst (λ (q : ReaderQos). has_room q (own_reader (new_reader c).part c.given.first.reader.number).happened (coming (match_of (new_reader c).part c.given.first.reader.number (match c.given.first).publication) (position_at (new_reader c).part c.given.first.reader.number (tracked_at c.new c.given.first.writer c.given.first.reader).place) f.change) ≡ false) (sym (repaired c).seat.qos)
+      (subst (λ (n : ℕ). has_room (match c.given.first).qos (own_reader (new_reader c).part c.given.first.reader.number).happened (coming (record { qos = (match c.given.first).qos; publication = (match c.given.first).publication; moment = n }) (position_at (new_reader c).part c.given.first.reader.number (tracked_at c.new c.given.first.writer c.given.first.reader).place) f.change) ≡ false) (sym (repaired c).seat.moment) f.no_room);
 }
 
 round_catches_up : (c : Round) → HasCaughtUp c.new c.given.first.writer c.given.first.reader c.given.first.place (length (writer_changes (writer_at (machine_of c.given.first.old) c.given.first.writer)))

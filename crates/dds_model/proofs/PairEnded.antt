@@ -6,7 +6,7 @@ use Rattle.dds_model.specs.declared.endpoint.Endpoint.{Endpoint}
 use Rattle.dds_model.specs.declared.event.WorldEvent.{WorldEvent}
 use Rattle.dds_model.specs.Noticing.{world_ended}
 use Rattle.dds_model.specs.Numbered.{HasNumber, numbered}
-use Rattle.dds_model.specs.Part.{WriterProxy, own_reader, own_writer, place_of, publication_of, writer_changes}
+use Rattle.dds_model.specs.Part.{WriterProxy, own_reader, own_writer, place_of, publication_among, writer_changes}
 use Rattle.dds_model.specs.Peer.{state_of}
 use Rattle.dds_model.specs.Protocol.{Known}
 use Rattle.dds_model.specs.World.{WorldState, peer_at}
@@ -44,7 +44,7 @@ module _ (before : WorldState) (e : WorldEvent) (world : WorldState) (p : ℕ) w
   seat_ended m w r s = record {
     rows = subst (λ (xs : List (List WriterProxy)). HasNumber xs r) (sym alike.rows) s.rows;
     there = subst (λ (n : ℕ). (1 ≤ r) × (r ≤ n)) (sym alike.readers) s.there;
-    handle = ap (λ (xs : List (List WriterProxy)). publication_of (numbered xs r []) w) alike.rows ∙ s.handle;
+    handle = ap (λ (xs : List (List WriterProxy)). publication_among (numbered xs r []) w) alike.rows ∙ s.handle;
     qos = alike.qos r ∙ s.qos;
     moment = alike.moment ∙ s.moment;
     place = ap (λ (xs : List (List WriterProxy)). place_of (numbered xs r []) w) alike.rows

@@ -26,7 +26,7 @@ use Rattle.dds_model.specs.declared.reply.Report.{Report}
 use Rattle.dds_model.specs.Part.{own_writer}
 use Rattle.dds_model.specs.Claims.{Receiver, receiver_of, after_submessage, is_for, stamp_of, IsToReader}
 use Rattle.dds_model.specs.Receipt.{prefix_of}
-use Rattle.dds_model.specs.Protocol.{Due, State, InTurn, ReaderTakes, is_taken, Takes, Follows, TakesPacket, data_of, submessages_of, answer_message}
+use Rattle.dds_model.specs.Protocol.{Due, State, InTurn, ReaderTakes, is_taken_up, Takes, FollowsMessage, TakesPacket, data_of, submessages_of, answer_message}
 use Rattle.dds_model.specs.Backed.{reader_at}
 use Rattle.dds_model.specs.CatchUp.{TakesAnswer, TakesAnswers}
 use Rattle.dds_model.proofs.Dues.{addressed, message_to}
@@ -65,9 +65,9 @@ heartbeat_packet c own from to h m w r quiet is old report dues new s later writ
     ss : List Submessage
     ss = InfoDst to ∷ Heartbeat h ∷ []
 
-    follows : Follows c.config c.own c.peer 0 (receiver_of from) ss old report.moves None dues new
+    follows : FollowsMessage c.config c.own c.peer 0 (receiver_of from) ss old report.moves None dues new
     follows =
-        subst (λ (p : GuidPrefix). Follows c.config p c.peer 0 (receiver_of from) ss old report.moves None dues new) (sym own)
+        subst (λ (p : GuidPrefix). FollowsMessage c.config p c.peer 0 (receiver_of from) ss old report.moves None dues new) (sym own)
         (read_whole c.config c.peer (message_to from to (Heartbeat h ∷ [])) old report dues new writable whole takes)
 
     next : FollowsOn c.config c.own c.peer (0 + 1) at (Heartbeat h ∷ []) old dues new
@@ -113,9 +113,9 @@ record First (c : Host) (index : ℕ) (at : Receiver) (s : Submessage) (ss : Lis
   takes : Takes c.config c.own c.peer at s old made first mid
   later : List Move
   dues : List Due
-  follows : Follows c.config c.own c.peer (index + 1) (after_submessage c.own at s) ss mid later None dues new
+  follows : FollowsMessage c.config c.own c.peer (index + 1) (after_submessage c.own at s) ss mid later None dues new
 
-first_of : (c : Host) (index : ℕ) (at : Receiver) (s : Submessage) (ss : List Submessage) (old : State) (moves : List Move) (dues : List Due) (new : State) → Follows c.config c.own c.peer index at (s ∷ ss) old moves None dues new → First c index at s ss old new
+first_of : (c : Host) (index : ℕ) (at : Receiver) (s : Submessage) (ss : List Submessage) (old : State) (moves : List Move) (dues : List Due) (new : State) → FollowsMessage c.config c.own c.peer index at (s ∷ ss) old moves None dues new → First c index at s ss old new
 first_of c index at s ss old moves dues new (inl h) = let none = h.0 in absurd cc
 first_of c index at s ss old moves dues new (inr h) = record { made = h.0; first = h.2; mid = h.4; takes = h.7; later = h.1; dues = h.3; follows = h.8 }
 
@@ -164,11 +164,11 @@ all_of changes reader writer answers = flat_map (submessages_of changes reader w
 abbrev TakesRest : Host → List Change → EntityId → EntityId → Match → Endpoint → ℕ → List Answer → Type 0
 TakesRest c changes reader writer m w r answers =
     (index : ℕ) (at : Receiver) (old : State) (moves : List Move) (dues : List Due) (new : State) → IsToReader c.config c.own at reader writer w (reader_at c.peer r) → Seat m w r old
-    → Follows c.config c.own c.peer index at (all_of changes reader writer answers) old moves None dues new → Answered m w r answers old new
+    → FollowsMessage c.config c.own c.peer index at (all_of changes reader writer answers) old moves None dues new → Answered m w r answers old new
 
 take_data : (c : Host) (changes : List Change) (reader writer : EntityId) (m : Match) (w : Endpoint) (r n : ℕ) (rest : List Answer) (change : Change) (o : Option Change) → o ≡ Some change → TakesRest c changes reader writer m w r rest
     → (index : ℕ) (at : Receiver) (old : State) (moves : List Move) (dues : List Due) (new : State) → IsToReader c.config c.own at reader writer w (reader_at c.peer r) → Seat m w r old
-    → Follows c.config c.own c.peer index at (data_of reader writer n o ++ all_of changes reader writer rest) old moves None dues new → Answered m w r (AnswersData n ∷ rest) old new
+    → FollowsMessage c.config c.own c.peer index at (data_of reader writer n o ++ all_of changes reader writer rest) old moves None dues new → Answered m w r (AnswersData n ∷ rest) old new
 take_data c changes reader writer m w r n rest change None is later index at old moves dues new to s h = cc
 take_data c changes reader writer m w r n rest change (Some x) is later index at old moves dues new to s h =
     let stamp : Option ℕ = Some x.source_timestamp in
@@ -184,7 +184,7 @@ take_data c changes reader writer m w r n rest change (Some x) is later index at
 
 take_gap : (c : Host) (changes : List Change) (reader writer : EntityId) (m : Match) (w : Endpoint) (r first last : ℕ) (rest : List Answer) → TakesRest c changes reader writer m w r rest
     → (index : ℕ) (at : Receiver) (old : State) (moves : List Move) (dues : List Due) (new : State) → IsToReader c.config c.own at reader writer w (reader_at c.peer r) → Seat m w r old
-    → Follows c.config c.own c.peer index at (all_of changes reader writer (AnswersGap first last ∷ rest)) old moves None dues new → Answered m w r (AnswersGap first last ∷ rest) old new
+    → FollowsMessage c.config c.own c.peer index at (all_of changes reader writer (AnswersGap first last ∷ rest)) old moves None dues new → Answered m w r (AnswersGap first last ∷ rest) old new
 take_gap c changes reader writer m w r first last rest later index at old moves dues new to s h =
     let body : GapBody = record { reader_id = reader; writer_id = writer; gap_start = first; gap_list = empty_from (last + 1) } in
     let f : First c index at (Gap body) (all_of changes reader writer rest) old new = first_of c index at (Gap body) (all_of changes reader writer rest) old moves dues new h in
@@ -214,9 +214,9 @@ answers_packet c own from to reader writer changes answers m w r is all old repo
     ss : List Submessage
     ss = InfoDst to ∷ all_of changes reader writer answers
 
-    follows : Follows c.config c.own c.peer 0 (receiver_of from) ss old report.moves None dues new
+    follows : FollowsMessage c.config c.own c.peer 0 (receiver_of from) ss old report.moves None dues new
     follows =
-        subst (λ (p : GuidPrefix). Follows c.config p c.peer 0 (receiver_of from) ss old report.moves None dues new) (sym own)
+        subst (λ (p : GuidPrefix). FollowsMessage c.config p c.peer 0 (receiver_of from) ss old report.moves None dues new) (sym own)
         (read_whole c.config c.peer (answer_message from to reader writer changes answers) old report dues new writable whole takes)
 
     next : FollowsOn c.config c.own c.peer (0 + 1) (addressed from to) (all_of changes reader writer answers) old dues new
@@ -227,7 +227,7 @@ answers_packet c own from to reader writer changes answers m w r is all old repo
 -- ---- an ACKNACK
 
 pub acknack_packet : (c : Asking) → c.host.own ≡ prefix_of c.host.config c.host.peer → (from to : GuidPrefix) → c.at ≡ addressed from to
-    → (old : State) (report : Report) (dues : List Due) (new : State) → is_taken old c.writer c.reader c.body ≡ true → HasRow (own_writer old.part c.writer).readers c.reader
+    → (old : State) (report : Report) (dues : List Due) (new : State) → is_taken_up old c.writer c.reader c.body ≡ true → HasRow (own_writer old.part c.writer).readers c.reader
     → IsWritable (message_to from to (AckNack c.body ∷ [])) → report.refused ≡ None → TakesPacket c.host.config c.host.peer (spelling_of (message_to from to (AckNack c.body ∷ []))) old report dues new
     → Took c old dues new
 acknack_packet c own from to at old report dues new taken row writable whole takes =
@@ -237,9 +237,9 @@ acknack_packet c own from to at old report dues new taken row writable whole tak
     h : Host
     h = c.host
 
-    follows : Follows h.config h.own h.peer 0 (receiver_of from) (InfoDst to ∷ AckNack c.body ∷ []) old report.moves None dues new
+    follows : FollowsMessage h.config h.own h.peer 0 (receiver_of from) (InfoDst to ∷ AckNack c.body ∷ []) old report.moves None dues new
     follows =
-        subst (λ (p : GuidPrefix). Follows h.config p h.peer 0 (receiver_of from) (InfoDst to ∷ AckNack c.body ∷ []) old report.moves None dues new) (sym own)
+        subst (λ (p : GuidPrefix). FollowsMessage h.config p h.peer 0 (receiver_of from) (InfoDst to ∷ AckNack c.body ∷ []) old report.moves None dues new) (sym own)
         (read_whole h.config h.peer (message_to from to (AckNack c.body ∷ [])) old report dues new writable whole takes)
 
     next : FollowsOn h.config h.own h.peer (0 + 1) (addressed from to) (AckNack c.body ∷ []) old dues new

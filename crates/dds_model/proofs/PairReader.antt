@@ -8,7 +8,7 @@ use Rattle.dds_base.specs.Places.{Match}
 use Rattle.rtps_reader.specs.declared.step.AckNackDue.{AckNackDue}
 use Rattle.rtps_reader.specs.Tracked.{Tracked, with_data, with_gap, with_heartbeat, is_later}
 use Rattle.rtps_reader.specs.Advance.{Advances}
-use Rattle.rtps_reader.specs.Answer.{Answers, answered}
+use Rattle.rtps_reader.specs.Answer.{AnswersHeartbeat, answered}
 use Rattle.rtps_wire.specs.declared.data.Data.{Data as DataBody}
 use Rattle.rtps_wire.specs.declared.gap.Gap.{Gap as GapBody}
 use Rattle.rtps_wire.specs.declared.heartbeat.Heartbeat.{Heartbeat as HeartbeatBody}
@@ -17,7 +17,7 @@ use Rattle.rtps_wire.specs.Content.{change_in}
 use Rattle.dds_model.specs.declared.endpoint.Endpoint.{Endpoint}
 use Rattle.dds_model.specs.declared.reply.Move.{Move}
 use Rattle.dds_model.specs.Numbered.{HasNumber}
-use Rattle.dds_model.specs.Part.{Part, Reader, WriterProxy, no_reader, own_proxies, own_reader, place_of, publication_of}
+use Rattle.dds_model.specs.Part.{Part, Reader, WriterProxy, no_reader, own_proxies, own_reader, place_of, publication_among}
 use Rattle.dds_model.specs.Moves.{match_of}
 use Rattle.dds_model.specs.Claims.{Receiver, IsToReader}
 use Rattle.dds_model.specs.Protocol.{Due, State, Goes, Asserting, TakesHeartbeat, ReaderTakes, acknacks_due}
@@ -44,7 +44,7 @@ standing_of s w r = standing (s.known.tracked w r) (own_reader s.part r).happene
 pub record Seat (m : Match) (w : Endpoint) (r : ℕ) (s : State) : Type 0 where
   pub rows : HasNumber s.part.rtps.readers r
   pub there : HasNumber s.part.dds.readers r
-  pub handle : publication_of (own_proxies s.part r) w ≡ Some m.publication
+  pub handle : publication_among (own_proxies s.part r) w ≡ Some m.publication
   pub qos : (own_reader s.part r).qos ≡ m.qos
   pub moment : s.part.dds.moment ≡ m.moment
   pub place : place_of (own_proxies s.part r) w ≡ Some (s.known.tracked w r).place
@@ -56,7 +56,7 @@ pub seat_as : (m : Match) (w : Endpoint) (r : ℕ) (old new : State) → SameAt 
 seat_as m w r old new same rows there s = record {
   rows = rows;
   there = there;
-  handle = ap (λ (xs : List WriterProxy). publication_of xs w) same.proxies ∙ s.handle;
+  handle = ap (λ (xs : List WriterProxy). publication_among xs w) same.proxies ∙ s.handle;
   qos = ap (λ (x : Reader). x.qos) same.reader ∙ s.qos;
   moment = same.moment ∙ s.moment;
   place = ap (λ (xs : List WriterProxy). place_of xs w) same.proxies
@@ -153,7 +153,7 @@ pub record HearsBy (c : Host) (at : Receiver) (h : HeartbeatBody) (m : Match) (w
   pub heard : State
   pub moves : MovesBy m w r (with_heartbeat h.first_sn h.count) old heard
   pub answer : Option AckNackDue
-  pub answers : Answers (heard.known.tracked w r) h.last_sn h.final_flag answer
+  pub answers : AnswersHeartbeat (heard.known.tracked w r) h.last_sn h.final_flag answer
   pub dues_are : dues ≡ acknacks_due c.own at.source_guid_prefix w.peer is.entity h.writer_id answer
   pub seat : Seat m w r new
   pub after : standing_of new w r ≡ standing (answered answer (heard.known.tracked w r)) (own_reader heard.part r).happened
@@ -175,7 +175,7 @@ heartbeat_heard c at h m w r quiet is old moves dues new s k = record {
   seat = record {
     rows = subst (λ (p : Part). HasNumber p.rtps.readers r) (sym part) moved.seat.rows;
     there = subst (λ (p : Part). HasNumber p.dds.readers r) (sym part) moved.seat.there;
-    handle = ap (λ (p : Part). publication_of (own_proxies p r) w) part ∙ moved.seat.handle;
+    handle = ap (λ (p : Part). publication_among (own_proxies p r) w) part ∙ moved.seat.handle;
     qos = ap (λ (p : Part). (own_reader p r).qos) part ∙ moved.seat.qos;
     moment = ap (λ (p : Part). p.dds.moment) part ∙ moved.seat.moment;
     place = ap (λ (p : Part). place_of (own_proxies p r) w) part

@@ -15,7 +15,7 @@ use Rattle.dds_model.specs.declared.reply.Move.{Move}
 use Rattle.dds_model.specs.declared.reply.Move.TheVariants.{Place}
 use Rattle.dds_model.specs.Numbered.{HasNumber}
 use Rattle.dds_model.specs.Part.{WriterProxy, own_proxies, own_reader, place_of, with_place, heard_of, at_reader}
-use Rattle.dds_model.specs.Moves.{Grounds, as_to, match_of, position_of, IsMove, AreMoves}
+use Rattle.dds_model.specs.Moves.{Grounds, as_to, match_of, position_at, IsMove, AreMoves}
 use Rattle.dds_model.specs.Peer.{Delivery, claimed, packets_of}
 use Rattle.dds_model.specs.Protocol.{State, Goes, with_tracked}
 use Rattle.dds_model.specs.Backed.{IsClaimed, TookNone, IsBacked}
@@ -87,7 +87,7 @@ goes_moves config before packet peer index old w r t moves new k h at = by (nat_
     g = claimed config before packet peer index
 
     from : Position
-    from = position_of old.part r h.place
+    from = position_at old.part r h.place
 
     end : Position
     end = record { place = h.to; happened = h.happened }

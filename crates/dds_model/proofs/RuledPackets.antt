@@ -20,11 +20,11 @@ use Rattle.dds_model.specs.declared.reply.Move.{Move}
 use Rattle.dds_model.specs.declared.reply.Report.{Report}
 use Rattle.dds_model.specs.Numbered.{numbered, HasNumber}
 use Rattle.dds_model.specs.Part.{Part, own_proxies, place_of, heard_of}
-use Rattle.dds_model.specs.Moves.{IsMatched, AreMoves}
+use Rattle.dds_model.specs.Moves.{IsMatchedAt, AreMoves}
 use Rattle.dds_model.specs.Claims.{Receiver, receiver_of, after_submessage, StandsAt, IsReader, IsToReader, ChangeIs, Says}
 use Rattle.dds_model.specs.Receipt.{prefix_of, MovesOver, TakesUp, IsNotTaken, Receives}
 use Rattle.dds_model.specs.Peer.{Delivery, IsApplied, IsBefore, claimed, packets_of}
-use Rattle.dds_model.specs.Protocol.{Due, Known, State, InTurn, ReaderTakes, Takes, Follows, TakesPacket}
+use Rattle.dds_model.specs.Protocol.{Due, Known, State, InTurn, ReaderTakes, Takes, FollowsMessage, TakesPacket}
 use Rattle.dds_model.specs.Backed.{reader_at, IsClaimed, IsBacked}
 use Rattle.dds_model.proofs.Knowing.{claimed_on}
 use Rattle.dds_model.proofs.Composed.{front_or_rest, later_in}
@@ -44,7 +44,7 @@ pub record Taken (c : Coming) (old : State) (made : List Move) (new : State) : T
   pub past : (r : ℕ) → HasNumber new.part.rtps.readers r → IsPast c c.submessage r new
   pub over : MovesOver c.config (grounds c) c.peer c.own c.at c.submessage old.part made
 
-pub by_readers : (c : Coming) (s : Submessage) → c.submessage ≡ s → IsTelling s → (old : State) (made : List Move) (dues : List Due) (new : State) → ((w : Endpoint) (r p n : ℕ) → IsMatched old.part w r p n → HasNumber old.part.rtps.readers r) → Backs c old
+pub by_readers : (c : Coming) (s : Submessage) → c.submessage ≡ s → IsTelling s → (old : State) (made : List Move) (dues : List Due) (new : State) → ((w : Endpoint) (r p n : ℕ) → IsMatchedAt old.part w r p n → HasNumber old.part.rtps.readers r) → Backs c old
     → Turn c s 1 (length old.part.rtps.readers) old made new → Taken c old made new
 by_readers c s is telling old made dues new there b t = record {
   moves = t.moves;
@@ -276,7 +276,7 @@ all_of p index at rest s b =
     before_or_from (suc k) (suc n) = ⊎_elim (λ l. inl (omega (arith, l))) (λ g. inr (g.0, let e = g.1 in omega (arith, e))) (before_or_from k n)
 
 follows_up : (p : Packet) (index : ℕ) (at : Receiver) (ss : List Submessage) → IsRest p index at ss → (old : State) (moves : List Move) (refused : Option ℕ) (dues : List Due) (new : State) → Backed p (Some index) old
-    → Follows p.config (own p) p.peer index at ss old moves refused dues new → Up p index at ss old moves refused new
+    → FollowsMessage p.config (own p) p.peer index at ss old moves refused dues new → Up p index at ss old moves refused new
 follows_up p index at [] rest old moves refused dues new b h = record {
   takes = (h.1.0, h.0, ap (λ (s : State). s.part) h.1.2);
   backed = subst (λ (o : Option ℕ). Backed p o new) (sym h.0) (subst (λ (s : State). Backed p None s) (sym h.1.2) (all_of p index at rest old b));

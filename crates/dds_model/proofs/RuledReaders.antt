@@ -28,7 +28,7 @@ use Rattle.dds_model.specs.declared.reply.Move.{Move}
 use Rattle.dds_model.specs.declared.reply.Move.TheVariants.{Place}
 use Rattle.dds_model.specs.Numbered.{HasNumber}
 use Rattle.dds_model.specs.Part.{Part, own_proxies, own_reader, place_of, with_heard, heard_of, at_reader}
-use Rattle.dds_model.specs.Moves.{Grounds, match_of, position_of, IsMatched, AreMoves, IsLater}
+use Rattle.dds_model.specs.Moves.{Grounds, match_of, position_at, IsMatchedAt, AreMoves, IsLater}
 use Rattle.dds_model.specs.Claims.{Receiver, IsToReader, Claim, ChangeIs, MayPass, Asserts, Says, Claimed}
 use Rattle.dds_model.specs.Receipt.{GoesOver, HasNoRoom}
 use Rattle.dds_model.specs.Peer.{Delivery, claimed, packets_of, delivered_to}
@@ -73,7 +73,7 @@ IsPast c other r s = Unit {0}
 
 -- the change at the reader's place moves it, if there is room
 abbrev pub MovesIt : Coming → Submessage → ℕ → State → List Move → Type 0
-MovesIt c s r old made = (w : Endpoint) (publication number : ℕ) (change : Change) → Says c.config c.own c.at s (ChangeIs w (reader_at c.peer r) number change) → IsMatched old.part w r publication number
+MovesIt c s r old made = (w : Endpoint) (publication number : ℕ) (change : Change) → Says c.config c.own c.at s (ChangeIs w (reader_at c.peer r) number change) → IsMatchedAt old.part w r publication number
     → GoesOver w r number made ⊎ HasNoRoom (grounds c) old.part w r publication number
 
 -- a reader took a submessage up
@@ -137,7 +137,7 @@ moved_or_full c old w r number change made new h k at same = by (nat_lt h.place 
         record {
           change = d;
           is_change = k.change number d (omega (arith, at, same)) held;
-          no_room = subst (λ (n : ℕ). has_room (own_reader old.part r).qos (own_reader old.part r).happened (coming (match_of old.part r h.publication) (position_of old.part r n) d) ≡ false) to
+          no_room = subst (λ (n : ℕ). has_room (own_reader old.part r).qos (own_reader old.part r).happened (coming (match_of old.part r h.publication) (position_at old.part r n) d) ≡ false) to
               (subst (λ (xs : List Happening). has_room (own_reader old.part r).qos xs (coming (match_of old.part r h.publication) (record { place = h.to; happened = xs }) d) ≡ false) happened none);
         }
 
@@ -193,7 +193,7 @@ data_taken c d is r old made dues new b (inl h) =
     (λ v publication number ch told matched.
     let one : v ≡ w = writer_is c d.reader_id d.writer_id v w r told.0 h.1 in
     subst (λ (x : Endpoint). GoesOver x r number made ⊎ HasNoRoom (grounds c) old.part x r publication number) (sym one)
-    (let there : IsMatched old.part w r publication number = subst (λ (x : Endpoint). IsMatched old.part x r publication number) one matched in
+    (let there : IsMatchedAt old.part w r publication number = subst (λ (x : Endpoint). IsMatchedAt old.part x r publication number) one matched in
     let handle : goes.publication ≡ publication = same_Some goes.publication publication (sym goes.matched.handle ∙ there.handle) in
     let place : number ≡ goes.place = same_Some number goes.place (sym there.at ∙ goes.matched.at) in
     subst (λ (p : ℕ). GoesOver w r number made ⊎ HasNoRoom (grounds c) old.part w r p number) handle

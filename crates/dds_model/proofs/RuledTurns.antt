@@ -10,7 +10,7 @@ use Rattle.rtps_wire.specs.declared.submessage.Submessage.TheVariants.{Pad, Info
 use Rattle.dds_model.specs.declared.endpoint.Endpoint.{Endpoint}
 use Rattle.dds_model.specs.declared.reply.Move.{Move}
 use Rattle.dds_model.specs.declared.reply.Move.TheVariants.{Place, Acknowledged, Heard}
-use Rattle.dds_model.specs.Part.{Reader, WriterProxy, own_proxies, own_reader, place_of, publication_of}
+use Rattle.dds_model.specs.Part.{Reader, WriterProxy, own_proxies, own_reader, place_of, publication_among}
 use Rattle.dds_model.specs.Moves.{AreMoves}
 use Rattle.dds_model.specs.Receipt.{GoesOver}
 use Rattle.dds_model.specs.Protocol.{Due, State, InTurn, ReaderTakes}
@@ -63,7 +63,7 @@ moves_it_on c s r old mid made later f m = λ w publication number change told m
       no_room = subst (λ (t : ℕ). room_at (own_reader old.part r) t publication number o.change ≡ false) f.moment
           (subst (λ (x : Reader). room_at x mid.part.dds.moment publication number o.change ≡ false) f.reader o.no_room);
     }))
-    (m w publication number change told (record { handle = ap (λ (xs : List WriterProxy). publication_of xs w) f.proxies ∙ matched.handle; at = ap (λ (xs : List WriterProxy). place_of xs w) f.proxies ∙ matched.at }))
+    (m w publication number change told (record { handle = ap (λ (xs : List WriterProxy). publication_among xs w) f.proxies ∙ matched.handle; at = ap (λ (xs : List WriterProxy). place_of xs w) f.proxies ∙ matched.at }))
   where
     room_at : Reader → ℕ → ℕ → ℕ → Change → Bool
     room_at x t publication number change = has_room x.qos x.happened (coming (record { qos = x.qos; publication = publication; moment = t }) (record { place = number; happened = x.happened }) change)

@@ -23,7 +23,7 @@ use Rattle.dds_model.specs.declared.reply.Report.{Report}
 use Rattle.dds_model.specs.declared.reply.Reply.TheVariants.{Done, Samples, KeyValue, InstanceHandle, SampleLost, LivelinessChanged, LivelinessLost, Created, TriggerValue, Conditions, Active, Waiting, StatusChanges, Reported, Refused}
 use Rattle.dds_model.specs.Part.{Dds, Part, writer_changes, history_of}
 use Rattle.dds_base.specs.Places.{GoesTo}
-use Rattle.dds_model.specs.Moves.{as_to, match_of, position_of, AreMoves, DeliveryStep}
+use Rattle.dds_model.specs.Moves.{as_to, match_of, position_at, AreMoves, DeliveryStep}
 use Rattle.dds_model.specs.Calls.{IsAnswered, IsAnsweredInMemory, AnswersLook, AnswersByCondition, CallStep, TickStep}
 use Rattle.dds_model.specs.Watching.{Test, Tests, condition_selection}
 use Rattle.dds_model.specs.Machine.{Machine, AllTests, part_at, writer_at, grounds_of, Step}
@@ -74,7 +74,7 @@ no_passes : (m : Machine) (i : ℕ) (w : Endpoint) (old : Part) (ms : List Move)
 no_passes m i w old [] new all h = tt
 no_passes m i w old (Place v r to [] ∷ ms) new all h = no_passes m i w h.0 ms new all h.2
 no_passes m i w old (Place v r to (run ∷ runs) ∷ ms) new all h =
-    let goes : GoesTo (as_to (grounds_of m i) v r) (match_of old r h.1.publication) (position_of old r h.1.place) (run ∷ runs) to h.1.end = h.1.goes in
+    let goes : GoesTo (as_to (grounds_of m i) v r) (match_of old r h.1.publication) (position_at old r h.1.place) (run ∷ runs) to h.1.end = h.1.goes in
     let ordered = goes.3.ordered in (
       λ e. keeps_all (writer_at m v).policy m v run.first refl (ap (λ (x : Endpoint). (writer_at m x).policy) e ∙ all) (goes.3.may_pass run.first (omega arith) (omega (arith, ordered))),
       no_passes m i w h.0 ms new all h.2,

@@ -14,7 +14,7 @@ use Rattle.rtps_wire.specs.declared.submessage.Submessage.{Submessage}
 use Rattle.rtps_wire.specs.declared.submessage.Submessage.TheVariants.{InfoDst, Gap, Heartbeat, AckNack}
 use Rattle.rtps_wire.specs.Messages.{ReadsMessage}
 use Rattle.rtps_wire.specs.Frames.{IsFrame}
-use Rattle.rtps_wire.specs.Submessages.{IsKnown, Reads}
+use Rattle.rtps_wire.specs.Submessages.{IsKnownKind, Reads}
 use Rattle.rtps_wire.specs.Sets.{set_of, bits_below}
 use Rattle.dds_model.specs.declared.reply.Move.TheVariants.{Heard}
 use Rattle.dds_model.specs.Claims.{Claim, MayPass, PlaceReached, Asserts, Claims, Receiver, Says, StandsAt}
@@ -86,7 +86,7 @@ gap_body = 0 ∷ 0 ∷ 1 ∷ 7 ∷ 0 ∷ 0 ∷ 1 ∷ 2 ∷ 0 ∷ 0 ∷ 0 ∷ 0 �
 abbrev gap : GapBody
 gap = record { reader_id = r1_id; writer_id = w1_id; gap_start = 2; gap_list = empty_from 3 }
 
-gap-known : IsKnown 0x08 1 gap_body (Gap gap)
+gap-known : IsKnownKind 0x08 1 gap_body (Gap gap)
 unfolding set_of bits_below
 gap-known = record {
   kind = refl;
@@ -122,7 +122,7 @@ acknack_body = 0 ∷ 0 ∷ 1 ∷ 7 ∷ 0 ∷ 0 ∷ 1 ∷ 2 ∷ 0 ∷ 0 ∷ 0 ∷
 abbrev acknack : AckNackBody
 acknack = record { reader_id = r1_id; writer_id = w1_id; reader_sn_state = record { base = 2; members = true ∷ replicate 255 false }; count = pos 1; final_flag = false }
 
-acknack-known : IsKnown 0x06 1 acknack_body (AckNack acknack)
+acknack-known : IsKnownKind 0x06 1 acknack_body (AckNack acknack)
 unfolding set_of bits_below
 acknack-known = record {
   kind = refl;
@@ -163,7 +163,7 @@ heartbeat = record { reader_id = every_reader; writer_id = w1_id; first_sn = 1; 
 abbrev heartbeat_packet : List ℕ
 heartbeat_packet = packet prefix_1 prefix_2 0x07 7 heartbeat_body
 
-heartbeat-known : IsKnown 0x07 7 heartbeat_body (Heartbeat heartbeat)
+heartbeat-known : IsKnownKind 0x07 7 heartbeat_body (Heartbeat heartbeat)
 heartbeat-known = record {
   kind = refl;
   flags_are = (refl, refl);

@@ -23,7 +23,7 @@ use Rattle.dds_model.specs.declared.reply.Move.{Move}
 use Rattle.dds_model.specs.declared.reply.Move.TheVariants.{Place, Acknowledged}
 use Rattle.dds_model.specs.Part.{Part, Writer, own_reader, nothing_seen}
 use Rattle.dds_base.specs.Places.{coming}
-use Rattle.dds_model.specs.Moves.{Grounds, match_of, position_of, AreMoves}
+use Rattle.dds_model.specs.Moves.{Grounds, match_of, position_at, AreMoves}
 use Rattle.dds_model.specs.Claims.{Receiver, receiver_of, after_submessage, IsNumbered, IsWriter, IsReader, IsToReader}
 use Rattle.dds_model.specs.Machine.{grounds_of}
 use Rattle.dds_model.specs.Receipt.{GoesOver, HasNoRoom, MovesOver, TakesUp}
@@ -220,7 +220,7 @@ goes_on index at s ss refused new elsewhere h =
 has_room-for_1 : HasNoRoom grounds begun w1 1 1 1 → ⊥
 has_room-for_1 h =
     let change = some_is (write_of 1 1) h.change h.is_change in
-    let no_room = subst (λ (c : Change). has_room (own_reader begun 1).qos [] (coming (match_of begun 1 1) (position_of begun 1 1) c) ≡ false) (sym change) h.no_room in
+    let no_room = subst (λ (c : Change). has_room (own_reader begun 1).qos [] (coming (match_of begun 1 1) (position_at begun 1 1) c) ≡ false) (sym change) h.no_room in
     absurd cc
 
 -- the first DATA, which has the change at the place, moves it, unless it or one before it is refused
@@ -259,5 +259,5 @@ full-has_room_after_a_take : HasNoRoom (grounds_of (machine both taken) 2) taken
 full-has_room_after_a_take h =
     let change = some_is (write_of 1 2) h.change h.is_change in
     let at = own_reader taken 1 in
-    let no_room = subst (λ (c : Change). has_room at.qos at.happened (coming (match_of taken 1 1) (position_of taken 1 2) c) ≡ false) (sym change) h.no_room in
+    let no_room = subst (λ (c : Change). has_room at.qos at.happened (coming (match_of taken 1 1) (position_at taken 1 2) c) ≡ false) (sym change) h.no_room in
     absurd cc

@@ -31,7 +31,7 @@ use Rattle.dds_conditions.specs.declared.condition.Cond.{Cond}
 use Rattle.dds_conditions.specs.declared.condition.Condition.TheVariants.{Guard, Samples as OfSamples}
 use Rattle.dds_conditions.specs.Attached.{active_of, is_attached}
 use Rattle.dds_conditions.specs.Watched.{Watched, attach_refusal, conditions_of, detaching_refusal, free_refusal, guard_refusal, is_timed_out, knows, knows_entity, made, number_refusal, unless_there, use_refusal, with_attached, with_condition, with_condition_at, with_deadline, with_detached, with_enabled, with_wait_set, with_wait_set_at, without_condition}
-use Rattle.dds_model.specs.Numbered.{has_number, numbered, with_numbered}
+use Rattle.dds_model.specs.Numbered.{has_element, numbered, with_numbered}
 use Rattle.dds_model.specs.Watching.{Test, Tests, condition_refusal, condition_selection, condition_test, query_condition_refusal, read_condition_refusal, status_changes, trigger_value}
 use Rattle.dds_model.specs.Part.{Part, Rtps, Dds, Seen, Reader, Writer, no_writer, own_writer, own_reader, heartbeats_used, history_of, is_behind}
 
@@ -49,31 +49,31 @@ change_refusal part writer change = append_refusal (history_of (own_writer part 
 
 -- why a register is refused: no such writer
 abbrev pub register_refusal : Part → ℕ → Option Code
-register_refusal part writer = if not (has_number part.rtps.writers writer) then Some BadParameter else None
+register_refusal part writer = if not (has_element part.rtps.writers writer) then Some BadParameter else None
 
 -- why a write is refused: no such writer, a value above 1,024 octets, or as its history says
 abbrev pub write_refusal : Part → ℕ → Key → List ℕ → Option Code
 write_refusal part writer key value =
-    if not (has_number part.rtps.writers writer) || nat_lt 1024 (length value) then Some BadParameter
+    if not (has_element part.rtps.writers writer) || nat_lt 1024 (length value) then Some BadParameter
     else change_refusal part writer (change_made part kind.Write key value)
 
 -- why a dispose is refused: no such writer, or as its history says
 abbrev pub dispose_refusal : Part → ℕ → Key → Option Code
 dispose_refusal part writer key =
-    if not (has_number part.rtps.writers writer) then Some BadParameter
+    if not (has_element part.rtps.writers writer) then Some BadParameter
     else change_refusal part writer (change_made part kind.Dispose key [])
 
 -- why an unregister is refused: no such writer, the instance is not registered there, or as its history says
 abbrev pub unregister_refusal : Part → ℕ → Key → Option Code
 unregister_refusal part writer key =
-    if not (has_number part.rtps.writers writer) then Some BadParameter
+    if not (has_element part.rtps.writers writer) then Some BadParameter
     else (if not (is_key_registered key (own_writer part writer).written) then Some PreconditionNotMet
     else change_refusal part writer (change_made part (unregister_kind (own_writer part writer).autodispose) key []))
 
 -- why an assertion is refused: no such writer, or its HEARTBEAT counts, 1 to 2^31 - 1, are used up
 abbrev pub assert_refusal : Part → ℕ → Option Code
 assert_refusal part writer =
-    if not (has_number part.rtps.writers writer) then Some BadParameter
+    if not (has_element part.rtps.writers writer) then Some BadParameter
     else (if nat_le (2 ^ 31 - 1) (heartbeats_used (own_writer part writer)) then Some OutOfResources else None)
 
 -- the samples that an access of the peer's reader returns
@@ -84,7 +84,7 @@ picked_at test part reader selection =
 -- why an access is refused: no such reader, a max that is neither -1 nor positive, or an instance that has to be known and is not
 abbrev pub access_refusal : Part → ℕ → Selection → Option Code
 access_refusal part reader selection =
-    if not (has_number part.dds.readers reader) then Some BadParameter
+    if not (has_element part.dds.readers reader) then Some BadParameter
     else selection_refusal (own_reader part reader).qos (own_reader part reader).happened selection
 
 -- the key of an instance of the peer's reader, by its handle
@@ -94,16 +94,16 @@ key_of part reader instance = instance_of (own_reader part reader).qos (own_read
 -- why there is no key of an instance: no such reader, or no known instance has the handle
 abbrev pub key_refusal : Part → ℕ → ℕ → Option Code
 key_refusal part reader instance =
-    if not (has_number part.dds.readers reader) || not (is_some (key_of part reader instance)) then Some BadParameter
+    if not (has_element part.dds.readers reader) || not (is_some (key_of part reader instance)) then Some BadParameter
     else None
 
 -- why a look at a status or a handle of the peer's reader is refused: no such reader
 abbrev pub look_refusal : Part → ℕ → Option Code
-look_refusal part reader = if not (has_number part.dds.readers reader) then Some BadParameter else None
+look_refusal part reader = if not (has_element part.dds.readers reader) then Some BadParameter else None
 
 -- why a look at a status of the peer's writer is refused: no such writer
 abbrev pub writer_look_refusal : Part → ℕ → Option Code
-writer_look_refusal part writer = if not (has_number part.rtps.writers writer) then Some BadParameter else None
+writer_look_refusal part writer = if not (has_element part.rtps.writers writer) then Some BadParameter else None
 
 -- a peer's reader, of whose statuses this was seen
 abbrev pub after_look : Part → ℕ → Seen → Dds

@@ -11,7 +11,7 @@ use Rattle.dds_base.specs.declared.qos.HistoryQos.TheVariants.{KeepAll}
 use Rattle.dds_model.specs.declared.endpoint.Endpoint.{Endpoint}
 use Rattle.dds_model.specs.declared.event.WorldEvent.{WorldEvent}
 use Rattle.dds_model.specs.declared.reply.Reply.{Reply}
-use Rattle.dds_model.specs.Part.{own_proxies, own_reader, publication_of, writer_changes}
+use Rattle.dds_model.specs.Part.{own_proxies, own_reader, publication_among, writer_changes}
 use Rattle.dds_model.specs.Machine.{Machine, AllTests, part_at, writer_at, place_at}
 use Rattle.dds_model.specs.Opening.{opening}
 use Rattle.dds_model.specs.Runs.{Traffic, Run}
@@ -27,7 +27,7 @@ came_from publication (_ ∷ h) = came_from publication h
 -- reader's place
 pub record CameInOrder (m : Machine) (writer reader : Endpoint) : Type 0 where
   pub publication : ℕ
-  pub matched : publication_of (own_proxies (part_at m reader.peer) reader.number) writer ≡ Some publication
+  pub matched : publication_among (own_proxies (part_at m reader.peer) reader.number) writer ≡ Some publication
   pub came : List Change
   pub came_at : came ≡ came_from publication (own_reader (part_at m reader.peer) reader.number).happened
   pub rest : List Change

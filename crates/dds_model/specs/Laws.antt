@@ -33,7 +33,7 @@ use Rattle.dds_model.specs.Machine.{Machine, AllTests, writer_at, Step}
 use Rattle.dds_model.specs.World.{WorldState, WorldStep, machine_of, Sound}
 use Rattle.dds_model.specs.Progress.{Progresses}
 use Rattle.dds_model.specs.Runs.{Traffic, Sends, Run}
-use Rattle.dds_model.specs.Part.{Part, own_writer, publication_of}
+use Rattle.dds_model.specs.Part.{Part, own_writer, publication_among}
 use Rattle.dds_model.specs.Opening.{opening_world, matched_writers, reader_qos}
 
 -- a step of peers, on packets that were sent, is a step of the machine, which takes up what is delivered, and leaves all
@@ -93,7 +93,7 @@ pub record TellsWritersApart (peers : List PeerConfig) (reader : ReaderConfig) :
   pub each_handle : (handle : ℕ) → 1 ≤ handle → handle ≤ length (matched_writers reader.topic 1 peers)
       → IsMatched (reader_qos peers reader) handle
   pub each_writer : (writer : Endpoint) (handle : ℕ)
-      → publication_of (matched_writers reader.topic 1 peers) writer ≡ Some handle
+      → publication_among (matched_writers reader.topic 1 peers) writer ≡ Some handle
       → IsMatched (reader_qos peers reader) handle
 
 -- so does each reader of a configuration that is not refused

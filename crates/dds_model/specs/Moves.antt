@@ -11,7 +11,7 @@ use Rattle.dds_model.specs.declared.reply.Move.{Move}
 use Rattle.dds_model.specs.declared.reply.Move.TheVariants.{Place, Acknowledged, Heard}
 use Rattle.dds_model.specs.declared.reply.Reply.{Reply}
 use Rattle.dds_model.specs.declared.reply.Reply.TheVariants.{Reported}
-use Rattle.dds_model.specs.Part.{Part, own_writer, own_proxies, own_reader, acknowledged_of, with_acknowledged, place_of, with_place, heard_of, with_heard, publication_of, at_reader, at_writer}
+use Rattle.dds_model.specs.Part.{Part, own_writer, own_proxies, own_reader, acknowledged_of, with_acknowledged, place_of, with_place, heard_of, with_heard, publication_among, at_reader, at_writer}
 
 -- What a delivery at one peer may rest on. A far end is an endpoint, an own one a number.
 pub record Grounds : Type 1 where
@@ -35,24 +35,24 @@ match_of part reader publication =
     record { qos = (own_reader part reader).qos; publication = publication; moment = part.dds.moment }
 
 -- the peer's reader is matched with the writer, which has this publication handle there, and it is at this place
-pub record IsMatched (part : Part) (writer : Endpoint) (reader publication place : ℕ) : Type 0 where
-  pub handle : publication_of (own_proxies part reader) writer ≡ Some publication
+pub record IsMatchedAt (part : Part) (writer : Endpoint) (reader publication place : ℕ) : Type 0 where
+  pub handle : publication_among (own_proxies part reader) writer ≡ Some publication
   pub at : place_of (own_proxies part reader) writer ≡ Some place
 
 -- the peer's reader of this number, at this place in a writer's list, with what happened there so far
-abbrev pub position_of : Part → ℕ → ℕ → Position
-position_of part reader place = record { place = place; happened = (own_reader part reader).happened }
+abbrev pub position_at : Part → ℕ → ℕ → Position
+position_at part reader place = record { place = place; happened = (own_reader part reader).happened }
 
 -- the place of the peer's reader in the list of a matched writer goes on
 pub record Places (grounds : Grounds) (old : Part) (writer : Endpoint) (reader to : ℕ) (passed : List PassedRun)
     (new : Part) : Type 0 where
   pub publication : ℕ
   pub place : ℕ
-  pub matched : IsMatched old writer reader publication place
+  pub matched : IsMatchedAt old writer reader publication place
   pub forward : place < to
   pub end : Position
   pub goes : GoesTo (as_to grounds writer reader) (match_of old reader publication)
-      (position_of old reader place) passed to end
+      (position_at old reader place) passed to end
   pub after : new ≡ at_reader old reader (with_place (own_proxies old reader) writer to) end.happened
 
 -- a matched reader of the peer's writer has acknowledged more, and no more than it has
@@ -73,7 +73,7 @@ IsLater (Some heard) count = heard <ℤ count
 -- the peer's reader hears that a matched writer has asserted its liveliness
 pub record Hears (grounds : Grounds) (old : Part) (writer : Endpoint) (reader : ℕ) (new : Part) : Type 0 where
   pub publication : ℕ
-  pub matched : publication_of (own_proxies old reader) writer ≡ Some publication
+  pub matched : publication_among (own_proxies old reader) writer ≡ Some publication
   pub heard : Option ℤ
   pub last : heard_of (own_proxies old reader) writer ≡ Some heard
   pub count : ℤ

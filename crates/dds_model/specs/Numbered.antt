@@ -18,5 +18,5 @@ abbrev pub HasNumber : {X : Type 0} → List X → ℕ → Type 0
 HasNumber xs n = (1 ≤ n) × (n ≤ length xs)
 
 -- so it is, as a test
-abbrev pub has_number : {X : Type 0} → List X → ℕ → Bool
-has_number xs n = nat_lt 0 n && nat_le n (length xs)
+abbrev pub has_element : {X : Type 0} → List X → ℕ → Bool
+has_element xs n = nat_lt 0 n && nat_le n (length xs)

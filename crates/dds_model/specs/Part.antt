@@ -178,8 +178,8 @@ publication_from n [] writer = None
 publication_from n (p ∷ ps) writer = cond (same_endpoint p.writer writer) (Some n) (publication_from (n + 1) ps writer)
 
 -- the publication handle of this writer, if it is matched (DDS 1.4, 2.2.2.5, publication_handle)
-abbrev pub publication_of : List WriterProxy → Endpoint → Option ℕ
-publication_of rows writer = publication_from 1 rows writer
+abbrev pub publication_among : List WriterProxy → Endpoint → Option ℕ
+publication_among rows writer = publication_from 1 rows writer
 
 -- the number lies below this one, which is there
 abbrev pub IsBelow : ℕ → Option ℕ → Type 0

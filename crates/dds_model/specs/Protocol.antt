@@ -24,7 +24,7 @@ use Rattle.rtps_wire.specs.Messages.{ReadsMessage, IsWritable, spelling_of}
 use Rattle.rtps_reader.specs.declared.step.AckNackDue.{AckNackDue}
 use Rattle.rtps_reader.specs.Tracked.{Tracked, fresh, with_data, with_gap, with_heartbeat, is_later}
 use Rattle.rtps_reader.specs.Advance.{Advances}
-use Rattle.rtps_reader.specs.Answer.{Answers, answered}
+use Rattle.rtps_reader.specs.Answer.{AnswersHeartbeat, answered}
 use Rattle.rtps_sets.specs.NumberSet.{empty_from}
 use Rattle.rtps_writer.specs.declared.answer.Answer.{Answer}
 use Rattle.rtps_writer.specs.declared.answer.Answer.TheVariants.{Data as AnswersData, Gap as AnswersGap}
@@ -34,8 +34,8 @@ use Rattle.dds_model.specs.declared.event.Packet.{Packet}
 use Rattle.dds_model.specs.declared.reply.Report.{Report}
 use Rattle.dds_model.specs.declared.reply.Move.{Move}
 use Rattle.dds_model.specs.declared.reply.Move.TheVariants.{Place, Acknowledged, Heard}
-use Rattle.dds_model.specs.Part.{Part, ReaderProxy, Writer, peers_of, same_endpoint, own_writer, own_proxies, own_reader, acknowledged_of, with_acknowledged, with_place, with_heard, publication_of, at_reader, at_writer, writer_changes, heartbeats_used, history_of}
-use Rattle.dds_model.specs.Moves.{IsMatched, match_of}
+use Rattle.dds_model.specs.Part.{Part, ReaderProxy, Writer, peers_of, same_endpoint, own_writer, own_proxies, own_reader, acknowledged_of, with_acknowledged, with_place, with_heard, publication_among, at_reader, at_writer, writer_changes, heartbeats_used, history_of}
+use Rattle.dds_model.specs.Moves.{IsMatchedAt, match_of}
 use Rattle.dds_model.specs.Claims.{Receiver, receiver_of, after_submessage, IsToReader, IsToWriter, every_reader}
 use Rattle.dds_model.specs.Receipt.{prefix_of, IsNotTaken}
 
@@ -88,7 +88,7 @@ pub record Goes (old : State) (writer : Endpoint) (reader : ℕ) (t : Tracked) (
     (new : State) : Type 0 where
   pub publication : ℕ
   pub place : ℕ
-  pub matched : IsMatched old.part writer reader publication place
+  pub matched : IsMatchedAt old.part writer reader publication place
   pub to : ℕ
   pub passed : List PassedRun
   pub known : Tracked
@@ -104,7 +104,7 @@ pub record Goes (old : State) (writer : Endpoint) (reader : ℕ) (t : Tracked) (
 -- a reader hears that a matched writer has asserted its liveliness
 pub record HearsOf (old : State) (writer : Endpoint) (reader : ℕ) (count : ℤ) (new : State) : Type 0 where
   pub publication : ℕ
-  pub handle : publication_of (own_proxies old.part reader) writer ≡ Some publication
+  pub handle : publication_among (own_proxies old.part reader) writer ≡ Some publication
   pub after : new ≡ record old {
     part = at_reader old.part reader (with_heard (own_proxies old.part reader) writer count)
         (WasHeard publication old.part.dds.moment ∷ (own_reader old.part reader).happened);
@@ -149,7 +149,7 @@ pub record TakesHeartbeat (own : GuidPrefix) (at : Receiver) (old : State) (writ
   pub goes : Goes heard writer reader (with_heartbeat h.first_sn h.count (old.known.tracked writer reader)) going there
   pub moves_are : moves ≡ hearing ++ going
   pub answer : Option AckNackDue
-  pub answers : Answers (there.known.tracked writer reader) h.last_sn h.final_flag answer
+  pub answers : AnswersHeartbeat (there.known.tracked writer reader) h.last_sn h.final_flag answer
   pub dues_are : dues ≡ acknacks_due own at.source_guid_prefix writer.peer entity h.writer_id answer
   pub after : new ≡ record there
       { known = with_tracked there.known writer reader (answered answer (there.known.tracked writer reader)) }
@@ -244,8 +244,8 @@ pub record TakesAckNack (own : GuidPrefix) (at : Receiver) (old : State) (writer
       { part = at_writer old.part writer there; known = with_answered old.known writer reader a.count }
 
 -- the ACKNACK is one that the writer takes
-abbrev pub is_taken : State → ℕ → Endpoint → AckNackBody → Bool
-is_taken old writer reader a =
+abbrev pub is_taken_up : State → ℕ → Endpoint → AckNackBody → Bool
+is_taken_up old writer reader a =
     is_later (old.known.answered writer reader) a.count
     && nat_le a.reader_sn_state.base (length (writer_changes (own_writer old.part writer)) + 1)
 
@@ -254,9 +254,9 @@ abbrev pub WriterTakes : Config → GuidPrefix → ℕ → Receiver → AckNackB
     → State → Type 0
 WriterTakes config own peer at a writer reader old moves dues new =
     ((is : IsToWriter config own at a.reader_id a.writer_id (record { peer = peer; number = writer }) reader)
-    × (is_taken old writer reader a ≡ true) × TakesAckNack own at old writer reader is.entity a moves dues new)
+    × (is_taken_up old writer reader a ≡ true) × TakesAckNack own at old writer reader is.entity a moves dues new)
     ⊎ ((IsToWriter config own at a.reader_id a.writer_id (record { peer = peer; number = writer }) reader
-    → is_taken old writer reader a ≡ false) × Idles old moves dues new)
+    → is_taken_up old writer reader a ≡ false) × Idles old moves dues new)
 
 -- a submessage is taken up: an ACKNACK by each of the peer's writers, as to each of its matched readers; any other one by
 -- each of its readers
@@ -271,15 +271,15 @@ Takes config own peer at submessage old moves dues new =
 
 -- The submessages from this index on are taken up in turn. Either one finds no memory, and nothing is done from it on, or it
 -- is taken up, and those that follow are.
-abbrev pub Follows : Config → GuidPrefix → ℕ → ℕ → Receiver → List Submessage → State → List Move → Option ℕ → List Due
+abbrev pub FollowsMessage : Config → GuidPrefix → ℕ → ℕ → Receiver → List Submessage → State → List Move → Option ℕ → List Due
     → State → Type 0
-Follows config own peer index at [] old moves refused dues new = (refused ≡ None) × Idles old moves dues new
-Follows config own peer index at (submessage ∷ rest) old moves refused dues new =
+FollowsMessage config own peer index at [] old moves refused dues new = (refused ≡ None) × Idles old moves dues new
+FollowsMessage config own peer index at (submessage ∷ rest) old moves refused dues new =
     ((refused ≡ Some index) × Idles old moves dues new)
     ⊎ ((made later : List Move) × (first last : List Due) × (mid : State) × (moves ≡ made ++ later)
     × (dues ≡ first ++ last)
     × Takes config own peer at submessage old made first mid
-    × Follows config own peer (index + 1) (after_submessage own at submessage) rest mid later refused last new)
+    × FollowsMessage config own peer (index + 1) (after_submessage own at submessage) rest mid later refused last new)
 
 -- the bytes are a message, whose submessages are taken up
 pub record TakesMessage (config : Config) (peer : ℕ) (bytes : List ℕ) (old : State) (report : Report) (dues : List Due)
@@ -287,7 +287,7 @@ pub record TakesMessage (config : Config) (peer : ℕ) (bytes : List ℕ) (old :
   pub message : Message
   pub offset : ℕ
   pub is_read : ReadsMessage bytes message offset
-  pub follows : Follows config (prefix_of config peer) peer 0
+  pub follows : FollowsMessage config (prefix_of config peer) peer 0
       (receiver_of message.prefix) message.submessages old report.moves report.refused dues new
 
 -- what the peer of this number does with a packet: else the bytes are no message, or one for whose reading there was no memory

@@ -17,7 +17,7 @@ use Rattle.dds_model.specs.declared.reply.Move.TheVariants.{Place}
 use Rattle.dds_model.specs.declared.reply.Report.{Report}
 use Rattle.dds_model.specs.Numbered.{numbered}
 use Rattle.dds_model.specs.Part.{Part, own_reader}
-use Rattle.dds_model.specs.Moves.{Grounds, match_of, IsMatched, position_of, AreMoves}
+use Rattle.dds_model.specs.Moves.{Grounds, match_of, IsMatchedAt, position_at, AreMoves}
 use Rattle.dds_model.specs.Claims.{Receiver, receiver_of, after_submessage, ChangeIs, Says}
 
 -- the prefix of the peer of this number
@@ -37,7 +37,7 @@ pub record HasNoRoom (grounds : Grounds) (part : Part) (writer : Endpoint) (read
   pub change : Change
   pub is_change : grounds.is_change writer reader place change
   pub no_room : has_room (own_reader part reader).qos (own_reader part reader).happened
-      (coming (match_of part reader publication) (position_of part reader place) change) ≡ false
+      (coming (match_of part reader publication) (position_at part reader place) change) ≡ false
 
 -- A submessage with the change at the place of one of the peer's readers moves that place, unless there is no room. No
 -- number of a message is above 2^62.
@@ -45,7 +45,7 @@ abbrev pub MovesOver : Config → Grounds → ℕ → GuidPrefix → Receiver �
 MovesOver config grounds peer own at submessage part moves =
     (writer reader : Endpoint) (publication number : ℕ) (change : Change)
     → Says config own at submessage (ChangeIs writer reader number change) → reader.peer ≡ peer
-    → IsMatched part writer reader.number publication number → 1 ≤ number → number ≤ 2 ^ 62
+    → IsMatchedAt part writer reader.number publication number → 1 ≤ number → number ≤ 2 ^ 62
     → GoesOver writer reader.number number moves ⊎ HasNoRoom grounds part writer reader.number publication number
 
 -- The submessages from this index on are taken up in turn. Either one finds no memory, and nothing is done from it on, or

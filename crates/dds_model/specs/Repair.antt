@@ -17,8 +17,8 @@ use Rattle.dds_model.specs.declared.event.WorldEvent.TheVariants.{Tick, Deliver}
 use Rattle.dds_model.specs.declared.reply.Report.{Report}
 use Rattle.dds_model.specs.declared.reply.Reply.TheVariants.{Done, Reported}
 use Rattle.dds_model.specs.Numbered.{HasNumber}
-use Rattle.dds_model.specs.Part.{own_proxies, own_reader, acknowledged_of, publication_of, writer_changes}
-use Rattle.dds_model.specs.Moves.{match_of, position_of}
+use Rattle.dds_model.specs.Part.{own_proxies, own_reader, acknowledged_of, publication_among, writer_changes}
+use Rattle.dds_model.specs.Moves.{match_of, position_at}
 use Rattle.dds_model.specs.Claims.{IsWriter, IsReader}
 use Rattle.dds_model.specs.Receipt.{prefix_of}
 use Rattle.dds_model.specs.Machine.{AllTests, writer_at, place_at}
@@ -113,13 +113,13 @@ pub record StandsAt (world : WorldState) (writer reader : Endpoint) (place ackno
 -- the change that the reader holds at its place has no room there
 pub record HoldsWithoutRoom (world : WorldState) (writer reader : Endpoint) (place : ℕ) : Type 0 where
   pub publication : ℕ
-  pub handle : publication_of (own_proxies (peer_at world reader.peer).part reader.number) writer ≡ Some publication
+  pub handle : publication_among (own_proxies (peer_at world reader.peer).part reader.number) writer ≡ Some publication
   pub change : Change
   pub held : (tracked_at world writer reader).slot place ≡ Held change
   pub no_room : has_room (own_reader (peer_at world reader.peer).part reader.number).qos
       (own_reader (peer_at world reader.peer).part reader.number).happened
       (coming (match_of (peer_at world reader.peer).part reader.number publication)
-      (position_of (peer_at world reader.peer).part reader.number place) change) ≡ false
+      (position_at (peer_at world reader.peer).part reader.number place) change) ≡ false
 
 -- The reader has gone on by 256 numbers, or to the end of a list of so many, or to a change that has no room; and the writer
 -- knows of all that the reader had.

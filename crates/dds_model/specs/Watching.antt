@@ -23,7 +23,7 @@ use Rattle.dds_conditions.specs.declared.condition.Cond.TheVariants.{Status, Mad
 use Rattle.dds_conditions.specs.declared.condition.Condition.{Condition}
 use Rattle.dds_conditions.specs.declared.condition.Condition.TheVariants.{Samples, Guard}
 use Rattle.dds_conditions.specs.Watched.{enabled_of, has_filter, knows_entity, made, number_refusal}
-use Rattle.dds_model.specs.Numbered.{has_number}
+use Rattle.dds_model.specs.Numbered.{has_element}
 use Rattle.dds_model.specs.Part.{Part, Reader, Writer, own_reader, own_writer}
 
 -- ---- statuses
@@ -86,25 +86,25 @@ meet a b = not (bit_and a.0 b.0 == 0)
 
 -- a condition that was made: a read condition is true while a present sample meets its masks, a query condition while such
 -- a sample passes its filter, a guard as it was set
-abbrev pub value_of : Tests → Part → Option Condition → Bool
-value_of tests part None = false
-value_of tests part (Some (Samples reader masks filter)) =
+abbrev pub condition_value : Tests → Part → Option Condition → Bool
+condition_value tests part None = false
+condition_value tests part (Some (Samples reader masks filter)) =
     has_match (own_reader part reader).qos (own_reader part reader).happened masks (test_of tests filter)
-value_of tests part (Some (Guard value)) = value
+condition_value tests part (Some (Guard value)) = value
 
 -- the trigger value of a condition; that of an entity is true while one of its enabled statuses is flagged
 abbrev pub trigger_value : Tests → Part → Cond → Bool
 trigger_value tests part (Status entity) =
     knows_entity part.dds.watch entity
     && meet (enabled_of part.dds.watch entity (record { 0 = 0 })) (status_changes part entity)
-trigger_value tests part (Made number) = value_of tests part (made part.dds.watch.conditions number)
+trigger_value tests part (Made number) = condition_value tests part (made part.dds.watch.conditions number)
 
 -- ---- accesses by a condition
 
 -- why a read condition is not made: no such reader, or no number is left
 abbrev pub read_condition_refusal : Part → ℕ → Option Code
 read_condition_refusal part reader =
-    if not (has_number part.dds.readers reader) then Some BadParameter else number_refusal part.dds.watch.conditions
+    if not (has_element part.dds.readers reader) then Some BadParameter else number_refusal part.dds.watch.conditions
 
 -- why a query condition is not made: no such reader or no such filter, or no number is left
 abbrev pub query_condition_refusal : Part → ℕ → ℕ → Option Code
@@ -120,7 +120,7 @@ is_condition_of reader _ = false
 -- condition that is no read condition of the reader (read_w_condition)
 abbrev pub condition_refusal : Part → ℕ → Scope → ℕ → Option Code
 condition_refusal part reader scope condition =
-    if not (has_number part.dds.readers reader)
+    if not (has_element part.dds.readers reader)
     || (not (is_some (made part.dds.watch.conditions condition)) || not (is_maximum (max_in scope)))
     then Some BadParameter
     else (if not (is_condition_of reader (made part.dds.watch.conditions condition)) then Some PreconditionNotMet

@@ -10,7 +10,7 @@ use Rattle.dds_notices.specs.declared.notice.Notice.{Notice}
 use Rattle.dds_notices.specs.declared.notice.Status.{Status}
 use Rattle.dds_notices.specs.Notices.{keep_last}
 use Rattle.dds_notices.specs.Slotted.{ToldAt, listener_of}
-use Rattle.dds_notices.specs.Listeners.{HandedBack, Place, Places, Sets, Slot, Slotted, StandsAt, StandsFor, at_entity, at_number, has_entity, is_empty, is_fresh, is_number, place_of, slot_of, taker_of, takes, with_entity, with_notice}
+use Rattle.dds_notices.specs.Listeners.{HandedBack, Place, Places, Sets, Slot, Slotted, StandsAt, StandsFor, at_entity, at_number, has_entity, is_empty, is_fresh, is_number, listener_place, slot_of, taker_of, takes, with_entity, with_notice}
 
 -- ---- by number
 
@@ -139,7 +139,7 @@ module _ {L : Type 0} (notices : L → List Notice) (capacity : L → ℕ) where
   nothing (n ∷ ns) h = cc
 
   fresh_stands : (mask : StatusMask) (listener : Option L) → is_fresh notices listener ≡ true
-      → StandsAt notices capacity (slot_of mask listener) (place_of capacity mask listener)
+      → StandsAt notices capacity (slot_of mask listener) (listener_place capacity mask listener)
   fresh_stands mask None h = tt
   fresh_stands mask (Some listener) h = (refl, record { room = refl; kept = nothing (notices listener) h ∙ keep_none (capacity listener) })
 
@@ -152,6 +152,6 @@ module _ {L : Type 0} (notices : L → List Notice) (capacity : L → ℕ) where
     set = refl;
     back = λ places stands. (
       handed_back (at_entity old entity) (at_entity places entity) (stands.each entity),
-      entity_stands old places entity (slot_of mask listener) (place_of capacity mask listener) stands there (fresh_stands mask listener fresh),
+      entity_stands old places entity (slot_of mask listener) (listener_place capacity mask listener) stands there (fresh_stands mask listener fresh),
     );
   }

@@ -131,9 +131,9 @@ slot_of mask None = None
 slot_of mask (Some listener) = Some (record { mask = mask; listener = listener })
 
 -- its place: nothing was told yet
-abbrev pub place_of : {L : Type 0} → (L → ℕ) → StatusMask → Option L → Option Place
-place_of capacity mask None = None
-place_of capacity mask (Some listener) = Some (record { mask = mask; room = capacity listener; sent = [] })
+abbrev pub listener_place : {L : Type 0} → (L → ℕ) → StatusMask → Option L → Option Place
+listener_place capacity mask None = None
+listener_place capacity mask (Some listener) = Some (record { mask = mask; room = capacity listener; sent = [] })
 
 -- a listener has the room of its place, and keeps the last ones of all that it was told
 pub record Keeps {L : Type 0} (notices : L → List Notice) (capacity : L → ℕ) (listener : L)
@@ -170,4 +170,4 @@ pub record Sets {L : Type 0} (notices : L → List Notice) (capacity : L → ℕ
   pub set : new ≡ with_entity old entity (slot_of mask listener)
   pub back : (places : Places) → StandsFor notices capacity old places
       → HandedBack notices capacity handed (at_entity places entity)
-      × StandsFor notices capacity new (with_entity places entity (place_of capacity mask listener))
+      × StandsFor notices capacity new (with_entity places entity (listener_place capacity mask listener))

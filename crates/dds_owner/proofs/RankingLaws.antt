@@ -15,7 +15,7 @@ use Rattle.dds_base.specs.declared.happening.Happening.TheVariants.{Came}
 use Rattle.dds_base.specs.declared.qos.MatchedWriter.{MatchedWriter}
 use Rattle.dds_base.specs.declared.qos.ReaderQos.{ReaderQos}
 use Rattle.dds_base.specs.Happening.{is_write_or_dispose}
-use Rattle.dds_base.specs.Ownership.{IsMatched, accepted_kind, admits, is_above, is_registered, numbers_from, outranks, outranks_all, owner_of, publication_handles, registered_writers, writer_cmp, writer_of}
+use Rattle.dds_base.specs.Ownership.{IsMatched, accepted_kind, admits, is_above, is_registered, numbered_from, outranks, outranks_all, owner_of, publication_handles, registered_writers, writer_cmp, writer_of}
 use Rattle.dds_base.proofs.KeyLaws.{same_key-refl}
 use Rattle.dds_base.proofs.OwnerLaws.{all-at, eqb-refl, is_one_of, matched-writer, outranks-one_way, outranks-trans, owner-is, owner-one, writer_total}
 use Rattle.dds_owner.specs.declared.ranking.Leader.{Leader}
@@ -282,13 +282,13 @@ sole-owns q k seen (Some l) leads =
 
 leader-owns : (q : ReaderQos) (i : Key) (h : List Happening) (k : ℕ) (xs : List MatchedWriter) (seen : List ℕ)
     (leader : Option Leader) → 0 < k → k + length xs ≤ length q.writers + 1 → Leads q k seen leader
-    → sole (leader_among q leader (map (registration_of i h) (numbers_from k xs)))
-    ≡ owner_of q (seen ++ filter (λ w. is_registered i w h) (numbers_from k xs))
+    → sole (leader_among q leader (map (registration_of i h) (numbered_from k xs)))
+    ≡ owner_of q (seen ++ filter (λ w. is_registered i w h) (numbered_from k xs))
 leader-owns q i h k [] seen leader low high leads =
     sole-owns q k seen leader leads ∙ ap (λ (ws : List ℕ). owner_of q ws) (sym (append-nil seen))
 leader-owns q i h k (x ∷ xs) seen leader low high leads =
-    let ws : List ℕ = filter (λ w. is_registered i w h) (numbers_from (k + 1) xs) in
-    let rest : List Registration = map (registration_of i h) (numbers_from (k + 1) xs) in
+    let ws : List ℕ = filter (λ w. is_registered i w h) (numbered_from (k + 1) xs) in
+    let rest : List Registration = map (registration_of i h) (numbered_from (k + 1) xs) in
     let next : Bool → Option ℕ =
     λ b. sole (leader_among q (if b then Some (leader_after q leader k) else leader) rest) in
     let owner : Bool → Option ℕ = λ b. owner_of q (seen ++ cond b (k ∷ ws) ws) in

@@ -12,7 +12,7 @@ use Rattle.dds_base.specs.declared.happening.Happening.TheVariants.{Came, Died}
 use Rattle.dds_base.specs.declared.qos.MatchedWriter.{MatchedWriter}
 use Rattle.dds_base.specs.declared.qos.ReaderQos.{ReaderQos}
 use Rattle.dds_base.specs.Happening.{is_write_or_dispose, is_unregister, same_key}
-use Rattle.dds_base.specs.Ownership.{IsMatched, numbers_from, publication_handles, is_registered, registered_writers}
+use Rattle.dds_base.specs.Ownership.{IsMatched, numbered_from, publication_handles, is_registered, registered_writers}
 use Rattle.dds_base.specs.Instance.{is_nobody}
 use Rattle.dds_base.proofs.KeyLaws.{same_key-refl}
 use Rattle.dds_owner.specs.declared.registration.Registration.{Registration}
@@ -32,7 +32,7 @@ blank-step k at n done whole within is =
 
 -- blank registrations are those of as many writers
 pub blank-stands : (i : Key) (k : ℕ) (writers : List MatchedWriter)
-    → blank_registrations k (length writers) ≡ map (registration_of i []) (numbers_from k writers)
+    → blank_registrations k (length writers) ≡ map (registration_of i []) (numbered_from k writers)
 blank-stands i k [] = refl
 blank-stands i k (w ∷ writers) =
     ap (λ (rs : List Registration). unregistered k ∷ rs) (blank-stands i (k + 1) writers)
@@ -194,11 +194,11 @@ has-none i h w (v ∷ ws) none =
 
 has-some : (i : Key) (h : List Happening) (w k : ℕ) (writers : List MatchedWriter) → k ≤ w
     → w < k + length writers → is_registered i w h ≡ true
-    → has_writer w (map (registration_of i h) (numbers_from k writers)) ≡ true
+    → has_writer w (map (registration_of i h) (numbered_from k writers)) ≡ true
 has-some i h w k [] low high is = absurd (omega (arith, low, high))
 has-some i h w k (x ∷ writers) low high is =
     ⊎_elim
-    (λ same. ap (λ (b : Bool). b || has_writer w (map (registration_of i h) (numbers_from (k + 1) writers)))
+    (λ same. ap (λ (b : Bool). b || has_writer w (map (registration_of i h) (numbered_from (k + 1) writers)))
     (ap (λ (b : Bool). b && is_registered i k h) same
     ∙ (ap (λ (v : ℕ). is_registered i v h) (eqb-true k w same) ∙ is)))
     (λ other. let differ : k ≡ w → ⊥ = eqb-false k w other in
@@ -229,13 +229,13 @@ other-than v w differ =
 
 has-stranger : (i : Key) (h : List Happening) (w k : ℕ) (writers : List MatchedWriter)
     → ((k ≤ w) × (w < k + length writers) → ⊥)
-    → has_writer w (map (registration_of i h) (numbers_from k writers)) ≡ false
+    → has_writer w (map (registration_of i h) (numbered_from k writers)) ≡ false
 has-stranger i h w k [] out = refl
 has-stranger i h w k (x ∷ writers) out =
     let other : (k == w) ≡ false = other-than k w (λ same. out (omega (arith, same), omega (arith, same))) in
     ap
     (λ (b : Bool). (b && is_registered i k h)
-    || has_writer w (map (registration_of i h) (numbers_from (k + 1) writers)))
+    || has_writer w (map (registration_of i h) (numbered_from (k + 1) writers)))
     other
     ∙ has-stranger i h w (k + 1) writers (λ both. out (omega (arith, both.0), omega (arith, both.1)))
 

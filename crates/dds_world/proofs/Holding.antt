@@ -11,7 +11,7 @@ use Rattle.dds_base.specs.declared.key.Key.{Key}
 use Rattle.dds_conditions.specs.Filtered.{tests_of}
 use Rattle.dds_notices.specs.declared.mask.StatusMask.{StatusMask}
 use Rattle.dds_notices.specs.declared.notice.Notice.{Notice}
-use Rattle.dds_notices.specs.Listeners.{Slotted, place_of}
+use Rattle.dds_notices.specs.Listeners.{Slotted, listener_place}
 use Rattle.dds_notices.specs.Notices.{Recording}
 use Rattle.dds_model.specs.declared.call.Call.{Call}
 use Rattle.dds_model.specs.declared.event.Event.{Event}
@@ -217,7 +217,7 @@ module _ {F L : Type 0} (notices : L → List Notice) (capacity : L → ℕ) whe
         within = (omega arith, omega (arith, low));
         filters = ap (λ (x : Held F L). map h x.cores) same ∙ map-set_same h old.cores i core after at a.filters;
         sets = λ config network s.
-            let place = place_of capacity mask listener in
+            let place = listener_place capacity mask listener in
             let r = a.sets config (get_or network.peers i no_peer) (core_stands old i core config network low here s) in
             let known = r.3 (s.known i core.filtered.peer (core_kept notices capacity old old i (length old.cores) core refl here refl low)) in (
               r.0,

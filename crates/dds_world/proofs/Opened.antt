@@ -15,7 +15,7 @@ use Rattle.dds_notices.specs.declared.notice.Notice.{Notice}
 use Rattle.dds_notices.specs.Listeners.{Slotted}
 use Rattle.dds_notices.specs.Notices.{Recording}
 use Rattle.dds_model.specs.declared.event.Packet.{Packet}
-use Rattle.dds_model.specs.Numbered.{has_number, numbered}
+use Rattle.dds_model.specs.Numbered.{has_element, numbered}
 use Rattle.dds_model.specs.Opening.{opening_peers, opening_world}
 use Rattle.dds_model.specs.Peer.{no_peer}
 use Rattle.dds_model.proofs.Bounded.{opens_bounded}
@@ -68,7 +68,7 @@ pub same_refusal : (peers : List PeerConfig) (n : ℕ) → 1 ≤ n → n ≤ len
 same_refusal peers n low high =
     let above : nat_lt 0 n ≡ true = grind (arith, nat_tests, low) in
     let within : nat_le n (length peers) ≡ true = grind (arith, nat_tests, high) in
-    let has : has_number peers n ≡ true = ap (λ (b : Bool). b && nat_le n (length peers)) above ∙ within in
+    let has : has_element peers n ≡ true = ap (λ (b : Bool). b && nat_le n (length peers)) above ∙ within in
     ap (λ (b : Bool). if is_some (check_refusal peers) then check_refusal peers else (if b then None else Some BadParameter)) has
     ∙ checked_alone (check_refusal peers)
 

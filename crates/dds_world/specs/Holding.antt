@@ -12,7 +12,7 @@ use Rattle.dds_conditions.specs.Filtered.{tests_of}
 use Rattle.dds_conditions.specs.Watched.{filter_refusal}
 use Rattle.dds_notices.specs.declared.mask.StatusMask.{StatusMask}
 use Rattle.dds_notices.specs.declared.notice.Notice.{Notice}
-use Rattle.dds_notices.specs.Listeners.{HandedBack, Slot, Slotted, at_entity, listener_refusal, place_of}
+use Rattle.dds_notices.specs.Listeners.{HandedBack, Slot, Slotted, at_entity, listener_refusal, listener_place}
 use Rattle.dds_notices.specs.Notices.{Recording}
 use Rattle.dds_model.specs.declared.event.Event.{Event}
 use Rattle.dds_model.specs.declared.event.Packet.{Packet}
@@ -110,7 +110,7 @@ pub record Sets {F L : Type 0} (notices : L → List Notice) (capacity : L → �
       → (listener_refusal notices (peer_at network peer).part.dds.listeners entity listener ≡ None)
       × HandedBack notices capacity handed (at_entity (peer_at network peer).part.dds.listeners entity)
       × StandsFor (kept_of notices capacity new) config
-      (world_with_place network peer entity (place_of capacity mask listener))
+      (world_with_place network peer entity (listener_place capacity mask listener))
 
 -- For each state that the network stands for, a listener is refused so: there is no such peer, or by the first cause that there
 -- is at it.

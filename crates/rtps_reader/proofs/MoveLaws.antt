@@ -14,7 +14,7 @@ use Rattle.dds_base.specs.Places.{Match, Position, coming, Comes, Passes, GoesTo
 use Rattle.dds_base.proofs.PlaceLaws.{EndBelow, end_below_on, end_below_more, come_more, pass_more}
 use Rattle.rtps_reader.specs.declared.step.HeartbeatSeen.{HeartbeatSeen}
 use Rattle.rtps_reader.specs.declared.step.Step.{Step}
-use Rattle.rtps_reader.specs.Answer.{Answers, HeartbeatMoves, answered, heard_after}
+use Rattle.rtps_reader.specs.Answer.{AnswersHeartbeat, HeartbeatMoves, answered, heard_after}
 use Rattle.rtps_reader.specs.Tracked.{Tracked, Held, is_passable, with_heartbeat, SameTracked}
 use Rattle.rtps_reader.specs.Advance.{known, Stays, Advances, ArePassable, PassesOver, HandsOn, Moves, passed_from}
 use Rattle.rtps_reader.specs.declared.writer_proxy.Source.{Source}
@@ -212,7 +212,7 @@ pub accepted : (q0 q : ReaderQos) (source : Source) (before0 before after : List
     → q ≡ q0 → ((h : List Happening) → before0 h → before (heard_after (match_of q0 source) heartbeat.liveliness h))
     → t ≡ with_heartbeat heartbeat.first heartbeat.count t0
     → step.heard ≡ heartbeat.liveliness → Moves (match_of q source) before after t step.to step.passed mid
-    → Answers mid heartbeat.last heartbeat.is_final step.acknack → new ≡ answered step.acknack mid
+    → AnswersHeartbeat mid heartbeat.last heartbeat.is_final step.acknack → new ≡ answered step.acknack mid
     → HeartbeatMoves (match_of q0 source) before0 after t0 heartbeat step new
 accepted q0 q source before0 before after t0 t heartbeat step mid new same stands is heard moves answers counted h was =
     let r = moves (heard_after (match_of q0 source) heartbeat.liveliness h) (stands h was) in (

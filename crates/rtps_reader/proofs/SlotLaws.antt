@@ -5,7 +5,7 @@ use Rattle.std.specs.Prelude.{Option, None, Some, nat_le, nat_lt, ◌==◌, if�
 use Rattle.std.proofs.lemmas.Bool.Decides.{nat_tests}
 use Rattle.dds_base.specs.declared.change.Change.{Change}
 use Rattle.dds_base.specs.declared.happening.Arrival.{Arrival}
-use Rattle.rtps_sets.specs.Window.{Marks, mark_of, place_of, is_in_window}
+use Rattle.rtps_sets.specs.Window.{Marks, mark_of, window_place, is_in_window}
 use Rattle.rtps_sets.specs.NumberSet.{NumberSet}
 use Rattle.rtps_sets.specs.declared.window.Mark.{Mark}
 use Rattle.rtps_sets.specs.declared.window.Mark.TheVariants as mark
@@ -63,22 +63,22 @@ marks_step true false named_number low lt more window m now_n now_number new_n e
     (new_is, e1 refl) now_is
 
 -- one number more is marked if it is named
-pub marks_more : (start : ℕ) (list : NumberSet) (w now new : Marks) (number n : ℕ) (named : Bool) → place_of w ≤ number
-    → number < place_of w + 256 → place_of now ≡ place_of w
+pub marks_more : (start : ℕ) (list : NumberSet) (w now new : Marks) (number n : ℕ) (named : Bool) → window_place w ≤ number
+    → number < window_place w + 256 → window_place now ≡ window_place w
     → named ≡ is_named start list number → ((k : ℕ) → mark_of now k ≡ mark_named start list number w k)
-    → mark_of new n ≡ (if (named && (is_in_window (place_of now) number && is_none (mark_of now number))) &&
+    → mark_of new n ≡ (if (named && (is_in_window (window_place now) number && is_none (mark_of now number))) &&
     (number == n) then Some mark.Irrelevant else mark_of now n)
     → mark_of new n ≡ mark_named start list (number + 1) w n
 marks_more start list w now new number n named low high at is so_far next =
-    marks_step (number == n) (is_named start list n) named (nat_le (place_of w) n) (nat_lt n number)
-    (nat_lt n (number + 1)) (is_in_window (place_of now) number) (mark_of w n) (mark_of now n) (mark_of now number)
+    marks_step (number == n) (is_named start list n) named (nat_le (window_place w) n) (nat_lt n number)
+    (nat_lt n (number + 1)) (is_in_window (window_place now) number) (mark_of w n) (mark_of now n) (mark_of now number)
     (mark_of new n)
     (λ same. is ∙ ap (λ (k : ℕ). is_named start list k) (equal same))
     (λ same. ap (λ (k : ℕ). mark_of now k) (equal same))
     (λ same. let e = equal same in grind (arith, nat_tests)) (λ same. let e = equal same in grind (arith, nat_tests))
     (λ same. let e = equal same in grind (arith, nat_tests))
-    (let l : nat_le (place_of now) number ≡ true = grind (arith, nat_tests) in let h : nat_lt number
-    (place_of now + 256) ≡ true = grind (arith, nat_tests) in rw (l, h) refl)
+    (let l : nat_le (window_place now) number ≡ true = grind (arith, nat_tests) in let h : nat_lt number
+    (window_place now + 256) ≡ true = grind (arith, nat_tests) in rw (l, h) refl)
     (λ other. grind (arith, nat_tests)) (so_far n) next
   where
     equal : (number == n) ≡ true → number ≡ n

@@ -35,9 +35,9 @@ pub record Tells (t : Tracked) (last : ℕ) (due : AckNackDue) : Type 0 where
   pub lacking : due.is_final ≡ false → (n : ℕ) × (is_asked t last n ≡ true)
 
 -- the answer: none where none can be sent, or where the HEARTBEAT is final and nothing is asked for; else one
-abbrev pub Answers : Tracked → ℕ → Bool → Option AckNackDue → Type 0
-Answers t last is_final None = CanNotAnswer t ⊎ ((is_final ≡ true) × IsComplete t last)
-Answers t last is_final (Some due) = (t.place ≤ 2 ^ 62) × (t.acknacks < 2 ^ 31 - 1)
+abbrev pub AnswersHeartbeat : Tracked → ℕ → Bool → Option AckNackDue → Type 0
+AnswersHeartbeat t last is_final None = CanNotAnswer t ⊎ ((is_final ≡ true) × IsComplete t last)
+AnswersHeartbeat t last is_final (Some due) = (t.place ≤ 2 ^ 62) × (t.acknacks < 2 ^ 31 - 1)
     × (is_final ≡ true → due.is_final ≡ false) × Tells t last due
 
 -- it has a written form: its set begins with a number from 1 to 2^62, and has its 256 places (RTPS 2.5, 9.4.5: AckNack)
@@ -62,7 +62,7 @@ pub record Accepts (match : Match) (t : Tracked) (h : List Happening) (heartbeat
   pub heard : step.heard ≡ heartbeat.liveliness
   pub advances : Advances match (with_heartbeat heartbeat.first heartbeat.count t)
       (heard_after match heartbeat.liveliness h) step.to step.passed mid after
-  pub answers : Answers mid heartbeat.last heartbeat.is_final step.acknack
+  pub answers : AnswersHeartbeat mid heartbeat.last heartbeat.is_final step.acknack
   pub counted : new ≡ answered step.acknack mid
 
 -- nothing happened, at this place

@@ -11,7 +11,7 @@ use Rattle.dds_base.specs.declared.happening.Arrival.{Arrival}
 use Rattle.dds_base.specs.declared.happening.Happening.{Happening}
 use Rattle.dds_base.specs.declared.qos.ReaderQos.{ReaderQos}
 use Rattle.dds_base.specs.Places.{Match}
-use Rattle.rtps_sets.specs.Window.{Marks, mark_of, place_of, room_of}
+use Rattle.rtps_sets.specs.Window.{Marks, mark_of, window_place, room_of}
 use Rattle.rtps_sets.specs.NumberSet.{NumberSet}
 use Rattle.rtps_sets.specs.declared.window.Mark.{Mark}
 use Rattle.rtps_sets.specs.declared.window.Mark.TheVariants as mark
@@ -44,7 +44,7 @@ slot_from (Some mark.Held) None = Missing
 -- what the proxy knows
 abbrev pub tracked : WriterProxy → Tracked
 tracked p = record {
-  place = place_of p.window;
+  place = window_place p.window;
   slot = λ n. slot_from (mark_of p.window n) (change_at p.held.items n);
   first = p.first;
   count = p.count;
@@ -54,9 +54,9 @@ tracked p = record {
 -- a number that is marked as held has its change, the place is a number, and none is so great that a sum overflows
 pub record IsSound (p : WriterProxy) : Type 0 where
   pub kept : (n : ℕ) → mark_of p.window n ≡ Some mark.Held → is_some (change_at p.held.items n) ≡ true
-  pub from : 1 ≤ place_of p.window
+  pub from : 1 ≤ window_place p.window
   pub unmarked : (n : ℕ) → 2 ^ 62 + 256 ≤ n → mark_of p.window n ≡ None
-  pub place_is_small : place_of p.window ≤ 2 ^ 62 + 256
+  pub place_is_small : window_place p.window ≤ 2 ^ 62 + 256
   pub first_is_small : p.first ≤ 2 ^ 62
 
 -- the place may move without want of memory: it passes a run before each change that comes, and one after them
@@ -74,7 +74,7 @@ pub record IsProxyReady (p : WriterProxy) (sink_spare : ℕ) : Type 0 where
 -- the mark of a number once those from the place to below another that a GAP names are irrelevant
 abbrev pub mark_named : ℕ → NumberSet → ℕ → Marks → ℕ → Option Mark
 mark_named start list to w n = if is_named start list n &&
-    ((nat_le (place_of w) n && nat_lt n to) && is_none (mark_of w n)) then Some mark.Irrelevant else mark_of w n
+    ((nat_le (window_place w) n && nat_lt n to) && is_none (mark_of w n)) then Some mark.Irrelevant else mark_of w n
 
 -- what any submessage leaves alone, and how it may be refused: at the proxy, and at the sink, as KeepsRest has it of a reader
 pub record ProxyKeepsRest {S : Type 0} (Stands : S → List Happening → Type 0) (policies : S → ReaderQos) (spare : S → ℕ)

@@ -10,12 +10,12 @@ ghost use Rattle.dds_base.specs.declared.happening.Happening.{Happening};
 ghost use Rattle.dds_base.specs.Ownership.{IsMatched};
 ghost use Rattle.dds_base.specs.Presence.{has_room};
 ghost use Rattle.dds_base.specs.Places.{coming};
-ghost use Rattle.rtps_sets.specs.Window.{mark_of, place_of, room_of, can_mark};
+ghost use Rattle.rtps_sets.specs.Window.{mark_of, window_place, room_of, can_mark};
 ghost use Rattle.rtps_sets.specs.declared.window.Mark.TheVariants as mark;
 ghost use Rattle.rtps_reader.specs.Tracked.{Tracked, Held, fresh, is_named, is_passable, is_later, with_data, with_gap, with_heartbeat, SameTracked};
 ghost use Rattle.rtps_reader.specs.Advance.{ArePassable, PassesOver, HandsOn, Moves, run_of, passed_from};
 ghost use Rattle.rtps_reader.specs.Proxy.{match_of, change_at, stamped, tracked, mark_named, IsSound, CanMove, IsProxyReady, ProxyKeepsRest};
-ghost use Rattle.rtps_reader.specs.Answer.{Answers, HeartbeatMoves, IsIdle, IsSayable, answered, heard_after};
+ghost use Rattle.rtps_reader.specs.Answer.{AnswersHeartbeat, HeartbeatMoves, IsIdle, IsSayable, answered, heard_after};
 
 use crate::sink::Sink;
 use crate::step::{AckNackDue, HeartbeatSeen, Step};
@@ -74,7 +74,7 @@ fn is_named(start: Sn, list: &SnSet, number: u64) -> bool
 /// Marks a number as irrelevant, if it is named.
 fn mark_if(window: &mut Window, number: u64, named: bool)
     requires room { 1 ≤ room_of window.old }
-    ensures place { place_of window.new ≡ place_of window.old }
+    ensures place { window_place window.new ≡ window_place window.old }
     ensures marks { (n : ℕ) → mark_of window.new n ≡
         (if (named && can_mark window.old number) && (number == n) then Some mark.Irrelevant
         else mark_of window.old n) }
@@ -88,11 +88,11 @@ fn mark_if(window: &mut Window, number: u64, named: bool)
 /// Marks as irrelevant what a GAP names of the window.
 fn mark_named(window: &mut Window, start: Sn, list: &SnSet)
     requires small { list.now.base ≤ 2 ^ 62 }
-    requires place { place_of window.old ≤ 2 ^ 62 + 256 }
+    requires place { window_place window.old ≤ 2 ^ 62 + 256 }
     requires room { 256 ≤ room_of window.old }
-    ensures place { place_of window.new ≡ place_of window.old }
+    ensures place { window_place window.new ≡ window_place window.old }
     ensures marks { (n : ℕ) → mark_of window.new n ≡ mark_named start list.now
-        (place_of window.old + 256) window.old n }
+        (window_place window.old + 256) window.old n }
     ensures small { (n : ℕ) → 2 ^ 62 + 256 ≤ n → mark_of window.old n ≡ None
         → mark_of window.new n ≡ None }
 {
@@ -246,8 +246,8 @@ impl WriterProxy {
     /// The first number from the place on that can't be passed over. It looks at the window alone.
     fn run_end(&self) -> u64
         requires sound { IsSound self.now }
-        ensures forward { place_of self.now.window ≤ result }
-        ensures passable { ArePassable (tracked self.now) (place_of self.now.window) result }
+        ensures forward { window_place self.now.window ≤ result }
+        ensures passable { ArePassable (tracked self.now) (window_place self.now.window) result }
         ensures stops { is_passable (tracked self.now) result ≡ false }
         ensures small { result ≤ 2 ^ 62 + 256 }
     {
@@ -297,12 +297,13 @@ impl WriterProxy {
         ensures stays { result ≡ false → SameTracked (tracked self.old) (tracked self.new)
             × (sink.new ≡ sink.old) }
         ensures full { result ≡ false → (change : Change) (h : List Happening)
-            → (tracked self.old).slot (place_of self.old.window) ≡ Held change → S.stands sink.old h
+            → (tracked self.old).slot (window_place self.old.window) ≡ Held change
+            → S.stands sink.old h
             → has_room (S.qos sink.old) h
             (coming (match_of (S.qos sink.old) source.now)
-            (record { place = place_of self.old.window; happened = h }) change) ≡ false }
+            (record { place = window_place self.old.window; happened = h }) change) ≡ false }
         ensures was_marked { result ≡ true
-            → mark_of self.old.window (place_of self.old.window) ≡ Some mark.Held }
+            → mark_of self.old.window (window_place self.old.window) ≡ Some mark.Held }
         ensures outside { (n : ℕ) → mark_of self.old.window n ≡ None
             → mark_of self.new.window n ≡ None }
         ensures fewer { result ≡ true → vec_len self.new.held + 1 ≡ vec_len self.old.held }
@@ -340,7 +341,7 @@ impl WriterProxy {
         ensures qos { S.qos sink.new ≡ S.qos sink.old }
         ensures moves { Moves (match_of (S.qos sink.old) source.now) (S.stands sink.old)
             (S.stands sink.new)
-            (tracked self.old) (place_of self.new.window) runs.new.items (tracked self.new) }
+            (tracked self.old) (window_place self.new.window) runs.new.items (tracked self.new) }
     {
         // Nothing is known of numbers past the window: the proof has it from here.
         let _tells_the_window = self.window.place();
@@ -415,7 +416,7 @@ impl WriterProxy {
     fn acknowledge(&mut self, last: Sn, is_final: bool) -> Option<AckNackDue>
         requires sound { IsSound self.old }
         ensures sound { IsSound self.new }
-        ensures answers { Answers (tracked self.old) last is_final result }
+        ensures answers { AnswersHeartbeat (tracked self.old) last is_final result }
         ensures counted { tracked self.new ≡ answered result (tracked self.old) }
         ensures sayable { IfSome result IsSayable }
     {

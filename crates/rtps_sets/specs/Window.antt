@@ -4,7 +4,7 @@ use Rattle.std.specs.Prelude.{◌≡◌, ℕ, ◌+◌, Bool, false, ◌==◌, �
 use Rattle.rtps_sets.specs.declared.window.Mark.{Mark}
 use Rattle.rtps_sets.specs.declared.window.Marked.{Marked}
 
--- what a window keeps; callers see it through place_of, mark_of and room_of
+-- what a window keeps; callers see it through window_place, mark_of and room_of
 pub record Marks : Type 0 where
   pub place : ℕ
   pub marked : List Marked
@@ -16,8 +16,8 @@ mark_in [] n = None
 mark_in (m ∷ ms) n = if m.number == n then Some m.mark else mark_in ms n
 
 -- the next number
-abbrev pub place_of : Marks → ℕ
-place_of w = w.place
+abbrev pub window_place : Marks → ℕ
+window_place w = w.place
 
 -- what is known of a number: its change is held, it is irrelevant, or nothing
 abbrev pub mark_of : Marks → ℕ → Option Mark
@@ -33,13 +33,13 @@ is_in_window place n = nat_le place n && nat_lt n (place + 256)
 
 -- the number can be marked: it is in the window, and nothing is known of it
 abbrev pub can_mark : Marks → ℕ → Bool
-can_mark w n = is_in_window (place_of w) n && is_none (mark_of w n)
+can_mark w n = is_in_window (window_place w) n && is_none (mark_of w n)
 
 -- the place and the marks are the same; room may differ
 pub record SameMarks (old new : Marks) : Type 0 where
-  pub place : place_of new ≡ place_of old
+  pub place : window_place new ≡ window_place old
   pub marks : (n : ℕ) → mark_of new n ≡ mark_of old n
 
 -- no number outside the window is marked
 abbrev pub HasNoOthers : Marks → Type 0
-HasNoOthers w = (n : ℕ) → is_in_window (place_of w) n ≡ false → mark_of w n ≡ None
+HasNoOthers w = (n : ℕ) → is_in_window (window_place w) n ≡ false → mark_of w n ≡ None

@@ -5,7 +5,7 @@
 ghost use Rattle.std.specs.Prelude.{◌≡◌, ◌≤◌, ◌<◌, ◌+◌, ◌&&◌, ◌==◌, ℕ, false, nat_le, is_none, max, Some, None, Ok, IsTrue, IsOk, IsSome, IfOk, IfErr, OnOk, OnErr, filter, vec_len, vec_capacity, if◌then◌else◌};
 ghost use Rattle.dds_base.specs.declared.code.Code.TheVariants.{Memory};
 ghost use Rattle.rtps_sets.specs.NumberSet.{has_number};
-ghost use Rattle.rtps_sets.specs.Window.{place_of, mark_of, room_of, is_in_window, can_mark, mark_in, SameMarks};
+ghost use Rattle.rtps_sets.specs.Window.{window_place, mark_of, room_of, is_in_window, can_mark, mark_in, SameMarks};
 
 use crate::sn_set::SnSet;
 use dds_base::{Code, Sn};
@@ -57,7 +57,7 @@ impl Window {
     /// The window of a writer of which nothing was heard: its place is 1.
     pub fn open(alloc: Global) -> Window
         // It begins at 1.
-        ensures place { place_of result ≡ 1 }
+        ensures place { window_place result ≡ 1 }
         // Nothing is known of any number.
         ensures none { (n : ℕ) → mark_of result n ≡ None }
     {
@@ -70,9 +70,9 @@ impl Window {
     /// The next number: all before it were passed. The window is the 256 numbers from it on.
     pub fn place(&self) -> Sn
         // The number that the window begins with.
-        ensures place { result ≡ place_of self.now }
+        ensures place { result ≡ window_place self.now }
         // Nothing is known of a number outside.
-        ensures window { (n : ℕ) → is_in_window (place_of self.now) n ≡ false
+        ensures window { (n : ℕ) → is_in_window (window_place self.now) n ≡ false
             → mark_of self.now n ≡ None }
     {
         Sn::new(self.place)
@@ -115,7 +115,7 @@ impl Window {
     /// `Memory` where there was no room and a growth was refused; the window is as it was.
     pub fn mark(&mut self, number: Sn, mark: Mark) -> Result<bool, Code>
         // The place stays.
-        ensures place { place_of self.new ≡ place_of self.old }
+        ensures place { window_place self.new ≡ window_place self.old }
         // True exactly for a number of the window that had no mark.
         ensures answer { IfOk result (λ is_new. is_new ≡ can_mark self.old number) }
         // That number has the mark, and all others have theirs.
@@ -150,10 +150,10 @@ impl Window {
     /// RTPS 2.5, 8.4.10 (WriterProxy: missing_changes), 8.3.8 (AckNack: readerSNState).
     pub fn missing(&self, bound: Sn) -> SnSet
         // The set begins at the place.
-        ensures base { result.base ≡ place_of self.now }
+        ensures base { result.base ≡ window_place self.now }
         // It has exactly the numbers of the window up to the bound that have no mark.
         ensures members { (n : ℕ)
-            → has_number result n ≡ (is_in_window (place_of self.now) n
+            → has_number result n ≡ (is_in_window (window_place self.now) n
             && (nat_le n bound && is_none (mark_of self.now n))) }
     {
         let last = u64::min(bound.number(), self.place.saturating_add(WIDTH - 1));
@@ -169,17 +169,18 @@ impl Window {
     /// Moves the place over marked numbers, as far as they go, but not past `to`.
     pub fn slide(&mut self, to: Sn)
         // The place does not go back.
-        ensures forward { place_of self.old ≤ place_of self.new }
+        ensures forward { window_place self.old ≤ window_place self.new }
         // It goes no further than asked.
-        ensures asked { place_of self.new ≤ max (place_of self.old) to }
+        ensures asked { window_place self.new ≤ max (window_place self.old) to }
         // It goes over marked numbers alone.
-        ensures over { (n : ℕ) → place_of self.old ≤ n → n < place_of self.new
+        ensures over { (n : ℕ) → window_place self.old ≤ n → n < window_place self.new
             → IsSome (mark_of self.old n) }
         // It stops short of where it was asked to go only at a number without a mark.
-        ensures stops { place_of self.new < to → mark_of self.old (place_of self.new) ≡ None }
+        ensures stops { window_place self.new < to
+            → mark_of self.old (window_place self.new) ≡ None }
         // Marks below the place are forgotten, and all others stay.
         ensures marks { (n : ℕ) → mark_of self.new n ≡
-            (if nat_le (place_of self.new) n then mark_of self.old n else None) }
+            (if nat_le (window_place self.new) n then mark_of self.old n else None) }
         // It has no less room than before.
         ensures room { room_of self.old ≤ room_of self.new }
     {
@@ -194,9 +195,9 @@ impl Window {
     /// RTPS 2.5, 8.4.10 (WriterProxy: lost_changes_update).
     pub fn pass(&mut self, to: Sn)
         // The number is not below the place.
-        requires forward { place_of self.old ≤ to }
+        requires forward { window_place self.old ≤ to }
         // The place is where it was asked to go.
-        ensures place { place_of self.new ≡ to }
+        ensures place { window_place self.new ≡ to }
         // Marks below the place are forgotten, and all others stay.
         ensures marks { (n : ℕ)
             → mark_of self.new n ≡ (if nat_le to n then mark_of self.old n else None) }

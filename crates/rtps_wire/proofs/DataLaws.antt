@@ -19,7 +19,7 @@ use Rattle.rtps_wire.specs.declared.data.DataContent.TheVariants.{Write, Dispose
 use Rattle.rtps_wire.specs.declared.parameters.Parameters.{Parameters}
 use Rattle.rtps_wire.specs.Fields.{has_flag, order_of, sn_text}
 use Rattle.rtps_wire.specs.FieldAt.{entity_id_at, sn_at}
-use Rattle.rtps_wire.specs.Parameters.{Parameter, ReadsParameters, value_of, status_of}
+use Rattle.rtps_wire.specs.Parameters.{Parameter, ReadsParameters, parameter_value, status_of}
 use Rattle.rtps_wire.specs.Data.{data_head, ShowsKey, SaysContent, ReadsData, IsData}
 use Rattle.rtps_wire.specs.DataAt.{data_head_at, shown_key_at, ended_at, content_by, content_at, inline_at, data_at}
 use Rattle.rtps_wire.proofs.WireFields.{field_entity_id, field_sn}
@@ -44,7 +44,7 @@ unfolding shown_key_at
 key_found true true ps payload k octets e = absurd cc
 key_found true false ps payload k octets e = datum_key_found payload k octets (sym e)
 key_found false true ps payload k octets e = key_form_found payload k octets e
-key_found false false ps payload k octets e = hash_is (value_of 112 ps) k e
+key_found false false ps payload k octets e = hash_is (parameter_value 112 ps) k e
 
 key_only : (datum key : Bool) (ps : List Parameter) (payload : List ℕ) (k : Key) → ShowsKey datum key ps payload k
     → shown_key_at datum key (hash_in ps) payload ≡ Some k
@@ -52,7 +52,7 @@ unfolding shown_key_at
 key_only true true ps payload k shows = absurd shows
 key_only true false ps payload k shows = datum_key_only payload (record { key = k; value = shows.0 }) shows.1
 key_only false true ps payload k shows = key_form_only payload k shows
-key_only false false ps payload k shows = hash_again (value_of 112 ps) k shows
+key_only false false ps payload k shows = hash_again (parameter_value 112 ps) k shows
 
 -- ---- what is said
 
@@ -99,7 +99,7 @@ content_found : (flags : ℕ) (ps : List Parameter) (payload : List ℕ) (c : Da
 unfolding content_at
 content_found flags ps payload c octets e =
     let said : Says (has_flag (status_of ps) 1) (has_flag (status_of ps) 2) (has_flag flags 4) (has_flag flags 8) ps payload c =
-    says_found (has_flag (status_of ps) 1) (has_flag (status_of ps) 2) (has_flag flags 4) (has_flag flags 8) ps payload c octets (rw (status_is (value_of 113 ps)) at e) in
+    says_found (has_flag (status_of ps) 1) (has_flag (status_of ps) 2) (has_flag flags 4) (has_flag flags 8) ps payload c octets (rw (status_is (parameter_value 113 ps)) at e) in
     as_said c said
   where
     as_said : (x : DataContent) → Says (has_flag (status_of ps) 1) (has_flag (status_of ps) 2) (has_flag flags 4) (has_flag flags 8) ps payload x → SaysContent flags ps payload x
@@ -112,7 +112,7 @@ content_only : (flags : ℕ) (ps : List Parameter) (payload : List ℕ) (c : Dat
     → content_at flags (summed nothing ps) payload ≡ Some c
 unfolding content_at
 content_only flags ps payload c says =
-    rw (status_is (value_of 113 ps)) (says_only (has_flag (status_of ps) 1) (has_flag (status_of ps) 2) (has_flag flags 4) (has_flag flags 8) ps payload c (as_said c says))
+    rw (status_is (parameter_value 113 ps)) (says_only (has_flag (status_of ps) 1) (has_flag (status_of ps) 2) (has_flag flags 4) (has_flag flags 8) ps payload c (as_said c says))
   where
     as_said : (x : DataContent) → SaysContent flags ps payload x → Says (has_flag (status_of ps) 1) (has_flag (status_of ps) 2) (has_flag flags 4) (has_flag flags 8) ps payload x
     as_said (Write d) s = s

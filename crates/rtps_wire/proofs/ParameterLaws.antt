@@ -13,7 +13,7 @@ use Rattle.dds_base.specs.DatumAt.{key_at}
 use Rattle.dds_base.proofs.FieldLaws.{AreOctets, cond_is, some_is, field_u16, field_octets}
 use Rattle.dds_base.proofs.DatumLaws.{field_key}
 use Rattle.rtps_wire.specs.declared.parameters.Parameters.{Parameters}
-use Rattle.rtps_wire.specs.Parameters.{Parameter, parameter_text, IsParameter, ReadsParameters, value_of}
+use Rattle.rtps_wire.specs.Parameters.{Parameter, parameter_text, IsParameter, ReadsParameters, parameter_value}
 use Rattle.rtps_wire.specs.ParametersAt.{parameter_at, noted_at, parameters_from, parameters_at}
 use Rattle.rtps_wire.proofs.WireFields.{len_16}
 
@@ -27,7 +27,7 @@ last_octet value = slice_index value 3
 
 -- what was found before, or else what these say
 abbrev pub summed : Parameters → List Parameter → Parameters
-summed found ps = record { key_hash = option_or found.key_hash (option_map key_seen (value_of 112 ps)); status = option_or found.status (option_map last_octet (value_of 113 ps)) }
+summed found ps = record { key_hash = option_or found.key_hash (option_map key_seen (parameter_value 112 ps)); status = option_or found.status (option_map last_octet (parameter_value 113 ps)) }
 
 parameters_are : (a b : Option Key) (c d : Option ℕ) → a ≡ b → c ≡ d
     → ◌≡◌ {A = Parameters} (record { key_hash = a; status = c }) (record { key_hash = b; status = d })
@@ -52,10 +52,10 @@ summed_none found = parameters_are found.key_hash _ found.status _ (sym (or_none
 
 summed_more : (found : Parameters) (p : Parameter) (ps : List Parameter) → summed (summed found (p ∷ [])) ps ≡ summed found (p ∷ ps)
 summed_more found p ps =
-    let key : option_or (option_or found.key_hash (option_map key_seen (value_of 112 (p ∷ [])))) (option_map key_seen (value_of 112 ps)) ≡ option_or found.key_hash (option_map key_seen (value_of 112 (p ∷ ps))) =
-    or_assoc found.key_hash (option_map key_seen (value_of 112 (p ∷ []))) (option_map key_seen (value_of 112 ps)) ∙ ap (option_or found.key_hash) (sym (first_or key_seen (eqb p.id 112) p.value (value_of 112 ps))) in
-    let status : option_or (option_or found.status (option_map last_octet (value_of 113 (p ∷ [])))) (option_map last_octet (value_of 113 ps)) ≡ option_or found.status (option_map last_octet (value_of 113 (p ∷ ps))) =
-    or_assoc found.status (option_map last_octet (value_of 113 (p ∷ []))) (option_map last_octet (value_of 113 ps)) ∙ ap (option_or found.status) (sym (first_or last_octet (eqb p.id 113) p.value (value_of 113 ps))) in
+    let key : option_or (option_or found.key_hash (option_map key_seen (parameter_value 112 (p ∷ [])))) (option_map key_seen (parameter_value 112 ps)) ≡ option_or found.key_hash (option_map key_seen (parameter_value 112 (p ∷ ps))) =
+    or_assoc found.key_hash (option_map key_seen (parameter_value 112 (p ∷ []))) (option_map key_seen (parameter_value 112 ps)) ∙ ap (option_or found.key_hash) (sym (first_or key_seen (eqb p.id 112) p.value (parameter_value 112 ps))) in
+    let status : option_or (option_or found.status (option_map last_octet (parameter_value 113 (p ∷ [])))) (option_map last_octet (parameter_value 113 ps)) ≡ option_or found.status (option_map last_octet (parameter_value 113 (p ∷ ps))) =
+    or_assoc found.status (option_map last_octet (parameter_value 113 (p ∷ []))) (option_map last_octet (parameter_value 113 ps)) ∙ ap (option_or found.status) (sym (first_or last_octet (eqb p.id 113) p.value (parameter_value 113 ps))) in
     parameters_are _ _ _ _ key status
 
 -- ---- one parameter

@@ -21,7 +21,7 @@ use Rattle.rtps_wire.specs.Heartbeat.{heartbeat_text}
 use Rattle.rtps_wire.specs.Gap.{gap_head}
 use Rattle.rtps_wire.specs.AckNack.{text_of_acknack}
 use Rattle.rtps_wire.specs.Data.{data_head, SaysContent, ReadsData, IsContent, content_flags, text_of_end, text_of_content}
-use Rattle.rtps_wire.specs.Submessages.{id_of, flags_of, body_of, padding, IsSpellable, IsKnown, spelling_of_submessage}
+use Rattle.rtps_wire.specs.Submessages.{id_of, flags_of, body_of, padding, IsSpellable, IsKnownKind, spelling_of_submessage}
 use Rattle.rtps_wire.specs.Messages.{ReadsAll, ReadsMessage, IsWritable, spelling_of, header_text}
 use Rattle.rtps_wire.proofs.SetSpelling.{set_field_valid, set_again, text_of_set_len}
 use Rattle.rtps_wire.proofs.TestLaws.{both_hold, match_false}
@@ -130,7 +130,7 @@ standard (DisposeUnregister k) = refl
 
 -- ---- each submessage
 
-spelled_known : (s : Submessage) → IsSpellable s → IsKnown (id_of s) (flags_of s) (body_of s) s
+spelled_known : (s : Submessage) → IsSpellable s → IsKnownKind (id_of s) (flags_of s) (body_of s) s
 spelled_known submessages.Pad valid = record { kind = refl; flags_are = tt; body_is = tt; valid = tt }
 spelled_known (submessages.InfoDst prefix) valid = record { kind = refl; flags_are = tt; body_is = (padding (length prefix.0), refl); valid = valid }
 spelled_known (submessages.InfoTs None) valid = record { kind = refl; flags_are = refl; body_is = tt; valid = tt }

@@ -20,7 +20,7 @@ use Rattle.rtps_wire.specs.FieldAt.{entity_id_at, prefix_at, sn_at, count_at}
 use Rattle.rtps_wire.specs.SetAt.{set_at}
 use Rattle.rtps_wire.specs.Heartbeat.{heartbeat_text, IsHeartbeat}
 use Rattle.rtps_wire.specs.DataAt.{data_at}
-use Rattle.rtps_wire.specs.Submessages.{IsKnown, Reads}
+use Rattle.rtps_wire.specs.Submessages.{IsKnownKind, Reads}
 use Rattle.rtps_wire.specs.SubmessageAt.{info_dst_at, info_ts_at, heartbeat_at, acknack_at, gap_at, known_at}
 use Rattle.rtps_wire.proofs.WireFields.{field_entity_id, field_prefix, field_sn, field_count, halves_text, halves_are}
 use Rattle.rtps_wire.proofs.TestLaws.{neither}
@@ -29,24 +29,24 @@ use Rattle.rtps_wire.proofs.DataLaws.{data_found, data_only, mapped_some}
 
 -- ---- INFO_DST
 
-info_dst_found : (flags : ℕ) (body : List ℕ) (p : GuidPrefix) → AreOctets body → info_dst_at body ≡ Some p → IsKnown 14 flags body (submessages.InfoDst p)
+info_dst_found : (flags : ℕ) (body : List ℕ) (p : GuidPrefix) → AreOctets body → info_dst_at body ≡ Some p → IsKnownKind 14 flags body (submessages.InfoDst p)
 unfolding info_dst_at
 info_dst_found flags body prefix octets e = option_and_then_some (λ x. Some x.0) (prefix_at body) prefix e (λ p q r.
     let t = field_prefix.takes body p.0 p.1 octets q in
-    subst (λ (x : GuidPrefix). IsKnown 14 flags body (submessages.InfoDst x)) (some_is p.0 prefix r) (record { kind = refl; flags_are = tt; body_is = (p.1, t.0.parts); valid = t.1 }))
+    subst (λ (x : GuidPrefix). IsKnownKind 14 flags body (submessages.InfoDst x)) (some_is p.0 prefix r) (record { kind = refl; flags_are = tt; body_is = (p.1, t.0.parts); valid = t.1 }))
 
 -- ---- INFO_TS
 
-info_ts_found : (flags : ℕ) (body : List ℕ) (m : Option ℕ) → AreOctets body → info_ts_at flags body ≡ Some m → IsKnown 9 flags body (submessages.InfoTs m)
+info_ts_found : (flags : ℕ) (body : List ℕ) (m : Option ℕ) → AreOctets body → info_ts_at flags body ≡ Some m → IsKnownKind 9 flags body (submessages.InfoTs m)
 unfolding info_ts_at
 info_ts_found flags body m octets e =
     let order = order_of flags in
-    let P : Type 0 = IsKnown 9 flags body (submessages.InfoTs m) in
-    cond_is {P = IsKnown 9 flags body (submessages.InfoTs m)} (has_flag flags 2) (Some None) (both (number_at (order_of flags) w32) (number_at (order_of flags) w32) body >>= λ x. Some (Some (x.0.0 * 2 ^ 32 + x.0.1))) (Some m) e
-    (λ set p. subst (λ (x : Option ℕ). IsKnown 9 flags body (submessages.InfoTs x)) (some_is None m p) (record { kind = refl; flags_are = set; body_is = tt; valid = tt }))
+    let P : Type 0 = IsKnownKind 9 flags body (submessages.InfoTs m) in
+    cond_is {P = IsKnownKind 9 flags body (submessages.InfoTs m)} (has_flag flags 2) (Some None) (both (number_at (order_of flags) w32) (number_at (order_of flags) w32) body >>= λ x. Some (Some (x.0.0 * 2 ^ 32 + x.0.1))) (Some m) e
+    (λ set p. subst (λ (x : Option ℕ). IsKnownKind 9 flags body (submessages.InfoTs x)) (some_is None m p) (record { kind = refl; flags_are = set; body_is = tt; valid = tt }))
     (λ clear p. option_and_then_some (λ x. Some (Some (x.0.0 * 2 ^ 32 + x.0.1))) (both (number_at order w32) (number_at order w32) body) m p (λ x q r.
     let t = (field_both (field_u32 order) (field_u32 order)).takes body x.0 x.1 octets q in
-    subst (λ (y : Option ℕ). IsKnown 9 flags body (submessages.InfoTs y)) (some_is (Some (x.0.0 * 2 ^ 32 + x.0.1)) m r) (record {
+    subst (λ (y : Option ℕ). IsKnownKind 9 flags body (submessages.InfoTs y)) (some_is (Some (x.0.0 * 2 ^ 32 + x.0.1)) m r) (record {
       kind = refl;
       flags_are = clear;
       body_is = (x.1, t.0.parts ∙ ap (λ (z : List ℕ). z ++ x.1) (sym (halves_text order x.0.0 x.0.1 t.1.1)));
@@ -67,7 +67,7 @@ abbrev heartbeat_fields : Endianness → List ℕ → Option (((((EntityId × En
 heartbeat_fields order = both (both (both (both entity_id_at entity_id_at) (sn_at order)) (sn_at order)) (count_at order)
 
 heartbeat_found : (flags : ℕ) (body : List ℕ) (h : Heartbeat) → AreOctets body → heartbeat_at flags body ≡ Some h
-    → IsKnown 7 flags body (submessages.Heartbeat h)
+    → IsKnownKind 7 flags body (submessages.Heartbeat h)
 unfolding heartbeat_at
 heartbeat_found flags body s octets e =
     let order = order_of flags in
@@ -76,7 +76,7 @@ heartbeat_found flags body s octets e =
     let h : Heartbeat = record { reader_id = x.0.0.0.0.0; writer_id = x.0.0.0.0.1; first_sn = x.0.0.0.1; last_sn = x.0.0.1; count = x.0.1; final_flag = has_flag flags 2; liveliness_flag = has_flag flags 4 } in
     let g = guard_some (ltb h.first_sn 1 || ltb (h.last_sn + 1) h.first_sn) (Some h) s r in
     let n = neither (ltb h.first_sn 1) (ltb (h.last_sn + 1) h.first_sn) g.0 in
-    subst (λ (y : Heartbeat). IsKnown 7 flags body (submessages.Heartbeat y)) (some_is h s g.1) (record {
+    subst (λ (y : Heartbeat). IsKnownKind 7 flags body (submessages.Heartbeat y)) (some_is h s g.1) (record {
       kind = refl;
       flags_are = (refl, refl);
       body_is = (x.1, t.0.parts);
@@ -97,7 +97,7 @@ heartbeat_only flags h body rest valid final live e =
 
 -- ---- ACKNACK and GAP
 
-acknack_found : (flags : ℕ) (body : List ℕ) (s : AckNack) → AreOctets body → acknack_at flags body ≡ Some s → IsKnown 6 flags body (submessages.AckNack s)
+acknack_found : (flags : ℕ) (body : List ℕ) (s : AckNack) → AreOctets body → acknack_at flags body ≡ Some s → IsKnownKind 6 flags body (submessages.AckNack s)
 unfolding acknack_at
 acknack_found flags body s octets e =
     let order = order_of flags in
@@ -108,14 +108,14 @@ acknack_found flags body s octets e =
     option_and_then_some (λ n. Some (record { reader_id = ids.0.0; writer_id = ids.0.1; reader_sn_state = set.0; count = n.0; final_flag = has_flag flags 2 })) (count_at (order_of flags) set.1) s e2 (λ n q3 e3.
     let t2 = (field_count order).takes set.1 n.0 n.1 t1.octets q3 in
     let a : AckNack = record { reader_id = ids.0.0; writer_id = ids.0.1; reader_sn_state = set.0; count = n.0; final_flag = has_flag flags 2 } in
-    subst (λ (y : AckNack). IsKnown 6 flags body (submessages.AckNack y)) (some_is a s e3) (record {
+    subst (λ (y : AckNack). IsKnownKind 6 flags body (submessages.AckNack y)) (some_is a s e3) (record {
       kind = refl;
       flags_are = refl;
       body_is = record { from_set = ids.1; from_count = set.1; rest = n.1; ids = t0.0.parts; set = t1.reads; count = t2.0.parts };
       valid = record { reader = t0.1.0; writer = t0.1.1; count = t2.1 };
     }))))
 
-acknack_only : (flags : ℕ) (a : AckNack) (body : List ℕ) → IsKnown 6 flags body (submessages.AckNack a) → acknack_at flags body ≡ Some a
+acknack_only : (flags : ℕ) (a : AckNack) (body : List ℕ) → IsKnownKind 6 flags body (submessages.AckNack a) → acknack_at flags body ≡ Some a
 unfolding acknack_at
 acknack_only flags a body k =
     let x = k.body_is in
@@ -128,7 +128,7 @@ acknack_only flags a body k =
     )
     (ap (λ (b : Bool). Some (record { reader_id = a.reader_id; writer_id = a.writer_id; reader_sn_state = a.reader_sn_state; count = a.count; final_flag = b })) k.flags_are)
 
-gap_found : (flags : ℕ) (body : List ℕ) (s : Gap) → AreOctets body → gap_at flags body ≡ Some s → IsKnown 8 flags body (submessages.Gap s)
+gap_found : (flags : ℕ) (body : List ℕ) (s : Gap) → AreOctets body → gap_at flags body ≡ Some s → IsKnownKind 8 flags body (submessages.Gap s)
 unfolding gap_at
 gap_found flags body s octets e =
     let order = order_of flags in
@@ -138,14 +138,14 @@ gap_found flags body s octets e =
     let t1 = set_found order x.1 set t0.0.octets q2 in
     let g : Gap = record { reader_id = x.0.0.0; writer_id = x.0.0.1; gap_start = x.0.1; gap_list = set.0 } in
     let first = guard_some (ltb x.0.1 1) (Some g) s e2 in
-    subst (λ (y : Gap). IsKnown 8 flags body (submessages.Gap y)) (some_is g s first.1) (record {
+    subst (λ (y : Gap). IsKnownKind 8 flags body (submessages.Gap y)) (some_is g s first.1) (record {
       kind = refl;
       flags_are = tt;
       body_is = record { from_set = x.1; rest = set.1; head = t0.0.parts; set = t1.reads };
       valid = record { reader = t0.1.0.0; writer = t0.1.0.1; first = ltb-false _ _ first.0; small = t0.1.1 };
     })))
 
-gap_only : (flags : ℕ) (g : Gap) (body : List ℕ) → IsKnown 8 flags body (submessages.Gap g) → gap_at flags body ≡ Some g
+gap_only : (flags : ℕ) (g : Gap) (body : List ℕ) → IsKnownKind 8 flags body (submessages.Gap g) → gap_at flags body ≡ Some g
 unfolding gap_at
 gap_only flags g body k =
     let x = k.body_is in
@@ -161,10 +161,10 @@ gap_only flags g body k =
 
 -- what is known of the submessage that a part of a kind makes
 of_kind : {X : Type 0} (id number flags : ℕ) (body : List ℕ) (s : Submessage) (make : X → Submessage) (part : Option X)
-    → ((x : X) → part ≡ Some x → IsKnown number flags body (make x)) → id ≡ number → option_map make part ≡ Some s → IsKnown id flags body s
-of_kind id number flags body s make part found is e = mapped_some make part s e (λ x q r. subst (λ (n : ℕ). IsKnown n flags body s) (sym is) (subst (λ (y : Submessage). IsKnown number flags body y) r (found x q)))
+    → ((x : X) → part ≡ Some x → IsKnownKind number flags body (make x)) → id ≡ number → option_map make part ≡ Some s → IsKnownKind id flags body s
+of_kind id number flags body s make part found is e = mapped_some make part s e (λ x q r. subst (λ (n : ℕ). IsKnownKind n flags body s) (sym is) (subst (λ (y : Submessage). IsKnownKind number flags body y) r (found x q)))
 
-pub known_found : (id flags : ℕ) (body : List ℕ) (s : Submessage) → AreOctets body → known_at id flags body ≡ Some s → IsKnown id flags body s
+pub known_found : (id flags : ℕ) (body : List ℕ) (s : Submessage) → AreOctets body → known_at id flags body ≡ Some s → IsKnownKind id flags body s
 unfolding known_at
 known_found id flags body s octets e =
     let at_8 = cond (eqb id 8) (option_map submessages.Gap (gap_at flags body)) None in
@@ -173,17 +173,17 @@ known_found id flags body s octets e =
     let at_7 = cond (eqb id 7) (option_map submessages.Heartbeat (heartbeat_at flags body)) at_21 in
     let at_9 = cond (eqb id 9) (option_map submessages.InfoTs (info_ts_at flags body)) at_7 in
     let at_14 = cond (eqb id 14) (option_map submessages.InfoDst (info_dst_at body)) at_9 in
-    cond_is {P = IsKnown id flags body s} (eqb id 1) (Some submessages.Pad) at_14 (Some s) e
-    (λ is p. subst (λ (y : Submessage). IsKnown id flags body y) (some_is submessages.Pad s p) (record { kind = eqb-true id 1 is; flags_are = tt; body_is = tt; valid = tt }))
+    cond_is {P = IsKnownKind id flags body s} (eqb id 1) (Some submessages.Pad) at_14 (Some s) e
+    (λ is p. subst (λ (y : Submessage). IsKnownKind id flags body y) (some_is submessages.Pad s p) (record { kind = eqb-true id 1 is; flags_are = tt; body_is = tt; valid = tt }))
     (λ _ e0.
-    cond_is {P = IsKnown id flags body s} (eqb id 14) _ at_9 (Some s) e0 (λ is p. of_kind id 14 flags body s submessages.InfoDst (info_dst_at body) (λ x. info_dst_found flags body x octets) (eqb-true id 14 is) p) (λ _ e1.
-    cond_is {P = IsKnown id flags body s} (eqb id 9) _ at_7 (Some s) e1 (λ is p. of_kind id 9 flags body s submessages.InfoTs (info_ts_at flags body) (λ x. info_ts_found flags body x octets) (eqb-true id 9 is) p) (λ _ e2.
-    cond_is {P = IsKnown id flags body s} (eqb id 7) _ at_21 (Some s) e2 (λ is p. of_kind id 7 flags body s submessages.Heartbeat (heartbeat_at flags body) (λ x. heartbeat_found flags body x octets) (eqb-true id 7 is) p) (λ _ e3.
-    cond_is {P = IsKnown id flags body s} (eqb id 21) _ at_6 (Some s) e3 (λ is p. of_kind id 21 flags body s submessages.Data (data_at flags body) (λ x q. let f = data_found flags body x octets q in record { kind = refl; flags_are = f.standard; body_is = f.reads; valid = f.valid }) (eqb-true id 21 is) p) (λ _ e4.
-    cond_is {P = IsKnown id flags body s} (eqb id 6) _ at_8 (Some s) e4 (λ is p. of_kind id 6 flags body s submessages.AckNack (acknack_at flags body) (λ x. acknack_found flags body x octets) (eqb-true id 6 is) p) (λ _ e5.
-    cond_is {P = IsKnown id flags body s} (eqb id 8) _ None (Some s) e5 (λ is p. of_kind id 8 flags body s submessages.Gap (gap_at flags body) (λ x. gap_found flags body x octets) (eqb-true id 8 is) p) (λ _ e6. absurd cc)))))))
+    cond_is {P = IsKnownKind id flags body s} (eqb id 14) _ at_9 (Some s) e0 (λ is p. of_kind id 14 flags body s submessages.InfoDst (info_dst_at body) (λ x. info_dst_found flags body x octets) (eqb-true id 14 is) p) (λ _ e1.
+    cond_is {P = IsKnownKind id flags body s} (eqb id 9) _ at_7 (Some s) e1 (λ is p. of_kind id 9 flags body s submessages.InfoTs (info_ts_at flags body) (λ x. info_ts_found flags body x octets) (eqb-true id 9 is) p) (λ _ e2.
+    cond_is {P = IsKnownKind id flags body s} (eqb id 7) _ at_21 (Some s) e2 (λ is p. of_kind id 7 flags body s submessages.Heartbeat (heartbeat_at flags body) (λ x. heartbeat_found flags body x octets) (eqb-true id 7 is) p) (λ _ e3.
+    cond_is {P = IsKnownKind id flags body s} (eqb id 21) _ at_6 (Some s) e3 (λ is p. of_kind id 21 flags body s submessages.Data (data_at flags body) (λ x q. let f = data_found flags body x octets q in record { kind = refl; flags_are = f.standard; body_is = f.reads; valid = f.valid }) (eqb-true id 21 is) p) (λ _ e4.
+    cond_is {P = IsKnownKind id flags body s} (eqb id 6) _ at_8 (Some s) e4 (λ is p. of_kind id 6 flags body s submessages.AckNack (acknack_at flags body) (λ x. acknack_found flags body x octets) (eqb-true id 6 is) p) (λ _ e5.
+    cond_is {P = IsKnownKind id flags body s} (eqb id 8) _ None (Some s) e5 (λ is p. of_kind id 8 flags body s submessages.Gap (gap_at flags body) (λ x. gap_found flags body x octets) (eqb-true id 8 is) p) (λ _ e6. absurd cc)))))))
 
-pub known_only : (id flags : ℕ) (body : List ℕ) (s : Submessage) → IsKnown id flags body s → known_at id flags body ≡ Some s
+pub known_only : (id flags : ℕ) (body : List ℕ) (s : Submessage) → IsKnownKind id flags body s → known_at id flags body ≡ Some s
 unfolding known_at info_dst_at info_ts_at
 known_only id flags body submessages.Pad k = rw k.kind refl
 known_only id flags body (submessages.InfoDst prefix) k = rw (k.kind, k.body_is.1, field_prefix.again prefix k.body_is.0 k.valid) refl
@@ -192,14 +192,14 @@ known_only id flags body (submessages.InfoTs (Some n)) k = rw k.kind (ap (option
 known_only id flags body (submessages.Heartbeat h) k = rw k.kind (ap (option_map submessages.Heartbeat) (heartbeat_only flags h body k.body_is.0 k.valid k.flags_are.0 k.flags_are.1 k.body_is.1))
 known_only id flags body (submessages.Data d) k = rw k.kind (ap (option_map submessages.Data) (data_only flags d body k.flags_are k.body_is k.valid))
 known_only id flags body (submessages.AckNack a) k =
-    let same : IsKnown 6 flags body (submessages.AckNack a) = record { kind = refl; flags_are = k.flags_are; body_is = k.body_is; valid = k.valid } in
+    let same : IsKnownKind 6 flags body (submessages.AckNack a) = record { kind = refl; flags_are = k.flags_are; body_is = k.body_is; valid = k.valid } in
     rw k.kind (ap (option_map submessages.AckNack) (acknack_only flags a body same))
 known_only id flags body (submessages.Gap g) k =
-    let same : IsKnown 8 flags body (submessages.Gap g) = record { kind = refl; flags_are = k.flags_are; body_is = k.body_is; valid = k.valid } in
+    let same : IsKnownKind 8 flags body (submessages.Gap g) = record { kind = refl; flags_are = k.flags_are; body_is = k.body_is; valid = k.valid } in
     rw k.kind (ap (option_map submessages.Gap) (gap_only flags g body same))
 known_only id flags body (submessages.Other i) k = absurd k.valid
 
-pub Reads-from_known : (id flags : ℕ) (body : List ℕ) (s : Submessage) → IsKnown id flags body s → Reads id flags body s
+pub Reads-from_known : (id flags : ℕ) (body : List ℕ) (s : Submessage) → IsKnownKind id flags body s → Reads id flags body s
 Reads-from_known id flags body submessages.Pad k = k
 Reads-from_known id flags body (submessages.InfoDst prefix) k = k
 Reads-from_known id flags body (submessages.InfoTs moment) k = k
@@ -216,7 +216,7 @@ Reads-found (Some s) id flags body octets e = Reads-from_known id flags body s (
 
 -- a submessage that is known, or another one
 reads_cases : (id flags : ℕ) (body : List ℕ) (s : Submessage) → Reads id flags body s
-    → IsKnown id flags body s ⊎ ((s ≡ submessages.Other id) × ((t : Submessage) → IsKnown id flags body t → ⊥))
+    → IsKnownKind id flags body s ⊎ ((s ≡ submessages.Other id) × ((t : Submessage) → IsKnownKind id flags body t → ⊥))
 reads_cases id flags body submessages.Pad r = inl r
 reads_cases id flags body (submessages.InfoDst prefix) r = inl r
 reads_cases id flags body (submessages.InfoTs moment) r = inl r

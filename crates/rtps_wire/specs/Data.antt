@@ -20,7 +20,7 @@ use Rattle.rtps_wire.specs.declared.data.Data.{Data}
 use Rattle.rtps_wire.specs.declared.data.DataContent.{DataContent}
 use Rattle.rtps_wire.specs.declared.data.DataContent.TheVariants.{Write, Dispose, Unregister, DisposeUnregister}
 use Rattle.rtps_wire.specs.Fields.{has_flag, order_of, sn_text, IsEntityId}
-use Rattle.rtps_wire.specs.Parameters.{Parameter, parameter_text, ReadsParameters, value_of, status_of}
+use Rattle.rtps_wire.specs.Parameters.{Parameter, parameter_text, ReadsParameters, parameter_value, status_of}
 use Rattle.rtps_wire.specs.Names.{extra_flags, flag_data, flag_endianness, flag_inline_qos, flag_key, least_octets_to_inline_qos, len_key, pid_key_hash, pid_sentinel, pid_status_info, status_disposed, status_unregistered}
 
 -- extraFlags, octetsToInlineQos, readerId, writerId, writerSN
@@ -38,7 +38,7 @@ abbrev pub ShowsKey : Bool → Bool → List Parameter → List ℕ → Key → 
 ShowsKey true true ps payload k = ⊥
 ShowsKey true false ps payload k = (value : List ℕ) × ReadsDatum payload (record { key = k; value = value })
 ShowsKey false true ps payload k = ReadsKey payload k
-ShowsKey false false ps payload k = value_of pid_key_hash ps ≡ Some k.0
+ShowsKey false false ps payload k = parameter_value pid_key_hash ps ≡ Some k.0
 
 -- What is said, by the flags D and K, the parameters and the payload.
 abbrev pub SaysContent : ℕ → List Parameter → List ℕ → DataContent → Type 0

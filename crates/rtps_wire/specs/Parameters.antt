@@ -37,10 +37,10 @@ ReadsParameters order bytes (p ∷ ps) rest =
     (after : List ℕ) × IsParameter p × (bytes ≡ parameter_text order p ++ after) × ReadsParameters order after ps rest
 
 -- Of a repeated parameter the first counts.
-abbrev pub value_of : ℕ → List Parameter → Option (List ℕ)
-value_of id [] = None
-value_of id (p ∷ ps) = if p.id == id then Some p.value else value_of id ps
+abbrev pub parameter_value : ℕ → List Parameter → Option (List ℕ)
+parameter_value id [] = None
+parameter_value id (p ∷ ps) = if p.id == id then Some p.value else parameter_value id ps
 
 -- the last octet of the status info, 0 where there is none
 abbrev pub status_of : List Parameter → ℕ
-status_of ps = slice_index (unwrap_or (value_of pid_status_info ps) []) 3
+status_of ps = slice_index (unwrap_or (parameter_value pid_status_info ps) []) 3

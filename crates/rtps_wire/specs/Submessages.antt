@@ -59,7 +59,7 @@ IsValid (Gap g) = IsGap g
 IsValid (Other id) = ⊥
 
 -- This id, these flags and this body are the submessage.
-pub record IsKnown (id flags : ℕ) (body : List ℕ) (s : Submessage) : Type 0 where
+pub record IsKnownKind (id flags : ℕ) (body : List ℕ) (s : Submessage) : Type 0 where
   pub kind : id ≡ id_of s
   pub flags_are : FlagsAre flags s
   pub body_is : BodyIs flags body s
@@ -67,8 +67,8 @@ pub record IsKnown (id flags : ℕ) (body : List ℕ) (s : Submessage) : Type 0 
 
 -- What is no valid submessage of a known kind is `Other`, by its id.
 abbrev pub Reads : ℕ → ℕ → List ℕ → Submessage → Type 0
-Reads id flags body (Other other) = (other ≡ id) × ((s : Submessage) → IsKnown id flags body s → ⊥)
-Reads id flags body s = IsKnown id flags body s
+Reads id flags body (Other other) = (other ≡ id) × ((s : Submessage) → IsKnownKind id flags body s → ⊥)
+Reads id flags body s = IsKnownKind id flags body s
 
 -- what can be written
 abbrev pub IsSpellable : Submessage → Type 0

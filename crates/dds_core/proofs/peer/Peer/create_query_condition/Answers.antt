@@ -7,7 +7,7 @@ use Rattle.dds_conditions.specs.declared.condition.Condition.TheVariants.{Sample
 use Rattle.dds_conditions.specs.Watched.{Watched, has_filter, number_refusal, with_condition}
 use Rattle.dds_model.specs.declared.reply.Reply.TheVariants.{Created}
 use Rattle.dds_model.specs.Calls.{IsAnsweredInMemory}
-use Rattle.dds_model.specs.Numbered.{has_number}
+use Rattle.dds_model.specs.Numbered.{has_element}
 use Rattle.dds_model.specs.Watching.{query_condition_refusal, read_condition_refusal}
 use Rattle.dds_core.specs.Watching.{made_reply}
 use Rattle.dds_core.proofs.CallSteps.{follows_as, known_end, still_stands}
@@ -18,7 +18,7 @@ pub returns-clause-step : goal.returns-clause-step
 returns-clause-step c = λ config peer given.
     let s = still_stands c.self.view_is given in
     let within : c.in-Some._reader < length c.self.inside.readers.items = search rules in
-    let known : has_number peer.part.dds.readers c.args.reader ≡ true =
+    let known : has_element peer.part.dds.readers c.args.reader ≡ true =
     known_end peer.part.dds.readers c.args.reader c.in-Some._reader _ c.in-Some.ensures.0 within s.readers.count in
     let here : has_filter c.self.inside.watch c.args.filter ≡ true = search rules in
     let there : has_filter peer.part.dds.watch c.args.filter ≡ true = ap (λ (w : Watched). has_filter w c.args.filter) s.watch ∙ here in

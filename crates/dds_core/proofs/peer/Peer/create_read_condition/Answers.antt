@@ -8,7 +8,7 @@ use Rattle.dds_conditions.specs.declared.condition.Condition.TheVariants.{Sample
 use Rattle.dds_conditions.specs.Watched.{number_refusal, with_condition}
 use Rattle.dds_model.specs.declared.reply.Reply.TheVariants.{Created}
 use Rattle.dds_model.specs.Calls.{IsAnsweredInMemory}
-use Rattle.dds_model.specs.Numbered.{has_number}
+use Rattle.dds_model.specs.Numbered.{has_element}
 use Rattle.dds_core.specs.Watching.{made_reply}
 use Rattle.dds_core.proofs.CallSteps.{follows_as, known_end, still_stands}
 use Rattle.dds_core.proofs.Watched.{given_in_memory}
@@ -18,7 +18,7 @@ pub returns-clause-step : goal.returns-clause-step
 returns-clause-step c = λ config peer given.
     let s = still_stands c.self.view_is given in
     let within : c.in-Some._index < length c.self.inside.readers.items = search rules in
-    let known : has_number peer.part.dds.readers c.args.reader ≡ true =
+    let known : has_element peer.part.dds.readers c.args.reader ≡ true =
     known_end peer.part.dds.readers c.args.reader c.in-Some._index _ c.in-Some.ensures.0 within s.readers.count in
     follows_as _ config peer _ _ _ c.answered.ensures
     (given_in_memory (λ n. Created n) made_reply (λ n. refl) (λ code. refl) (λ w. number_refusal w.conditions) (λ w. length w.conditions + 1) (λ w. with_condition w (Samples c.args.reader c.args.masks None)) _

@@ -6,7 +6,7 @@ use Rattle.dds_base.specs.Access.{has_match}
 use Rattle.dds_conditions.specs.declared.condition.Condition.{Condition}
 use Rattle.dds_conditions.specs.declared.condition.Condition.TheVariants.{Samples}
 use Rattle.dds_model.specs.Part.{own_reader}
-use Rattle.dds_model.specs.Watching.{test_of, value_of}
+use Rattle.dds_model.specs.Watching.{test_of, condition_value}
 use Rattle.dds_core.specs.Kept.{ReaderKept}
 use Rattle.dds_core.proofs.CallSteps.{number_is}
 use Rattle.dds_core.proofs.peer.Peer.value_of.Goals as goal
@@ -21,4 +21,4 @@ returns-in-Some g c = λ config peer given.
     let at : slice_get c.self.inside.readers.items i ≡ Some c.index.result.now = slice_get-get_or c.self.inside.readers.items i _ within ∙ ap (λ (x : ReaderKept). Some x) (sym c.index.ensures) in
     c.has_match.ensures _ _ _ (s.readers.each i c.index.result.now at)
     ∙ (ap (λ (n : ℕ). has_match (own_reader peer.part n).qos (own_reader peer.part n).happened c.in-Some-Samples.masks (test_of tests c.in-Some-Samples.filter)) (number_is c.in-Some-Samples.reader i c.in-Some.ensures.0)
-    ∙ ap (λ (x : Option Condition). value_of tests peer.part x) whole)
+    ∙ ap (λ (x : Option Condition). condition_value tests peer.part x) whole)

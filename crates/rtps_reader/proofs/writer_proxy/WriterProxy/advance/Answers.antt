@@ -5,7 +5,7 @@ use Rattle.dds_base.specs.declared.happening.Happening.{Happening}
 use Rattle.dds_base.specs.declared.qos.ReaderQos.{ReaderQos}
 use Rattle.dds_base.specs.Presence.{has_room}
 use Rattle.dds_base.specs.Places.{coming}
-use Rattle.rtps_sets.specs.Window.{mark_of, place_of}
+use Rattle.rtps_sets.specs.Window.{mark_of, window_place}
 use Rattle.rtps_sets.specs.declared.window.Mark.TheVariants as mark
 use Rattle.rtps_reader.specs.Tracked.{Held}
 use Rattle.rtps_reader.specs.Advance.{HandsOn}
@@ -36,7 +36,7 @@ pub moving-preserved : goal.moving-preserved
 moving-preserved g c =
     let it = c.moving.invariant in
     let yes = c.if-not-hand_on.false in
-    let start : ℕ = place_of c.args.self.now.window in
+    let start : ℕ = window_place c.args.self.now.window in
     let qos : g.S.Sink.qos c.pass_over.new.sink ≡ g.S.Sink.qos c.args.sink.now = c.pass_over.ensures.qos ∙ it.qos in
     let over_it = c.pass_over.ensures.passes in
     let hand = c.hand_on.ensures.handed yes in
@@ -48,10 +48,10 @@ moving-preserved g c =
     let outside : (n : ℕ) → start + 256 ≤ n
     → mark_of c.pass_over.new.self.window n ≡ None = λ n le. c.pass_over.ensures.outside n (it.outside n le) in
     let was = c.hand_on.ensures.was_marked yes in
-    let within : place_of c.pass_over.new.self.window < start + 256 =
-    marked_within start (place_of c.pass_over.new.self.window)
+    let within : window_place c.pass_over.new.self.window < start + 256 =
+    marked_within start (window_place c.pass_over.new.self.window)
     (λ le. let none : Some mark.Held ≡ None = sym was
-    ∙ outside (place_of c.pass_over.new.self.window) le in absurd (cc)) in
+    ∙ outside (window_place c.pass_over.new.self.window) le in absurd (cc)) in
     let runs = it.runs in
     let spare = it.spare in
     let more_runs = c.pass_over.ensures.runs in
@@ -83,20 +83,20 @@ returns-then-not-hand_on-clause-moves g c h st =
     let stays = c.hand_on.ensures.stays no_more in
     let progress : Progress (match_of (g.S.Sink.qos c.args.sink.now) c.args.source.now)
     (tracked c.args.self.now) h c.pass_over.new.runs.items (tracked c.pass_over.new.self)
-    (g.S.Sink.stands c.pass_over.new.sink) (place_of c.pass_over.new.self.window + 1) =
+    (g.S.Sink.stands c.pass_over.new.sink) (window_place c.pass_over.new.self.window + 1) =
     over _ _ h _ _ (tracked c.moving.self) (tracked c.pass_over.new.self) _ _ (it.progress h st) over_it
     in
     let full : (change : Change) (happened : List Happening)
-    → (tracked c.pass_over.new.self).slot (place_of c.pass_over.new.self.window) ≡ Held change
+    → (tracked c.pass_over.new.self).slot (window_place c.pass_over.new.self.window) ≡ Held change
     → g.S.Sink.stands c.pass_over.new.sink happened
     → has_room (g.S.Sink.qos c.args.sink.now) happened
     (coming (match_of (g.S.Sink.qos c.args.sink.now) c.args.source.now)
-    (record { place = place_of c.pass_over.new.self.window; happened = happened }) change) ≡ false =
+    (record { place = window_place c.pass_over.new.self.window; happened = happened }) change) ≡ false =
     subst (λ (q : ReaderQos). (change : Change) (happened : List Happening)
-    → (tracked c.pass_over.new.self).slot (place_of c.pass_over.new.self.window) ≡ Held change
+    → (tracked c.pass_over.new.self).slot (window_place c.pass_over.new.self.window) ≡ Held change
     → g.S.Sink.stands c.pass_over.new.sink happened
     → has_room q happened (coming (match_of q c.args.source.now)
-    (record { place = place_of c.pass_over.new.self.window; happened = happened }) change) ≡ false) qos
+    (record { place = window_place c.pass_over.new.self.window; happened = happened }) change) ≡ false) qos
     (c.hand_on.ensures.full no_more)
     in
     rw stays.1 (stopped (match_of (g.S.Sink.qos c.args.sink.now) c.args.source.now)

@@ -1,7 +1,7 @@
 use Rattle.std.proofs.Common.{◌≡◌, ◌≤◌, ◌<◌, ◌+◌, ◌*◌, ◌-◌, min, ℕ, List, vec_len, vec_capacity}
 use Rattle.std.specs.Prelude.{None}
 use Rattle.dds_base.specs.declared.happening.Happening.{Happening}
-use Rattle.rtps_sets.specs.Window.{mark_of, place_of}
+use Rattle.rtps_sets.specs.Window.{mark_of, window_place}
 use Rattle.rtps_reader.specs.Proxy.{match_of, tracked, IsSound}
 use Rattle.rtps_reader.proofs.MoveLaws.{Progress}
 use Rattle.rtps_reader.proofs.writer_proxy.WriterProxy.advance.Given as goal
@@ -10,14 +10,14 @@ abbrev pub invariant-moving : goal.invariant-moving
 invariant-moving g l = record {
   sound : IsSound l.self;
   qos : g.S.Sink.qos l.sink ≡ g.S.Sink.qos l.fn.sink;
-  outside : (n : ℕ) → place_of l.fn.self.window + 256 ≤ n → mark_of l.self.window n ≡ None;
+  outside : (n : ℕ) → window_place l.fn.self.window + 256 ≤ n → mark_of l.self.window n ≡ None;
   runs : vec_len l.runs + min (vec_len l.self.held)
-      (place_of l.fn.self.window + 256 - place_of l.self.window) < vec_capacity l.runs;
+      (window_place l.fn.self.window + 256 - window_place l.self.window) < vec_capacity l.runs;
   spare : 2 * min (vec_len l.self.held)
-      (place_of l.fn.self.window + 256 - place_of l.self.window) + 2 ≤ g.S.Sink.spare l.sink;
+      (window_place l.fn.self.window + 256 - window_place l.self.window) + 2 ≤ g.S.Sink.spare l.sink;
   progress : (h : List Happening) → g.S.Sink.stands l.fn.sink h
       → Progress (match_of (g.S.Sink.qos l.fn.sink) l.source) (tracked l.fn.self) h l.runs.items (tracked l.self)
-      (g.S.Sink.stands l.sink) (place_of l.self.window);
+      (g.S.Sink.stands l.sink) (window_place l.self.window);
 }
 
 abbrev pub decreases-moving : goal.decreases-moving

@@ -5,7 +5,7 @@ use Rattle.dds_base.specs.declared.happening.Happening.{Happening}
 use Rattle.dds_base.specs.declared.happening.Happening.TheVariants.{Came}
 use Rattle.dds_base.specs.Presence.{has_room}
 use Rattle.dds_base.specs.Places.{coming}
-use Rattle.rtps_sets.specs.Window.{mark_of, place_of}
+use Rattle.rtps_sets.specs.Window.{mark_of, window_place}
 use Rattle.rtps_sets.specs.declared.window.Mark.TheVariants as mark
 use Rattle.rtps_reader.specs.Proxy.{match_of, change_at, stamped}
 use Rattle.rtps_reader.proofs.MoveLaws.{comes_now}
@@ -14,7 +14,7 @@ use Rattle.rtps_reader.proofs.writer_proxy.WriterProxy.hand_on.Goals as goal
 pub returns-clause-handed : goal.returns-clause-handed
 returns-clause-handed g c came_on =
     let arrival : Arrival = c.take_out-arrival.result in
-    let place : ℕ = place_of c.args.self.now.window in
+    let place : ℕ = window_place c.args.self.now.window in
     let x : Arrival = slice_index_or c.args.self.now.held.items c.in-Some.at arrival in
     let is : arrival ≡ stamped c.args.source.now x = c.take_out-arrival.ensures.taken arrival
     ∙ c.stamp.ensures.arrival arrival in

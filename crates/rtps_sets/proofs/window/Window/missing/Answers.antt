@@ -2,7 +2,7 @@ use Rattle.std.proofs.Common.{◌≡◌, ℕ, ◌+◌, ◌&&◌, true, false, �
 use Rattle.std.specs.Prelude.{is_none, ◌==◌, nat_le, nat_lt}
 use Rattle.std.proofs.lemmas.Bool.{cases_lt}
 use Rattle.rtps_sets.specs.NumberSet.{NumberSet, has_number}
-use Rattle.rtps_sets.specs.Window.{mark_in, mark_of, place_of, is_in_window}
+use Rattle.rtps_sets.specs.Window.{mark_in, mark_of, window_place, is_in_window}
 use Rattle.rtps_sets.proofs.MarkLaws.{looked_at, ends_at, one_taken, one_left}
 use Rattle.rtps_sets.proofs.window.Window.missing.Goals as goal
 use Rattle.rtps_sets.proofs.window.Window.missing.Goals.{then-is_none, else-is_none}
@@ -44,7 +44,7 @@ returns-after-is_none-clause-members c =
           ap (λ (s : NumberSet). has_number s n) w.set-is ∙ (c.loop-number.invariant.members n ∙ (one_left c.self.inside.place c.loop-number.number n c.self.inside.marked.items known ∙ end c n))
     ]
   where
-    end : (c : goal.Else-number-last) (n : ℕ) → ((nat_le c.self.inside.place n && nat_lt n (c.loop-number.number + 1)) && is_none (mark_in c.self.inside.marked.items n)) ≡ (is_in_window (place_of c.args.self.now) n && (nat_le n c.args.bound && is_none (mark_of c.args.self.now n)))
+    end : (c : goal.Else-number-last) (n : ℕ) → ((nat_le c.self.inside.place n && nat_lt n (c.loop-number.number + 1)) && is_none (mark_in c.self.inside.marked.items n)) ≡ (is_in_window (window_place c.args.self.now) n && (nat_le n c.args.bound && is_none (mark_of c.args.self.now n)))
     end c n =
         rw (← c.self.view_is) (looked_at c.self.inside.place c.args.bound (c.loop-number.number + 1) n _ (λ from. ends_at c.self.inside.place c.args.bound c.min-last.result (c.loop-number.number + 1) n
         (omega (arith, c.min-last.ensures, c.number.ensures.number)) (omega (arith, c.min-last.ensures, c.saturating_add.ensures))
