@@ -1,5 +1,6 @@
 //! Messages and their octets.
 
+mod captured;
 mod headers;
 mod other_forms;
 mod written;
@@ -8,6 +9,7 @@ use crate::tests::rows::{
     Subject, Words, expect_rows, number_of, octets_of, push_hex, push_octets, words_of,
 };
 use crate::tests::sets::push_set;
+use captured::CAPTURED;
 use dds_base::{DatumRef, EntityId, GuidPrefix, Key, Sn};
 use headers::{CUT, HEADERS};
 use other_forms::OTHER_FORMS;
@@ -240,4 +242,5 @@ fn messages_answer(rt: HostRuntime) {
     expect_rows(&rt, alloc, &mut Messages, OTHER_FORMS);
     expect_rows(&rt, alloc, &mut Messages, HEADERS);
     expect_rows(&rt, alloc, &mut Messages, CUT);
+    expect_rows(&rt, alloc, &mut Messages, CAPTURED);
 }
