@@ -1,6 +1,7 @@
 //! The program: one peer, which answers lines. Who reads and writes them carries its packets, and says what time it is.
 //!
 //! Nothing is claimed by contracts here: what is printed is tested. What the peer answers is proved in `dds_core`.
+//! Not here: a network (`dds_peer`).
 #![tactic(auto)]
 
 mod line;

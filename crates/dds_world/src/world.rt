@@ -30,6 +30,9 @@ use std::marker::Model;
 
 /// Peers, which are numbered from 1, and all packets that they ever sent. Their filters and their listeners are boxes, unless
 /// `F` and `L` name types of the application's own.
+///
+/// It keeps each packet, so that it can be delivered at any time and again: its memory grows with what is sent, without a
+/// bound, and is given back when the network is dropped.
 #[derive(Drop)]
 pub struct World<F = Box<dyn Filter + Send>, L = Box<dyn Listener + Send>> {
     pub(crate) alloc: Global,
@@ -393,7 +396,7 @@ impl<F: Filter, L: Listener> World<F, L> {
         reply
     }
 
-    /// The packet of this number, counted from 1 among all that were sent.
+    /// The packet of this number, counted from 1 among all that were sent; `None` where fewer were, and for 0.
     pub fn packet(&self, number: u64) -> Option<&Packet>
         // The packet of this number, exactly if it was sent.
         ensures found { 1 ≤ number → option_copied result ≡ slice_get self.now.sent (number - 1) }
