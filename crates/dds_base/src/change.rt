@@ -55,7 +55,9 @@ impl ChangeKind {
 /// RTPS 2.5, 8.2 (CacheChange).
 #[derive(Debug, Drop)]
 pub struct Change {
+    /// What it does to the instance.
     pub kind: ChangeKind,
+    /// The instance.
     pub key: Key,
     /// The octets of the topic type's value; empty for all kinds but a write.
     pub value: Octets,

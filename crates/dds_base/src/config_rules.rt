@@ -27,7 +27,9 @@ const LEASE_END: u64 = 1 << 63;
 /// before an inconsistent policy anywhere.
 #[derive(Clone, Copy)]
 pub enum Pass {
+    /// The rules of each parameter by itself.
     Parameters,
+    /// The rules of policies with one another.
     Policies,
 }
 

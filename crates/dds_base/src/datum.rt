@@ -24,6 +24,7 @@ pub const MAX_VALUE: usize = 1024;
 /// A sample of the topic type: the key of its instance, and a value.
 #[derive(Debug, Drop)]
 pub struct Datum {
+    /// The instance.
     pub key: Key,
     /// At most `MAX_VALUE` octets, where it has a written form.
     pub value: Octets,

@@ -87,6 +87,8 @@ impl EntityId {
 /// RTPS 2.5, 8.2 (GUID_t).
 #[derive(Clone, Copy, Debug, PartialEq, Eq)]
 pub struct Guid {
+    /// Its peer.
     pub prefix: GuidPrefix,
+    /// Which of the peer's writers and readers it is.
     pub entity: EntityId,
 }

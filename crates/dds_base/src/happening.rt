@@ -25,7 +25,9 @@ pub struct Arrival {
 /// The changes from `first` to `last` of a writer, both of them too, which a reader passed over. `first` is at most `last`.
 #[derive(Clone, Copy, Debug, PartialEq, Eq)]
 pub struct PassedRun {
+    /// From 1.
     pub first: Sn,
+    /// From `first`.
     pub last: Sn,
 }
 

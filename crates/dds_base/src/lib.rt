@@ -72,7 +72,6 @@ pub use guid::{EntityId, Guid, GuidPrefix};
 pub use handle::Handle;
 pub use happening::{Arrival, Happening, PassedRun, SamplePosition, StatusKind};
 pub use key::Key;
-pub use laws::owner_is_found;
 pub use mask::{InstanceStateMask, Masks, SampleStateMask, ViewStateMask};
 pub use moment::Moment;
 pub use octets::Octets;

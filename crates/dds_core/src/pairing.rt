@@ -21,7 +21,9 @@ use dds_model::Endpoint;
 /// A writer and a reader that it is matched with, by their entity ids.
 #[derive(Clone, Copy)]
 pub struct Pair {
+    /// The entity id of the writer at its peer.
     pub writer: EntityId,
+    /// The entity id of the reader at its peer.
     pub reader: EntityId,
     /// Whether the reader has not acknowledged all changes of the writer.
     pub is_behind: bool,

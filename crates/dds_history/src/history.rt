@@ -251,7 +251,10 @@ impl History {
         }
     }
 
-    /// The number of the last change; 0 before the first.
+    /// The number of the last change, kept or not, at most 2^48; 0 before the first, as lastSN is in a HEARTBEAT of a writer
+    /// without changes.
+    ///
+    /// RTPS 2.5, 8.3.8 (Heartbeat: lastSN).
     pub fn last(&self) -> Sn
         // So many changes were made.
         ensures last { (w : WriterHistory) → StandsFor self.now w → result ≡ length w.changes }

@@ -4,9 +4,8 @@
 //! Not here: when a writer is asserted or a moment has come, and what a death does to instances.
 #![tactic(auto)]
 
-mod laws;
+pub mod laws;
 mod leases;
 mod track;
 
-pub use laws::{deaths_go_in_turn, other_entries_change_nothing};
 pub use leases::Leases;

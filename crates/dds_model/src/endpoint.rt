@@ -8,6 +8,8 @@
 /// RTPS 2.5, 8.2 (Endpoint).
 #[derive(Clone, Copy, Debug, PartialEq, Eq)]
 pub struct Endpoint {
+    /// The number of its peer, from 1.
     pub peer: u8,
+    /// Its number among the writers, or among the readers, of that peer, from 1.
     pub number: u8,
 }

@@ -12,7 +12,9 @@ use std::alloc::AllocError;
 /// The bytes of a packet, and the number of the peer that it goes to, from 1. A network may deliver it anywhere.
 #[derive(Debug, Drop, PartialEq, Eq)]
 pub struct Packet {
+    /// The number of the peer that it is sent to, from 1.
     pub to: u8,
+    /// A message of RTPS, as `dds_core` writes it.
     pub bytes: Octets,
 }
 
@@ -32,6 +34,7 @@ pub enum Event {
 /// What a peer gives back: its answer, the packets that it sends, and how many it could not make for want of memory.
 #[derive(Debug, Drop, PartialEq, Eq)]
 pub struct Output {
+    /// What answers the event: `Event` and `Call` say which answers there are.
     pub reply: Reply,
     /// In the order in which they are sent.
     pub packets: Sequence<Packet>,

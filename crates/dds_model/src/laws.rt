@@ -12,7 +12,7 @@ ghost use Rattle.dds_model.specs.Laws.{AnswersAreTrue, AnswersCanBeWritten, Asse
 ghost use Rattle.dds_model.specs.Repair.{AnswersAreFew, AsksAreSent, BeatsAreSent, PairCatchesUp};
 
 use crate::event::{Event, Output};
-use dds_base::owner_is_found;
+use dds_base::laws::owner_is_found;
 
 /// All that packets claim is true at the opening of every configuration.
 pub fn opens_sound()

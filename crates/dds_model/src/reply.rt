@@ -43,6 +43,7 @@ pub enum Move {
 /// found no memory, from which on none was applied.
 #[derive(Debug, Drop, PartialEq, Eq)]
 pub struct Report {
+    /// In the order in which they were made.
     pub moves: Sequence<Move>,
     /// 0 also where the message could not be read for want of memory.
     pub refused: Option<u32>,

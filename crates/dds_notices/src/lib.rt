@@ -4,7 +4,7 @@
 //! Not here: when a status is raised.
 #![tactic(auto)]
 
-mod laws;
+pub mod laws;
 mod listener;
 mod mask;
 mod notice;
@@ -12,7 +12,6 @@ mod recorder;
 mod slot;
 mod slots;
 
-pub use laws::the_last_notices_stay;
 pub use listener::Listener;
 pub use mask::StatusMask;
 pub use notice::{Notice, Status};

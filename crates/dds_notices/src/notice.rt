@@ -27,5 +27,6 @@ pub enum Status {
 pub struct Notice {
     /// Whose status it is: a writer or a reader, also where the participant's listener is told.
     pub entity: Entity,
+    /// Which status was raised, and its values.
     pub status: Status,
 }

@@ -4,10 +4,9 @@
 //! Not here: which instances are known, and what an accepted change does to one.
 #![tactic(auto)]
 
-mod laws;
+pub mod laws;
 mod owners;
 mod ranking;
 mod registration;
 
-pub use laws::{nobody_is_registered_anew, other_entries_change_nothing};
 pub use owners::Owners;

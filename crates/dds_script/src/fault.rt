@@ -7,17 +7,22 @@ use thiserror::Error;
 /// A fault of the lines that are read, of the streams, or of memory. Lines are counted from 1.
 #[derive(Debug, Drop, Error)]
 pub enum Fault {
+    /// The line is no command of the language.
     #[error("line {line}: not a command")]
     NotACommand { line: u64 },
     /// The set-up was refused; the line is the first after it, or one past the last.
     #[error("line {line}: code {number}")]
     Refused { line: u64, number: u8 },
+    /// The input is longer than a program takes.
     #[error("input too long")]
     InputTooLong,
+    /// The input can't be read.
     #[error("input failed")]
     InputFailed,
+    /// What is printed can't be written.
     #[error("output failed")]
     OutputFailed,
+    /// There is no memory.
     #[error("memory")]
     Memory,
 }
@@ -42,7 +47,9 @@ impl Fault {
 /// How a program ended: its exit status, and the fault if there was one.
 #[derive(Drop)]
 pub struct Status {
+    /// The exit status: 0 where all lines were read.
     pub exit: u8,
+    /// What ended it early, if anything did.
     pub fault: Option<Fault>,
 }
 

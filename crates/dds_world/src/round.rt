@@ -19,6 +19,7 @@ use rtps_wire::{Sought, has_submessage};
 /// A reply of a round, with the counts of the network as they stood after it.
 #[derive(Debug, Drop)]
 pub struct RoundReply {
+    /// What answered the event.
     pub reply: Reply,
     /// How many packets had been sent.
     pub sent: u64,

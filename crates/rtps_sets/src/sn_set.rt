@@ -58,7 +58,7 @@ impl SnSet {
         Sn::new(self.base)
     }
 
-    /// Makes a number a member, whether or not it is one.
+    /// Makes a number a member, whether or not it is one. It must be one of the 256 from the base on.
     pub fn insert(&mut self, number: Sn)
         // The number is not below the base.
         requires from { self.old.base ≤ number }

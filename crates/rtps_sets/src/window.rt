@@ -166,7 +166,8 @@ impl Window {
         set
     }
 
-    /// Moves the place over marked numbers, as far as they go, but not past `to`.
+    /// Moves the place over marked numbers, as far as they go, but not past `to`, which may be any number: where it is at or
+    /// below the place nothing moves. It takes no memory.
     pub fn slide(&mut self, to: Sn)
         // The place does not go back.
         ensures forward { window_place self.old ≤ window_place self.new }

@@ -20,7 +20,9 @@ use rtps_sets::SnSet;
 /// RTPS 2.5, 8.3 (AckNack).
 #[derive(Clone, Copy, Debug)]
 pub struct AckNack {
+    /// The reader that speaks.
     pub reader_id: EntityId,
+    /// The writer that it is for, at the peer that INFO_DST names.
     pub writer_id: EntityId,
     /// Its base is from 1 to 2^62.
     pub reader_sn_state: SnSet,

@@ -29,10 +29,13 @@ use dds_base::{
 /// RTPS 2.5, 8.2 (ChangeKind_t): a change that is no write carries the key alone.
 #[derive(Debug, Drop)]
 pub enum DataContent<'a> {
+    /// The instance has this value.
     Write(DatumRef<'a>),
+    /// The instance exists no more.
     Dispose(Key),
+    /// The writer has nothing more to say of the instance.
     Unregister(Key),
-    /// Both at once.
+    /// The instance exists no more, and the writer has nothing more to say of it.
     DisposeUnregister(Key),
 }
 
@@ -41,10 +44,13 @@ pub enum DataContent<'a> {
 /// RTPS 2.5, 8.3 (Data).
 #[derive(Debug, Drop)]
 pub struct Data<'a> {
+    /// The reader that it is for; `EntityId::UNKNOWN` for all that are matched.
     pub reader_id: EntityId,
+    /// The writer that speaks, at the peer of the message.
     pub writer_id: EntityId,
     /// From 1 to 2^62.
     pub writer_sn: Sn,
+    /// What the change says, and of which instance.
     pub content: DataContent<'a>,
 }
 

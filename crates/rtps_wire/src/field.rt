@@ -48,7 +48,9 @@ pub fn take_entity_id(bytes: &[u8]) -> Option<(EntityId, &[u8])>
 /// What most bodies have in front: readerId and writerId.
 #[derive(Clone, Copy)]
 pub struct Ids {
+    /// The reader's.
     pub reader: EntityId,
+    /// The writer's.
     pub writer: EntityId,
 }
 

@@ -20,7 +20,9 @@ use rtps_sets::SnSet;
 /// RTPS 2.5, 8.3 (Gap).
 #[derive(Clone, Copy, Debug)]
 pub struct Gap {
+    /// The reader that it is for; `EntityId::UNKNOWN` for all that are matched.
     pub reader_id: EntityId,
+    /// The writer that speaks, at the peer of the message.
     pub writer_id: EntityId,
     /// From 1 to 2^62.
     pub gap_start: Sn,

@@ -19,7 +19,9 @@ use dds_base::{Code, EntityId, Sn};
 /// RTPS 2.5, 8.3 (Heartbeat).
 #[derive(Clone, Copy, Debug, PartialEq, Eq)]
 pub struct Heartbeat {
+    /// The reader that it is for; `EntityId::UNKNOWN` for all that are matched.
     pub reader_id: EntityId,
+    /// The writer that speaks, at the peer of the message.
     pub writer_id: EntityId,
     /// From 1 to `last_sn` plus 1.
     pub first_sn: Sn,

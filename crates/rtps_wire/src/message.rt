@@ -19,6 +19,7 @@ pub struct Message<'a> {
 /// A message, and where its reading ended. The bytes lend the values of its data.
 #[derive(Debug, Drop)]
 pub struct Read<'a> {
+    /// What was read.
     pub message: Message<'a>,
     /// An offset into the bytes: their length, or where a submessage stands whose length passes the end, or where
     /// fewer than 4 bytes are left.

@@ -18,18 +18,25 @@ pub const VENDOR_UNKNOWN: [u8; 2] = [0, 0];
 
 // ---- ids of submessages (9.4.5.1, submessageId)
 
+/// PAD: nothing.
 pub const ID_PAD: u8 = 0x01;
 
+/// ACKNACK: which changes a reader has, and which it misses.
 pub const ID_ACKNACK: u8 = 0x06;
 
+/// HEARTBEAT: which changes a writer has.
 pub const ID_HEARTBEAT: u8 = 0x07;
 
+/// GAP: changes that will not come.
 pub const ID_GAP: u8 = 0x08;
 
+/// INFO_TS: the source timestamp of what follows.
 pub const ID_INFO_TS: u8 = 0x09;
 
+/// INFO_DST: the peer that what follows is for.
 pub const ID_INFO_DST: u8 = 0x0e;
 
+/// DATA: a change of a writer.
 pub const ID_DATA: u8 = 0x15;
 
 // ---- flags of submessages

@@ -22,9 +22,13 @@ pub enum Submessage<'a> {
     InfoDst(GuidPrefix),
     /// What follows has this source timestamp, in units of 2^-32 second, or none.
     InfoTs(Option<u64>),
+    /// A change of a writer.
     Data(Data<'a>),
+    /// Which changes a writer has.
     Heartbeat(Heartbeat),
+    /// Which changes a reader has, and which it misses.
     AckNack(AckNack),
+    /// Changes that will not come.
     Gap(Gap),
     /// One that is not known or not valid, by its id. It is never written.
     Other(u8),

@@ -6,12 +6,11 @@
 
 mod answer;
 mod heartbeat;
-mod laws;
+pub mod laws;
 mod liveliness;
 mod registration;
 mod stateful_writer;
 
 pub use answer::{Answer, Answered};
 pub use heartbeat::HeartbeatDue;
-pub use laws::{acknowledgements_count_from_1, answers_are_right};
 pub use stateful_writer::StatefulWriter;
