@@ -7,6 +7,8 @@ use Rattle.std.specs.List.{list_any}
 use Rattle.dds_base.specs.declared.config.PeerConfig.{PeerConfig}
 use Rattle.dds_base.specs.declared.config.WriterConfig.{WriterConfig}
 use Rattle.dds_base.specs.declared.config.ReaderConfig.{ReaderConfig}
+use Rattle.dds_base.specs.declared.config_rules.PairPolicy.{PairPolicy}
+use Rattle.dds_base.specs.declared.config_rules.PairPolicy.TheVariants as policy
 use Rattle.dds_base.specs.declared.config_rules.Pass.{Pass}
 use Rattle.dds_base.specs.declared.config_rules.Pass.TheVariants.{Parameters, Policies}
 use Rattle.dds_base.specs.declared.config_fault.ConfigRule.{ConfigRule}
@@ -29,6 +31,11 @@ writer_rules Parameters p w =
     (Depth, has_no_depth w.history)
     ∷ (Maximum, not (is_maximum w.max_samples)) ∷ (Lease, is_bad_lease w.lease) ∷ []
 writer_rules Policies p w = (DepthWithinMaximum, exceeds_limit w.history w.max_samples) ∷ []
+
+-- a writer does not fit a reader that it is matched with, in this policy
+abbrev pub is_unfit : PairPolicy → WriterConfig → ReaderConfig → Bool
+is_unfit policy.Ownership w r = differ w.ownership r.ownership
+is_unfit policy.Lease w r = is_longer w.lease r.lease
 
 -- the rules of a reader
 abbrev pub reader_rules : Pass → List PeerConfig → PeerConfig → ReaderConfig → List (ConfigRule × Bool)

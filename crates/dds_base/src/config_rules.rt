@@ -6,8 +6,8 @@ ghost use Rattle.std.specs.Prelude.{◌≡◌, ℤ, ◌&&◌, List};
 ghost use Rattle.std.specs.List.{list_any};
 ghost use Rattle.dds_base.specs.declared.config.PeerConfig.{PeerConfig};
 ghost use Rattle.dds_base.specs.Matched.{same_topic, matched_writers_of};
-ghost use Rattle.dds_base.specs.Checked.{prefix_count, entity_count, has_no_depth, is_maximum, is_bad_lease, exceeds_limit, differ, is_longer};
-ghost use Rattle.dds_base.specs.FaultAt.{first_broken, whole_rules, peer_rules, writer_rules, reader_rules};
+ghost use Rattle.dds_base.specs.Checked.{prefix_count, entity_count, has_no_depth, is_maximum, is_bad_lease, exceeds_limit, is_longer};
+ghost use Rattle.dds_base.specs.FaultAt.{first_broken, is_unfit, whole_rules, peer_rules, writer_rules, reader_rules};
 
 use crate::config::{PeerConfig, ReaderConfig, WriterConfig};
 use crate::config_fault::ConfigRule;
@@ -31,6 +31,15 @@ pub enum Pass {
     Parameters,
     /// The rules of policies with one another.
     Policies,
+}
+
+/// The policies in which each writer has to fit the readers that it is matched with.
+#[derive(Clone, Copy)]
+enum PairPolicy {
+    /// The same ownership.
+    Ownership,
+    /// A lease that is no longer than the one that the reader asks for.
+    Lease,
 }
 
 /// The rule that the peers break as a whole.
@@ -171,49 +180,41 @@ fn reader_policy(peers: &[PeerConfig], reader: &ReaderConfig) -> Option<ConfigRu
     if exceeds_limit(reader.history, reader.max_samples) {
         return Some(ConfigRule::DepthWithinMaximum);
     }
-    if has_other_ownership(peers, reader) {
+    if has_unfit_writer(PairPolicy::Ownership, peers, reader) {
         return Some(ConfigRule::SameOwnership);
     }
-    if has_longer_lease(peers, reader) {
+    if has_unfit_writer(PairPolicy::Lease, peers, reader) {
         return Some(ConfigRule::OfferedLease);
     }
     None
 }
 
-/// Whether some matched writer of the reader has another ownership.
-fn has_other_ownership(peers: &[PeerConfig], reader: &ReaderConfig) -> bool
-    ensures { result ≡ list_any (λ w. differ w.ownership reader.now.ownership)
+/// Whether the writer does not fit the reader in this policy: it has another ownership, or a longer lease than it asks for.
+fn is_unfit(policy: PairPolicy, writer: &WriterConfig, reader: &ReaderConfig) -> bool
+    ensures { result ≡ is_unfit policy writer.now reader.now }
+{
+    match policy {
+        PairPolicy::Ownership => writer.ownership != reader.ownership,
+        PairPolicy::Lease => is_longer(writer.lease, reader.lease),
+    }
+}
+
+/// Whether some matched writer of the reader does not fit it in this policy.
+fn has_unfit_writer(policy: PairPolicy, peers: &[PeerConfig], reader: &ReaderConfig) -> bool
+    ensures { result ≡ list_any (λ w. is_unfit policy w reader.now)
         (matched_writers_of peers.now reader.now) }
 {
     peers
         .iter()
-        .any(|p| has_other_ownership_in(p.writers.as_slice(), reader))
+        .any(|p| has_unfit_writer_in(policy, p.writers.as_slice(), reader))
 }
 
-/// Whether one of these writers is matched and has another ownership than the reader.
-fn has_other_ownership_in(writers: &[WriterConfig], reader: &ReaderConfig) -> bool
+/// Whether one of these writers is matched and does not fit the reader in this policy.
+fn has_unfit_writer_in(policy: PairPolicy, writers: &[WriterConfig], reader: &ReaderConfig) -> bool
     ensures { result ≡ list_any (λ w. same_topic w.topic reader.now.topic
-        && differ w.ownership reader.now.ownership) writers.now }
+        && is_unfit policy w reader.now) writers.now }
 {
-    writers.iter().any(|w| w.topic == reader.topic && w.ownership != reader.ownership)
-}
-
-/// Whether some matched writer of the reader has a longer lease than it asks for.
-fn has_longer_lease(peers: &[PeerConfig], reader: &ReaderConfig) -> bool
-    ensures { result ≡ list_any (λ w. is_longer w.lease reader.now.lease)
-        (matched_writers_of peers.now reader.now) }
-{
-    peers
-        .iter()
-        .any(|p| has_longer_lease_in(p.writers.as_slice(), reader))
-}
-
-/// Whether one of these writers is matched and has a longer lease than the reader asks for.
-fn has_longer_lease_in(writers: &[WriterConfig], reader: &ReaderConfig) -> bool
-    ensures { result ≡ list_any (λ w. same_topic w.topic reader.now.topic
-        && is_longer w.lease reader.now.lease) writers.now }
-{
-    writers.iter().any(|w| w.topic == reader.topic && is_longer(w.lease, reader.lease))
+    writers.iter().any(|w| w.topic == reader.topic && is_unfit(policy, w, reader))
 }
 
 /// Whether a policy keeps the last 0.
