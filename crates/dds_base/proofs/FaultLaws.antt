@@ -39,9 +39,11 @@ or_assoc false b c = refl
 
 any_or : {X : Type 0} (p q : X → Bool) (xs : List X) → list_any (λ x. p x || q x) xs ≡ (list_any p xs || list_any q xs)
 any_or p q [] = refl
-any_or p q (x ∷ xs) = ap (λ (b : Bool). (p x || q x) || b) (any_or p q xs) ∙ or_swap (p x) (q x) (list_any p xs) (list_any q xs)
+any_or p q (x ∷ xs) =
+    ap (λ (b : Bool). (p x || q x) || b) (any_or p q xs) ∙ or_swap (p x) (q x) (list_any p xs) (list_any q xs)
 
-some_if : (b : Bool) (rule : ConfigRule) (later : Option ConfigRule) → is_some (if b then Some rule else later) ≡ (b || is_some later)
+some_if : (b : Bool) (rule : ConfigRule) (later : Option ConfigRule)
+    → is_some (if b then Some rule else later) ≡ (b || is_some later)
 some_if true rule later = refl
 some_if false rule later = refl
 
@@ -66,33 +68,39 @@ some_first : {X : Type 0} (tell : ℕ → X → Option ConfigFault) (test : X �
 some_first tell test number [] h = refl
 some_first tell test number (x ∷ xs) h =
     some_or (tell number x) (first_at tell (number + 1) xs)
-    ∙ (ap (λ (b : Bool). b || is_some (first_at tell (number + 1) xs)) (h number x) ∙ ap (λ (b : Bool). test x || b) (some_first tell test (number + 1) xs h))
+    ∙ (ap (λ (b : Bool). b || is_some (first_at tell (number + 1) xs)) (h number x)
+    ∙ ap (λ (b : Bool). test x || b) (some_first tell test (number + 1) xs h))
 
 -- ---- where a fault is found
 
 some_writer : (pass : Pass) (p : PeerConfig) (peer n : ℕ) (w : WriterConfig)
     → is_some (writer_fault pass peer p n w) ≡ any_broken (writer_rules pass p w)
-some_writer pass p peer n w = some_fault (Writer peer n) (first_broken (writer_rules pass p w)) ∙ some_broken (writer_rules pass p w)
+some_writer pass p peer n w =
+    some_fault (Writer peer n) (first_broken (writer_rules pass p w)) ∙ some_broken (writer_rules pass p w)
 
 some_reader : (pass : Pass) (peers : List PeerConfig) (p : PeerConfig) (peer n : ℕ) (r : ReaderConfig)
     → is_some (reader_fault pass peers peer p n r) ≡ any_broken (reader_rules pass peers p r)
-some_reader pass peers p peer n r = some_fault (Reader peer n) (first_broken (reader_rules pass peers p r)) ∙ some_broken (reader_rules pass peers p r)
+some_reader pass peers p peer n r =
+    some_fault (Reader peer n) (first_broken (reader_rules pass peers p r)) ∙ some_broken (reader_rules pass peers p r)
 
 bad_writer : (p : PeerConfig) (peer n : ℕ) (w : WriterConfig)
     → is_some (writer_fault Parameters peer p n w) ≡ (nat_lt 1 (entity_count p w.entity) || is_bad_writer w)
 bad_writer p peer n w =
     some_writer Parameters p peer n w
     ∙ ap (λ (b : Bool). nat_lt 1 (entity_count p w.entity) ||
-    (not (has_kind 2 w.entity) || (has_no_depth w.history || (not (is_maximum w.max_samples) || b)))) (or_false (is_bad_lease w.lease))
+    (not (has_kind 2 w.entity) || (has_no_depth w.history || (not (is_maximum w.max_samples) || b))))
+    (or_false (is_bad_lease w.lease))
 
 bad_reader : (peers : List PeerConfig) (p : PeerConfig) (peer n : ℕ) (r : ReaderConfig)
     → is_some (reader_fault Parameters peers peer p n r) ≡ (nat_lt 1 (entity_count p r.entity) || is_bad_reader r)
 bad_reader peers p peer n r =
     some_reader Parameters peers p peer n r
     ∙ (ap (λ (b : Bool). nat_lt 1 (entity_count p r.entity) ||
-    (not (has_kind 7 r.entity) || (has_no_depth r.history || ((not (is_maximum r.max_samples) || not (is_maximum r.max_instances)) || b))))
+    (not (has_kind 7 r.entity)
+    || (has_no_depth r.history || ((not (is_maximum r.max_samples) || not (is_maximum r.max_instances)) || b))))
     (or_false (is_bad_lease r.lease))
-    ∙ ap (λ (b : Bool). nat_lt 1 (entity_count p r.entity) || (not (has_kind 7 r.entity) || (has_no_depth r.history || b)))
+    ∙ ap (λ (b : Bool). nat_lt 1
+    (entity_count p r.entity) || (not (has_kind 7 r.entity) || (has_no_depth r.history || b)))
     (or_assoc (not (is_maximum r.max_samples)) (not (is_maximum r.max_instances)) (is_bad_lease r.lease)))
 
 exceeding_writer : (p : PeerConfig) (peer n : ℕ) (w : WriterConfig)
@@ -100,23 +108,28 @@ exceeding_writer : (p : PeerConfig) (peer n : ℕ) (w : WriterConfig)
 exceeding_writer p peer n w = some_writer Policies p peer n w ∙ or_false (exceeds_limit w.history w.max_samples)
 
 unfit_reader : (peers : List PeerConfig) (p : PeerConfig) (peer n : ℕ) (r : ReaderConfig)
-    → is_some (reader_fault Policies peers peer p n r) ≡ (exceeds_limit r.history r.max_samples || list_any (are_incompatible r) (matched_writers_of peers r))
+    → is_some (reader_fault Policies peers peer p n r)
+    ≡ (exceeds_limit r.history r.max_samples || list_any (are_incompatible r) (matched_writers_of peers r))
 unfit_reader peers p peer n r =
     let other : WriterConfig → Bool = λ w. differ w.ownership r.ownership in
     let longer : WriterConfig → Bool = λ w. is_longer w.lease r.lease in
     some_reader Policies peers p peer n r
     ∙ (ap (λ (b : Bool). exceeds_limit r.history r.max_samples || (list_any other (matched_writers_of peers r) || b))
     (or_false (list_any longer (matched_writers_of peers r)))
-    ∙ ap (λ (b : Bool). exceeds_limit r.history r.max_samples || b) (sym (any_or other longer (matched_writers_of peers r))))
+    ∙ ap (λ (b : Bool). exceeds_limit r.history r.max_samples || b)
+    (sym (any_or other longer (matched_writers_of peers r))))
 
 some_peer : (pass : Pass) (peers : List PeerConfig) (n : ℕ) (p : PeerConfig)
     → is_some (peer_fault pass peers n p) ≡
-    (any_broken (peer_rules pass peers p) || (is_some (writers_fault pass n p) || is_some (readers_fault pass peers n p)))
+    (any_broken (peer_rules pass peers p) || (is_some (writers_fault pass n p) || is_some
+    (readers_fault pass peers n p)))
 some_peer pass peers n p =
-    some_or (fault_at (Peer n) (first_broken (peer_rules pass peers p))) (or_else (writers_fault pass n p) (readers_fault pass peers n p))
+    some_or (fault_at (Peer n) (first_broken (peer_rules pass peers p)))
+    (or_else (writers_fault pass n p) (readers_fault pass peers n p))
     ∙ (ap (λ (b : Bool). b || is_some (or_else (writers_fault pass n p) (readers_fault pass peers n p)))
     (some_fault (Peer n) (first_broken (peer_rules pass peers p)) ∙ some_broken (peer_rules pass peers p))
-    ∙ ap (λ (b : Bool). any_broken (peer_rules pass peers p) || b) (some_or (writers_fault pass n p) (readers_fault pass peers n p)))
+    ∙ ap (λ (b : Bool). any_broken (peer_rules pass peers p) || b)
+    (some_or (writers_fault pass n p) (readers_fault pass peers n p)))
 
 regroup : (a b c d e f g h : Bool)
     → ((a || (b || (c || (d || false)))) || ((e || f) || (g || h))) ≡ ((a || b) || ((c || d) || ((e || g) || (f || h))))
@@ -130,28 +143,38 @@ both_or : (a b c d x : Bool) → a ≡ b → c ≡ d → (x || (a || c)) ≡ (x 
 both_or a b c d x e f = cc
 
 bad_peer : (peers : List PeerConfig) (n : ℕ) (p : PeerConfig)
-    → is_some (peer_fault Parameters peers n p) ≡ ((same_prefix p.prefix unknown_prefix || nat_lt 1 (prefix_count peers p.prefix)) || is_bad_peer p)
+    → is_some (peer_fault Parameters peers n p)
+    ≡ ((same_prefix p.prefix unknown_prefix || nat_lt 1 (prefix_count peers p.prefix)) || is_bad_peer p)
 bad_peer peers n p =
     let writers : is_some (writers_fault Parameters n p) ≡
-    (list_any (λ (w : WriterConfig). nat_lt 1 (entity_count p w.entity)) p.writers || list_any is_bad_writer p.writers) =
-    some_first (writer_fault Parameters n p) (λ w. nat_lt 1 (entity_count p w.entity) || is_bad_writer w) 1 p.writers (bad_writer p n)
+    (list_any (λ (w : WriterConfig). nat_lt 1 (entity_count p w.entity)) p.writers || list_any is_bad_writer
+    p.writers) =
+    some_first (writer_fault Parameters n p) (λ w. nat_lt 1 (entity_count p w.entity) || is_bad_writer w) 1 p.writers
+    (bad_writer p n)
     ∙ any_or (λ w. nat_lt 1 (entity_count p w.entity)) is_bad_writer p.writers in
     let readers : is_some (readers_fault Parameters peers n p) ≡
-    (list_any (λ (r : ReaderConfig). nat_lt 1 (entity_count p r.entity)) p.readers || list_any is_bad_reader p.readers) =
-    some_first (reader_fault Parameters peers n p) (λ r. nat_lt 1 (entity_count p r.entity) || is_bad_reader r) 1 p.readers (bad_reader peers p n)
+    (list_any (λ (r : ReaderConfig). nat_lt 1 (entity_count p r.entity)) p.readers || list_any is_bad_reader
+    p.readers) =
+    some_first (reader_fault Parameters peers n p)
+    (λ r. nat_lt 1 (entity_count p r.entity) || is_bad_reader r) 1 p.readers (bad_reader peers p n)
     ∙ any_or (λ r. nat_lt 1 (entity_count p r.entity)) is_bad_reader p.readers in
     some_peer Parameters peers n p
     ∙ (both_or _ _ _ _ (any_broken (peer_rules Parameters peers p)) writers readers
-    ∙ regroup (same_prefix p.prefix unknown_prefix) (nat_lt 1 (prefix_count peers p.prefix)) (nat_lt 16 (length p.writers)) (nat_lt 16 (length p.readers))
+    ∙ regroup (same_prefix p.prefix unknown_prefix) (nat_lt 1 (prefix_count peers p.prefix))
+    (nat_lt 16 (length p.writers)) (nat_lt 16 (length p.readers))
     (list_any (λ (w : WriterConfig). nat_lt 1 (entity_count p w.entity)) p.writers) (list_any is_bad_writer p.writers)
     (list_any (λ (r : ReaderConfig). nat_lt 1 (entity_count p r.entity)) p.readers) (list_any is_bad_reader p.readers))
 
-inconsistent_peer : (peers : List PeerConfig) (n : ℕ) (p : PeerConfig) → is_some (peer_fault Policies peers n p) ≡ is_inconsistent_peer peers p
+inconsistent_peer : (peers : List PeerConfig) (n : ℕ) (p : PeerConfig)
+    → is_some (peer_fault Policies peers n p) ≡ is_inconsistent_peer peers p
 inconsistent_peer peers n p =
     some_peer Policies peers n p
-    ∙ both_or _ _ _ _ false (some_first (writer_fault Policies n p) (λ w. exceeds_limit w.history w.max_samples) 1 p.writers (exceeding_writer p n))
+    ∙ both_or _ _ _ _ false
+    (some_first (writer_fault Policies n p) (λ w. exceeds_limit w.history w.max_samples) 1 p.writers
+    (exceeding_writer p n))
     (some_first (reader_fault Policies peers n p)
-    (λ r. exceeds_limit r.history r.max_samples || list_any (are_incompatible r) (matched_writers_of peers r)) 1 p.readers (unfit_reader peers p n))
+    (λ r. exceeds_limit r.history r.max_samples || list_any (are_incompatible r) (matched_writers_of peers r)) 1
+    p.readers (unfit_reader peers p n))
 
 abbrev parameter_fault : List PeerConfig → Option ConfigFault
 parameter_fault peers = or_else (fault_at Whole (first_broken (whole_rules peers))) (pass_fault Parameters peers)
@@ -164,11 +187,14 @@ some_parameter peers =
     (some_fault Whole (first_broken (whole_rules peers)) ∙ (some_broken (whole_rules peers) ∙ or_false count))
     ∙ ap (λ (b : Bool). count || b)
     (some_first (peer_fault Parameters peers)
-    (λ p. (same_prefix p.prefix unknown_prefix || nat_lt 1 (prefix_count peers p.prefix)) || is_bad_peer p) 1 peers (bad_peer peers)
-    ∙ any_or (λ (p : PeerConfig). same_prefix p.prefix unknown_prefix || nat_lt 1 (prefix_count peers p.prefix)) is_bad_peer peers))
+    (λ p. (same_prefix p.prefix unknown_prefix || nat_lt 1 (prefix_count peers p.prefix)) || is_bad_peer p) 1 peers
+    (bad_peer peers)
+    ∙ any_or (λ (p : PeerConfig). same_prefix p.prefix unknown_prefix || nat_lt 1 (prefix_count peers p.prefix))
+    is_bad_peer peers))
 
 some_policy : (peers : List PeerConfig) → is_some (pass_fault Policies peers) ≡ has_inconsistent_policy peers
-some_policy peers = some_first (peer_fault Policies peers) (is_inconsistent_peer peers) 1 peers (inconsistent_peer peers)
+some_policy peers =
+    some_first (peer_fault Policies peers) (is_inconsistent_peer peers) 1 peers (inconsistent_peer peers)
 
 -- ---- what is found
 
@@ -176,23 +202,28 @@ abbrev Each : (ConfigRule → Type 0) → List (ConfigRule × Bool) → Type 0
 Each Q [] = Unit {0}
 Each Q (t ∷ ts) = (t.1 ≡ true → Q t.0) × Each Q ts
 
-broken_head : (Q : ConfigRule → Type 0) (rule : ConfigRule) (b : Bool) (later : Option ConfigRule) (r : ConfigRule) → (b ≡ true → Q rule)
+broken_head : (Q : ConfigRule → Type 0) (rule : ConfigRule) (b : Bool) (later : Option ConfigRule) (r : ConfigRule)
+    → (b ≡ true → Q rule)
     → (later ≡ Some r → Q r) → (if b then Some rule else later) ≡ Some r → Q r
 broken_head Q rule true later r here rest e = subst Q (same_Some rule r e) (here refl)
 broken_head Q rule false later r here rest e = rest e
 
-broken_is : (Q : ConfigRule → Type 0) (ts : List (ConfigRule × Bool)) (r : ConfigRule) → Each Q ts → first_broken ts ≡ Some r → Q r
+broken_is : (Q : ConfigRule → Type 0) (ts : List (ConfigRule × Bool)) (r : ConfigRule) → Each Q ts
+    → first_broken ts ≡ Some r → Q r
 broken_is Q [] r each e = absurd (cc)
 broken_is Q (t ∷ ts) r each e = broken_head Q t.0 t.1 (first_broken ts) r each.0 (λ g. broken_is Q ts r each.1 g) e
 
 fault_is : (Q : ConfigFault → Type 0) (place : ConfigPlace) (o : Option ConfigRule) (fault : ConfigFault)
-    → ((rule : ConfigRule) → o ≡ Some rule → Q (record { place = place; rule = rule })) → fault_at place o ≡ Some fault → Q fault
+    → ((rule : ConfigRule) → o ≡ Some rule → Q (record { place = place; rule = rule })) → fault_at place o ≡ Some fault
+    → Q fault
 fault_is Q place None fault h e = absurd (cc)
-fault_is Q place (Some rule) fault h e = subst Q (same_Some (record { place = place; rule = rule }) fault e) (h rule refl)
+fault_is Q place (Some rule) fault h e =
+    subst Q (same_Some (record { place = place; rule = rule }) fault e) (h rule refl)
 
 -- of the rules of one place
 broken_at : (Q : ConfigFault → Type 0) (place : ConfigPlace) (ts : List (ConfigRule × Bool)) (fault : ConfigFault)
-    → Each (λ rule. Q (record { place = place; rule = rule })) ts → fault_at place (first_broken ts) ≡ Some fault → Q fault
+    → Each (λ rule. Q (record { place = place; rule = rule })) ts → fault_at place (first_broken ts) ≡ Some fault
+    → Q fault
 broken_at Q place ts fault each e = fault_is Q place (first_broken ts) fault
     (λ rule g. broken_is (λ r. Q (record { place = place; rule = r })) ts rule each g) e
 
@@ -202,21 +233,27 @@ of_either Q None b fault first later e = later e
 of_either Q (Some f) b fault first later e = first e
 
 -- what is found in a list is told of an element of it
-of_first : {X : Type 0} (Q : ConfigFault → Type 0) (tell : ℕ → X → Option ConfigFault) (number : ℕ) (xs : List X) (fault : ConfigFault)
-    → ((i : ℕ) (x : X) → slice_get xs i ≡ Some x → tell (number + i) x ≡ Some fault → Q fault) → first_at tell number xs ≡ Some fault → Q fault
+of_first : {X : Type 0} (Q : ConfigFault → Type 0) (tell : ℕ → X → Option ConfigFault) (number : ℕ) (xs : List X)
+    (fault : ConfigFault)
+    → ((i : ℕ) (x : X) → slice_get xs i ≡ Some x → tell (number + i) x ≡ Some fault → Q fault)
+    → first_at tell number xs ≡ Some fault → Q fault
 of_first Q tell number [] fault h e = absurd (cc)
 of_first Q tell number (x ∷ xs) fault h e =
     let here : number + 0 ≡ number = omega arith in
-    of_either Q (tell number x) (first_at tell (number + 1) xs) fault (λ g. h 0 x refl (ap (λ (n : ℕ). tell n x) here ∙ g))
+    of_either Q (tell number x) (first_at tell (number + 1) xs) fault
+    (λ g. h 0 x refl (ap (λ (n : ℕ). tell n x) here ∙ g))
     (λ g. of_first Q tell (number + 1) xs fault
-    (λ i y at told. let next : number + suc i ≡ number + 1 + i = omega arith in h (suc i) y at (ap (λ (n : ℕ). tell n y) next ∙ told)) g) e
+    (λ i y at told. let next : number + suc i
+    ≡ number + 1 + i = omega arith in h (suc i) y at (ap (λ (n : ℕ). tell n y) next ∙ told)) g) e
 
-passes : {X : Type 0} (test : X → Bool) (xs : List X) (i : ℕ) (x : X) → slice_get xs i ≡ Some x → test x ≡ true → passes_at test (1 + i) xs ≡ true
+passes : {X : Type 0} (test : X → Bool) (xs : List X) (i : ℕ) (x : X) → slice_get xs i ≡ Some x → test x ≡ true
+    → passes_at test (1 + i) xs ≡ true
 passes {X = X} test xs i x at is =
     let positive : nat_lt 0 (1 + i) ≡ true = grind (arith, nat_tests) in
     let index : 1 + i - 1 ≡ i = omega arith in
     ap (λ (b : Bool). if b then option_map_or test (slice_get xs (1 + i - 1)) false else false) positive
-    ∙ (ap (λ (k : ℕ). option_map_or test (slice_get xs k) false) index ∙ (ap (λ (o : Option X). option_map_or test o false) at ∙ is))
+    ∙ (ap (λ (k : ℕ). option_map_or test (slice_get xs k) false) index
+    ∙ (ap (λ (o : Option X). option_map_or test o false) at ∙ is))
 
 -- a fault that is true, and has this code
 abbrev Found : List PeerConfig → Code → ConfigFault → Type 0
@@ -229,13 +266,15 @@ pass_code Policies = InconsistentPolicy
 writer_each : (Q : ConfigRule → Type 0) (pass : Pass) (p : PeerConfig) (w : WriterConfig)
     → ((rule : ConfigRule) → breaks_as_writer p rule w ≡ true → code_of_rule rule ≡ pass_code pass → Q rule)
     → Each Q (writer_rules pass p w)
-writer_each Q Parameters p w h = (λ e. h _ e refl, (λ e. h _ e refl, (λ e. h _ e refl, (λ e. h _ e refl, (λ e. h _ e refl, tt)))))
+writer_each Q Parameters p w h =
+    (λ e. h _ e refl, (λ e. h _ e refl, (λ e. h _ e refl, (λ e. h _ e refl, (λ e. h _ e refl, tt)))))
 writer_each Q Policies p w h = (λ e. h _ e refl, tt)
 
 reader_each : (Q : ConfigRule → Type 0) (pass : Pass) (peers : List PeerConfig) (p : PeerConfig) (r : ReaderConfig)
     → ((rule : ConfigRule) → breaks_as_reader peers p rule r ≡ true → code_of_rule rule ≡ pass_code pass → Q rule)
     → Each Q (reader_rules pass peers p r)
-reader_each Q Parameters peers p r h = (λ e. h _ e refl, (λ e. h _ e refl, (λ e. h _ e refl, (λ e. h _ e refl, (λ e. h _ e refl, tt)))))
+reader_each Q Parameters peers p r h =
+    (λ e. h _ e refl, (λ e. h _ e refl, (λ e. h _ e refl, (λ e. h _ e refl, (λ e. h _ e refl, tt)))))
 reader_each Q Policies peers p r h = (λ e. h _ e refl, (λ e. h _ e refl, (λ e. h _ e refl, tt)))
 
 peer_each : (Q : ConfigRule → Type 0) (pass : Pass) (peers : List PeerConfig) (p : PeerConfig)
@@ -244,7 +283,8 @@ peer_each : (Q : ConfigRule → Type 0) (pass : Pass) (peers : List PeerConfig) 
 peer_each Q Parameters peers p h = (λ e. h _ e refl, (λ e. h _ e refl, (λ e. h _ e refl, (λ e. h _ e refl, tt))))
 peer_each Q Policies peers p h = tt
 
-peer_found : (pass : Pass) (peers : List PeerConfig) (fault : ConfigFault) (j : ℕ) (p : PeerConfig) → slice_get peers j ≡ Some p
+peer_found : (pass : Pass) (peers : List PeerConfig) (fault : ConfigFault) (j : ℕ) (p : PeerConfig)
+    → slice_get peers j ≡ Some p
     → peer_fault pass peers (1 + j) p ≡ Some fault → Found peers (pass_code pass) fault
 peer_found pass peers fault j p at e =
     let Q : ConfigFault → Type 0 = Found peers (pass_code pass) in
@@ -271,11 +311,13 @@ peer_found pass peers fault j p at e =
       code,
     ))) broken) told) g) e
 
-pass_found : (pass : Pass) (peers : List PeerConfig) (fault : ConfigFault) → pass_fault pass peers ≡ Some fault → Found peers (pass_code pass) fault
+pass_found : (pass : Pass) (peers : List PeerConfig) (fault : ConfigFault) → pass_fault pass peers ≡ Some fault
+    → Found peers (pass_code pass) fault
 pass_found pass peers fault e = of_first (Found peers (pass_code pass)) (peer_fault pass peers) 1 peers fault
     (λ j p at told. peer_found pass peers fault j p at told) e
 
-parameter_found : (peers : List PeerConfig) (fault : ConfigFault) → parameter_fault peers ≡ Some fault → Found peers BadParameter fault
+parameter_found : (peers : List PeerConfig) (fault : ConfigFault) → parameter_fault peers ≡ Some fault
+    → Found peers BadParameter fault
 parameter_found peers fault e =
     let Q : ConfigFault → Type 0 = Found peers BadParameter in
     of_either Q (fault_at Whole (first_broken (whole_rules peers))) (pass_fault Parameters peers) fault
@@ -290,7 +332,8 @@ or_else-assoc (Some fault) b c = refl
 refusal_by : (peers : List PeerConfig) (a b : Bool) → has_bad_parameter peers ≡ a → has_inconsistent_policy peers ≡ b
     → check_refusal peers ≡ (if a then Some BadParameter else (if b then Some InconsistentPolicy else None))
 refusal_by peers a b bad inconsistent =
-    ap (λ (x : Bool). if x then Some BadParameter else (if has_inconsistent_policy peers then Some InconsistentPolicy else None)) bad
+    ap (λ (x : Bool). if x then Some BadParameter
+    else (if has_inconsistent_policy peers then Some InconsistentPolicy else None)) bad
     ∙ ap (λ (x : Bool). if a then Some BadParameter else (if x then Some InconsistentPolicy else None)) inconsistent
 
 none_of : (peers : List PeerConfig) (a b : Option ConfigFault) → is_some a ≡ has_bad_parameter peers
@@ -299,9 +342,11 @@ none_of peers None None bad inconsistent e = refusal_by peers false false (sym b
 none_of peers None (Some fault) bad inconsistent e = absurd (cc)
 none_of peers (Some fault) b bad inconsistent e = absurd (cc)
 
-some_of : (peers : List PeerConfig) (a b : Option ConfigFault) (fault : ConfigFault) → is_some a ≡ has_bad_parameter peers
+some_of : (peers : List PeerConfig) (a b : Option ConfigFault) (fault : ConfigFault)
+    → is_some a ≡ has_bad_parameter peers
     → is_some b ≡ has_inconsistent_policy peers
-    → (a ≡ Some fault → Found peers BadParameter fault) → (b ≡ Some fault → Found peers InconsistentPolicy fault) → or_else a b ≡ Some fault
+    → (a ≡ Some fault → Found peers BadParameter fault) → (b ≡ Some fault → Found peers InconsistentPolicy fault)
+    → or_else a b ≡ Some fault
     → (check_refusal peers ≡ Some (code_of_rule fault.rule)) × Breaks peers fault
 some_of peers None None fault bad inconsistent first later e = absurd (cc)
 some_of peers None (Some f) fault bad inconsistent first later e =
@@ -314,16 +359,19 @@ some_of peers (Some f) b fault bad inconsistent first later e =
 of_none : (peers : List PeerConfig) → config_fault peers ≡ None → check_refusal peers ≡ None
 of_none peers e =
     none_of peers (parameter_fault peers) (pass_fault Policies peers) (some_parameter peers) (some_policy peers)
-    (sym (or_else-assoc (fault_at Whole (first_broken (whole_rules peers))) (pass_fault Parameters peers) (pass_fault Policies peers)) ∙ e)
+    (sym (or_else-assoc (fault_at Whole (first_broken (whole_rules peers))) (pass_fault Parameters peers)
+    (pass_fault Policies peers)) ∙ e)
 
 of_some : (peers : List PeerConfig) (fault : ConfigFault) → config_fault peers ≡ Some fault
     → (check_refusal peers ≡ Some (code_of_rule fault.rule)) × Breaks peers fault
 of_some peers fault e =
     some_of peers (parameter_fault peers) (pass_fault Policies peers) fault (some_parameter peers) (some_policy peers)
     (parameter_found peers fault) (pass_found Policies peers fault)
-    (sym (or_else-assoc (fault_at Whole (first_broken (whole_rules peers))) (pass_fault Parameters peers) (pass_fault Policies peers)) ∙ e)
+    (sym (or_else-assoc (fault_at Whole (first_broken (whole_rules peers))) (pass_fault Parameters peers)
+    (pass_fault Policies peers)) ∙ e)
 
-pub fault-none : (peers : List PeerConfig) (o : Option ConfigFault) → o ≡ config_fault peers → IfNone o (check_refusal peers ≡ None)
+pub fault-none : (peers : List PeerConfig) (o : Option ConfigFault) → o ≡ config_fault peers
+    → IfNone o (check_refusal peers ≡ None)
 fault-none peers None e = of_none peers (sym e)
 fault-none peers (Some fault) e = tt
 
@@ -332,6 +380,7 @@ pub fault-code : (peers : List PeerConfig) (o : Option ConfigFault) → o ≡ co
 fault-code peers None e = tt
 fault-code peers (Some fault) e = (of_some peers fault (sym e)).0
 
-pub fault-broken : (peers : List PeerConfig) (o : Option ConfigFault) → o ≡ config_fault peers → IfSome o (λ fault. Breaks peers fault)
+pub fault-broken : (peers : List PeerConfig) (o : Option ConfigFault) → o ≡ config_fault peers
+    → IfSome o (λ fault. Breaks peers fault)
 fault-broken peers None e = tt
 fault-broken peers (Some fault) e = (of_some peers fault (sym e)).1

@@ -9,7 +9,8 @@ use Rattle.dds_base.specs.Happening.{same_key}
 
 pub key-Decides : (a b : Key) → Decides (same_key a b) (a ≡ b)
 key-Decides a b =
-    let lists : Decides (same_key a b) (a.0 ≡ b.0) = slice_eq-Decides {E = nat_eq} Decides-eqb a.0 b.0 (same_key a b) refl in
+    let lists : Decides (same_key a b) (a.0 ≡ b.0) =
+    slice_eq-Decides {E = nat_eq} Decides-eqb a.0 b.0 (same_key a b) refl in
     (λ e. ap (λ (xs : List ℕ). record { 0 = xs }) (lists.0 e), λ e. lists.1 (ap (λ (k : Key). k.0) e))
 
 pub key-same : (a b : Key) → same_key a b ≡ true → a ≡ b
@@ -19,4 +20,6 @@ pub same_key-refl : (a : Key) → same_key a a ≡ true
 same_key-refl a = (key-Decides a a).1 refl
 
 pub same_key-comm : (a b : Key) → same_key a b ≡ same_key b a
-same_key-comm a b = same_from_decides (same_key a b) (same_key b a) (key-Decides a b) (Decides-like (same_key b a) sym sym (key-Decides b a))
+same_key-comm a b =
+    same_from_decides (same_key a b) (same_key b a) (key-Decides a b)
+    (Decides-like (same_key b a) sym sym (key-Decides b a))

@@ -21,10 +21,14 @@ use Rattle.dds_base.specs.Ownership.{numbered_from, IsMatched, is_registered, re
 -- ---- the order of writers
 
 guid_total : IsTotalOrder guid_cmp
-guid_total = then_total (on_total (λ (g : Guid). g.prefix.0) nat_list_cmp_total) (on_total (λ (g : Guid). g.entity.0) nat_list_cmp_total)
+guid_total =
+    then_total (on_total (λ (g : Guid). g.prefix.0) nat_list_cmp_total)
+    (on_total (λ (g : Guid). g.entity.0) nat_list_cmp_total)
 
 pub writer_total : IsTotalOrder writer_cmp
-writer_total = then_total (on_total (λ (w : MatchedWriter). w.strength) int_cmp_total) (back_total (on_total (λ (w : MatchedWriter). w.guid) guid_total))
+writer_total =
+    then_total (on_total (λ (w : MatchedWriter). w.strength) int_cmp_total)
+    (back_total (on_total (λ (w : MatchedWriter). w.guid) guid_total))
 
 greater : (o : Ordering) → is_gt o ≡ true → o ≡ Greater
 greater Less e = cc
@@ -36,16 +40,20 @@ reversed o Less is e = refl
 reversed o Equal is e = cc
 reversed o Greater is e = cc
 
-above-trans : (a b c : MatchedWriter) → is_gt (writer_cmp a b) ≡ true → is_gt (writer_cmp b c) ≡ true → is_gt (writer_cmp a c) ≡ true
+above-trans : (a b c : MatchedWriter) → is_gt (writer_cmp a b) ≡ true → is_gt (writer_cmp b c) ≡ true
+    → is_gt (writer_cmp a c) ≡ true
 above-trans a b c ab bc =
-    let ba : writer_cmp b a ≡ Less = reversed (writer_cmp a b) (writer_cmp b a) (writer_total.antisymm a b) (greater (writer_cmp a b) ab) in
-    let cb : writer_cmp c b ≡ Less = reversed (writer_cmp b c) (writer_cmp c b) (writer_total.antisymm b c) (greater (writer_cmp b c) bc) in
+    let ba : writer_cmp b a ≡ Less =
+    reversed (writer_cmp a b) (writer_cmp b a) (writer_total.antisymm a b) (greater (writer_cmp a b) ab) in
+    let cb : writer_cmp c b ≡ Less =
+    reversed (writer_cmp b c) (writer_cmp c b) (writer_total.antisymm b c) (greater (writer_cmp b c) bc) in
     let ca : writer_cmp c a ≡ Less = writer_total.trans c b a cb ba in
     ap is_gt (writer_total.antisymm a c ∙ ap ordering_reverse ca)
 
 above-one_way : (a b : MatchedWriter) → is_gt (writer_cmp a b) ≡ true → is_gt (writer_cmp b a) ≡ true → ⊥
 above-one_way a b ab ba =
-    let less : writer_cmp b a ≡ Less = reversed (writer_cmp a b) (writer_cmp b a) (writer_total.antisymm a b) (greater (writer_cmp a b) ab) in
+    let less : writer_cmp b a ≡ Less =
+    reversed (writer_cmp a b) (writer_cmp b a) (writer_total.antisymm a b) (greater (writer_cmp a b) ab) in
     let more : writer_cmp b a ≡ Greater = greater (writer_cmp b a) ba in
     let clash : Less ≡ Greater = sym less ∙ more in
     cc
@@ -60,10 +68,12 @@ guid-exact a b e =
     let parts = then-equal (slice_cmp nat_cmp a.prefix.0 b.prefix.0) (slice_cmp nat_cmp a.entity.0 b.entity.0) e in
     let prefix : a.prefix.0 ≡ b.prefix.0 = exact_bytes a.prefix.0 b.prefix.0 parts.0 in
     let entity : a.entity.0 ≡ b.entity.0 = exact_bytes a.entity.0 b.entity.0 parts.1 in
-    ap (λ (xs : List ℕ). record { prefix = record { 0 = xs }; entity = a.entity }) prefix ∙ ap (λ (xs : List ℕ). record { prefix = b.prefix; entity = record { 0 = xs } }) entity
+    ap (λ (xs : List ℕ). record { prefix = record { 0 = xs }; entity = a.entity }) prefix
+    ∙ ap (λ (xs : List ℕ). record { prefix = b.prefix; entity = record { 0 = xs } }) entity
 
 -- two writers with GUIDs of their own: one outranks the other
-above-either : (a b : MatchedWriter) (o : Ordering) → writer_cmp a b ≡ o → (a.guid ≡ b.guid → ⊥) → (is_gt (writer_cmp a b) ≡ true) ⊎ (is_gt (writer_cmp b a) ≡ true)
+above-either : (a b : MatchedWriter) (o : Ordering) → writer_cmp a b ≡ o → (a.guid ≡ b.guid → ⊥)
+    → (is_gt (writer_cmp a b) ≡ true) ⊎ (is_gt (writer_cmp b a) ≡ true)
 above-either a b Greater e differ = inl (ap is_gt e)
 above-either a b Less e differ = inr (ap is_gt (writer_total.antisymm b a ∙ ap ordering_reverse e))
 above-either a b Equal e differ =
@@ -83,7 +93,8 @@ outranks-one_way (Some a) (Some b) xy yx = above-one_way a b xy yx
 outranks-one_way (Some a) None xy yx = cc
 outranks-one_way None y xy yx = cc
 
-slice_get-within : (ws : List MatchedWriter) (at : ℕ) → at < length ws → (w : MatchedWriter) × (slice_get ws at ≡ Some w)
+slice_get-within : (ws : List MatchedWriter) (at : ℕ) → at < length ws
+    → (w : MatchedWriter) × (slice_get ws at ≡ Some w)
 slice_get-within [] at within = absurd (omega arith)
 slice_get-within (w ∷ ws) zero within = (w, refl)
 slice_get-within (w ∷ ws) (suc at) within = slice_get-within ws at (omega arith)
@@ -93,13 +104,16 @@ matched-writer q zero matched = absurd (omega (arith, matched.0))
 matched-writer q (suc at) matched = slice_get-within q.writers at (omega (arith, matched.1))
 
 -- of two matched writers one outranks the other
-outranks-either : (q : ReaderQos) (v w : ℕ) → HaveOwnGuids q → IsMatched q v → IsMatched q w → v ≢ w → (outranks q v w ≡ true) ⊎ (outranks q w v ≡ true)
+outranks-either : (q : ReaderQos) (v w : ℕ) → HaveOwnGuids q → IsMatched q v → IsMatched q w → v ≢ w
+    → (outranks q v w ≡ true) ⊎ (outranks q w v ≡ true)
 outranks-either q v w own matched_v matched_w differ =
     let a = matched-writer q v matched_v in
     let b = matched-writer q w matched_w in
     ⊎_elim
-    (λ e. inl (ap (λ (x : Option MatchedWriter). is_above x (writer_of q.writers w)) a.1 ∙ (ap (λ (x : Option MatchedWriter). is_above (Some a.0) x) b.1 ∙ e)))
-    (λ e. inr (ap (λ (x : Option MatchedWriter). is_above x (writer_of q.writers v)) b.1 ∙ (ap (λ (x : Option MatchedWriter). is_above (Some b.0) x) a.1 ∙ e)))
+    (λ e. inl (ap (λ (x : Option MatchedWriter). is_above x (writer_of q.writers w)) a.1
+    ∙ (ap (λ (x : Option MatchedWriter). is_above (Some a.0) x) b.1 ∙ e)))
+    (λ e. inr (ap (λ (x : Option MatchedWriter). is_above x (writer_of q.writers v)) b.1
+    ∙ (ap (λ (x : Option MatchedWriter). is_above (Some b.0) x) a.1 ∙ e)))
     (above-either a.0 b.0 (writer_cmp a.0 b.0) refl (λ same. differ (own v w a.0 b.0 a.1 b.1 same)))
 
 -- ---- the greatest of a list
@@ -112,14 +126,16 @@ AllMatched q [] = Unit {0}
 AllMatched q (w ∷ ws) = IsMatched q w × AllMatched q ws
 
 -- what one writer outranks, another that outranks it outranks too
-outranks_all-above : (q : ReaderQos) (ws : List ℕ) (v w : ℕ) → outranks q w v ≡ true → outranks_all q ws v ≡ true → outranks_all q ws w ≡ true
+outranks_all-above : (q : ReaderQos) (ws : List ℕ) (v w : ℕ) → outranks q w v ≡ true → outranks_all q ws v ≡ true
+    → outranks_all q ws w ≡ true
 outranks_all-above q [] v w above all = refl
 outranks_all-above q (x ∷ ws) v w above all =
     let parts = and_parts ((x == v) || outranks q v x) (outranks_all q ws v) all in
     let here : ((x == w) || outranks q w x) ≡ true =
     ⊎_elim
     (λ same. or_right (x == w) (outranks q w x) (ap (λ (n : ℕ). outranks q w n) (eqb-true x v same) ∙ above))
-    (λ more. or_right (x == w) (outranks q w x) (outranks-trans (writer_of q.writers w) (writer_of q.writers v) (writer_of q.writers x) above more))
+    (λ more. or_right (x == w) (outranks q w x)
+    (outranks-trans (writer_of q.writers w) (writer_of q.writers v) (writer_of q.writers x) above more))
     (or_cases (x == v) (outranks q v x) parts.0) in
     and_from ((x == w) || outranks q w x) (outranks_all q ws w) here (outranks_all-above q ws v w above parts.1)
 
@@ -142,7 +158,15 @@ greatest q w [] own matched = record {
 greatest q w (v ∷ ws) own matched =
     let rest : Greatest q (v ∷ ws) = greatest q v ws own matched.1 in
     let m : ℕ = rest.writer in
-    let keep : ((w == m) || outranks q m w) ≡ true → Greatest q (w ∷ v ∷ ws) = λ here. record { writer = m; matched = rest.matched; among = or_right (w == m) (is_one_of (v ∷ ws) m) rest.among; above = and_from ((w == m) || outranks q m w) (outranks_all q (v ∷ ws) m) here rest.above } in
+    let keep : ((w == m) || outranks q m w) ≡ true → Greatest q (w ∷ v ∷ ws) =
+    λ here. record {
+      writer = m;
+      matched = rest.matched;
+      among = or_right (w == m)
+          (is_one_of (v ∷ ws) m) rest.among;
+      above = and_from ((w == m) || outranks q m w)
+          (outranks_all q (v ∷ ws) m) here rest.above;
+    } in
     ⊎_elim
     (λ same. keep (or_left (w == m) (outranks q m w) same))
     (λ other. ⊎_elim
@@ -150,7 +174,9 @@ greatest q w (v ∷ ws) own matched =
       writer = w;
       matched = matched.0;
       among = or_left (w == w) (is_one_of (v ∷ ws) w) (eqb-refl w);
-      above = and_from ((w == w) || outranks q w w) (outranks_all q (v ∷ ws) w) (or_left (w == w) (outranks q w w) (eqb-refl w)) (outranks_all-above q (v ∷ ws) m w above rest.above);
+      above =
+          and_from ((w == w) || outranks q w w) (outranks_all q (v ∷ ws) w)
+          (or_left (w == w) (outranks q w w) (eqb-refl w)) (outranks_all-above q (v ∷ ws) m w above rest.above);
     })
     (λ below. keep (or_right (w == m) (outranks q m w) below))
     (outranks-either q w m own matched.0 rest.matched (eqb-false w m other)))
@@ -171,7 +197,9 @@ find-any p [] any = absurd cc
 find-any p (w ∷ ws) any =
     ⊎_elim
     (λ here. subst (λ (b : Bool). IsSome (cond b (Some w) (find p ws))) (sym here) refl)
-    (λ not_here. subst (λ (b : Bool). IsSome (cond b (Some w) (find p ws))) (sym not_here) (find-any p ws (let other : (p w || list_any p ws) ≡ list_any p ws = ap (λ (b : Bool). b || list_any p ws) not_here in sym other ∙ any)))
+    (λ not_here. subst (λ (b : Bool). IsSome (cond b (Some w) (find p ws))) (sym not_here)
+    (find-any p ws (let other : (p w || list_any p ws)
+    ≡ list_any p ws = ap (λ (b : Bool). b || list_any p ws) not_here in sym other ∙ any)))
     (cases_Bool (p w))
 
 record FoundAt (p : ℕ → Bool) (ws : List ℕ) (w : ℕ) : Type 0 where
@@ -186,8 +214,13 @@ found-at p [] w e = absurd cc
 found-at p (v ∷ ws) w e =
     ⊎_elim
     (λ here. let same : v ≡ w = some-same v w (sym (ap (λ (b : Bool). cond b (Some v) (find p ws)) here) ∙ e) in
-    record { holds = sym (ap p same) ∙ here; among = or_left (v == w) (is_one_of ws w) (ap (λ (n : ℕ). n == w) same ∙ eqb-refl w) })
-    (λ not_here. let later : FoundAt p ws w = found-at p ws w (sym (ap (λ (b : Bool). cond b (Some v) (find p ws)) not_here) ∙ e) in
+    record {
+      holds = sym (ap p same) ∙ here;
+      among = or_left (v == w) (is_one_of ws w)
+          (ap (λ (n : ℕ). n == w) same ∙ eqb-refl w);
+    })
+    (λ not_here. let later : FoundAt p ws w = found-at p ws w
+    (sym (ap (λ (b : Bool). cond b (Some v) (find p ws)) not_here) ∙ e) in
     record { holds = later.holds; among = or_right (v == w) (is_one_of ws w) later.among })
     (cases_Bool (p v))
 
@@ -217,54 +250,79 @@ not-same : (v w : ℕ) → v ≢ w → (v == w) ≡ true → ⊥
 not-same v w differ same = differ (eqb-true v w same)
 
 -- a writer of a list that outranks each other one is its owner
-pub owner-is : (q : ReaderQos) (ws : List ℕ) (w : ℕ) → is_one_of ws w ≡ true → outranks_all q ws w ≡ true → IsOwner q ws w
+pub owner-is : (q : ReaderQos) (ws : List ℕ) (w : ℕ) → is_one_of ws w ≡ true → outranks_all q ws w ≡ true
+    → IsOwner q ws w
 owner-is q ws w among above = record {
   is_registered = contains-from ws w among;
-  is_greatest = λ v other differ. ⊎_elim (λ same. absurd (not-same v w differ same)) (λ more. more) (or_cases (v == w) (outranks q w v) (all-at (λ x. (x == w) || outranks q w x) ws v above (contains-at ws v other.0 other.1 other.2)));
+  is_greatest =
+      λ v other differ. ⊎_elim (λ same. absurd (not-same v w differ same)) (λ more. more)
+      (or_cases (v == w) (outranks q w v)
+      (all-at (λ x. (x == w) || outranks q w x) ws v above (contains-at ws v other.0 other.1 other.2)));
 }
 
 -- the owner that is computed is the owner
 pub owner_of-found : (q : ReaderQos) (ws : List ℕ) (w : ℕ) → owner_of q ws ≡ Some w → IsOwner q ws w
-owner_of-found q ws w e = let found : FoundAt (outranks_all q ws) ws w = found-at (outranks_all q ws) ws w e in owner-is q ws w found.among found.holds
+owner_of-found q ws w e =
+    let found : FoundAt (outranks_all q ws) ws w = found-at
+    (outranks_all q ws) ws w e in owner-is q ws w found.among found.holds
 
 -- there is no second owner
 pub owner-one : (q : ReaderQos) (ws : List ℕ) (v w : ℕ) → IsOwner q ws v → IsOwner q ws w → v ≡ w
 owner-one q ws v w own_v own_w =
     ⊎_elim
     (λ same. eqb-true v w same)
-    (λ other. let differ : v ≢ w = eqb-false v w other in absurd (outranks-one_way (writer_of q.writers v) (writer_of q.writers w) (own_v.is_greatest w own_w.is_registered (λ e. differ (sym e))) (own_w.is_greatest v own_v.is_registered differ)))
+    (λ other. let differ : v ≢ w = eqb-false v w other in absurd (outranks-one_way (writer_of q.writers v)
+    (writer_of q.writers w) (own_v.is_greatest w own_w.is_registered (λ e. differ (sym e)))
+    (own_w.is_greatest v own_v.is_registered differ)))
     (cases_Bool (v == w))
 
-numbers-matched : (q : ReaderQos) (i : Key) (h : List Happening) (xs : List MatchedWriter) (k : ℕ) → 0 < k → k + length xs ≤ length q.writers + 1 → AllMatched q (filter (λ w. is_registered i w h) (numbered_from k xs))
+numbers-matched : (q : ReaderQos) (i : Key) (h : List Happening) (xs : List MatchedWriter) (k : ℕ) → 0 < k
+    → k + length xs ≤ length q.writers + 1 → AllMatched q (filter (λ w. is_registered i w h) (numbered_from k xs))
 numbers-matched q i h [] k low high = tt
 numbers-matched q i h (x ∷ xs) k low high =
-    let rest : AllMatched q (filter (λ w. is_registered i w h) (numbered_from (k + 1) xs)) = numbers-matched q i h xs (k + 1) (omega arith) (omega arith) in
+    let rest : AllMatched q (filter (λ w. is_registered i w h) (numbered_from (k + 1) xs)) =
+    numbers-matched q i h xs (k + 1) (omega arith) (omega arith) in
     ⊎_elim
-    (λ is_there. subst (λ (b : Bool). AllMatched q (cond b (k ∷ filter (λ w. is_registered i w h) (numbered_from (k + 1) xs)) (filter (λ w. is_registered i w h) (numbered_from (k + 1) xs)))) (sym is_there) ((low, omega arith), rest))
-    (λ is_gone. subst (λ (b : Bool). AllMatched q (cond b (k ∷ filter (λ w. is_registered i w h) (numbered_from (k + 1) xs)) (filter (λ w. is_registered i w h) (numbered_from (k + 1) xs)))) (sym is_gone) rest)
+    (λ is_there. subst (λ (b : Bool). AllMatched q
+    (cond b (k ∷ filter (λ w. is_registered i w h) (numbered_from (k + 1) xs))
+    (filter (λ w. is_registered i w h) (numbered_from (k + 1) xs)))) (sym is_there) ((low, omega arith), rest))
+    (λ is_gone. subst (λ (b : Bool). AllMatched q
+    (cond b (k ∷ filter (λ w. is_registered i w h) (numbered_from (k + 1) xs))
+    (filter (λ w. is_registered i w h) (numbered_from (k + 1) xs)))) (sym is_gone) rest)
     (cases_Bool (is_registered i k h))
 
 exists-in : (q : ReaderQos) (ws : List ℕ) → HaveOwnGuids q → AllMatched q ws → ws ≢ [] → IsSome (owner_of q ws)
 exists-in q [] own matched some = absurd (some refl)
-exists-in q (w ∷ ws) own matched some = let top : Greatest q (w ∷ ws) = greatest q w ws own matched in find-any (outranks_all q (w ∷ ws)) (w ∷ ws) (any-at (outranks_all q (w ∷ ws)) (w ∷ ws) top.writer top.among top.above)
+exists-in q (w ∷ ws) own matched some =
+    let top : Greatest q (w ∷ ws) = greatest q w ws own matched in find-any (outranks_all q (w ∷ ws)) (w ∷ ws)
+    (any-at (outranks_all q (w ∷ ws)) (w ∷ ws) top.writer top.among top.above)
 
 -- where somebody is registered, there is an owner
-pub owner-exists : (q : ReaderQos) (i : Key) (h : List Happening) → HaveOwnGuids q → registered_writers q i h ≢ [] → IsSome (owner_of q (registered_writers q i h))
-owner-exists q i h own some = exists-in q (registered_writers q i h) own (numbers-matched q i h q.writers 1 (omega arith) (omega arith)) some
+pub owner-exists : (q : ReaderQos) (i : Key) (h : List Happening) → HaveOwnGuids q → registered_writers q i h ≢ []
+    → IsSome (owner_of q (registered_writers q i h))
+owner-exists q i h own some =
+    exists-in q (registered_writers q i h) own (numbers-matched q i h q.writers 1 (omega arith) (omega arith)) some
 
 -- a writer outranks each other one of a list exactly where it is the owner among them and itself
-pub owner-among : (q : ReaderQos) (ws : List ℕ) (w : ℕ) → (IsTrue (outranks_all q ws w) → IsOwner q (w ∷ ws) w) × (IsOwner q (w ∷ ws) w → IsTrue (outranks_all q ws w))
+pub owner-among : (q : ReaderQos) (ws : List ℕ) (w : ℕ) → (IsTrue (outranks_all q ws w) → IsOwner q (w ∷ ws) w)
+    × (IsOwner q (w ∷ ws) w → IsTrue (outranks_all q ws w))
 owner-among q ws w = (
-  λ above. owner-is q (w ∷ ws) w (or_left (w == w) (is_one_of ws w) (eqb-refl w)) (and_from ((w == w) || outranks q w w) (outranks_all q ws w) (or_left (w == w) (outranks q w w) (eqb-refl w)) above),
-  λ owner. above-each q ws w (λ v among differ. owner.is_greatest v (contains-from (w ∷ ws) v (or_right (w == v) (is_one_of ws v) among)) differ),
+  λ above. owner-is q (w ∷ ws) w (or_left (w == w) (is_one_of ws w) (eqb-refl w))
+      (and_from ((w == w) || outranks q w w) (outranks_all q ws w)
+      (or_left (w == w) (outranks q w w) (eqb-refl w)) above),
+  λ owner. above-each q ws w
+      (λ v among differ. owner.is_greatest v
+      (contains-from (w ∷ ws) v (or_right (w == v) (is_one_of ws v) among)) differ),
 )
   where
-    above-each : (q : ReaderQos) (ws : List ℕ) (w : ℕ) → ((v : ℕ) → is_one_of ws v ≡ true → v ≢ w → outranks q w v ≡ true) → outranks_all q ws w ≡ true
+    above-each : (q : ReaderQos) (ws : List ℕ) (w : ℕ)
+        → ((v : ℕ) → is_one_of ws v ≡ true → v ≢ w → outranks q w v ≡ true) → outranks_all q ws w ≡ true
     above-each q [] w each = refl
     above-each q (v ∷ ws) w each =
         and_from ((v == w) || outranks q w v) (outranks_all q ws w)
         (⊎_elim
         (λ same. or_left (v == w) (outranks q w v) same)
-        (λ other. or_right (v == w) (outranks q w v) (each v (or_left (v == v) (is_one_of ws v) (eqb-refl v)) (eqb-false v w other)))
+        (λ other. or_right (v == w) (outranks q w v)
+        (each v (or_left (v == v) (is_one_of ws v) (eqb-refl v)) (eqb-false v w other)))
         (cases_Bool (v == w)))
         (above-each q ws w (λ x among differ. each x (or_right (v == x) (is_one_of ws x) among) differ))

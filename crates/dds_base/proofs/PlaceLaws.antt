@@ -6,18 +6,27 @@ use Rattle.dds_base.specs.Places.{WriterGrounds, Match, Position, Comes, AllCome
 
 -- from this number on the second grounds say what the first do
 pub record SayAsMuch (first second : WriterGrounds) (from : ℕ) : Type 0 where
-  pub is_change : (number : ℕ) (change : Change) → from ≤ number → first.is_change number change → second.is_change number change
+  pub is_change : (number : ℕ) (change : Change) → from ≤ number → first.is_change number change
+      → second.is_change number change
   pub may_pass : (number : ℕ) → from ≤ number → first.may_pass number → second.may_pass number
 
-pub all_come_on : (g k : WriterGrounds) (from : ℕ) → SayAsMuch g k from → (match : Match) (old : Position) (changes : List Change) (new : Position) → from ≤ old.place
+pub all_come_on : (g k : WriterGrounds) (from : ℕ) → SayAsMuch g k from
+    → (match : Match) (old : Position) (changes : List Change) (new : Position) → from ≤ old.place
     → AllCome g match old changes new → AllCome k match old changes new × (from ≤ new.place)
 all_come_on g k from m match old [] new low h = (h, let e = ap (λ (p : Position). p.place) h in omega (arith, e, low))
 all_come_on g k from m match old (c ∷ cs) new low h =
     let next = ap (λ (p : Position). p.place) h.1.after in
-    let rest = all_come_on g k from m match h.0 cs new (omega (arith, next, low)) h.2 in
-    ((h.0, record { is_change = m.is_change old.place c low h.1.is_change; room = h.1.room; after = h.1.after }, rest.0), rest.1)
+    let rest = all_come_on g k from m match h.0 cs new (omega (arith, next, low)) h.2 in (
+      (
+        h.0,
+        record { is_change = m.is_change old.place c low h.1.is_change; room = h.1.room; after = h.1.after },
+        rest.0,
+      ),
+      rest.1,
+    )
 
-pub passes_on : (g k : WriterGrounds) (from : ℕ) → SayAsMuch g k from → (match : Match) (old : Position) (run : PassedRun) (new : Position) → from ≤ old.place
+pub passes_on : (g k : WriterGrounds) (from : ℕ) → SayAsMuch g k from
+    → (match : Match) (old : Position) (run : PassedRun) (new : Position) → from ≤ old.place
     → Passes g match old run new → Passes k match old run new × (from ≤ new.place)
 passes_on g k from m match old run new low h =
     let begins = h.begins in
@@ -33,7 +42,8 @@ passes_on g k from m match old run new low h =
     )
 
 -- a way on some grounds is one on grounds that say as much
-pub goes_on : (g k : WriterGrounds) (from : ℕ) → SayAsMuch g k from → (match : Match) (old : Position) (runs : List PassedRun) (to : ℕ) (new : Position) → from ≤ old.place
+pub goes_on : (g k : WriterGrounds) (from : ℕ) → SayAsMuch g k from
+    → (match : Match) (old : Position) (runs : List PassedRun) (to : ℕ) (new : Position) → from ≤ old.place
     → GoesTo g match old runs to new → GoesTo k match old runs to new
 goes_on g k from m match old [] to new low h = (h.0, (all_come_on g k from m match old h.0 new low h.1).0, h.2)
 goes_on g k from m match old (run ∷ runs) to new low h =
@@ -42,7 +52,8 @@ goes_on g k from m match old (run ∷ runs) to new low h =
     (h.0, h.1, (h.2.0, before.0, h.2.2), passed.0, h.4, goes_on g k from m match h.1 runs to new passed.1 h.5)
 
 -- changes that come take the place on, each by one
-pub come_forward : (g : WriterGrounds) (match : Match) (old : Position) (changes : List Change) (new : Position) → AllCome g match old changes new → old.place ≤ new.place
+pub come_forward : (g : WriterGrounds) (match : Match) (old : Position) (changes : List Change) (new : Position)
+    → AllCome g match old changes new → old.place ≤ new.place
 come_forward g match old [] new h = let same = ap (λ (p : Position). p.place) h in omega (arith, same)
 come_forward g match old (c ∷ cs) new h =
     let next = ap (λ (p : Position). p.place) h.1.after in
@@ -50,8 +61,10 @@ come_forward g match old (c ∷ cs) new h =
     omega (arith, next, rest)
 
 -- a place does not go back
-pub goes_forward : (g : WriterGrounds) (match : Match) (old : Position) (runs : List PassedRun) (to : ℕ) (new : Position) → GoesTo g match old runs to new → (old.place ≤ to) × (new.place ≡ to)
-goes_forward g match old [] to new h = let rest = come_forward g match old h.0 new h.1 in let end = h.2 in (omega (arith, rest, end), h.2)
+pub goes_forward : (g : WriterGrounds) (match : Match) (old : Position) (runs : List PassedRun) (to : ℕ)
+    (new : Position) → GoesTo g match old runs to new → (old.place ≤ to) × (new.place ≡ to)
+goes_forward g match old [] to new h =
+    let rest = come_forward g match old h.0 new h.1 in let end = h.2 in (omega (arith, rest, end), h.2)
 goes_forward g match old (run ∷ runs) to new h =
     let before = come_forward g match old h.2.0 h.0 h.2.1 in
     let begins = h.3.begins in
@@ -62,7 +75,8 @@ goes_forward g match old (run ∷ runs) to new h =
     (omega (arith, before, begins, ordered, next, at, rest.0), rest.1)
 
 -- one that does not go on has passed nothing, and nothing came
-pub goes_nowhere : (g : WriterGrounds) (match : Match) (old : Position) (runs : List PassedRun) (to : ℕ) (new : Position) → GoesTo g match old runs to new → to ≤ old.place → (new ≡ old) × (runs ≡ [])
+pub goes_nowhere : (g : WriterGrounds) (match : Match) (old : Position) (runs : List PassedRun) (to : ℕ)
+    (new : Position) → GoesTo g match old runs to new → to ≤ old.place → (new ≡ old) × (runs ≡ [])
 goes_nowhere g match old [] to new h low = (none h.0 h.1 h.2, refl)
   where
     none : (changes : List Change) → AllCome g match old changes new → new.place ≡ to → new ≡ old

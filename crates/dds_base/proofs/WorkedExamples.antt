@@ -31,22 +31,55 @@ abbrev key : Key
 key = record { 0 = 1 ∷ 0 ∷ [] }
 
 abbrev came : ℕ → ℕ → ChangeKind → List ℕ → Happening
-came w n k v = Came (record { writer = w; number = n; change = record { kind = k; key = key; value = v; source_timestamp = 0 }; moment = 0 })
+came w n k v =
+    Came (record {
+      writer = w;
+      number = n;
+      change = record { kind = k; key = key; value = v; source_timestamp = 0 };
+      moment = 0;
+    })
 
 abbrev writer_a : MatchedWriter
-writer_a = record { guid = record { prefix = record { 0 = 1 ∷ [] }; entity = record { 0 = 2 ∷ [] } }; strength = pos 5; lease = None }
+writer_a =
+    record {
+      guid = record { prefix = record { 0 = 1 ∷ [] }; entity = record { 0 = 2 ∷ [] } };
+      strength = pos 5;
+      lease = None;
+    }
 
 abbrev writer_b : MatchedWriter
-writer_b = record { guid = record { prefix = record { 0 = 1 ∷ [] }; entity = record { 0 = 3 ∷ [] } }; strength = pos 5; lease = None }
+writer_b =
+    record {
+      guid = record { prefix = record { 0 = 1 ∷ [] }; entity = record { 0 = 3 ∷ [] } };
+      strength = pos 5;
+      lease = None;
+    }
 
 abbrev shared : ReaderQos
-shared = record { ownership = Shared; history = KeepAll; max_samples = None; max_instances = None; writers = writer_a ∷ [] }
+shared =
+    record { ownership = Shared; history = KeepAll; max_samples = None; max_instances = None; writers = writer_a ∷ [] }
 
 abbrev exclusive : ReaderQos
-exclusive = record { ownership = Exclusive; history = KeepAll; max_samples = None; max_instances = None; writers = writer_a ∷ writer_b ∷ [] }
+exclusive =
+    record {
+      ownership = Exclusive;
+      history = KeepAll;
+      max_samples = None;
+      max_instances = None;
+      writers = writer_a
+          ∷ writer_b ∷ [];
+    }
 
 abbrev last_two : ReaderQos
-last_two = record { ownership = Shared; history = KeepLast 2; max_samples = None; max_instances = None; writers = writer_a ∷ [] }
+last_two =
+    record {
+      ownership = Shared;
+      history = KeepLast 2;
+      max_samples = None;
+      max_instances = None;
+      writers = writer_a
+          ∷ [];
+    }
 
 abbrev any : Masks
 any = record { samples = record { 0 = 65535 }; views = record { 0 = 65535 }; instances = record { 0 = 65535 } }
@@ -62,32 +95,52 @@ answer q h max masks = map (λ (s : Sample). s.info) (collection_of q h (picked 
 
 -- a sample's line: states, counts, ranks, then whether it has data, and the publication handle
 abbrev info : SampleState → ViewState → InstanceState → ℕ → ℕ → ℕ → ℕ → ℕ → Bool → ℕ → SampleInfo
-info s v i d n sr gr ar valid w = record { sample_state = s; view_state = v; instance_state = i; disposed_generation_count = d; no_writers_generation_count = n; sample_rank = sr; generation_rank = gr; absolute_generation_rank = ar; source_timestamp = 0; instance_handle = 1; publication_handle = w; valid_data = valid }
+info s v i d n sr gr ar valid w =
+    record {
+      sample_state = s;
+      view_state = v;
+      instance_state = i;
+      disposed_generation_count = d;
+      no_writers_generation_count = n;
+      sample_rank = sr;
+      generation_rank = gr;
+      absolute_generation_rank = ar;
+      source_timestamp = 0;
+      instance_handle = 1;
+      publication_handle = w;
+      valid_data = valid;
+    }
 
 -- a write, a dispose, a write
 abbrev disposed_once : List Happening
 disposed_once = came 1 3 Write (2 ∷ []) ∷ came 1 2 Dispose [] ∷ came 1 1 Write (1 ∷ []) ∷ []
 
-take-after_rebirth : answer shared disposed_once None any ≡ info NR New Alive 0 0 2 1 1 true 1 ∷ info NR New Alive 0 0 1 1 1 false 1 ∷ info NR New Alive 1 0 0 0 0 true 1 ∷ []
+take-after_rebirth : answer shared disposed_once None any
+    ≡ info NR New Alive 0 0 2 1 1 true 1 ∷ info NR New Alive 0 0 1 1 1 false 1 ∷ info NR New Alive 1 0 0 0 0 true 1 ∷ []
 take-after_rebirth = refl
 
-values-after_rebirth : map (λ (s : Sample). s.value) (collection_of shared disposed_once (picked shared disposed_once None any)) ≡ (1 ∷ []) ∷ [] ∷ (2 ∷ []) ∷ []
+values-after_rebirth : map (λ (s : Sample). s.value)
+    (collection_of shared disposed_once (picked shared disposed_once None any)) ≡ (1 ∷ []) ∷ [] ∷ (2 ∷ []) ∷ []
 values-after_rebirth = refl
 
 read-one : answer shared disposed_once (Some 1) any ≡ info NR New Alive 0 0 0 0 1 true 1 ∷ []
 read-one = refl
 
-read-again : answer shared (Read (picked shared disposed_once (Some 1) any) ∷ disposed_once) None any ≡ info R New Alive 0 0 2 1 1 true 1 ∷ info NR New Alive 0 0 1 1 1 false 1 ∷ info NR New Alive 1 0 0 0 0 true 1 ∷ []
+read-again : answer shared (Read (picked shared disposed_once (Some 1) any) ∷ disposed_once) None any
+    ≡ info R New Alive 0 0 2 1 1 true 1 ∷ info NR New Alive 0 0 1 1 1 false 1 ∷ info NR New Alive 1 0 0 0 0 true 1 ∷ []
 read-again = refl
 
 -- two writers of equal strength: the one of smaller GUID owns
 abbrev three_writes : List Happening
 three_writes = came 2 2 Write (178 ∷ []) ∷ came 1 1 Write (161 ∷ []) ∷ came 2 1 Write (177 ∷ []) ∷ []
 
-read-exclusive : answer exclusive three_writes None any ≡ info NR New Alive 0 0 1 0 0 true 2 ∷ info NR New Alive 0 0 0 0 0 true 1 ∷ []
+read-exclusive : answer exclusive three_writes None any
+    ≡ info NR New Alive 0 0 1 0 0 true 2 ∷ info NR New Alive 0 0 0 0 0 true 1 ∷ []
 read-exclusive = refl
 
-read-after_unregister : answer exclusive (came 1 2 Unregister [] ∷ Read (picked exclusive three_writes None any) ∷ three_writes) None any ≡ info R NotNew Alive 0 0 1 0 0 true 2 ∷ info R NotNew Alive 0 0 0 0 0 true 1 ∷ []
+read-after_unregister : answer exclusive
+    (came 1 2 Unregister [] ∷ Read (picked exclusive three_writes None any) ∷ three_writes) None any
+    ≡ info R NotNew Alive 0 0 1 0 0 true 2 ∷ info R NotNew Alive 0 0 0 0 0 true 1 ∷ []
 read-after_unregister = refl
 
 -- depth 2: a taken sample does not let an older one back
@@ -103,35 +156,54 @@ read-depth = refl
 take-depth : answer last_two one_read None not_read ≡ info NR NotNew Alive 0 0 0 0 0 true 1 ∷ []
 take-depth = refl
 
-read-depth_again : answer last_two (came 1 3 Write (3 ∷ []) ∷ Took (picked last_two one_read None not_read) ∷ one_read) None any ≡ info NR NotNew Alive 0 0 0 0 0 true 1 ∷ []
+read-depth_again : answer last_two
+    (came 1 3 Write (3 ∷ []) ∷ Took (picked last_two one_read None not_read) ∷ one_read) None any
+    ≡ info NR NotNew Alive 0 0 0 0 0 true 1 ∷ []
 read-depth_again = refl
 
 -- a write, an unregister, a write
-take-no_writers : answer shared (came 1 3 Write (2 ∷ []) ∷ came 1 2 Unregister [] ∷ came 1 1 Write (1 ∷ []) ∷ []) None any ≡ info NR New Alive 0 0 2 1 1 true 1 ∷ info NR New Alive 0 0 1 1 1 false 1 ∷ info NR New Alive 0 1 0 0 0 true 1 ∷ []
+take-no_writers : answer shared (came 1 3 Write (2 ∷ []) ∷ came 1 2 Unregister [] ∷ came 1 1 Write (1 ∷ []) ∷ []) None
+    any ≡ info NR New Alive 0 0 2 1 1 true 1 ∷ info NR New Alive 0 0 1 1 1 false 1 ∷ info NR New Alive 0 1 0 0 0 true 1
+    ∷ []
 take-no_writers = refl
 
 -- a dispose of an instance without writers raises no count, and its marker replaces the older one
-take-dispose_abandoned : answer shared (came 1 4 Write (2 ∷ []) ∷ came 1 3 Dispose [] ∷ came 1 2 Unregister [] ∷ came 1 1 Write (1 ∷ []) ∷ []) None any ≡ info NR New Alive 0 0 2 1 1 true 1 ∷ info NR New Alive 0 0 1 1 1 false 1 ∷ info NR New Alive 1 0 0 0 0 true 1 ∷ []
+take-dispose_abandoned : answer shared
+    (came 1 4 Write (2 ∷ []) ∷ came 1 3 Dispose [] ∷ came 1 2 Unregister [] ∷ came 1 1 Write (1 ∷ []) ∷ []) None any
+    ≡ info NR New Alive 0 0 2 1 1 true 1 ∷ info NR New Alive 0 0 1 1 1 false 1 ∷ info NR New Alive 1 0 0 0 0 true 1 ∷ []
 take-dispose_abandoned = refl
 
 -- a dispose with unregister leaves the instance DISPOSED, with one marker
-take-dispose_unregister : answer shared (came 1 2 DisposeUnregister [] ∷ came 1 1 Write (1 ∷ []) ∷ []) None any ≡ info NR New NotAliveDisposed 0 0 1 0 0 true 1 ∷ info NR New NotAliveDisposed 0 0 0 0 0 false 1 ∷ []
+take-dispose_unregister : answer shared (came 1 2 DisposeUnregister [] ∷ came 1 1 Write (1 ∷ []) ∷ []) None any
+    ≡ info NR New NotAliveDisposed 0 0 1 0 0 true 1 ∷ info NR New NotAliveDisposed 0 0 0 0 0 false 1 ∷ []
 take-dispose_unregister = refl
 
 -- of two deaths in one tick the second turns the instance, and the marker names that writer
-publications-two_deaths : map (λ (i : SampleInfo). i.publication_handle) (answer exclusive (Died 2 7 ∷ Died 1 7 ∷ came 2 1 Write (2 ∷ []) ∷ came 1 1 Write (1 ∷ []) ∷ []) None any) ≡ 1 ∷ 2 ∷ []
+publications-two_deaths : map (λ (i : SampleInfo). i.publication_handle)
+    (answer exclusive (Died 2 7 ∷ Died 1 7 ∷ came 2 1 Write (2 ∷ []) ∷ came 1 1 Write (1 ∷ []) ∷ []) None any)
+    ≡ 1 ∷ 2 ∷ []
 publications-two_deaths = refl
 
 -- a writer's death leaves a sample without data, of the moment of the death
-timestamps-death : map (λ (i : SampleInfo). i.source_timestamp) (answer shared (Died 1 7 ∷ came 1 1 Write (1 ∷ []) ∷ []) None any) ≡ 0 ∷ 7 ∷ []
+timestamps-death : map (λ (i : SampleInfo). i.source_timestamp)
+    (answer shared (Died 1 7 ∷ came 1 1 Write (1 ∷ []) ∷ []) None any) ≡ 0 ∷ 7 ∷ []
 timestamps-death = refl
 
-states-death : map (λ (i : SampleInfo). i.instance_state) (answer shared (Died 1 7 ∷ came 1 1 Write (1 ∷ []) ∷ []) None any) ≡ NotAliveNoWriters ∷ NotAliveNoWriters ∷ []
+states-death : map (λ (i : SampleInfo). i.instance_state)
+    (answer shared (Died 1 7 ∷ came 1 1 Write (1 ∷ []) ∷ []) None any) ≡ NotAliveNoWriters ∷ NotAliveNoWriters ∷ []
 states-death = refl
 
 -- a limit of one sample: no room for a second write until the first was taken
 abbrev limited : ReaderQos
-limited = record { ownership = Shared; history = KeepAll; max_samples = Some 1; max_instances = None; writers = writer_a ∷ [] }
+limited =
+    record {
+      ownership = Shared;
+      history = KeepAll;
+      max_samples = Some 1;
+      max_instances = None;
+      writers = writer_a
+          ∷ [];
+    }
 
 abbrev one_write : List Happening
 one_write = came 1 1 Write (1 ∷ []) ∷ []
@@ -139,12 +211,25 @@ one_write = came 1 1 Write (1 ∷ []) ∷ []
 has_room-full : has_room limited one_write (came 1 2 Write (2 ∷ [])) ≡ false
 has_room-full = refl
 
-has_room-taken : has_room limited (Took (picked limited one_write None any) ∷ one_write) (came 1 2 Write (2 ∷ [])) ≡ true
+has_room-taken : has_room limited (Took (picked limited one_write None any) ∷ one_write) (came 1 2 Write (2 ∷ []))
+    ≡ true
 has_room-taken = refl
 
 -- two instances, with a write each
 abbrev two_instances : List Happening
-two_instances = Came (record { writer = 1; number = 2; change = record { kind = Write; key = record { 0 = 2 ∷ 0 ∷ [] }; value = 2 ∷ []; source_timestamp = 0 }; moment = 0 }) ∷ one_write
+two_instances =
+    Came (record {
+      writer = 1;
+      number = 2;
+      change = record {
+        kind = Write;
+        key = record { 0 = 2 ∷ 0 ∷ [] };
+        value = 2
+            ∷ [];
+        source_timestamp = 0;
+      };
+      moment = 0;
+    }) ∷ one_write
 
 -- all samples that meet the masks, of an instance and of the next one
 abbrev of_instance : ℕ → Selection
@@ -173,14 +258,17 @@ pick-next_of_last : positions two_instances (after_instance 2) ≡ []
 pick-next_of_last = refl
 
 -- an instance without a match is passed over, and the form of one instance finds nothing
-pick-next_without_match : positions (Took (chosen two_instances (of_instance 1)) ∷ two_instances) (after_instance 0) ≡ 2 ∷ []
+pick-next_without_match : positions (Took (chosen two_instances (of_instance 1)) ∷ two_instances) (after_instance 0)
+    ≡ 2 ∷ []
 pick-next_without_match = refl
 
-pick-instance_without_match : positions (Took (chosen two_instances (of_instance 1)) ∷ two_instances) (of_instance 1) ≡ []
+pick-instance_without_match : positions (Took (chosen two_instances (of_instance 1)) ∷ two_instances) (of_instance 1)
+    ≡ []
 pick-instance_without_match = refl
 
 -- the next sample is the first one that was not read
-pick-next_sample : positions (Read (chosen two_instances selection.NextSample) ∷ two_instances) selection.NextSample ≡ 2 ∷ []
+pick-next_sample : positions (Read (chosen two_instances selection.NextSample) ∷ two_instances) selection.NextSample
+    ≡ 2 ∷ []
 pick-next_sample = refl
 
 -- an instance has to be known, the one before the next need not be; a max is -1 or positive

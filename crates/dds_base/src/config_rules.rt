@@ -204,9 +204,7 @@ fn has_unfit_writer(policy: PairPolicy, peers: &[PeerConfig], reader: &ReaderCon
     ensures { result ≡ list_any (λ w. is_unfit policy w reader.now)
         (matched_writers_of peers.now reader.now) }
 {
-    peers
-        .iter()
-        .any(|p| has_unfit_writer_in(policy, p.writers.as_slice(), reader))
+    peers.iter().any(|p| has_unfit_writer_in(policy, p.writers.as_slice(), reader))
 }
 
 /// Whether one of these writers is matched and does not fit the reader in this policy.
@@ -214,7 +212,9 @@ fn has_unfit_writer_in(policy: PairPolicy, writers: &[WriterConfig], reader: &Re
     ensures { result ≡ list_any (λ w. same_topic w.topic reader.now.topic
         && is_unfit policy w reader.now) writers.now }
 {
-    writers.iter().any(|w| w.topic == reader.topic && is_unfit(policy, w, reader))
+    writers
+        .iter()
+        .any(|w| w.topic == reader.topic && is_unfit(policy, w, reader))
 }
 
 /// Whether a policy keeps the last 0.

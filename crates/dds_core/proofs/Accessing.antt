@@ -54,11 +54,14 @@ use Rattle.dds_core.proofs.Lists.{set_back}
 pub record IsQuiet (entry : List SamplePosition → Happening) : Type 0 where
   pub lost : (samples : List SamplePosition) (h : List Happening) → lost_count (entry samples ∷ h) ≡ lost_count h
   pub turned : (samples : List SamplePosition) (h : List Happening) → turned_at (entry samples ∷ h) ≡ turned_at h
-  pub leases : (kept : Leased) (q : ReaderQos) (samples : List SamplePosition) (h : List Happening) → LeasesStandFor kept q h → LeasesStandFor kept q (entry samples ∷ h)
+  pub leases : (kept : Leased) (q : ReaderQos) (samples : List SamplePosition) (h : List Happening)
+      → LeasesStandFor kept q h → LeasesStandFor kept q (entry samples ∷ h)
 
 -- the call is an access of this kind: it is answered as one, and does nothing at a writer
-pub record IsAccess (tests : Tests) (part : Part) (c : Call) (kind : AccessKind) (test : Test) (reader : ℕ) (selection : Selection) : Type 0 where
-  pub answers : (reply : Reply) (dds : Dds) → AnswersAccess (entry_of kind) test part reader selection reply dds → CallAnswers tests part c reply dds
+pub record IsAccess (tests : Tests) (part : Part) (c : Call) (kind : AccessKind) (test : Test) (reader : ℕ)
+    (selection : Selection) : Type 0 where
+  pub answers : (reply : Reply) (dds : Dds) → AnswersAccess (entry_of kind) test part reader selection reply dds
+      → CallAnswers tests part c reply dds
   pub effect : (reply : Reply) → effect_of part c reply ≡ nothing
 
 -- an access is quiet
@@ -80,8 +83,10 @@ is_access Reading part reader selection = record { answers = λ reply dds a. a; 
 is_access Taking part reader selection = record { answers = λ reply dds a. a; effect = λ reply. refl }
 
 -- one by a condition against which there is no cause is such an access
-by_condition : (entry : List SamplePosition → Happening) (refusal : Option Code) (asked_test test : Test) (part : Part) (reader : ℕ) (asked selection : Selection) (reply : Reply) (dds : Dds)
-    → refusal ≡ None → asked_test ≡ test → asked ≡ selection → AnswersAccess entry asked_test part reader asked reply dds
+by_condition : (entry : List SamplePosition → Happening) (refusal : Option Code) (asked_test test : Test) (part : Part)
+    (reader : ℕ) (asked selection : Selection) (reply : Reply) (dds : Dds)
+    → refusal ≡ None → asked_test ≡ test → asked ≡ selection
+    → AnswersAccess entry asked_test part reader asked reply dds
     → AnswersByCondition entry refusal test part reader selection reply dds
 by_condition entry refusal asked_test test part reader asked selection reply dds none same is access =
     subst (λ (o : Option Code). AnswersByCondition entry o test part reader selection reply dds) (sym none)
@@ -95,9 +100,11 @@ IsAsked part reader scope condition asked =
     × (asked.selection ≡ condition_selection part scope condition)
     × (asked.filter ≡ filter_of (made part.dds.watch.conditions condition))
 
-pub is_access_by : (kind : AccessKind) (tests : Tests) (part : Part) (reader : ℕ) (scope : Scope) (condition : ℕ) (asked : Asked)
+pub is_access_by : (kind : AccessKind) (tests : Tests) (part : Part) (reader : ℕ) (scope : Scope) (condition : ℕ)
+    (asked : Asked)
     → IsAsked part reader scope condition asked
-    → IsAccess tests part (condition_call kind reader scope condition) kind (test_of tests asked.filter) reader asked.selection
+    → IsAccess tests part (condition_call kind reader scope condition) kind
+    (test_of tests asked.filter) reader asked.selection
 is_access_by Reading tests part reader scope condition asked is = record {
   answers = λ reply dds a.
       by_condition HasRead _ (test_of tests asked.filter) _ part reader asked.selection _ reply dds is.0
@@ -112,17 +119,24 @@ is_access_by Taking tests part reader scope condition asked is = record {
 }
 
 -- the reader with one more entry, an access
-one_entered : (entry : List SamplePosition → Happening) → IsQuiet entry → (k k' : ReaderKept) (proxies : List WriterProxy) (r : Reader) (tracked : Endpoint → Tracked) (samples : List SamplePosition) → TakesOnly k k' → ReaderStands k proxies r tracked
-    → CacheStandsFor k'.store.cache (entry samples ∷ r.happened) → ReaderStands k' proxies (record r { happened = entry samples ∷ r.happened }) tracked
+one_entered : (entry : List SamplePosition → Happening) → IsQuiet entry
+    → (k k' : ReaderKept) (proxies : List WriterProxy) (r : Reader) (tracked : Endpoint → Tracked)
+    (samples : List SamplePosition) → TakesOnly k k' → ReaderStands k proxies r tracked
+    → CacheStandsFor k'.store.cache (entry samples ∷ r.happened)
+    → ReaderStands k' proxies (record r { happened = entry samples ∷ r.happened }) tracked
 one_entered entry quiet k k' proxies r tracked samples same s stands = record {
   writers_are = s.writers_are ∙ ap (λ (ns : List WriterName). writers_of ns) (sym same.writers);
   places = s.places;
-  knows = λ w n f. subst (λ (x : Proxies). Tracks x n (tracked w)) (sym same.reader) (s.knows w n (subst (λ (ns : List WriterName). IsFirstRow ns w n) same.writers f));
+  knows =
+      λ w n f. subst (λ (x : Proxies). Tracks x n (tracked w)) (sym same.reader)
+      (s.knows w n (subst (λ (ns : List WriterName). IsFirstRow ns w n) same.writers f));
   qos_is = s.qos_is ∙ sym same.qos;
   holds = record {
     cache = stands;
-    leases = subst (λ (l : Leased). LeasesStandFor l (qos_of k'.store.cache) (entry samples ∷ r.happened)) (sym same.leases)
-        (subst (λ (q : ReaderQos). LeasesStandFor k.store.leases q (entry samples ∷ r.happened)) (sym same.qos) (quiet.leases k.store.leases (qos_of k.store.cache) samples r.happened s.holds.leases));
+    leases =
+        subst (λ (l : Leased). LeasesStandFor l (qos_of k'.store.cache) (entry samples ∷ r.happened)) (sym same.leases)
+        (subst (λ (q : ReaderQos). LeasesStandFor k.store.leases q (entry samples ∷ r.happened)) (sym same.qos)
+        (quiet.leases k.store.leases (qos_of k.store.cache) samples r.happened s.holds.leases));
     lost_is = same.lost ∙ (s.holds.lost_is ∙ sym (quiet.lost samples r.happened));
     turned_is = same.turned ∙ (s.holds.turned_is ∙ sym (quiet.turned samples r.happened));
   };
@@ -134,66 +148,106 @@ abbrev after_access : (List SamplePosition → Happening) → Part → ℕ → L
 after_access entry part reader samples = record part { dds = with_happening part reader (entry samples) }
 
 -- an access that was entered
-entered : (tests : Tests) (entry : List SamplePosition → Happening) → IsQuiet entry → (c : Call) (kept : PeerKept) (i : ℕ) (k k' : ReaderKept) (config : Config) (peer : Peer) → StandsFor kept config peer → slice_get kept.readers i ≡ Some k → TakesOnly k k' → (reply : Reply)
-    (samples : List SamplePosition) → CacheStandsFor k'.store.cache (entry samples ∷ (own_reader peer.part (suc i)).happened) → CallStep tests peer.part c reply (after_access entry peer.part (suc i) samples)
+entered : (tests : Tests) (entry : List SamplePosition → Happening) → IsQuiet entry
+    → (c : Call) (kept : PeerKept) (i : ℕ) (k k' : ReaderKept) (config : Config) (peer : Peer)
+    → StandsFor kept config peer → slice_get kept.readers i ≡ Some k → TakesOnly k k' → (reply : Reply)
+    (samples : List SamplePosition)
+    → CacheStandsFor k'.store.cache (entry samples ∷ (own_reader peer.part (suc i)).happened)
+    → CallStep tests peer.part c reply (after_access entry peer.part (suc i) samples)
     → FollowsBy tests (with_reader kept i k') config peer (event.Call c) (silent reply)
 entered tests entry quiet c kept i k k' config peer s at same reply samples stands step =
     let part : Part = peer.part in
     let proxies : List WriterProxy = own_proxies part (suc i) in
     let r : Reader = own_reader part (suc i) in
-    let one : ReaderStands k' proxies (record r { happened = entry samples ∷ r.happened }) (λ w. peer.known.tracked w (suc i)) = one_entered entry quiet k k' proxies r (λ w. peer.known.tracked w (suc i)) samples same (s.readers.each i k at) stands in (
+    let one : ReaderStands k' proxies (record r { happened = entry samples ∷ r.happened })
+    (λ w. peer.known.tracked w (suc i)) = one_entered entry quiet k k' proxies r
+    (λ w. peer.known.tracked w (suc i)) samples same (s.readers.each i k at) stands in (
       record peer { part = after_access entry part (suc i) samples },
       record { same_number = refl; knows = refl; step = (step, refl); sent = λ p x m h. absurd (omega (arith, m.1)) },
-      own_reader_changed kept i k k' (record r { happened = entry samples ∷ r.happened }) config peer s at (same_identity k' k same.entity same.writers) one,
+      own_reader_changed kept i k k' (record r { happened = entry samples ∷ r.happened }) config peer s at
+          (same_identity k' k same.entity same.writers) one,
     )
 
 -- an access that was refused, and is not entered
-not_entered : (tests : Tests) (c : Call) (kept : PeerKept) (i : ℕ) (k k' : ReaderKept) (config : Config) (peer : Peer) (code : Code) → StandsFor kept config peer → slice_get kept.readers i ≡ Some k → k' ≡ k → CallAnswers tests peer.part c (Refused code) peer.part.dds
+not_entered : (tests : Tests) (c : Call) (kept : PeerKept) (i : ℕ) (k k' : ReaderKept) (config : Config) (peer : Peer)
+    (code : Code) → StandsFor kept config peer → slice_get kept.readers i ≡ Some k → k' ≡ k
+    → CallAnswers tests peer.part c (Refused code) peer.part.dds
     → FollowsBy tests (with_reader kept i k') config peer (event.Call c) (silent (Refused code))
 not_entered tests c kept i k k' config peer code s at same is =
     let unchanged : set kept.readers i k' ≡ kept.readers = set_back kept.readers i k k' at same in
-    subst (λ (rs : List ReaderKept). FollowsBy tests (record kept { readers = rs }) config peer (event.Call c) (silent (Refused code))) (sym unchanged) (refused_call kept config peer s c code is)
+    subst (λ (rs : List ReaderKept). FollowsBy tests (record kept { readers = rs }) config peer (event.Call c)
+    (silent (Refused code))) (sym unchanged) (refused_call kept config peer s c code is)
 
 kept_same : (k k' : ReaderKept) → TakesOnly k k' → k'.store.cache ≡ k.store.cache → k' ≡ k
 kept_same k k' same cache =
-    reader_as k'.entity k.entity k'.writers k.writers k'.reader k.reader k'.store k.store k'.seen k.seen same.entity same.writers same.reader
-    (store_as k'.store.lost k.store.lost k'.store.turned k.store.turned k'.store.leases k.store.leases k'.store.cache k.store.cache same.lost same.turned same.leases cache) same.seen
+    reader_as k'.entity k.entity k'.writers k.writers k'.reader k.reader k'.store k.store k'.seen k.seen same.entity
+    same.writers same.reader
+    (store_as k'.store.lost k.store.lost k'.store.turned k.store.turned k'.store.leases k.store.leases k'.store.cache
+    k.store.cache same.lost same.turned same.leases cache) same.seen
   where
     store_as : (i j t u : ℕ) (l m : Leased) (c d : Stored) → i ≡ j → t ≡ u → l ≡ m → c ≡ d
-        → ◌≡◌ {A = StoreKept} (record { lost = i; turned = t; leases = l; cache = c }) (record { lost = j; turned = u; leases = m; cache = d })
+        → ◌≡◌ {A = StoreKept} (record { lost = i; turned = t; leases = l; cache = c })
+        (record { lost = j; turned = u; leases = m; cache = d })
     store_as i j t u l m c d e f g h = cc
 
-    reader_as : (a b : EntityId) (x y : List WriterName) (p q : Proxies) (s t : StoreKept) (i j : Seen) → a ≡ b → x ≡ y → p ≡ q → s ≡ t → i ≡ j
-        → ◌≡◌ {A = ReaderKept} (record { entity = a; writers = x; reader = p; store = s; seen = i }) (record { entity = b; writers = y; reader = q; store = t; seen = j })
+    reader_as : (a b : EntityId) (x y : List WriterName) (p q : Proxies) (s t : StoreKept) (i j : Seen) → a ≡ b → x ≡ y
+        → p ≡ q → s ≡ t → i ≡ j
+        → ◌≡◌ {A = ReaderKept} (record { entity = a; writers = x; reader = p; store = s; seen = i })
+        (record { entity = b; writers = y; reader = q; store = t; seen = j })
     reader_as a b x y p q s t i j e f g h l = cc
 
 -- what a cache answers is what the machine answers
-accessed : (tests : Tests) (kind : AccessKind) (c : Call) (test : Test) (i : ℕ) (selection : Selection) (kept : PeerKept) (k k' : ReaderKept) (config : Config) (peer : Peer)
+accessed : (tests : Tests) (kind : AccessKind) (c : Call) (test : Test) (i : ℕ) (selection : Selection)
+    (kept : PeerKept) (k k' : ReaderKept) (config : Config) (peer : Peer)
     → IsAccess tests peer.part c kind test (suc i) selection → StandsFor kept config peer
-    → slice_get kept.readers i ≡ Some k → TakesOnly k k' → (r : Result (List Sample) Code) → access_refusal peer.part (suc i) selection ≡ refusal k.store.cache (own_reader peer.part (suc i)).happened selection
-    → (own_reader peer.part (suc i)).qos ≡ qos_of k.store.cache → AccessAnswers k.store.cache (own_reader peer.part (suc i)).happened selection test r
-    → AfterAccess kind k.store.cache (own_reader peer.part (suc i)).happened selection test r k'.store.cache → FollowsBy tests (with_reader kept i k') config peer (event.Call c) (silent (access_reply r))
+    → slice_get kept.readers i ≡ Some k → TakesOnly k k' → (r : Result (List Sample) Code)
+    → access_refusal peer.part (suc i) selection
+    ≡ refusal k.store.cache (own_reader peer.part (suc i)).happened selection
+    → (own_reader peer.part (suc i)).qos ≡ qos_of k.store.cache
+    → AccessAnswers k.store.cache (own_reader peer.part (suc i)).happened selection test r
+    → AfterAccess kind k.store.cache (own_reader peer.part (suc i)).happened selection test r k'.store.cache
+    → FollowsBy tests (with_reader kept i k') config peer (event.Call c) (silent (access_reply r))
 accessed tests kind c test i selection kept k k' config peer is s at same (Ok samples) causes qos answer after =
     let h : List Happening = (own_reader peer.part (suc i)).happened in
-    let found : picked k.store.cache h selection test ≡ picked_at test peer.part (suc i) selection = ap (λ (q : ReaderQos). picked_by q h selection test) (sym qos) in
+    let found : picked k.store.cache h selection test ≡ picked_at test peer.part (suc i) selection =
+    ap (λ (q : ReaderQos). picked_by q h selection test) (sym qos) in
     let some : picked_at test peer.part (suc i) selection ≢ [] = λ none. answer.1 (found ∙ none) in
-    let collected : samples ≡ collection_of (own_reader peer.part (suc i)).qos h (picked_at test peer.part (suc i) selection) =
-    answer.2 ∙ (ap (λ (ps : List SamplePosition). collection_of (qos_of k.store.cache) h ps) found ∙ ap (λ (q : ReaderQos). collection_of q h (picked_at test peer.part (suc i) selection)) (sym qos)) in
-    entered tests (entry_of kind) (access_is_quiet kind) c kept i k k' config peer s at same (Samples samples) (picked_at test peer.part (suc i) selection) (subst (λ (ps : List SamplePosition). CacheStandsFor k'.store.cache (entry_of kind ps ∷ h)) found after)
-    (record { answers = is.answers (Samples samples) (with_happening peer.part (suc i) (entry_of kind (picked_at test peer.part (suc i) selection))) (causes ∙ answer.0, some, collected, refl); rtps = ap (λ (e : Effect). effect peer.part.rtps e) (sym (is.effect (Samples samples))) })
+    let collected : samples ≡ collection_of (own_reader peer.part (suc i)).qos h
+    (picked_at test peer.part (suc i) selection) =
+    answer.2 ∙ (ap (λ (ps : List SamplePosition). collection_of (qos_of k.store.cache) h ps) found
+    ∙ ap (λ (q : ReaderQos). collection_of q h (picked_at test peer.part (suc i) selection)) (sym qos)) in
+    entered tests (entry_of kind) (access_is_quiet kind) c kept i k k' config peer s at same (Samples samples)
+    (picked_at test peer.part (suc i) selection)
+    (subst (λ (ps : List SamplePosition). CacheStandsFor k'.store.cache (entry_of kind ps ∷ h)) found after)
+    (record {
+      answers = is.answers (Samples samples)
+          (with_happening peer.part (suc i) (entry_of kind (picked_at test peer.part (suc i) selection)))
+          (causes ∙ answer.0, some, collected, refl);
+      rtps = ap (λ (e : Effect). effect peer.part.rtps e)
+          (sym (is.effect (Samples samples)));
+    })
 accessed tests kind c test i selection kept k k' config peer is s at same (Err NoData) causes qos answer after =
     let h : List Happening = (own_reader peer.part (suc i)).happened in
-    let found : picked k.store.cache h selection test ≡ picked_at test peer.part (suc i) selection = ap (λ (q : ReaderQos). picked_by q h selection test) (sym qos) in
+    let found : picked k.store.cache h selection test ≡ picked_at test peer.part (suc i) selection =
+    ap (λ (q : ReaderQos). picked_by q h selection test) (sym qos) in
     entered tests (entry_of kind) (access_is_quiet kind) c kept i k k' config peer s at same (Refused NoData) [] after
-    (record { answers = is.answers (Refused NoData) (with_happening peer.part (suc i) (entry_of kind [])) (causes ∙ answer.0, sym found ∙ answer.1, refl); rtps = ap (λ (e : Effect). effect peer.part.rtps e) (sym (is.effect (Refused NoData))) })
+    (record {
+      answers = is.answers (Refused NoData) (with_happening peer.part (suc i) (entry_of kind []))
+          (causes ∙ answer.0, sym found ∙ answer.1, refl);
+      rtps = ap (λ (e : Effect). effect peer.part.rtps e)
+          (sym (is.effect (Refused NoData)));
+    })
 accessed tests kind c test i selection kept k k' config peer is s at same (Err code) causes qos answer after =
-    not_entered tests c kept i k k' config peer code s at (kept_same k k' same after) (is.answers (Refused code) peer.part.dds (subst (λ (o : Option Code). Refuses o code) (sym causes) answer, refl))
+    not_entered tests c kept i k k' config peer code s at (kept_same k k' same after)
+    (is.answers (Refused code) peer.part.dds
+    (subst (λ (o : Option Code). Refuses o code) (sym causes) answer, refl))
 
 -- the same of the reader of a number, where it stands in the opened peer
 pub accessed_at : {tests : Tests} {kind : AccessKind} {c : Call} {test : Test} {reader : ℕ}
     {selection : Selection} {kept now : PeerKept} (i : ℕ) (k k' : ReaderKept) (config : Config) (peer : Peer)
     → kept ≡ now → StandsFor now config peer → IsAccess tests peer.part c kind test reader selection
-    → reader ≡ i + 1 → i < length kept.readers → k ≡ get_or kept.readers i k → TakesOnly k k' → (r : Result (List Sample) Code)
+    → reader ≡ i + 1 → i < length kept.readers → k ≡ get_or kept.readers i k → TakesOnly k k'
+    → (r : Result (List Sample) Code)
     → ((h : List Happening) → Holds k.store h → AccessAnswers k.store.cache h selection test r)
     → ((h : List Happening) → Holds k.store h → AfterAccess kind k.store.cache h selection test r k'.store.cache)
     → (output : Output) (reply : Reply) → output ≡ silent reply → reply ≡ access_reply r
@@ -201,14 +255,18 @@ pub accessed_at : {tests : Tests} {kind : AccessKind} {c : Call} {test : Test} {
 accessed_at {tests} {kind} {c} {test} {selection = selection} {kept} i k k' config peer view given is number lt element
     same r answer after output reply told replied =
     let s = still_stands view given in
-    let at : slice_get kept.readers i ≡ Some k = slice_get_read kept.readers (length kept.readers) i k refl lt element in
+    let at : slice_get kept.readers i ≡ Some k =
+    slice_get_read kept.readers (length kept.readers) i k refl lt element in
     let index : i + 1 ≡ suc i = omega arith in
     let rs = s.readers.each i k at in
     let count = s.readers.count in
     let h : List Happening = (own_reader peer.part (suc i)).happened in
-    let known : has_element peer.part.dds.readers (suc i) ≡ true = there_is peer.part.dds.readers i (omega (arith, lt, count)) in
+    let known : has_element peer.part.dds.readers (suc i) ≡ true =
+    there_is peer.part.dds.readers i (omega (arith, lt, count)) in
     let causes : access_refusal peer.part (suc i) selection ≡ refusal k.store.cache h selection =
-    ap (λ (b : Bool). if not b then Some BadParameter else selection_refusal (own_reader peer.part (suc i)).qos h selection) known ∙ ap (λ (q : ReaderQos). selection_refusal q h selection) rs.qos_is in
+    ap (λ (b : Bool). if not b then Some BadParameter else selection_refusal
+    (own_reader peer.part (suc i)).qos h selection) known
+    ∙ ap (λ (q : ReaderQos). selection_refusal q h selection) rs.qos_is in
     follows_as _ config peer (event.Call c) (silent (access_reply r)) output (told ∙ ap silent replied)
     (accessed tests kind c test i selection kept k k' config peer
     (subst (λ (n : ℕ). IsAccess tests peer.part c kind test n selection) (number ∙ index) is) s at same r causes

@@ -29,10 +29,16 @@ IsOnly [] e n p = ⊥
 IsOnly (q ∷ qs) e zero p = (q ≡ p) × (p.reader ≡ e) × IsNone qs e
 IsOnly (q ∷ qs) e (suc n) p = (q.reader ≡ e → ⊥) × IsOnly qs e n p
 
-pub only_row : (rows : List ReaderProxy) (e : Endpoint) (n : ℕ) (p : ReaderProxy) → slice_get rows n ≡ Some p → p.reader ≡ e → ((k : ℕ) (q : ReaderProxy) → slice_get rows k ≡ Some q → q.reader ≡ e → k ≡ n) → IsOnly rows e n p
+pub only_row : (rows : List ReaderProxy) (e : Endpoint) (n : ℕ) (p : ReaderProxy) → slice_get rows n ≡ Some p
+    → p.reader ≡ e → ((k : ℕ) (q : ReaderProxy) → slice_get rows k ≡ Some q → q.reader ≡ e → k ≡ n) → IsOnly rows e n p
 only_row [] e n p at is one = absurd cc
-only_row (q ∷ qs) e zero p at is one = (same_Some q p at, is, λ k r at_r of_r. let same = one (suc k) r at_r of_r in omega (arith, same))
-only_row (q ∷ qs) e (suc n) p at is one = (λ of_q. let same = one zero q refl of_q in omega (arith, same), only_row qs e n p at is (λ k r at_r of_r. let same = one (suc k) r at_r of_r in omega (arith, same)))
+only_row (q ∷ qs) e zero p at is one =
+    (same_Some q p at, is, λ k r at_r of_r. let same = one (suc k) r at_r of_r in omega (arith, same))
+only_row (q ∷ qs) e (suc n) p at is one = (
+  λ of_q. let same = one zero q refl of_q in omega (arith, same),
+  only_row qs e n p at is
+      (λ k r at_r of_r. let same = one (suc k) r at_r of_r in omega (arith, same)),
+)
 
 pub not_same : (a e : Endpoint) → (a ≡ e → ⊥) → same_endpoint a e ≡ false
 not_same a e other = by (same_endpoint a e) refl
@@ -53,59 +59,83 @@ set_row q qs e to b = cond b (record q { acknowledged = to } ∷ qs) (q ∷ with
 first_row : (q : ReaderProxy) (e : Endpoint) (p : ReaderProxy) → q ≡ p → p.reader ≡ e → same_endpoint q.reader e ≡ true
 first_row q e p is of_e = is_same q.reader e (ap (λ (x : ReaderProxy). x.reader) is ∙ of_e)
 
-pub acknowledged_is : (rows : List ReaderProxy) (e : Endpoint) (n : ℕ) (p : ReaderProxy) → IsOnly rows e n p → acknowledged_of rows e ≡ Some p.acknowledged
+pub acknowledged_is : (rows : List ReaderProxy) (e : Endpoint) (n : ℕ) (p : ReaderProxy) → IsOnly rows e n p
+    → acknowledged_of rows e ≡ Some p.acknowledged
 acknowledged_is [] e n p h = absurd h
 acknowledged_is (q ∷ qs) e zero p h =
-    ap (λ (b : Bool). option_map (λ (x : ReaderProxy). x.acknowledged) (cond b (Some q) (row_of (λ (x : ReaderProxy). x.reader) qs e))) (first_row q e p h.0 h.1) ∙ ap (λ (x : ReaderProxy). Some x.acknowledged) h.0
+    ap (λ (b : Bool). option_map (λ (x : ReaderProxy). x.acknowledged)
+    (cond b (Some q) (row_of (λ (x : ReaderProxy). x.reader) qs e))) (first_row q e p h.0 h.1)
+    ∙ ap (λ (x : ReaderProxy). Some x.acknowledged) h.0
 acknowledged_is (q ∷ qs) e (suc n) p h =
-    ap (λ (b : Bool). option_map (λ (x : ReaderProxy). x.acknowledged) (cond b (Some q) (row_of (λ (x : ReaderProxy). x.reader) qs e))) (not_same q.reader e h.0) ∙ acknowledged_is qs e n p h.1
+    ap (λ (b : Bool). option_map (λ (x : ReaderProxy). x.acknowledged)
+    (cond b (Some q) (row_of (λ (x : ReaderProxy). x.reader) qs e))) (not_same q.reader e h.0)
+    ∙ acknowledged_is qs e n p h.1
 
-pub acknowledged_set : (rows : List ReaderProxy) (e : Endpoint) (n : ℕ) (p : ReaderProxy) (to : ℕ) → IsOnly rows e n p → map (λ (x : ReaderProxy). x.acknowledged) (with_acknowledged rows e to) ≡ set (map (λ (x : ReaderProxy). x.acknowledged) rows) n to
+pub acknowledged_set : (rows : List ReaderProxy) (e : Endpoint) (n : ℕ) (p : ReaderProxy) (to : ℕ) → IsOnly rows e n p
+    → map (λ (x : ReaderProxy). x.acknowledged) (with_acknowledged rows e to)
+    ≡ set (map (λ (x : ReaderProxy). x.acknowledged) rows) n to
 acknowledged_set [] e n p to h = absurd h
-acknowledged_set (q ∷ qs) e zero p to h = ap (λ (b : Bool). map (λ (x : ReaderProxy). x.acknowledged) (set_row q qs e to b)) (first_row q e p h.0 h.1)
+acknowledged_set (q ∷ qs) e zero p to h =
+    ap (λ (b : Bool). map (λ (x : ReaderProxy). x.acknowledged) (set_row q qs e to b)) (first_row q e p h.0 h.1)
 acknowledged_set (q ∷ qs) e (suc n) p to h =
-    ap (λ (b : Bool). map (λ (x : ReaderProxy). x.acknowledged) (set_row q qs e to b)) (not_same q.reader e h.0) ∙ ap (λ (xs : List ℕ). q.acknowledged ∷ xs) (acknowledged_set qs e n p to h.1)
+    ap (λ (b : Bool). map (λ (x : ReaderProxy). x.acknowledged) (set_row q qs e to b)) (not_same q.reader e h.0)
+    ∙ ap (λ (xs : List ℕ). q.acknowledged ∷ xs) (acknowledged_set qs e n p to h.1)
 
-pub acknowledged_at : (rows : List ReaderProxy) (e : Endpoint) (n : ℕ) (p : ReaderProxy) → IsOnly rows e n p → slice_index (map (λ (x : ReaderProxy). x.acknowledged) rows) n ≡ p.acknowledged
+pub acknowledged_at : (rows : List ReaderProxy) (e : Endpoint) (n : ℕ) (p : ReaderProxy) → IsOnly rows e n p
+    → slice_index (map (λ (x : ReaderProxy). x.acknowledged) rows) n ≡ p.acknowledged
 acknowledged_at [] e n p h = absurd h
 acknowledged_at (q ∷ qs) e zero p h = ap (λ (x : ReaderProxy). x.acknowledged) h.0
 acknowledged_at (q ∷ qs) e (suc n) p h = acknowledged_at qs e n p h.1
 
 -- the rows name whom they named
-pub readers_same : (rows : List ReaderProxy) (e : Endpoint) (to : ℕ) → map (λ (x : ReaderProxy). x.reader) (with_acknowledged rows e to) ≡ map (λ (x : ReaderProxy). x.reader) rows
+pub readers_same : (rows : List ReaderProxy) (e : Endpoint) (to : ℕ)
+    → map (λ (x : ReaderProxy). x.reader) (with_acknowledged rows e to) ≡ map (λ (x : ReaderProxy). x.reader) rows
 readers_same [] e to = refl
 readers_same (q ∷ qs) e to = by (same_endpoint q.reader e) (readers_same qs e to)
   where
-    by : (b : Bool) → map (λ (x : ReaderProxy). x.reader) (with_acknowledged qs e to) ≡ map (λ (x : ReaderProxy). x.reader) qs → map (λ (x : ReaderProxy). x.reader) (set_row q qs e to b) ≡ q.reader ∷ map (λ (x : ReaderProxy). x.reader) qs
+    by : (b : Bool) → map (λ (x : ReaderProxy). x.reader) (with_acknowledged qs e to)
+        ≡ map (λ (x : ReaderProxy). x.reader) qs → map (λ (x : ReaderProxy). x.reader) (set_row q qs e to b)
+        ≡ q.reader ∷ map (λ (x : ReaderProxy). x.reader) qs
     by true h = refl
     by false h = ap (λ (es : List Endpoint). q.reader ∷ es) h
 
-map_readers : (f : Endpoint → Option ℤ) (rows : List ReaderProxy) → map (λ (x : ReaderProxy). f x.reader) rows ≡ map f (map (λ (x : ReaderProxy). x.reader) rows)
+map_readers : (f : Endpoint → Option ℤ) (rows : List ReaderProxy)
+    → map (λ (x : ReaderProxy). f x.reader) rows ≡ map f (map (λ (x : ReaderProxy). x.reader) rows)
 map_readers f [] = refl
 map_readers f (q ∷ qs) = ap (λ (os : List (Option ℤ)). f q.reader ∷ os) (map_readers f qs)
 
-others_same : (f g : Endpoint → Option ℤ) (rows : List ReaderProxy) (e : Endpoint) → ((r : Endpoint) → (r ≡ e → ⊥) → g r ≡ f r) → IsNone rows e → map (λ (x : ReaderProxy). g x.reader) rows ≡ map (λ (x : ReaderProxy). f x.reader) rows
+others_same : (f g : Endpoint → Option ℤ) (rows : List ReaderProxy) (e : Endpoint)
+    → ((r : Endpoint) → (r ≡ e → ⊥) → g r ≡ f r) → IsNone rows e
+    → map (λ (x : ReaderProxy). g x.reader) rows ≡ map (λ (x : ReaderProxy). f x.reader) rows
 others_same f g [] e same none = refl
 others_same f g (q ∷ qs) e same none =
     ap (λ (o : Option ℤ). o ∷ map (λ (x : ReaderProxy). g x.reader) qs) (same q.reader (λ is. none zero q refl is))
     ∙ ap (λ (os : List (Option ℤ)). f q.reader ∷ os) (others_same f g qs e same (λ k p at is. none (suc k) p at is))
 
-counts_here : (f g : Endpoint → Option ℤ) (rows : List ReaderProxy) (e : Endpoint) (n : ℕ) (p : ReaderProxy) (count : Option ℤ) → g e ≡ count → ((r : Endpoint) → (r ≡ e → ⊥) → g r ≡ f r) → IsOnly rows e n p
+counts_here : (f g : Endpoint → Option ℤ) (rows : List ReaderProxy) (e : Endpoint) (n : ℕ) (p : ReaderProxy)
+    (count : Option ℤ) → g e ≡ count → ((r : Endpoint) → (r ≡ e → ⊥) → g r ≡ f r) → IsOnly rows e n p
     → map (λ (x : ReaderProxy). g x.reader) rows ≡ set (map (λ (x : ReaderProxy). f x.reader) rows) n count
 counts_here f g [] e n p count is same h = absurd h
 counts_here f g (q ∷ qs) e zero p count is same h =
     ap (λ (r : Endpoint). g r ∷ map (λ (x : ReaderProxy). g x.reader) qs) (ap (λ (x : ReaderProxy). x.reader) h.0 ∙ h.1)
-    ∙ (ap (λ (o : Option ℤ). o ∷ map (λ (x : ReaderProxy). g x.reader) qs) is ∙ ap (λ (os : List (Option ℤ)). count ∷ os) (others_same f g qs e same h.2))
+    ∙ (ap (λ (o : Option ℤ). o ∷ map (λ (x : ReaderProxy). g x.reader) qs) is
+    ∙ ap (λ (os : List (Option ℤ)). count ∷ os) (others_same f g qs e same h.2))
 counts_here f g (q ∷ qs) e (suc n) p count is same h =
-    ap (λ (o : Option ℤ). o ∷ map (λ (x : ReaderProxy). g x.reader) qs) (same q.reader h.0) ∙ ap (λ (os : List (Option ℤ)). f q.reader ∷ os) (counts_here f g qs e n p count is same h.1)
+    ap (λ (o : Option ℤ). o ∷ map (λ (x : ReaderProxy). g x.reader) qs) (same q.reader h.0)
+    ∙ ap (λ (os : List (Option ℤ)). f q.reader ∷ os) (counts_here f g qs e n p count is same h.1)
 
 -- the counts of the rows once that of the reader is this one
-pub counts_set : (f g : Endpoint → Option ℤ) (rows : List ReaderProxy) (e : Endpoint) (n : ℕ) (p : ReaderProxy) (to : ℕ) (count : Option ℤ) → g e ≡ count → ((r : Endpoint) → (r ≡ e → ⊥) → g r ≡ f r) → IsOnly rows e n p
-    → map (λ (x : ReaderProxy). g x.reader) (with_acknowledged rows e to) ≡ set (map (λ (x : ReaderProxy). f x.reader) rows) n count
+pub counts_set : (f g : Endpoint → Option ℤ) (rows : List ReaderProxy) (e : Endpoint) (n : ℕ) (p : ReaderProxy) (to : ℕ)
+    (count : Option ℤ) → g e ≡ count → ((r : Endpoint) → (r ≡ e → ⊥) → g r ≡ f r) → IsOnly rows e n p
+    → map (λ (x : ReaderProxy). g x.reader) (with_acknowledged rows e to)
+    ≡ set (map (λ (x : ReaderProxy). f x.reader) rows) n count
 counts_set f g rows e n p to count is same h =
-    map_readers g (with_acknowledged rows e to) ∙ (ap (λ (es : List Endpoint). map g es) (readers_same rows e to) ∙ (sym (map_readers g rows) ∙ counts_here f g rows e n p count is same h))
+    map_readers g (with_acknowledged rows e to)
+    ∙ (ap (λ (es : List Endpoint). map g es) (readers_same rows e to)
+    ∙ (sym (map_readers g rows) ∙ counts_here f g rows e n p count is same h))
 
-pub count_at : (f : Endpoint → Option ℤ) (rows : List ReaderProxy) (e : Endpoint) (n : ℕ) (p : ReaderProxy) → IsOnly rows e n p → get_or (map (λ (x : ReaderProxy). f x.reader) rows) n None ≡ f e
+pub count_at : (f : Endpoint → Option ℤ) (rows : List ReaderProxy) (e : Endpoint) (n : ℕ) (p : ReaderProxy)
+    → IsOnly rows e n p → get_or (map (λ (x : ReaderProxy). f x.reader) rows) n None ≡ f e
 count_at f [] e n p h = absurd h
 count_at f (q ∷ qs) e zero p h = ap f (ap (λ (x : ReaderProxy). x.reader) h.0 ∙ h.1)
 count_at f (q ∷ qs) e (suc n) p h = count_at f qs e n p h.1
@@ -115,23 +145,44 @@ only_within [] e n p h = absurd h
 only_within (q ∷ qs) e zero p h = omega arith
 only_within (q ∷ qs) e (suc n) p h = let lt = only_within qs e n p h.1 in omega (arith, lt)
 
-begun_on : (rows : List ReaderProxy) (e : Endpoint) (to : ℕ) → 1 ≤ to → AllByRecursion (λ (x : ReaderProxy). 1 ≤ x.acknowledged) rows → AllByRecursion (λ (x : ReaderProxy). 1 ≤ x.acknowledged) (with_acknowledged rows e to)
+begun_on : (rows : List ReaderProxy) (e : Endpoint) (to : ℕ) → 1 ≤ to
+    → AllByRecursion (λ (x : ReaderProxy). 1 ≤ x.acknowledged) rows
+    → AllByRecursion (λ (x : ReaderProxy). 1 ≤ x.acknowledged) (with_acknowledged rows e to)
 begun_on [] e to low h = tt
 begun_on (q ∷ qs) e to low h = by (same_endpoint q.reader e) (begun_on qs e to low h.1)
   where
-    by : (b : Bool) → AllByRecursion (λ (x : ReaderProxy). 1 ≤ x.acknowledged) (with_acknowledged qs e to) → AllByRecursion (λ (x : ReaderProxy). 1 ≤ x.acknowledged) (set_row q qs e to b)
+    by : (b : Bool) → AllByRecursion (λ (x : ReaderProxy). 1 ≤ x.acknowledged) (with_acknowledged qs e to)
+        → AllByRecursion (λ (x : ReaderProxy). 1 ≤ x.acknowledged) (set_row q qs e to b)
     by true k = (low, h.1)
     by false k = (h.0, k)
 
-pub still_begun : (rows : List ReaderProxy) (e : Endpoint) (to : ℕ) → 1 ≤ to → All (λ (x : ReaderProxy). 1 ≤ x.acknowledged) rows → All (λ (x : ReaderProxy). 1 ≤ x.acknowledged) (with_acknowledged rows e to)
+pub still_begun : (rows : List ReaderProxy) (e : Endpoint) (to : ℕ) → 1 ≤ to
+    → All (λ (x : ReaderProxy). 1 ≤ x.acknowledged) rows
+    → All (λ (x : ReaderProxy). 1 ≤ x.acknowledged) (with_acknowledged rows e to)
 still_begun rows e to low h =
-    All-from_recursion (λ (x : ReaderProxy). 1 ≤ x.acknowledged) (with_acknowledged rows e to) (begun_on rows e to low (recursion_from_All (λ (x : ReaderProxy). 1 ≤ x.acknowledged) rows h))
+    All-from_recursion (λ (x : ReaderProxy). 1 ≤ x.acknowledged) (with_acknowledged rows e to)
+    (begun_on rows e to low (recursion_from_All (λ (x : ReaderProxy). 1 ≤ x.acknowledged) rows h))
 
 -- ---- the state
 
 state_as : (w : Writer) (a b : List ℕ) (c d : List (Option ℤ)) → a ≡ b → c ≡ d
-    → ◌≡◌ {A = WriterState} (record { policy = w.policy; max_samples = w.max_samples; lease = w.lease; written = w.written; acknowledged = a; counts = c })
-    (record { policy = w.policy; max_samples = w.max_samples; lease = w.lease; written = w.written; acknowledged = b; counts = d })
+    → ◌≡◌ {A = WriterState}
+    (record {
+      policy = w.policy;
+      max_samples = w.max_samples;
+      lease = w.lease;
+      written = w.written;
+      acknowledged = a;
+      counts = c;
+    })
+    (record {
+      policy = w.policy;
+      max_samples = w.max_samples;
+      lease = w.lease;
+      written = w.written;
+      acknowledged = b;
+      counts = d;
+    })
 state_as w a b c d e f = cc
 
 -- what the writer knows of a reader of which this ACKNACK is taken
@@ -139,13 +190,16 @@ pub record IsCounted (old new : Endpoint → Option ℤ) (e : Endpoint) (count :
   pub here : new e ≡ Some count
   pub others : (r : Endpoint) → (r ≡ e → ⊥) → new r ≡ old r
 
-pub state_applied : (w : Writer) (answered new : Endpoint → Option ℤ) (e : Endpoint) (n : ℕ) (p : ReaderProxy) (base : ℕ) (count : ℤ) → IsOnly w.readers e n p → IsCounted answered new e count
+pub state_applied : (w : Writer) (answered new : Endpoint → Option ℤ) (e : Endpoint) (n : ℕ) (p : ReaderProxy)
+    (base : ℕ) (count : ℤ) → IsOnly w.readers e n p → IsCounted answered new e count
     → state_of (acknowledging w e (max p.acknowledged base)) new ≡ applied (state_of w answered) n base count
 state_applied w answered new e n p base count only counted =
     let rows : List ReaderProxy = w.readers in
-    let at : slice_index (map (λ (x : ReaderProxy). x.acknowledged) rows) n ≡ p.acknowledged = acknowledged_at rows e n p only in
+    let at : slice_index (map (λ (x : ReaderProxy). x.acknowledged) rows) n ≡ p.acknowledged =
+    acknowledged_at rows e n p only in
     state_as w _ _ _ _
-    (acknowledged_set rows e n p (max p.acknowledged base) only ∙ ap (λ (m : ℕ). set (map (λ (x : ReaderProxy). x.acknowledged) rows) n (max m base)) (sym at))
+    (acknowledged_set rows e n p (max p.acknowledged base) only
+    ∙ ap (λ (m : ℕ). set (map (λ (x : ReaderProxy). x.acknowledged) rows) n (max m base)) (sym at))
     (counts_set answered new rows e n p (max p.acknowledged base) (Some count) counted.here counted.others only)
 
 is_later_is : (o : Option ℤ) (count : ℤ) → is_new_count o count ≡ is_later o count
@@ -153,10 +207,13 @@ is_later_is None count = refl
 is_later_is (Some last) count = refl
 
 -- the ACKNACK is applied where it is taken
-pub applied_is : (w : Writer) (answered : Endpoint → Option ℤ) (e : Endpoint) (n : ℕ) (p : ReaderProxy) (base : ℕ) (count : ℤ) → IsOnly w.readers e n p
-    → is_applied (state_of w answered) n base count ≡ (is_later (answered e) count && nat_le base (length (writer_changes w) + 1))
+pub applied_is : (w : Writer) (answered : Endpoint → Option ℤ) (e : Endpoint) (n : ℕ) (p : ReaderProxy) (base : ℕ)
+    (count : ℤ) → IsOnly w.readers e n p
+    → is_applied (state_of w answered) n base count
+    ≡ (is_later (answered e) count && nat_le base (length (writer_changes w) + 1))
 applied_is w answered e n p base count only =
-    ap (λ (o : Option ℤ). is_new_count o count && nat_le base (length (writer_changes w) + 1)) (count_at answered w.readers e n p only)
+    ap (λ (o : Option ℤ). is_new_count o count && nat_le base (length (writer_changes w) + 1))
+    (count_at answered w.readers e n p only)
     ∙ ap (λ (b : Bool). b && nat_le base (length (writer_changes w) + 1)) (is_later_is (answered e) count)
 
 set_index : (xs : List ℕ) (n to : ℕ) → n < length xs → slice_index (set xs n to) n ≡ to
@@ -165,41 +222,57 @@ set_index (x ∷ xs) zero to lt = refl
 set_index (x ∷ xs) (suc n) to lt = set_index xs n to (omega (arith, lt))
 
 -- the number below which the reader has then acknowledged all
-pub acknowledged_then : (w : Writer) (answered : Endpoint → Option ℤ) (e : Endpoint) (n : ℕ) (p : ReaderProxy) (base : ℕ) (count : ℤ) → IsOnly w.readers e n p
+pub acknowledged_then : (w : Writer) (answered : Endpoint → Option ℤ) (e : Endpoint) (n : ℕ) (p : ReaderProxy)
+    (base : ℕ) (count : ℤ) → IsOnly w.readers e n p
     → acknowledged_by (applied (state_of w answered) n base count) n ≡ max p.acknowledged base
 acknowledged_then w answered e n p base count only =
     let rows : List ReaderProxy = w.readers in
     let lt = only_within rows e n p only in
     let size = length-map rows (λ (x : ReaderProxy). x.acknowledged) in
-    set_index (map (λ (x : ReaderProxy). x.acknowledged) rows) n (max (slice_index (map (λ (x : ReaderProxy). x.acknowledged) rows) n) base) (omega (arith, lt, size))
+    set_index (map (λ (x : ReaderProxy). x.acknowledged) rows) n
+    (max (slice_index (map (λ (x : ReaderProxy). x.acknowledged) rows) n) base) (omega (arith, lt, size))
     ∙ ap (λ (m : ℕ). max m base) (acknowledged_at rows e n p only)
 
 -- the move of an acknowledgement
-pub moves_then : (w : Writer) (answered : Endpoint → Option ℤ) (e : Endpoint) (n : ℕ) (p : ReaderProxy) (base : ℕ) (count : ℤ) (writer : ℕ) → IsOnly w.readers e n p
-    → acknowledged_moves writer e (newly_acknowledged (state_of w answered) (applied (state_of w answered) n base count) n) ≡ (if nat_lt p.acknowledged base then Acknowledged writer e base ∷ [] else [])
+pub moves_then : (w : Writer) (answered : Endpoint → Option ℤ) (e : Endpoint) (n : ℕ) (p : ReaderProxy) (base : ℕ)
+    (count : ℤ) (writer : ℕ) → IsOnly w.readers e n p
+    → acknowledged_moves writer e
+    (newly_acknowledged (state_of w answered) (applied (state_of w answered) n base count) n)
+    ≡ (if nat_lt p.acknowledged base then Acknowledged writer e base ∷ [] else [])
 moves_then w answered e n p base count writer only =
-    ap (λ (m : ℕ). acknowledged_moves writer e (if_later m (acknowledged_by (applied (state_of w answered) n base count) n))) (acknowledged_at w.readers e n p only)
-    ∙ (ap (λ (m : ℕ). acknowledged_moves writer e (if_later p.acknowledged m)) (acknowledged_then w answered e n p base count only) ∙ by (nat_lt p.acknowledged base) refl)
+    ap (λ (m : ℕ). acknowledged_moves writer e
+    (if_later m (acknowledged_by (applied (state_of w answered) n base count) n)))
+    (acknowledged_at w.readers e n p only)
+    ∙ (ap (λ (m : ℕ). acknowledged_moves writer e (if_later p.acknowledged m))
+    (acknowledged_then w answered e n p base count only) ∙ by (nat_lt p.acknowledged base) refl)
   where
-    by : (b : Bool) → nat_lt p.acknowledged base ≡ b → acknowledged_moves writer e (if_later p.acknowledged (max p.acknowledged base)) ≡ (if nat_lt p.acknowledged base then Acknowledged writer e base ∷ [] else [])
+    by : (b : Bool) → nat_lt p.acknowledged base ≡ b
+        → acknowledged_moves writer e (if_later p.acknowledged (max p.acknowledged base))
+        ≡ (if nat_lt p.acknowledged base then Acknowledged writer e base ∷ [] else [])
     by true is =
         let forward : p.acknowledged < base = grind (arith, nat_tests) in
         let most : max p.acknowledged base ≡ base = omega (arith, forward) in
         ap (λ (m : ℕ). acknowledged_moves writer e (if_later p.acknowledged m)) most
-        ∙ (ap (λ (b : Bool). acknowledged_moves writer e (if b then Some base else None)) is ∙ ap (λ (b : Bool). if b then Acknowledged writer e base ∷ [] else []) (sym is))
+        ∙ (ap (λ (b : Bool). acknowledged_moves writer e (if b then Some base else None)) is
+        ∙ ap (λ (b : Bool). if b then Acknowledged writer e base ∷ [] else []) (sym is))
     by false is =
         let low : base ≤ p.acknowledged = grind (arith, nat_tests) in
         let most : max p.acknowledged base ≡ p.acknowledged = omega (arith, low) in
         let still : nat_lt p.acknowledged p.acknowledged ≡ false = grind (arith, nat_tests) in
         ap (λ (m : ℕ). acknowledged_moves writer e (if_later p.acknowledged m)) most
-        ∙ (ap (λ (b : Bool). acknowledged_moves writer e (if b then Some p.acknowledged else None)) still ∙ ap (λ (b : Bool). if b then Acknowledged writer e base ∷ [] else []) (sym is))
+        ∙ (ap (λ (b : Bool). acknowledged_moves writer e (if b then Some p.acknowledged else None)) still
+        ∙ ap (λ (b : Bool). if b then Acknowledged writer e base ∷ [] else []) (sym is))
 
 -- what was acknowledged, or more, is from 1 on
-pub low_of : (rows : List ReaderProxy) (e : Endpoint) (n : ℕ) (p : ReaderProxy) (base : ℕ) → IsOnly rows e n p → All (λ (x : ReaderProxy). 1 ≤ x.acknowledged) rows → 1 ≤ max p.acknowledged base
+pub low_of : (rows : List ReaderProxy) (e : Endpoint) (n : ℕ) (p : ReaderProxy) (base : ℕ) → IsOnly rows e n p
+    → All (λ (x : ReaderProxy). 1 ≤ x.acknowledged) rows → 1 ≤ max p.acknowledged base
 low_of rows e n p base only begun =
-    let low = lowest rows n p (recursion_from_All (λ (x : ReaderProxy). 1 ≤ x.acknowledged) rows begun) only in omega (arith, low)
+    let low =
+    lowest rows n p (recursion_from_All (λ (x : ReaderProxy). 1 ≤ x.acknowledged) rows begun) only in
+    omega (arith, low)
   where
-    lowest : (rows : List ReaderProxy) (n : ℕ) (p : ReaderProxy) → AllByRecursion (λ (x : ReaderProxy). 1 ≤ x.acknowledged) rows → IsOnly rows e n p → 1 ≤ p.acknowledged
+    lowest : (rows : List ReaderProxy) (n : ℕ) (p : ReaderProxy)
+        → AllByRecursion (λ (x : ReaderProxy). 1 ≤ x.acknowledged) rows → IsOnly rows e n p → 1 ≤ p.acknowledged
     lowest [] n p h k = absurd k
     lowest (q ∷ qs) zero p h k = subst (λ (x : ReaderProxy). 1 ≤ x.acknowledged) k.0 h.0
     lowest (q ∷ qs) (suc n) p h k = lowest qs n p h.1 k.1

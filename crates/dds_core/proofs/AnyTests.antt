@@ -23,7 +23,8 @@ is_plain (call.GetTriggerValue c) = false
 is_plain (call.WaitLook s) = false
 is_plain other = true
 
-any_answers : (tests : Tests) (old : Part) (c : Call) (reply : Reply) (dds : Dds) → is_plain c ≡ true → Answers no_filters old c reply dds → Answers tests old c reply dds
+any_answers : (tests : Tests) (old : Part) (c : Call) (reply : Reply) (dds : Dds) → is_plain c ≡ true
+    → Answers no_filters old c reply dds → Answers tests old c reply dds
 any_answers tests old (call.Register w key) reply dds plain a = a
 any_answers tests old (call.Write w key value) reply dds plain a = a
 any_answers tests old (call.Dispose w key) reply dds plain a = a
@@ -68,7 +69,8 @@ any_answers tests old (call.SetEnabledStatuses entity mask) reply dds plain a = 
 any_answers tests old (call.GetStatusChanges entity) reply dds plain a = a
 
 -- a call
-pub any_call : (tests : Tests) (old new : PeerKept) (c : Call) (output : Output) → Steps old (event.Call c) output new → is_plain c ≡ true → StepsBy tests old (event.Call c) output new
+pub any_call : (tests : Tests) (old new : PeerKept) (c : Call) (output : Output) → Steps old (event.Call c) output new
+    → is_plain c ≡ true → StepsBy tests old (event.Call c) output new
 any_call tests old new c output steps plain = λ config peer s.
     let r = steps config peer s in (
       r.0,
@@ -100,18 +102,21 @@ plainly_called tests old new given c output is steps plain =
     called tests old new given c output is (any_call tests old new c output steps plain)
 
 -- a tick
-pub any_tick : (tests : Tests) (old new : PeerKept) (now : ℕ) (output : Output) → SoundSteps old (event.Tick now) output new → SoundStepsBy tests old (event.Tick now) output new
+pub any_tick : (tests : Tests) (old new : PeerKept) (now : ℕ) (output : Output)
+    → SoundSteps old (event.Tick now) output new → SoundStepsBy tests old (event.Tick now) output new
 any_tick tests old new now output steps = λ config peer s sound.
     let r = steps config peer s sound in
     (r.0, record { same_number = r.1.same_number; knows = r.1.knows; step = r.1.step; sent = r.1.sent }, r.2, r.3, r.4)
 
 -- a delivery
 any_report : (config : Config) (tests : Tests) (old : Peer) (packet : List ℕ) (reply : Reply) (new : Peer)
-    → EventStep config no_filters old (event.Deliver packet) reply new → EventStep config tests old (event.Deliver packet) reply new
+    → EventStep config no_filters old (event.Deliver packet) reply new
+    → EventStep config tests old (event.Deliver packet) reply new
 any_report config tests old packet (Reported report) new h = h
 any_report config tests old packet reply new h = absurd h
 
-pub any_delivery : (tests : Tests) (old new : PeerKept) (packet : List ℕ) (output : Output) → SoundSteps old (event.Deliver packet) output new → SoundStepsBy tests old (event.Deliver packet) output new
+pub any_delivery : (tests : Tests) (old new : PeerKept) (packet : List ℕ) (output : Output)
+    → SoundSteps old (event.Deliver packet) output new → SoundStepsBy tests old (event.Deliver packet) output new
 any_delivery tests old new packet output steps = λ config peer s sound.
     let r = steps config peer s sound in (
       r.0,

@@ -32,65 +32,89 @@ use Rattle.dds_core.proofs.Taking.{silent}
 use Rattle.dds_core.proofs.Tellable.{tellable_entered}
 
 -- what tells an assertion, by the configuration
-pub assertions_are : (config : Config) (peer : ℕ) (prefix : GuidPrefix) (number : ℕ) (k : WriterKept) (w : Writer) → IsNamed config peer prefix number k w
+pub assertions_are : (config : Config) (peer : ℕ) (prefix : GuidPrefix) (number : ℕ) (k : WriterKept) (w : Writer)
+    → IsNamed config peer prefix number k w
     → assertions_of prefix k w ≡ assertions_due config (record { peer = peer; number = number }) w
 assertions_are config peer prefix number k w is = by w.readers refl
   where
-    by : (rows : List ReaderProxy) → w.readers ≡ rows → assertions_of prefix k w ≡ assertions_due config (record { peer = peer; number = number }) w
+    by : (rows : List ReaderProxy) → w.readers ≡ rows → assertions_of prefix k w
+        ≡ assertions_due config (record { peer = peer; number = number }) w
     by [] none =
-        ap (λ (rows : List ReaderProxy). if nat_lt 0 (length rows) then map (λ (d : Destination). due_to d.peer (assertion_message prefix d.prefix k.entity w)) k.destinations else []) none
-        ∙ sym (ap (λ (rows : List ReaderProxy). map (λ (to : ℕ). due_to to (assertion_message (prefix_of config peer) (prefix_of config to) (writer_entity config peer number) w)) (peers_of rows)) none)
+        ap (λ (rows : List ReaderProxy). if nat_lt 0 (length rows) then map
+        (λ (d : Destination). due_to d.peer (assertion_message prefix d.prefix k.entity w)) k.destinations else [])
+        none
+        ∙ sym (ap (λ (rows : List ReaderProxy). map
+        (λ (to : ℕ). due_to to (assertion_message (prefix_of config peer) (prefix_of config to)
+        (writer_entity config peer number) w)) (peers_of rows)) none)
     by (p ∷ ps) some =
         let lengths = ap (λ (rows : List ReaderProxy). length rows) some in
         let matched : has_readers w ≡ true = grind (arith, nat_tests, lengths) in
         let ds : List Destination = k.destinations in
         let own : GuidPrefix = prefix_of config peer in
         let entity : EntityId = writer_entity config peer number in
-        ap (λ (b : Bool). if b then map (λ (d : Destination). due_to d.peer (assertion_message prefix d.prefix k.entity w)) ds else []) matched
-        ∙ sym (ap (λ (ns : List ℕ). map (λ (to : ℕ). due_to to (assertion_message own (prefix_of config to) entity w)) ns) (sends_to is.topic config.peers w.readers ds is.readers is.sent_to)
+        ap (λ (b : Bool). if b then map
+        (λ (d : Destination). due_to d.peer (assertion_message prefix d.prefix k.entity w)) ds else []) matched
+        ∙ sym (ap (λ (ns : List ℕ). map (λ (to : ℕ). due_to to (assertion_message own (prefix_of config to) entity w))
+        ns) (sends_to is.topic config.peers w.readers ds is.readers is.sent_to)
         ∙ (by_number config (λ to. assertion_message own to entity w) ds (all_named config is.topic ds is.sent_to)
-        ∙ (ap (λ (x : GuidPrefix). map (λ (d : Destination). due_to d.peer (assertion_message x d.prefix entity w)) ds) is.own
-        ∙ ap (λ (e : EntityId). map (λ (d : Destination). due_to d.peer (assertion_message prefix d.prefix e w)) ds) is.entity)))
+        ∙ (ap (λ (x : GuidPrefix). map (λ (d : Destination). due_to d.peer (assertion_message x d.prefix entity w)) ds)
+        is.own
+        ∙ ap (λ (e : EntityId). map (λ (d : Destination). due_to d.peer (assertion_message prefix d.prefix e w)) ds)
+        is.entity)))
 
 -- the peer's writer of this index, and what is told of it
 told_at : (kept : PeerKept) (i : ℕ) (k : WriterKept) (config : Config) (peer : Peer)
     → (s : StandsFor kept config peer) → slice_get kept.writers i ≡ Some k
     → (packets : List Packet) (unsent : ℕ) → TellsOf kept.prefix k packets unsent
     → (nat_le (2 ^ 31 - 1) (heartbeats_used (own_writer peer.part (suc i))) ≡ false)
-    × AreSent (assertions_due config (record { peer = peer.number; number = suc i }) (own_writer peer.part (suc i))) packets unsent
+    × AreSent (assertions_due config (record { peer = peer.number; number = suc i }) (own_writer peer.part (suc i)))
+    packets unsent
 told_at kept i k config peer s at packets unsent tells =
     let w : Writer = own_writer peer.part (suc i) in
     let told = tells w (peer.known.answered (suc i)) (s.writers.each i k at) in
     let next : 1 + i ≡ suc i = omega arith in
-    let is : IsNamed config peer.number kept.prefix (suc i) k w = subst (λ (n : ℕ). IsNamed config peer.number kept.prefix n k w) next (named config peer kept s i k at) in
-    (told.0, subst (λ (dues : List Due). AreSent dues packets unsent) (assertions_are config peer.number kept.prefix (suc i) k w is) told.1)
+    let is : IsNamed config peer.number kept.prefix (suc i) k w =
+    subst (λ (n : ℕ). IsNamed config peer.number kept.prefix n k w) next (named config peer kept s i k at) in (
+      told.0,
+      subst (λ (dues : List Due). AreSent dues packets unsent)
+          (assertions_are config peer.number kept.prefix (suc i) k w is) told.1,
+    )
 
 asserts : (kept : PeerKept) (i : ℕ) (k k' : WriterKept) (config : Config) (peer : Peer)
     → StandsFor kept config peer → slice_get kept.writers i ≡ Some k → i < length kept.writers
     → Enters k (Asserted kept.moment) k'
     → (packets : List Packet) (unsent : ℕ) → TellsOf kept.prefix k packets unsent
-    → Follows (with_writer kept i k') config peer (event.Call (call.AssertLiveliness (suc i))) (record { reply = Done; packets = packets; unsent = unsent })
+    → Follows (with_writer kept i k') config peer (event.Call (call.AssertLiveliness (suc i)))
+    (record { reply = Done; packets = packets; unsent = unsent })
 asserts kept i k k' config peer s at lt enters packets unsent tells =
     let count = s.writers.count in
-    let known : has_element peer.part.rtps.writers (suc i) ≡ true = there_is peer.part.rtps.writers i (omega (arith, lt, count)) in
+    let known : has_element peer.part.rtps.writers (suc i) ≡ true =
+    there_is peer.part.rtps.writers i (omega (arith, lt, count)) in
     let w : Writer = own_writer peer.part (suc i) in
     let now : ℕ = peer.part.dds.moment in
     let told = told_at kept i k config peer s at packets unsent tells in
     let accepted : assert_refusal peer.part (suc i) ≡ None =
-    ap (λ (b : Bool). if not b then Some BadParameter else (if nat_le (2 ^ 31 - 1) (heartbeats_used w) then Some OutOfResources else None)) known
+    ap (λ (b : Bool). if not b then Some BadParameter else (if nat_le (2 ^ 31 - 1)
+    (heartbeats_used w) then Some OutOfResources else None)) known
     ∙ ap (λ (b : Bool). if b then Some OutOfResources else None) told.0 in
     let entered : Enters k (Asserted now) k' = subst (λ (m : ℕ). Enters k (Asserted m) k') (sym s.moment) enters in
     let after : Peer = entered_at peer (suc i) (Asserted now) in
-    let step : CallStep no_filters peer.part (call.AssertLiveliness (suc i)) Done after.part = record { answers = (accepted, refl); rtps = refl } in
-    let truthful = assertions_true config no_filters peer.number (suc i) peer.part after.part s.is_peer.checked (part_of config peer kept s) step in (
+    let step : CallStep no_filters peer.part (call.AssertLiveliness (suc i)) Done after.part =
+    record { answers = (accepted, refl); rtps = refl } in
+    let truthful =
+    assertions_true config no_filters peer.number (suc i) peer.part after.part s.is_peer.checked
+    (part_of config peer kept s) step in (
       after,
       record {
         same_number = refl;
         knows = refl;
         step = (step, refl);
-        sent = sent_true config peer.number after.part (assertions_due config (record { peer = peer.number; number = suc i }) w) packets unsent truthful told.1;
+        sent =
+            sent_true config peer.number after.part
+            (assertions_due config (record { peer = peer.number; number = suc i }) w) packets unsent truthful told.1;
       },
-      own_writer_stepped kept i k k' (Asserted now) config peer s at entered (tellable_entered peer (suc i) (Asserted now) s.tellable tt),
+      own_writer_stepped kept i k k' (Asserted now) config peer s at entered
+          (tellable_entered peer (suc i) (Asserted now) s.tellable tt),
     )
 
 -- so it is of the writer of a number
@@ -98,17 +122,21 @@ pub asserts_at : (kept : PeerKept) (writer i : ℕ) (k k' : WriterKept) (config 
     → StandsFor kept config peer → writer ≡ i + 1 → slice_get kept.writers i ≡ Some k → i < length kept.writers
     → Enters k (Asserted kept.moment) k' → (packets : List Packet) (unsent : ℕ)
     → TellsOf kept.prefix k packets unsent
-    → Follows (with_writer kept i k') config peer (event.Call (call.AssertLiveliness writer)) (record { reply = Done; packets = packets; unsent = unsent })
+    → Follows (with_writer kept i k') config peer (event.Call (call.AssertLiveliness writer))
+    (record { reply = Done; packets = packets; unsent = unsent })
 asserts_at kept writer i k k' config peer s is at lt enters packets unsent tells =
-    subst (λ (n : ℕ). Follows (with_writer kept i k') config peer (event.Call (call.AssertLiveliness n)) (record { reply = Done; packets = packets; unsent = unsent }))
+    subst (λ (n : ℕ). Follows (with_writer kept i k') config peer (event.Call (call.AssertLiveliness n))
+    (record { reply = Done; packets = packets; unsent = unsent }))
     (number_is writer i is) (asserts kept i k k' config peer s at lt enters packets unsent tells)
 
 pub asserts_sends : (kept : PeerKept) (writer i : ℕ) (k : WriterKept) (config : Config) (peer : Peer)
     → StandsFor kept config peer → writer ≡ i + 1 → slice_get kept.writers i ≡ Some k
     → (packets : List Packet) (unsent : ℕ) → TellsOf kept.prefix k packets unsent
-    → AreSent (assertions_due config (record { peer = peer.number; number = writer }) (own_writer peer.part writer)) packets unsent
+    → AreSent (assertions_due config (record { peer = peer.number; number = writer }) (own_writer peer.part writer))
+    packets unsent
 asserts_sends kept writer i k config peer s is at packets unsent tells =
-    subst (λ (n : ℕ). AreSent (assertions_due config (record { peer = peer.number; number = n }) (own_writer peer.part n)) packets unsent)
+    subst (λ (n : ℕ). AreSent
+    (assertions_due config (record { peer = peer.number; number = n }) (own_writer peer.part n)) packets unsent)
     (number_is writer i is) (told_at kept i k config peer s at packets unsent tells).1
 
 -- where its counts are used up, nothing happens
@@ -117,17 +145,24 @@ refuses : (kept : PeerKept) (i : ℕ) (k : WriterKept) (config : Config) (peer :
     → Follows kept config peer (event.Call (call.AssertLiveliness (suc i))) (silent (Refused OutOfResources))
 refuses kept i k config peer s at lt used =
     let count = s.writers.count in
-    let known : has_element peer.part.rtps.writers (suc i) ≡ true = there_is peer.part.rtps.writers i (omega (arith, lt, count)) in
+    let known : has_element peer.part.rtps.writers (suc i) ≡ true =
+    there_is peer.part.rtps.writers i (omega (arith, lt, count)) in
     let w : Writer = own_writer peer.part (suc i) in
     let is : assert_refusal peer.part (suc i) ≡ Some OutOfResources =
-    ap (λ (b : Bool). if not b then Some BadParameter else (if nat_le (2 ^ 31 - 1) (heartbeats_used w) then Some OutOfResources else None)) known
-    ∙ ap (λ (b : Bool). if b then Some OutOfResources else None) (used w (peer.known.answered (suc i)) (s.writers.each i k at)) in
+    ap (λ (b : Bool). if not b then Some BadParameter else (if nat_le (2 ^ 31 - 1)
+    (heartbeats_used w) then Some OutOfResources else None)) known
+    ∙ ap (λ (b : Bool). if b then Some OutOfResources else None)
+    (used w (peer.known.answered (suc i)) (s.writers.each i k at)) in
     refused_call kept config peer s (call.AssertLiveliness (suc i)) OutOfResources (is, refl)
 
-pub refuses_at : (kept : PeerKept) (writer i : ℕ) (k k' : WriterKept) (code : Code) (config : Config) (peer : Peer) → StandsFor kept config peer → writer ≡ i + 1 → slice_get kept.writers i ≡ Some k → i < length kept.writers
+pub refuses_at : (kept : PeerKept) (writer i : ℕ) (k k' : WriterKept) (code : Code) (config : Config) (peer : Peer)
+    → StandsFor kept config peer → writer ≡ i + 1 → slice_get kept.writers i ≡ Some k → i < length kept.writers
     → (code ≡ OutOfResources) × HasNoCount k → k' ≡ k
     → Follows (with_writer kept i k') config peer (event.Call (call.AssertLiveliness writer)) (silent (Refused code))
 refuses_at kept writer i k k' code config peer s is at lt used same =
-    subst (λ (x : PeerKept). Follows x config peer (event.Call (call.AssertLiveliness writer)) (silent (Refused code))) (sym (unchanged_with kept i k k' at same))
-    (subst (λ (n : ℕ). Follows kept config peer (event.Call (call.AssertLiveliness n)) (silent (Refused code))) (number_is writer i is)
-    (subst (λ (x : Code). Follows kept config peer (event.Call (call.AssertLiveliness (suc i))) (silent (Refused x))) (sym used.0) (refuses kept i k config peer s at lt used.1)))
+    subst (λ (x : PeerKept). Follows x config peer (event.Call (call.AssertLiveliness writer)) (silent (Refused code)))
+    (sym (unchanged_with kept i k k' at same))
+    (subst (λ (n : ℕ). Follows kept config peer (event.Call (call.AssertLiveliness n)) (silent (Refused code)))
+    (number_is writer i is)
+    (subst (λ (x : Code). Follows kept config peer (event.Call (call.AssertLiveliness (suc i))) (silent (Refused x)))
+    (sym used.0) (refuses kept i k config peer s at lt used.1)))

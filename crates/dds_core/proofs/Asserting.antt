@@ -25,7 +25,8 @@ use Rattle.dds_core.proofs.Beating.{due_by, made_is, valid_next, written_on}
 
 -- ---- one destination more
 
-pub told_more : (beat : Beat) (ds : List Destination) (i : ℕ) (d : Destination) (p q : List Packet) (m n : ℕ) → i < length ds
+pub told_more : (beat : Beat) (ds : List Destination) (i : ℕ) (d : Destination) (p q : List Packet) (m n : ℕ)
+    → i < length ds
     → AreSent (told_to beat (take i ds)) p m
     → Adds (due_to (get_or ds i d).peer (message_to beat (get_or ds i d).prefix) ∷ []) p m q n
     → AreSent (told_to beat (take (i + 1) ds)) q n
@@ -64,29 +65,41 @@ none_told false due is = refl
 -- the HEARTBEAT of an assertion, by whether there are readers
 abbrev told_by : Writer → Bool → Option HeartbeatDue
 told_by w b =
-    if b then Some (due_by w (length (if b then counts_of b w.written ++ true ∷ [] else counts_of b w.written))) else None
+    if b then Some (due_by w (length (if b then counts_of b w.written ++ true ∷ [] else counts_of b w.written)))
+    else None
 
 told_as : (w : Writer) (answered : Endpoint → Option ℤ) (now : ℕ)
     → heartbeat_asserted (state_of w answered) now ≡ told_by w (has_readers w)
 told_as w answered now = ap (λ (b : Bool). told_by w b) (readers_same w answered)
 
 -- the HEARTBEATs that are sent are those of the writer
-pub told_are : (prefix : GuidPrefix) (kept : WriterKept) (w : Writer) (answered : Endpoint → Option ℤ) (now : ℕ) (due : HeartbeatDue)
+pub told_are : (prefix : GuidPrefix) (kept : WriterKept) (w : Writer) (answered : Endpoint → Option ℤ) (now : ℕ)
+    (due : HeartbeatDue)
     → heartbeat_asserted (state_of w answered) now ≡ Some due
-    → told_to (record { prefix = prefix; entity = kept.entity; due = due; asserts = true }) kept.destinations ≡ assertions_of prefix kept w
+    → told_to (record { prefix = prefix; entity = kept.entity; due = due; asserts = true }) kept.destinations
+    ≡ assertions_of prefix kept w
 told_are prefix kept w answered now due is =
     let d =
-    some_told (has_readers w) (counts_of (has_readers w) w.written) (due_by w) due (sym (told_as w answered now) ∙ is) in
-    ap (λ (x : HeartbeatDue). told_to (record { prefix = prefix; entity = kept.entity; due = x; asserts = true }) kept.destinations) d.1
-    ∙ sym (ap (λ (b : Bool). if b then map (λ (e : Destination). due_to e.peer (assertion_message prefix e.prefix kept.entity w)) kept.destinations else []) d.0)
+    some_told (has_readers w) (counts_of (has_readers w) w.written) (due_by w) due (sym (told_as w answered now) ∙ is)
+    in
+    ap (λ (x : HeartbeatDue). told_to
+    (record { prefix = prefix; entity = kept.entity; due = x; asserts = true }) kept.destinations) d.1
+    ∙ sym (ap (λ (b : Bool). if b then map
+    (λ (e : Destination). due_to e.peer (assertion_message prefix e.prefix kept.entity w)) kept.destinations
+    else []) d.0)
 
 pub told_none : (prefix : GuidPrefix) (kept : WriterKept) (w : Writer) (answered : Endpoint → Option ℤ) (now : ℕ)
     → heartbeat_asserted (state_of w answered) now ≡ None → [] ≡ assertions_of prefix kept w
 told_none prefix kept w answered now is =
     let nobody =
-    none_told (has_readers w) (due_by w (length (if has_readers w then counts_of (has_readers w) w.written ++ true ∷ [] else counts_of (has_readers w) w.written)))
+    none_told (has_readers w)
+    (due_by w
+    (length (if has_readers w then counts_of (has_readers w) w.written ++ true
+    ∷ [] else counts_of (has_readers w) w.written)))
     (sym (told_as w answered now) ∙ is) in
-    sym (ap (λ (b : Bool). if b then map (λ (e : Destination). due_to e.peer (assertion_message prefix e.prefix kept.entity w)) kept.destinations else []) nobody)
+    sym (ap (λ (b : Bool). if b then map
+    (λ (e : Destination). due_to e.peer (assertion_message prefix e.prefix kept.entity w)) kept.destinations
+    else []) nobody)
 
 -- it can be written
 pub valid_told : (kept : Kept) (s : WriterState) (now : ℕ) (due : HeartbeatDue) → RtpsStandsFor kept s
@@ -94,7 +107,8 @@ pub valid_told : (kept : Kept) (s : WriterState) (now : ℕ) (due : HeartbeatDue
 valid_told kept s now due stands is =
     let count : ℤ = pos (counts_due (asserted s now)) in
     subst (λ (d : HeartbeatDue). IsValid d)
-    (made_is (nat_lt 0 (length s.acknowledged)) (record { first = first_kept (rtps_history_of s); last = last_of s; count = count }) due is)
+    (made_is (nat_lt 0 (length s.acknowledged))
+    (record { first = first_kept (rtps_history_of s); last = last_of s; count = count }) due is)
     (valid_next kept s count stands)
 
 -- ---- counts that are left
@@ -111,7 +125,8 @@ used_if false code is = absurd cc
 pub count_left : (w : Writer) (answered : Endpoint → Option ℤ) → assert_refusal (state_of w answered) ≡ None
     → nat_le (2 ^ 31 - 1) (heartbeats_used w) ≡ false
 count_left w answered is =
-    ap (λ (n : ℕ). nat_le (2 ^ 31 - 1) n) (sym (used_same w answered)) ∙ left_if (nat_le (2 ^ 31 - 1) (counts_due (state_of w answered))) is
+    ap (λ (n : ℕ). nat_le (2 ^ 31 - 1) n) (sym (used_same w answered))
+    ∙ left_if (nat_le (2 ^ 31 - 1) (counts_due (state_of w answered))) is
 
 pub count_used : (w : Writer) (answered : Endpoint → Option ℤ) (code : Code)
     → assert_refusal (state_of w answered) ≡ Some code

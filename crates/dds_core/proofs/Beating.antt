@@ -32,15 +32,19 @@ use Rattle.dds_core.proofs.Ticking.{TickedTo, untouched}
 
 -- some of these readers is of this peer, and behind the writer
 abbrev pub is_behind_from : Writer → ℕ → List ReaderProxy → Bool
-is_behind_from w peer rows = list_any (λ (p : ReaderProxy). (p.reader.peer == peer) && nat_le p.acknowledged (length (writer_changes w))) rows
+is_behind_from w peer rows =
+    list_any (λ (p : ReaderProxy). (p.reader.peer == peer) && nat_le p.acknowledged (length (writer_changes w))) rows
 
 -- what is due of the first of these writers
 abbrev pub BeatsTo : GuidPrefix → ℕ → List WriterKept → List Packet → ℕ → Type 0
-BeatsTo prefix n kept packets unsent = (ws : List Writer) (answered : ℕ → Endpoint → Option ℤ) → WritersStand kept ws answered → AreSent (beats_of_all prefix (take n kept) (take n ws)) packets unsent
+BeatsTo prefix n kept packets unsent =
+    (ws : List Writer) (answered : ℕ → Endpoint → Option ℤ) → WritersStand kept ws answered
+    → AreSent (beats_of_all prefix (take n kept) (take n ws)) packets unsent
 
 -- ---- what is written, one message after the other
 
-pub written_on : (a b : List Due) (ps qs : List Packet) (m n : ℕ) → AreSent a ps m → AreSent b qs n → AreSent (a ++ b) (ps ++ qs) (m + n)
+pub written_on : (a b : List Due) (ps qs : List Packet) (m n : ℕ) → AreSent a ps m → AreSent b qs n
+    → AreSent (a ++ b) (ps ++ qs) (m + n)
 written_on [] b ps qs m n h k =
     let none : n ≡ m + n = let e = h.1 in omega (arith, e) in
     subst (λ (j : ℕ). AreSent b (ps ++ qs) j) none (subst (λ (rs : List Packet). AreSent b (rs ++ qs) n) (sym h.0) k)
@@ -50,7 +54,8 @@ written_on (d ∷ ds) b ps qs m n (inr g) k =
     let e = g.1 in
     inr (g.0 + n, omega (arith, e), written_on ds b ps qs g.0 n g.2 k)
 
-pub adds_on : (a b : List Due) (p q r : List Packet) (m n o : ℕ) → Adds a p m q n → Adds b q n r o → Adds (a ++ b) p m r o
+pub adds_on : (a b : List Due) (p q r : List Packet) (m n o : ℕ) → Adds a p m q n → Adds b q n r o
+    → Adds (a ++ b) p m r o
 adds_on a b p q r m n o f g = record {
   packets = f.packets ++ g.packets;
   unsent = f.unsent + g.unsent;
@@ -62,77 +67,128 @@ adds_on a b p q r m n o f g = record {
 -- ---- one message
 
 pub adds_none : (p : List Packet) (m : ℕ) → Adds [] p m p m
-adds_none p m = record { packets = []; unsent = 0; sent = sym (append-nil p); lost = omega arith; written = (refl, refl) }
+adds_none p m =
+    record { packets = []; unsent = 0; sent = sym (append-nil p); lost = omega arith; written = (refl, refl) }
 
 pub adds_lost : (due : Due) (p q : List Packet) (m : ℕ) → q ≡ p → Adds (due ∷ []) p m q (m + 1)
-adds_lost due p q m same = record { packets = []; unsent = 1; sent = same ∙ sym (append-nil p); lost = refl; written = inr (0, refl, (refl, refl)) }
+adds_lost due p q m same =
+    record {
+      packets = [];
+      unsent = 1;
+      sent = same
+          ∙ sym (append-nil p);
+      lost = refl;
+      written = inr (0, refl, (refl, refl));
+    }
 
-adds_sent : (due : Due) (p q : List Packet) (m : ℕ) → IsWritable due.message → q ≡ p ++ record { to = due.to; bytes = spelling_of due.message } ∷ [] → Adds (due ∷ []) p m q m
-adds_sent due p q m can more = record { packets = record { to = due.to; bytes = spelling_of due.message } ∷ []; unsent = 0; sent = more; lost = omega arith; written = inl ([], refl, can, (refl, refl)) }
+adds_sent : (due : Due) (p q : List Packet) (m : ℕ) → IsWritable due.message
+    → q ≡ p ++ record { to = due.to; bytes = spelling_of due.message } ∷ [] → Adds (due ∷ []) p m q m
+adds_sent due p q m can more =
+    record {
+      packets = record { to = due.to; bytes = spelling_of due.message }
+          ∷ [];
+      unsent = 0;
+      sent = more;
+      lost = omega arith;
+      written = inl ([], refl, can, (refl, refl));
+    }
 
 -- the packet of a message was added exactly where there is one more
 longer : (p q : List Packet) (x : Packet) → q ≡ p ++ x ∷ [] → length q ≡ length p → ⊥
-longer p q x more same = let count = ap (λ (ps : List Packet). length ps) more in let total = length-append p (x ∷ []) in absurd (omega (arith, count, total, same))
+longer p q x more same =
+    let count = ap (λ (ps : List Packet). length ps) more in let total = length-append p
+    (x ∷ []) in absurd (omega (arith, count, total, same))
 
-pub adds_if_lost : (x m : Message) (to : ℕ) (p q : List Packet) (n : ℕ) → AddsPacket p x to q → length q ≡ length p → x ≡ m → Adds (due_to to m ∷ []) p n q (n + 1)
+pub adds_if_lost : (x m : Message) (to : ℕ) (p q : List Packet) (n : ℕ) → AddsPacket p x to q → length q ≡ length p
+    → x ≡ m → Adds (due_to to m ∷ []) p n q (n + 1)
 adds_if_lost x m to p q n (inl same) count is = adds_lost (due_to to m) p q n same
 adds_if_lost x m to p q n (inr more) count is = absurd (longer p q _ more count)
 
-pub adds_if_sent : (x m : Message) (to : ℕ) (p q : List Packet) (n : ℕ) → IsWritable x → AddsPacket p x to q → (length q ≡ length p → ⊥) → x ≡ m → Adds (due_to to m ∷ []) p n q n
+pub adds_if_sent : (x m : Message) (to : ℕ) (p q : List Packet) (n : ℕ) → IsWritable x → AddsPacket p x to q
+    → (length q ≡ length p → ⊥) → x ≡ m → Adds (due_to to m ∷ []) p n q n
 adds_if_sent x m to p q n can (inl same) more is = absurd (more (ap (λ (ps : List Packet). length ps) same))
 adds_if_sent x m to p q n can (inr one) more is =
-    adds_sent (due_to to m) p q n (subst (λ (y : Message). IsWritable y) is can) (one ∙ ap (λ (y : Message). p ++ record { to = to; bytes = spelling_of y } ∷ []) is)
+    adds_sent (due_to to m) p q n (subst (λ (y : Message). IsWritable y) is can)
+    (one ∙ ap (λ (y : Message). p ++ record { to = to; bytes = spelling_of y } ∷ []) is)
 
 -- what is sent is a message
 
-first_frame : (body : List ℕ) (ss : List Submessage) (left : List ℕ) → 1 ≤ length ss → ReadsAll body ss left → HasFrame body
+first_frame : (body : List ℕ) (ss : List Submessage) (left : List ℕ) → 1 ≤ length ss → ReadsAll body ss left
+    → HasFrame body
 first_frame body [] left some f = absurd (omega (arith, some))
 first_frame body (s ∷ ss) left some f = (f.0, f.1, f.2, f.3, f.4)
 
 spelled_message : (m : Message) → IsWritable m → 1 ≤ length m.submessages → HasSubmessage (spelling_of m)
 spelled_message m can some =
     let r : ReadsMessage (spelling_of m) m (length (spelling_of m)) = message_again m can in
-    record { minor = r.minor; vendor = r.vendor; source = m.prefix; body = r.body; two = r.two; prefix = r.prefix; header = r.header; first = first_frame r.body m.submessages r.left some r.submessages; short = r.short }
+    record {
+      minor = r.minor;
+      vendor = r.vendor;
+      source = m.prefix;
+      body = r.body;
+      two = r.two;
+      prefix = r.prefix;
+      header = r.header;
+      first = first_frame r.body m.submessages r.left some r.submessages;
+      short = r.short;
+    }
 
 last_of_two : {X : Type 0} (xs : List X) (x y : X) → Contains (xs ++ x ∷ []) y → Contains xs y ⊎ (x ≡ y)
 last_of_two [] x y (zero, lt, is) = inr is
 last_of_two [] x y (suc k, lt, is) = absurd (omega (arith, lt))
 last_of_two (z ∷ zs) x y (zero, lt, is) = inl (zero, omega arith, is)
-last_of_two (z ∷ zs) x y (suc k, lt, is) = ⊎_elim (λ c. inl (suc c.0, (let l = c.1 in omega (arith, l)), c.2)) (λ e. inr e) (last_of_two zs x y (k, omega (arith, lt), is))
+last_of_two (z ∷ zs) x y (suc k, lt, is) =
+    ⊎_elim (λ c. inl (suc c.0, (let l = c.1 in omega (arith, l)), c.2)) (λ e. inr e)
+    (last_of_two zs x y (k, omega (arith, lt), is))
 
-pub still_messages : (m : Message) (to : ℕ) (p q : List Packet) → IsWritable m → 1 ≤ length m.submessages → AddsPacket p m to q → AreMessages p → AreMessages q
-still_messages m to p q can some (inl same) h packet among = (subst (λ (ps : List Packet). AreMessages ps) (sym same) h) packet among
+pub still_messages : (m : Message) (to : ℕ) (p q : List Packet) → IsWritable m → 1 ≤ length m.submessages
+    → AddsPacket p m to q → AreMessages p → AreMessages q
+still_messages m to p q can some (inl same) h packet among =
+    (subst (λ (ps : List Packet). AreMessages ps) (sym same) h) packet among
 still_messages m to p q can some (inr more) h packet among =
     ⊎_elim (λ c. h packet c) (λ e. subst (λ (x : Packet). HasSubmessage x.bytes) e (spelled_message m can some))
-    (last_of_two p (record { to = to; bytes = spelling_of m }) packet (subst (λ (ps : List Packet). Contains ps packet) more among))
+    (last_of_two p (record { to = to; bytes = spelling_of m }) packet
+    (subst (λ (ps : List Packet). Contains ps packet) more among))
 
 -- ---- the readers that are behind
 
-one_row : (peer last : ℕ) (rows : List ReaderProxy) (names : List ReaderName) (i : ℕ) (d : ReaderName) → map (λ (p : ReaderProxy). p.reader) rows ≡ map (λ (r : ReaderName). r.reader) names → i < length names
+one_row : (peer last : ℕ) (rows : List ReaderProxy) (names : List ReaderName) (i : ℕ) (d : ReaderName)
+    → map (λ (p : ReaderProxy). p.reader) rows ≡ map (λ (r : ReaderName). r.reader) names → i < length names
     → list_any (λ (p : ReaderProxy). (p.reader.peer == peer) && nat_le p.acknowledged last) (drop i rows)
-    ≡ (((get_or names i d).reader.peer == peer) && nat_le (get_or (map (λ (p : ReaderProxy). p.acknowledged) rows) i 0) last) || list_any (λ (p : ReaderProxy). (p.reader.peer == peer) && nat_le p.acknowledged last) (drop (i + 1) rows)
+    ≡ (((get_or names i d).reader.peer == peer) && nat_le
+    (get_or (map (λ (p : ReaderProxy). p.acknowledged) rows) i 0) last) || list_any
+    (λ (p : ReaderProxy). (p.reader.peer == peer) && nat_le p.acknowledged last) (drop (i + 1) rows)
 one_row peer last rows [] i d same lt = absurd (omega (arith, lt))
-one_row peer last [] (n ∷ ns) i d same lt = absurd (let c = ap (λ (es : List Endpoint). length es) same in omega (arith, c))
+one_row peer last [] (n ∷ ns) i d same lt =
+    absurd (let c = ap (λ (es : List Endpoint). length es) same in omega (arith, c))
 one_row peer last (p ∷ ps) (n ∷ ns) zero d same lt =
     let head : p.reader ≡ n.reader = ap (λ (es : List Endpoint). get_or es 0 p.reader) same in
-    ap (λ (e : Endpoint). ((e.peer == peer) && nat_le p.acknowledged last) || list_any (λ (q : ReaderProxy). (q.reader.peer == peer) && nat_le q.acknowledged last) ps) head
+    ap (λ (e : Endpoint). ((e.peer == peer) && nat_le p.acknowledged last) || list_any
+    (λ (q : ReaderProxy). (q.reader.peer == peer) && nat_le q.acknowledged last) ps) head
 one_row peer last (p ∷ ps) (n ∷ ns) (suc i) d same lt =
     let next : suc i + 1 ≡ suc (i + 1) = omega arith in
     let tail = ap (λ (es : List Endpoint). drop 1 es) same in
     one_row peer last ps ns i d tail (omega (arith, lt))
-    ∙ ap (λ (k : ℕ). (((get_or ns i d).reader.peer == peer) && nat_le (get_or (map (λ (q : ReaderProxy). q.acknowledged) ps) i 0) last)
-    || list_any (λ (q : ReaderProxy). (q.reader.peer == peer) && nat_le q.acknowledged last) (drop k (p ∷ ps))) (sym next)
+    ∙ ap (λ (k : ℕ). (((get_or ns i d).reader.peer == peer) && nat_le
+    (get_or (map (λ (q : ReaderProxy). q.acknowledged) ps) i 0) last)
+    || list_any (λ (q : ReaderProxy). (q.reader.peer == peer) && nat_le q.acknowledged last) (drop k (p ∷ ps)))
+    (sym next)
 
 -- one row more, by what is known of it
-pub row_behind : (w : Writer) (answered : Endpoint → Option ℤ) (peer : ℕ) (names : List ReaderName) (i : ℕ) (d : ReaderName) (b c : Bool) → map (λ (p : ReaderProxy). p.reader) w.readers ≡ map (λ (r : ReaderName). r.reader) names → i < length names
-    → ((get_or names i d).reader.peer == peer) ≡ b → (b ≡ true → c ≡ is_reader_behind (state_of w answered) i) → is_behind_from w peer (drop i w.readers) ≡ (b && c) || is_behind_from w peer (drop (i + 1) w.readers)
+pub row_behind : (w : Writer) (answered : Endpoint → Option ℤ) (peer : ℕ) (names : List ReaderName) (i : ℕ)
+    (d : ReaderName) (b c : Bool) → map (λ (p : ReaderProxy). p.reader) w.readers
+    ≡ map (λ (r : ReaderName). r.reader) names → i < length names
+    → ((get_or names i d).reader.peer == peer) ≡ b → (b ≡ true → c ≡ is_reader_behind (state_of w answered) i)
+    → is_behind_from w peer (drop i w.readers) ≡ (b && c) || is_behind_from w peer (drop (i + 1) w.readers)
 row_behind w answered peer names i d true c same lt is behind =
     one_row peer (length (writer_changes w)) w.readers names i d same lt
-    ∙ (ap (λ (x : Bool). (x && is_reader_behind (state_of w answered) i) || is_behind_from w peer (drop (i + 1) w.readers)) is
+    ∙ (ap (λ (x : Bool). (x && is_reader_behind (state_of w answered) i) || is_behind_from w peer
+    (drop (i + 1) w.readers)) is
     ∙ ap (λ (x : Bool). x || is_behind_from w peer (drop (i + 1) w.readers)) (sym (behind refl)))
 row_behind w answered peer names i d false c same lt is behind =
     one_row peer (length (writer_changes w)) w.readers names i d same lt
-    ∙ ap (λ (x : Bool). (x && is_reader_behind (state_of w answered) i) || is_behind_from w peer (drop (i + 1) w.readers)) is
+    ∙ ap (λ (x : Bool). (x && is_reader_behind (state_of w answered) i) || is_behind_from w peer
+    (drop (i + 1) w.readers)) is
 
 -- numbers that are not equal
 pub other_number : (a b : ℕ) → (a ≡ b → ⊥) → (a == b) ≡ false
@@ -144,27 +200,40 @@ other_number a b other = not_same (a == b) refl
 
 -- ---- one destination more
 
-beats_one : (beat : Beat) (w : Writer) (ds : List Destination) (d : Destination) (b : Bool) → is_peer_behind w d.peer ≡ b
+beats_one : (beat : Beat) (w : Writer) (ds : List Destination) (d : Destination) (b : Bool)
+    → is_peer_behind w d.peer ≡ b
     → beats_to beat w (ds ++ d ∷ []) ≡ beats_to beat w ds ++ cond b (due_to d.peer (message_to beat d.prefix) ∷ []) []
-beats_one beat w [] d true is = ap (λ (c : Bool). map (λ (e : Destination). due_to e.peer (message_to beat e.prefix)) (cond c (d ∷ []) [])) is
-beats_one beat w [] d false is = ap (λ (c : Bool). map (λ (e : Destination). due_to e.peer (message_to beat e.prefix)) (cond c (d ∷ []) [])) is
+beats_one beat w [] d true is =
+    ap (λ (c : Bool). map (λ (e : Destination). due_to e.peer (message_to beat e.prefix)) (cond c (d ∷ []) [])) is
+beats_one beat w [] d false is =
+    ap (λ (c : Bool). map (λ (e : Destination). due_to e.peer (message_to beat e.prefix)) (cond c (d ∷ []) [])) is
 beats_one beat w (e ∷ es) d b is = one (is_peer_behind w e.peer) (beats_one beat w es d b is)
   where
-    one : (c : Bool) → beats_to beat w (es ++ d ∷ []) ≡ beats_to beat w es ++ cond b (due_to d.peer (message_to beat d.prefix) ∷ []) []
-        → map (λ (x : Destination). due_to x.peer (message_to beat x.prefix)) (cond c (e ∷ peers_behind w (es ++ d ∷ [])) (peers_behind w (es ++ d ∷ [])))
-        ≡ map (λ (x : Destination). due_to x.peer (message_to beat x.prefix)) (cond c (e ∷ peers_behind w es) (peers_behind w es)) ++ cond b (due_to d.peer (message_to beat d.prefix) ∷ []) []
+    one : (c : Bool) → beats_to beat w (es ++ d ∷ []) ≡ beats_to beat w es
+        ++ cond b (due_to d.peer (message_to beat d.prefix) ∷ []) []
+        → map (λ (x : Destination). due_to x.peer (message_to beat x.prefix))
+        (cond c (e ∷ peers_behind w (es ++ d ∷ [])) (peers_behind w (es ++ d ∷ [])))
+        ≡ map (λ (x : Destination). due_to x.peer (message_to beat x.prefix))
+        (cond c (e ∷ peers_behind w es) (peers_behind w es))
+        ++ cond b (due_to d.peer (message_to beat d.prefix) ∷ []) []
     one true h = ap (λ (xs : List Due). due_to e.peer (message_to beat e.prefix) ∷ xs) h
     one false h = h
 
-pub beats_more : (beat : Beat) (w : Writer) (ds : List Destination) (i : ℕ) (d : Destination) (b : Bool) (p q r : List Packet) (m n o : ℕ) → i < length ds → is_peer_behind w (get_or ds i d).peer ≡ b
-    → Adds (beats_to beat w (take i ds)) p m q n → Adds (cond b (due_to (get_or ds i d).peer (message_to beat (get_or ds i d).prefix) ∷ []) []) q n r o → Adds (beats_to beat w (take (i + 1) ds)) p m r o
+pub beats_more : (beat : Beat) (w : Writer) (ds : List Destination) (i : ℕ) (d : Destination) (b : Bool)
+    (p q r : List Packet) (m n o : ℕ) → i < length ds → is_peer_behind w (get_or ds i d).peer ≡ b
+    → Adds (beats_to beat w (take i ds)) p m q n
+    → Adds (cond b (due_to (get_or ds i d).peer (message_to beat (get_or ds i d).prefix) ∷ []) []) q n r o
+    → Adds (beats_to beat w (take (i + 1) ds)) p m r o
 beats_more beat w ds i d b p q r m n o lt is h k =
-    let all : beats_to beat w (take (i + 1) ds) ≡ beats_to beat w (take i ds) ++ cond b (due_to (get_or ds i d).peer (message_to beat (get_or ds i d).prefix) ∷ []) [] =
-    ap (λ (es : List Destination). beats_to beat w es) (take_more ds i d lt) ∙ beats_one beat w (take i ds) (get_or ds i d) b is in
+    let all : beats_to beat w (take (i + 1) ds) ≡ beats_to beat w (take i ds)
+    ++ cond b (due_to (get_or ds i d).peer (message_to beat (get_or ds i d).prefix) ∷ []) [] =
+    ap (λ (es : List Destination). beats_to beat w es) (take_more ds i d lt)
+    ∙ beats_one beat w (take i ds) (get_or ds i d) b is in
     subst (λ (dues : List Due). Adds dues p m r o) (sym all) (adds_on _ _ p q r m n o h k)
 
 -- what was sent to the first of some destinations
-pub record SentTo (beat : Beat) (kept : Kept) (readers : List ReaderName) (ds : List Destination) (n : ℕ) (old new : Announced) : Type 0 where
+pub record SentTo (beat : Beat) (kept : Kept) (readers : List ReaderName) (ds : List Destination) (n : ℕ)
+    (old new : Announced) : Type 0 where
   pub few : new.unsent ≤ old.unsent + n
   pub beats : Beats beat kept readers ds old.packets.items old.unsent new.packets.items new.unsent
   pub messages : AreMessages old.packets.items → AreMessages new.packets.items
@@ -179,16 +248,19 @@ counts_before w = length (counts_of (has_readers w) w.written)
 abbrev pub due_by : Writer → ℕ → HeartbeatDue
 due_by w count = record { first = first_kept (history_of w); last = length (writer_changes w); count = pos count }
 
-counts_now : (w : Writer) (answered : Endpoint → Option ℤ) (now : ℕ) → counts_due (rtps_ticked (state_of w answered) now) ≡ counts_before w + cond (is_behind (state_of w answered)) 1 0
+counts_now : (w : Writer) (answered : Endpoint → Option ℤ) (now : ℕ)
+    → counts_due (rtps_ticked (state_of w answered) now) ≡ counts_before w + cond (is_behind (state_of w answered)) 1 0
 counts_now w answered now =
     let same = length-map w.readers (λ (p : ReaderProxy). p.acknowledged) in
-    ap (λ (n : ℕ). length (counts_of (nat_lt 0 n) (Ticked now (is_behind (state_of w answered)) ∷ w.written))) same ∙ more (is_behind (state_of w answered)) (counts_of (has_readers w) w.written)
+    ap (λ (n : ℕ). length (counts_of (nat_lt 0 n) (Ticked now (is_behind (state_of w answered)) ∷ w.written))) same
+    ∙ more (is_behind (state_of w answered)) (counts_of (has_readers w) w.written)
   where
     more : (b : Bool) (xs : List Bool) → length (if b then xs ++ false ∷ [] else xs) ≡ length xs + cond b 1 0
     more true xs = let n = length-append xs (false ∷ []) in omega (arith, n)
     more false xs = omega arith
 
-some_due : (b c : Bool) (n before : ℕ) (make : ℕ → HeartbeatDue) (due : HeartbeatDue) → n ≡ before + cond b 1 0 → nat_lt n (2 ^ 31) ≡ c → (if b && c then Some (make n) else None) ≡ Some due
+some_due : (b c : Bool) (n before : ℕ) (make : ℕ → HeartbeatDue) (due : HeartbeatDue) → n ≡ before + cond b 1 0
+    → nat_lt n (2 ^ 31) ≡ c → (if b && c then Some (make n) else None) ≡ Some due
     → (nat_lt before (2 ^ 31 - 1) ≡ true) × (due ≡ make (before + 1))
 some_due true true n before make due count left is =
     (grind (arith, nat_tests), sym (same_Some (make n) due is) ∙ ap (λ (k : ℕ). make k) count)
@@ -196,22 +268,36 @@ some_due true false n before make due count left is = absurd cc
 some_due false c n before make due count left is = absurd cc
 
 -- what is due says so
-pub due_is : (w : Writer) (answered : Endpoint → Option ℤ) (now : ℕ) (due : HeartbeatDue) → heartbeat_due (state_of w answered) now ≡ Some due → (nat_lt (counts_before w) (2 ^ 31 - 1) ≡ true) × (due ≡ due_by w (counts_before w + 1))
+pub due_is : (w : Writer) (answered : Endpoint → Option ℤ) (now : ℕ) (due : HeartbeatDue)
+    → heartbeat_due (state_of w answered) now ≡ Some due → (nat_lt (counts_before w) (2 ^ 31 - 1) ≡ true)
+    × (due ≡ due_by w (counts_before w + 1))
 due_is w answered now due is =
-    some_due (is_behind (state_of w answered)) (nat_lt (counts_due (rtps_ticked (state_of w answered) now)) (2 ^ 31)) (counts_due (rtps_ticked (state_of w answered) now)) (counts_before w) (due_by w) due (counts_now w answered now) refl is
+    some_due (is_behind (state_of w answered)) (nat_lt (counts_due (rtps_ticked (state_of w answered) now)) (2 ^ 31))
+    (counts_due (rtps_ticked (state_of w answered) now)) (counts_before w) (due_by w) due
+    (counts_now w answered now) refl is
 
 -- so the HEARTBEATs to its peers are those of the writer
-pub beats_are : (prefix : GuidPrefix) (kept : WriterKept) (w : Writer) (answered : Endpoint → Option ℤ) (now : ℕ) (due : HeartbeatDue) → heartbeat_due (state_of w answered) now ≡ Some due
-    → beats_to (record { prefix = prefix; entity = kept.entity; due = due; asserts = false }) w kept.destinations ≡ beats_of prefix kept w
+pub beats_are : (prefix : GuidPrefix) (kept : WriterKept) (w : Writer) (answered : Endpoint → Option ℤ) (now : ℕ)
+    (due : HeartbeatDue) → heartbeat_due (state_of w answered) now ≡ Some due
+    → beats_to (record { prefix = prefix; entity = kept.entity; due = due; asserts = false }) w kept.destinations
+    ≡ beats_of prefix kept w
 beats_are prefix kept w answered now due is =
     let d = due_is w answered now due is in
-    ap (λ (x : HeartbeatDue). beats_to (record { prefix = prefix; entity = kept.entity; due = x; asserts = false }) w kept.destinations) d.1
-    ∙ sym (ap (λ (b : Bool). if b then map (λ (e : Destination). due_to e.peer (heartbeat_message prefix e.prefix kept.entity w)) (peers_behind w kept.destinations) else []) d.0)
+    ap (λ (x : HeartbeatDue). beats_to
+    (record { prefix = prefix; entity = kept.entity; due = x; asserts = false }) w kept.destinations) d.1
+    ∙ sym (ap (λ (b : Bool). if b then map
+    (λ (e : Destination). due_to e.peer (heartbeat_message prefix e.prefix kept.entity w))
+    (peers_behind w kept.destinations) else []) d.0)
 
 -- where nobody is behind, no peer is
-nobody_behind : (w : Writer) (peer : ℕ) (rows : List ReaderProxy) → list_any (λ a. nat_le a (length (writer_changes w))) (map (λ (p : ReaderProxy). p.acknowledged) rows) ≡ false → is_behind_from w peer rows ≡ false
+nobody_behind : (w : Writer) (peer : ℕ) (rows : List ReaderProxy)
+    → list_any (λ a. nat_le a (length (writer_changes w))) (map (λ (p : ReaderProxy). p.acknowledged) rows) ≡ false
+    → is_behind_from w peer rows ≡ false
 nobody_behind w peer [] none = refl
-nobody_behind w peer (p ∷ ps) none = one (p.reader.peer == peer) (nat_le p.acknowledged (length (writer_changes w))) (list_any (λ a. nat_le a (length (writer_changes w))) (map (λ (q : ReaderProxy). q.acknowledged) ps)) _ none (nobody_behind w peer ps)
+nobody_behind w peer (p ∷ ps) none =
+    one (p.reader.peer == peer) (nat_le p.acknowledged (length (writer_changes w)))
+    (list_any (λ a. nat_le a (length (writer_changes w))) (map (λ (q : ReaderProxy). q.acknowledged) ps)) _ none
+    (nobody_behind w peer ps)
   where
     one : (a b rest all : Bool) → (b || rest) ≡ false → (rest ≡ false → all ≡ false) → ((a && b) || all) ≡ false
     one a true rest all h k = absurd cc
@@ -220,9 +306,11 @@ nobody_behind w peer (p ∷ ps) none = one (p.reader.peer == peer) (nat_le p.ack
 
 no_peers : (w : Writer) (ds : List Destination) → ((peer : ℕ) → is_peer_behind w peer ≡ false) → peers_behind w ds ≡ []
 no_peers w [] none = refl
-no_peers w (d ∷ ds) none = ap (λ (b : Bool). cond b (d ∷ peers_behind w ds) (peers_behind w ds)) (none d.peer) ∙ no_peers w ds none
+no_peers w (d ∷ ds) none =
+    ap (λ (b : Bool). cond b (d ∷ peers_behind w ds) (peers_behind w ds)) (none d.peer) ∙ no_peers w ds none
 
-no_due : (b c : Bool) (n before : ℕ) (due : HeartbeatDue) → n ≡ before + cond b 1 0 → nat_lt n (2 ^ 31) ≡ c → (if b && c then Some due else None) ≡ None → (b ≡ false) ⊎ (nat_lt before (2 ^ 31 - 1) ≡ false)
+no_due : (b c : Bool) (n before : ℕ) (due : HeartbeatDue) → n ≡ before + cond b 1 0 → nat_lt n (2 ^ 31) ≡ c
+    → (if b && c then Some due else None) ≡ None → (b ≡ false) ⊎ (nat_lt before (2 ^ 31 - 1) ≡ false)
 no_due true true n before due count left is = absurd cc
 no_due true false n before due count left is = inr (grind (arith, nat_tests))
 no_due false c n before due count left is = inl refl
@@ -232,37 +320,49 @@ both_none true none is = is
 both_none false none is = refl
 
 -- where nothing is due, the writer has no HEARTBEAT to send
-pub beats_none : (prefix : GuidPrefix) (kept : WriterKept) (w : Writer) (answered : Endpoint → Option ℤ) (now : ℕ) → heartbeat_due (state_of w answered) now ≡ None → [] ≡ beats_of prefix kept w
+pub beats_none : (prefix : GuidPrefix) (kept : WriterKept) (w : Writer) (answered : Endpoint → Option ℤ) (now : ℕ)
+    → heartbeat_due (state_of w answered) now ≡ None → [] ≡ beats_of prefix kept w
 beats_none prefix kept w answered now is =
     let counts = counts_due (rtps_ticked (state_of w answered) now) in
-    let make : List Destination → List Due = λ ds. map (λ (e : Destination). due_to e.peer (heartbeat_message prefix e.prefix kept.entity w)) ds in
+    let make : List Destination → List Due =
+    λ ds. map (λ (e : Destination). due_to e.peer (heartbeat_message prefix e.prefix kept.entity w)) ds in
     ⊎_elim
-    (λ nobody. sym (ap (λ (ds : List Destination). if nat_lt (counts_before w) (2 ^ 31 - 1) then make ds else []) (no_peers w kept.destinations (λ peer. nobody_behind w peer w.readers nobody))
+    (λ nobody. sym (ap (λ (ds : List Destination). if nat_lt (counts_before w) (2 ^ 31 - 1) then make ds else [])
+    (no_peers w kept.destinations (λ peer. nobody_behind w peer w.readers nobody))
     ∙ both_none (nat_lt (counts_before w) (2 ^ 31 - 1)) [] refl))
     (λ out. sym (ap (λ (b : Bool). if b then make (peers_behind w kept.destinations) else []) out))
-    (no_due (is_behind (state_of w answered)) (nat_lt counts (2 ^ 31)) counts (counts_before w) (due_by w counts) (counts_now w answered now) refl is)
+    (no_due (is_behind (state_of w answered)) (nat_lt counts (2 ^ 31)) counts (counts_before w) (due_by w counts)
+    (counts_now w answered now) refl is)
 
 -- ---- the numbers of what is due
 
-first_found : (p : ℕ → Bool) (from count : ℕ) → (from ≤ unwrap_or (find p (numbers_from from count)) (from + count)) × (unwrap_or (find p (numbers_from from count)) (from + count) ≤ from + count)
+first_found : (p : ℕ → Bool) (from count : ℕ) → (from ≤ unwrap_or (find p (numbers_from from count)) (from + count))
+    × (unwrap_or (find p (numbers_from from count)) (from + count) ≤ from + count)
 first_found p from zero = (omega arith, omega arith)
 first_found p from (suc count) =
     let later = first_found p (from + 1) count in
     let over : from + 1 + count ≡ from + suc count = omega arith in
     let low = later.0 in
     let high = later.1 in
-    here (p from) (unwrap_or (find p (numbers_from (from + 1) count)) (from + 1 + count)) over (omega (arith, low)) (omega (arith, high))
+    here (p from) (unwrap_or (find p (numbers_from (from + 1) count)) (from + 1 + count)) over (omega (arith, low))
+    (omega (arith, high))
   where
-    here : (b : Bool) (n : ℕ) → from + 1 + count ≡ from + suc count → from ≤ unwrap_or (find p (numbers_from (from + 1) count)) (from + 1 + count)
+    here : (b : Bool) (n : ℕ) → from + 1 + count ≡ from + suc count
+        → from ≤ unwrap_or (find p (numbers_from (from + 1) count)) (from + 1 + count)
         → unwrap_or (find p (numbers_from (from + 1) count)) (from + 1 + count) ≤ from + suc count
-        → (from ≤ unwrap_or (cond b (Some from) (find p (numbers_from (from + 1) count))) (from + suc count)) × (unwrap_or (cond b (Some from) (find p (numbers_from (from + 1) count))) (from + suc count) ≤ from + suc count)
+        → (from ≤ unwrap_or (cond b (Some from) (find p (numbers_from (from + 1) count))) (from + suc count))
+        × (unwrap_or (cond b (Some from) (find p (numbers_from (from + 1) count))) (from + suc count)
+        ≤ from + suc count)
     here true n over low high = (omega arith, omega arith)
-    here false n over low high = subst (λ (m : ℕ). (from ≤ unwrap_or (find p (numbers_from (from + 1) count)) m) × (unwrap_or (find p (numbers_from (from + 1) count)) m ≤ from + suc count)) over (low, high)
+    here false n over low high =
+        subst (λ (m : ℕ). (from ≤ unwrap_or (find p (numbers_from (from + 1) count)) m)
+        × (unwrap_or (find p (numbers_from (from + 1) count)) m ≤ from + suc count)) over (low, high)
 
 first_within : (h : WriterHistory) → (1 ≤ first_kept h) × (first_kept h ≤ length h.changes + 1)
 first_within h =
     let past : 1 + length h.changes ≡ length h.changes + 1 = omega arith in
-    subst (λ (m : ℕ). (1 ≤ unwrap_or (find (λ k. is_kept h k) (numbers_from 1 (length h.changes))) m) × (unwrap_or (find (λ k. is_kept h k) (numbers_from 1 (length h.changes))) m ≤ m)) past
+    subst (λ (m : ℕ). (1 ≤ unwrap_or (find (λ k. is_kept h k) (numbers_from 1 (length h.changes))) m)
+    × (unwrap_or (find (λ k. is_kept h k) (numbers_from 1 (length h.changes))) m ≤ m)) past
     (first_found (λ k. is_kept h k) 1 (length h.changes))
 
 -- what a writer would send next is such, whatever its count
@@ -279,23 +379,29 @@ pub made_is : (b : Bool) (d due : HeartbeatDue) → (if b then Some d else None)
 made_is true d due h = same_Some d due h
 made_is false d due h = absurd cc
 
-pub valid_due : (kept : Kept) (s : WriterState) (now : ℕ) (due : HeartbeatDue) → RtpsStandsFor kept s → heartbeat_due s now ≡ Some due → IsValid due
+pub valid_due : (kept : Kept) (s : WriterState) (now : ℕ) (due : HeartbeatDue) → RtpsStandsFor kept s
+    → heartbeat_due s now ≡ Some due → IsValid due
 valid_due kept s now due stands is =
     let counts = counts_due (rtps_ticked s now) in
     subst (λ (d : HeartbeatDue). IsValid d)
-    (made_is (is_behind s && nat_lt counts (2 ^ 31)) (record { first = first_kept (rtps_history_of s); last = last_of s; count = pos counts }) due is)
+    (made_is (is_behind s && nat_lt counts (2 ^ 31))
+    (record { first = first_kept (rtps_history_of s); last = last_of s; count = pos counts }) due is)
     (valid_next kept s (pos counts) stands)
 
 -- ---- the writers of a peer, one after the other
 
-pub beats_of_last : (prefix : GuidPrefix) (ks : List WriterKept) (ws : List Writer) (k : WriterKept) (w : Writer) → length ws ≡ length ks → beats_of_all prefix (ks ++ k ∷ []) (ws ++ w ∷ []) ≡ beats_of_all prefix ks ws ++ beats_of prefix k w
+pub beats_of_last : (prefix : GuidPrefix) (ks : List WriterKept) (ws : List Writer) (k : WriterKept) (w : Writer)
+    → length ws ≡ length ks → beats_of_all prefix (ks ++ k ∷ []) (ws ++ w ∷ [])
+    ≡ beats_of_all prefix ks ws ++ beats_of prefix k w
 beats_of_last prefix [] [] k w count = append-nil (beats_of prefix k w)
 beats_of_last prefix [] (x ∷ xs) k w count = absurd (omega (arith, count))
 beats_of_last prefix (y ∷ ys) [] k w count = absurd (omega (arith, count))
 beats_of_last prefix (y ∷ ys) (x ∷ xs) k w count =
-    ap (λ (dues : List Due). beats_of prefix y x ++ dues) (beats_of_last prefix ys xs k w (omega (arith, count))) ∙ sym (append_assoc (beats_of prefix y x) (beats_of_all prefix ys xs) (beats_of prefix k w))
+    ap (λ (dues : List Due). beats_of prefix y x ++ dues) (beats_of_last prefix ys xs k w (omega (arith, count)))
+    ∙ sym (append_assoc (beats_of prefix y x) (beats_of_all prefix ys xs) (beats_of prefix k w))
 
-pub beats_to_more : (prefix : GuidPrefix) (now n : ℕ) (old current : List WriterKept) (d : WriterKept) (p q : List Packet) (m o : ℕ) → n < length old → TickedTo now n old current → BeatsTo prefix n old p m
+pub beats_to_more : (prefix : GuidPrefix) (now n : ℕ) (old current : List WriterKept) (d : WriterKept)
+    (p q : List Packet) (m o : ℕ) → n < length old → TickedTo now n old current → BeatsTo prefix n old p m
     → BeatsOf prefix (get_or current n d) p m q o → BeatsTo prefix (n + 1) old q o
 beats_to_more prefix now n old current d p q m o lt ticked before beats ws answered s =
     let k : WriterKept = get_or old n d in
@@ -303,24 +409,33 @@ beats_to_more prefix now n old current d p q m o lt ticked before beats ws answe
     let count = s.count in
     let here : get_or current n d ≡ k = untouched now n old current d lt ticked in
     let stands : WriterStands (get_or current n d) w (answered (suc n)) =
-    subst (λ (x : WriterKept). WriterStands x w (answered (suc n))) (sym here) (s.each n k (slice_get-get_or old n d lt)) in
-    let added : Adds (beats_of prefix k w) p m q o = subst (λ (x : WriterKept). Adds (beats_of prefix x w) p m q o) here (beats w (answered (suc n)) stands) in
+    subst (λ (x : WriterKept). WriterStands x w (answered (suc n))) (sym here)
+    (s.each n k (slice_get-get_or old n d lt)) in
+    let added : Adds (beats_of prefix k w) p m q o =
+    subst (λ (x : WriterKept). Adds (beats_of prefix x w) p m q o) here (beats w (answered (suc n)) stands) in
     let first = length-take n old in
     let second = length-take n ws in
-    let same : beats_of_all prefix (take (n + 1) old) (take (n + 1) ws) ≡ beats_of_all prefix (take n old) (take n ws) ++ beats_of prefix k w =
+    let same : beats_of_all prefix (take (n + 1) old) (take (n + 1) ws)
+    ≡ beats_of_all prefix (take n old) (take n ws) ++ beats_of prefix k w =
     ap (λ (ks : List WriterKept). beats_of_all prefix ks (take (n + 1) ws)) (take_more old n d lt)
-    ∙ (ap (λ (xs : List Writer). beats_of_all prefix (take n old ++ k ∷ []) xs) (take_more ws n no_writer (omega (arith, lt, count)))
+    ∙ (ap (λ (xs : List Writer). beats_of_all prefix (take n old ++ k ∷ []) xs)
+    (take_more ws n no_writer (omega (arith, lt, count)))
     ∙ beats_of_last prefix (take n old) (take n ws) k w (omega (arith, first, second, count))) in
     subst (λ (dues : List Due). AreSent dues q o) (sym same)
-    (subst (λ (xs : List Packet). AreSent (beats_of_all prefix (take n old) (take n ws) ++ beats_of prefix k w) xs o) (sym added.sent)
-    (subst (λ (j : ℕ). AreSent (beats_of_all prefix (take n old) (take n ws) ++ beats_of prefix k w) (p ++ added.packets) j) (sym added.lost)
-    (written_on (beats_of_all prefix (take n old) (take n ws)) (beats_of prefix k w) p added.packets m added.unsent (before ws answered s) added.written)))
+    (subst (λ (xs : List Packet). AreSent (beats_of_all prefix (take n old) (take n ws) ++ beats_of prefix k w) xs o)
+    (sym added.sent)
+    (subst (λ (j : ℕ). AreSent (beats_of_all prefix (take n old) (take n ws) ++ beats_of prefix k w)
+    (p ++ added.packets) j) (sym added.lost)
+    (written_on (beats_of_all prefix (take n old) (take n ws)) (beats_of prefix k w) p added.packets m added.unsent
+    (before ws answered s) added.written)))
 
-pub beats_to_all : (prefix : GuidPrefix) (n : ℕ) (old : List WriterKept) (p : List Packet) (m : ℕ) → length old ≤ n → BeatsTo prefix n old p m → BeatsOfAll prefix old p m
+pub beats_to_all : (prefix : GuidPrefix) (n : ℕ) (old : List WriterKept) (p : List Packet) (m : ℕ) → length old ≤ n
+    → BeatsTo prefix n old p m → BeatsOfAll prefix old p m
 beats_to_all prefix n old p m le h ws answered s =
     let count = s.count in
     subst (λ (ks : List WriterKept). AreSent (beats_of_all prefix ks ws) p m) (take_all n old le)
-    (subst (λ (xs : List Writer). AreSent (beats_of_all prefix (take n old) xs) p m) (take_all n ws (omega (arith, le, count))) (h ws answered s))
+    (subst (λ (xs : List Writer). AreSent (beats_of_all prefix (take n old) xs) p m)
+    (take_all n ws (omega (arith, le, count))) (h ws answered s))
 
 -- before the first
 pub beats_to_none : (prefix : GuidPrefix) (old : List WriterKept) (p : List Packet) → p ≡ [] → BeatsTo prefix 0 old p 0

@@ -47,7 +47,8 @@ silent_sends reply = record { packets = refl; unsent = refl }
 
 -- what follows an event, for a state that stands
 abbrev pub FollowsBy : Tests → PeerKept → Config → Peer → Event → Output → Type 0
-FollowsBy tests kept config peer ev output = (after : Peer) × PeerStep config tests peer ev output after × StandsFor kept config after
+FollowsBy tests kept config peer ev output =
+    (after : Peer) × PeerStep config tests peer ev output after × StandsFor kept config after
 
 -- the same of an event in which no filter has a say
 abbrev pub Follows : PeerKept → Config → Peer → Event → Output → Type 0
@@ -61,7 +62,8 @@ still_stands {config = config} {peer} view s = subst (λ (k : PeerKept). StandsF
 -- the same of another name for the output
 pub follows_as : {tests : Tests} (kept : PeerKept) (config : Config) (peer : Peer) (ev : Event) (o p : Output) → p ≡ o
     → FollowsBy tests kept config peer ev o → FollowsBy tests kept config peer ev p
-follows_as {tests} kept config peer ev o p same h = subst (λ (x : Output). FollowsBy tests kept config peer ev x) (sym same) h
+follows_as {tests} kept config peer ev o p same h =
+    subst (λ (x : Output). FollowsBy tests kept config peer ev x) (sym same) h
 
 -- what is refused enters nothing
 pub refused_nothing : (part : Part) (c : Call) (x : Code) → effect_of part c (Refused x) ≡ nothing
@@ -97,7 +99,8 @@ refused_nothing part (call.SetEnabledStatuses e mask) x = refl
 refused_nothing part (call.GetStatusChanges e) x = refl
 
 -- a call that changes nothing
-pub unchanging_call : {tests : Tests} (kept : PeerKept) (config : Config) (peer : Peer) → StandsFor kept config peer → (c : Call) (reply : Reply)
+pub unchanging_call : {tests : Tests} (kept : PeerKept) (config : Config) (peer : Peer) → StandsFor kept config peer
+    → (c : Call) (reply : Reply)
     → effect_of peer.part c reply ≡ nothing → Answers tests peer.part c reply peer.part.dds
     → FollowsBy tests kept config peer (event.Call c) (silent reply)
 unchanging_call kept config peer s c reply none is = (
@@ -112,50 +115,67 @@ unchanging_call kept config peer s c reply none is = (
 )
 
 -- so does one that is refused
-pub refused_call : {tests : Tests} (kept : PeerKept) (config : Config) (peer : Peer) → StandsFor kept config peer → (c : Call) (code : Code)
+pub refused_call : {tests : Tests} (kept : PeerKept) (config : Config) (peer : Peer) → StandsFor kept config peer
+    → (c : Call) (code : Code)
     → Answers tests peer.part c (Refused code) peer.part.dds
     → FollowsBy tests kept config peer (event.Call c) (silent (Refused code))
-refused_call kept config peer s c code is = unchanging_call kept config peer s c (Refused code) (refused_nothing peer.part c code) is
+refused_call kept config peer s c code is =
+    unchanging_call kept config peer s c (Refused code) (refused_nothing peer.part c code) is
 
 -- numbers of writers and readers
 
-pub no_such : {X : Type 0} (xs : List X) (n count : ℕ) → length xs ≡ count → (nat_lt 0 n && nat_le n count) ≡ false → has_element xs n ≡ false
+pub no_such : {X : Type 0} (xs : List X) (n count : ℕ) → length xs ≡ count → (nat_lt 0 n && nat_le n count) ≡ false
+    → has_element xs n ≡ false
 no_such xs n count same none = ap (λ (m : ℕ). nat_lt 0 n && nat_le n m) same ∙ none
 
 pub there_is : {X : Type 0} (xs : List X) (i : ℕ) → i < length xs → has_element xs (suc i) ≡ true
 there_is xs i lt = grind (arith, nat_tests)
 
-bad_first : (b : Bool) (rest : Option Code) → b ≡ false → Refuses (if not b then Some BadParameter else rest) BadParameter
+bad_first : (b : Bool) (rest : Option Code) → b ≡ false
+    → Refuses (if not b then Some BadParameter else rest) BadParameter
 bad_first true rest h = absurd cc
 bad_first false rest h = refl
 
-bad_or : (a b : Bool) (rest : Option Code) → a ≡ false → Refuses (if not a || b then Some BadParameter else rest) BadParameter
+bad_or : (a b : Bool) (rest : Option Code) → a ≡ false
+    → Refuses (if not a || b then Some BadParameter else rest) BadParameter
 bad_or true b rest h = absurd cc
 bad_or false b rest h = refl
 
 -- calls at a writer that the peer does not have
 
-pub no_dispose : (part : Part) (w : ℕ) (key : Key) → has_element part.rtps.writers w ≡ false → Answers no_filters part (call.Dispose w key) (Refused BadParameter) part.dds
+pub no_dispose : (part : Part) (w : ℕ) (key : Key) → has_element part.rtps.writers w ≡ false
+    → Answers no_filters part (call.Dispose w key) (Refused BadParameter) part.dds
 no_dispose part w key none = (bad_first (has_element part.rtps.writers w) _ none, refl)
 
-pub no_unregister : (part : Part) (w : ℕ) (key : Key) → has_element part.rtps.writers w ≡ false → Answers no_filters part (call.Unregister w key) (Refused BadParameter) part.dds
+pub no_unregister : (part : Part) (w : ℕ) (key : Key) → has_element part.rtps.writers w ≡ false
+    → Answers no_filters part (call.Unregister w key) (Refused BadParameter) part.dds
 no_unregister part w key none = (bad_first (has_element part.rtps.writers w) _ none, refl)
 
 -- a value that is too long
-pub long_write : (part : Part) (w : ℕ) (key : Key) (value : List ℕ) → 1024 < length value → Answers no_filters part (call.Write w key value) (Refused BadParameter) part.dds
-long_write part w key value long = (bad_second (not (has_element part.rtps.writers w)) (nat_lt 1024 (length value)) _ (grind (arith, nat_tests)), refl)
+pub long_write : (part : Part) (w : ℕ) (key : Key) (value : List ℕ) → 1024 < length value
+    → Answers no_filters part (call.Write w key value) (Refused BadParameter) part.dds
+long_write part w key value long =
+    (bad_second (not (has_element part.rtps.writers w)) (nat_lt 1024 (length value)) _ (grind (arith, nat_tests)), refl)
   where
-    bad_second : (a b : Bool) (rest : Option Code) → b ≡ true → Refuses (if a || b then Some BadParameter else rest) BadParameter
+    bad_second : (a b : Bool) (rest : Option Code) → b ≡ true
+        → Refuses (if a || b then Some BadParameter else rest) BadParameter
     bad_second true b rest h = refl
     bad_second false true rest h = refl
     bad_second false false rest h = absurd cc
 
 -- an instance that is not registered
-pub unregistered : (part : Part) (w : ℕ) (key : Key) → has_element part.rtps.writers w ≡ true → is_key_registered key (own_writer part w).written ≡ false
+pub unregistered : (part : Part) (w : ℕ) (key : Key) → has_element part.rtps.writers w ≡ true
+    → is_key_registered key (own_writer part w).written ≡ false
     → Answers no_filters part (call.Unregister w key) (Refused PreconditionNotMet) part.dds
-unregistered part w key known none = (unknown_there (has_element part.rtps.writers w) (is_key_registered key (own_writer part w).written) _ known none, refl)
+unregistered part w key known none = (
+  unknown_there (has_element part.rtps.writers w)
+      (is_key_registered key (own_writer part w).written) _ known none,
+  refl,
+)
   where
-    unknown_there : (a b : Bool) (rest : Option Code) → a ≡ true → b ≡ false → Refuses (if not a then Some BadParameter else (if not b then Some PreconditionNotMet else rest)) PreconditionNotMet
+    unknown_there : (a b : Bool) (rest : Option Code) → a ≡ true → b ≡ false
+        → Refuses (if not a then Some BadParameter else (if not b then Some PreconditionNotMet else rest))
+        PreconditionNotMet
     unknown_there true false rest h k = refl
     unknown_there true true rest h k = absurd cc
     unknown_there false b rest h k = absurd cc
@@ -165,70 +185,110 @@ unregistered part w key known none = (unknown_there (has_element part.rtps.write
 pub good_register : (part : Part) (w : ℕ) → has_element part.rtps.writers w ≡ true → register_refusal part w ≡ None
 good_register part w known = ap (λ (b : Bool). if not b then Some BadParameter else None) known
 
-pub register_memory : (part : Part) (w : ℕ) (key : Key) → has_element part.rtps.writers w ≡ true → Answers no_filters part (call.Register w key) (Refused Memory) part.dds
-register_memory part w key known = (subst (λ (o : Option Code). Refuses o Memory) (sym (good_register part w known)) refl, refl)
+pub register_memory : (part : Part) (w : ℕ) (key : Key) → has_element part.rtps.writers w ≡ true
+    → Answers no_filters part (call.Register w key) (Refused Memory) part.dds
+register_memory part w key known =
+    (subst (λ (o : Option Code). Refuses o Memory) (sym (good_register part w known)) refl, refl)
 
-pub registers : (kept : PeerKept) (i : ℕ) (k k' : WriterKept) (key : Key) (config : Config) (peer : Peer) → StandsFor kept config peer → slice_get kept.writers i ≡ Some k → i < length kept.writers → Enters k (Registered key) k'
+pub registers : (kept : PeerKept) (i : ℕ) (k k' : WriterKept) (key : Key) (config : Config) (peer : Peer)
+    → StandsFor kept config peer → slice_get kept.writers i ≡ Some k → i < length kept.writers
+    → Enters k (Registered key) k'
     → Follows (with_writer kept i k') config peer (event.Call (call.Register (suc i) key)) (silent Done)
 registers kept i k k' key config peer s at lt enters =
     let count = s.writers.count in
-    let known : has_element peer.part.rtps.writers (suc i) ≡ true = there_is peer.part.rtps.writers i (omega (arith, lt, count)) in (
+    let known : has_element peer.part.rtps.writers (suc i) ≡ true =
+    there_is peer.part.rtps.writers i (omega (arith, lt, count)) in (
       entered_at peer (suc i) (Registered key),
-      record { same_number = refl; knows = refl; step = (record { answers = (good_register peer.part (suc i) known, refl); rtps = refl }, refl); sent = λ p x m h. absurd (omega (arith, m.1)) },
-      own_writer_stepped kept i k k' (Registered key) config peer s at enters (tellable_entered peer (suc i) (Registered key) s.tellable tt),
+      record {
+        same_number = refl;
+        knows = refl;
+        step = (record { answers = (good_register peer.part (suc i) known, refl); rtps = refl }, refl);
+        sent = λ p x m h.
+            absurd (omega (arith, m.1));
+      },
+      own_writer_stepped kept i k k' (Registered key) config peer s at enters
+          (tellable_entered peer (suc i) (Registered key) s.tellable tt),
     )
 
 -- a look at LIVELINESS_LOST
-looks : (kept : PeerKept) (i : ℕ) (k k' : WriterKept) (status : LivelinessLostStatus) (config : Config) (peer : Peer) → StandsFor kept config peer → slice_get kept.writers i ≡ Some k → i < length kept.writers
-    → ((w : Writer) (answered : Endpoint → Option ℤ) → WriterStands k w answered → status ≡ liveliness_lost_status w.lease w.written) → Enters k LookedAt k'
-    → Follows (with_writer kept i k') config peer (event.Call (call.GetLivelinessLost (suc i))) (silent (LivelinessLost status))
+looks : (kept : PeerKept) (i : ℕ) (k k' : WriterKept) (status : LivelinessLostStatus) (config : Config) (peer : Peer)
+    → StandsFor kept config peer → slice_get kept.writers i ≡ Some k → i < length kept.writers
+    → ((w : Writer) (answered : Endpoint → Option ℤ) → WriterStands k w answered
+    → status ≡ liveliness_lost_status w.lease w.written) → Enters k LookedAt k'
+    → Follows (with_writer kept i k') config peer (event.Call (call.GetLivelinessLost (suc i)))
+    (silent (LivelinessLost status))
 looks kept i k k' status config peer s at lt tells enters =
     let count = s.writers.count in
     let known : writer_look_refusal peer.part (suc i) ≡ None =
-    ap (λ (b : Bool). if not b then Some BadParameter else None) (there_is peer.part.rtps.writers i (omega (arith, lt, count))) in
-    let told : status ≡ liveliness_lost_status (own_writer peer.part (suc i)).lease (own_writer peer.part (suc i)).written =
+    ap (λ (b : Bool). if not b then Some BadParameter else None)
+    (there_is peer.part.rtps.writers i (omega (arith, lt, count))) in
+    let told : status ≡ liveliness_lost_status (own_writer peer.part (suc i)).lease
+    (own_writer peer.part (suc i)).written =
     tells (own_writer peer.part (suc i)) (peer.known.answered (suc i)) (s.writers.each i k at) in (
       entered_at peer (suc i) LookedAt,
-      record { same_number = refl; knows = refl; step = (record { answers = (known, told, refl); rtps = refl }, refl); sent = λ p x m h. absurd (omega (arith, m.1)) },
-      own_writer_stepped kept i k k' LookedAt config peer s at enters (tellable_entered peer (suc i) LookedAt s.tellable tt),
+      record {
+        same_number = refl;
+        knows = refl;
+        step = (record { answers = (known, told, refl); rtps = refl }, refl);
+        sent = λ p x m h.
+            absurd (omega (arith, m.1));
+      },
+      own_writer_stepped kept i k k' LookedAt config peer s at enters
+          (tellable_entered peer (suc i) LookedAt s.tellable tt),
     )
 
 -- the answer to a call is that to a change of the writer, which the call makes
 
 pub record MakesChange (part : Part) (c : Call) (writer : ℕ) (change : Change) : Type 0 where
-  pub answers : (reply : Reply) (dds : Dds) → IsDoneUnless (change_refusal part writer change) reply part.dds part.dds dds → Answers no_filters part c reply dds
+  pub answers : (reply : Reply) (dds : Dds)
+      → IsDoneUnless (change_refusal part writer change) reply part.dds part.dds dds
+      → Answers no_filters part c reply dds
   pub enters : effect_of part c Done ≡ writes writer (Changed change)
 
-done_as : (a b : Option Code) (part : Part) (reply : Reply) (dds : Dds) → a ≡ b → IsDoneUnless b reply part.dds part.dds dds → IsDoneUnless a reply part.dds part.dds dds
+done_as : (a b : Option Code) (part : Part) (reply : Reply) (dds : Dds) → a ≡ b
+    → IsDoneUnless b reply part.dds part.dds dds → IsDoneUnless a reply part.dds part.dds dds
 done_as a b part reply dds e h = subst (λ (o : Option Code). IsDoneUnless o reply part.dds part.dds dds) (sym e) h
 
 first_true : (b : Bool) (rest : Option Code) → b ≡ true → (if not b then Some BadParameter else rest) ≡ rest
 first_true true rest h = refl
 first_true false rest h = absurd cc
 
-both_good : (a b : Bool) (rest : Option Code) → a ≡ true → b ≡ false → (if not a || b then Some BadParameter else rest) ≡ rest
+both_good : (a b : Bool) (rest : Option Code) → a ≡ true → b ≡ false
+    → (if not a || b then Some BadParameter else rest) ≡ rest
 both_good true true rest h k = absurd cc
 both_good true false rest h k = refl
 both_good false b rest h k = absurd cc
 
-pub write_makes : (part : Part) (w : ℕ) (key : Key) (value : List ℕ) → has_element part.rtps.writers w ≡ true → length value ≤ 1024 → MakesChange part (call.Write w key value) w (change_made part kind.Write key value)
+pub write_makes : (part : Part) (w : ℕ) (key : Key) (value : List ℕ) → has_element part.rtps.writers w ≡ true
+    → length value ≤ 1024 → MakesChange part (call.Write w key value) w (change_made part kind.Write key value)
 write_makes part w key value known short = record {
-  answers = λ reply dds h. done_as (write_refusal part w key value) (change_refusal part w (change_made part kind.Write key value)) part reply dds
+  answers =
+      λ reply dds h. done_as (write_refusal part w key value)
+      (change_refusal part w (change_made part kind.Write key value)) part reply dds
       (both_good (has_element part.rtps.writers w) (nat_lt 1024 (length value)) _ known (grind (arith, nat_tests))) h;
   enters = refl;
 }
 
-pub dispose_makes : (part : Part) (w : ℕ) (key : Key) → has_element part.rtps.writers w ≡ true → MakesChange part (call.Dispose w key) w (change_made part kind.Dispose key [])
+pub dispose_makes : (part : Part) (w : ℕ) (key : Key) → has_element part.rtps.writers w ≡ true
+    → MakesChange part (call.Dispose w key) w (change_made part kind.Dispose key [])
 dispose_makes part w key known = record {
-  answers = λ reply dds h. done_as (dispose_refusal part w key) (change_refusal part w (change_made part kind.Dispose key [])) part reply dds (first_true (has_element part.rtps.writers w) _ known) h;
+  answers =
+      λ reply dds h. done_as (dispose_refusal part w key)
+      (change_refusal part w (change_made part kind.Dispose key [])) part reply dds
+      (first_true (has_element part.rtps.writers w) _ known) h;
   enters = refl;
 }
 
-pub unregister_makes : (part : Part) (w : ℕ) (key : Key) → has_element part.rtps.writers w ≡ true → is_key_registered key (own_writer part w).written ≡ true
-    → MakesChange part (call.Unregister w key) w (change_made part (unregister_kind (own_writer part w).autodispose) key [])
+pub unregister_makes : (part : Part) (w : ℕ) (key : Key) → has_element part.rtps.writers w ≡ true
+    → is_key_registered key (own_writer part w).written ≡ true
+    → MakesChange part (call.Unregister w key) w
+    (change_made part (unregister_kind (own_writer part w).autodispose) key [])
 unregister_makes part w key known there = record {
-  answers = λ reply dds h. done_as (unregister_refusal part w key) (change_refusal part w (change_made part (unregister_kind (own_writer part w).autodispose) key [])) part reply dds
-      (first_true (has_element part.rtps.writers w) _ known ∙ first_there (is_key_registered key (own_writer part w).written) _ there) h;
+  answers =
+      λ reply dds h. done_as (unregister_refusal part w key)
+      (change_refusal part w (change_made part (unregister_kind (own_writer part w).autodispose) key [])) part reply dds
+      (first_true (has_element part.rtps.writers w) _ known
+      ∙ first_there (is_key_registered key (own_writer part w).written) _ there) h;
   enters = refl;
 }
   where
@@ -238,52 +298,83 @@ unregister_makes part w key known there = record {
 
 -- a call that makes a change
 
-pub made_steps : (kept new : PeerKept) (config : Config) (peer : Peer) → StandsFor kept config peer → (c : Call) (w : ℕ) (change : Change) (output : Output) → MakesChange peer.part c w change
-    → IsMade config peer w change output new ⊎ IsNotMade config peer w change output new → Follows new config peer (event.Call c) output
+pub made_steps : (kept new : PeerKept) (config : Config) (peer : Peer) → StandsFor kept config peer
+    → (c : Call) (w : ℕ) (change : Change) (output : Output) → MakesChange peer.part c w change
+    → IsMade config peer w change output new ⊎ IsNotMade config peer w change output new
+    → Follows new config peer (event.Call c) output
 made_steps kept new config peer s c w change output makes (inr not_made) =
     subst (λ (o : Output). Follows new config peer (event.Call c) o) (sym not_made.output_is)
-    (refused_call new config peer not_made.stands c not_made.code (makes.answers (Refused not_made.code) peer.part.dds (not_made.cause, refl)))
+    (refused_call new config peer not_made.stands c not_made.code
+    (makes.answers (Refused not_made.code) peer.part.dds (not_made.cause, refl)))
 made_steps kept new config peer s c w change output makes (inl made) =
     let after : Peer = record peer { part = entered peer.part w change } in
-    let step : CallStep no_filters peer.part c Done after.part = record { answers = makes.answers Done peer.part.dds (made.accepted, refl); rtps = ap (λ (e : Effect). effect peer.part.rtps e) (sym makes.enters) } in (
+    let step : CallStep no_filters peer.part c Done after.part =
+    record {
+      answers = makes.answers Done peer.part.dds
+          (made.accepted, refl);
+      rtps = ap (λ (e : Effect). effect peer.part.rtps e) (sym makes.enters);
+    } in (
       after,
-      record { same_number = refl; knows = refl; step = (subst (λ (r : Reply). CallStep no_filters peer.part c r after.part) (sym made.reply) step, refl); sent = made.is_true },
+      record {
+        same_number = refl;
+        knows = refl;
+        step = (subst (λ (r : Reply). CallStep no_filters peer.part c r after.part) (sym made.reply) step, refl);
+        sent = made.is_true;
+      },
       made.stands,
     )
 
-pub made_sends : (new : PeerKept) (config : Config) (peer : Peer) (c : Call) (w : ℕ) (change : Change) (output : Output) → MakesChange peer.part c w change → IsMade config peer w change output new ⊎ IsNotMade config peer w change output new
+pub made_sends : (new : PeerKept) (config : Config) (peer : Peer) (c : Call) (w : ℕ) (change : Change) (output : Output)
+    → MakesChange peer.part c w change → IsMade config peer w change output new
+    ⊎ IsNotMade config peer w change output new
     → SendsFor config peer (effect_of peer.part c output.reply) output
 made_sends new config peer c w change output makes (inr not_made) =
     subst (λ (o : Output). SendsFor config peer (effect_of peer.part c o.reply) o) (sym not_made.output_is)
-    (subst (λ (e : Effect). SendsFor config peer e (silent (Refused not_made.code))) (sym (refused_nothing peer.part c not_made.code)) (silent_sends (Refused not_made.code)))
+    (subst (λ (e : Effect). SendsFor config peer e (silent (Refused not_made.code)))
+    (sym (refused_nothing peer.part c not_made.code)) (silent_sends (Refused not_made.code)))
 made_sends new config peer c w change output makes (inl made) =
-    subst (λ (r : Reply). SendsFor config peer (effect_of peer.part c r) output) (sym made.reply) (subst (λ (e : Effect). SendsFor config peer e output) (sym makes.enters) made.sends)
+    subst (λ (r : Reply). SendsFor config peer (effect_of peer.part c r) output) (sym made.reply)
+    (subst (λ (e : Effect). SendsFor config peer e output) (sym makes.enters) made.sends)
 
 -- what is refused sends nothing
-pub refused_sends : (config : Config) (peer : Peer) (c : Call) (code : Code) → SendsFor config peer (effect_of peer.part c (Refused code)) (silent (Refused code))
-refused_sends config peer c code = subst (λ (e : Effect). SendsFor config peer e (silent (Refused code))) (sym (refused_nothing peer.part c code)) (silent_sends (Refused code))
+pub refused_sends : (config : Config) (peer : Peer) (c : Call) (code : Code)
+    → SendsFor config peer (effect_of peer.part c (Refused code)) (silent (Refused code))
+refused_sends config peer c code =
+    subst (λ (e : Effect). SendsFor config peer e (silent (Refused code))) (sym (refused_nothing peer.part c code))
+    (silent_sends (Refused code))
 
 -- a tick
 
 -- a moment that is neither before the peer's nor too late
-good_moment : (kept : PeerKept) (config : Config) (peer : Peer) → StandsFor kept config peer → (now : ℕ) → kept.moment ≤ now → now < 2 ^ 63 → tick_refusal peer.part now ≡ None
+good_moment : (kept : PeerKept) (config : Config) (peer : Peer) → StandsFor kept config peer → (now : ℕ)
+    → kept.moment ≤ now → now < 2 ^ 63 → tick_refusal peer.part now ≡ None
 good_moment kept config peer s now on early =
     let moment = s.moment in
-    ap (λ (b : Bool). if b then Some BadParameter else None) (neither (nat_lt now peer.part.dds.moment) (nat_le (2 ^ 63) now) (grind (arith, nat_tests)) (grind (arith, nat_tests)))
+    ap (λ (b : Bool). if b then Some BadParameter else None)
+    (neither (nat_lt now peer.part.dds.moment) (nat_le (2 ^ 63) now) (grind (arith, nat_tests))
+    (grind (arith, nat_tests)))
   where
     neither : (a b : Bool) → a ≡ false → b ≡ false → (a || b) ≡ false
     neither false b h k = k
     neither true b h k = absurd cc
 
 -- the names stay, where those of writers and of readers do
-same_peer : (kept : PeerKept) (config : Config) (number : ℕ) (writers : List WriterKept) (readers : List ReaderKept) → map writer_identity writers ≡ map writer_identity kept.writers → map reader_identity readers ≡ map reader_identity kept.readers
-    → IsPeerOf config number (identity_of kept) → IsPeerOf config number (record { prefix = kept.prefix; writers = map writer_identity writers; readers = map reader_identity readers })
+same_peer : (kept : PeerKept) (config : Config) (number : ℕ) (writers : List WriterKept) (readers : List ReaderKept)
+    → map writer_identity writers ≡ map writer_identity kept.writers
+    → map reader_identity readers ≡ map reader_identity kept.readers
+    → IsPeerOf config number (identity_of kept)
+    → IsPeerOf config number
+    (record { prefix = kept.prefix; writers = map writer_identity writers; readers = map reader_identity readers })
 same_peer kept config number writers readers ws rs h =
-    subst (λ (is : List ReaderIdentity). IsPeerOf config number (record { prefix = kept.prefix; writers = map writer_identity writers; readers = is })) (sym rs)
-    (subst (λ (is : List WriterIdentity). IsPeerOf config number (record { prefix = kept.prefix; writers = is; readers = map reader_identity kept.readers })) (sym ws) h)
+    subst (λ (is : List ReaderIdentity). IsPeerOf config number
+    (record { prefix = kept.prefix; writers = map writer_identity writers; readers = is })) (sym rs)
+    (subst (λ (is : List WriterIdentity). IsPeerOf config number
+    (record { prefix = kept.prefix; writers = is; readers = map reader_identity kept.readers })) (sym ws) h)
 
-pub ticks : (kept : PeerKept) (writers : List WriterKept) (readers : List ReaderKept) (config : Config) (peer : Peer) → StandsFor kept config peer → (now : ℕ) → kept.moment ≤ now → now < 2 ^ 63 → AllTick kept.writers now writers
-    → AllExpire kept.readers now readers → (output : Output) → output.reply ≡ Done → BeatsOfAll kept.prefix kept.writers output.packets output.unsent
+pub ticks : (kept : PeerKept) (writers : List WriterKept) (readers : List ReaderKept) (config : Config) (peer : Peer)
+    → StandsFor kept config peer → (now : ℕ) → kept.moment ≤ now → now < 2 ^ 63 → AllTick kept.writers now writers
+    → AllExpire kept.readers now readers → (output : Output) → output.reply ≡ Done
+    → BeatsOfAll kept.prefix kept.writers output.packets output.unsent
     → Follows (record kept { moment = now; writers = writers; readers = readers }) config peer (event.Tick now) output
 ticks kept writers readers config peer s now on early all expired output done beats =
     let accepted : tick_refusal peer.part now ≡ None = good_moment kept config peer s now on early in (
@@ -291,39 +382,72 @@ ticks kept writers readers config peer s now on early all expired output done be
       record {
         same_number = refl;
         knows = refl;
-        step = (subst (λ (r : Reply). TickStep peer.part now r (after_tick peer.part now)) (sym done) (accepted, refl), refl);
+        step = (
+          subst (λ (r : Reply). TickStep peer.part now r (after_tick peer.part now)) (sym done)
+              (accepted, refl),
+          refl,
+        );
         sent = due_true config peer kept now output.packets output.unsent s accepted beats;
       },
       record {
-        is_peer = same_peer kept config peer.number writers readers (same_names now kept.writers writers all) (expired_names now kept.readers readers expired) s.is_peer;
+        is_peer =
+            same_peer kept config peer.number writers readers (same_names now kept.writers writers all)
+            (expired_names now kept.readers readers expired) s.is_peer;
         moment = refl;
         early = early;
         watch = s.watch;
         writers = writers_ticked now kept.writers writers peer.part.rtps.writers peer.known.answered all s.writers;
-        readers = readers_expired now kept.readers readers peer.part.rtps.readers peer.part.dds.readers peer.known expired s.readers;
+        readers =
+            readers_expired now kept.readers readers peer.part.rtps.readers peer.part.dds.readers peer.known expired
+            s.readers;
         tellable = tellable_ticked peer.part now s.tellable;
       },
     )
 
 -- one whose deaths find no memory
-pub tick_without_memory : (kept : PeerKept) (readers : List ReaderKept) (code : Code) (config : Config) (peer : Peer) → StandsFor kept config peer → (now : ℕ) → kept.moment ≤ now → now < 2 ^ 63 → AreAlike kept.readers readers
-    → (code ≡ Memory) × HasDeadly kept.readers now → Follows (record kept { readers = readers }) config peer (event.Tick now) (silent (Refused code))
+pub tick_without_memory : (kept : PeerKept) (readers : List ReaderKept) (code : Code) (config : Config) (peer : Peer)
+    → StandsFor kept config peer → (now : ℕ) → kept.moment ≤ now → now < 2 ^ 63 → AreAlike kept.readers readers
+    → (code ≡ Memory) × HasDeadly kept.readers now
+    → Follows (record kept { readers = readers }) config peer (event.Tick now) (silent (Refused code))
 tick_without_memory kept readers code config peer s now on early alike dies =
     let accepted : tick_refusal peer.part now ≡ None = good_moment kept config peer s now on early in
     let d = dies.1 in
     let within = get-within kept.readers d.index d.reader d.at in
     let count = s.readers.count in
-    let deadly : is_deadly peer.part now ≡ true = peer_deadly peer.part now d.index (omega (arith, within, count)) (d.deadly _ _ _ (s.readers.each d.index d.reader d.at)) in
-    let refused : RefusesTick peer.part now code = (subst (λ (o : Option Code). Refuses o code) (sym accepted) dies.0, λ memory. deadly) in
-    (peer, record { same_number = refl; knows = refl; step = ((refused, refl), refl); sent = λ p x m h. absurd (omega (arith, m.1)) }, alike_core kept readers alike config peer s)
+    let deadly : is_deadly peer.part now ≡ true =
+    peer_deadly peer.part now d.index (omega (arith, within, count))
+    (d.deadly _ _ _ (s.readers.each d.index d.reader d.at)) in
+    let refused : RefusesTick peer.part now code =
+    (subst (λ (o : Option Code). Refuses o code) (sym accepted) dies.0, λ memory. deadly) in (
+      peer,
+      record {
+        same_number = refl;
+        knows = refl;
+        step = ((refused, refl), refl);
+        sent = λ p x m h. absurd (omega (arith, m.1));
+      },
+      alike_core kept readers alike config
+          peer s,
+    )
 
-pub refused_tick : (kept : PeerKept) (config : Config) (peer : Peer) → StandsFor kept config peer → (now : ℕ) → (now < kept.moment) ⊎ (2 ^ 63 ≤ now) → Follows kept config peer (event.Tick now) (silent (Refused BadParameter))
+pub refused_tick : (kept : PeerKept) (config : Config) (peer : Peer) → StandsFor kept config peer → (now : ℕ)
+    → (now < kept.moment) ⊎ (2 ^ 63 ≤ now) → Follows kept config peer (event.Tick now) (silent (Refused BadParameter))
 refused_tick kept config peer s now bad =
     let moment = s.moment in
     let is_bad : (nat_lt now peer.part.dds.moment || nat_le (2 ^ 63) now) ≡ true =
-    ⊎_elim (λ back. first (nat_lt now peer.part.dds.moment) (nat_le (2 ^ 63) now) (grind (arith, nat_tests))) (λ late. second (nat_lt now peer.part.dds.moment) (nat_le (2 ^ 63) now) (grind (arith, nat_tests))) bad in
-    let is : tick_refusal peer.part now ≡ Some BadParameter = ap (λ (b : Bool). if b then Some BadParameter else None) is_bad in
-    (peer, record { same_number = refl; knows = refl; step = (((subst (λ (o : Option Code). Refuses o BadParameter) (sym is) refl, λ memory. absurd cc), refl), refl); sent = λ p x m h. absurd (omega (arith, m.1)) }, s)
+    ⊎_elim (λ back. first (nat_lt now peer.part.dds.moment) (nat_le (2 ^ 63) now) (grind (arith, nat_tests)))
+    (λ late. second (nat_lt now peer.part.dds.moment) (nat_le (2 ^ 63) now) (grind (arith, nat_tests))) bad in
+    let is : tick_refusal peer.part now ≡ Some BadParameter =
+    ap (λ (b : Bool). if b then Some BadParameter else None) is_bad in (
+      peer,
+      record {
+        same_number = refl;
+        knows = refl;
+        step = (((subst (λ (o : Option Code). Refuses o BadParameter) (sym is) refl, λ memory. absurd cc), refl), refl);
+        sent = λ p x m h. absurd (omega (arith, m.1));
+      },
+      s,
+    )
   where
     first : (a b : Bool) → a ≡ true → (a || b) ≡ true
     first true b h = refl
@@ -344,53 +468,81 @@ pub known_end : {X : Type 0} (ends : List X) (number i count : ℕ) → number �
 known_end ends number i count is lt same =
     subst (λ (n : ℕ). has_element ends n ≡ true) (number_is number i is) (there_is ends i (omega (arith, lt, same)))
 
-known_writer : (kept : PeerKept) (config : Config) (peer : Peer) → StandsFor kept config peer → (writer i : ℕ) → writer ≡ i + 1 → i < length kept.writers → has_element peer.part.rtps.writers writer ≡ true
+known_writer : (kept : PeerKept) (config : Config) (peer : Peer) → StandsFor kept config peer → (writer i : ℕ)
+    → writer ≡ i + 1 → i < length kept.writers → has_element peer.part.rtps.writers writer ≡ true
 known_writer kept config peer s writer i is lt =
     known_end peer.part.rtps.writers writer i (length kept.writers) is lt s.writers.count
 
-pub register_at : (kept : PeerKept) (writer i : ℕ) (k k' : WriterKept) (key : Key) (config : Config) (peer : Peer) → StandsFor kept config peer → writer ≡ i + 1 → slice_get kept.writers i ≡ Some k → i < length kept.writers → Enters k (Registered key) k'
+pub register_at : (kept : PeerKept) (writer i : ℕ) (k k' : WriterKept) (key : Key) (config : Config) (peer : Peer)
+    → StandsFor kept config peer → writer ≡ i + 1 → slice_get kept.writers i ≡ Some k → i < length kept.writers
+    → Enters k (Registered key) k'
     → Follows (with_writer kept i k') config peer (event.Call (call.Register writer key)) (silent Done)
 register_at kept writer i k k' key config peer s is at lt enters =
-    subst (λ (n : ℕ). Follows (with_writer kept i k') config peer (event.Call (call.Register n key)) (silent Done)) (number_is writer i is) (registers kept i k k' key config peer s at lt enters)
+    subst (λ (n : ℕ). Follows (with_writer kept i k') config peer (event.Call (call.Register n key)) (silent Done))
+    (number_is writer i is) (registers kept i k k' key config peer s at lt enters)
 
 -- so it is of the writer of a number
-pub looks_at : (kept : PeerKept) (writer i : ℕ) (k k' : WriterKept) (status : LivelinessLostStatus) (config : Config) (peer : Peer) → StandsFor kept config peer → writer ≡ i + 1 → slice_get kept.writers i ≡ Some k → i < length kept.writers
-    → ((w : Writer) (answered : Endpoint → Option ℤ) → WriterStands k w answered → status ≡ liveliness_lost_status w.lease w.written) → Enters k LookedAt k'
-    → Follows (with_writer kept i k') config peer (event.Call (call.GetLivelinessLost writer)) (silent (LivelinessLost status))
+pub looks_at : (kept : PeerKept) (writer i : ℕ) (k k' : WriterKept) (status : LivelinessLostStatus) (config : Config)
+    (peer : Peer) → StandsFor kept config peer → writer ≡ i + 1 → slice_get kept.writers i ≡ Some k
+    → i < length kept.writers
+    → ((w : Writer) (answered : Endpoint → Option ℤ) → WriterStands k w answered
+    → status ≡ liveliness_lost_status w.lease w.written) → Enters k LookedAt k'
+    → Follows (with_writer kept i k') config peer (event.Call (call.GetLivelinessLost writer))
+    (silent (LivelinessLost status))
 looks_at kept writer i k k' status config peer s is at lt tells enters =
-    subst (λ (n : ℕ). Follows (with_writer kept i k') config peer (event.Call (call.GetLivelinessLost n)) (silent (LivelinessLost status))) (number_is writer i is)
+    subst (λ (n : ℕ). Follows (with_writer kept i k') config peer (event.Call (call.GetLivelinessLost n))
+    (silent (LivelinessLost status))) (number_is writer i is)
     (looks kept i k k' status config peer s at lt tells enters)
 
 -- an instance that the writer of this index has not registered
-pub unregistered_at : (kept : PeerKept) (writer i : ℕ) (k : WriterKept) (key : Key) (config : Config) (peer : Peer) → StandsFor kept config peer → writer ≡ i + 1 → i < length kept.writers → slice_get kept.writers i ≡ Some k
-    → ((w : Writer) (answered : Endpoint → Option ℤ) → WriterStands k w answered → is_key_registered key w.written ≡ false)
+pub unregistered_at : (kept : PeerKept) (writer i : ℕ) (k : WriterKept) (key : Key) (config : Config) (peer : Peer)
+    → StandsFor kept config peer → writer ≡ i + 1 → i < length kept.writers → slice_get kept.writers i ≡ Some k
+    → ((w : Writer) (answered : Endpoint → Option ℤ) → WriterStands k w answered
+    → is_key_registered key w.written ≡ false)
     → Follows kept config peer (event.Call (call.Unregister writer key)) (silent (Refused PreconditionNotMet))
 unregistered_at kept writer i k key config peer s is lt at none =
     let answered = peer.known.answered (suc i) in
     let unknown : is_key_registered key (own_writer peer.part writer).written ≡ false =
-    subst (λ (n : ℕ). is_key_registered key (own_writer peer.part n).written ≡ false) (number_is writer i is) (none (own_writer peer.part (suc i)) answered (s.writers.each i k at)) in
-    refused_call kept config peer s (call.Unregister writer key) PreconditionNotMet (unregistered peer.part writer key (known_writer kept config peer s writer i is lt) unknown)
+    subst (λ (n : ℕ). is_key_registered key (own_writer peer.part n).written ≡ false) (number_is writer i is)
+    (none (own_writer peer.part (suc i)) answered (s.writers.each i k at)) in
+    refused_call kept config peer s (call.Unregister writer key) PreconditionNotMet
+    (unregistered peer.part writer key (known_writer kept config peer s writer i is lt) unknown)
 
 -- what a call of a writer makes, where it is one of the peer's
-pub write_at : (kept : PeerKept) (writer i : ℕ) (key : Key) (value : List ℕ) (config : Config) (peer : Peer) → StandsFor kept config peer → writer ≡ i + 1 → i < length kept.writers → length value ≤ 1024
+pub write_at : (kept : PeerKept) (writer i : ℕ) (key : Key) (value : List ℕ) (config : Config) (peer : Peer)
+    → StandsFor kept config peer → writer ≡ i + 1 → i < length kept.writers → length value ≤ 1024
     → MakesChange peer.part (call.Write writer key value) (i + 1) (change_made peer.part kind.Write key value)
 write_at kept writer i key value config peer s is lt short =
-    subst (λ (n : ℕ). MakesChange peer.part (call.Write writer key value) n (change_made peer.part kind.Write key value)) is (write_makes peer.part writer key value (known_writer kept config peer s writer i is lt) short)
+    subst (λ (n : ℕ). MakesChange peer.part (call.Write writer key value) n
+    (change_made peer.part kind.Write key value)) is
+    (write_makes peer.part writer key value (known_writer kept config peer s writer i is lt) short)
 
-pub dispose_at : (kept : PeerKept) (writer i : ℕ) (key : Key) (config : Config) (peer : Peer) → StandsFor kept config peer → writer ≡ i + 1 → i < length kept.writers
+pub dispose_at : (kept : PeerKept) (writer i : ℕ) (key : Key) (config : Config) (peer : Peer)
+    → StandsFor kept config peer → writer ≡ i + 1 → i < length kept.writers
     → MakesChange peer.part (call.Dispose writer key) (i + 1) (change_made peer.part kind.Dispose key [])
 dispose_at kept writer i key config peer s is lt =
-    subst (λ (n : ℕ). MakesChange peer.part (call.Dispose writer key) n (change_made peer.part kind.Dispose key [])) is (dispose_makes peer.part writer key (known_writer kept config peer s writer i is lt))
+    subst (λ (n : ℕ). MakesChange peer.part (call.Dispose writer key) n (change_made peer.part kind.Dispose key [])) is
+    (dispose_makes peer.part writer key (known_writer kept config peer s writer i is lt))
 
-pub unregister_at : (kept : PeerKept) (writer i : ℕ) (k : WriterKept) (key : Key) (made : ChangeKind) (config : Config) (peer : Peer) → StandsFor kept config peer → writer ≡ i + 1 → i < length kept.writers → slice_get kept.writers i ≡ Some k
-    → ((w : Writer) (answered : Endpoint → Option ℤ) → WriterStands k w answered → is_key_registered key w.written ≡ true) → ((w : Writer) (answered : Endpoint → Option ℤ) → WriterStands k w answered → made ≡ unregister_kind w.autodispose)
+pub unregister_at : (kept : PeerKept) (writer i : ℕ) (k : WriterKept) (key : Key) (made : ChangeKind) (config : Config)
+    (peer : Peer) → StandsFor kept config peer → writer ≡ i + 1 → i < length kept.writers
+    → slice_get kept.writers i ≡ Some k
+    → ((w : Writer) (answered : Endpoint → Option ℤ) → WriterStands k w answered
+    → is_key_registered key w.written ≡ true)
+    → ((w : Writer) (answered : Endpoint → Option ℤ) → WriterStands k w answered
+    → made ≡ unregister_kind w.autodispose)
     → MakesChange peer.part (call.Unregister writer key) (i + 1) (change_made peer.part made key [])
 unregister_at kept writer i k key made config peer s is lt at there kind_is =
     let w : Writer = own_writer peer.part (suc i) in
     let answered = peer.known.answered (suc i) in
     let ws : WriterStands k w answered = s.writers.each i k at in
     let number = number_is writer i is in
-    let registered : is_key_registered key (own_writer peer.part writer).written ≡ true = subst (λ (n : ℕ). is_key_registered key (own_writer peer.part n).written ≡ true) number (there w answered ws) in
-    let kinds : unregister_kind (own_writer peer.part writer).autodispose ≡ made = subst (λ (n : ℕ). unregister_kind (own_writer peer.part n).autodispose ≡ made) number (sym (kind_is w answered ws)) in
+    let registered : is_key_registered key (own_writer peer.part writer).written ≡ true =
+    subst (λ (n : ℕ). is_key_registered key (own_writer peer.part n).written ≡ true) number (there w answered ws) in
+    let kinds : unregister_kind (own_writer peer.part writer).autodispose ≡ made =
+    subst (λ (n : ℕ). unregister_kind (own_writer peer.part n).autodispose ≡ made) number
+    (sym (kind_is w answered ws)) in
     subst (λ (n : ℕ). MakesChange peer.part (call.Unregister writer key) n (change_made peer.part made key [])) is
-    (subst (λ (x : ChangeKind). MakesChange peer.part (call.Unregister writer key) writer (change_made peer.part x key [])) kinds (unregister_makes peer.part writer key (known_writer kept config peer s writer i is lt) registered))
+    (subst (λ (x : ChangeKind). MakesChange peer.part (call.Unregister writer key) writer
+    (change_made peer.part x key [])) kinds
+    (unregister_makes peer.part writer key (known_writer kept config peer s writer i is lt) registered))

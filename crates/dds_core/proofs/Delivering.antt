@@ -18,12 +18,23 @@ use Rattle.dds_core.proofs.Taking.{stands_again}
 abbrev pub delivered : Report → Announced → Output
 delivered report gone = record { reply = Reported report; packets = gone.packets.items; unsent = gone.unsent }
 
-pub delivers : (old new : PeerKept) (bytes : List ℕ) (report : Report) (gone : Announced) → ReceivesPacket old bytes report new gone → SoundSteps old (event.Deliver bytes) (delivered report gone) new
+pub delivers : (old new : PeerKept) (bytes : List ℕ) (report : Report) (gone : Announced)
+    → ReceivesPacket old bytes report new gone → SoundSteps old (event.Deliver bytes) (delivered report gone) new
 delivers old new bytes report gone receives config peer s sound =
     let r : ReceivedPacket config peer bytes report new gone = receives config peer s in
-    let rests = takes_packet config peer.number peer.delivered bytes (state_of peer) report r.dues r.state s.is_peer.checked sound r.takes in
-    let truthful = packet_truthful config peer.number peer.delivered bytes (state_of peer) report r.dues r.state s.is_peer.checked sound s.tellable r.takes in
-    let after : Peer = record { number = peer.number; part = r.state.part; known = r.state.known; delivered = record { packet = bytes; report = report } ∷ peer.delivered } in (
+    let rests =
+    takes_packet config peer.number peer.delivered bytes
+    (state_of peer) report r.dues r.state s.is_peer.checked sound r.takes in
+    let truthful =
+    packet_truthful config peer.number peer.delivered bytes
+    (state_of peer) report r.dues r.state s.is_peer.checked sound s.tellable r.takes in
+    let after : Peer =
+    record {
+      number = peer.number;
+      part = r.state.part;
+      known = r.state.known;
+      delivered = record { packet = bytes; report = report } ∷ peer.delivered;
+    } in (
       after,
       record {
         same_number = refl;

@@ -58,11 +58,14 @@ all_died q now after store end l none = subst (λ (h : List Happening). Holds st
 found_in : (due above : ℕ → Bool) (w : ℕ) (vs : List ℕ) → Some w ≡ find above (filter due vs) → due w ≡ true
 found_in due above w [] is = absurd cc
 found_in due above w (v ∷ vs) is = ⊎_elim
-    (λ due_here. here (above v) due_here (found_in due above w vs) (is ∙ ap (λ (b : Bool). find above (cond b (v ∷ filter due vs) (filter due vs))) due_here))
-    (λ not_due. found_in due above w vs (is ∙ ap (λ (b : Bool). find above (cond b (v ∷ filter due vs) (filter due vs))) not_due))
+    (λ due_here. here (above v) due_here (found_in due above w vs)
+    (is ∙ ap (λ (b : Bool). find above (cond b (v ∷ filter due vs) (filter due vs))) due_here))
+    (λ not_due. found_in due above w vs
+    (is ∙ ap (λ (b : Bool). find above (cond b (v ∷ filter due vs) (filter due vs))) not_due))
     (cases_Bool (due v))
   where
-    here : (b : Bool) → due v ≡ true → (Some w ≡ find above (filter due vs) → due w ≡ true) → Some w ≡ cond b (Some v) (find above (filter due vs)) → due w ≡ true
+    here : (b : Bool) → due v ≡ true → (Some w ≡ find above (filter due vs) → due w ≡ true)
+        → Some w ≡ cond b (Some v) (find above (filter due vs)) → due w ≡ true
     here true v_due rest at = subst (λ (x : ℕ). due x ≡ true) (sym (same_Some w v at)) v_due
     here false v_due rest at = rest at
 
@@ -73,13 +76,16 @@ overdue_alive (Some lease) None now is = absurd cc
 overdue_alive None since now is = absurd cc
 
 -- and turns by its death
-turned_by_death : (q : ReaderQos) (now after w : ℕ) (h : List Happening) → Some w ≡ find (λ v. nat_lt after v) (dead_at q now h)
+turned_by_death : (q : ReaderQos) (now after w : ℕ) (h : List Happening)
+    → Some w ≡ find (λ v. nat_lt after v) (dead_at q now h)
     → length (Died w now ∷ h) ≡ turned_at (Died w now ∷ h)
 turned_by_death q now after w h first =
     turns (list_any (is_death_of w) h) (is_alive w h)
-    (overdue_alive (lease_of (writer_of q.writers w)) (alive_since w h) now (found_in (is_overdue q now h) (λ v. nat_lt after v) w (publication_handles q) first))
+    (overdue_alive (lease_of (writer_of q.writers w)) (alive_since w h) now
+    (found_in (is_overdue q now h) (λ v. nat_lt after v) w (publication_handles q) first))
   where
-    turns : (died alive : Bool) → alive ≡ true → suc (length h) ≡ (if not (died && not alive) then length h + 1 else turned_at h)
+    turns : (died alive : Bool) → alive ≡ true → suc (length h)
+        ≡ (if not (died && not alive) then length h + 1 else turned_at h)
     turns true true is = omega arith
     turns false true is = omega arith
     turns died false is = absurd cc
@@ -115,7 +121,8 @@ expires kept now store qos died = record {
     places = s.places;
     knows = s.knows;
     qos_is = s.qos_is ∙ sym qos;
-    holds = subst (λ (q : ReaderQos). Holds store (after_deaths q now r.happened)) (sym s.qos_is) (died r.happened s.holds);
+    holds =
+        subst (λ (q : ReaderQos). Holds store (after_deaths q now r.happened)) (sym s.qos_is) (died r.happened s.holds);
     seen_is = s.seen_is;
   };
 }
@@ -136,7 +143,9 @@ deadly_before olds news now i k alike at dies =
       index = i;
       reader = old.0;
       at = old.1;
-      deadly = λ proxies r tracked s. dies proxies r tracked (alike_stands old.0 k proxies r tracked (alike.each i old.0 k old.1 at) s);
+      deadly =
+          λ proxies r tracked s. dies proxies r tracked
+          (alike_stands old.0 k proxies r tracked (alike.each i old.0 k old.1 at) s);
     }
 
 -- what lies before the next index, and is not this one, lies before it
@@ -161,16 +170,19 @@ room_more now readers index x before here i k lt at =
 pub room_all : (now : ℕ) (readers : List ReaderKept) (index : ℕ) → length readers ≤ index
     → ((i : ℕ) (k : ReaderKept) → i < index → slice_get readers i ≡ Some k → HasRoomForDeaths now k.store)
     → HaveRoomForDeaths now readers
-room_all now readers index all each i d lt = each i (get_or readers i d) (omega (arith, lt, all)) (slice_get-get_or readers i d lt)
+room_all now readers index all each i d lt =
+    each i (get_or readers i d) (omega (arith, lt, all)) (slice_get-get_or readers i d lt)
 
 -- the readers before this index have come so far, and the others are as they were
 pub record ExpiredTo (now index : ℕ) (old new : List ReaderKept) : Type 0 where
   pub count : length new ≡ length old
-  pub done : (i : ℕ) (a b : ReaderKept) → i < index → slice_get old i ≡ Some a → slice_get new i ≡ Some b → Expires a now b
+  pub done : (i : ℕ) (a b : ReaderKept) → i < index → slice_get old i ≡ Some a → slice_get new i ≡ Some b
+      → Expires a now b
   pub left : (i : ℕ) (b : ReaderKept) → index ≤ i → slice_get new i ≡ Some b → slice_get old i ≡ Some b
 
 pub none_expired : (now : ℕ) (readers : List ReaderKept) → ExpiredTo now 0 readers readers
-none_expired now readers = record { count = refl; done = λ i a b lt x y. absurd (omega (arith, lt)); left = λ i b le at. at }
+none_expired now readers =
+    record { count = refl; done = λ i a b lt x y. absurd (omega (arith, lt)); left = λ i b le at. at }
 
 pub expired_more : (now index : ℕ) (old new : List ReaderKept) (k x : ReaderKept)
     → ExpiredTo now index old new → slice_get new index ≡ Some k
@@ -235,7 +247,8 @@ expired_names now (a ∷ as') (b ∷ bs) h =
     ap (λ (n : ReaderIdentity). n ∷ map reader_identity bs) (h.each zero a b refl refl).same
     ∙ ap (λ (ns : List ReaderIdentity). reader_identity a ∷ ns) (expired_names now as' bs rest)
 
-pub readers_expired : (now : ℕ) (old new : List ReaderKept) (proxies : List (List WriterProxy)) (rs : List Reader) (known : Known)
+pub readers_expired : (now : ℕ) (old new : List ReaderKept) (proxies : List (List WriterProxy)) (rs : List Reader)
+    (known : Known)
     → AllExpire old now new → ReadersStand old proxies rs known
     → ReadersStand new proxies (map (reader_ticked now) rs) known
 readers_expired now old new proxies rs known h s = record {
@@ -243,7 +256,8 @@ readers_expired now old new proxies rs known h s = record {
   count = length-map rs (reader_ticked now) ∙ (s.count ∙ sym h.count);
   each = λ i k at.
       let before = partner old new i k h.count at in
-      let one : ReaderStands k (get_or proxies i []) (reader_ticked now (get_or rs i no_reader)) (λ w. known.tracked w (suc i)) =
+      let one : ReaderStands k (get_or proxies i []) (reader_ticked now (get_or rs i no_reader))
+      (λ w. known.tracked w (suc i)) =
       (h.each i before.0 k before.1 at).stands _ _ _ (s.each i before.0 before.1) in
       subst (λ (r : Reader). ReaderStands k (get_or proxies i []) r (λ w. known.tracked w (suc i)))
       (sym (numbered-map (reader_ticked now) rs (suc i) no_reader)) one;

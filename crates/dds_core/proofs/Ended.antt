@@ -31,78 +31,102 @@ use Rattle.dds_core.proofs.Notified.{listeners_apart, tells_as, tells_then}
 
 module _ {L : Type 0} (notices : L → List Notice) (capacity : L → ℕ) where
   -- the writers were told of, and then the readers
-  pub tells_end : (before : Part) (old : PeerKept) (slots : Slotted L) (mid : PeerKept) (between : Slotted L) (new : PeerKept) (after : Slotted L)
-      → length mid.readers ≡ length old.readers → Tells notices capacity (each_told (writer_told before) (length old.writers)) old slots mid between
+  pub tells_end : (before : Part) (old : PeerKept) (slots : Slotted L) (mid : PeerKept) (between : Slotted L)
+      (new : PeerKept) (after : Slotted L)
+      → length mid.readers ≡ length old.readers
+      → Tells notices capacity (each_told (writer_told before) (length old.writers)) old slots mid between
       → Tells notices capacity (each_told (reader_told before) (length mid.readers)) mid between new after
       → Tells notices capacity (at_end before) old slots new after
   unfolding at_end
   tells_end before old slots mid between new after same first second =
-      tells_as notices capacity (λ part. each_told (reader_told before) (length mid.readers) (each_told (writer_told before) (length old.writers) part)) (at_end before)
+      tells_as notices capacity
+      (λ part. each_told (reader_told before) (length mid.readers)
+      (each_told (writer_told before) (length old.writers) part)) (at_end before)
       old slots new after
       (λ config peer s.
-      ap (λ (n : ℕ). each_told (reader_told before) n (each_told (writer_told before) (length old.writers) peer.part)) (same ∙ sym s.readers.count)
-      ∙ ap (λ (n : ℕ). each_told (reader_told before) (length peer.part.dds.readers) (each_told (writer_told before) n peer.part)) (sym s.writers.count))
-      (tells_then notices capacity (each_told (writer_told before) (length old.writers)) (each_told (reader_told before) (length mid.readers)) old slots mid between new after first second)
+      ap (λ (n : ℕ). each_told (reader_told before) n (each_told (writer_told before) (length old.writers) peer.part))
+      (same ∙ sym s.readers.count)
+      ∙ ap (λ (n : ℕ). each_told (reader_told before) (length peer.part.dds.readers)
+      (each_told (writer_told before) n peer.part)) (sym s.writers.count))
+      (tells_then notices capacity (each_told (writer_told before) (length old.writers))
+      (each_told (reader_told before) (length mid.readers)) old slots mid between new after first second)
 
 -- what a peer knows was claimed, also after its listeners were told
 sound_at_end : (config : Config) (before peer : Peer) → IsSound config peer → IsSound config (peer_at_end before peer)
 sound_at_end config before peer sound =
     let rows = end_rows before.part peer.part in
     record {
-      place = λ w r p h. sound.place w r p (ap (λ (xs : List (List WriterProxy)). reader_place (numbered xs r []) w) (sym rows) ∙ h);
+      place =
+          λ w r p h. sound.place w r p
+          (ap (λ (xs : List (List WriterProxy)). reader_place (numbered xs r []) w) (sym rows) ∙ h);
       claimed = sound.claimed;
       newest = λ w r h. sound.newest w r (subst (λ (xs : List (List WriterProxy)). HasNumber xs r) rows h);
-      heard = λ w r count h. sound.heard w r count (ap (λ (xs : List (List WriterProxy)). heard_of (numbered xs r []) w) (sym rows) ∙ h);
+      heard =
+          λ w r count h. sound.heard w r count
+          (ap (λ (xs : List (List WriterProxy)). heard_of (numbered xs r []) w) (sym rows) ∙ h);
     }
 
 -- ---- entities
 
 module _ {L : Type 0} (notices : L → List Notice) (capacity : L → ℕ) where
-  same_entities : (slots : Slotted L) (places : Places) → SlotsStandFor notices capacity slots places → (e : Entity) → has_entity places e ≡ has_entity slots e
+  same_entities : (slots : Slotted L) (places : Places) → SlotsStandFor notices capacity slots places → (e : Entity)
+      → has_entity places e ≡ has_entity slots e
   same_entities slots places s entity.Participant = refl
   same_entities slots places s (entity.Writer n) = ap (λ (k : ℕ). is_number n k) s.writers
   same_entities slots places s (entity.Reader n) = ap (λ (k : ℕ). is_number n k) s.readers
 
-  same_refusal : (slots : Slotted L) (places : Places) → SlotsStandFor notices capacity slots places → (e : Entity) (listener : Option L)
+  same_refusal : (slots : Slotted L) (places : Places) → SlotsStandFor notices capacity slots places
+      → (e : Entity) (listener : Option L)
       → listener_refusal notices places e listener ≡ listener_refusal notices slots e listener
   same_refusal slots places s e listener =
-      ap (λ (b : Bool). if not b then Some BadParameter else (if is_fresh notices listener then None else Some PreconditionNotMet)) (same_entities slots places s e)
+      ap (λ (b : Bool). if not b then Some BadParameter
+      else (if is_fresh notices listener then None else Some PreconditionNotMet)) (same_entities slots places s e)
 
 -- ---- steps
 
 module _ {F L : Type 0} (notices : L → List Notice) (capacity : L → ℕ) where
   -- no listener is set
-  pub steps_untold : (tests : Tests) (old : CoreKept F L) (ev : Event) (output : Output) (new : FilteredKept F) → FilteredSteps tests old.filtered ev output new
-      → is_any old.listeners ≡ false → Steps notices capacity tests old ev output (record { filtered = new; listeners = old.listeners })
+  pub steps_untold : (tests : Tests) (old : CoreKept F L) (ev : Event) (output : Output) (new : FilteredKept F)
+      → FilteredSteps tests old.filtered ev output new
+      → is_any old.listeners ≡ false → Steps notices capacity tests old ev output
+      (record { filtered = new; listeners = old.listeners })
   steps_untold tests old ev output new h none = record {
     step = λ config peer s sound.
         let r = h.step config peer s.stands sound in
         let after : Peer = r.0 in
-        let kept : after.part.dds.listeners ≡ peer.part.dds.listeners = keeps_listeners config tests peer ev output after r.1 in
+        let kept : after.part.dds.listeners ≡ peer.part.dds.listeners =
+        keeps_listeners config tests peer ev output after r.1 in
         let slots : SlotsStandFor notices capacity old.listeners after.part.dds.listeners =
         subst (λ (p : Places). SlotsStandFor notices capacity old.listeners p) (sym kept) s.listeners in
         let same : at_end peer.part after.part ≡ after.part =
-        end_untold peer.part after.part (λ e status. nobody_takes notices capacity old.listeners after.part.dds.listeners none slots e status) in
-        let stands : StandsFor notices capacity (record { filtered = new; listeners = old.listeners }) config after = record { stands = r.2; listeners = slots } in (
+        end_untold peer.part after.part
+        (λ e status. nobody_takes notices capacity old.listeners after.part.dds.listeners none slots e status) in
+        let stands : StandsFor notices capacity (record { filtered = new; listeners = old.listeners }) config after =
+        record { stands = r.2; listeners = slots } in (
           after,
           r.1,
           r.4,
-          subst (λ (p : Part). StandsFor notices capacity (record { filtered = new; listeners = old.listeners }) config (record after { part = p })) (sym same) stands,
+          subst (λ (p : Part). StandsFor notices capacity (record { filtered = new; listeners = old.listeners }) config
+              (record after { part = p })) (sym same) stands,
           sound_at_end config peer after r.3,
         );
     filters = h.filters;
   }
 
   -- listeners are told at its end
-  pub steps_told : (tests : Tests) (old : CoreKept F L) (ev : Event) (output : Output) (mid new : FilteredKept F) (after : Slotted L) (marks : Marks)
+  pub steps_told : (tests : Tests) (old : CoreKept F L) (ev : Event) (output : Output) (mid new : FilteredKept F)
+      (after : Slotted L) (marks : Marks)
       → FilteredSteps tests old.filtered ev output mid → MarksPeer old.filtered.peer marks
-      → ((before : Part) → AreMarksOf marks before → Tells notices capacity (at_end before) mid.peer old.listeners new.peer after)
-      → new.filters ≡ mid.filters → Steps notices capacity tests old ev output (record { filtered = new; listeners = after })
+      → ((before : Part) → AreMarksOf marks before
+      → Tells notices capacity (at_end before) mid.peer old.listeners new.peer after)
+      → new.filters ≡ mid.filters → Steps notices capacity tests old ev output
+      (record { filtered = new; listeners = after })
   steps_told tests old ev output mid new after marks h marked tells same = record {
     step = λ config peer s sound.
         let r = h.step config peer s.stands sound in
         let stepped : Peer = r.0 in
-        let kept : stepped.part.dds.listeners ≡ peer.part.dds.listeners = keeps_listeners config tests peer ev output stepped r.1 in
+        let kept : stepped.part.dds.listeners ≡ peer.part.dds.listeners =
+        keeps_listeners config tests peer ev output stepped r.1 in
         let slots : SlotsStandFor notices capacity old.listeners stepped.part.dds.listeners =
         subst (λ (p : Places). SlotsStandFor notices capacity old.listeners p) (sym kept) s.listeners in
         let told = tells peer.part (marked config peer s.stands.stands) config stepped r.2.stands slots in (
@@ -112,7 +136,9 @@ module _ {F L : Type 0} (notices : L → List Notice) (capacity : L → ℕ) whe
           record {
             stands = record {
               stands = told.0;
-              filters = ap (λ (w : Watched). w.filters) (end_watch peer.part stepped.part) ∙ (r.2.filters ∙ ap (λ (fs : List F). length fs) (sym same));
+              filters =
+                  ap (λ (w : Watched). w.filters) (end_watch peer.part stepped.part)
+                  ∙ (r.2.filters ∙ ap (λ (fs : List F). length fs) (sym same));
             };
             listeners = told.1;
           },
@@ -123,23 +149,29 @@ module _ {F L : Type 0} (notices : L → List Notice) (capacity : L → ℕ) whe
 
   -- ---- the opening
 
-  pub opens : (filtered : FilteredKept F) (listeners : Slotted L) (config : Config) (n writers readers : ℕ) → FilteredStandsFor filtered config (opening_peer config n)
-      → writers ≡ length filtered.peer.writers → readers ≡ length filtered.peer.readers → listeners ≡ nobody writers readers
-      → StandsFor notices capacity (record { filtered = filtered; listeners = listeners }) config (opening_peer config n)
+  pub opens : (filtered : FilteredKept F) (listeners : Slotted L) (config : Config) (n writers readers : ℕ)
+      → FilteredStandsFor filtered config (opening_peer config n)
+      → writers ≡ length filtered.peer.writers → readers ≡ length filtered.peer.readers
+      → listeners ≡ nobody writers readers
+      → StandsFor notices capacity (record { filtered = filtered; listeners = listeners }) config
+      (opening_peer config n)
   opens filtered listeners config n writers readers s w r none =
       let part : Part = (opening_peer config n).part in
       let opening : part.dds.listeners ≡ nobody writers readers =
       opens_nobody config n
-      ∙ (ap (λ (k : ℕ). nobody k (length part.dds.readers)) (s.stands.writers.count ∙ sym w) ∙ ap (λ (k : ℕ). nobody writers k) (s.stands.readers.count ∙ sym r)) in
+      ∙ (ap (λ (k : ℕ). nobody k (length part.dds.readers)) (s.stands.writers.count ∙ sym w)
+      ∙ ap (λ (k : ℕ). nobody writers k) (s.stands.readers.count ∙ sym r)) in
       record {
         stands = s;
         listeners = subst (λ (p : Places). SlotsStandFor notices capacity listeners p) (sym opening)
-            (subst (λ (l : Slotted L). SlotsStandFor notices capacity l (nobody writers readers)) (sym none) (nobody_stands notices capacity writers readers));
+            (subst (λ (l : Slotted L). SlotsStandFor notices capacity l (nobody writers readers)) (sym none)
+            (nobody_stands notices capacity writers readers));
       }
 
   -- ---- filters
 
-  pub adds : (old : CoreKept F L) (filter : F) (number : ℕ) (new : FilteredKept F) → FilteredAdds old.filtered filter number new
+  pub adds : (old : CoreKept F L) (filter : F) (number : ℕ) (new : FilteredKept F)
+      → FilteredAdds old.filtered filter number new
       → Adds notices capacity old filter number (record { filtered = new; listeners = old.listeners })
   adds old filter number new h = record {
     filters = h.filters;
@@ -148,7 +180,8 @@ module _ {F L : Type 0} (notices : L → List Notice) (capacity : L → ℕ) whe
         (r.0, r.1, record { stands = r.2; listeners = s.listeners }, r.3);
   }
 
-  pub refuses : (old : CoreKept F L) (code : Code) → FilteredRefuses old.filtered code → RefusesFilter notices capacity old code
+  pub refuses : (old : CoreKept F L) (code : Code) → FilteredRefuses old.filtered code
+      → RefusesFilter notices capacity old code
   refuses old code h config peer s = h config peer s.stands
 
   -- ---- listeners
@@ -163,13 +196,19 @@ module _ {F L : Type 0} (notices : L → List Notice) (capacity : L → ℕ) whe
           same_refusal notices capacity old.listeners peer.part.dds.listeners s.listeners e listener ∙ h.accepted,
           r.0,
           record {
-            stands = record { stands = listeners_apart old.filtered.peer config peer _ s.stands.stands; filters = s.stands.filters };
+            stands =
+                record {
+                  stands = listeners_apart old.filtered.peer config peer _ s.stands.stands;
+                  filters = s.stands.filters;
+                };
             listeners = r.1;
           },
           λ sound. record { place = sound.place; claimed = sound.claimed; newest = sound.newest; heard = sound.heard },
         );
   }
 
-  pub refuses_listener : (old : CoreKept F L) (e : Entity) (listener : Option L) (code : Code) → listener_refusal notices old.listeners e listener ≡ Some code
+  pub refuses_listener : (old : CoreKept F L) (e : Entity) (listener : Option L) (code : Code)
+      → listener_refusal notices old.listeners e listener ≡ Some code
       → RefusesListener notices capacity old e listener code
-  refuses_listener old e listener code h config peer s = same_refusal notices capacity old.listeners peer.part.dds.listeners s.listeners e listener ∙ h
+  refuses_listener old e listener code h config peer s =
+      same_refusal notices capacity old.listeners peer.part.dds.listeners s.listeners e listener ∙ h

@@ -28,50 +28,69 @@ with_reader kept i k = record kept { readers = set kept.readers i k }
 abbrev made : Identity → List WriterIdentity → List ReaderIdentity → Identity
 made identity writers readers = record { prefix = identity.prefix; writers = writers; readers = readers }
 
-pub same_with_writer : (kept : PeerKept) (i : ℕ) (k k' : WriterKept) → slice_get kept.writers i ≡ Some k → writer_identity k' ≡ writer_identity k → identity_of (with_writer kept i k') ≡ identity_of kept
+pub same_with_writer : (kept : PeerKept) (i : ℕ) (k k' : WriterKept) → slice_get kept.writers i ≡ Some k
+    → writer_identity k' ≡ writer_identity k → identity_of (with_writer kept i k') ≡ identity_of kept
 same_with_writer kept i k k' at same =
-    ap (λ (ws : List WriterIdentity). made (identity_of kept) ws (map reader_identity kept.readers)) (map-set_same writer_identity kept.writers i k k' at same)
+    ap (λ (ws : List WriterIdentity). made (identity_of kept) ws (map reader_identity kept.readers))
+    (map-set_same writer_identity kept.writers i k k' at same)
 
-pub same_with_reader : (kept : PeerKept) (i : ℕ) (k k' : ReaderKept) → slice_get kept.readers i ≡ Some k → reader_identity k' ≡ reader_identity k → identity_of (with_reader kept i k') ≡ identity_of kept
+pub same_with_reader : (kept : PeerKept) (i : ℕ) (k k' : ReaderKept) → slice_get kept.readers i ≡ Some k
+    → reader_identity k' ≡ reader_identity k → identity_of (with_reader kept i k') ≡ identity_of kept
 same_with_reader kept i k k' at same =
-    ap (λ (rs : List ReaderIdentity). made (identity_of kept) (map writer_identity kept.writers) rs) (map-set_same reader_identity kept.readers i k k' at same)
+    ap (λ (rs : List ReaderIdentity). made (identity_of kept) (map writer_identity kept.writers) rs)
+    (map-set_same reader_identity kept.readers i k k' at same)
 
 -- the peer with another thing that happened at its writer of this number
 abbrev pub entered_at : Peer → ℕ → Written → Peer
-entered_at peer writer entry = record peer { part = record peer.part { rtps = effect peer.part.rtps (writes writer entry) } }
+entered_at peer writer entry =
+    record peer { part = record peer.part { rtps = effect peer.part.rtps (writes writer entry) } }
 
 -- a writer that was put back as it was changes nothing
-pub unchanged_with : (kept : PeerKept) (i : ℕ) (k k' : WriterKept) → slice_get kept.writers i ≡ Some k → k' ≡ k → with_writer kept i k' ≡ kept
-unchanged_with kept i k k' at same = ap (λ (ws : List WriterKept). changed kept ws) (set_back kept.writers i k k' at same)
+pub unchanged_with : (kept : PeerKept) (i : ℕ) (k k' : WriterKept) → slice_get kept.writers i ≡ Some k → k' ≡ k
+    → with_writer kept i k' ≡ kept
+unchanged_with kept i k k' at same =
+    ap (λ (ws : List WriterKept). changed kept ws) (set_back kept.writers i k k' at same)
   where
     changed : PeerKept → List WriterKept → PeerKept
     changed x ws = record x { writers = ws }
 
 -- each writer stands, also where one stepped
-writers_set : (ks : List WriterKept) (ws : List Writer) (i : ℕ) (k : WriterKept) (w : Writer) (answered : ℕ → Endpoint → Option ℤ) → length ws ≡ length ks
-    → ((j : ℕ) (x : WriterKept) → slice_get ks j ≡ Some x → WriterStands x (get_or ws j no_writer) (answered (suc j))) → WriterStands k w (answered (suc i))
-    → (j : ℕ) (x : WriterKept) → slice_get (set ks i k) j ≡ Some x → WriterStands x (get_or (set ws i w) j no_writer) (answered (suc j))
+writers_set : (ks : List WriterKept) (ws : List Writer) (i : ℕ) (k : WriterKept) (w : Writer)
+    (answered : ℕ → Endpoint → Option ℤ) → length ws ≡ length ks
+    → ((j : ℕ) (x : WriterKept) → slice_get ks j ≡ Some x → WriterStands x (get_or ws j no_writer) (answered (suc j)))
+    → WriterStands k w (answered (suc i))
+    → (j : ℕ) (x : WriterKept) → slice_get (set ks i k) j ≡ Some x
+    → WriterStands x (get_or (set ws i w) j no_writer) (answered (suc j))
 writers_set [] ws i k w answered count each new j x at = absurd cc
 writers_set (a ∷ ks) [] i k w answered count each new j x at = absurd (omega (arith, count))
-writers_set (a ∷ ks) (b ∷ ws) zero k w answered count each new zero x at = subst (λ (z : WriterKept). WriterStands z w (answered 1)) (same_Some k x at) new
+writers_set (a ∷ ks) (b ∷ ws) zero k w answered count each new zero x at =
+    subst (λ (z : WriterKept). WriterStands z w (answered 1)) (same_Some k x at) new
 writers_set (a ∷ ks) (b ∷ ws) zero k w answered count each new (suc j) x at = each (suc j) x at
 writers_set (a ∷ ks) (b ∷ ws) (suc i) k w answered count each new zero x at = each zero x at
 writers_set (a ∷ ks) (b ∷ ws) (suc i) k w answered count each new (suc j) x at =
     writers_set ks ws i k w (λ n. answered (suc n)) (omega (arith, count)) (λ n y h. each (suc n) y h) new j x at
 
 -- own writer n stepped
-pub own_writer_stepped : (kept : PeerKept) (i : ℕ) (k k' : WriterKept) (entry : Written) (config : Config) (peer : Peer) → StandsFor kept config peer → slice_get kept.writers i ≡ Some k → Enters k entry k'
-    → AreTellable (entered_at peer (suc i) entry).part → StandsFor (with_writer kept i k') config (entered_at peer (suc i) entry)
+pub own_writer_stepped : (kept : PeerKept) (i : ℕ) (k k' : WriterKept) (entry : Written) (config : Config) (peer : Peer)
+    → StandsFor kept config peer → slice_get kept.writers i ≡ Some k → Enters k entry k'
+    → AreTellable (entered_at peer (suc i) entry).part
+    → StandsFor (with_writer kept i k') config (entered_at peer (suc i) entry)
 own_writer_stepped kept i k k' entry config peer s at enters tellable =
     let ws : List Writer = peer.part.rtps.writers in
     record {
-      is_peer = subst (λ (x : Identity). IsPeerOf config peer.number x) (sym (same_with_writer kept i k k' at enters.same)) s.is_peer;
+      is_peer =
+          subst (λ (x : Identity). IsPeerOf config peer.number x)
+          (sym (same_with_writer kept i k k' at enters.same)) s.is_peer;
       moment = s.moment;
       early = s.early;
       watch = s.watch;
       writers = record {
-        count = length-set ws i (with_written (get_or ws i no_writer) entry) ∙ (s.writers.count ∙ sym (length-set kept.writers i k'));
-        each = writers_set kept.writers ws i k' (with_written (get_or ws i no_writer) entry) peer.known.answered s.writers.count s.writers.each
+        count =
+            length-set ws i (with_written (get_or ws i no_writer) entry)
+            ∙ (s.writers.count ∙ sym (length-set kept.writers i k'));
+        each =
+            writers_set kept.writers ws i k'
+            (with_written (get_or ws i no_writer) entry) peer.known.answered s.writers.count s.writers.each
             (enters.stands (get_or ws i no_writer) (peer.known.answered (suc i)) (s.writers.each i k at));
       };
       readers = s.readers;
@@ -86,7 +105,8 @@ with_read part reader proxies r = record part {
 }
 
 -- what is known is the same, said by another function
-pub reader_stands_on : (k : ReaderKept) (proxies : List WriterProxy) (r : Reader) (old new : Endpoint → Tracked) → ((w : Endpoint) → new w ≡ old w) → ReaderStands k proxies r old → ReaderStands k proxies r new
+pub reader_stands_on : (k : ReaderKept) (proxies : List WriterProxy) (r : Reader) (old new : Endpoint → Tracked)
+    → ((w : Endpoint) → new w ≡ old w) → ReaderStands k proxies r old → ReaderStands k proxies r new
 reader_stands_on k proxies r old new same s = record {
   writers_are = s.writers_are;
   places = λ w p at. ap (λ (t : Tracked). t.place) (same w) ∙ s.places w p at;
@@ -97,23 +117,36 @@ reader_stands_on k proxies r old new same s = record {
 }
 
 -- own reader n stepped, and knows what it knows now
-pub own_reader_stepped : (kept : PeerKept) (i : ℕ) (k k' : ReaderKept) (proxies : List WriterProxy) (r : Reader) (known : Known) (config : Config) (peer : Peer) → StandsFor kept config peer → slice_get kept.readers i ≡ Some k
-    → reader_identity k' ≡ reader_identity k → known.answered ≡ peer.known.answered → ((w : Endpoint) (n : ℕ) → (n ≡ suc i → ⊥) → known.tracked w n ≡ peer.known.tracked w n) → ReaderStands k' proxies r (λ w. known.tracked w (suc i))
-    → StandsFor (with_reader kept i k') config (record peer { part = with_read peer.part (suc i) proxies r; known = known })
+pub own_reader_stepped : (kept : PeerKept) (i : ℕ) (k k' : ReaderKept) (proxies : List WriterProxy) (r : Reader)
+    (known : Known) (config : Config) (peer : Peer) → StandsFor kept config peer → slice_get kept.readers i ≡ Some k
+    → reader_identity k' ≡ reader_identity k → known.answered ≡ peer.known.answered
+    → ((w : Endpoint) (n : ℕ) → (n ≡ suc i → ⊥) → known.tracked w n ≡ peer.known.tracked w n)
+    → ReaderStands k' proxies r (λ w. known.tracked w (suc i))
+    → StandsFor (with_reader kept i k') config
+    (record peer { part = with_read peer.part (suc i) proxies r; known = known })
 own_reader_stepped kept i k k' proxies r known config peer s at same counts others stands =
     let ps : List (List WriterProxy) = peer.part.rtps.readers in
     let rs : List Reader = peer.part.dds.readers in
     record {
-      is_peer = subst (λ (x : Identity). IsPeerOf config peer.number x) (sym (same_with_reader kept i k k' at same)) s.is_peer;
+      is_peer =
+          subst (λ (x : Identity). IsPeerOf config peer.number x)
+          (sym (same_with_reader kept i k k' at same)) s.is_peer;
       moment = s.moment;
       early = s.early;
       watch = s.watch;
-      writers = subst (λ (answered : ℕ → Endpoint → Option ℤ). WritersStand kept.writers peer.part.rtps.writers answered) (sym counts) s.writers;
+      writers =
+          subst (λ (answered : ℕ → Endpoint → Option ℤ). WritersStand kept.writers peer.part.rtps.writers answered)
+          (sym counts) s.writers;
       readers = record {
         rows = length-set ps i proxies ∙ (s.readers.rows ∙ sym (length-set kept.readers i k'));
         count = length-set rs i r ∙ (s.readers.count ∙ sym (length-set kept.readers i k'));
-        each = each_set_at (λ (j : ℕ) (x : ReaderKept) (y : List WriterProxy) (z : Reader). ReaderStands x y z (λ w. known.tracked w (suc j))) kept.readers ps rs i k' proxies [] r no_reader s.readers.rows s.readers.count
-            (λ j x apart there. reader_stands_on x (get_or ps j []) (get_or rs j no_reader) (λ w. peer.known.tracked w (suc j)) (λ w. known.tracked w (suc j)) (λ w. others w (suc j) (λ e. apart (omega (arith, e)))) (s.readers.each j x there))
+        each =
+            each_set_at (λ (j : ℕ) (x : ReaderKept) (y : List WriterProxy) (z : Reader). ReaderStands x y z
+            (λ w. known.tracked w (suc j))) kept.readers ps rs i k' proxies
+            [] r no_reader s.readers.rows s.readers.count
+            (λ j x apart there. reader_stands_on x (get_or ps j []) (get_or rs j no_reader)
+            (λ w. peer.known.tracked w (suc j)) (λ w. known.tracked w (suc j))
+            (λ w. others w (suc j) (λ e. apart (omega (arith, e)))) (s.readers.each j x there))
             stands;
       };
       tellable = s.tellable;
@@ -133,9 +166,15 @@ abbrev pub readers_with : Part → ℕ → Reader → Dds
 readers_with part reader r = record part.dds { readers = with_numbered part.dds.readers reader r }
 
 -- own reader n stepped, and knows of its writers what it knew
-pub own_reader_changed : (kept : PeerKept) (i : ℕ) (k k' : ReaderKept) (r : Reader) (config : Config) (peer : Peer) → StandsFor kept config peer → slice_get kept.readers i ≡ Some k → reader_identity k' ≡ reader_identity k
-    → ReaderStands k' (own_proxies peer.part (suc i)) r (λ w. peer.known.tracked w (suc i)) → StandsFor (with_reader kept i k') config (record peer { part = record peer.part { dds = readers_with peer.part (suc i) r } })
+pub own_reader_changed : (kept : PeerKept) (i : ℕ) (k k' : ReaderKept) (r : Reader) (config : Config) (peer : Peer)
+    → StandsFor kept config peer → slice_get kept.readers i ≡ Some k → reader_identity k' ≡ reader_identity k
+    → ReaderStands k' (own_proxies peer.part (suc i)) r (λ w. peer.known.tracked w (suc i))
+    → StandsFor (with_reader kept i k') config
+    (record peer { part = record peer.part { dds = readers_with peer.part (suc i) r } })
 own_reader_changed kept i k k' r config peer s at same one =
-    let rows : set peer.part.rtps.readers i (own_proxies peer.part (suc i)) ≡ peer.part.rtps.readers = set_same peer.part.rtps.readers i [] in
-    subst (λ (ps : List (List WriterProxy)). StandsFor (with_reader kept i k') config (record peer { part = with_rows peer.part ps (readers_with peer.part (suc i) r) })) rows
-    (own_reader_stepped kept i k k' (own_proxies peer.part (suc i)) r peer.known config peer s at same refl (λ w n apart. refl) one)
+    let rows : set peer.part.rtps.readers i (own_proxies peer.part (suc i)) ≡ peer.part.rtps.readers =
+    set_same peer.part.rtps.readers i [] in
+    subst (λ (ps : List (List WriterProxy)). StandsFor (with_reader kept i k') config
+    (record peer { part = with_rows peer.part ps (readers_with peer.part (suc i) r) })) rows
+    (own_reader_stepped kept i k k' (own_proxies peer.part (suc i)) r peer.known config peer s at same
+    refl (λ w n apart. refl) one)

@@ -18,23 +18,37 @@ use Rattle.dds_core.specs.Standing.{SoundStepsBy, StandsFor as PeerStandsFor}
 use Rattle.dds_core.proofs.Watched.{watches}
 
 -- a peer without filters, at its opening
-pub opens : {F : Type 0} (kept : PeerKept) (filters : List F) (config : Config) (n : ℕ) → PeerStandsFor kept config (opening_peer config n) → filters ≡ []
+pub opens : {F : Type 0} (kept : PeerKept) (filters : List F) (config : Config) (n : ℕ)
+    → PeerStandsFor kept config (opening_peer config n) → filters ≡ []
     → StandsFor (record { peer = kept; filters = filters }) config (opening_peer config n)
-opens kept filters config n s none = record { stands = s; filters = opens_no_filters config n ∙ ap (λ fs. length fs) (sym none) }
+opens kept filters config n s none =
+    record { stands = s; filters = opens_no_filters config n ∙ ap (λ fs. length fs) (sym none) }
 
 -- a step adds no filter
-pub steps : {F : Type 0} (tests : Tests) (old : FilteredKept F) (ev : Event) (output : Output) (new : PeerKept) → SoundStepsBy tests old.peer ev output new
+pub steps : {F : Type 0} (tests : Tests) (old : FilteredKept F) (ev : Event) (output : Output) (new : PeerKept)
+    → SoundStepsBy tests old.peer ev output new
     → Steps tests old ev output (record { peer = new; filters = old.filters })
 steps tests old ev output new h = record {
   step = λ config peer s sound.
-      let r = h config peer s.stands sound in
-      (r.0, r.1, record { stands = r.2; filters = keeps_filters config tests peer ev output r.0 r.1 ∙ s.filters }, r.3, r.4);
+      let r = h config peer s.stands sound in (
+        r.0,
+        r.1,
+        record {
+          stands = r.2;
+          filters = keeps_filters config tests peer ev output r.0 r.1
+              ∙ s.filters;
+        },
+        r.3,
+        r.4,
+      );
   filters = refl;
 }
 
 -- one filter more
-pub adds : {F : Type 0} (old : FilteredKept F) (filter : F) (number : ℕ) (new : PeerKept) (filters : List F) → filter_refusal old.peer.watch ≡ None → number ≡ old.peer.watch.filters + 1
-    → new ≡ record old.peer { watch = with_filter old.peer.watch } → filters ≡ old.filters ++ filter ∷ [] → Adds old filter number (record { peer = new; filters = filters })
+pub adds : {F : Type 0} (old : FilteredKept F) (filter : F) (number : ℕ) (new : PeerKept) (filters : List F)
+    → filter_refusal old.peer.watch ≡ None → number ≡ old.peer.watch.filters + 1
+    → new ≡ record old.peer { watch = with_filter old.peer.watch } → filters ≡ old.filters ++ filter ∷ []
+    → Adds old filter number (record { peer = new; filters = filters })
 adds old filter number new filters left is kept more = record {
   filters = more;
   adds = λ config peer s.
@@ -42,20 +56,32 @@ adds old filter number new filters left is kept more = record {
       let total = length-append old.filters (filter ∷ []) in
       let longer = ap (λ fs. length fs) more in
       let before = s.filters in
-      let stands : PeerStandsFor (record old.peer { watch = with_filter old.peer.watch }) config (peer_with_filter peer) =
-      subst (λ (w : Watched). PeerStandsFor (record old.peer { watch = with_filter old.peer.watch }) config (record peer { part = record peer.part { dds = record peer.part.dds { watch = w } } }))
-      (ap (λ (w : Watched). with_filter w) (sym s.stands.watch)) (watches old.peer (with_filter old.peer.watch) config peer s.stands) in (
+      let stands : PeerStandsFor (record old.peer { watch = with_filter old.peer.watch }) config
+      (peer_with_filter peer) =
+      subst (λ (w : Watched). PeerStandsFor (record old.peer { watch = with_filter old.peer.watch }) config
+      (record peer { part = record peer.part { dds = record peer.part.dds { watch = w } } }))
+      (ap (λ (w : Watched). with_filter w) (sym s.stands.watch))
+      (watches old.peer (with_filter old.peer.watch) config peer s.stands) in (
         ap (λ (w : Watched). filter_refusal w) s.stands.watch ∙ left,
         omega (arith, is, counted, before),
-        record { stands = subst (λ (k : PeerKept). PeerStandsFor k config (peer_with_filter peer)) (sym kept) stands; filters = omega (arith, before, total, longer) },
+        record {
+          stands = subst (λ (k : PeerKept). PeerStandsFor k config (peer_with_filter peer))
+              (sym kept) stands;
+          filters = omega (arith, before, total, longer);
+        },
         λ sound. record { place = sound.place; claimed = sound.claimed; newest = sound.newest; heard = sound.heard },
       );
 }
 
 -- no number is left
-pub no_number : {F : Type 0} (old : FilteredKept F) (code : Code) → filter_refusal old.peer.watch ≡ Some code → RefusesFilter old code
-no_number old code none config peer s = subst (λ (o : Option Code). Refuses o code) (sym (ap (λ (w : Watched). filter_refusal w) s.stands.watch ∙ none)) refl
+pub no_number : {F : Type 0} (old : FilteredKept F) (code : Code) → filter_refusal old.peer.watch ≡ Some code
+    → RefusesFilter old code
+no_number old code none config peer s =
+    subst (λ (o : Option Code). Refuses o code)
+    (sym (ap (λ (w : Watched). filter_refusal w) s.stands.watch ∙ none)) refl
 
 -- no memory is left for it
 pub no_room : {F : Type 0} (old : FilteredKept F) → filter_refusal old.peer.watch ≡ None → RefusesFilter old Memory
-no_room old left config peer s = subst (λ (o : Option Code). Refuses o Memory) (sym (ap (λ (w : Watched). filter_refusal w) s.stands.watch ∙ left)) refl
+no_room old left config peer s =
+    subst (λ (o : Option Code). Refuses o Memory)
+    (sym (ap (λ (w : Watched). filter_refusal w) s.stands.watch ∙ left)) refl

@@ -5,9 +5,11 @@ use Rattle.dds_core.specs.declared.matching.WriterName.{WriterName}
 use Rattle.dds_core.specs.Kept.{ReaderIdentity, ReaderKept, reader_identity}
 
 -- a reader's identity is its entity and the names of its writers
-pub identity_as : (a b : EntityId) (x y : List WriterName) → a ≡ b → x ≡ y → ◌≡◌ {A = ReaderIdentity} (record { entity = a; writers = x }) (record { entity = b; writers = y })
+pub identity_as : (a b : EntityId) (x y : List WriterName) → a ≡ b → x ≡ y
+    → ◌≡◌ {A = ReaderIdentity} (record { entity = a; writers = x }) (record { entity = b; writers = y })
 identity_as a b x y e f = cc
 
 -- with the same entity and rows it is the same reader
-pub same_identity : (a b : ReaderKept) → a.entity ≡ b.entity → a.writers ≡ b.writers → reader_identity a ≡ reader_identity b
+pub same_identity : (a b : ReaderKept) → a.entity ≡ b.entity → a.writers ≡ b.writers
+    → reader_identity a ≡ reader_identity b
 same_identity a b entities rows = identity_as a.entity b.entity a.writers b.writers entities rows

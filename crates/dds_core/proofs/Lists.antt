@@ -5,30 +5,38 @@ use Rattle.std.proofs.lemmas.List.{set-get_or}
 use Rattle.std.proofs.lemmas.Option.{get_or_from_slice_get}
 
 -- what holds of each element and of its partner holds after both were changed
-pub each_set : {X Y : Type 0} (R : X → Y → Type 0) (xs : List X) (ys : List Y) (i : ℕ) (x : X) (y d : Y) → length ys ≡ length xs → ((j : ℕ) (k : X) → slice_get xs j ≡ Some k → R k (get_or ys j d)) → R x y
+pub each_set : {X Y : Type 0} (R : X → Y → Type 0) (xs : List X) (ys : List Y) (i : ℕ) (x : X) (y d : Y)
+    → length ys ≡ length xs → ((j : ℕ) (k : X) → slice_get xs j ≡ Some k → R k (get_or ys j d)) → R x y
     → (j : ℕ) (k : X) → slice_get (set xs i x) j ≡ Some k → R k (get_or (set ys i y) j d)
 each_set R [] ys i x y d count each new j k at = absurd cc
 each_set R (a ∷ xs) [] i x y d count each new j k at = absurd (omega (arith, count))
 each_set R (a ∷ xs) (b ∷ ys) zero x y d count each new zero k at = subst (λ z. R z y) (same_Some x k at) new
 each_set R (a ∷ xs) (b ∷ ys) zero x y d count each new (suc j) k at = each (suc j) k at
 each_set R (a ∷ xs) (b ∷ ys) (suc i) x y d count each new zero k at = each zero k at
-each_set R (a ∷ xs) (b ∷ ys) (suc i) x y d count each new (suc j) k at = each_set R xs ys i x y d (omega (arith, count)) (λ n z h. each (suc n) z h) new j k at
+each_set R (a ∷ xs) (b ∷ ys) (suc i) x y d count each new (suc j) k at =
+    each_set R xs ys i x y d (omega (arith, count)) (λ n z h. each (suc n) z h) new j k at
 
 -- the same of a relation that asks for the index
-pub each_set_at : {X Y Z : Type 0} (R : ℕ → X → Y → Z → Type 0) (xs : List X) (ys : List Y) (zs : List Z) (i : ℕ) (x : X) (y d : Y) (z e : Z) → length ys ≡ length xs → length zs ≡ length xs
+pub each_set_at : {X Y Z : Type 0} (R : ℕ → X → Y → Z → Type 0) (xs : List X) (ys : List Y) (zs : List Z) (i : ℕ)
+    (x : X) (y d : Y) (z e : Z) → length ys ≡ length xs → length zs ≡ length xs
     → ((j : ℕ) (k : X) → (j ≡ i → ⊥) → slice_get xs j ≡ Some k → R j k (get_or ys j d) (get_or zs j e)) → R i x y z
     → (j : ℕ) (k : X) → slice_get (set xs i x) j ≡ Some k → R j k (get_or (set ys i y) j d) (get_or (set zs i z) j e)
 each_set_at R [] ys zs i x y d z e c1 c2 each new j k at = absurd cc
 each_set_at R (a ∷ xs) [] zs i x y d z e c1 c2 each new j k at = absurd (omega (arith, c1))
 each_set_at R (a ∷ xs) (b ∷ ys) [] i x y d z e c1 c2 each new j k at = absurd (omega (arith, c2))
-each_set_at R (a ∷ xs) (b ∷ ys) (c ∷ zs) zero x y d z e c1 c2 each new zero k at = subst (λ v. R zero v y z) (same_Some x k at) new
-each_set_at R (a ∷ xs) (b ∷ ys) (c ∷ zs) zero x y d z e c1 c2 each new (suc j) k at = each (suc j) k (λ s. omega (arith, s)) at
-each_set_at R (a ∷ xs) (b ∷ ys) (c ∷ zs) (suc i) x y d z e c1 c2 each new zero k at = each zero k (λ s. omega (arith, s)) at
+each_set_at R (a ∷ xs) (b ∷ ys) (c ∷ zs) zero x y d z e c1 c2 each new zero k at =
+    subst (λ v. R zero v y z) (same_Some x k at) new
+each_set_at R (a ∷ xs) (b ∷ ys) (c ∷ zs) zero x y d z e c1 c2 each new (suc j) k at =
+    each (suc j) k (λ s. omega (arith, s)) at
+each_set_at R (a ∷ xs) (b ∷ ys) (c ∷ zs) (suc i) x y d z e c1 c2 each new zero k at =
+    each zero k (λ s. omega (arith, s)) at
 each_set_at R (a ∷ xs) (b ∷ ys) (c ∷ zs) (suc i) x y d z e c1 c2 each new (suc j) k at =
-    each_set_at (λ n. R (suc n)) xs ys zs i x y d z e (omega (arith, c1)) (omega (arith, c2)) (λ n v f h. each (suc n) v (λ s. f (omega (arith, s))) h) new j k at
+    each_set_at (λ n. R (suc n)) xs ys zs i x y d z e (omega (arith, c1)) (omega (arith, c2))
+    (λ n v f h. each (suc n) v (λ s. f (omega (arith, s))) h) new j k at
 
 -- an element that looks as before changes nothing that is seen
-pub map-set_same : {X Y : Type 0} (f : X → Y) (xs : List X) (i : ℕ) (x y : X) → slice_get xs i ≡ Some x → f y ≡ f x → map f (set xs i y) ≡ map f xs
+pub map-set_same : {X Y : Type 0} (f : X → Y) (xs : List X) (i : ℕ) (x y : X) → slice_get xs i ≡ Some x → f y ≡ f x
+    → map f (set xs i y) ≡ map f xs
 map-set_same f [] i x y at same = refl
 map-set_same f (a ∷ xs) zero x y at same = ap (λ z. z ∷ map f xs) (same ∙ ap f (sym (same_Some a x at)))
 map-set_same f (a ∷ xs) (suc i) x y at same = ap (λ zs. f a ∷ zs) (map-set_same f xs i x y at same)
@@ -39,12 +47,14 @@ drop_set (a ∷ xs) zero x = refl
 drop_set (a ∷ xs) (suc i) x = drop_set xs i x
 
 -- the element of a mapped list is that of one
-pub get-map : {X Y : Type 0} (f : X → Y) (xs : List X) (i : ℕ) (y : Y) → slice_get (map f xs) i ≡ Some y → (x : X) × (slice_get xs i ≡ Some x) × (f x ≡ y)
+pub get-map : {X Y : Type 0} (f : X → Y) (xs : List X) (i : ℕ) (y : Y) → slice_get (map f xs) i ≡ Some y
+    → (x : X) × (slice_get xs i ≡ Some x) × (f x ≡ y)
 get-map f [] i y at = absurd cc
 get-map f (a ∷ xs) zero y at = (a, refl, same_Some (f a) y at)
 get-map f (a ∷ xs) (suc i) y at = get-map f xs i y at
 
-pub map-get : {X Y : Type 0} (f : X → Y) (xs : List X) (i : ℕ) (x : X) → slice_get xs i ≡ Some x → slice_get (map f xs) i ≡ Some (f x)
+pub map-get : {X Y : Type 0} (f : X → Y) (xs : List X) (i : ℕ) (x : X) → slice_get xs i ≡ Some x
+    → slice_get (map f xs) i ≡ Some (f x)
 map-get f [] i x at = absurd cc
 map-get f (a ∷ xs) zero x at = ap (λ z. Some (f z)) (same_Some a x at)
 map-get f (a ∷ xs) (suc i) x at = map-get f xs i x at
@@ -64,14 +74,17 @@ get-within (a ∷ xs) (suc i) x at = let later = get-within xs i x at in omega (
 pub drop_at : {X : Type 0} (xs : List X) (i : ℕ) (d : X) → i < length xs → drop i xs ≡ get_or xs i d ∷ drop (i + 1) xs
 drop_at [] i d lt = absurd (omega (arith, lt))
 drop_at (x ∷ xs) zero d lt = refl
-drop_at (x ∷ xs) (suc i) d lt = let n : suc i + 1 ≡ suc (i + 1) = omega arith in drop_at xs i d (omega (arith, lt)) ∙ ap (λ (k : ℕ). get_or xs i d ∷ drop k (x ∷ xs)) (sym n)
+drop_at (x ∷ xs) (suc i) d lt =
+    let n : suc i + 1 ≡ suc (i + 1) = omega arith in drop_at xs i d (omega (arith, lt))
+    ∙ ap (λ (k : ℕ). get_or xs i d ∷ drop k (x ∷ xs)) (sym n)
 
 pub drop_all : {X : Type 0} (xs : List X) → drop (length xs) xs ≡ []
 drop_all [] = refl
 drop_all (x ∷ xs) = drop_all xs
 
 -- the element at an index from which on two lists are one
-pub left_at : {X : Type 0} (xs ys : List X) (i : ℕ) (x : X) → drop i xs ≡ drop i ys → slice_get ys i ≡ Some x → slice_get xs i ≡ Some x
+pub left_at : {X : Type 0} (xs ys : List X) (i : ℕ) (x : X) → drop i xs ≡ drop i ys → slice_get ys i ≡ Some x
+    → slice_get xs i ≡ Some x
 left_at xs ys zero x same at = ap (λ zs. slice_get zs 0) same ∙ at
 left_at [] [] (suc i) x same at = at
 left_at [] (y ∷ ys) (suc i) x same at = nothing i ys same at
@@ -93,9 +106,12 @@ left_more xs ys i same = sym (one_more i xs) ∙ (ap (λ zs. drop 1 zs) same ∙
     one_more (suc i) (x ∷ xs) = one_more i xs
 
 -- a slice of all elements, written back
-pub written_back : {X : Type 0} (new old : List X) (len : ℕ) → length new ≡ length old → len ≡ length old → take len (new ++ drop (length new) old) ≡ new
+pub written_back : {X : Type 0} (new old : List X) (len : ℕ) → length new ≡ length old → len ≡ length old
+    → take len (new ++ drop (length new) old) ≡ new
 written_back new old len count is =
-    ap (λ (n : ℕ). take len (new ++ drop n old)) count ∙ (ap (λ zs. take len (new ++ zs)) (drop_all old) ∙ (ap (λ (n : ℕ). take n (new ++ [])) (is ∙ sym count) ∙ take_first new))
+    ap (λ (n : ℕ). take len (new ++ drop n old)) count
+    ∙ (ap (λ zs. take len (new ++ zs)) (drop_all old)
+    ∙ (ap (λ (n : ℕ). take n (new ++ [])) (is ∙ sym count) ∙ take_first new))
   where
     take_first : {X : Type 0} (xs : List X) → take (length xs) (xs ++ []) ≡ xs
     take_first [] = refl
@@ -103,4 +119,5 @@ written_back new old len count is =
 
 -- what was put back as it was changes nothing
 pub set_back : {X : Type 0} (xs : List X) (i : ℕ) (x y : X) → slice_get xs i ≡ Some x → y ≡ x → set xs i y ≡ xs
-set_back {X = X} xs i x y at same = ap (λ (z : X). set xs i z) (same ∙ sym (get_or_from_slice_get xs i x x at)) ∙ set-get_or xs i x
+set_back {X = X} xs i x y at same =
+    ap (λ (z : X). set xs i z) (same ∙ sym (get_or_from_slice_get xs i x x at)) ∙ set-get_or xs i x

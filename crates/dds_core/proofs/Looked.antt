@@ -30,13 +30,16 @@ record IsLook (c : Call) (kept : PeerKept) (peer : Peer) (i : ℕ) (reply : Repl
   answers : Answers no_filters peer.part c reply (after_look peer.part (suc i) seen)
   effect : effect_of peer.part c reply ≡ nothing
 
-known_reader : (kept : PeerKept) (i : ℕ) (config : Config) (peer : Peer) → StandsFor kept config peer → i < length kept.readers → look_refusal peer.part (suc i) ≡ None
+known_reader : (kept : PeerKept) (i : ℕ) (config : Config) (peer : Peer) → StandsFor kept config peer
+    → i < length kept.readers → look_refusal peer.part (suc i) ≡ None
 known_reader kept i config peer s lt =
     let count = s.readers.count in
-    ap (λ (b : Bool). if not b then Some BadParameter else None) (there_is peer.part.dds.readers i (omega (arith, lt, count)))
+    ap (λ (b : Bool). if not b then Some BadParameter else None)
+    (there_is peer.part.dds.readers i (omega (arith, lt, count)))
 
 -- what stands after a look
-looked : (c : Call) (kept : PeerKept) (i : ℕ) (k : ReaderKept) (reply : Reply) (seen : Seen) (config : Config) (peer : Peer)
+looked : (c : Call) (kept : PeerKept) (i : ℕ) (k : ReaderKept) (reply : Reply) (seen : Seen) (config : Config)
+    (peer : Peer)
     → StandsFor kept config peer → slice_get kept.readers i ≡ Some k → IsLook c kept peer i reply seen
     → Follows (with_reader kept i (record k { seen = seen })) config peer (event.Call c) (silent reply)
 looked c kept i k reply seen config peer s at is =
@@ -65,7 +68,8 @@ number_of reader i is = let index : i + 1 ≡ suc i = omega arith in sym (is ∙
 -- a look at SAMPLE_LOST
 pub looked_at_lost : (kept : PeerKept) (reader i : ℕ) (k k' : ReaderKept) (status : SampleLostStatus) (config : Config)
     (peer : Peer) → StandsFor kept config peer → reader ≡ i + 1 → i < length kept.readers
-    → slice_get kept.readers i ≡ Some k → TellsLost k status → k' ≡ record k { seen = record k.seen { lost = status.total_count } }
+    → slice_get kept.readers i ≡ Some k → TellsLost k status
+    → k' ≡ record k { seen = record k.seen { lost = status.total_count } }
     → Follows (with_reader kept i k') config peer (event.Call (call.GetSampleLost reader)) (silent (SampleLost status))
 looked_at_lost kept reader i k k' status config peer s is lt at tells after =
     let r : Reader = own_reader peer.part (suc i) in
@@ -76,31 +80,48 @@ looked_at_lost kept reader i k k' status config peer s is lt at tells after =
     let seen : record k.seen { lost = status.total_count } ≡ seen_lost r =
     ap (λ (x : SampleLostStatus). record k.seen { lost = x.total_count }) told
     ∙ ap (λ (x : Seen). record x { lost = lost_count r.happened }) (sym rs.seen_is) in
-    let look : Follows (with_reader kept i (record k { seen = seen_lost r })) config peer (event.Call (call.GetSampleLost (suc i))) (silent (SampleLost status)) =
+    let look : Follows (with_reader kept i (record k { seen = seen_lost r })) config peer
+    (event.Call (call.GetSampleLost (suc i))) (silent (SampleLost status)) =
     looked (call.GetSampleLost (suc i)) kept i k (SampleLost status) (seen_lost r) config peer s at
     (record { answers = (known_reader kept i config peer s lt, answer, refl); effect = refl }) in
     let now : record k { seen = seen_lost r } ≡ k' = sym (after ∙ ap (λ (x : Seen). record k { seen = x }) seen) in
-    subst (λ (x : ReaderKept). Follows (with_reader kept i x) config peer (event.Call (call.GetSampleLost reader)) (silent (SampleLost status))) now
-    (subst (λ (n : ℕ). Follows (with_reader kept i (record k { seen = seen_lost r })) config peer (event.Call (call.GetSampleLost n)) (silent (SampleLost status))) (number_of reader i is) look)
+    subst (λ (x : ReaderKept). Follows (with_reader kept i x) config peer (event.Call (call.GetSampleLost reader))
+    (silent (SampleLost status))) now
+    (subst (λ (n : ℕ). Follows (with_reader kept i (record k { seen = seen_lost r })) config peer
+    (event.Call (call.GetSampleLost n)) (silent (SampleLost status))) (number_of reader i is) look)
 
 -- a look at LIVELINESS_CHANGED
-pub looked_at_liveliness : (kept : PeerKept) (reader i : ℕ) (k k' : ReaderKept) (status : LivelinessChangedStatus) (seen : Seen) (config : Config)
+pub looked_at_liveliness : (kept : PeerKept) (reader i : ℕ) (k k' : ReaderKept) (status : LivelinessChangedStatus)
+    (seen : Seen) (config : Config)
     (peer : Peer) → StandsFor kept config peer → reader ≡ i + 1 → i < length kept.readers
     → slice_get kept.readers i ≡ Some k → TellsLiveliness k status seen → k' ≡ record k { seen = seen }
-    → Follows (with_reader kept i k') config peer (event.Call (call.GetLivelinessChanged reader)) (silent (LivelinessChanged status))
+    → Follows (with_reader kept i k') config peer (event.Call (call.GetLivelinessChanged reader))
+    (silent (LivelinessChanged status))
 looked_at_liveliness kept reader i k k' status seen config peer s is lt at tells after =
     let r : Reader = own_reader peer.part (suc i) in
     let rs = s.readers.each i k at in
     let told = tells r.happened rs.holds in
     let answer : status ≡ liveliness_changed_status r.qos r.happened r.seen.alive r.seen.not_alive =
-    told.0 ∙ (ap (λ (q : ReaderQos). liveliness_changed_status q r.happened k.seen.alive k.seen.not_alive) (sym rs.qos_is)
+    told.0 ∙ (ap (λ (q : ReaderQos). liveliness_changed_status q r.happened k.seen.alive k.seen.not_alive)
+    (sym rs.qos_is)
     ∙ ap (λ (x : Seen). liveliness_changed_status r.qos r.happened x.alive x.not_alive) (sym rs.seen_is)) in
     let same : seen ≡ seen_liveliness r =
-    told.1 ∙ (ap (λ (q : ReaderQos). record k.seen { alive = alive_count q r.happened; not_alive = not_alive_count q r.happened; turned = turned_at r.happened }) (sym rs.qos_is)
-    ∙ ap (λ (x : Seen). record x { alive = alive_count r.qos r.happened; not_alive = not_alive_count r.qos r.happened; turned = turned_at r.happened }) (sym rs.seen_is)) in
-    let look : Follows (with_reader kept i (record k { seen = seen_liveliness r })) config peer (event.Call (call.GetLivelinessChanged (suc i))) (silent (LivelinessChanged status)) =
+    told.1 ∙ (ap (λ (q : ReaderQos). record k.seen
+    { alive = alive_count q r.happened; not_alive = not_alive_count q r.happened; turned = turned_at r.happened })
+    (sym rs.qos_is)
+    ∙ ap (λ (x : Seen). record x {
+      alive = alive_count r.qos r.happened;
+      not_alive = not_alive_count r.qos r.happened;
+      turned = turned_at
+          r.happened;
+    }) (sym rs.seen_is)) in
+    let look : Follows (with_reader kept i (record k { seen = seen_liveliness r })) config peer
+    (event.Call (call.GetLivelinessChanged (suc i))) (silent (LivelinessChanged status)) =
     looked (call.GetLivelinessChanged (suc i)) kept i k (LivelinessChanged status) (seen_liveliness r) config peer s at
     (record { answers = (known_reader kept i config peer s lt, answer, refl); effect = refl }) in
-    let now : record k { seen = seen_liveliness r } ≡ k' = sym (after ∙ ap (λ (x : Seen). record k { seen = x }) same) in
-    subst (λ (x : ReaderKept). Follows (with_reader kept i x) config peer (event.Call (call.GetLivelinessChanged reader)) (silent (LivelinessChanged status))) now
-    (subst (λ (n : ℕ). Follows (with_reader kept i (record k { seen = seen_liveliness r })) config peer (event.Call (call.GetLivelinessChanged n)) (silent (LivelinessChanged status))) (number_of reader i is) look)
+    let now : record k { seen = seen_liveliness r } ≡ k' =
+    sym (after ∙ ap (λ (x : Seen). record k { seen = x }) same) in
+    subst (λ (x : ReaderKept). Follows (with_reader kept i x) config peer
+    (event.Call (call.GetLivelinessChanged reader)) (silent (LivelinessChanged status))) now
+    (subst (λ (n : ℕ). Follows (with_reader kept i (record k { seen = seen_liveliness r })) config peer
+    (event.Call (call.GetLivelinessChanged n)) (silent (LivelinessChanged status))) (number_of reader i is) look)

@@ -49,7 +49,8 @@ change_at-last : (cs : List Change) (c : Change) → change_at (cs ++ c ∷ []) 
 change_at-last cs c =
     let positive : nat_lt 0 (length cs + 1) ≡ true = grind (arith, nat_tests) in
     let index : length cs + 1 - 1 ≡ length cs = omega arith in
-    ap (λ b. if b then slice_get (cs ++ c ∷ []) (length cs + 1 - 1) else None) positive ∙ (ap (λ (k : ℕ). slice_get (cs ++ c ∷ []) k) index ∙ slice_get-last cs c)
+    ap (λ b. if b then slice_get (cs ++ c ∷ []) (length cs + 1 - 1) else None) positive
+    ∙ (ap (λ (k : ℕ). slice_get (cs ++ c ∷ []) k) index ∙ slice_get-last cs c)
 
 pub set_get : {X : Type 0} (xs : List X) (i : ℕ) (x y : X) → slice_get xs i ≡ Some x → slice_get (set xs i y) i ≡ Some y
 set_get [] i x y at = absurd cc
@@ -63,10 +64,13 @@ pub record IsOwnWriter (config : Config) (kept : PeerKept) (number i : ℕ) (k :
   pub from : IsWriter config kept.prefix k.entity (record { peer = number; number = suc i })
   pub same_topic : from.end.topic ≡ end.topic
 
-pub own_writer_is : (config : Config) (number : ℕ) (kept : PeerKept) (is : IsPeerOf config number (identity_of kept)) (i : ℕ) (k : WriterKept) → slice_get kept.writers i ≡ Some k → IsOwnWriter config kept number i k
+pub own_writer_is : (config : Config) (number : ℕ) (kept : PeerKept) (is : IsPeerOf config number (identity_of kept))
+    (i : ℕ) (k : WriterKept) → slice_get kept.writers i ≡ Some k → IsOwnWriter config kept number i k
 own_writer_is config number kept is i k at =
     let there = map-get writer_identity kept.writers i k at in
-    let f = get-map (configured_writer config.peers) is.own.writers i (writer_identity k) (subst (λ (xs : List WriterIdentity). slice_get xs i ≡ Some (writer_identity k)) is.writers there) in
+    let f =
+    get-map (configured_writer config.peers) is.own.writers i (writer_identity k)
+    (subst (λ (xs : List WriterIdentity). slice_get xs i ≡ Some (writer_identity k)) is.writers there) in
     let index : suc i - 1 ≡ i = omega arith in
     record {
       end = f.0;
@@ -83,9 +87,12 @@ own_writer_is config number kept is i k at =
     }
 
 -- what is kept of the change that was made last is that change
-kept_last : (w : WriterHistory) (number : ℕ) (change : Change) → change_at w.changes number ≡ Some change → (o : Option Change) → kept_change w number ≡ o
-    → (sender : Sender) (ds : List Destination) (packets : List Packet) → AnnouncesKept sender number o ds packets → AreAnnouncements sender number (content_of change) ds packets
-kept_last w number change last None is sender ds packets none = subst (λ (ps : List Packet). AreAnnouncements sender number (content_of change) ds ps) (sym none) tt
+kept_last : (w : WriterHistory) (number : ℕ) (change : Change) → change_at w.changes number ≡ Some change
+    → (o : Option Change) → kept_change w number ≡ o
+    → (sender : Sender) (ds : List Destination) (packets : List Packet) → AnnouncesKept sender number o ds packets
+    → AreAnnouncements sender number (content_of change) ds packets
+kept_last w number change last None is sender ds packets none =
+    subst (λ (ps : List Packet). AreAnnouncements sender number (content_of change) ds ps) (sym none) tt
 kept_last w number change last (Some x) is sender ds packets h =
     let same : x ≡ change = same_Some x change (sym (kept_there w number x is) ∙ last) in
     subst (λ (y : Change). AreAnnouncements sender number (content_of y) ds packets) same h
@@ -94,9 +101,12 @@ abbrev pub made_by : ChangeKind → Key → List ℕ → ℕ → Change
 made_by kind key value moment = record { kind = kind; key = key; value = value; source_timestamp = moment }
 
 -- the change is made
-made_there : (old : PeerKept) (i : ℕ) (k k' : WriterKept) (kind : ChangeKind) (key : Key) (value : List ℕ) (number : ℕ) (output : Output) (config : Config) (peer : Peer) → StandsFor old config peer
+made_there : (old : PeerKept) (i : ℕ) (k k' : WriterKept) (kind : ChangeKind) (key : Key) (value : List ℕ) (number : ℕ)
+    (output : Output) (config : Config) (peer : Peer) → StandsFor old config peer
     → slice_get old.writers i ≡ Some k → Enters k (Changed (made_by kind key value old.moment)) k'
-    → ((w : Writer) (answered : Endpoint → Option ℤ) → WriterStands k w answered → (append_refusal (history_of w) (made_by kind key value old.moment) ≡ None) × (number ≡ length (writer_changes w) + 1)) → IsValueOf kind value
+    → ((w : Writer) (answered : Endpoint → Option ℤ) → WriterStands k w answered
+    → (append_refusal (history_of w) (made_by kind key value old.moment) ≡ None)
+    × (number ≡ length (writer_changes w) + 1)) → IsValueOf kind value
     → output.reply ≡ Done → AnnouncesAll (with_writer old i k') i number output
     → IsMade config peer (suc i) (made_by kind key value old.moment) output (with_writer old i k')
 made_there old i k k' kind key value number output config peer s at enters accepts valued reply all =
@@ -107,69 +117,103 @@ made_there old i k k' kind key value number output config peer s at enters accep
     let new : PeerKept = with_writer old i k' in
     let after : Peer = record peer { part = entered peer.part (suc i) change } in
     let stands : StandsFor new config after =
-    own_writer_stepped old i k k' (Changed change) config peer s at enters (tellable_entered peer (suc i) (Changed change) s.tellable (record { empty = valued; early = s.early })) in
+    own_writer_stepped old i k k' (Changed change) config peer s at enters
+    (tellable_entered peer (suc i) (Changed change) s.tellable (record { empty = valued; early = s.early })) in
     let at_new : slice_get new.writers i ≡ Some k' = set_get old.writers i k k' at in
     let is_k : all.writer ≡ k' = same_Some all.writer k' (sym all.at ∙ at_new) in
     let sender : Sender = record { prefix = old.prefix; entity = k'.entity; moment = old.moment } in
-    let counted = subst (λ (x : WriterKept). length output.packets + output.unsent ≡ length x.destinations) is_k all.counted in
+    let counted =
+    subst (λ (x : WriterKept). length output.packets + output.unsent ≡ length x.destinations) is_k all.counted in
     let of_k : AnnouncesOf old.prefix old.moment k' number output.packets =
     subst (λ (x : WriterKept). AnnouncesOf old.prefix old.moment x number output.packets) is_k all.packets in
     let now : Writer = with_written w (Changed change) in
     let last : change_at (changes_of now.written) number ≡ Some change =
-    ap (λ (n : ℕ). change_at (changes_of w.written ++ change ∷ []) n) a.1 ∙ change_at-last (changes_of w.written) change in
+    ap (λ (n : ℕ). change_at (changes_of w.written ++ change ∷ []) n) a.1 ∙ change_at-last (changes_of w.written) change
+    in
     let are : AreAnnouncements sender number (content_of change) k'.destinations output.packets =
-    kept_last (history_of now) number change last (kept_change (history_of now) number) refl sender k'.destinations output.packets
+    kept_last (history_of now) number change last
+    (kept_change (history_of now) number) refl sender k'.destinations output.packets
     (of_k now (peer.known.answered (suc i)) (enters.stands w (peer.known.answered (suc i)) ws)) in
-    let own : IsOwnWriter config new peer.number i k' = own_writer_is config peer.number new stands.is_peer i k' at_new in
+    let own : IsOwnWriter config new peer.number i k' =
+    own_writer_is config peer.number new stands.is_peer i k' at_new in
     let endpoint : Endpoint = record { peer = peer.number; number = suc i } in
     let names : map (λ (p : ReaderProxy). p.reader) w.readers ≡ reader_ends own.end.topic config.peers =
-    (enters.stands w (peer.known.answered (suc i)) ws).readers ∙ (ap (λ (x : WriterIdentity). map (λ (n : ReaderName). n.reader) x.readers) own.is ∙ ends_of_names own.end.topic config.peers) in
+    (enters.stands w (peer.known.answered (suc i)) ws).readers
+    ∙ (ap (λ (x : WriterIdentity). map (λ (n : ReaderName). n.reader) x.readers) own.is
+    ∙ ends_of_names own.end.topic config.peers) in
     let matched : IsMatched config own.end.topic w.readers k'.destinations =
     record { names = names; sent_to = ap (λ (x : WriterIdentity). x.destinations) own.is } in
     let means : change_in (content_of change) old.moment ≡ change = change_in-content_of change valued in
     let index : 1 + i ≡ suc i = omega arith in
-    let named' : IsNamed config peer.number old.prefix (suc i) k' w = named_again config peer.number old.prefix (suc i) k k' w enters.same (subst (λ (n : ℕ). IsNamed config peer.number old.prefix n k w) index (named config peer old s i k at)) in
-    let due : AreSent (changes_due config endpoint w.readers number change) output.packets output.unsent = change_sent config peer.number old.prefix (suc i) number k' w change output.packets output.unsent named' are counted in
+    let named' : IsNamed config peer.number old.prefix (suc i) k' w =
+    named_again config peer.number old.prefix (suc i) k k' w enters.same
+    (subst (λ (n : ℕ). IsNamed config peer.number old.prefix n k w) index (named config peer old s i k at)) in
+    let due : AreSent (changes_due config endpoint w.readers number change) output.packets output.unsent =
+    change_sent config peer.number old.prefix
+    (suc i) number k' w change output.packets output.unsent named' are counted in
     let sends : SendsChange config endpoint w.readers number (change_in (content_of change) old.moment) output =
-    sends_change config sender endpoint own.end.topic w.readers k'.destinations number (content_of change) output (record { from = own.from; same_topic = own.same_topic }) matched s.early are counted
-    (subst (λ (x : Change). AreSent (changes_due config endpoint w.readers number x) output.packets output.unsent) (sym means) due) in
-    let only : IsOnly config sender endpoint = λ e name. one_writer config old.prefix k'.entity e endpoint s.is_peer.checked name own.from in
+    sends_change config sender endpoint own.end.topic w.readers k'.destinations number (content_of change) output
+    (record { from = own.from; same_topic = own.same_topic }) matched s.early are counted
+    (subst (λ (x : Change). AreSent (changes_due config endpoint w.readers number x) output.packets output.unsent)
+    (sym means) due) in
+    let only : IsOnly config sender endpoint =
+    λ e name. one_writer config old.prefix k'.entity e endpoint s.is_peer.checked name own.from in
     let count = s.writers.count in
-    let within : i < length peer.part.rtps.writers = let lt = get-within old.writers i k at in omega (arith, lt, count) in
-    let entry : own_writer after.part (suc i) ≡ with_written w (Changed change) = get_or-set_same peer.part.rtps.writers i (with_written w (Changed change)) no_writer within in
+    let within : i < length peer.part.rtps.writers =
+    let lt = get-within old.writers i k at in omega (arith, lt, count) in
+    let entry : own_writer after.part (suc i) ≡ with_written w (Changed change) =
+    get_or-set_same peer.part.rtps.writers i (with_written w (Changed change)) no_writer within in
     let there : IsThere after.part endpoint number (content_of change) old.moment =
-    ap (λ (x : Writer). change_at (writer_changes x) number) entry ∙ (ap (λ (n : ℕ). change_at (changes_of w.written ++ change ∷ []) n) a.1 ∙ (change_at-last (changes_of w.written) change ∙ ap (λ (x : Change). Some x) (sym means))) in
+    ap (λ (x : Writer). change_at (writer_changes x) number) entry
+    ∙ (ap (λ (n : ℕ). change_at (changes_of w.written ++ change ∷ []) n) a.1
+    ∙ (change_at-last (changes_of w.written) change ∙ ap (λ (x : Change). Some x) (sym means))) in
     record {
       accepted = a.0;
       reply = reply;
       sends = subst (λ (n : ℕ). SendsChange config endpoint w.readers n change output) a.1
           (subst (λ (x : Change). SendsChange config endpoint w.readers number x output) means sends);
-      is_true = λ packet claim among h. sent_true config sender endpoint after.part k'.destinations number (content_of change) output.packets only s.early there are packet claim among h;
+      is_true =
+          λ packet claim among h. sent_true config sender endpoint after.part k'.destinations number
+          (content_of change) output.packets only s.early there are packet claim among h;
       stands = stands;
     }
 
 -- the same, by the moment of the part
-pub made : (old : PeerKept) (i : ℕ) (k k' : WriterKept) (kind : ChangeKind) (key : Key) (value : List ℕ) (number : ℕ) (output : Output) (config : Config) (peer : Peer) → StandsFor old config peer
+pub made : (old : PeerKept) (i : ℕ) (k k' : WriterKept) (kind : ChangeKind) (key : Key) (value : List ℕ) (number : ℕ)
+    (output : Output) (config : Config) (peer : Peer) → StandsFor old config peer
     → slice_get old.writers i ≡ Some k → Enters k (Changed (made_by kind key value old.moment)) k'
-    → ((w : Writer) (answered : Endpoint → Option ℤ) → WriterStands k w answered → (append_refusal (history_of w) (made_by kind key value old.moment) ≡ None) × (number ≡ length (writer_changes w) + 1)) → IsValueOf kind value
+    → ((w : Writer) (answered : Endpoint → Option ℤ) → WriterStands k w answered
+    → (append_refusal (history_of w) (made_by kind key value old.moment) ≡ None)
+    × (number ≡ length (writer_changes w) + 1)) → IsValueOf kind value
     → output.reply ≡ Done → AnnouncesAll (with_writer old i k') i number output
     → IsMade config peer (i + 1) (change_made peer.part kind key value) output (with_writer old i k')
 made old i k k' kind key value number output config peer s at enters accepts valued reply all =
     let index : i + 1 ≡ suc i = omega arith in
-    subst (λ (n : ℕ). IsMade config peer n (change_made peer.part kind key value) output (with_writer old i k')) (sym index)
-    (subst (λ (m : ℕ). IsMade config peer (suc i) (made_by kind key value m) output (with_writer old i k')) (sym s.moment)
+    subst (λ (n : ℕ). IsMade config peer n (change_made peer.part kind key value) output (with_writer old i k'))
+    (sym index)
+    (subst (λ (m : ℕ). IsMade config peer (suc i) (made_by kind key value m) output (with_writer old i k'))
+    (sym s.moment)
     (made_there old i k k' kind key value number output config peer s at enters accepts valued reply all))
 
 -- the change is refused
-pub not_made : (old : PeerKept) (i : ℕ) (k k' : WriterKept) (kind : ChangeKind) (key : Key) (value : List ℕ) (code : Code) (output : Output) (config : Config) (peer : Peer) → StandsFor old config peer → slice_get old.writers i ≡ Some k → k' ≡ k
-    → ((w : Writer) (answered : Endpoint → Option ℤ) → WriterStands k w answered → Refuses (append_refusal (history_of w) (made_by kind key value old.moment)) code) → output ≡ record { reply = Refused code; packets = []; unsent = 0 }
+pub not_made : (old : PeerKept) (i : ℕ) (k k' : WriterKept) (kind : ChangeKind) (key : Key) (value : List ℕ)
+    (code : Code) (output : Output) (config : Config) (peer : Peer) → StandsFor old config peer
+    → slice_get old.writers i ≡ Some k → k' ≡ k
+    → ((w : Writer) (answered : Endpoint → Option ℤ) → WriterStands k w answered
+    → Refuses (append_refusal (history_of w) (made_by kind key value old.moment)) code)
+    → output ≡ record { reply = Refused code; packets = []; unsent = 0 }
     → IsNotMade config peer (i + 1) (change_made peer.part kind key value) output (with_writer old i k')
 not_made old i k k' kind key value code output config peer s at same refuses is =
     let index : i + 1 ≡ suc i = omega arith in
     record {
       code = code;
-      cause = subst (λ (n : ℕ). Refuses (change_refusal peer.part n (change_made peer.part kind key value)) code) (sym index)
-          (subst (λ (m : ℕ). Refuses (append_refusal (history_of (own_writer peer.part (suc i))) (made_by kind key value m)) code) (sym s.moment) (refuses (own_writer peer.part (suc i)) (peer.known.answered (suc i)) (s.writers.each i k at)));
+      cause =
+          subst (λ (n : ℕ). Refuses (change_refusal peer.part n (change_made peer.part kind key value)) code)
+          (sym index)
+          (subst (λ (m : ℕ). Refuses
+          (append_refusal (history_of (own_writer peer.part (suc i))) (made_by kind key value m)) code)
+          (sym s.moment) (refuses (own_writer peer.part (suc i)) (peer.known.answered (suc i))
+          (s.writers.each i k at)));
       output_is = is;
       stands = subst (λ (x : PeerKept). StandsFor x config peer) (sym (unchanged_with old i k k' at same)) s;
     }

@@ -25,19 +25,26 @@ use Rattle.dds_core.proofs.Names.{IsNamed, one_guid, guid_as, IsOwnReader, own_r
 -- ---- from a row to the configuration
 
 -- the first row of a name is the first one of its writer
-pub first_row : (config : Config) (peer : Peer) (kept : PeerKept) (s : StandsFor kept config peer) (i : ℕ) (k : ReaderKept) → slice_get kept.readers i ≡ Some k → (guid : Guid) (n : ℕ) (f : IsFirstName k.writers guid n) → IsFirstRow k.writers f.name.writer n
+pub first_row : (config : Config) (peer : Peer) (kept : PeerKept) (s : StandsFor kept config peer) (i : ℕ)
+    (k : ReaderKept) → slice_get kept.readers i ≡ Some k → (guid : Guid) (n : ℕ) (f : IsFirstName k.writers guid n)
+    → IsFirstRow k.writers f.name.writer n
 first_row config peer kept s i k at_k guid n f =
     let own : IsOwnReader config s.is_peer.own i k = own_reader_is config peer.number kept s.is_peer i k at_k in
     record {
       name = f.name;
       at = f.at;
       is = refl;
-      first = λ j x lt at_x same. f.first j x lt at_x (one_guid config own.end.topic x f.name (own.names j x at_x) (own.names n f.name f.at) same ∙ f.named);
+      first =
+          λ j x lt at_x same. f.first j x lt at_x
+          (one_guid config own.end.topic x f.name (own.names j x at_x) (own.names n f.name f.at) same ∙ f.named);
     }
 
 -- the submessage is to the reader of this index from the writer of its row
-abbrev pub is_to : (config : Config) (peer : Peer) (kept : PeerKept) (s : StandsFor kept config peer) (i : ℕ) (k : ReaderKept) → slice_get kept.readers i ≡ Some k → (at : Receiver) (reader_id writer_id : EntityId) (n : ℕ)
-    (here : IsNamedFor kept.prefix k at reader_id writer_id n) → IsToReader config kept.prefix at reader_id writer_id here.first.name.writer (record { peer = peer.number; number = suc i })
+abbrev pub is_to : (config : Config) (peer : Peer) (kept : PeerKept) (s : StandsFor kept config peer) (i : ℕ)
+    (k : ReaderKept) → slice_get kept.readers i ≡ Some k → (at : Receiver) (reader_id writer_id : EntityId) (n : ℕ)
+    (here : IsNamedFor kept.prefix k at reader_id writer_id n)
+    → IsToReader config kept.prefix at reader_id writer_id here.first.name.writer
+    (record { peer = peer.number; number = suc i })
 is_to config peer kept s i k at_k at reader_id writer_id n here =
     let own : IsOwnReader config s.is_peer.own i k = own_reader_is config peer.number kept s.is_peer i k at_k in
     let name : WriterName = here.first.name in
@@ -59,83 +66,135 @@ is_to config peer kept s i k at_k at reader_id writer_id n here =
       at_reader = (omega arith, subst (λ (m : ℕ). slice_get s.is_peer.own.readers m ≡ Some own.end) (sym index) own.at);
       same_entity = own.entity;
     } in
-    record { from = from; is_for = here.is_for; entity = k.entity; to = to; named = here.named; matched = named.same_topic }
+    record {
+      from = from;
+      is_for = here.is_for;
+      entity = k.entity;
+      to = to;
+      named = here.named;
+      matched = named.same_topic;
+    }
 
 -- ---- from the configuration to a row
 
 -- an element that stands in a list stands in it with more before or after it
-in_first : {X : Type 0} (xs ys : List X) (j : ℕ) (x : X) → slice_get xs j ≡ Some x → (k : ℕ) × (slice_get (xs ++ ys) k ≡ Some x)
+in_first : {X : Type 0} (xs ys : List X) (j : ℕ) (x : X) → slice_get xs j ≡ Some x
+    → (k : ℕ) × (slice_get (xs ++ ys) k ≡ Some x)
 in_first [] ys j x h = absurd cc
 in_first (a ∷ as') ys zero x h = (zero, h)
 in_first (a ∷ as') ys (suc j) x h = let r = in_first as' ys j x h in (suc r.0, r.1)
 
-in_last : {X : Type 0} (xs ys : List X) (j : ℕ) (x : X) → slice_get ys j ≡ Some x → (k : ℕ) × (slice_get (xs ++ ys) k ≡ Some x)
+in_last : {X : Type 0} (xs ys : List X) (j : ℕ) (x : X) → slice_get ys j ≡ Some x
+    → (k : ℕ) × (slice_get (xs ++ ys) k ≡ Some x)
 in_last [] ys j x h = (j, h)
 in_last (a ∷ as') ys j x h = let r = in_last as' ys j x h in (suc r.0, r.1)
 
-in_more : {X : Type 0} (b : Bool) (a : X) (xs : List X) (j : ℕ) (x : X) → slice_get xs j ≡ Some x → (k : ℕ) × (slice_get (cond b (a ∷ xs) xs) k ≡ Some x)
+in_more : {X : Type 0} (b : Bool) (a : X) (xs : List X) (j : ℕ) (x : X) → slice_get xs j ≡ Some x
+    → (k : ℕ) × (slice_get (cond b (a ∷ xs) xs) k ≡ Some x)
 in_more true a xs j x h = (suc j, h)
 in_more false a xs j x h = (j, h)
 
-in_here : {X : Type 0} (b : Bool) (a : X) (xs : List X) → b ≡ true → (k : ℕ) × (slice_get (cond b (a ∷ xs) xs) k ≡ Some a)
+in_here : {X : Type 0} (b : Bool) (a : X) (xs : List X) → b ≡ true
+    → (k : ℕ) × (slice_get (cond b (a ∷ xs) xs) k ≡ Some a)
 in_here true a xs h = (zero, refl)
 in_here false a xs h = cc
 
 -- each end of the topic is told of
-told_end : {E X : Type 0} (topic_of : E → ℕ) (tell : ℕ → E → X) (topic n : ℕ) (es : List E) (j : ℕ) (e : E) → slice_get es j ≡ Some e → topic_of e ≡ topic
+told_end : {E X : Type 0} (topic_of : E → ℕ) (tell : ℕ → E → X) (topic n : ℕ) (es : List E) (j : ℕ) (e : E)
+    → slice_get es j ≡ Some e → topic_of e ≡ topic
     → (k : ℕ) × (slice_get (of_ends_in topic_of tell topic n es) k ≡ Some (tell (n + j) e))
 told_end topic_of tell topic n [] j e at is = absurd cc
 told_end {X = X} topic_of tell topic n (a ∷ as') zero e at is =
     let same = same_Some a e at in
-    let there = in_here (same_topic (topic_of a) topic) (tell n a) (of_ends_in topic_of tell topic (n + 1) as') (eq-eqb (topic_of a) topic (ap topic_of same ∙ is)) in
+    let there =
+    in_here (same_topic (topic_of a) topic) (tell n a) (of_ends_in topic_of tell topic (n + 1) as')
+    (eq-eqb (topic_of a) topic (ap topic_of same ∙ is)) in
     let number : n ≡ n + 0 = omega arith in
     (there.0, there.1 ∙ (ap (λ x. Some (tell n x)) same ∙ ap (λ m. Some (tell m e)) number))
 told_end topic_of tell topic n (a ∷ as') (suc j) e at is =
     let rest = told_end topic_of tell topic (n + 1) as' j e at is in
-    let more = in_more (same_topic (topic_of a) topic) (tell n a) (of_ends_in topic_of tell topic (n + 1) as') rest.0 _ rest.1 in
+    let more =
+    in_more (same_topic (topic_of a) topic) (tell n a) (of_ends_in topic_of tell topic (n + 1) as') rest.0 _ rest.1
+    in
     let number : n + 1 + j ≡ n + suc j = omega arith in
     (more.0, more.1 ∙ ap (λ m. Some (tell m e)) number)
 
-pub told : {E X : Type 0} (ends : PeerConfig → List E) (topic_of : E → ℕ) (tell : ℕ → PeerConfig → ℕ → E → X) (topic i : ℕ) (ps : List PeerConfig) (h : ℕ) (p : PeerConfig) (j : ℕ) (e : E) → slice_get ps h ≡ Some p → slice_get (ends p) j ≡ Some e
-    → topic_of e ≡ topic → (k : ℕ) × (slice_get (of_matched_ends ends topic_of tell topic i ps) k ≡ Some (tell (i + h) p (1 + j) e))
+pub told : {E X : Type 0} (ends : PeerConfig → List E) (topic_of : E → ℕ) (tell : ℕ → PeerConfig → ℕ → E → X)
+    (topic i : ℕ) (ps : List PeerConfig) (h : ℕ) (p : PeerConfig) (j : ℕ) (e : E) → slice_get ps h ≡ Some p
+    → slice_get (ends p) j ≡ Some e
+    → topic_of e ≡ topic → (k : ℕ)
+    × (slice_get (of_matched_ends ends topic_of tell topic i ps) k ≡ Some (tell (i + h) p (1 + j) e))
 told ends topic_of tell topic i [] h p j e at_p at_e is = absurd cc
 told ends topic_of tell topic i (q ∷ qs) zero p j e at_p at_e is =
     let same = same_Some q p at_p in
     let here = told_end topic_of (tell i q) topic 1 (ends q) j e (ap (λ x. slice_get (ends x) j) same ∙ at_e) is in
-    let first = in_first (of_ends_in topic_of (tell i q) topic 1 (ends q)) (of_matched_ends ends topic_of tell topic (i + 1) qs) here.0 _ here.1 in
+    let first =
+    in_first (of_ends_in topic_of (tell i q) topic 1 (ends q))
+    (of_matched_ends ends topic_of tell topic (i + 1) qs) here.0 _ here.1 in
     let number : i ≡ i + 0 = omega arith in
     (first.0, first.1 ∙ (ap (λ x. Some (tell i x (1 + j) e)) same ∙ ap (λ m. Some (tell m p (1 + j) e)) number))
 told ends topic_of tell topic i (q ∷ qs) (suc h) p j e at_p at_e is =
     let rest = told ends topic_of tell topic (i + 1) qs h p j e at_p at_e is in
-    let last = in_last (of_ends_in topic_of (tell i q) topic 1 (ends q)) (of_matched_ends ends topic_of tell topic (i + 1) qs) rest.0 _ rest.1 in
+    let last =
+    in_last (of_ends_in topic_of (tell i q) topic 1 (ends q))
+    (of_matched_ends ends topic_of tell topic (i + 1) qs) rest.0 _ rest.1 in
     let number : i + 1 + h ≡ i + suc h = omega arith in
     (last.0, last.1 ∙ ap (λ m. Some (tell m p (1 + j) e)) number)
 
 -- of a name that stands in a list one stands first
-first_name : (names : List WriterName) (guid : Guid) (j : ℕ) (name : WriterName) → slice_get names j ≡ Some name → name.guid ≡ guid → ((k : ℕ) → IsFirstName names guid k → ⊥) → ⊥
+first_name : (names : List WriterName) (guid : Guid) (j : ℕ) (name : WriterName) → slice_get names j ≡ Some name
+    → name.guid ≡ guid → ((k : ℕ) → IsFirstName names guid k → ⊥) → ⊥
 first_name names guid j name at is none = least j (λ i lt x at_x e. omega (arith, lt))
   where
     -- there is none before a number, up to j
-    least : (fuel : ℕ) → ((i : ℕ) → i + fuel < j → (x : WriterName) → slice_get names i ≡ Some x → x.guid ≡ guid → ⊥) → ⊥
-    least zero before = none j (record { name = name; at = at; named = is; first = λ i x lt at_x e. before i (omega (arith, lt)) x at_x e })
+    least : (fuel : ℕ) → ((i : ℕ) → i + fuel < j → (x : WriterName) → slice_get names i ≡ Some x → x.guid ≡ guid → ⊥)
+        → ⊥
+    least zero before =
+        none j (record {
+          name = name;
+          at = at;
+          named = is;
+          first = λ i x lt at_x e. before i
+              (omega (arith, lt)) x at_x e;
+        })
     least (suc fuel) before =
-        least fuel (λ i lt x at_x e. none i (record { name = x; at = at_x; named = e; first = λ h y low at_y f. before h (omega (arith, lt, low)) y at_y f }))
+        least fuel
+        (λ i lt x at_x e. none i
+        (record {
+          name = x;
+          at = at_x;
+          named = e;
+          first = λ h y low at_y f. before h
+              (omega (arith, lt, low)) y at_y f;
+        }))
 
 -- a writer that is matched with the reader has a row
-pub row_of_writer : (config : Config) (peer : Peer) (kept : PeerKept) (s : StandsFor kept config peer) (i : ℕ) (k : ReaderKept) → slice_get kept.readers i ≡ Some k → (at : Receiver) (reader_id writer_id : EntityId) (w : Endpoint)
-    → IsToReader config kept.prefix at reader_id writer_id w (record { peer = peer.number; number = suc i }) → ((n : ℕ) → IsNamedFor kept.prefix k at reader_id writer_id n → ⊥) → ⊥
+pub row_of_writer : (config : Config) (peer : Peer) (kept : PeerKept) (s : StandsFor kept config peer) (i : ℕ)
+    (k : ReaderKept) → slice_get kept.readers i ≡ Some k
+    → (at : Receiver) (reader_id writer_id : EntityId) (w : Endpoint)
+    → IsToReader config kept.prefix at reader_id writer_id w (record { peer = peer.number; number = suc i })
+    → ((n : ℕ) → IsNamedFor kept.prefix k at reader_id writer_id n → ⊥) → ⊥
 row_of_writer config peer kept s i k at_k at reader_id writer_id w to none =
     let own : IsOwnReader config s.is_peer.own i k = own_reader_is config peer.number kept s.is_peer i k at_k in
     let index : suc i - 1 ≡ i = omega arith in
-    let peers : to.to.peer ≡ s.is_peer.own = same_Some to.to.peer s.is_peer.own (sym to.to.at_peer.1 ∙ s.is_peer.at.1) in
-    let at_reader : slice_get s.is_peer.own.readers i ≡ Some to.to.end = subst (λ (m : ℕ). slice_get s.is_peer.own.readers m ≡ Some to.to.end) index (subst (λ (p : PeerConfig). slice_get p.readers (suc i - 1) ≡ Some to.to.end) peers to.to.at_reader.1) in
+    let peers : to.to.peer ≡ s.is_peer.own =
+    same_Some to.to.peer s.is_peer.own (sym to.to.at_peer.1 ∙ s.is_peer.at.1) in
+    let at_reader : slice_get s.is_peer.own.readers i ≡ Some to.to.end =
+    subst (λ (m : ℕ). slice_get s.is_peer.own.readers m ≡ Some to.to.end) index
+    (subst (λ (p : PeerConfig). slice_get p.readers (suc i - 1) ≡ Some to.to.end) peers to.to.at_reader.1) in
     let ends : to.to.end ≡ own.end = same_Some to.to.end own.end (sym at_reader ∙ own.at) in
-    let entity : to.entity ≡ k.entity = sym to.to.same_entity ∙ (ap (λ (x : ReaderConfig). x.entity) ends ∙ own.entity) in
+    let entity : to.entity ≡ k.entity =
+    sym to.to.same_entity ∙ (ap (λ (x : ReaderConfig). x.entity) ends ∙ own.entity) in
     let topic : to.from.end.topic ≡ own.end.topic = to.matched ∙ ap (λ (x : ReaderConfig). x.topic) ends in
-    let there = told (λ (p : PeerConfig). p.writers) (λ (x : WriterConfig). x.topic) writer_name own.end.topic 1 config.peers (w.peer - 1) to.from.peer (w.number - 1) to.from.end to.from.at_peer.1 to.from.at_writer.1 topic in
-    let here : slice_get k.writers there.0 ≡ Some _ = ap (λ (xs : List WriterName). slice_get xs there.0) own.all ∙ there.1 in
-    first_name k.writers (writer_guid at writer_id) there.0 _ here (guid_as _ (writer_guid at writer_id) to.from.same_prefix to.from.same_entity)
-    (λ n f. none n (record { is_for = to.is_for; named = ⊎_elim (λ e. inl (e ∙ entity)) (λ u. inr u) to.named; first = f }))
+    let there =
+    told (λ (p : PeerConfig). p.writers) (λ (x : WriterConfig). x.topic) writer_name own.end.topic 1 config.peers
+    (w.peer - 1) to.from.peer (w.number - 1) to.from.end to.from.at_peer.1 to.from.at_writer.1 topic in
+    let here : slice_get k.writers there.0 ≡ Some _ =
+    ap (λ (xs : List WriterName). slice_get xs there.0) own.all ∙ there.1 in
+    first_name k.writers (writer_guid at writer_id) there.0 _ here
+    (guid_as _ (writer_guid at writer_id) to.from.same_prefix to.from.same_entity)
+    (λ n f. none n
+    (record { is_for = to.is_for; named = ⊎_elim (λ e. inl (e ∙ entity)) (λ u. inr u) to.named; first = f }))
 
 -- the names of a submessage are one
 pub names_one : (s : Submessage) (a b c d : EntityId) → NamedBy s a b → NamedBy s c d → (a ≡ c) × (b ≡ d)
@@ -145,7 +204,8 @@ names_one (Heartbeat x) a b c d f g = (f.0 ∙ sym g.0, f.1 ∙ sym g.1)
 names_one s a b c d f g = absurd f
 
 -- where no writer of the name was found, the submessage is not for the reader
-pub none_named : (own : GuidPrefix) (kept : ReaderKept) (at : Receiver) (reader_id writer_id : EntityId) (found : Option ℕ) → IfNone found ((k : ℕ) → IsFirstName kept.writers (writer_guid at writer_id) k → ⊥)
+pub none_named : (own : GuidPrefix) (kept : ReaderKept) (at : Receiver) (reader_id writer_id : EntityId)
+    (found : Option ℕ) → IfNone found ((k : ℕ) → IsFirstName kept.writers (writer_guid at writer_id) k → ⊥)
     → IfNone found ((k : ℕ) → IsNamedFor own kept at reader_id writer_id k → ⊥)
 none_named own kept at reader_id writer_id None h = λ k f. h k f.first
 none_named own kept at reader_id writer_id (Some k) h = tt

@@ -36,11 +36,13 @@ use Rattle.dds_core.proofs.Tellable.{tellable_entered}
 
 -- ---- who is told
 
-to_taker : (o : Option Entity) (part : Part) (e : Entity) (status : Status) → is_some o ≡ true → told_to o part e status ≡ told_of part e status
+to_taker : (o : Option Entity) (part : Part) (e : Entity) (status : Status) → is_some o ≡ true
+    → told_to o part e status ≡ told_of part e status
 to_taker (Some taker) part e status h = refl
 to_taker None part e status h = cc
 
-to_nobody : (o : Option Entity) (part : Part) (e : Entity) (status : Status) → is_some o ≡ false → told_to o part e status ≡ part
+to_nobody : (o : Option Entity) (part : Part) (e : Entity) (status : Status) → is_some o ≡ false
+    → told_to o part e status ≡ part
 to_nobody (Some taker) part e status h = cc
 to_nobody None part e status h = refl
 
@@ -57,7 +59,8 @@ writer_found inside now n from k view low high number is =
 
 -- the listeners of a peer are the last thing that it stands for
 pub listeners_apart : (kept : PeerKept) (config : Config) (peer : Peer) (places : Places) → StandsFor kept config peer
-    → StandsFor kept config (record peer { part = record peer.part { dds = record peer.part.dds { listeners = places } } })
+    → StandsFor kept config
+    (record peer { part = record peer.part { dds = record peer.part.dds { listeners = places } } })
 listeners_apart kept config peer places s = record {
   is_peer = s.is_peer;
   moment = s.moment;
@@ -74,11 +77,13 @@ module _ {L : Type 0} (notices : L → List Notice) (capacity : L → ℕ) where
       → ((config : Config) (peer : Peer) → StandsFor old config peer → f peer.part ≡ g peer.part)
       → Tells notices capacity f old slots new after → Tells notices capacity g old slots new after
   tells_as f g old slots new after same h = λ config peer s l.
-      subst (λ (p : Part). StandsFor new config (record peer { part = p }) × SlotsStandFor notices capacity after p.dds.listeners)
+      subst (λ (p : Part). StandsFor new config (record peer { part = p })
+      × SlotsStandFor notices capacity after p.dds.listeners)
       (same config peer s) (h config peer s l)
 
   -- one change, and then another
-  pub tells_then : (f g : Part → Part) (old : PeerKept) (slots : Slotted L) (mid : PeerKept) (between : Slotted L) (new : PeerKept) (after : Slotted L)
+  pub tells_then : (f g : Part → Part) (old : PeerKept) (slots : Slotted L) (mid : PeerKept) (between : Slotted L)
+      (new : PeerKept) (after : Slotted L)
       → Tells notices capacity f old slots mid between → Tells notices capacity g mid between new after
       → Tells notices capacity (λ part. g (f part)) old slots new after
   tells_then f g old slots mid between new after first second = λ config peer s l.
@@ -86,7 +91,8 @@ module _ {L : Type 0} (notices : L → List Notice) (capacity : L → ℕ) where
       second config (record peer { part = f peer.part }) one.0 one.1
 
   -- nothing was raised
-  pub tells_nothing : (e : Entity) (kept : PeerKept) (slots : Slotted L) → Tells notices capacity (λ part. told part e None) kept slots kept slots
+  pub tells_nothing : (e : Entity) (kept : PeerKept) (slots : Slotted L)
+      → Tells notices capacity (λ part. told part e None) kept slots kept slots
   tells_nothing e kept slots = λ config peer s l. (s, l)
 
   -- nobody takes it
@@ -94,65 +100,94 @@ module _ {L : Type 0} (notices : L → List Notice) (capacity : L → ℕ) where
       → ((places : Places) → SlotsStandFor notices capacity slots places → false ≡ is_some (taker_of places e status))
       → Tells notices capacity (λ part. told part e (Some status)) kept slots kept slots
   tells_nobody e status kept slots takes = λ config peer s l.
-      subst (λ (p : Part). StandsFor kept config (record peer { part = p }) × SlotsStandFor notices capacity slots p.dds.listeners)
-      (sym (to_nobody (taker_of peer.part.dds.listeners e status) peer.part e status (sym (takes peer.part.dds.listeners l)))) (s, l)
+      subst (λ (p : Part). StandsFor kept config (record peer { part = p })
+      × SlotsStandFor notices capacity slots p.dds.listeners)
+      (sym (to_nobody (taker_of peer.part.dds.listeners e status) peer.part e status
+      (sym (takes peer.part.dds.listeners l)))) (s, l)
 
   -- somebody takes it: it was looked at, and the listener was told
   told_by : (e : Entity) (status : Status) (old : PeerKept) (slots : Slotted L) (new : PeerKept) (after : Slotted L)
       → ((places : Places) → SlotsStandFor notices capacity slots places → true ≡ is_some (taker_of places e status))
       → ((places : Places) → SlotsStandFor notices capacity slots places
       → SlotsStandFor notices capacity after (after_notice places (record { entity = e; status = status })))
-      → ((config : Config) (peer : Peer) → StandsFor old config peer → StandsFor new config (record peer { part = looked_at peer.part e status }))
+      → ((config : Config) (peer : Peer) → StandsFor old config peer
+      → StandsFor new config (record peer { part = looked_at peer.part e status }))
       → Tells notices capacity (λ part. told part e (Some status)) old slots new after
   told_by e status old slots new after takes tell look = λ config peer s l.
       let places = after_notice peer.part.dds.listeners (record { entity = e; status = status }) in
-      subst (λ (p : Part). StandsFor new config (record peer { part = p }) × SlotsStandFor notices capacity after p.dds.listeners)
-      (sym (to_taker (taker_of peer.part.dds.listeners e status) peer.part e status (sym (takes peer.part.dds.listeners l))))
-      (listeners_apart new config (record peer { part = looked_at peer.part e status }) places (look config peer s), tell peer.part.dds.listeners l)
+      subst (λ (p : Part). StandsFor new config (record peer { part = p })
+      × SlotsStandFor notices capacity after p.dds.listeners)
+      (sym (to_taker (taker_of peer.part.dds.listeners e status) peer.part e status
+      (sym (takes peer.part.dds.listeners l)))) (
+        listeners_apart new config (record peer { part = looked_at peer.part e status }) places
+            (look config peer s),
+        tell peer.part.dds.listeners l,
+      )
 
   -- a status of the reader of this number
-  pub tells_reader : (status : Status) (old : PeerKept) (slots : Slotted L) (n i : ℕ) (k k' : ReaderKept) (after : Slotted L) → suc i ≡ n
+  pub tells_reader : (status : Status) (old : PeerKept) (slots : Slotted L) (n i : ℕ) (k k' : ReaderKept)
+      (after : Slotted L) → suc i ≡ n
       → slice_get old.readers i ≡ Some k → reader_identity k' ≡ reader_identity k → SeesStatus k status k'
-      → ((places : Places) → SlotsStandFor notices capacity slots places → true ≡ is_some (taker_of places (entity.Reader n) status))
       → ((places : Places) → SlotsStandFor notices capacity slots places
-      → SlotsStandFor notices capacity after (after_notice places (record { entity = entity.Reader n; status = status })))
-      → Tells notices capacity (λ part. told part (entity.Reader n) (Some status)) old slots (with_reader old i k') after
+      → true ≡ is_some (taker_of places (entity.Reader n) status))
+      → ((places : Places) → SlotsStandFor notices capacity slots places
+      → SlotsStandFor notices capacity after
+      (after_notice places (record { entity = entity.Reader n; status = status })))
+      → Tells notices capacity (λ part. told part (entity.Reader n) (Some status)) old slots
+      (with_reader old i k') after
   tells_reader status old slots n i k k' after is at same sees takes tell =
       told_by (entity.Reader n) status old slots (with_reader old i k') after takes tell
       (λ config peer s.
-      subst (λ (m : ℕ). StandsFor (with_reader old i k') config (record peer { part = looked_at peer.part (entity.Reader m) status })) is
-      (own_reader_changed old i k k' (record (own_reader peer.part (suc i)) { seen = seen_by (own_reader peer.part (suc i)) status }) config peer s at same
-      (sees (own_proxies peer.part (suc i)) (own_reader peer.part (suc i)) (λ w. peer.known.tracked w (suc i)) (s.readers.each i k at))))
+      subst (λ (m : ℕ). StandsFor (with_reader old i k') config
+      (record peer { part = looked_at peer.part (entity.Reader m) status })) is
+      (own_reader_changed old i k k'
+      (record (own_reader peer.part (suc i)) { seen = seen_by (own_reader peer.part (suc i)) status }) config peer s
+      at same
+      (sees (own_proxies peer.part (suc i)) (own_reader peer.part (suc i)) (λ w. peer.known.tracked w (suc i))
+      (s.readers.each i k at))))
 
   -- a status of the writer of this number
-  pub tells_writer : (status : Status) (old : PeerKept) (slots : Slotted L) (n i : ℕ) (k k' : WriterKept) (after : Slotted L) → suc i ≡ n
+  pub tells_writer : (status : Status) (old : PeerKept) (slots : Slotted L) (n i : ℕ) (k k' : WriterKept)
+      (after : Slotted L) → suc i ≡ n
       → slice_get old.writers i ≡ Some k → Enters k LookedAt k'
-      → ((places : Places) → SlotsStandFor notices capacity slots places → true ≡ is_some (taker_of places (entity.Writer n) status))
       → ((places : Places) → SlotsStandFor notices capacity slots places
-      → SlotsStandFor notices capacity after (after_notice places (record { entity = entity.Writer n; status = status })))
-      → Tells notices capacity (λ part. told part (entity.Writer n) (Some status)) old slots (with_writer old i k') after
+      → true ≡ is_some (taker_of places (entity.Writer n) status))
+      → ((places : Places) → SlotsStandFor notices capacity slots places
+      → SlotsStandFor notices capacity after
+      (after_notice places (record { entity = entity.Writer n; status = status })))
+      → Tells notices capacity (λ part. told part (entity.Writer n) (Some status)) old slots
+      (with_writer old i k') after
   tells_writer status old slots n i k k' after is at enters takes tell =
       told_by (entity.Writer n) status old slots (with_writer old i k') after takes tell
       (λ config peer s.
-      subst (λ (m : ℕ). StandsFor (with_writer old i k') config (record peer { part = looked_at peer.part (entity.Writer m) status })) is
-      (own_writer_stepped old i k k' LookedAt config peer s at enters (tellable_entered peer (suc i) LookedAt s.tellable tt)))
+      subst (λ (m : ℕ). StandsFor (with_writer old i k') config
+      (record peer { part = looked_at peer.part (entity.Writer m) status })) is
+      (own_writer_stepped old i k k' LookedAt config peer s at enters
+      (tellable_entered peer (suc i) LookedAt s.tellable tt)))
 
   -- what was raised at the reader of this number, in turn
-  pub tells_raised : (raised : Reader → Reader → Option Status) (status : Option Status) (before : Part) (mark : ReaderMark) (old : PeerKept) (slots : Slotted L)
-      (n i : ℕ) (k : ReaderKept) (new : PeerKept) (after : Slotted L) → suc i ≡ n → slice_get old.readers i ≡ Some k → IsMarkOf mark (own_reader before n)
-      → RaisesSo raised k mark status → Tells notices capacity (λ part. told part (entity.Reader n) status) old slots new after
-      → Tells notices capacity (λ part. told part (entity.Reader n) (raised (own_reader before n) (own_reader part n))) old slots new after
+  pub tells_raised : (raised : Reader → Reader → Option Status) (status : Option Status) (before : Part)
+      (mark : ReaderMark) (old : PeerKept) (slots : Slotted L)
+      (n i : ℕ) (k : ReaderKept) (new : PeerKept) (after : Slotted L) → suc i ≡ n → slice_get old.readers i ≡ Some k
+      → IsMarkOf mark (own_reader before n)
+      → RaisesSo raised k mark status
+      → Tells notices capacity (λ part. told part (entity.Reader n) status) old slots new after
+      → Tells notices capacity (λ part. told part (entity.Reader n) (raised (own_reader before n) (own_reader part n)))
+      old slots new after
   tells_raised raised status before mark old slots n i k new after is at marked so h =
-      tells_as (λ part. told part (entity.Reader n) status) (λ part. told part (entity.Reader n) (raised (own_reader before n) (own_reader part n))) old slots new after
+      tells_as (λ part. told part (entity.Reader n) status)
+      (λ part. told part (entity.Reader n) (raised (own_reader before n) (own_reader part n))) old slots new after
       (λ config peer s.
       ap (λ (o : Option Status). told peer.part (entity.Reader n) o)
       (subst (λ (m : ℕ). status ≡ raised (own_reader before n) (own_reader peer.part m)) is
-      (so (own_reader before n) marked (own_proxies peer.part (suc i)) (own_reader peer.part (suc i)) (λ w. peer.known.tracked w (suc i)) (s.readers.each i k at)))) h
+      (so (own_reader before n) marked (own_proxies peer.part (suc i)) (own_reader peer.part (suc i))
+      (λ w. peer.known.tracked w (suc i)) (s.readers.each i k at)))) h
 
   -- the status of the writer of this number, if its liveliness was lost
   pub tells_loss : (status : Option Status) (before : Part) (old : PeerKept) (slots : Slotted L)
       (n i : ℕ) (k : WriterKept) (new : PeerKept) (after : Slotted L) → suc i ≡ n → slice_get old.writers i ≡ Some k
-      → ((w : Writer) (answered : Endpoint → Option ℤ) → WriterStands k w answered → status ≡ loss_raised (own_writer before n) w)
+      → ((w : Writer) (answered : Endpoint → Option ℤ) → WriterStands k w answered
+      → status ≡ loss_raised (own_writer before n) w)
       → Tells notices capacity (λ part. told part (entity.Writer n) status) old slots new after
       → Tells notices capacity (writer_told before n) old slots new after
   tells_loss status before old slots n i k new after is at so h =
@@ -163,12 +198,15 @@ module _ {L : Type 0} (notices : L → List Notice) (capacity : L → ℕ) where
       (so (own_writer peer.part (suc i)) (peer.known.answered (suc i)) (s.writers.each i k at)))) h
 
   -- none of the entities yet
-  pub tells_first : (tell : ℕ → Part → Part) (kept : PeerKept) (slots : Slotted L) → Tells notices capacity (each_told tell 0) kept slots kept slots
+  pub tells_first : (tell : ℕ → Part → Part) (kept : PeerKept) (slots : Slotted L)
+      → Tells notices capacity (each_told tell 0) kept slots kept slots
   tells_first tell kept slots = λ config peer s l. (s, l)
 
   -- one entity more
-  pub tells_next : (tell : ℕ → Part → Part) (old : PeerKept) (slots : Slotted L) (mid : PeerKept) (between : Slotted L) (new : PeerKept) (after : Slotted L) (n : ℕ)
-      → Tells notices capacity (each_told tell n) old slots mid between → Tells notices capacity (tell (n + 1)) mid between new after
+  pub tells_next : (tell : ℕ → Part → Part) (old : PeerKept) (slots : Slotted L) (mid : PeerKept) (between : Slotted L)
+      (new : PeerKept) (after : Slotted L) (n : ℕ)
+      → Tells notices capacity (each_told tell n) old slots mid between
+      → Tells notices capacity (tell (n + 1)) mid between new after
       → Tells notices capacity (each_told tell (n + 1)) old slots new after
   tells_next tell old slots mid between new after n first second =
       let more : n + 1 ≡ suc n = omega arith in
@@ -203,22 +241,28 @@ module _ {L : Type 0} (notices : L → List Notice) (capacity : L → ℕ) where
 -- ---- what was raised
 
 -- a writer's liveliness was lost, or not
-pub lost_so : (before w : Writer) (values : LivelinessLostStatus) (losses : ℕ) → values ≡ liveliness_lost_status w.lease w.written → losses ≡ losses_of before
+pub lost_so : (before w : Writer) (values : LivelinessLostStatus) (losses : ℕ)
+    → values ≡ liveliness_lost_status w.lease w.written → losses ≡ losses_of before
     → losses < values.total_count → Some (LivelinessLost values) ≡ loss_raised before w
 lost_so before w values losses is mark lt =
     let more : nat_lt (losses_of before) (losses_of w) ≡ true =
-    ap (λ (n : ℕ). nat_lt n (losses_of w)) (sym mark) ∙ (ap (λ (v : LivelinessLostStatus). nat_lt losses v.total_count) (sym is) ∙ less losses values.total_count lt) in
+    ap (λ (n : ℕ). nat_lt n (losses_of w)) (sym mark)
+    ∙ (ap (λ (v : LivelinessLostStatus). nat_lt losses v.total_count) (sym is) ∙ less losses values.total_count lt)
+    in
     ap (λ (v : LivelinessLostStatus). Some (LivelinessLost v)) is
     ∙ sym (ap (λ (b : Bool). if b then Some (LivelinessLost (liveliness_lost_status w.lease w.written)) else None) more)
   where
     less : (a b : ℕ) → a < b → nat_lt a b ≡ true
     less a b lt' = grind (arith, nat_tests, lt')
 
-pub not_lost : (before w : Writer) (values : LivelinessLostStatus) (losses : ℕ) → values ≡ liveliness_lost_status w.lease w.written → losses ≡ losses_of before
+pub not_lost : (before w : Writer) (values : LivelinessLostStatus) (losses : ℕ)
+    → values ≡ liveliness_lost_status w.lease w.written → losses ≡ losses_of before
     → values.total_count ≤ losses → None ≡ loss_raised before w
 not_lost before w values losses is mark le =
     let more : nat_lt (losses_of before) (losses_of w) ≡ false =
-    ap (λ (n : ℕ). nat_lt n (losses_of w)) (sym mark) ∙ (ap (λ (v : LivelinessLostStatus). nat_lt losses v.total_count) (sym is) ∙ not_less losses values.total_count le) in
+    ap (λ (n : ℕ). nat_lt n (losses_of w)) (sym mark)
+    ∙ (ap (λ (v : LivelinessLostStatus). nat_lt losses v.total_count) (sym is)
+    ∙ not_less losses values.total_count le) in
     sym (ap (λ (b : Bool). if b then Some (LivelinessLost (liveliness_lost_status w.lease w.written)) else None) more)
   where
     not_less : (a b : ℕ) → b ≤ a → nat_lt a b ≡ false
@@ -232,15 +276,19 @@ beyond (x ∷ xs) zero d h = absurd (omega (arith, h))
 beyond (x ∷ xs) (suc i) d h = beyond xs i d (omega (arith, h))
 
 -- they are those of each state that it stands for
-pub marks_peer : (kept : PeerKept) (writers : List ℕ) (readers : List ReaderMark) → MarksWriters kept.writers (length kept.writers) writers
-    → MarksReaders kept.readers (length kept.readers) readers → MarksPeer kept (record { writers = writers; readers = readers })
+pub marks_peer : (kept : PeerKept) (writers : List ℕ) (readers : List ReaderMark)
+    → MarksWriters kept.writers (length kept.writers) writers
+    → MarksReaders kept.readers (length kept.readers) readers
+    → MarksPeer kept (record { writers = writers; readers = readers })
 marks_peer kept writers readers of_writers of_readers config peer s = record {
   writers = λ i mark at.
       ⊎_elim
       (λ lt.
-      (of_writers i mark at).0 lt (get_or kept.writers i (first_writer i lt)) (slice_get-get_or kept.writers i (first_writer i lt) lt)
+      (of_writers i mark at).0 lt (get_or kept.writers i (first_writer i lt))
+      (slice_get-get_or kept.writers i (first_writer i lt) lt)
       (own_writer peer.part (suc i)) (peer.known.answered (suc i))
-      (s.writers.each i (get_or kept.writers i (first_writer i lt)) (slice_get-get_or kept.writers i (first_writer i lt) lt)))
+      (s.writers.each i (get_or kept.writers i (first_writer i lt))
+      (slice_get-get_or kept.writers i (first_writer i lt) lt)))
       (λ le.
       let count = s.writers.count in
       (of_writers i mark at).1 le
@@ -249,13 +297,17 @@ marks_peer kept writers readers of_writers of_readers config peer s = record {
   readers = λ i mark at.
       ⊎_elim
       (λ lt.
-      (of_readers i mark at).0 lt (get_or kept.readers i (first_reader i lt)) (slice_get-get_or kept.readers i (first_reader i lt) lt)
+      (of_readers i mark at).0 lt (get_or kept.readers i (first_reader i lt))
+      (slice_get-get_or kept.readers i (first_reader i lt) lt)
       (own_proxies peer.part (suc i)) (own_reader peer.part (suc i)) (λ w. peer.known.tracked w (suc i))
-      (s.readers.each i (get_or kept.readers i (first_reader i lt)) (slice_get-get_or kept.readers i (first_reader i lt) lt)))
+      (s.readers.each i (get_or kept.readers i (first_reader i lt))
+      (slice_get-get_or kept.readers i (first_reader i lt) lt)))
       (λ le.
       let count = s.readers.count in
-      subst (λ (r : Reader). IsMarkOf mark r) (sym (beyond peer.part.dds.readers i no_reader (omega (arith, count, le))))
-      (subst (λ (m : ReaderMark). IsMarkOf m no_reader) (sym ((of_readers i mark at).1 le)) (record { lost = refl; happened = refl })))
+      subst (λ (r : Reader). IsMarkOf mark r)
+      (sym (beyond peer.part.dds.readers i no_reader (omega (arith, count, le))))
+      (subst (λ (m : ReaderMark). IsMarkOf m no_reader) (sym ((of_readers i mark at).1 le))
+      (record { lost = refl; happened = refl })))
       (cases_lt i (length kept.readers));
 }
   where
@@ -273,7 +325,8 @@ marks_peer kept writers readers of_writers of_readers config peer s = record {
 
 -- another value of what was seen
 sees_so : (k k' : ReaderKept) (status : Status) (seen : Seen) → k' ≡ record k { seen = seen }
-    → ((r : Reader) → Holds k.store r.happened → r.qos ≡ qos_of k.store.cache → r.seen ≡ k.seen → seen ≡ seen_by r status) → SeesStatus k status k'
+    → ((r : Reader) → Holds k.store r.happened → r.qos ≡ qos_of k.store.cache → r.seen ≡ k.seen
+    → seen ≡ seen_by r status) → SeesStatus k status k'
 sees_so k k' status seen is so proxies r tracked s =
     subst (λ (x : ReaderKept). ReaderStands x proxies (record r { seen = seen_by r status }) tracked) (sym is)
     (record {
@@ -305,12 +358,20 @@ sees_data k k' status at is tells after =
     ∙ (ap (λ (q : ReaderQos). record k.seen { brought = data_available_at q r.happened }) (sym qos)
     ∙ ap (λ (y : Seen). record y { brought = data_available_at r.qos r.happened }) (sym seen))))
 
-pub sees_turn : (k k' : ReaderKept) (status : Status) (x v : LivelinessChangedStatus) (now : Seen) → status ≡ LivelinessChanged x → TellsLiveliness k v now
+pub sees_turn : (k k' : ReaderKept) (status : Status) (x v : LivelinessChangedStatus) (now : Seen)
+    → status ≡ LivelinessChanged x → TellsLiveliness k v now
     → k' ≡ record k { seen = now } → SeesStatus k status k'
 sees_turn k k' status x v now is tells after =
     subst (λ (y : Status). SeesStatus k y k') (sym is)
     (sees_so k k' (LivelinessChanged x) now after
     (λ r holds qos seen.
     (tells r.happened holds).1
-    ∙ (ap (λ (q : ReaderQos). record k.seen { alive = alive_count q r.happened; not_alive = not_alive_count q r.happened; turned = turned_at r.happened }) (sym qos)
-    ∙ ap (λ (y : Seen). record y { alive = alive_count r.qos r.happened; not_alive = not_alive_count r.qos r.happened; turned = turned_at r.happened }) (sym seen))))
+    ∙ (ap (λ (q : ReaderQos). record k.seen
+    { alive = alive_count q r.happened; not_alive = not_alive_count q r.happened; turned = turned_at r.happened })
+    (sym qos)
+    ∙ ap (λ (y : Seen). record y {
+      alive = alive_count r.qos r.happened;
+      not_alive = not_alive_count r.qos r.happened;
+      turned = turned_at
+          r.happened;
+    }) (sym seen))))

@@ -24,7 +24,8 @@ use Rattle.dds_core.proofs.Tellable.{tellable_opening}
 abbrev Pairs : {X Y : Type 0} → (X → Y → Type 0) → List X → List Y → Type 0
 Pairs {X} {Y} R xs ys = (i : ℕ) (x : X) (y : Y) → slice_get xs i ≡ Some x → slice_get ys i ≡ Some y → R x y
 
-pairs_last : {X Y : Type 0} (R : X → Y → Type 0) (xs : List X) (ys : List Y) (x : X) (y : Y) → length ys ≡ length xs → Pairs R xs ys → R x y → Pairs R (xs ++ x ∷ []) (ys ++ y ∷ [])
+pairs_last : {X Y : Type 0} (R : X → Y → Type 0) (xs : List X) (ys : List Y) (x : X) (y : Y) → length ys ≡ length xs
+    → Pairs R xs ys → R x y → Pairs R (xs ++ x ∷ []) (ys ++ y ∷ [])
 pairs_last R xs ys x y count each new i a b at_a at_b =
     ⊎_elim
     (λ s.
@@ -33,16 +34,20 @@ pairs_last R xs ys x y count each new i a b at_a at_b =
     (λ t. let lt = t.0 in let same = s.0 in absurd (omega (arith, lt, same, count)))
     (last-cases ys y i b at_b))
     (λ s.
-    ⊎_elim (λ t. let lt = s.0 in let same = t.0 in absurd (omega (arith, lt, same, count))) (λ t. each i a b s.1 t.1) (last-cases ys y i b at_b))
+    ⊎_elim (λ t. let lt = s.0 in let same = t.0 in absurd (omega (arith, lt, same, count))) (λ t. each i a b s.1 t.1)
+    (last-cases ys y i b at_b))
     (last-cases xs x i a at_a)
 
-pairs_more : {X Y : Type 0} (R : X → Y → Type 0) (xs : List X) (ys zs : List Y) (i : ℕ) (d : X) (y : Y) → i < length xs → length ys ≡ length (take i xs) → Pairs R (take i xs) ys → zs ≡ ys ++ y ∷ [] → R (get_or xs i d) y
+pairs_more : {X Y : Type 0} (R : X → Y → Type 0) (xs : List X) (ys zs : List Y) (i : ℕ) (d : X) (y : Y) → i < length xs
+    → length ys ≡ length (take i xs) → Pairs R (take i xs) ys → zs ≡ ys ++ y ∷ [] → R (get_or xs i d) y
     → Pairs R (take (i + 1) xs) zs
 pairs_more {X} {Y} R xs ys zs i d y lt count each more new =
     subst (λ (us : List X). Pairs R us zs) (sym (take_more xs i d lt))
-    (subst (λ (bs : List Y). Pairs R (take i xs ++ get_or xs i d ∷ []) bs) (sym more) (pairs_last R (take i xs) ys (get_or xs i d) y count each new))
+    (subst (λ (bs : List Y). Pairs R (take i xs ++ get_or xs i d ∷ []) bs) (sym more)
+    (pairs_last R (take i xs) ys (get_or xs i d) y count each new))
 
-count_more : {X Y : Type 0} (xs : List X) (ys zs : List Y) (i : ℕ) (d : X) (y : Y) → i < length xs → length ys ≡ length (take i xs) → zs ≡ ys ++ y ∷ [] → length zs ≡ length (take (i + 1) xs)
+count_more : {X Y : Type 0} (xs : List X) (ys zs : List Y) (i : ℕ) (d : X) (y : Y) → i < length xs
+    → length ys ≡ length (take i xs) → zs ≡ ys ++ y ∷ [] → length zs ≡ length (take (i + 1) xs)
 count_more {X} {Y} xs ys zs i d y lt count more =
     let now = ap (λ (us : List X). length us) (take_more xs i d lt) in
     let all = ap (λ (bs : List Y). length bs) more in
@@ -50,14 +55,16 @@ count_more {X} {Y} xs ys zs i d y lt count more =
     let second = length-append ys (y ∷ []) in
     omega (arith, now, all, first, second, count)
 
-pub writers_more : (peers : List PeerConfig) (ws : List WriterConfig) (old new : List WriterKept) (i : ℕ) (w : WriterConfig) (k : WriterKept) → i < length ws → OpenWriters peers (take i ws) old → new ≡ old ++ k ∷ []
+pub writers_more : (peers : List PeerConfig) (ws : List WriterConfig) (old new : List WriterKept) (i : ℕ)
+    (w : WriterConfig) (k : WriterKept) → i < length ws → OpenWriters peers (take i ws) old → new ≡ old ++ k ∷ []
     → OpensWriter peers (get_or ws i w) k → OpenWriters peers (take (i + 1) ws) new
 writers_more peers ws old new i w k lt opened more one = record {
   count = count_more ws old new i w k lt opened.count more;
   each = pairs_more (OpensWriter peers) ws old new i w k lt opened.count opened.each more one;
 }
 
-pub readers_more : (peers : List PeerConfig) (rs : List ReaderConfig) (old new : List ReaderKept) (i : ℕ) (r : ReaderConfig) (k : ReaderKept) → i < length rs → OpenReaders peers (take i rs) old → new ≡ old ++ k ∷ []
+pub readers_more : (peers : List PeerConfig) (rs : List ReaderConfig) (old new : List ReaderKept) (i : ℕ)
+    (r : ReaderConfig) (k : ReaderKept) → i < length rs → OpenReaders peers (take i rs) old → new ≡ old ++ k ∷ []
     → OpensReader peers (get_or rs i r) k → OpenReaders peers (take (i + 1) rs) new
 readers_more peers rs old new i r k lt opened more one = record {
   count = count_more rs old new i r k lt opened.count more;
@@ -67,35 +74,44 @@ readers_more peers rs old new i r k lt opened more one = record {
 -- ---- all of them
 
 -- what looks alike, one by one, looks alike as a list
-same_maps : {X Y Z : Type 0} (f : X → Z) (g : Y → Z) (xs : List X) (ys : List Y) → length ys ≡ length xs → Pairs (λ x y. g y ≡ f x) xs ys → map g ys ≡ map f xs
+same_maps : {X Y Z : Type 0} (f : X → Z) (g : Y → Z) (xs : List X) (ys : List Y) → length ys ≡ length xs
+    → Pairs (λ x y. g y ≡ f x) xs ys → map g ys ≡ map f xs
 same_maps f g [] [] count each = refl
 same_maps f g [] (y ∷ ys) count each = absurd (omega (arith, count))
 same_maps f g (x ∷ xs) [] count each = absurd (omega (arith, count))
 same_maps f g (x ∷ xs) (y ∷ ys) count each =
-    ap (λ z. z ∷ map g ys) (each 0 x y refl refl) ∙ ap (λ zs. f x ∷ zs) (same_maps f g xs ys (omega (arith, count)) (λ i a b at_a at_b. each (suc i) a b at_a at_b))
+    ap (λ z. z ∷ map g ys) (each 0 x y refl refl)
+    ∙ ap (λ zs. f x ∷ zs) (same_maps f g xs ys (omega (arith, count))
+    (λ i a b at_a at_b. each (suc i) a b at_a at_b))
 
 -- the partner of an element
-partner : {X Y : Type 0} (xs : List X) (ys : List Y) (i : ℕ) (y : Y) → length ys ≡ length xs → slice_get ys i ≡ Some y → (x : X) × (slice_get xs i ≡ Some x)
+partner : {X Y : Type 0} (xs : List X) (ys : List Y) (i : ℕ) (y : Y) → length ys ≡ length xs → slice_get ys i ≡ Some y
+    → (x : X) × (slice_get xs i ≡ Some x)
 partner xs [] i y count at = absurd cc
 partner [] (b ∷ ys) i y count at = absurd (omega (arith, count))
 partner (a ∷ xs) (b ∷ ys) zero y count at = (a, refl)
 partner (a ∷ xs) (b ∷ ys) (suc i) y count at = partner xs ys i y (omega (arith, count)) at
 
-mapped_at : {X Z : Type 0} (f : X → Z) (xs : List X) (i : ℕ) (x : X) (d : Z) → slice_get xs i ≡ Some x → f x ≡ get_or (map f xs) i d
+mapped_at : {X Z : Type 0} (f : X → Z) (xs : List X) (i : ℕ) (x : X) (d : Z) → slice_get xs i ≡ Some x
+    → f x ≡ get_or (map f xs) i d
 mapped_at f [] i x d at = absurd cc
 mapped_at f (a ∷ xs) zero x d at = ap f (sym (same_Some a x at))
 mapped_at f (a ∷ xs) (suc i) x d at = mapped_at f xs i x d at
 
-writers_stand : (peers : List PeerConfig) (ws : List WriterConfig) (kept : List WriterKept) → OpenWriters peers ws kept → WritersStand kept (map (opening_writer peers) ws) (λ n r. None)
+writers_stand : (peers : List PeerConfig) (ws : List WriterConfig) (kept : List WriterKept) → OpenWriters peers ws kept
+    → WritersStand kept (map (opening_writer peers) ws) (λ n r. None)
 writers_stand peers ws kept opened = record {
   count = length-map ws (opening_writer peers) ∙ sym opened.count;
   each = λ i k at.
       let w = partner ws kept i k opened.count at in
-      subst (λ (v : Writer). WriterStands k v (λ r. None)) (mapped_at (opening_writer peers) ws i w.0 no_writer w.1) (opened.each i w.0 k w.1 at).stands;
+      subst (λ (v : Writer). WriterStands k v (λ r. None)) (mapped_at (opening_writer peers) ws i w.0 no_writer w.1)
+      (opened.each i w.0 k w.1 at).stands;
 }
 
 readers_stand : (peers : List PeerConfig) (rs : List ReaderConfig) (kept : List ReaderKept) → OpenReaders peers rs kept
-    → ReadersStand kept (map (λ (r : ReaderConfig). matched_writers r.topic 1 peers) rs) (map (λ (r : ReaderConfig). record { qos = reader_qos peers r; happened = []; seen = nothing_seen }) rs) knows_nothing
+    → ReadersStand kept (map (λ (r : ReaderConfig). matched_writers r.topic 1 peers) rs)
+    (map (λ (r : ReaderConfig). record { qos = reader_qos peers r; happened = []; seen = nothing_seen }) rs)
+    knows_nothing
 readers_stand peers rs kept opens =
     let proxies : ReaderConfig → List WriterProxy = λ r. matched_writers r.topic 1 peers in
     let opened : ReaderConfig → Reader = λ r. record { qos = reader_qos peers r; happened = []; seen = nothing_seen } in
@@ -104,8 +120,10 @@ readers_stand peers rs kept opens =
       count = length-map rs opened ∙ sym opens.count;
       each = λ i k at.
           let r = partner rs kept i k opens.count at in
-          subst (λ (ps : List WriterProxy). ReaderStands k ps (get_or (map opened rs) i no_reader) (λ w. fresh)) (mapped_at proxies rs i r.0 [] r.1)
-          (subst (λ (v : Reader). ReaderStands k (proxies r.0) v (λ w. fresh)) (mapped_at opened rs i r.0 no_reader r.1) (opens.each i r.0 k r.1 at).stands);
+          subst (λ (ps : List WriterProxy). ReaderStands k ps (get_or (map opened rs) i no_reader) (λ w. fresh))
+          (mapped_at proxies rs i r.0 [] r.1)
+          (subst (λ (v : Reader). ReaderStands k (proxies r.0) v (λ w. fresh)) (mapped_at opened rs i r.0 no_reader r.1)
+          (opens.each i r.0 k r.1 at).stands);
     }
 
 -- ---- the peer of the opening
@@ -113,43 +131,68 @@ readers_stand peers rs kept opens =
 abbrev begun : List PeerConfig → PeerConfig → ℕ → Peer
 begun peers p n = record { number = n; part = opening_part peers p; known = knows_nothing; delivered = [] }
 
-opening_at : (peers : List PeerConfig) (n : ℕ) (ps : List PeerConfig) (i : ℕ) (p : PeerConfig) → slice_get ps i ≡ Some p → begun peers p (n + i) ≡ get_or (opening_peers peers n ps) i no_peer
+opening_at : (peers : List PeerConfig) (n : ℕ) (ps : List PeerConfig) (i : ℕ) (p : PeerConfig) → slice_get ps i ≡ Some p
+    → begun peers p (n + i) ≡ get_or (opening_peers peers n ps) i no_peer
 opening_at peers n [] i p at = absurd cc
-opening_at peers n (q ∷ ps) zero p at = let number : n + 0 ≡ n = omega arith in ap (λ (k : ℕ). begun peers p k) number ∙ ap (λ (x : PeerConfig). begun peers x n) (sym (same_Some q p at))
-opening_at peers n (q ∷ ps) (suc i) p at = let number : n + suc i ≡ n + 1 + i = omega arith in ap (λ (k : ℕ). begun peers p k) number ∙ opening_at peers (n + 1) ps i p at
+opening_at peers n (q ∷ ps) zero p at =
+    let number : n + 0 ≡ n = omega arith in ap (λ (k : ℕ). begun peers p k) number
+    ∙ ap (λ (x : PeerConfig). begun peers x n) (sym (same_Some q p at))
+opening_at peers n (q ∷ ps) (suc i) p at =
+    let number : n + suc i ≡ n + 1 + i = omega arith in ap (λ (k : ℕ). begun peers p k) number
+    ∙ opening_at peers (n + 1) ps i p at
 
-opening_is : (peers : List PeerConfig) (index : ℕ) (own : PeerConfig) → slice_get peers index ≡ Some own → begun peers own (1 + index) ≡ opening_peer (record { peers = peers }) (index + 1)
+opening_is : (peers : List PeerConfig) (index : ℕ) (own : PeerConfig) → slice_get peers index ≡ Some own
+    → begun peers own (1 + index) ≡ opening_peer (record { peers = peers }) (index + 1)
 opening_is peers index own at =
     let number : suc index ≡ index + 1 = omega arith in
     opening_at peers 1 peers index own at ∙ ap (λ (k : ℕ). opening_peer (record { peers = peers }) k) number
 
-is_numbered : (peers : List PeerConfig) (index : ℕ) (own : PeerConfig) → slice_get peers index ≡ Some own → slice_get peers (1 + index - 1) ≡ Some own
-is_numbered peers index own at = let same : index ≡ 1 + index - 1 = omega arith in subst (λ (k : ℕ). slice_get peers k ≡ Some own) same at
+is_numbered : (peers : List PeerConfig) (index : ℕ) (own : PeerConfig) → slice_get peers index ≡ Some own
+    → slice_get peers (1 + index - 1) ≡ Some own
+is_numbered peers index own at =
+    let same : index ≡ 1 + index - 1 = omega arith in subst (λ (k : ℕ). slice_get peers k ≡ Some own) same at
 
-stands_begun : (peers : List PeerConfig) (index moment : ℕ) (own : PeerConfig) (writers : List WriterKept) (readers : List ReaderKept) (watch : Watched) → check_refusal peers ≡ None → slice_get peers index ≡ Some own → moment ≡ 0
+stands_begun : (peers : List PeerConfig) (index moment : ℕ) (own : PeerConfig) (writers : List WriterKept)
+    (readers : List ReaderKept) (watch : Watched) → check_refusal peers ≡ None → slice_get peers index ≡ Some own
+    → moment ≡ 0
     → watch ≡ opened (length writers) (length readers)
     → OpenWriters peers own.writers writers → OpenReaders peers own.readers readers
-    → StandsFor (record { prefix = own.prefix; moment = moment; writers = writers; readers = readers; watch = watch }) (record { peers = peers }) (begun peers own (1 + index))
+    → StandsFor (record { prefix = own.prefix; moment = moment; writers = writers; readers = readers; watch = watch })
+    (record { peers = peers }) (begun peers own (1 + index))
 stands_begun peers index moment own writers readers watch checked at begins watches ws rs = record {
   is_peer = record {
     checked = checked;
     own = own;
     at = (omega arith, is_numbered peers index own at);
     prefix = refl;
-    writers = same_maps (configured_writer peers) writer_identity own.writers writers ws.count (λ i w k at_w at_k. (ws.each i w k at_w at_k).identity);
-    readers = same_maps (configured_reader peers) reader_identity own.readers readers rs.count (λ i r k at_r at_k. (rs.each i r k at_r at_k).identity);
+    writers =
+        same_maps (configured_writer peers) writer_identity own.writers writers ws.count
+        (λ i w k at_w at_k. (ws.each i w k at_w at_k).identity);
+    readers =
+        same_maps (configured_reader peers) reader_identity own.readers readers rs.count
+        (λ i r k at_r at_k. (rs.each i r k at_r at_k).identity);
   };
   moment = sym begins;
   early = subst (λ (m : ℕ). m < 2 ^ 63) (sym begins) (omega arith);
   writers = writers_stand peers own.writers writers ws;
   readers = readers_stand peers own.readers readers rs;
   tellable = tellable_opening peers own;
-  watch = sym (watches ∙ (ap (λ (n : ℕ). opened n (length readers)) ws.count ∙ ap (λ (n : ℕ). opened (length own.writers) n) rs.count));
+  watch =
+      sym (watches ∙ (ap (λ (n : ℕ). opened n (length readers)) ws.count
+      ∙ ap (λ (n : ℕ). opened (length own.writers) n) rs.count));
 }
 
-pub opens_core : (peers : List PeerConfig) (index moment : ℕ) (own : PeerConfig) (writers : List WriterKept) (readers : List ReaderKept) (watch : Watched) → index < length peers → check_refusal peers ≡ None → own ≡ get_or peers index own → moment ≡ 0
-    → watch ≡ opened (length writers) (length readers) → OpenWriters peers own.writers writers → OpenReaders peers own.readers readers → OpensCore peers index (record { prefix = own.prefix; moment = moment; writers = writers; readers = readers; watch = watch })
+pub opens_core : (peers : List PeerConfig) (index moment : ℕ) (own : PeerConfig) (writers : List WriterKept)
+    (readers : List ReaderKept) (watch : Watched) → index < length peers → check_refusal peers ≡ None
+    → own ≡ get_or peers index own → moment ≡ 0
+    → watch ≡ opened (length writers) (length readers) → OpenWriters peers own.writers writers
+    → OpenReaders peers own.readers readers
+    → OpensCore peers index
+    (record { prefix = own.prefix; moment = moment; writers = writers; readers = readers; watch = watch })
 opens_core peers index moment own writers readers watch within checked is begins watches ws rs =
-    let at : slice_get peers index ≡ Some own = slice_get-get_or peers index own within ∙ ap (λ (p : PeerConfig). Some p) (sym is) in
-    subst (λ (p : Peer). StandsFor (record { prefix = own.prefix; moment = moment; writers = writers; readers = readers; watch = watch }) (record { peers = peers }) p) (opening_is peers index own at)
+    let at : slice_get peers index ≡ Some own =
+    slice_get-get_or peers index own within ∙ ap (λ (p : PeerConfig). Some p) (sym is) in
+    subst (λ (p : Peer). StandsFor
+    (record { prefix = own.prefix; moment = moment; writers = writers; readers = readers; watch = watch })
+    (record { peers = peers }) p) (opening_is peers index own at)
     (stands_begun peers index moment own writers readers watch checked at begins watches ws rs)

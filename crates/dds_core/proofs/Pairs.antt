@@ -35,33 +35,50 @@ reader_of p = p.reader
 
 -- a reader that a row is of
 same_itself : (e : Endpoint) → same_endpoint e e ≡ true
-same_itself e = ap (λ (b : Bool). cond b (e.number == e.number) false) (eq-eqb e.peer e.peer refl) ∙ eq-eqb e.number e.number refl
+same_itself e =
+    ap (λ (b : Bool). cond b (e.number == e.number) false) (eq-eqb e.peer e.peer refl) ∙ eq-eqb e.number e.number refl
 
-first_row : (b : Bool) (r : ReaderProxy) (rs : List ReaderProxy) (reader : Endpoint) → (b ≡ false → IsSome (acknowledged_of rs reader)) → IsSome (option_map (λ (p : ReaderProxy). p.acknowledged) (cond b (Some r) (row_of reader_of rs reader)))
+first_row : (b : Bool) (r : ReaderProxy) (rs : List ReaderProxy) (reader : Endpoint)
+    → (b ≡ false → IsSome (acknowledged_of rs reader))
+    → IsSome (option_map (λ (p : ReaderProxy). p.acknowledged) (cond b (Some r) (row_of reader_of rs reader)))
 first_row true r rs reader rest = refl
 first_row false r rs reader rest = rest refl
 
-some_row : (rows : List ReaderProxy) (reader : Endpoint) (j : ℕ) → slice_get (map reader_of rows) j ≡ Some reader → IsSome (acknowledged_of rows reader)
+some_row : (rows : List ReaderProxy) (reader : Endpoint) (j : ℕ) → slice_get (map reader_of rows) j ≡ Some reader
+    → IsSome (acknowledged_of rows reader)
 some_row [] reader j at = absurd cc
 some_row (r ∷ rs) reader zero at =
-    let same : same_endpoint r.reader reader ≡ true = subst (λ (e : Endpoint). same_endpoint r.reader e ≡ true) (same_Some r.reader reader at) (same_itself r.reader) in
+    let same : same_endpoint r.reader reader ≡ true =
+    subst (λ (e : Endpoint). same_endpoint r.reader e ≡ true) (same_Some r.reader reader at) (same_itself r.reader)
+    in
     first_row (same_endpoint r.reader reader) r rs reader (λ other. absurd cc)
-some_row (r ∷ rs) reader (suc j) at = first_row (same_endpoint r.reader reader) r rs reader (λ other. some_row rs reader j at)
+some_row (r ∷ rs) reader (suc j) at =
+    first_row (same_endpoint r.reader reader) r rs reader (λ other. some_row rs reader j at)
 
 -- what the first row of a reader says of it
-behind_later : (b : Bool) (r : ReaderProxy) (rs : List ReaderProxy) (reader : Endpoint) (last a : ℕ) → same_endpoint r.reader reader ≡ b → (r.reader ≡ reader → ⊥) → option_map_or (λ x. nat_le x last) (acknowledged_of rs reader) false ≡ nat_le a last
-    → option_map_or (λ x. nat_le x last) (option_map (λ (p : ReaderProxy). p.acknowledged) (cond b (Some r) (row_of reader_of rs reader))) false ≡ nat_le a last
+behind_later : (b : Bool) (r : ReaderProxy) (rs : List ReaderProxy) (reader : Endpoint) (last a : ℕ)
+    → same_endpoint r.reader reader ≡ b → (r.reader ≡ reader → ⊥)
+    → option_map_or (λ x. nat_le x last) (acknowledged_of rs reader) false ≡ nat_le a last
+    → option_map_or (λ x. nat_le x last)
+    (option_map (λ (p : ReaderProxy). p.acknowledged) (cond b (Some r) (row_of reader_of rs reader))) false
+    ≡ nat_le a last
 behind_later true r rs reader last a is other rest = absurd (other (same_is r.reader reader is))
 behind_later false r rs reader last a is other rest = rest
 
-behind_at : (rows : List ReaderProxy) (reader : Endpoint) (k last : ℕ) → slice_get (map reader_of rows) k ≡ Some reader → ((j : ℕ) → j < k → slice_get (map reader_of rows) j ≡ Some reader → ⊥)
-    → option_map_or (λ x. nat_le x last) (acknowledged_of rows reader) false ≡ nat_le (slice_index (map (λ (p : ReaderProxy). p.acknowledged) rows) k) last
+behind_at : (rows : List ReaderProxy) (reader : Endpoint) (k last : ℕ) → slice_get (map reader_of rows) k ≡ Some reader
+    → ((j : ℕ) → j < k → slice_get (map reader_of rows) j ≡ Some reader → ⊥)
+    → option_map_or (λ x. nat_le x last) (acknowledged_of rows reader) false
+    ≡ nat_le (slice_index (map (λ (p : ReaderProxy). p.acknowledged) rows) k) last
 behind_at [] reader k last at first = absurd cc
 behind_at (r ∷ rs) reader zero last at first =
-    let same : same_endpoint r.reader reader ≡ true = subst (λ (e : Endpoint). same_endpoint r.reader e ≡ true) (same_Some r.reader reader at) (same_itself r.reader) in
-    ap (λ (b : Bool). option_map_or (λ x. nat_le x last) (option_map (λ (p : ReaderProxy). p.acknowledged) (cond b (Some r) (row_of reader_of rs reader))) false) same
+    let same : same_endpoint r.reader reader ≡ true =
+    subst (λ (e : Endpoint). same_endpoint r.reader e ≡ true) (same_Some r.reader reader at) (same_itself r.reader)
+    in
+    ap (λ (b : Bool). option_map_or (λ x. nat_le x last)
+    (option_map (λ (p : ReaderProxy). p.acknowledged) (cond b (Some r) (row_of reader_of rs reader))) false) same
 behind_at (r ∷ rs) reader (suc k) last at first =
-    behind_later (same_endpoint r.reader reader) r rs reader last (slice_index (map (λ (p : ReaderProxy). p.acknowledged) rs) k) refl
+    behind_later (same_endpoint r.reader reader) r rs reader last
+    (slice_index (map (λ (p : ReaderProxy). p.acknowledged) rs) k) refl
     (λ same. first zero (omega arith) (ap (λ (e : Endpoint). Some e) same))
     (behind_at rs reader k last at (λ j low there. first (suc j) (omega (arith, low)) there))
 
@@ -75,24 +92,32 @@ past_end (x ∷ xs) (suc n) none past = past_end xs n none (omega (arith, past))
 past_last : (n count : ℕ) → (nat_lt 0 (suc n) && nat_le (suc n) count) ≡ false → count ≤ n
 past_last n count none = grind (arith, nat_tests, none)
 
-pub no_writer_pair : (kept : PeerKept) (number : ℕ) (reader : Endpoint) → (nat_lt 0 number && nat_le number (length kept.writers)) ≡ false → (config : Config) (peer : Peer) → StandsFor kept config peer → IsPair config peer number reader None
+pub no_writer_pair : (kept : PeerKept) (number : ℕ) (reader : Endpoint)
+    → (nat_lt 0 number && nat_le number (length kept.writers)) ≡ false → (config : Config) (peer : Peer)
+    → StandsFor kept config peer → IsPair config peer number reader None
 no_writer_pair kept zero reader none config peer s = refl
 no_writer_pair kept (suc n) reader none config peer s =
     let count = s.writers.count in
     let past = past_last n (length kept.writers) none in
-    ap (λ (w : Writer). acknowledged_of w.readers reader) (past_end peer.part.rtps.writers n no_writer (omega (arith, count, past)))
+    ap (λ (w : Writer). acknowledged_of w.readers reader)
+    (past_end peer.part.rtps.writers n no_writer (omega (arith, count, past)))
 
-pub no_reader_place : (kept : PeerKept) (number : ℕ) (writer : Endpoint) → (nat_lt 0 number && nat_le number (length kept.readers)) ≡ false
-    → (config : Config) (peer : Peer) → StandsFor kept config peer → None ≡ place_of (own_proxies peer.part number) writer
+pub no_reader_place : (kept : PeerKept) (number : ℕ) (writer : Endpoint)
+    → (nat_lt 0 number && nat_le number (length kept.readers)) ≡ false
+    → (config : Config) (peer : Peer) → StandsFor kept config peer
+    → None ≡ place_of (own_proxies peer.part number) writer
 no_reader_place kept zero writer none config peer s = refl
 no_reader_place kept (suc n) writer none config peer s =
     let rows = s.readers.rows in
     let past = past_last n (length kept.readers) none in
-    sym (ap (λ (ps : List WriterProxy). place_of ps writer) (past_end peer.part.rtps.readers n [] (omega (arith, rows, past))))
+    sym (ap (λ (ps : List WriterProxy). place_of ps writer)
+    (past_end peer.part.rtps.readers n [] (omega (arith, rows, past))))
 
 -- a writer has this number, and the reader is one of its matched readers, or is not
 
-pub not_among : (kept : PeerKept) (i number : ℕ) (k : WriterKept) (reader : Endpoint) → number ≡ i + 1 → slice_get kept.writers i ≡ Some k → ((j : ℕ) (n : ReaderName) → slice_get k.readers j ≡ Some n → n.reader ≡ reader → ⊥)
+pub not_among : (kept : PeerKept) (i number : ℕ) (k : WriterKept) (reader : Endpoint) → number ≡ i + 1
+    → slice_get kept.writers i ≡ Some k
+    → ((j : ℕ) (n : ReaderName) → slice_get k.readers j ≡ Some n → n.reader ≡ reader → ⊥)
     → (config : Config) (peer : Peer) → StandsFor kept config peer → IsPair config peer number reader None
 not_among kept i number k reader is at none config peer s =
     let w : Writer = get_or peer.part.rtps.writers i no_writer in
@@ -101,27 +126,37 @@ not_among kept i number k reader is at none config peer s =
     ap (λ (o : Option ReaderProxy). option_map (λ (p : ReaderProxy). p.acknowledged) o)
     (no_row reader_of w.readers reader
     (λ j there.
-    let f = get-map (λ (r : ReaderName). r.reader) k.readers j reader (subst (λ (es : List Endpoint). slice_get es j ≡ Some reader) rows there) in
+    let f =
+    get-map (λ (r : ReaderName). r.reader) k.readers j reader
+    (subst (λ (es : List Endpoint). slice_get es j ≡ Some reader) rows there) in
     none j f.0 f.1 f.2)) in
     let next : suc i ≡ number = omega (arith, is) in
     subst (λ (m : ℕ). IsPair config peer m reader None) next nobody
 
-named_reader : (config : Config) (topic j : ℕ) (n : ReaderName) → slice_get (reader_names topic config.peers) j ≡ Some n → n.guid.entity ≡ reader_entity config n.reader.peer n.reader.number
+named_reader : (config : Config) (topic j : ℕ) (n : ReaderName) → slice_get (reader_names topic config.peers) j ≡ Some n
+    → n.guid.entity ≡ reader_entity config n.reader.peer n.reader.number
 named_reader config topic j n at =
-    let t = is_told config.peers (λ (p : PeerConfig). p.readers) (λ (r : ReaderConfig). r.topic) reader_name topic j n at in
+    let t =
+    is_told config.peers (λ (p : PeerConfig). p.readers) (λ (r : ReaderConfig). r.topic) reader_name topic j n at in
     let configured : reader_entity config t.number t.end_number ≡ t.end.entity =
-    ap (λ (o : Option PeerConfig). option_map_or (λ (p : PeerConfig). option_map_or (λ (r : ReaderConfig). r.entity) (slice_get p.readers (t.end_number - 1)) every_reader) o every_reader) t.at_peer.1
+    ap (λ (o : Option PeerConfig). option_map_or
+    (λ (p : PeerConfig). option_map_or (λ (r : ReaderConfig). r.entity)
+    (slice_get p.readers (t.end_number - 1)) every_reader) o every_reader) t.at_peer.1
     ∙ ap (λ (o : Option ReaderConfig). option_map_or (λ (r : ReaderConfig). r.entity) o every_reader) t.at_end.1 in
-    subst (λ (x : ReaderName). x.guid.entity ≡ reader_entity config x.reader.peer x.reader.number) t.told (sym configured)
+    subst (λ (x : ReaderName). x.guid.entity ≡ reader_entity config x.reader.peer x.reader.number) t.told
+    (sym configured)
 
 -- a pair, by what the peer keeps of the writer
 abbrev pair_of : WriterKept → EntityId → Bool → ℕ → Pair
 pair_of k entity behind last = record { writer = k.entity; reader = entity; is_behind = behind; last = last }
 
-pub is_among : (kept : PeerKept) (i number : ℕ) (k : WriterKept) (reader : Endpoint) (row : ℕ) (behind : Bool) (last : ℕ)
+pub is_among : (kept : PeerKept) (i number : ℕ) (k : WriterKept) (reader : Endpoint) (row : ℕ) (behind : Bool)
+    (last : ℕ)
     → number ≡ i + 1 → slice_get kept.writers i ≡ Some k
     → (f : IsFirstReader k.readers reader row)
-    → ((w : Writer) (answered : Endpoint → Option ℤ) → WriterStands k w answered → behind ≡ nat_le (slice_index (map (λ (p : ReaderProxy). p.acknowledged) w.readers) row) (length (writer_changes w)))
+    → ((w : Writer) (answered : Endpoint → Option ℤ) → WriterStands k w answered
+    → behind ≡ nat_le (slice_index (map (λ (p : ReaderProxy). p.acknowledged) w.readers) row)
+    (length (writer_changes w)))
     → ((w : Writer) (answered : Endpoint → Option ℤ) → WriterStands k w answered → last ≡ length (writer_changes w))
     → (config : Config) (peer : Peer) → StandsFor kept config peer
     → IsPair config peer number reader (Some (pair_of k f.name.guid.entity behind last))
@@ -129,28 +164,42 @@ is_among kept i number k reader row behind last is at f is_behind is_last config
     let w : Writer = get_or peer.part.rtps.writers i no_writer in
     let stands = s.writers.each i k at in
     let rows = stands.readers in
-    let reader_at : (j : ℕ) (n : ReaderName) → slice_get k.readers j ≡ Some n → slice_get (map reader_of w.readers) j ≡ Some n.reader = λ j n there.
-    subst (λ (es : List Endpoint). slice_get es j ≡ Some n.reader) (sym rows) (map-get (λ (r : ReaderName). r.reader) k.readers j n there) in
-    let there : slice_get (map reader_of w.readers) row ≡ Some reader = reader_at row f.name f.at ∙ ap (λ (e : Endpoint). Some e) f.is in
+    let reader_at : (j : ℕ) (n : ReaderName) → slice_get k.readers j ≡ Some n
+    → slice_get (map reader_of w.readers) j ≡ Some n.reader = λ j n there.
+    subst (λ (es : List Endpoint). slice_get es j ≡ Some n.reader) (sym rows)
+    (map-get (λ (r : ReaderName). r.reader) k.readers j n there) in
+    let there : slice_get (map reader_of w.readers) row ≡ Some reader =
+    reader_at row f.name f.at ∙ ap (λ (e : Endpoint). Some e) f.is in
     let none : (j : ℕ) → j < row → slice_get (map reader_of w.readers) j ≡ Some reader → ⊥ = λ j low found.
-    let g = get-map (λ (r : ReaderName). r.reader) k.readers j reader (subst (λ (es : List Endpoint). slice_get es j ≡ Some reader) rows found) in
+    let g =
+    get-map (λ (r : ReaderName). r.reader) k.readers j reader
+    (subst (λ (es : List Endpoint). slice_get es j ≡ Some reader) rows found) in
     f.first j g.0 low g.1 g.2 in
     let next : suc i ≡ number = omega (arith, is) in
     let first : 1 + i ≡ suc i = omega arith in
     let names = readers_named config peer kept s i k at in
-    let own : k.entity ≡ writer_entity config peer.number (suc i) = subst (λ (m : ℕ). k.entity ≡ writer_entity config peer.number m) first (sym (writer_named config peer kept s i k at)) in
+    let own : k.entity ≡ writer_entity config peer.number (suc i) =
+    subst (λ (m : ℕ). k.entity ≡ writer_entity config peer.number m) first
+    (sym (writer_named config peer kept s i k at)) in
     let far : f.name.guid.entity ≡ reader_entity config reader.peer reader.number =
-    subst (λ (e : Endpoint). f.name.guid.entity ≡ reader_entity config e.peer e.number) f.is (named_reader config names.0 row f.name (subst (λ (ns : List ReaderName). slice_get ns row ≡ Some f.name) names.1 f.at)) in
-    let still : behind ≡ is_reader_behind w reader = is_behind w (peer.known.answered (suc i)) stands ∙ sym (behind_at w.readers reader row (length (writer_changes w)) there none) in
+    subst (λ (e : Endpoint). f.name.guid.entity ≡ reader_entity config e.peer e.number) f.is
+    (named_reader config names.0 row f.name
+    (subst (λ (ns : List ReaderName). slice_get ns row ≡ Some f.name) names.1 f.at)) in
+    let still : behind ≡ is_reader_behind w reader =
+    is_behind w (peer.known.answered (suc i)) stands
+    ∙ sym (behind_at w.readers reader row (length (writer_changes w)) there none) in
     let made : last ≡ length (writer_changes w) = is_last w (peer.known.answered (suc i)) stands in
-    let pair : IsPair config peer (suc i) reader (Some (pair_of k f.name.guid.entity behind last)) = (some_row w.readers reader row there, own, far, still, made) in
+    let pair : IsPair config peer (suc i) reader (Some (pair_of k f.name.guid.entity behind last)) =
+    (some_row w.readers reader row there, own, far, still, made) in
     subst (λ (m : ℕ). IsPair config peer m reader (Some (pair_of k f.name.guid.entity behind last))) next pair
 
 -- a reader has this number, and the writer is one of its matched writers, or is not
 
-pub no_place : (kept : PeerKept) (i number : ℕ) (k : ReaderKept) (writer : Endpoint) → number ≡ i + 1 → slice_get kept.readers i ≡ Some k
+pub no_place : (kept : PeerKept) (i number : ℕ) (k : ReaderKept) (writer : Endpoint) → number ≡ i + 1
+    → slice_get kept.readers i ≡ Some k
     → ((j : ℕ) (n : WriterName) → slice_get k.writers j ≡ Some n → n.writer ≡ writer → ⊥)
-    → (config : Config) (peer : Peer) → StandsFor kept config peer → None ≡ place_of (own_proxies peer.part number) writer
+    → (config : Config) (peer : Peer) → StandsFor kept config peer
+    → None ≡ place_of (own_proxies peer.part number) writer
 no_place kept i number k writer is at none config peer s =
     let proxies : List WriterProxy = get_or peer.part.rtps.readers i [] in
     let names = (s.readers.each i k at).writers_are in
@@ -166,14 +215,18 @@ no_place kept i number k writer is at none config peer s =
 
 pub place_found : (kept : PeerKept) (i number : ℕ) (k : ReaderKept) (writer : Endpoint) (row place : ℕ) → number ≡ i + 1
     → slice_get kept.readers i ≡ Some k → IsFirstRow k.writers writer row → ((t : Tracked) → IsPlaceAt k row t place)
-    → (config : Config) (peer : Peer) → StandsFor kept config peer → Some place ≡ place_of (own_proxies peer.part number) writer
+    → (config : Config) (peer : Peer) → StandsFor kept config peer
+    → Some place ≡ place_of (own_proxies peer.part number) writer
 place_found kept i number k writer row place is at first is_place config peer s =
     let proxies : List WriterProxy = get_or peer.part.rtps.readers i [] in
     let stands = s.readers.each i k at in
     let here : IsFirstOf (proxied proxies) writer row =
-    subst (λ (es : List Endpoint). IsFirstOf es writer row) (sym stands.writers_are) (is_first_of k.writers writer row first) in
+    subst (λ (es : List Endpoint). IsFirstOf es writer row) (sym stands.writers_are)
+    (is_first_of k.writers writer row first) in
     let there = place_there proxies writer row here in
     let known : place ≡ there.0 =
-    is_place (peer.known.tracked writer (suc i)) (stands.knows writer row first) ∙ stands.places writer there.0 there.1 in
+    is_place (peer.known.tracked writer (suc i)) (stands.knows writer row first) ∙ stands.places writer there.0 there.1
+    in
     let next : suc i ≡ number = omega (arith, is) in
-    subst (λ (m : ℕ). Some place ≡ place_of (own_proxies peer.part m) writer) next (ap (λ (n : ℕ). Some n) known ∙ sym there.1)
+    subst (λ (m : ℕ). Some place ≡ place_of (own_proxies peer.part m) writer) next
+    (ap (λ (n : ℕ). Some n) known ∙ sym there.1)

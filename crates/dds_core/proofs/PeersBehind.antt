@@ -32,7 +32,8 @@ unfolding Ascend
 not_below m n [] lt h = refl
 not_below m n (x ∷ xs) lt h =
     let low = h.0 in
-    ap (λ (b : Bool). b || has m xs) (other_number x m (λ same. omega (arith, same, low, lt))) ∙ not_below m (x + 1) xs (omega (arith, low, lt)) h.1
+    ap (λ (b : Bool). b || has m xs) (other_number x m (λ same. omega (arith, same, low, lt)))
+    ∙ not_below m (x + 1) xs (omega (arith, low, lt)) h.1
 
 order : (m n : ℕ) → (m < n) ⊎ ((m ≡ n) ⊎ (n < m))
 order m n = by (nat_lt m n) (nat_lt n m) refl refl
@@ -40,22 +41,28 @@ order m n = by (nat_lt m n) (nat_lt n m) refl refl
     by : (b c : Bool) → nat_lt m n ≡ b → nat_lt n m ≡ c → (m < n) ⊎ ((m ≡ n) ⊎ (n < m))
     by true c is other = inl (grind (arith, nat_tests))
     by false true is other = inr (inr (grind (arith, nat_tests)))
-    by false false is other = let le : n ≤ m = grind (arith, nat_tests) in let ge : m ≤ n = grind (arith, nat_tests) in inr (inl (omega (arith, le, ge)))
+    by false false is other =
+        let le : n ≤ m = grind (arith, nat_tests) in let ge : m
+        ≤ n = grind (arith, nat_tests) in inr (inl (omega (arith, le, ge)))
 
 has_first : (x : ℕ) (xs : List ℕ) → has x (x ∷ xs) ≡ true
 has_first x xs = ap (λ (b : Bool). b || has x xs) (eq-eqb x x refl)
 
 first_less : (x y : ℕ) (xs ys : List ℕ) → Ascend y (y ∷ ys) → has x (x ∷ xs) ≡ has x (y ∷ ys) → x < y → ⊥
-first_less x y xs ys h same lt = absurd (differ (has x (y ∷ ys)) (not_below x y (y ∷ ys) lt h) (sym same ∙ has_first x xs))
+first_less x y xs ys h same lt =
+    absurd (differ (has x (y ∷ ys)) (not_below x y (y ∷ ys) lt h) (sym same ∙ has_first x xs))
   where
     differ : (b : Bool) → b ≡ false → b ≡ true → ⊥
     differ true f g = absurd cc
     differ false f g = absurd cc
 
-rest_same : (x : ℕ) (xs ys : List ℕ) → Ascend (x + 1) xs → Ascend (x + 1) ys → ((m : ℕ) → has m (x ∷ xs) ≡ has m (x ∷ ys)) → (m : ℕ) → has m xs ≡ has m ys
+rest_same : (x : ℕ) (xs ys : List ℕ) → Ascend (x + 1) xs → Ascend (x + 1) ys
+    → ((m : ℕ) → has m (x ∷ xs) ≡ has m (x ∷ ys)) → (m : ℕ) → has m xs ≡ has m ys
 rest_same x xs ys f g same m =
-    ⊎_elim (λ less. not_below m (x + 1) xs (omega (arith, less)) f ∙ sym (not_below m (x + 1) ys (omega (arith, less)) g))
-    (λ more. ⊎_elim (λ is. not_below m (x + 1) xs (omega (arith, is)) f ∙ sym (not_below m (x + 1) ys (omega (arith, is)) g))
+    ⊎_elim (λ less. not_below m (x + 1) xs (omega (arith, less)) f
+    ∙ sym (not_below m (x + 1) ys (omega (arith, less)) g))
+    (λ more. ⊎_elim (λ is. not_below m (x + 1) xs (omega (arith, is)) f
+    ∙ sym (not_below m (x + 1) ys (omega (arith, is)) g))
     (λ above.
     let other : (x == m) ≡ false = other_number x m (λ is. omega (arith, is, above)) in
     sym (ap (λ (b : Bool). b || has m xs) other) ∙ (same m ∙ ap (λ (b : Bool). b || has m ys) other)) more)
@@ -91,12 +98,14 @@ order_below m n (e ∷ es) le h = let low = h.0 in (omega (arith, le, low), h.1)
 abbrev ends_of : List ReaderProxy → List Endpoint
 ends_of rows = map (λ (p : ReaderProxy). p.reader) rows
 
-order_filtered : (b : ReaderProxy → Bool) (n : ℕ) (rows : List ReaderProxy) → InOrder n (ends_of rows) → InOrder n (ends_of (filter b rows))
+order_filtered : (b : ReaderProxy → Bool) (n : ℕ) (rows : List ReaderProxy) → InOrder n (ends_of rows)
+    → InOrder n (ends_of (filter b rows))
 unfolding InOrder
 order_filtered b n [] h = tt
 order_filtered b n (p ∷ ps) h = one (b p) (order_filtered b p.reader.peer ps h.1)
   where
-    one : (c : Bool) → InOrder p.reader.peer (ends_of (filter b ps)) → InOrder n (ends_of (cond c (p ∷ filter b ps) (filter b ps)))
+    one : (c : Bool) → InOrder p.reader.peer (ends_of (filter b ps))
+        → InOrder n (ends_of (cond c (p ∷ filter b ps) (filter b ps)))
     one true k = (h.0, k)
     one false k = order_below n p.reader.peer (ends_of (filter b ps)) h.0 k
 
@@ -107,39 +116,51 @@ above n (x ∷ xs) none h = (more (x == n) refl none, h.1)
   where
     more : (b : Bool) → (x == n) ≡ b → (b || has n xs) ≡ false → n + 1 ≤ x
     more true is f = absurd cc
-    more false is f = let low = h.0 in ⊎_elim (λ lt. omega (arith, lt)) (λ o. ⊎_elim (λ same. let bad : false ≡ true = sym is ∙ eq-eqb x n (sym same) in absurd cc) (λ gt. absurd (omega (arith, gt, low))) o) (order n x)
+    more false is f =
+        let low = h.0 in ⊎_elim (λ lt. omega (arith, lt))
+        (λ o. ⊎_elim (λ same. let bad : false ≡ true = sym is ∙ eq-eqb x n (sym same) in absurd cc)
+        (λ gt. absurd (omega (arith, gt, low))) o) (order n x)
 
 peers_ascend : (n : ℕ) (rows : List ReaderProxy) → InOrder n (ends_of rows) → Ascend n (peers_of rows)
 unfolding InOrder Ascend
 peers_ascend n [] h = tt
 peers_ascend n (p ∷ ps) h = one (has p.reader.peer (peers_of ps)) refl (peers_ascend p.reader.peer ps h.1)
   where
-    one : (b : Bool) → has p.reader.peer (peers_of ps) ≡ b → Ascend p.reader.peer (peers_of ps) → Ascend n (if b then peers_of ps else p.reader.peer ∷ peers_of ps)
+    one : (b : Bool) → has p.reader.peer (peers_of ps) ≡ b → Ascend p.reader.peer (peers_of ps)
+        → Ascend n (if b then peers_of ps else p.reader.peer ∷ peers_of ps)
     one true is k = from_below n p.reader.peer (peers_of ps) h.0 k
     one false is k = (h.0, above p.reader.peer (peers_of ps) is k)
 
 -- a number is among the peers where some row is of it
-has_peer : (m : ℕ) (rows : List ReaderProxy) → has m (peers_of rows) ≡ list_any (λ (p : ReaderProxy). p.reader.peer == m) rows
+has_peer : (m : ℕ) (rows : List ReaderProxy) → has m (peers_of rows)
+    ≡ list_any (λ (p : ReaderProxy). p.reader.peer == m) rows
 has_peer m [] = refl
 has_peer m (p ∷ ps) = one (has p.reader.peer (peers_of ps)) (p.reader.peer == m) refl refl (has_peer m ps)
   where
-    one : (b c : Bool) → has p.reader.peer (peers_of ps) ≡ b → (p.reader.peer == m) ≡ c → has m (peers_of ps) ≡ list_any (λ (q : ReaderProxy). q.reader.peer == m) ps
-        → has m (if b then peers_of ps else p.reader.peer ∷ peers_of ps) ≡ (c || list_any (λ (q : ReaderProxy). q.reader.peer == m) ps)
+    one : (b c : Bool) → has p.reader.peer (peers_of ps) ≡ b → (p.reader.peer == m) ≡ c
+        → has m (peers_of ps) ≡ list_any (λ (q : ReaderProxy). q.reader.peer == m) ps
+        → has m (if b then peers_of ps else p.reader.peer ∷ peers_of ps)
+        ≡ (c || list_any (λ (q : ReaderProxy). q.reader.peer == m) ps)
     one true true there is h = sym (ap (λ (k : ℕ). has k (peers_of ps)) (eqb-true p.reader.peer m is)) ∙ there
     one true false there is h = h
     one false c there is h = ap (λ (x : Bool). x || has m (peers_of ps)) is ∙ ap (λ (x : Bool). c || x) h
 
-any_filtered : (f b : ReaderProxy → Bool) (rows : List ReaderProxy) → list_any f (filter b rows) ≡ list_any (λ (p : ReaderProxy). f p && b p) rows
+any_filtered : (f b : ReaderProxy → Bool) (rows : List ReaderProxy)
+    → list_any f (filter b rows) ≡ list_any (λ (p : ReaderProxy). f p && b p) rows
 any_filtered f b [] = refl
 any_filtered f b (p ∷ ps) = one (f p) (b p) refl (any_filtered f b ps)
   where
-    one : (x y : Bool) → f p ≡ x → list_any f (filter b ps) ≡ list_any (λ (q : ReaderProxy). f q && b q) ps → list_any f (cond y (p ∷ filter b ps) (filter b ps)) ≡ ((x && y) || list_any (λ (q : ReaderProxy). f q && b q) ps)
+    one : (x y : Bool) → f p ≡ x → list_any f (filter b ps) ≡ list_any (λ (q : ReaderProxy). f q && b q) ps
+        → list_any f (cond y (p ∷ filter b ps) (filter b ps))
+        ≡ ((x && y) || list_any (λ (q : ReaderProxy). f q && b q) ps)
     one true true is h = ap (λ (c : Bool). c || list_any f (filter b ps)) is
     one true false is h = h
     one false true is h = ap (λ (c : Bool). c || list_any f (filter b ps)) is ∙ h
     one false false is h = h
 
-any_and : (f b : ReaderProxy → Bool) (rows : List ReaderProxy) → (list_any f rows && list_any (λ (p : ReaderProxy). f p && b p) rows) ≡ list_any (λ (p : ReaderProxy). f p && b p) rows
+any_and : (f b : ReaderProxy → Bool) (rows : List ReaderProxy)
+    → (list_any f rows && list_any (λ (p : ReaderProxy). f p && b p) rows)
+    ≡ list_any (λ (p : ReaderProxy). f p && b p) rows
 any_and f b [] = refl
 any_and f b (p ∷ ps) = one (f p) (b p) (list_any f ps) (list_any (λ (q : ReaderProxy). f q && b q) ps) (any_and f b ps)
   where
@@ -149,27 +170,35 @@ any_and f b (p ∷ ps) = one (f p) (b p) (list_any f ps) (list_any (λ (q : Read
 
 -- ---- the destinations
 
-sent_ascend : (topic n : ℕ) (ps : List PeerConfig) → Ascend n (map (λ (d : Destination). d.peer) (destinations topic n ps))
+sent_ascend : (topic n : ℕ) (ps : List PeerConfig)
+    → Ascend n (map (λ (d : Destination). d.peer) (destinations topic n ps))
 unfolding Ascend
 sent_ascend topic n [] = tt
 sent_ascend topic n (p ∷ ps) = one (has_reader topic p.readers) (sent_ascend topic (n + 1) ps)
   where
     one : (b : Bool) → Ascend (n + 1) (map (λ (d : Destination). d.peer) (destinations topic (n + 1) ps))
-        → Ascend n (map (λ (d : Destination). d.peer) (cond b (record { peer = n; prefix = p.prefix } ∷ destinations topic (n + 1) ps) (destinations topic (n + 1) ps)))
+        → Ascend n (map (λ (d : Destination). d.peer)
+        (cond b (record { peer = n; prefix = p.prefix } ∷ destinations topic (n + 1) ps)
+        (destinations topic (n + 1) ps)))
     one true h = (omega arith, h)
     one false h = from_below n (n + 1) _ (omega arith) h
 
-filtered_ascend : (q : ℕ → Bool) (n : ℕ) (ds : List Destination) → Ascend n (map (λ (d : Destination). d.peer) ds) → Ascend n (map (λ (d : Destination). d.peer) (filter (λ (d : Destination). q d.peer) ds))
+filtered_ascend : (q : ℕ → Bool) (n : ℕ) (ds : List Destination) → Ascend n (map (λ (d : Destination). d.peer) ds)
+    → Ascend n (map (λ (d : Destination). d.peer) (filter (λ (d : Destination). q d.peer) ds))
 unfolding Ascend
 filtered_ascend q n [] h = tt
 filtered_ascend q n (d ∷ ds) h = one (q d.peer) (filtered_ascend q (d.peer + 1) ds h.1)
   where
-    one : (b : Bool) → Ascend (d.peer + 1) (map (λ (e : Destination). e.peer) (filter (λ (e : Destination). q e.peer) ds))
-        → Ascend n (map (λ (e : Destination). e.peer) (cond b (d ∷ filter (λ (e : Destination). q e.peer) ds) (filter (λ (e : Destination). q e.peer) ds)))
+    one : (b : Bool) → Ascend (d.peer + 1)
+        (map (λ (e : Destination). e.peer) (filter (λ (e : Destination). q e.peer) ds))
+        → Ascend n (map (λ (e : Destination). e.peer)
+        (cond b (d ∷ filter (λ (e : Destination). q e.peer) ds) (filter (λ (e : Destination). q e.peer) ds)))
     one true k = (h.0, k)
     one false k = let low = h.0 in from_below n (d.peer + 1) _ (omega (arith, low)) k
 
-has_filtered : (q : ℕ → Bool) (m : ℕ) (ds : List Destination) → has m (map (λ (d : Destination). d.peer) (filter (λ (d : Destination). q d.peer) ds)) ≡ (has m (map (λ (d : Destination). d.peer) ds) && q m)
+has_filtered : (q : ℕ → Bool) (m : ℕ) (ds : List Destination)
+    → has m (map (λ (d : Destination). d.peer) (filter (λ (d : Destination). q d.peer) ds))
+    ≡ (has m (map (λ (d : Destination). d.peer) ds) && q m)
 has_filtered q m [] = refl
 has_filtered q m (d ∷ ds) = one (q d.peer) (d.peer == m) refl refl (has_filtered q m ds)
   where
@@ -181,15 +210,23 @@ has_filtered q m (d ∷ ds) = one (q d.peer) (d.peer == m) refl refl (has_filter
     neither true b h = h
     neither false b h = refl
 
-    one : (b c : Bool) → q d.peer ≡ b → (d.peer == m) ≡ c → has m (map (λ (e : Destination). e.peer) (filter (λ (e : Destination). q e.peer) ds)) ≡ (has m (map (λ (e : Destination). e.peer) ds) && q m)
-        → has m (map (λ (e : Destination). e.peer) (cond b (d ∷ filter (λ (e : Destination). q e.peer) ds) (filter (λ (e : Destination). q e.peer) ds))) ≡ ((c || has m (map (λ (e : Destination). e.peer) ds)) && q m)
+    one : (b c : Bool) → q d.peer ≡ b → (d.peer == m) ≡ c
+        → has m (map (λ (e : Destination). e.peer) (filter (λ (e : Destination). q e.peer) ds))
+        ≡ (has m (map (λ (e : Destination). e.peer) ds) && q m)
+        → has m (map (λ (e : Destination). e.peer)
+        (cond b (d ∷ filter (λ (e : Destination). q e.peer) ds) (filter (λ (e : Destination). q e.peer) ds)))
+        ≡ ((c || has m (map (λ (e : Destination). e.peer) ds)) && q m)
     one true true is same h =
-        ap (λ (x : Bool). x || has m (map (λ (e : Destination). e.peer) (filter (λ (e : Destination). q e.peer) ds))) same
+        ap (λ (x : Bool). x || has m (map (λ (e : Destination). e.peer) (filter (λ (e : Destination). q e.peer) ds)))
+        same
         ∙ sym (late (has m (map (λ (e : Destination). e.peer) ds)) (q m) (sym (ap q (eqb-true d.peer m same)) ∙ is))
-    one true false is same h = ap (λ (x : Bool). x || has m (map (λ (e : Destination). e.peer) (filter (λ (e : Destination). q e.peer) ds))) same ∙ h
+    one true false is same h =
+        ap (λ (x : Bool). x || has m (map (λ (e : Destination). e.peer) (filter (λ (e : Destination). q e.peer) ds)))
+        same ∙ h
     one false true is same h =
         let none : q m ≡ false = sym (ap q (eqb-true d.peer m same)) ∙ is in
-        h ∙ (neither (has m (map (λ (e : Destination). e.peer) ds)) (q m) none ∙ sym (neither (true || has m (map (λ (e : Destination). e.peer) ds)) (q m) none))
+        h ∙ (neither (has m (map (λ (e : Destination). e.peer) ds)) (q m) none
+        ∙ sym (neither (true || has m (map (λ (e : Destination). e.peer) ds)) (q m) none))
     one false false is same h = h
 
 -- ---- the readers of the configuration go up
@@ -197,29 +234,41 @@ has_filtered q m (d ∷ ds) = one (q d.peer) (d.peer == m) refl refl (has_filter
 abbrev end_at : ℕ → ℕ → ReaderConfig → Endpoint
 end_at peer number r = record { peer = peer; number = number }
 
-ends_before : (topic peer n : ℕ) (rs : List ReaderConfig) (rest : List Endpoint) → InOrder peer rest → InOrder peer (of_readers_in (end_at peer) topic n rs ++ rest)
+ends_before : (topic peer n : ℕ) (rs : List ReaderConfig) (rest : List Endpoint) → InOrder peer rest
+    → InOrder peer (of_readers_in (end_at peer) topic n rs ++ rest)
 unfolding InOrder
 ends_before topic peer n [] rest h = h
 ends_before topic peer n (r ∷ rs) rest h = one (same_topic r.topic topic) (ends_before topic peer (n + 1) rs rest h)
   where
-    one : (b : Bool) → InOrder peer (of_readers_in (end_at peer) topic (n + 1) rs ++ rest) → InOrder peer (cond b (end_at peer n r ∷ of_readers_in (end_at peer) topic (n + 1) rs) (of_readers_in (end_at peer) topic (n + 1) rs) ++ rest)
+    one : (b : Bool) → InOrder peer (of_readers_in (end_at peer) topic (n + 1) rs ++ rest)
+        → InOrder peer (cond b (end_at peer n r ∷ of_readers_in (end_at peer) topic (n + 1) rs)
+        (of_readers_in (end_at peer) topic (n + 1) rs) ++ rest)
     one true k = (omega arith, k)
     one false k = k
 
-ends_in_order : (topic n : ℕ) (ps : List PeerConfig) → InOrder n (of_matched_readers (λ i p k r. end_at i k r) topic n ps)
+ends_in_order : (topic n : ℕ) (ps : List PeerConfig)
+    → InOrder n (of_matched_readers (λ i p k r. end_at i k r) topic n ps)
 unfolding InOrder
 ends_in_order topic n [] = tt
-ends_in_order topic n (p ∷ ps) = ends_before topic n 1 p.readers _ (order_below n (n + 1) _ (omega arith) (ends_in_order topic (n + 1) ps))
+ends_in_order topic n (p ∷ ps) =
+    ends_before topic n 1 p.readers _ (order_below n (n + 1) _ (omega arith) (ends_in_order topic (n + 1) ps))
 
 -- the peers of the rows that pass are the destinations of which some row passes
-pub peers_passed : (topic : ℕ) (peers : List PeerConfig) (rows : List ReaderProxy) (ds : List Destination) (b : ReaderProxy → Bool) → map (λ (p : ReaderProxy). p.reader) rows ≡ reader_ends topic peers → ds ≡ destinations topic 1 peers
-    → peers_of (filter b rows) ≡ map (λ (d : Destination). d.peer) (filter (λ (d : Destination). list_any (λ (p : ReaderProxy). (p.reader.peer == d.peer) && b p) rows) ds)
+pub peers_passed : (topic : ℕ) (peers : List PeerConfig) (rows : List ReaderProxy) (ds : List Destination)
+    (b : ReaderProxy → Bool) → map (λ (p : ReaderProxy). p.reader) rows ≡ reader_ends topic peers
+    → ds ≡ destinations topic 1 peers
+    → peers_of (filter b rows) ≡ map (λ (d : Destination). d.peer)
+    (filter (λ (d : Destination). list_any (λ (p : ReaderProxy). (p.reader.peer == d.peer) && b p) rows) ds)
 peers_passed topic peers rows ds b names sent =
     let q : ℕ → Bool = λ m. list_any (λ (p : ReaderProxy). (p.reader.peer == m) && b p) rows in
-    let ordered : InOrder 1 (ends_of rows) = subst (λ (es : List Endpoint). InOrder 1 es) (sym names) (ends_in_order topic 1 peers) in
-    let right : Ascend 1 (map (λ (d : Destination). d.peer) ds) = subst (λ (es : List Destination). Ascend 1 (map (λ (d : Destination). d.peer) es)) (sym sent) (sent_ascend topic 1 peers) in
+    let ordered : InOrder 1 (ends_of rows) =
+    subst (λ (es : List Endpoint). InOrder 1 es) (sym names) (ends_in_order topic 1 peers) in
+    let right : Ascend 1 (map (λ (d : Destination). d.peer) ds) =
+    subst (λ (es : List Destination). Ascend 1 (map (λ (d : Destination). d.peer) es)) (sym sent)
+    (sent_ascend topic 1 peers) in
     one_list 1 _ _ (peers_ascend 1 (filter b rows) (order_filtered b 1 rows ordered)) (filtered_ascend q 1 ds right)
     (λ m.
     (has_peer m (filter b rows) ∙ any_filtered (λ (p : ReaderProxy). p.reader.peer == m) b rows)
     ∙ sym (has_filtered q m ds
-    ∙ (ap (λ (c : Bool). c && q m) (ap (λ (ns : List ℕ). has m ns) (sym (sends_to topic peers rows ds names sent)) ∙ has_peer m rows) ∙ any_and (λ (p : ReaderProxy). p.reader.peer == m) b rows)))
+    ∙ (ap (λ (c : Bool). c && q m) (ap (λ (ns : List ℕ). has m ns) (sym (sends_to topic peers rows ds names sent))
+    ∙ has_peer m rows) ∙ any_and (λ (p : ReaderProxy). p.reader.peer == m) b rows)))

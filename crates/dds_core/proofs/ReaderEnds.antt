@@ -26,15 +26,32 @@ use Rattle.dds_core.proofs.Tables.{map-matched_writers}
 
 -- the policies of a reader, with these matched writers
 abbrev pub qos_with : ReaderConfig → List MatchedWriter → ReaderQos
-qos_with r writers = record { ownership = r.ownership; history = r.history; max_samples = limit_of r.max_samples; max_instances = limit_of r.max_instances; writers = writers }
+qos_with r writers =
+    record {
+      ownership = r.ownership;
+      history = r.history;
+      max_samples = limit_of r.max_samples;
+      max_instances = limit_of r.max_instances;
+      writers = writers;
+    }
 
-pub qos_as : (r : ReaderConfig) (samples instances : Option ℕ) (writers matched : List MatchedWriter) → samples ≡ limit_of r.max_samples → instances ≡ limit_of r.max_instances → writers ≡ matched
-    → ◌≡◌ {A = ReaderQos} (record { ownership = r.ownership; history = r.history; max_samples = samples; max_instances = instances; writers = writers }) (qos_with r matched)
+pub qos_as : (r : ReaderConfig) (samples instances : Option ℕ) (writers matched : List MatchedWriter)
+    → samples ≡ limit_of r.max_samples → instances ≡ limit_of r.max_instances → writers ≡ matched
+    → ◌≡◌ {A = ReaderQos}
+    (record {
+      ownership = r.ownership;
+      history = r.history;
+      max_samples = samples;
+      max_instances = instances;
+      writers = writers;
+    }) (qos_with r matched)
 qos_as r samples instances writers matched e f g = cc
 
 -- ---- each place is 1
 
-one_there : (p : WriterProxy) (row : Option WriterProxy) (k : ℕ) (b : Bool) → p.place ≡ 1 → option_map (λ (q : WriterProxy). q.place) (cond b (Some p) row) ≡ Some k → (option_map (λ (q : WriterProxy). q.place) row ≡ Some k → 1 ≡ k) → 1 ≡ k
+one_there : (p : WriterProxy) (row : Option WriterProxy) (k : ℕ) (b : Bool) → p.place ≡ 1
+    → option_map (λ (q : WriterProxy). q.place) (cond b (Some p) row) ≡ Some k
+    → (option_map (λ (q : WriterProxy). q.place) row ≡ Some k → 1 ≡ k) → 1 ≡ k
 one_there p row k true one h f = sym one ∙ same_some p.place k h
   where
     same_some : (a b : ℕ) → Some a ≡ Some b → a ≡ b
@@ -48,7 +65,9 @@ AreOnes (p ∷ ps) = (p.place ≡ 1) × AreOnes ps
 
 place_is_one : (ps : List WriterProxy) (w : Endpoint) (k : ℕ) → AreOnes ps → place_of ps w ≡ Some k → 1 ≡ k
 place_is_one [] w k all h = cc
-place_is_one (p ∷ ps) w k all h = one_there p (row_of (λ (q : WriterProxy). q.writer) ps w) k (same_endpoint p.writer w) all.0 h (λ e. place_is_one ps w k all.1 e)
+place_is_one (p ∷ ps) w k all h =
+    one_there p (row_of (λ (q : WriterProxy). q.writer) ps w) k (same_endpoint p.writer w) all.0 h
+    (λ e. place_is_one ps w k all.1 e)
 
 ones_both : (xs ys : List WriterProxy) → AreOnes xs → AreOnes ys → AreOnes (xs ++ ys)
 ones_both [] ys f g = g
@@ -59,25 +78,35 @@ ones_in topic peer number [] = tt
 ones_in topic peer number (w ∷ ws) = by (same_topic w.topic topic) (ones_in topic peer (number + 1) ws)
   where
     by : (b : Bool) → AreOnes (writers_in topic peer (number + 1) ws)
-        → AreOnes (cond b (record { writer = record { peer = peer; number = number }; place = 1; heard = None } ∷ writers_in topic peer (number + 1) ws) (writers_in topic peer (number + 1) ws))
+        → AreOnes
+        (cond b (record { writer = record { peer = peer; number = number }; place = 1; heard = None }
+        ∷ writers_in topic peer (number + 1) ws) (writers_in topic peer (number + 1) ws))
     by true h = (refl, h)
     by false h = h
 
 are_ones : (topic peer : ℕ) (ps : List PeerConfig) → AreOnes (matched_writers topic peer ps)
 are_ones topic peer [] = tt
-are_ones topic peer (p ∷ ps) = ones_both (writers_in topic peer 1 p.writers) (matched_writers topic (peer + 1) ps) (ones_in topic peer 1 p.writers) (are_ones topic (peer + 1) ps)
+are_ones topic peer (p ∷ ps) =
+    ones_both (writers_in topic peer 1 p.writers) (matched_writers topic (peer + 1) ps) (ones_in topic peer 1 p.writers)
+    (are_ones topic (peer + 1) ps)
 
 -- ---- the reader
 
-pub opens_reader : (peers : List PeerConfig) (r : ReaderConfig) (names : List WriterName) (writers : List MatchedWriter) (reader : Proxies) (store : StoreKept)
-    → names ≡ of_matched_writers writer_name r.topic 1 peers → writers ≡ of_matched_writers matched_writer r.topic 1 peers → ((index : ℕ) → index < length names → Tracks reader index fresh)
-    → qos_of store.cache ≡ qos_with r writers → Holds store [] → OpensReader peers r (record { entity = r.entity; writers = names; reader = reader; store = store; seen = nothing_seen })
+pub opens_reader : (peers : List PeerConfig) (r : ReaderConfig) (names : List WriterName) (writers : List MatchedWriter)
+    (reader : Proxies) (store : StoreKept)
+    → names ≡ of_matched_writers writer_name r.topic 1 peers
+    → writers ≡ of_matched_writers matched_writer r.topic 1 peers
+    → ((index : ℕ) → index < length names → Tracks reader index fresh)
+    → qos_of store.cache ≡ qos_with r writers → Holds store []
+    → OpensReader peers r
+    (record { entity = r.entity; writers = names; reader = reader; store = store; seen = nothing_seen })
 opens_reader peers r names writers reader store matched told nothing qos stands =
     record {
       identity = identity_as r.entity r.entity names _ refl matched;
       stands = record {
         writers_are = map-matched_writers (λ (p : WriterProxy). p.writer) _ r.topic 1 peers
-            ∙ sym (ap (λ (ns : List WriterName). map (λ (n : WriterName). n.writer) ns) matched ∙ map-matched_writers (λ (n : WriterName). n.writer) writer_name r.topic 1 peers);
+            ∙ sym (ap (λ (ns : List WriterName). map (λ (n : WriterName). n.writer) ns) matched
+            ∙ map-matched_writers (λ (n : WriterName). n.writer) writer_name r.topic 1 peers);
         places = λ w k h. place_is_one (matched_writers r.topic 1 peers) w k (are_ones r.topic 1 peers) h;
         knows = λ w k f. nothing k (get-within names k f.name f.at);
         qos_is = sym (qos ∙ ap (λ (ws : List MatchedWriter). qos_with r ws) told);
@@ -87,11 +116,15 @@ opens_reader peers r names writers reader store matched told nothing qos stands 
     }
 
 -- there are as many rows as writers in the policies
-pub rows_fit : (peers : List PeerConfig) (r : ReaderConfig) (names : List WriterName) (writers : List MatchedWriter) (reader : Proxies) (store : StoreKept) → names ≡ of_matched_writers writer_name r.topic 1 peers
-    → writers ≡ of_matched_writers matched_writer r.topic 1 peers → count_of reader ≡ length names → qos_of store.cache ≡ qos_with r writers → length writers ≤ 256 → FitsWriters names reader store
+pub rows_fit : (peers : List PeerConfig) (r : ReaderConfig) (names : List WriterName) (writers : List MatchedWriter)
+    (reader : Proxies) (store : StoreKept) → names ≡ of_matched_writers writer_name r.topic 1 peers
+    → writers ≡ of_matched_writers matched_writer r.topic 1 peers → count_of reader ≡ length names
+    → qos_of store.cache ≡ qos_with r writers → length writers ≤ 256 → FitsWriters names reader store
 rows_fit peers r names writers reader store matched told count qos many =
     let same = as_many writer_name matched_writer r.topic 1 peers in
-    let a : length names ≡ length (of_matched_writers writer_name r.topic 1 peers) = ap (λ (ns : List WriterName). length ns) matched in
-    let b : length (qos_of store.cache).writers ≡ length (of_matched_writers matched_writer r.topic 1 peers) = ap (λ (q : ReaderQos). length q.writers) qos ∙ ap (λ (ws : List MatchedWriter). length ws) told in
+    let a : length names ≡ length (of_matched_writers writer_name r.topic 1 peers) =
+    ap (λ (ns : List WriterName). length ns) matched in
+    let b : length (qos_of store.cache).writers ≡ length (of_matched_writers matched_writer r.topic 1 peers) =
+    ap (λ (q : ReaderQos). length q.writers) qos ∙ ap (λ (ws : List MatchedWriter). length ws) told in
     let c : length (qos_of store.cache).writers ≡ length writers = ap (λ (q : ReaderQos). length q.writers) qos in
     record { count = count; fits = omega (arith, same, a, b); many = omega (arith, c, many) }

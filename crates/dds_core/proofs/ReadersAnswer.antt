@@ -10,13 +10,17 @@ use Rattle.std.specs.Prelude.{FitsSigned}
 use Rattle.std.specs.Int.{w32}
 use Rattle.dds_model.specs.Protocol.{acknack_message}
 
-pub acknack_writable : (own to : GuidPrefix) (reader writer : EntityId) (due : AckNackDue) → length own.0 ≡ 12 → length to.0 ≡ 12 → length reader.0 ≡ 4 → length writer.0 ≡ 4 → FitsSigned w32 due.count → IsSayable due
+pub acknack_writable : (own to : GuidPrefix) (reader writer : EntityId) (due : AckNackDue) → length own.0 ≡ 12
+    → length to.0 ≡ 12 → length reader.0 ≡ 4 → length writer.0 ≡ 4 → FitsSigned w32 due.count → IsSayable due
     → IsWritable (acknack_message own to reader writer due)
 acknack_writable own to reader writer due of_own of_to of_reader of_writer count says =
     short_writable (acknack_message own to reader writer due) of_own (
       of_to,
       (
-        (record { reader = of_reader; writer = of_writer; count = count }, record { first = says.first; small = says.small; places = says.places }),
+        (
+          record { reader = of_reader; writer = of_writer; count = count },
+          record { first = says.first; small = says.small; places = says.places },
+        ),
         tt,
       ),
     ) (omega arith)

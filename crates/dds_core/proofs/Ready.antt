@@ -30,30 +30,50 @@ use Rattle.dds_core.specs.Beating.{AddsTo}
 use Rattle.dds_model.specs.Protocol.{acknacks_due}
 
 -- after a change of one element, another is as before, and that one is the new one
-pub set-cases : {X : Type 0} (xs : List X) (i : ℕ) (x : X) (j : ℕ) (y : X) → slice_get (set xs i x) j ≡ Some y → ((j ≡ i) × (x ≡ y)) ⊎ (((j ≡ i) → ⊥) × (slice_get xs j ≡ Some y))
+pub set-cases : {X : Type 0} (xs : List X) (i : ℕ) (x : X) (j : ℕ) (y : X) → slice_get (set xs i x) j ≡ Some y
+    → ((j ≡ i) × (x ≡ y)) ⊎ (((j ≡ i) → ⊥) × (slice_get xs j ≡ Some y))
 set-cases [] i x j y at = absurd cc
 set-cases (a ∷ xs) zero x zero y at = inl (refl, same_Some x y at)
 set-cases (a ∷ xs) zero x (suc j) y at = inr (λ e. omega (arith, e), at)
 set-cases (a ∷ xs) (suc i) x zero y at = inr (λ e. omega (arith, e), at)
-set-cases (a ∷ xs) (suc i) x (suc j) y at = ⊎_elim (λ s. inl (ap suc s.0, s.1)) (λ o. inr (λ e. o.0 (omega (arith, e)), o.1)) (set-cases xs i x j y at)
+set-cases (a ∷ xs) (suc i) x (suc j) y at =
+    ⊎_elim (λ s. inl (ap suc s.0, s.1)) (λ o. inr (λ e. o.0 (omega (arith, e)), o.1)) (set-cases xs i x j y at)
 
-pub last-cases : {X : Type 0} (xs : List X) (x : X) (j : ℕ) (y : X) → slice_get (xs ++ x ∷ []) j ≡ Some y → ((j ≡ length xs) × (x ≡ y)) ⊎ ((j < length xs) × (slice_get xs j ≡ Some y))
+pub last-cases : {X : Type 0} (xs : List X) (x : X) (j : ℕ) (y : X) → slice_get (xs ++ x ∷ []) j ≡ Some y
+    → ((j ≡ length xs) × (x ≡ y)) ⊎ ((j < length xs) × (slice_get xs j ≡ Some y))
 last-cases [] x zero y at = inl (refl, same_Some x y at)
 last-cases [] x (suc j) y at = absurd cc
 last-cases (a ∷ xs) x zero y at = inr (omega arith, at)
-last-cases (a ∷ xs) x (suc j) y at = ⊎_elim (λ s. inl (ap suc s.0, s.1)) (λ o. let lt = o.0 in inr (omega (arith, lt), o.1)) (last-cases xs x j y at)
+last-cases (a ∷ xs) x (suc j) y at =
+    ⊎_elim (λ s. inl (ap suc s.0, s.1)) (λ o. let lt = o.0 in inr (omega (arith, lt), o.1)) (last-cases xs x j y at)
 
 pub alike_self : (k : ReaderKept) → IsAlike k k
 alike_self k = record { entity = refl; writers = refl; reader = λ i t h. h; qos = refl; seen = refl; holds = λ h s. s }
 
 pub all_alike_self : (ks : List ReaderKept) → AreAlike ks ks
-all_alike_self ks = record { count = refl; each = λ i a b at_a at_b. subst (λ (x : ReaderKept). IsAlike a x) (same_Some a b (sym at_a ∙ at_b)) (alike_self a) }
+all_alike_self ks =
+    record {
+      count = refl;
+      each = λ i a b at_a at_b. subst (λ (x : ReaderKept). IsAlike a x)
+          (same_Some a b (sym at_a ∙ at_b)) (alike_self a);
+    }
 
 alike_on : (a b c : ReaderKept) → IsAlike a b → IsAlike b c → IsAlike a c
-alike_on a b c x y = record { entity = y.entity ∙ x.entity; writers = y.writers ∙ x.writers; reader = λ i t h. y.reader i t (x.reader i t h); qos = y.qos ∙ x.qos; seen = y.seen ∙ x.seen; holds = λ h s. y.holds h (x.holds h s) }
+alike_on a b c x y =
+    record {
+      entity = y.entity ∙ x.entity;
+      writers = y.writers
+          ∙ x.writers;
+      reader = λ i t h. y.reader i t (x.reader i t h);
+      qos = y.qos ∙ x.qos;
+      seen = y.seen
+          ∙ x.seen;
+      holds = λ h s. y.holds h (x.holds h s);
+    }
 
 -- one more was made ready
-pub alike_more : (old now : List ReaderKept) (i : ℕ) (k k' : ReaderKept) → AreAlike old now → i < length now → get_or now i k ≡ k → IsAlike k k' → AreAlike old (set now i k')
+pub alike_more : (old now : List ReaderKept) (i : ℕ) (k k' : ReaderKept) → AreAlike old now → i < length now
+    → get_or now i k ≡ k → IsAlike k k' → AreAlike old (set now i k')
 alike_more old now i k k' h lt is one = record {
   count = length-set now i k' ∙ h.count;
   each = λ j a b at_a at_b.
@@ -65,60 +85,85 @@ alike_more old now i k k' h lt is one = record {
       (λ o. h.each j a b at_a o.1) (set-cases now i k' j b at_b);
 }
 
-pub ready_more : (own : GuidPrefix) (at : Receiver) (sub : Submessage) (now : List ReaderKept) (ready ready' : List (Option Ready)) (i : ℕ) (k' : ReaderKept) (one : Option Ready) → length ready ≡ i → ready' ≡ ready ++ one ∷ []
-    → ((j : ℕ) (k : ReaderKept) (r : Option Ready) → slice_get now j ≡ Some k → slice_get ready j ≡ Some r → IsReadyFor own at sub k r) → IsReadyFor own at sub k' one
-    → (j : ℕ) (k : ReaderKept) (r : Option Ready) → slice_get (set now i k') j ≡ Some k → slice_get ready' j ≡ Some r → IsReadyFor own at sub k r
+pub ready_more : (own : GuidPrefix) (at : Receiver) (sub : Submessage) (now : List ReaderKept)
+    (ready ready' : List (Option Ready)) (i : ℕ) (k' : ReaderKept) (one : Option Ready) → length ready ≡ i
+    → ready' ≡ ready ++ one ∷ []
+    → ((j : ℕ) (k : ReaderKept) (r : Option Ready) → slice_get now j ≡ Some k → slice_get ready j ≡ Some r
+    → IsReadyFor own at sub k r) → IsReadyFor own at sub k' one
+    → (j : ℕ) (k : ReaderKept) (r : Option Ready) → slice_get (set now i k') j ≡ Some k → slice_get ready' j ≡ Some r
+    → IsReadyFor own at sub k r
 ready_more own at sub now ready ready' i k' one count is each new j k r at_k at_r =
-    let at_last : slice_get (ready ++ one ∷ []) j ≡ Some r = subst (λ (rs : List (Option Ready)). slice_get rs j ≡ Some r) is at_r in
+    let at_last : slice_get (ready ++ one ∷ []) j ≡ Some r =
+    subst (λ (rs : List (Option Ready)). slice_get rs j ≡ Some r) is at_r in
     ⊎_elim
     (λ s.
     ⊎_elim
-    (λ t. subst (λ (x : Option Ready). IsReadyFor own at sub k x) t.1 (subst (λ (x : ReaderKept). IsReadyFor own at sub x one) s.1 new))
+    (λ t. subst (λ (x : Option Ready). IsReadyFor own at sub k x) t.1
+    (subst (λ (x : ReaderKept). IsReadyFor own at sub x one) s.1 new))
     (λ t. let lt = t.0 in let same = s.0 in absurd (omega (arith, lt, same, count)))
     (last-cases ready one j r at_last))
     (λ o.
-    ⊎_elim (λ t. let last = t.0 in absurd (o.0 (omega (arith, last, count)))) (λ t. each j k r o.1 t.1) (last-cases ready one j r at_last))
+    ⊎_elim (λ t. let last = t.0 in absurd (o.0 (omega (arith, last, count)))) (λ t. each j k r o.1 t.1)
+    (last-cases ready one j r at_last))
     (set-cases now i k' j k at_k)
 
 -- what is told keeps to the wire's bounds
 told_bounded : (at : Receiver) (s : Submessage) (said : Told) → IsBounded s → IsToldBy at s said → IsToldBounded said
 told_bounded at (Data d) (told.Change number change) b is = let same = is.0 in omega (arith, same, b)
-told_bounded at (Gap g) (told.Gap start list) b is = let same = ap (λ (x : NumberSet). x.base) is.1 in omega (arith, same, b)
-told_bounded at (Heartbeat h) (told.Heartbeat seen) b is = let same = ap (λ (x : HeartbeatSeen). x.first) is in omega (arith, same, b)
+told_bounded at (Gap g) (told.Gap start list) b is =
+    let same = ap (λ (x : NumberSet). x.base) is.1 in omega (arith, same, b)
+told_bounded at (Heartbeat h) (told.Heartbeat seen) b is =
+    let same = ap (λ (x : HeartbeatSeen). x.first) is in omega (arith, same, b)
 told_bounded at s said b is = absurd is
 
 -- the element of the same index
-pub partner : {X Y : Type 0} (xs : List X) (ys : List Y) (i : ℕ) (y : Y) → length ys ≡ length xs → slice_get ys i ≡ Some y → (x : X) × (slice_get xs i ≡ Some x)
+pub partner : {X Y : Type 0} (xs : List X) (ys : List Y) (i : ℕ) (y : Y) → length ys ≡ length xs
+    → slice_get ys i ≡ Some y → (x : X) × (slice_get xs i ≡ Some x)
 partner [] [] i y count at = absurd cc
 partner [] (b ∷ ys) i y count at = absurd (omega (arith, count))
 partner (a ∷ xs) [] i y count at = absurd cc
 partner (a ∷ xs) (b ∷ ys) zero y count at = (a, refl)
 partner (a ∷ xs) (b ∷ ys) (suc i) y count at = partner xs ys i y (omega (arith, count)) at
 
-pub can_take : (own : GuidPrefix) (at : Receiver) (s : Submessage) (k : ReaderKept) (ready : Ready) → IsBounded s → IsReadyWith own at s k ready → CanTake k ready
-can_take own at s k ready b is = record { row = get-within k.writers ready.row is.named.first.name is.named.first.at; bounded = told_bounded at s ready.told b is.told; room = is.room }
+pub can_take : (own : GuidPrefix) (at : Receiver) (s : Submessage) (k : ReaderKept) (ready : Ready) → IsBounded s
+    → IsReadyWith own at s k ready → CanTake k ready
+can_take own at s k ready b is =
+    record {
+      row = get-within k.writers ready.row is.named.first.name is.named.first.at;
+      bounded = told_bounded at s
+          ready.told b is.told;
+      room = is.room;
+    }
 
-pub all_can : (own : GuidPrefix) (at : Receiver) (s : Submessage) (readers : List ReaderKept) (ready : List (Option Ready)) → IsBounded s → AreReady own at s readers ready → AllCanTake readers ready
+pub all_can : (own : GuidPrefix) (at : Receiver) (s : Submessage) (readers : List ReaderKept)
+    (ready : List (Option Ready)) → IsBounded s → AreReady own at s readers ready → AllCanTake readers ready
 all_can own at s readers ready b h i one there =
-    let k = partner readers ready i (Some one) h.count there in (k.0, k.1, can_take own at s k.0 one b (h.each i k.0 (Some one) k.1 there))
+    let k =
+    partner readers ready i (Some one) h.count there in
+    (k.0, k.1, can_take own at s k.0 one b (h.each i k.0 (Some one) k.1 there))
 
 -- what is ready for a reader, while what was ready for others is taken
-pub still_ready : {X : Type 0} (ready now : List X) (i : ℕ) (one d : X) → drop i now ≡ drop i ready → i < length now → one ≡ get_or now i d → slice_get ready i ≡ Some one
-still_ready ready now i one d left lt is = left_at ready now i one (sym left) (slice_get-get_or now i d lt ∙ ap (λ x. Some x) (sym is))
+pub still_ready : {X : Type 0} (ready now : List X) (i : ℕ) (one d : X) → drop i now ≡ drop i ready → i < length now
+    → one ≡ get_or now i d → slice_get ready i ≡ Some one
+still_ready ready now i one d left lt is =
+    left_at ready now i one (sym left) (slice_get-get_or now i d lt ∙ ap (λ x. Some x) (sym is))
 
 -- what was taken leaves the rest
-pub rest_more : {X : Type 0} (ready now : List X) (i : ℕ) (x : X) → drop i now ≡ drop i ready → drop (i + 1) (set now i x) ≡ drop (i + 1) ready
+pub rest_more : {X : Type 0} (ready now : List X) (i : ℕ) (x : X) → drop i now ≡ drop i ready
+    → drop (i + 1) (set now i x) ≡ drop (i + 1) ready
 rest_more ready now i x left =
     let same : i + 1 ≡ suc i = omega arith in
     subst (λ (n : ℕ). drop n (set now i x) ≡ drop n ready) (sym same) (drop_set now i x ∙ left_more now ready i left)
 
 -- readers with more room stand for what they stood for
 
-pub alike_stands : (a b : ReaderKept) (proxies : List WriterProxy) (r : Reader) (tracked : Endpoint → Tracked) → IsAlike a b → ReaderStands a proxies r tracked → ReaderStands b proxies r tracked
+pub alike_stands : (a b : ReaderKept) (proxies : List WriterProxy) (r : Reader) (tracked : Endpoint → Tracked)
+    → IsAlike a b → ReaderStands a proxies r tracked → ReaderStands b proxies r tracked
 alike_stands a b proxies r tracked h s = record {
   writers_are = s.writers_are ∙ ap (λ (ns : List WriterName). writers_of ns) (sym h.writers);
   places = s.places;
-  knows = λ w k f. h.reader k (tracked w) (s.knows w k (subst (λ (ns : List WriterName). IsFirstRow ns w k) h.writers f));
+  knows =
+      λ w k f. h.reader k (tracked w) (s.knows w k (subst (λ (ns : List WriterName). IsFirstRow ns w k) h.writers f));
   qos_is = s.qos_is ∙ sym h.qos;
   holds = h.holds r.happened s.holds;
   seen_is = s.seen_is ∙ sym h.seen;
@@ -130,16 +175,23 @@ same_identities [] (b ∷ bs) h = let count = h.count in absurd (omega (arith, c
 same_identities (a ∷ as') [] h = let count = h.count in absurd (omega (arith, count))
 same_identities (a ∷ as') (b ∷ bs) h =
     let count = h.count in
-    cons_as (reader_identity b) (reader_identity a) _ _ (let one = h.each zero a b refl refl in same_identity b a one.entity one.writers) (same_identities as' bs (record { count = omega (arith, count); each = λ i x y at_x at_y. h.each (suc i) x y at_x at_y }))
+    cons_as (reader_identity b) (reader_identity a) _ _
+    (let one = h.each zero a b refl refl in same_identity b a one.entity one.writers)
+    (same_identities as' bs
+    (record { count = omega (arith, count); each = λ i x y at_x at_y. h.each (suc i) x y at_x at_y }))
   where
     cons_as : {X : Type 0} (x y : X) (xs ys : List X) → x ≡ y → xs ≡ ys → x ∷ xs ≡ y ∷ ys
     cons_as x y xs ys e f = cc
 
-pub alike_core : (kept : PeerKept) (readers : List ReaderKept) → AreAlike kept.readers readers → StandsAsWell kept (record kept { readers = readers })
+pub alike_core : (kept : PeerKept) (readers : List ReaderKept) → AreAlike kept.readers readers
+    → StandsAsWell kept (record kept { readers = readers })
 alike_core kept readers h config peer s =
-    let identity : List ReaderIdentity → Identity = λ rs. record { prefix = kept.prefix; writers = map writer_identity kept.writers; readers = rs } in
+    let identity : List ReaderIdentity → Identity =
+    λ rs. record { prefix = kept.prefix; writers = map writer_identity kept.writers; readers = rs } in
     record {
-      is_peer = subst (λ (x : Identity). IsPeerOf config peer.number x) (sym (ap identity (same_identities kept.readers readers h))) s.is_peer;
+      is_peer =
+          subst (λ (x : Identity). IsPeerOf config peer.number x)
+          (sym (ap identity (same_identities kept.readers readers h))) s.is_peer;
       moment = s.moment;
       early = s.early;
       watch = s.watch;
@@ -147,7 +199,9 @@ alike_core kept readers h config peer s =
       readers = record {
         rows = s.readers.rows ∙ sym h.count;
         count = s.readers.count ∙ sym h.count;
-        each = λ i k at. let old = partner kept.readers readers i k h.count at in alike_stands old.0 k _ _ _ (h.each i old.0 k old.1 at) (s.readers.each i old.0 old.1);
+        each =
+            λ i k at. let old = partner kept.readers readers i k h.count at in alike_stands old.0 k _ _ _
+            (h.each i old.0 k old.1 at) (s.readers.each i old.0 old.1);
       };
       tellable = s.tellable;
     }
@@ -158,11 +212,19 @@ none_there [] i x is at = cc
 none_there (y ∷ ys) i x is at = cc
 
 -- the reader of this index was told what was ready
-pub took_by : (old : PeerKept) (index : ℕ) (ready : Ready) (k now k' : ReaderKept) (moves : List Move) (sent : Announced) (new : PeerKept) (after : List Move) (gone : Announced) (writer : WriterName) (from : ℕ) (step : Step) → now ≡ k
-    → slice_get old.readers index ≡ Some k → slice_get now.writers ready.row ≡ Some writer → ((t : Tracked) → Tracks now.reader ready.row t → from ≡ t.place) → {m : ℕ} → m ≡ old.moment → TakesTold now ready m step k'
-    → SameReader now k' → new ≡ record old { readers = set old.readers index k' } → after ≡ moves ++ moves_of writer.writer (index + 1) from step → {own : GuidPrefix} → own ≡ old.prefix → {entity : EntityId} → entity ≡ now.entity
-    → AddsTo (acknacks_due own writer.guid.prefix writer.writer.peer entity writer.guid.entity step.acknack) sent gone → TookAt old index ready k moves sent new after gone
-took_by old index ready k now k' moves sent new after gone writer from step is at named place {m} moment told same new_is after_is {own} prefix {entity} of_reader adds =
+pub took_by : (old : PeerKept) (index : ℕ) (ready : Ready) (k now k' : ReaderKept) (moves : List Move)
+    (sent : Announced) (new : PeerKept) (after : List Move) (gone : Announced) (writer : WriterName) (from : ℕ)
+    (step : Step) → now ≡ k
+    → slice_get old.readers index ≡ Some k → slice_get now.writers ready.row ≡ Some writer
+    → ((t : Tracked) → Tracks now.reader ready.row t → from ≡ t.place) → {m : ℕ} → m ≡ old.moment
+    → TakesTold now ready m step k'
+    → SameReader now k' → new ≡ record old { readers = set old.readers index k' }
+    → after ≡ moves ++ moves_of writer.writer (index + 1) from step → {own : GuidPrefix} → own ≡ old.prefix
+    → {entity : EntityId} → entity ≡ now.entity
+    → AddsTo (acknacks_due own writer.guid.prefix writer.writer.peer entity writer.guid.entity step.acknack) sent gone
+    → TookAt old index ready k moves sent new after gone
+took_by old index ready k now k' moves sent new after gone writer from step is at named place
+    {m} moment told same new_is after_is {own} prefix {entity} of_reader adds =
     let of_k : entity ≡ k.entity = of_reader ∙ ap (λ (x : ReaderKept). x.entity) is in
     record {
       name = writer;
@@ -171,21 +233,30 @@ took_by old index ready k now k' moves sent new after gone writer from step is a
       place = λ t knows. place t (subst (λ (x : ReaderKept). Tracks x.reader ready.row t) (sym is) knows);
       step = step;
       reader = k';
-      told = subst (λ (n : ℕ). TakesTold k ready n step k') moment (subst (λ (x : ReaderKept). TakesTold x ready m step k') is told);
+      told =
+          subst (λ (n : ℕ). TakesTold k ready n step k') moment
+          (subst (λ (x : ReaderKept). TakesTold x ready m step k') is told);
       same = subst (λ (x : ReaderKept). SameReader x k') is same;
       new_is = new_is;
       after_is = after_is;
-      answer = subst (λ (p : GuidPrefix). AddsTo (acknacks_due p writer.guid.prefix writer.writer.peer k.entity writer.guid.entity step.acknack) sent gone) prefix
-          (subst (λ (e : EntityId). AddsTo (acknacks_due own writer.guid.prefix writer.writer.peer e writer.guid.entity step.acknack) sent gone) of_k adds);
+      answer =
+          subst (λ (p : GuidPrefix). AddsTo
+          (acknacks_due p writer.guid.prefix writer.writer.peer k.entity writer.guid.entity step.acknack) sent gone)
+          prefix
+          (subst (λ (e : EntityId). AddsTo
+          (acknacks_due own writer.guid.prefix writer.writer.peer e writer.guid.entity step.acknack) sent gone) of_k
+          adds);
     }
 
 -- all were told what was ready for them
-pub takes_all : (old now : PeerKept) (ready : List (Option Ready)) (moves after : List Move) (sent gone : Announced) (index : ℕ) → length ready ≤ index → index ≤ length ready → TakesSome old ready index moves sent now after gone
+pub takes_all : (old now : PeerKept) (ready : List (Option Ready)) (moves after : List Move) (sent gone : Announced)
+    (index : ℕ) → length ready ≤ index → index ≤ length ready → TakesSome old ready index moves sent now after gone
     → TakesAll old ready moves sent now after gone
 takes_all old now ready moves after sent gone index low high h = record {
   made = h.made;
   after_is = h.after_is;
   takes = λ at s are.
       let count = are.count in
-      subst (λ (n : ℕ). ReadersTake old at s n h.made sent now gone) (omega (arith, count, low, high)) (h.takes at s are);
+      subst (λ (n : ℕ). ReadersTake old at s n h.made sent now gone) (omega (arith, count, low, high))
+      (h.takes at s are);
 }

@@ -45,24 +45,33 @@ use Rattle.dds_core.proofs.Ready.{last-cases}
 -- ---- the room for answers
 
 -- one more of the readers was looked at
-pub rooms_more : (own : GuidPrefix) (entity : EntityId) (at : Receiver) (a : AckNackBody) (names : List ReaderName) (rooms rooms' : List (Option Room)) (i : ℕ) (d : ReaderName) (one : Option Room) → i < length names → length rooms ≡ i → rooms' ≡ rooms ++ one ∷ []
-    → ((j : ℕ) (name : ReaderName) (room : Option Room) → slice_get names j ≡ Some name → slice_get rooms j ≡ Some room → IsRoom own entity at a name room) → IsRoom own entity at a (get_or names i d) one
-    → (j : ℕ) (name : ReaderName) (room : Option Room) → slice_get names j ≡ Some name → slice_get rooms' j ≡ Some room → IsRoom own entity at a name room
+pub rooms_more : (own : GuidPrefix) (entity : EntityId) (at : Receiver) (a : AckNackBody) (names : List ReaderName)
+    (rooms rooms' : List (Option Room)) (i : ℕ) (d : ReaderName) (one : Option Room) → i < length names
+    → length rooms ≡ i → rooms' ≡ rooms ++ one ∷ []
+    → ((j : ℕ) (name : ReaderName) (room : Option Room) → slice_get names j ≡ Some name → slice_get rooms j ≡ Some room
+    → IsRoom own entity at a name room) → IsRoom own entity at a (get_or names i d) one
+    → (j : ℕ) (name : ReaderName) (room : Option Room) → slice_get names j ≡ Some name → slice_get rooms' j ≡ Some room
+    → IsRoom own entity at a name room
 rooms_more own entity at a names rooms rooms' i d one lt count is each new j name room at_name at_room =
     ⊎_elim
     (λ t.
-    let there : slice_get names j ≡ Some (get_or names i d) = ap (λ (n : ℕ). slice_get names n) (t.0 ∙ count) ∙ slice_get-get_or names i d lt in
-    subst (λ (x : Option Room). IsRoom own entity at a name x) t.1 (subst (λ (x : ReaderName). IsRoom own entity at a x one) (same_Some (get_or names i d) name (sym there ∙ at_name)) new))
+    let there : slice_get names j ≡ Some (get_or names i d) =
+    ap (λ (n : ℕ). slice_get names n) (t.0 ∙ count) ∙ slice_get-get_or names i d lt in
+    subst (λ (x : Option Room). IsRoom own entity at a name x) t.1
+    (subst (λ (x : ReaderName). IsRoom own entity at a x one)
+    (same_Some (get_or names i d) name (sym there ∙ at_name)) new))
     (λ t. each j name room at_name t.1)
     (last-cases rooms one j room (subst (λ (rs : List (Option Room)). slice_get rs j ≡ Some room) is at_room))
 
 -- ---- what can be written
 
-more_spells : (old more : List Submessage) → AllByRecursion IsSpellable more → AllByRecursion IsSpellable old → AllByRecursion IsSpellable (old ++ more)
+more_spells : (old more : List Submessage) → AllByRecursion IsSpellable more → AllByRecursion IsSpellable old
+    → AllByRecursion IsSpellable (old ++ more)
 more_spells [] more h k = h
 more_spells (x ∷ xs) more h k = (k.0, more_spells xs more h k.1)
 
-spells_more : (old more new : List Submessage) → new ≡ old ++ more → length more ≤ 2 → AllByRecursion IsSpellable more → SpellsMore old new
+spells_more : (old more new : List Submessage) → new ≡ old ++ more → length more ≤ 2 → AllByRecursion IsSpellable more
+    → SpellsMore old new
 spells_more old more new is few h =
     let count = length-append old more in
     let size = ap (λ (ss : List Submessage). length ss) is in
@@ -71,37 +80,60 @@ spells_more old more new is few h =
       few = omega (arith, count, size, few);
     }
 
-pub data_spells : (reader writer : EntityId) (number : ℕ) (change : Change) (old new : List Submessage) → length reader.0 ≡ 4 → length writer.0 ≡ 4 → length change.key.0 ≡ 16 → length change.value ≤ 1024 → 1 ≤ number → number ≤ 2 ^ 62
+pub data_spells : (reader writer : EntityId) (number : ℕ) (change : Change) (old new : List Submessage)
+    → length reader.0 ≡ 4 → length writer.0 ≡ 4 → length change.key.0 ≡ 16 → length change.value ≤ 1024 → 1 ≤ number
+    → number ≤ 2 ^ 62
     → change.source_timestamp < 2 ^ 64 → new ≡ old ++ data_of reader writer number (Some change) → SpellsMore old new
 data_spells reader writer number change old new of_reader of_writer of_key short first small moment is =
-    spells_more old (data_of reader writer number (Some change)) new is (omega arith)
-    (moment, ((record { reader = of_reader; writer = of_writer; first = first; small = small }, content_valid change.kind change.key change.value of_key short), tt))
+    spells_more old (data_of reader writer number (Some change)) new is (omega arith) (
+      moment,
+      (
+        (
+          record { reader = of_reader; writer = of_writer; first = first; small = small },
+          content_valid
+              change.kind change.key change.value of_key short,
+        ),
+        tt,
+      ),
+    )
 
-pub gap_spells : (reader writer : EntityId) (first last : ℕ) (old new : List Submessage) → length reader.0 ≡ 4 → length writer.0 ≡ 4 → 1 ≤ first → first ≤ last → last < 2 ^ 62
+pub gap_spells : (reader writer : EntityId) (first last : ℕ) (old new : List Submessage) → length reader.0 ≡ 4
+    → length writer.0 ≡ 4 → 1 ≤ first → first ≤ last → last < 2 ^ 62
     → new ≡ old ++ submessages_of [] reader writer (AnswersGap first last) → SpellsMore old new
 gap_spells reader writer first last old new of_reader of_writer from order small is =
-    spells_more old (submessages_of [] reader writer (AnswersGap first last)) new is (omega arith)
-    ((record { reader = of_reader; writer = of_writer; first = from; small = omega (arith, order, small) }, record { first = omega arith; small = omega (arith, small); places = refl }), tt)
+    spells_more old (submessages_of [] reader writer (AnswersGap first last)) new is (omega arith) (
+      (
+        record { reader = of_reader; writer = of_writer; first = from; small = omega (arith, order, small) },
+        record { first = omega arith; small = omega (arith, small); places = refl },
+      ),
+      tt,
+    )
 
 -- what stands for each of some, one after the other, stands for one more
-pub stands_more : {X Y : Type 0} (f : X → List Y) (head : Y) (old new : List Y) (xs : List X) (i : ℕ) (x : X) → i < length xs → x ≡ get_or xs i x
+pub stands_more : {X Y : Type 0} (f : X → List Y) (head : Y) (old new : List Y) (xs : List X) (i : ℕ) (x : X)
+    → i < length xs → x ≡ get_or xs i x
     → old ≡ head ∷ flat_map f (take i xs) → new ≡ old ++ f x → new ≡ head ∷ flat_map f (take (i + 1) xs)
 stands_more f head old new xs i x lt is before after =
-    let one : flat_map f (get_or xs i x ∷ []) ≡ f x = flat_map-cons f (get_or xs i x) [] ∙ (append-nil (f (get_or xs i x)) ∙ ap f (sym is)) in
+    let one : flat_map f (get_or xs i x ∷ []) ≡ f x =
+    flat_map-cons f (get_or xs i x) [] ∙ (append-nil (f (get_or xs i x)) ∙ ap f (sym is)) in
     let all : flat_map f (take (i + 1) xs) ≡ flat_map f (take i xs) ++ f x =
-    ap (flat_map f) (take_more xs i x lt) ∙ (flat_map-append f (take i xs) (get_or xs i x ∷ []) ∙ ap (λ ys. flat_map f (take i xs) ++ ys) one) in
+    ap (flat_map f) (take_more xs i x lt)
+    ∙ (flat_map-append f (take i xs) (get_or xs i x ∷ []) ∙ ap (λ ys. flat_map f (take i xs) ++ ys) one) in
     after ∙ (ap (λ ys. ys ++ f x) before ∙ ap (λ ys. head ∷ ys) (sym all))
 
 -- a kept change is one of the changes
-pub kept_there : (h : WriterHistory) (number : ℕ) (change : Change) → kept_change h number ≡ Some change → change_at h.changes number ≡ Some change
+pub kept_there : (h : WriterHistory) (number : ℕ) (change : Change) → kept_change h number ≡ Some change
+    → change_at h.changes number ≡ Some change
 kept_there h number change is = at_change (is_kept h number) is
   where
-    at_change : (b : Bool) → (if b then change_at h.changes number else None) ≡ Some change → change_at h.changes number ≡ Some change
+    at_change : (b : Bool) → (if b then change_at h.changes number else None) ≡ Some change
+        → change_at h.changes number ≡ Some change
     at_change true e = e
     at_change false e = absurd cc
 
 -- so is its number
-pub kept_within : (h : WriterHistory) (number : ℕ) (change : Change) → kept_change h number ≡ Some change → (1 ≤ number) × (number ≤ length h.changes)
+pub kept_within : (h : WriterHistory) (number : ℕ) (change : Change) → kept_change h number ≡ Some change
+    → (1 ≤ number) × (number ≤ length h.changes)
 kept_within h number change is = inside (nat_lt 0 number) refl (kept_there h number change is)
   where
     short_of : (xs : List Change) (i : ℕ) → slice_get xs i ≡ Some change → i < length xs
@@ -109,55 +141,76 @@ kept_within h number change is = inside (nat_lt 0 number) refl (kept_there h num
     short_of (x ∷ xs) zero e = omega arith
     short_of (x ∷ xs) (suc i) e = let lt = short_of xs i e in omega (arith, lt)
 
-    inside : (b : Bool) → nat_lt 0 number ≡ b → (if b then slice_get h.changes (number - 1) else None) ≡ Some change → (1 ≤ number) × (number ≤ length h.changes)
-    inside true e k = let low : 1 ≤ number = grind (arith, nat_tests) in let lt = short_of h.changes (number - 1) k in (low, omega (arith, low, lt))
+    inside : (b : Bool) → nat_lt 0 number ≡ b → (if b then slice_get h.changes (number - 1) else None) ≡ Some change
+        → (1 ≤ number) × (number ≤ length h.changes)
+    inside true e k =
+        let low : 1 ≤ number = grind (arith, nat_tests) in let lt = short_of h.changes (number - 1) k in
+        (low, omega (arith, low, lt))
     inside false e k = absurd cc
 
 -- ---- a message with answers
 
-flat_one : (f : Answer → List Submessage) (xs : List Answer) (x : Answer) → flat_map f (xs ++ x ∷ []) ≡ flat_map f xs ++ f x
+flat_one : (f : Answer → List Submessage) (xs : List Answer) (x : Answer)
+    → flat_map f (xs ++ x ∷ []) ≡ flat_map f xs ++ f x
 flat_one f [] x = append-nil (f x)
-flat_one f (y ∷ ys) x = ap (λ (ss : List Submessage). f y ++ ss) (flat_one f ys x) ∙ sym (append_assoc (f y) (flat_map f ys) (f x))
+flat_one f (y ∷ ys) x =
+    ap (λ (ss : List Submessage). f y ++ ss) (flat_one f ys x) ∙ sym (append_assoc (f y) (flat_map f ys) (f x))
 
 -- one answer more
-pub says_more : (f : Answer → List Submessage) (to : GuidPrefix) (answers : List Answer) (i : ℕ) (d : Answer) (old new : List Submessage) → i < length answers → old ≡ InfoDst to ∷ flat_map f (take i answers) → new ≡ old ++ f (get_or answers i d)
+pub says_more : (f : Answer → List Submessage) (to : GuidPrefix) (answers : List Answer) (i : ℕ) (d : Answer)
+    (old new : List Submessage) → i < length answers → old ≡ InfoDst to ∷ flat_map f (take i answers)
+    → new ≡ old ++ f (get_or answers i d)
     → new ≡ InfoDst to ∷ flat_map f (take (i + 1) answers)
 says_more f to answers i d old new lt before is =
     is ∙ (ap (λ (ss : List Submessage). ss ++ f (get_or answers i d)) before
-    ∙ ap (λ (ss : List Submessage). InfoDst to ∷ ss) (sym (flat_one f (take i answers) (get_or answers i d)) ∙ ap (λ (xs : List Answer). flat_map f xs) (sym (take_more answers i d lt))))
+    ∙ ap (λ (ss : List Submessage). InfoDst to ∷ ss)
+    (sym (flat_one f (take i answers) (get_or answers i d))
+    ∙ ap (λ (xs : List Answer). flat_map f xs) (sym (take_more answers i d lt))))
 
-pub answers_writable : (own : GuidPrefix) (submessages : List Submessage) → length own.0 ≡ 12 → AllByRecursion IsSpellable submessages → length submessages ≤ 17 → IsWritable (record { prefix = own; submessages = submessages })
-answers_writable own submessages of_own each few = short_writable (record { prefix = own; submessages = submessages }) of_own each (omega (arith, few))
+pub answers_writable : (own : GuidPrefix) (submessages : List Submessage) → length own.0 ≡ 12
+    → AllByRecursion IsSpellable submessages → length submessages ≤ 17
+    → IsWritable (record { prefix = own; submessages = submessages })
+answers_writable own submessages of_own each few =
+    short_writable (record { prefix = own; submessages = submessages }) of_own each (omega (arith, few))
 
 -- ---- eight in a packet
 
 -- the answers before these ones were sent
-pub record SentBefore (answering : Answering) (changes : List Change) (answers rest : List Answer) (sent gone : Announced) : Type 0 where
+pub record SentBefore (answering : Answering) (changes : List Change) (answers rest : List Answer)
+    (sent gone : Announced) : Type 0 where
   pub groups : List (List Answer)
   pub on : (later : List (List Answer)) → AreGrouped rest later → AreGrouped answers (groups ++ later)
   pub adds : AddsTo (map (answer_due answering changes) groups) sent gone
 
-pub sent_none : (answering : Answering) (changes : List Change) (answers : List Answer) (sent : Announced) → SentBefore answering changes answers answers sent sent
-sent_none answering changes answers sent = record { groups = []; on = λ later g. g; adds = adds_none sent.packets.items sent.unsent }
+pub sent_none : (answering : Answering) (changes : List Change) (answers : List Answer) (sent : Announced)
+    → SentBefore answering changes answers answers sent sent
+sent_none answering changes answers sent =
+    record { groups = []; on = λ later g. g; adds = adds_none sent.packets.items sent.unsent }
 
 map_last : {X Y : Type 0} (f : X → Y) (xs : List X) (x : X) → map f (xs ++ x ∷ []) ≡ map f xs ++ f x ∷ []
 map_last f [] x = refl
 map_last f (y ∷ ys) x = ap (λ zs. f y ∷ zs) (map_last f ys x)
 
 -- one group more was sent
-pub sent_more : (answering : Answering) (changes : List Change) (answers rest group after : List Answer) (sent mid gone : Announced) → SentBefore answering changes answers rest sent mid → rest ≡ group ++ after → 1 ≤ length group → length group ≤ 8
-    → ((after ≡ [] → ⊥) → length group ≡ 8) → AddsTo (answer_due answering changes group ∷ []) mid gone → SentBefore answering changes answers after sent gone
+pub sent_more : (answering : Answering) (changes : List Change) (answers rest group after : List Answer)
+    (sent mid gone : Announced) → SentBefore answering changes answers rest sent mid → rest ≡ group ++ after
+    → 1 ≤ length group → length group ≤ 8
+    → ((after ≡ [] → ⊥) → length group ≡ 8) → AddsTo (answer_due answering changes group ∷ []) mid gone
+    → SentBefore answering changes answers after sent gone
 sent_more answering changes answers rest group after sent mid gone h is some few full adds = record {
   groups = h.groups ++ group ∷ [];
   on = λ later g.
       subst (λ (gs : List (List Answer)). AreGrouped answers gs) (sym (append_assoc h.groups (group ∷ []) later))
       (h.on (group ∷ later) (after, is, some, few, full, g));
   adds = subst (λ (ds : List Due). AddsTo ds sent gone) (sym (map_last (answer_due answering changes) h.groups group))
-      (adds_on (map (answer_due answering changes) h.groups) (answer_due answering changes group ∷ []) sent.packets.items mid.packets.items gone.packets.items sent.unsent mid.unsent gone.unsent h.adds adds);
+      (adds_on (map (answer_due answering changes) h.groups)
+      (answer_due answering changes group ∷ []) sent.packets.items mid.packets.items gone.packets.items sent.unsent
+      mid.unsent gone.unsent h.adds adds);
 }
 
 -- all were sent
-pub sent_all : (answering : Answering) (changes : List Change) (answers rest : List Answer) (sent gone : Announced) → SentBefore answering changes answers rest sent gone → rest ≡ [] → SendsAnswers answering changes answers sent gone
+pub sent_all : (answering : Answering) (changes : List Change) (answers rest : List Answer) (sent gone : Announced)
+    → SentBefore answering changes answers rest sent gone → rest ≡ [] → SendsAnswers answering changes answers sent gone
 sent_all answering changes answers rest sent gone h none = record {
   groups = h.groups;
   grouped = subst (λ (gs : List (List Answer)). AreGrouped answers gs) (append-nil h.groups) (h.on [] none);
@@ -169,18 +222,22 @@ all_after P [] after h = h
 all_after P (x ∷ xs) after h = all_after P xs after (All-tail P x (xs ++ after) h)
 
 -- the answers after others can be given where all can
-pub answerable_after : (kept : Kept) (rest group after : List Answer) → rest ≡ group ++ after → AreAnswerable kept rest → AreAnswerable kept after
+pub answerable_after : (kept : Kept) (rest group after : List Answer) → rest ≡ group ++ after → AreAnswerable kept rest
+    → AreAnswerable kept after
 answerable_after kept rest group after is h = record {
   state = h.state;
   stands = h.stands;
   few = h.few;
-  each = all_after (IsAnswerableIn h.state) group after (subst (λ (xs : List Answer). All (IsAnswerableIn h.state) xs) is h.each);
+  each =
+      all_after (IsAnswerableIn h.state) group after
+      (subst (λ (xs : List Answer). All (IsAnswerableIn h.state) xs) is h.each);
 }
 
 -- ---- the answers of a writer that took an ACKNACK
 
 -- an ACKNACK writes nothing
-pub after-changes : (s : WriterState) (row base : ℕ) (count : ℤ) → changes_of (after_acknack s row base count).written ≡ changes_of s.written
+pub after-changes : (s : WriterState) (row base : ℕ) (count : ℤ)
+    → changes_of (after_acknack s row base count).written ≡ changes_of s.written
 after-changes s row base count = by (is_applied s row base count)
   where
     by : (b : Bool) → changes_of (if b then applied s row base count else s).written ≡ changes_of s.written
@@ -190,12 +247,14 @@ after-changes s row base count = by (is_applied s row base count)
 number_from : (set : NumberSet) (n : ℕ) → has_number set n ≡ true → set.base ≤ n
 number_from set n is = first (nat_le set.base n) refl is
   where
-    first : (b : Bool) → nat_le set.base n ≡ b → (b && slice_index_or set.members (n - set.base) false) ≡ true → set.base ≤ n
+    first : (b : Bool) → nat_le set.base n ≡ b → (b && slice_index_or set.members (n - set.base) false) ≡ true
+        → set.base ≤ n
     first true e h = grind (arith, nat_tests)
     first false e h = absurd cc
 
 -- a right answer can be given
-right_answerable : (s : WriterState) (row : ℕ) (set : NumberSet) → AreShort (changes_of s.written) → 1 ≤ set.base → length (changes_of s.written) < 2 ^ 62 → (a : Answer)
+right_answerable : (s : WriterState) (row : ℕ) (set : NumberSet) → AreShort (changes_of s.written) → 1 ≤ set.base
+    → length (changes_of s.written) < 2 ^ 62 → (a : Answer)
     → IsRight (λ n. is_kept (history_of s) n) (IsBetween set (acknowledged_by s row) (last_of s)) a → IsAnswerableIn s a
 right_answerable s row set short low few (AnswersData n) right = found (change_at (changes_of s.written) n) refl
   where
@@ -206,10 +265,13 @@ right_answerable s row set short low few (AnswersData n) right = found (change_a
     some_of (Some x) b c h = refl
     some_of None b c h = absurd cc
 
-    found : (o : Option Change) → change_at (changes_of s.written) n ≡ o → (change : Change) × (kept_change (history_of s) n ≡ Some change) × (length change.value ≤ 1024)
+    found : (o : Option Change) → change_at (changes_of s.written) n ≡ o
+        → (change : Change) × (kept_change (history_of s) n ≡ Some change) × (length change.value ≤ 1024)
     found (Some x) e = (x, kept_is ∙ e, short n x e)
     found None e =
-        let some : is_some (change_at (changes_of s.written) n) ≡ true = some_of (change_at (changes_of s.written) n) (not (is_dropped (history_of s) n)) (is_awaited (history_of s) n) right.0 in
+        let some : is_some (change_at (changes_of s.written) n) ≡ true =
+        some_of (change_at (changes_of s.written) n) (not (is_dropped (history_of s) n))
+        (is_awaited (history_of s) n) right.0 in
         let none : is_some (change_at (changes_of s.written) n) ≡ false = ap (λ (o : Option Change). is_some o) e in
         absurd cc
 right_answerable s row set short low few (AnswersGap first last) right =
@@ -218,12 +280,15 @@ right_answerable s row set short low few (AnswersGap first last) right =
     let most = (right.1 last order (omega arith)).1.1 in
     (omega (arith, low, least), order, omega (arith, most, few))
 
-pub answerable : (new : Kept) (s : WriterState) (row base : ℕ) (set : NumberSet) (count : ℤ) (answers : List Answer) → RtpsStandsFor new (after_acknack s row base count) → AreShort (changes_of s.written) → 1 ≤ set.base
+pub answerable : (new : Kept) (s : WriterState) (row base : ℕ) (set : NumberSet) (count : ℤ) (answers : List Answer)
+    → RtpsStandsFor new (after_acknack s row base count) → AreShort (changes_of s.written) → 1 ≤ set.base
     → answers ≡ acknack_answers s row base set count → AreAnswerable new answers
 answerable new s row base set count answers stands short low is = by (is_applied s row base count) refl
   where
     few : length (changes_of s.written) < 2 ^ 62
-    few = let size = stands.history.few in let last = stands.history.last in let same = ap (λ (cs : List Change). length cs) (after-changes s row base count) in omega (arith, size, last, same)
+    few =
+        let size = stands.history.few in let last = stands.history.last in let same =
+        ap (λ (cs : List Change). length cs) (after-changes s row base count) in omega (arith, size, last, same)
 
     by : (b : Bool) → is_applied s row base count ≡ b → AreAnswerable new answers
     by true e = record {
@@ -232,14 +297,21 @@ answerable new s row base set count answers stands short low is = by (is_applied
       few = few;
       each = subst (λ (xs : List Answer). All (IsAnswerableIn (applied s row base count)) xs)
           (sym (is ∙ ap (λ (b : Bool). if b then answers_after (applied s row base count) row set else []) e))
-          (All-weaker (IsRight (λ n. is_kept (history_of (applied s row base count)) n) (IsBetween set (acknowledged_by (applied s row base count) row) (last_of s))) (IsAnswerableIn (applied s row base count))
-          (λ a right. right_answerable (applied s row base count) row set short low few a right) (answers_after (applied s row base count) row set) (answers_after-right (applied s row base count) row set));
+          (All-weaker (IsRight (λ n. is_kept (history_of (applied s row base count)) n)
+          (IsBetween set (acknowledged_by (applied s row base count) row) (last_of s)))
+          (IsAnswerableIn (applied s row base count))
+          (λ a right. right_answerable (applied s row base count) row set short low few a right)
+          (answers_after (applied s row base count) row set)
+          (answers_after-right (applied s row base count) row set));
     }
     by false e = record {
       state = s;
       stands = subst (λ (b : Bool). RtpsStandsFor new (if b then applied s row base count else s)) e stands;
       few = few;
-      each = subst (λ (xs : List Answer). All (IsAnswerableIn s) xs) (sym (is ∙ ap (λ (b : Bool). if b then answers_after (applied s row base count) row set else []) e)) (All-nil (IsAnswerableIn s));
+      each =
+          subst (λ (xs : List Answer). All (IsAnswerableIn s) xs)
+          (sym (is ∙ ap (λ (b : Bool). if b then answers_after (applied s row base count) row set else []) e))
+          (All-nil (IsAnswerableIn s));
     }
 
 -- there are 256 answers at most
@@ -247,17 +319,21 @@ answers_few : (kept : ℕ → Bool) (ns : List ℕ) → length (answers_to kept 
 answers_few kept [] = omega arith
 answers_few kept (n ∷ ns) = one_more (kept n) (answers_to kept ns) (answers_few kept ns)
   where
-    one_more : (b : Bool) (rest : List Answer) → length rest ≤ length ns → length (answer_before b n rest) ≤ suc (length ns)
+    one_more : (b : Bool) (rest : List Answer) → length rest ≤ length ns
+        → length (answer_before b n rest) ≤ suc (length ns)
     one_more true rest h = omega (arith, h)
     one_more false [] h = omega (arith, h)
     one_more false (AnswersData m ∷ rest) h = omega (arith, h)
     one_more false (AnswersGap first last ∷ rest) h = gap (first == n + 1)
       where
-        gap : (b : Bool) → length (if b then AnswersGap n last ∷ rest else AnswersGap n n ∷ AnswersGap first last ∷ rest) ≤ suc (length ns)
+        gap : (b : Bool)
+            → length (if b then AnswersGap n last ∷ rest else AnswersGap n n ∷ AnswersGap first last ∷ rest)
+            ≤ suc (length ns)
         gap true = omega (arith, h)
         gap false = omega (arith, h)
 
-pub few_answers : (s : WriterState) (row base : ℕ) (set : NumberSet) (count : ℤ) → length (acknack_answers s row base set count) ≤ 256
+pub few_answers : (s : WriterState) (row base : ℕ) (set : NumberSet) (count : ℤ)
+    → length (acknack_answers s row base set count) ≤ 256
 few_answers s row base set count = by (is_applied s row base count)
   where
     after : WriterState
@@ -269,35 +345,48 @@ few_answers s row base set count = by (is_applied s row base count)
     by : (b : Bool) → length (if b then answers_after after row set else []) ≤ 256
     by true =
         let first = answers_few (λ n. is_kept (history_of after) n) asked in
-        let second = filter_few (is_requested set (acknowledged_by after row) (last_of after)) (numbers_from set.base 256) in
+        let second =
+        filter_few (is_requested set (acknowledged_by after row) (last_of after)) (numbers_from set.base 256) in
         let third = count_numbers set.base 256 in
         omega (arith, first, second, third)
     by false = omega arith
 
 -- an ACKNACK was taken, and its answers were sent
-pub acknack_taken : (old : WriterKept) (own : GuidPrefix) (row : ℕ) (a : AckNackBody) (sent : Announced) (new : Kept) (acknowledged : Option ℕ) (gone : Announced) (base : ℕ) (count : ℤ) (answers : List Answer) (answering : Answering)
-    → base ≡ a.reader_sn_state.base → count ≡ a.count → ((s : WriterState) → RtpsStandsFor old.writer s → RtpsStandsFor new (after_acknack s row base count))
-    → ((s : WriterState) → RtpsStandsFor old.writer s → acknowledged ≡ newly_acknowledged s (after_acknack s row base count) row)
+pub acknack_taken : (old : WriterKept) (own : GuidPrefix) (row : ℕ) (a : AckNackBody) (sent : Announced) (new : Kept)
+    (acknowledged : Option ℕ) (gone : Announced) (base : ℕ) (count : ℤ) (answers : List Answer) (answering : Answering)
+    → base ≡ a.reader_sn_state.base → count ≡ a.count
+    → ((s : WriterState) → RtpsStandsFor old.writer s → RtpsStandsFor new (after_acknack s row base count))
+    → ((s : WriterState) → RtpsStandsFor old.writer s → acknowledged
+    ≡ newly_acknowledged s (after_acknack s row base count) row)
     → ((s : WriterState) → RtpsStandsFor old.writer s → answers ≡ acknack_answers s row base a.reader_sn_state count)
     → ((s : WriterState) → RtpsStandsFor new s → SendsAnswers answering (changes_of s.written) answers sent gone)
-    → ((name : ReaderName) → slice_get old.readers row ≡ Some name → answering ≡ record { own = own; entity = old.entity; reader = name })
+    → ((name : ReaderName) → slice_get old.readers row ≡ Some name
+    → answering ≡ record { own = own; entity = old.entity; reader = name })
     → TakesAckNack old own row a sent (record old { writer = new }) acknowledged gone
-acknack_taken old own row a sent new acknowledged gone base count answers answering same_base same_count stands newly answered sends who s given =
+acknack_taken old own row a sent new acknowledged gone base count answers answering same_base same_count stands newly
+    answered sends who s given =
     let now : RtpsStandsFor new (after_acknack s row base count) = stands s given in
     record {
-      stands = subst (λ (n : ℕ). RtpsStandsFor new (after_acknack s row n a.count)) same_base (subst (λ (z : ℤ). RtpsStandsFor new (after_acknack s row base z)) same_count now);
+      stands =
+          subst (λ (n : ℕ). RtpsStandsFor new (after_acknack s row n a.count)) same_base
+          (subst (λ (z : ℤ). RtpsStandsFor new (after_acknack s row base z)) same_count now);
       acknowledged_is = newly s given
-          ∙ (ap (λ (n : ℕ). newly_acknowledged s (after_acknack s row n count) row) same_base ∙ ap (λ (z : ℤ). newly_acknowledged s (after_acknack s row a.reader_sn_state.base z) row) same_count);
+          ∙ (ap (λ (n : ℕ). newly_acknowledged s (after_acknack s row n count) row) same_base
+          ∙ ap (λ (z : ℤ). newly_acknowledged s (after_acknack s row a.reader_sn_state.base z) row) same_count);
       sends = λ name at.
           let all : answers ≡ acknack_answers s row a.reader_sn_state.base a.reader_sn_state a.count =
-          answered s given ∙ (ap (λ (n : ℕ). acknack_answers s row n a.reader_sn_state count) same_base ∙ ap (λ (z : ℤ). acknack_answers s row a.reader_sn_state.base a.reader_sn_state z) same_count) in
-          subst (λ (x : Answering). SendsAnswers x (changes_of s.written) (acknack_answers s row a.reader_sn_state.base a.reader_sn_state a.count) sent gone) (who name at)
+          answered s given ∙ (ap (λ (n : ℕ). acknack_answers s row n a.reader_sn_state count) same_base
+          ∙ ap (λ (z : ℤ). acknack_answers s row a.reader_sn_state.base a.reader_sn_state z) same_count) in
+          subst (λ (x : Answering). SendsAnswers x (changes_of s.written)
+          (acknack_answers s row a.reader_sn_state.base a.reader_sn_state a.count) sent gone) (who name at)
           (subst (λ (xs : List Answer). SendsAnswers answering (changes_of s.written) xs sent gone) all
-          (subst (λ (cs : List Change). SendsAnswers answering cs answers sent gone) (after-changes s row base count) (sends (after_acknack s row base count) now)));
+          (subst (λ (cs : List Change). SendsAnswers answering cs answers sent gone) (after-changes s row base count)
+          (sends (after_acknack s row base count) now)));
     }
 
 -- a group before others is of eight
-pub full_group : (rest group after : List Answer) (size : ℕ) → rest ≡ group ++ after → length group ≡ size → size ≡ min (length rest) 8 → (after ≡ [] → ⊥) → length group ≡ 8
+pub full_group : (rest group after : List Answer) (size : ℕ) → rest ≡ group ++ after → length group ≡ size
+    → size ≡ min (length rest) 8 → (after ≡ [] → ⊥) → length group ≡ 8
 full_group rest group [] size is count least some = absurd (some refl)
 full_group rest group (x ∷ xs) size is count least some =
     let all = ap (λ (as' : List Answer). length as') is in

@@ -25,7 +25,9 @@ not_same : (b : Bool) → (b ≡ true → ⊥) → b ≡ false
 not_same true never = absurd (never refl)
 not_same false never = refl
 
-first_of : (names : List WriterName) (e : Endpoint) (k : ℕ) (name : WriterName) → slice_get names k ≡ Some name → name.writer ≡ e → ((j : ℕ) (n : WriterName) → j < k → slice_get names j ≡ Some n → n.writer ≡ e → ⊥) → IsFirstOf (writers_of names) e k
+first_of : (names : List WriterName) (e : Endpoint) (k : ℕ) (name : WriterName) → slice_get names k ≡ Some name
+    → name.writer ≡ e → ((j : ℕ) (n : WriterName) → j < k → slice_get names j ≡ Some n → n.writer ≡ e → ⊥)
+    → IsFirstOf (writers_of names) e k
 first_of [] e k name at is before = absurd cc
 first_of (n ∷ ns) e zero name at is before =
     let same : n ≡ name = same_Some n name at in
@@ -35,7 +37,8 @@ first_of (n ∷ ns) e (suc k) name at is before = (
   first_of ns e k name at is (λ j x lt there same. before (suc j) x (omega (arith, lt)) there same),
 )
 
-pub is_first_of : (names : List WriterName) (e : Endpoint) (k : ℕ) → IsFirstRow names e k → IsFirstOf (writers_of names) e k
+pub is_first_of : (names : List WriterName) (e : Endpoint) (k : ℕ) → IsFirstRow names e k
+    → IsFirstOf (writers_of names) e k
 is_first_of names e k h = first_of names e k h.name h.at h.is h.first
 
 hit : {X : Type 0} (b : Bool) (x y : X) → b ≡ true → cond b x y ≡ x
@@ -47,12 +50,14 @@ miss true x y h = absurd cc
 miss false x y h = refl
 
 -- an end that no row is of
-not_first : {X : Type 0} (name : X → Endpoint) (b : Bool) (x : X) (xs : List X) (e : Endpoint) → same_endpoint (name x) e ≡ b → (name x ≡ e → ⊥)
+not_first : {X : Type 0} (name : X → Endpoint) (b : Bool) (x : X) (xs : List X) (e : Endpoint)
+    → same_endpoint (name x) e ≡ b → (name x ≡ e → ⊥)
     → row_of name xs e ≡ None → cond b (Some x) (row_of name xs e) ≡ None
 not_first name true x xs e is other rest = absurd (other (same_is (name x) e is))
 not_first name false x xs e is other rest = rest
 
-pub no_row : {X : Type 0} (name : X → Endpoint) (rows : List X) (e : Endpoint) → ((j : ℕ) → slice_get (map name rows) j ≡ Some e → ⊥)
+pub no_row : {X : Type 0} (name : X → Endpoint) (rows : List X) (e : Endpoint)
+    → ((j : ℕ) → slice_get (map name rows) j ≡ Some e → ⊥)
     → row_of name rows e ≡ None
 no_row name [] e none = refl
 no_row name (x ∷ xs) e none =
@@ -60,33 +65,52 @@ no_row name (x ∷ xs) e none =
     (no_row name xs e (λ j at. none (suc j) at))
 
 -- its publication handle
-handle_from : (proxies : List WriterProxy) (e : Endpoint) (k n : ℕ) → IsFirstOf (proxied proxies) e k → publication_from n proxies e ≡ Some (n + k)
+handle_from : (proxies : List WriterProxy) (e : Endpoint) (k n : ℕ) → IsFirstOf (proxied proxies) e k
+    → publication_from n proxies e ≡ Some (n + k)
 handle_from [] e k n first = absurd first
-handle_from (p ∷ ps) e zero n first = let same : n + 0 ≡ n = omega arith in hit (same_endpoint p.writer e) (Some n) (publication_from (n + 1) ps e) first ∙ ap (λ (m : ℕ). Some m) (sym same)
+handle_from (p ∷ ps) e zero n first =
+    let same : n + 0 ≡ n = omega arith in hit (same_endpoint p.writer e) (Some n) (publication_from (n + 1) ps e) first
+    ∙ ap (λ (m : ℕ). Some m) (sym same)
 handle_from (p ∷ ps) e (suc k) n first =
     let same : n + 1 + k ≡ n + suc k = omega arith in
-    miss (same_endpoint p.writer e) (Some n) (publication_from (n + 1) ps e) first.0 ∙ (handle_from ps e k (n + 1) first.1 ∙ ap (λ (m : ℕ). Some m) same)
+    miss (same_endpoint p.writer e) (Some n) (publication_from (n + 1) ps e) first.0
+    ∙ (handle_from ps e k (n + 1) first.1 ∙ ap (λ (m : ℕ). Some m) same)
 
-pub handle_is : (proxies : List WriterProxy) (e : Endpoint) (k : ℕ) → IsFirstOf (proxied proxies) e k → publication_among proxies e ≡ Some (k + 1)
-handle_is proxies e k first = let same : 1 + k ≡ k + 1 = omega arith in handle_from proxies e k 1 first ∙ ap (λ (m : ℕ). Some m) same
+pub handle_is : (proxies : List WriterProxy) (e : Endpoint) (k : ℕ) → IsFirstOf (proxied proxies) e k
+    → publication_among proxies e ≡ Some (k + 1)
+handle_is proxies e k first =
+    let same : 1 + k ≡ k + 1 = omega arith in handle_from proxies e k 1 first ∙ ap (λ (m : ℕ). Some m) same
 
 -- there is a place
-pub place_there : (proxies : List WriterProxy) (e : Endpoint) (k : ℕ) → IsFirstOf (proxied proxies) e k → (p : ℕ) × (place_of proxies e ≡ Some p)
+pub place_there : (proxies : List WriterProxy) (e : Endpoint) (k : ℕ) → IsFirstOf (proxied proxies) e k
+    → (p : ℕ) × (place_of proxies e ≡ Some p)
 place_there [] e k first = absurd first
-place_there (p ∷ ps) e zero first =
-    (p.place, ap (λ (o : Option WriterProxy). option_map (λ (q : WriterProxy). q.place) o) (hit (same_endpoint p.writer e) (Some p) (row_of (λ (q : WriterProxy). q.writer) ps e) first))
+place_there (p ∷ ps) e zero first = (
+  p.place,
+  ap (λ (o : Option WriterProxy). option_map (λ (q : WriterProxy). q.place) o)
+      (hit (same_endpoint p.writer e) (Some p) (row_of (λ (q : WriterProxy). q.writer) ps e) first),
+)
 place_there (p ∷ ps) e (suc k) first =
-    let rest = place_there ps e k first.1 in
-    (rest.0, ap (λ (o : Option WriterProxy). option_map (λ (q : WriterProxy). q.place) o) (miss (same_endpoint p.writer e) (Some p) (row_of (λ (q : WriterProxy). q.writer) ps e) first.0) ∙ rest.1)
+    let rest = place_there ps e k first.1 in (
+      rest.0,
+      ap (λ (o : Option WriterProxy). option_map (λ (q : WriterProxy). q.place) o)
+          (miss (same_endpoint p.writer e) (Some p) (row_of (λ (q : WriterProxy). q.writer) ps e) first.0) ∙ rest.1,
+    )
 
 -- a changed row is still of its writer
-kept_step : (change : WriterProxy → WriterProxy) (p : WriterProxy) (ps qs : List WriterProxy) (b : Bool) → (change p).writer ≡ p.writer → proxied qs ≡ proxied ps → proxied (cond b (change p ∷ ps) (p ∷ qs)) ≡ proxied (p ∷ ps)
+kept_step : (change : WriterProxy → WriterProxy) (p : WriterProxy) (ps qs : List WriterProxy) (b : Bool)
+    → (change p).writer ≡ p.writer → proxied qs ≡ proxied ps
+    → proxied (cond b (change p ∷ ps) (p ∷ qs)) ≡ proxied (p ∷ ps)
 kept_step change p ps qs true kept h = ap (λ (e : Endpoint). e ∷ proxied ps) kept
 kept_step change p ps qs false kept h = ap (λ (es : List Endpoint). p.writer ∷ es) h
 
-pub writers_kept : (change : WriterProxy → WriterProxy) → ((p : WriterProxy) → (change p).writer ≡ p.writer) → (rows : List WriterProxy) (w : Endpoint) → proxied (with_row (λ (p : WriterProxy). p.writer) change rows w) ≡ proxied rows
+pub writers_kept : (change : WriterProxy → WriterProxy) → ((p : WriterProxy) → (change p).writer ≡ p.writer)
+    → (rows : List WriterProxy) (w : Endpoint) → proxied (with_row (λ (p : WriterProxy). p.writer) change rows w)
+    ≡ proxied rows
 writers_kept change kept [] w = refl
-writers_kept change kept (p ∷ ps) w = kept_step change p ps (with_row (λ (q : WriterProxy). q.writer) change ps w) (same_endpoint p.writer w) (kept p) (writers_kept change kept ps w)
+writers_kept change kept (p ∷ ps) w =
+    kept_step change p ps (with_row (λ (q : WriterProxy). q.writer) change ps w) (same_endpoint p.writer w) (kept p)
+    (writers_kept change kept ps w)
 
 -- one row is the first
 pub one_first : (names : List WriterName) (e : Endpoint) (j k : ℕ) → IsFirstRow names e j → IsFirstRow names e k → j ≡ k

@@ -36,11 +36,18 @@ use Rattle.dds_core.specs.Sending.{announcement, IsAnnouncement, AreAnnouncement
 use Rattle.dds_core.proofs.Destinations.{IsPeer, is_peer, IsReaderOf, is_reader, reader_ends, sends_to}
 
 abbrev data_of : Sender → ℕ → DataContent → Submessage
-data_of sender number content = Data (record { reader_id = record { 0 = 0 ∷ 0 ∷ 0 ∷ 0 ∷ [] }; writer_id = sender.entity; writer_sn = number; content = content })
+data_of sender number content =
+    Data (record {
+      reader_id = record { 0 = 0 ∷ 0 ∷ 0 ∷ 0 ∷ [] };
+      writer_id = sender.entity;
+      writer_sn = number;
+      content = content;
+    })
 
 -- a moment below 2^63 is one
 early_is : (moment : ℕ) → moment < 2 ^ 63 → (if nat_lt moment (2 ^ 63) then moment else 0) ≡ moment
-early_is moment early = let is : nat_lt moment (2 ^ 63) ≡ true = grind (arith, nat_tests) in ap (λ (b : Bool). if b then moment else 0) is
+early_is moment early =
+    let is : nat_lt moment (2 ^ 63) ≡ true = grind (arith, nat_tests) in ap (λ (b : Bool). if b then moment else 0) is
 
 -- ---- what is claimed is true
 
@@ -50,67 +57,92 @@ IsOnly config sender own = (w : Endpoint) → IsWriter config sender.prefix send
 
 -- the change stands at the writer under this number
 abbrev pub IsThere : Part → Endpoint → ℕ → DataContent → ℕ → Type 0
-IsThere part own number content moment = change_at (writer_changes (own_writer part own.number)) number ≡ Some (change_in content moment)
+IsThere part own number content moment =
+    change_at (writer_changes (own_writer part own.number)) number ≡ Some (change_in content moment)
 
-data_says : (config : Config) (sender : Sender) (own : Endpoint) (part : Part) (prefix : GuidPrefix) (at : Receiver) (number : ℕ) (content : DataContent) (claim : Claim) → IsOnly config sender own → at.source_guid_prefix ≡ sender.prefix
-    → (is_for at prefix ≡ true → at.timestamp ≡ sender.moment) → IsThere part own number content sender.moment → Says config prefix at (data_of sender number content) claim → IsTrueAt own.peer part claim
+data_says : (config : Config) (sender : Sender) (own : Endpoint) (part : Part) (prefix : GuidPrefix) (at : Receiver)
+    (number : ℕ) (content : DataContent) (claim : Claim) → IsOnly config sender own
+    → at.source_guid_prefix ≡ sender.prefix
+    → (is_for at prefix ≡ true → at.timestamp ≡ sender.moment) → IsThere part own number content sender.moment
+    → Says config prefix at (data_of sender number content) claim → IsTrueAt own.peer part claim
 data_says config sender own part prefix at number content (ChangeIs w r n c) only source time there h =
-    let name : IsWriter config sender.prefix sender.entity w = subst (λ (p : GuidPrefix). IsWriter config p sender.entity w) source h.0.from in
+    let name : IsWriter config sender.prefix sender.entity w =
+    subst (λ (p : GuidPrefix). IsWriter config p sender.entity w) source h.0.from in
     let w_is : w ≡ own = only w name in
     let c_is : c ≡ change_in content sender.moment = h.2 ∙ ap (λ (t : ℕ). change_in content t) (time h.0.is_for) in (
       ap (λ (e : Endpoint). e.peer) w_is,
       ap (λ (e : Endpoint). change_at (writer_changes (own_writer part e.number)) n) w_is
-          ∙ (ap (λ (k : ℕ). change_at (writer_changes (own_writer part own.number)) k) h.1 ∙ (there ∙ ap (λ (x : Change). Some x) (sym c_is))),
+          ∙ (ap (λ (k : ℕ). change_at (writer_changes (own_writer part own.number)) k) h.1
+          ∙ (there ∙ ap (λ (x : Change). Some x) (sym c_is))),
     )
 data_says config sender own part prefix at number content (MayPass w r n) only source time there h = absurd h
 data_says config sender own part prefix at number content (PlaceReached w r b) only source time there h = absurd h
 data_says config sender own part prefix at number content (Asserts w r k) only source time there h = absurd h
 
-dst_says : (config : Config) (own : GuidPrefix) (at : Receiver) (prefix : GuidPrefix) (claim : Claim) → Says config own at (InfoDst prefix) claim → ⊥
+dst_says : (config : Config) (own : GuidPrefix) (at : Receiver) (prefix : GuidPrefix) (claim : Claim)
+    → Says config own at (InfoDst prefix) claim → ⊥
 dst_says config own at prefix (ChangeIs w r n c) h = h
 dst_says config own at prefix (MayPass w r n) h = h
 dst_says config own at prefix (PlaceReached w r b) h = h
 dst_says config own at prefix (Asserts w r k) h = h
 
-ts_says : (config : Config) (own : GuidPrefix) (at : Receiver) (moment : Option ℕ) (claim : Claim) → Says config own at (InfoTs moment) claim → ⊥
+ts_says : (config : Config) (own : GuidPrefix) (at : Receiver) (moment : Option ℕ) (claim : Claim)
+    → Says config own at (InfoTs moment) claim → ⊥
 ts_says config own at moment (ChangeIs w r n c) h = h
 ts_says config own at moment (MayPass w r n) h = h
 ts_says config own at moment (PlaceReached w r b) h = h
 ts_says config own at moment (Asserts w r k) h = h
 
 -- the INFO_TS counts for whom the DATA is
-stamped : (b : Bool) (own : GuidPrefix) (r at : Receiver) (stamp : ℕ) → is_for r own ≡ b → at ≡ (if b then record r { timestamp = stamp } else r) → is_for at own ≡ true → at.timestamp ≡ stamp
+stamped : (b : Bool) (own : GuidPrefix) (r at : Receiver) (stamp : ℕ) → is_for r own ≡ b
+    → at ≡ (if b then record r { timestamp = stamp } else r) → is_for at own ≡ true → at.timestamp ≡ stamp
 stamped true own r at stamp is same for = ap (λ (x : Receiver). x.timestamp) same
-stamped false own r at stamp is same for = let not_for : is_for at own ≡ false = ap (λ (x : Receiver). is_for x own) same ∙ is in absurd cc
+stamped false own r at stamp is same for =
+    let not_for : is_for at own ≡ false = ap (λ (x : Receiver). is_for x own) same ∙ is in absurd cc
 
-sourced : (b : Bool) (r at : Receiver) (stamp : ℕ) → at ≡ (if b then record r { timestamp = stamp } else r) → at.source_guid_prefix ≡ r.source_guid_prefix
+sourced : (b : Bool) (r at : Receiver) (stamp : ℕ) → at ≡ (if b then record r { timestamp = stamp } else r)
+    → at.source_guid_prefix ≡ r.source_guid_prefix
 sourced true r at stamp same = ap (λ (x : Receiver). x.source_guid_prefix) same
 sourced false r at stamp same = ap (λ (x : Receiver). x.source_guid_prefix) same
 
-message_says : (config : Config) (sender : Sender) (to : Destination) (own : Endpoint) (part : Part) (prefix : GuidPrefix) (index : ℕ) (at : Receiver) (submessage : Submessage) (number : ℕ) (content : DataContent) (claim : Claim) → IsOnly config sender own
-    → sender.moment < 2 ^ 63 → IsThere part own number content sender.moment → StandsAt prefix (receiver_of sender.prefix) (announcement sender to number content).submessages index at submessage → Says config prefix at submessage claim
+message_says : (config : Config) (sender : Sender) (to : Destination) (own : Endpoint) (part : Part)
+    (prefix : GuidPrefix) (index : ℕ) (at : Receiver) (submessage : Submessage) (number : ℕ) (content : DataContent)
+    (claim : Claim) → IsOnly config sender own
+    → sender.moment < 2 ^ 63 → IsThere part own number content sender.moment
+    → StandsAt prefix (receiver_of sender.prefix)
+    (announcement sender to number content).submessages index at submessage → Says config prefix at submessage claim
     → IsTrueAt own.peer part claim
 message_says config sender to own part prefix zero at submessage number content claim only early there h says =
-    absurd (dst_says config prefix at to.prefix claim (subst (λ (x : Submessage). Says config prefix at x claim) h.1 says))
+    absurd (dst_says config prefix at to.prefix claim
+    (subst (λ (x : Submessage). Says config prefix at x claim) h.1 says))
 message_says config sender to own part prefix (suc zero) at submessage number content claim only early there h says =
-    absurd (ts_says config prefix at (Some sender.moment) claim (subst (λ (x : Submessage). Says config prefix at x claim) h.1 says))
-message_says config sender to own part prefix (suc (suc zero)) at submessage number content claim only early there h says =
+    absurd (ts_says config prefix at (Some sender.moment) claim
+    (subst (λ (x : Submessage). Says config prefix at x claim) h.1 says))
+message_says config sender to own part prefix
+    (suc (suc zero)) at submessage number content claim only early there h says =
     let r : Receiver = after_submessage prefix (receiver_of sender.prefix) (InfoDst to.prefix) in
     let stamp : ℕ = stamp_of (Some sender.moment) in
-    data_says config sender own part prefix at number content claim only (sourced (is_for r prefix) r at stamp h.0) (λ for. stamped (is_for r prefix) prefix r at stamp refl h.0 for ∙ early_is sender.moment early) there
+    data_says config sender own part prefix at number content claim only (sourced (is_for r prefix) r at stamp h.0)
+    (λ for. stamped (is_for r prefix) prefix r at stamp refl h.0 for ∙ early_is sender.moment early) there
     (subst (λ (x : Submessage). Says config prefix at x claim) h.1 says)
-message_says config sender to own part prefix (suc (suc (suc index))) at submessage number content claim only early there h says = absurd h
+message_says config sender to own part prefix
+    (suc (suc (suc index))) at submessage number content claim only early there h says = absurd h
 
 -- what an announcement claims is true
-announcement_true : (config : Config) (sender : Sender) (to : Destination) (own : Endpoint) (part : Part) (number : ℕ) (content : DataContent) (packet : Packet) (claim : Claim) → IsOnly config sender own → sender.moment < 2 ^ 63
-    → IsThere part own number content sender.moment → IsAnnouncement sender to number content packet → Claims config packet.bytes claim → IsTrueAt own.peer part claim
+announcement_true : (config : Config) (sender : Sender) (to : Destination) (own : Endpoint) (part : Part) (number : ℕ)
+    (content : DataContent) (packet : Packet) (claim : Claim) → IsOnly config sender own → sender.moment < 2 ^ 63
+    → IsThere part own number content sender.moment → IsAnnouncement sender to number content packet
+    → Claims config packet.bytes claim → IsTrueAt own.peer part claim
 announcement_true config sender to own part number content packet claim only early there is h =
     let m : Message = announcement sender to number content in
     let written : ReadsMessage (spelling_of m) m (length (spelling_of m)) = message_again m is.writable in
-    let read : ReadsMessage (spelling_of m) h.message h.offset = subst (λ (b : List ℕ). ReadsMessage b h.message h.offset) is.bytes h.is_read in
-    let same : h.message ≡ m = (message_one (spelling_of m) h.message m h.offset (length (spelling_of m)) read written).0 in
+    let read : ReadsMessage (spelling_of m) h.message h.offset =
+    subst (λ (b : List ℕ). ReadsMessage b h.message h.offset) is.bytes h.is_read in
+    let same : h.message ≡ m =
+    (message_one (spelling_of m) h.message m h.offset (length (spelling_of m)) read written).0 in
     message_says config sender to own part h.own h.index h.at h.submessage number content claim only early there
-    (subst (λ (x : Message). StandsAt h.own (receiver_of x.prefix) x.submessages h.index h.at h.submessage) same h.stands) h.says
+    (subst (λ (x : Message). StandsAt h.own (receiver_of x.prefix) x.submessages h.index h.at h.submessage) same
+    h.stands) h.says
 
 -- ---- what is claimed
 
@@ -119,7 +151,9 @@ same_prefix-refl : (a : GuidPrefix) → same_prefix a a ≡ true
 same_prefix-refl a = (slice_eq-Decides {E = nat_eq} Decides-eqb a.0 a.0 (same_prefix a a) refl).1 refl
 
 for_own : (receiver : Receiver) (own : GuidPrefix) → receiver.dest_guid_prefix ≡ own → is_for receiver own ≡ true
-for_own receiver own same = ap (λ (p : GuidPrefix). same_prefix p own || same_prefix p every_peer) same ∙ ap (λ (b : Bool). b || same_prefix own every_peer) (same_prefix-refl own)
+for_own receiver own same =
+    ap (λ (p : GuidPrefix). same_prefix p own || same_prefix p every_peer) same
+    ∙ ap (λ (b : Bool). b || same_prefix own every_peer) (same_prefix-refl own)
 
 -- the writer that sends, as the configuration has it
 pub record IsSender (config : Config) (sender : Sender) (own : Endpoint) (topic : ℕ) : Type 0 where
@@ -127,16 +161,21 @@ pub record IsSender (config : Config) (sender : Sender) (own : Endpoint) (topic 
   pub same_topic : from.end.topic ≡ topic
 
 -- the announcement claims the change to a reader of the topic at the peer that it goes to
-announces : (config : Config) (sender : Sender) (to : Destination) (own reader : Endpoint) (topic number : ℕ) (content : DataContent) (packet : Packet) → IsSender config sender own topic → IsPeer config.peers to → IsReaderOf config topic reader
-    → reader.peer ≡ to.peer → sender.moment < 2 ^ 63 → IsAnnouncement sender to number content packet → Claims config packet.bytes (ChangeIs own reader number (change_in content sender.moment))
+announces : (config : Config) (sender : Sender) (to : Destination) (own reader : Endpoint) (topic number : ℕ)
+    (content : DataContent) (packet : Packet) → IsSender config sender own topic → IsPeer config.peers to
+    → IsReaderOf config topic reader
+    → reader.peer ≡ to.peer → sender.moment < 2 ^ 63 → IsAnnouncement sender to number content packet
+    → Claims config packet.bytes (ChangeIs own reader number (change_in content sender.moment))
 announces config sender to own reader topic number content packet from there of same early is =
     let m : Message = announcement sender to number content in
     let prefix : GuidPrefix = to.prefix in
     let before : Receiver = after_submessage prefix (receiver_of sender.prefix) (InfoDst to.prefix) in
     let at : Receiver = record before { timestamp = stamp_of (Some sender.moment) } in
     let for : is_for before prefix ≡ true = for_own before prefix refl in
-    let after : after_submessage prefix before (InfoTs (Some sender.moment)) ≡ at = ap (λ (b : Bool). if b then at else before) for in
-    let at_peer : slice_get config.peers (to.peer - 1) ≡ Some of.peer = subst (λ (n : ℕ). slice_get config.peers (n - 1) ≡ Some of.peer) same of.at_peer.1 in
+    let after : after_submessage prefix before (InfoTs (Some sender.moment)) ≡ at =
+    ap (λ (b : Bool). if b then at else before) for in
+    let at_peer : slice_get config.peers (to.peer - 1) ≡ Some of.peer =
+    subst (λ (n : ℕ). slice_get config.peers (n - 1) ≡ Some of.peer) same of.at_peer.1 in
     let peers : of.peer ≡ there.peer = same_Some of.peer there.peer (sym at_peer ∙ there.at.1) in
     let target : IsReader config prefix of.end.entity reader = record {
       peer = of.peer;
@@ -147,11 +186,20 @@ announces config sender to own reader topic number content packet from there of 
       same_entity = refl;
     } in
     let speaks : IsToReader config prefix at every_reader sender.entity own reader =
-    record { from = from.from; is_for = for_own at prefix refl; entity = of.end.entity; to = target; named = inr refl; matched = from.same_topic ∙ sym of.same_topic } in
+    record {
+      from = from.from;
+      is_for = for_own at prefix refl;
+      entity = of.end.entity;
+      to = target;
+      named = inr refl;
+      matched = from.same_topic ∙ sym of.same_topic;
+    } in
     record {
       message = m;
       offset = length (spelling_of m);
-      is_read = subst (λ (b : List ℕ). ReadsMessage b m (length (spelling_of m))) (sym is.bytes) (message_again m is.writable);
+      is_read =
+          subst (λ (b : List ℕ). ReadsMessage b m (length (spelling_of m))) (sym is.bytes)
+          (message_again m is.writable);
       own = prefix;
       index = 2;
       at = at;
@@ -161,18 +209,30 @@ announces config sender to own reader topic number content packet from there of 
     }
 
 -- the announcement is a message with a submessage
-is_message : (sender : Sender) (to : Destination) (number : ℕ) (content : DataContent) (packet : Packet) → IsAnnouncement sender to number content packet → HasSubmessage packet.bytes
+is_message : (sender : Sender) (to : Destination) (number : ℕ) (content : DataContent) (packet : Packet)
+    → IsAnnouncement sender to number content packet → HasSubmessage packet.bytes
 is_message sender to number content packet is =
     let m : Message = announcement sender to number content in
     let r : ReadsMessage (spelling_of m) m (length (spelling_of m)) = message_again m is.writable in
     let f = r.submessages in
     subst (λ (b : List ℕ). HasSubmessage b) (sym is.bytes)
-    (record { minor = r.minor; vendor = r.vendor; source = m.prefix; body = r.body; two = r.two; prefix = r.prefix; header = r.header; first = (f.0, f.1, f.2, f.3, f.4); short = r.short })
+    (record {
+      minor = r.minor;
+      vendor = r.vendor;
+      source = m.prefix;
+      body = r.body;
+      two = r.two;
+      prefix = r.prefix;
+      header = r.header;
+      first = (f.0, f.1, f.2, f.3, f.4);
+      short = r.short;
+    })
 
 -- ---- the packets to all destinations
 
 -- a destination that the packet announces the change to
-record Target (sender : Sender) (number : ℕ) (content : DataContent) (ds : List Destination) (packet : Packet) : Type 0 where
+record Target (sender : Sender) (number : ℕ) (content : DataContent) (ds : List Destination)
+    (packet : Packet) : Type 0 where
   index : ℕ
   to : Destination
   at : slice_get ds index ≡ Some to
@@ -182,16 +242,26 @@ pub contains_cases : {X : Type 0} (x : X) (xs : List X) (y : X) → Contains (x 
 contains_cases x xs y (zero, lt, is) = inl is
 contains_cases x xs y (suc k, lt, is) = inr (k, omega (arith, lt), is)
 
-later : {sender : Sender} {number : ℕ} {content : DataContent} {packet : Packet} (d : Destination) (ds : List Destination) → Target sender number content ds packet → Target sender number content (d ∷ ds) packet
+later : {sender : Sender} {number : ℕ} {content : DataContent} {packet : Packet} (d : Destination)
+    (ds : List Destination) → Target sender number content ds packet → Target sender number content (d ∷ ds) packet
 later d ds t = record { index = suc t.index; to = t.to; at = t.at; is = t.is }
 
-target : (sender : Sender) (number : ℕ) (content : DataContent) (ds : List Destination) (ps : List Packet) → AreAnnouncements sender number content ds ps → (packet : Packet) → Contains ps packet → Target sender number content ds packet
+target : (sender : Sender) (number : ℕ) (content : DataContent) (ds : List Destination) (ps : List Packet)
+    → AreAnnouncements sender number content ds ps → (packet : Packet) → Contains ps packet
+    → Target sender number content ds packet
 target sender number content ds [] h packet among = let lt = among.1 in absurd (omega (arith, lt))
 target sender number content [] (p ∷ ps) h packet among = absurd h
 target sender number content (d ∷ ds) (p ∷ ps) (inl f) packet among =
-    ⊎_elim (λ same. record { index = zero; to = d; at = refl; is = subst (λ (x : Packet). IsAnnouncement sender d number content x) same f.0 })
+    ⊎_elim (λ same. record {
+      index = zero;
+      to = d;
+      at = refl;
+      is = subst
+          (λ (x : Packet). IsAnnouncement sender d number content x) same f.0;
+    })
     (λ rest. later d ds (target sender number content ds ps f.1 packet rest)) (contains_cases p ps packet among)
-target sender number content (d ∷ ds) (p ∷ ps) (inr g) packet among = later d ds (target sender number content ds (p ∷ ps) g packet among)
+target sender number content (d ∷ ds) (p ∷ ps) (inr g) packet among =
+    later d ds (target sender number content ds (p ∷ ps) g packet among)
 
 -- destinations in the order of their numbers
 AreFrom : ℕ → List Destination → Type 0
@@ -203,7 +273,8 @@ unfolding AreFrom
 from_less m n [] le h = tt
 from_less m n (d ∷ ds) le h = let low = h.0 in (omega (arith, le, low), h.1)
 
-one_from : (b : Bool) (n : ℕ) (prefix : GuidPrefix) (ds : List Destination) → AreFrom (n + 1) ds → AreFrom n (cond b (record { peer = n; prefix = prefix } ∷ ds) ds)
+one_from : (b : Bool) (n : ℕ) (prefix : GuidPrefix) (ds : List Destination) → AreFrom (n + 1) ds
+    → AreFrom n (cond b (record { peer = n; prefix = prefix } ∷ ds) ds)
 unfolding AreFrom
 one_from true n prefix ds h = (omega arith, h)
 one_from false n prefix ds h = from_less n (n + 1) ds (omega arith) h
@@ -211,28 +282,40 @@ one_from false n prefix ds h = from_less n (n + 1) ds (omega arith) h
 all_from : (topic n : ℕ) (ps : List PeerConfig) → AreFrom n (destinations topic n ps)
 unfolding AreFrom
 all_from topic n [] = tt
-all_from topic n (p ∷ ps) = one_from (has_reader topic p.readers) n p.prefix (destinations topic (n + 1) ps) (all_from topic (n + 1) ps)
+all_from topic n (p ∷ ps) =
+    one_from (has_reader topic p.readers) n p.prefix (destinations topic (n + 1) ps) (all_from topic (n + 1) ps)
 
-others : (sender : Sender) (number : ℕ) (content : DataContent) (m n : ℕ) (ds : List Destination) (ps : List Packet) → m < n → AreFrom n ds → AreAnnouncements sender number content ds ps → AllByRecursion (λ (q : Packet). m ≢ q.to) ps
+others : (sender : Sender) (number : ℕ) (content : DataContent) (m n : ℕ) (ds : List Destination) (ps : List Packet)
+    → m < n → AreFrom n ds → AreAnnouncements sender number content ds ps → AllByRecursion (λ (q : Packet). m ≢ q.to) ps
 unfolding AreFrom
 others sender number content m n ds [] lt from h = tt
 others sender number content m n [] (p ∷ ps) lt from h = absurd h
 others sender number content m n (d ∷ ds) (p ∷ ps) lt from (inl f) =
-    let to = f.0.to_is in let low = from.0 in (λ same. omega (arith, same, to, low, lt), others sender number content m (d.peer + 1) ds ps (omega (arith, low, lt)) from.1 f.1)
-others sender number content m n (d ∷ ds) (p ∷ ps) lt from (inr g) = let low = from.0 in others sender number content m (d.peer + 1) ds (p ∷ ps) (omega (arith, low, lt)) from.1 g
+    let to =
+    f.0.to_is in let low = from.0 in (
+      λ same. omega (arith, same, to, low, lt),
+      others sender number content m (d.peer + 1) ds ps
+          (omega (arith, low, lt)) from.1 f.1,
+    )
+others sender number content m n (d ∷ ds) (p ∷ ps) lt from (inr g) =
+    let low = from.0 in others sender number content m (d.peer + 1) ds (p ∷ ps) (omega (arith, low, lt)) from.1 g
 
-different : (sender : Sender) (number : ℕ) (content : DataContent) (n : ℕ) (ds : List Destination) (ps : List Packet) → AreFrom n ds → AreAnnouncements sender number content ds ps → AllPairs (λ (a b : Packet). a.to ≢ b.to) ps
+different : (sender : Sender) (number : ℕ) (content : DataContent) (n : ℕ) (ds : List Destination) (ps : List Packet)
+    → AreFrom n ds → AreAnnouncements sender number content ds ps → AllPairs (λ (a b : Packet). a.to ≢ b.to) ps
 unfolding AreFrom
 different sender number content n ds [] from h = λ i j d lt within. absurd (omega (arith, within))
 different sender number content n [] (p ∷ ps) from h = absurd h
 different sender number content n (d ∷ ds) (p ∷ ps) from (inl f) =
     let to = f.0.to_is in
     AllPairs-cons (λ (a b : Packet). a.to ≢ b.to) p ps
-    (All-from_recursion (λ (q : Packet). p.to ≢ q.to) ps (others sender number content p.to (d.peer + 1) ds ps (omega (arith, to)) from.1 f.1))
+    (All-from_recursion (λ (q : Packet). p.to ≢ q.to) ps
+    (others sender number content p.to (d.peer + 1) ds ps (omega (arith, to)) from.1 f.1))
     (different sender number content (d.peer + 1) ds ps from.1 f.1)
-different sender number content n (d ∷ ds) (p ∷ ps) from (inr g) = different sender number content (d.peer + 1) ds (p ∷ ps) from.1 g
+different sender number content n (d ∷ ds) (p ∷ ps) from (inr g) =
+    different sender number content (d.peer + 1) ds (p ∷ ps) from.1 g
 
-contains_map : (ds : List Destination) (k : ℕ) (d : Destination) → slice_get ds k ≡ Some d → Contains (map (λ (x : Destination). x.peer) ds) d.peer
+contains_map : (ds : List Destination) (k : ℕ) (d : Destination) → slice_get ds k ≡ Some d
+    → Contains (map (λ (x : Destination). x.peer) ds) d.peer
 contains_map [] k d at = absurd cc
 contains_map (x ∷ xs) zero d at = (zero, omega arith, ap (λ (y : Destination). y.peer) (same_Some x d at))
 contains_map (x ∷ xs) (suc k) d at = let c = contains_map xs k d at in let lt = c.1 in (suc c.0, omega (arith, lt), c.2)
@@ -242,33 +325,47 @@ pub record IsMatched (config : Config) (topic : ℕ) (rows : List ReaderProxy) (
   pub names : map (λ (p : ReaderProxy). p.reader) rows ≡ reader_ends topic config.peers
   pub sent_to : ds ≡ destinations topic 1 config.peers
 
-pub sends_change : (config : Config) (sender : Sender) (own : Endpoint) (topic : ℕ) (rows : List ReaderProxy) (ds : List Destination) (number : ℕ) (content : DataContent) (output : Output) → IsSender config sender own topic → IsMatched config topic rows ds
-    → sender.moment < 2 ^ 63 → AreAnnouncements sender number content ds output.packets → length output.packets + output.unsent ≡ length ds
-    → AreSent (changes_due config own rows number (change_in content sender.moment)) output.packets output.unsent → SendsChange config own rows number (change_in content sender.moment) output
+pub sends_change : (config : Config) (sender : Sender) (own : Endpoint) (topic : ℕ) (rows : List ReaderProxy)
+    (ds : List Destination) (number : ℕ) (content : DataContent) (output : Output) → IsSender config sender own topic
+    → IsMatched config topic rows ds
+    → sender.moment < 2 ^ 63 → AreAnnouncements sender number content ds output.packets
+    → length output.packets + output.unsent ≡ length ds
+    → AreSent (changes_due config own rows number (change_in content sender.moment)) output.packets output.unsent
+    → SendsChange config own rows number (change_in content sender.moment) output
 sends_change config sender own topic rows ds number content output from matched early are counted are_sent =
     let peers = sends_to topic config.peers rows ds matched.names matched.sent_to in
-    let ordered : AreFrom 1 ds = subst (λ (xs : List Destination). AreFrom 1 xs) (sym matched.sent_to) (all_from topic 1 config.peers) in
+    let ordered : AreFrom 1 ds =
+    subst (λ (xs : List Destination). AreFrom 1 xs) (sym matched.sent_to) (all_from topic 1 config.peers) in
     record {
-      counted = counted ∙ (sym (length-map ds (λ (d : Destination). d.peer)) ∙ ap (λ (ns : List ℕ). length ns) (sym peers));
+      counted =
+          counted ∙ (sym (length-map ds (λ (d : Destination). d.peer)) ∙ ap (λ (ns : List ℕ). length ns) (sym peers));
       are_sent = are_sent;
       to_peers = λ packet among.
           let t = target sender number content ds output.packets are packet among in
-          subst (λ (ns : List ℕ). Contains ns packet.to) (sym peers) (subst (λ (n : ℕ). Contains (map (λ (x : Destination). x.peer) ds) n) (sym t.is.to_is) (contains_map ds t.index t.to t.at));
+          subst (λ (ns : List ℕ). Contains ns packet.to) (sym peers)
+          (subst (λ (n : ℕ). Contains (map (λ (x : Destination). x.peer) ds) n) (sym t.is.to_is)
+          (contains_map ds t.index t.to t.at));
       says = λ packet reader among same some.
           let t = target sender number content ds output.packets are packet among in
           announces config sender t.to own reader topic number content packet from
-          (is_peer config.peers topic t.index t.to (subst (λ (xs : List Destination). slice_get xs t.index ≡ Some t.to) matched.sent_to t.at))
+          (is_peer config.peers topic t.index t.to
+          (subst (λ (xs : List Destination). slice_get xs t.index ≡ Some t.to) matched.sent_to t.at))
           (is_reader config topic rows reader matched.names some) (same ∙ t.is.to_is) early t.is;
       different = different sender number content 1 ds output.packets ordered are;
     }
 
 -- what is sent claims the truth
-pub sent_true : (config : Config) (sender : Sender) (own : Endpoint) (part : Part) (ds : List Destination) (number : ℕ) (content : DataContent) (packets : List Packet) → IsOnly config sender own → sender.moment < 2 ^ 63
-    → IsThere part own number content sender.moment → AreAnnouncements sender number content ds packets → (packet : Packet) (claim : Claim) → Contains packets packet → Claims config packet.bytes claim → IsTrueAt own.peer part claim
+pub sent_true : (config : Config) (sender : Sender) (own : Endpoint) (part : Part) (ds : List Destination) (number : ℕ)
+    (content : DataContent) (packets : List Packet) → IsOnly config sender own → sender.moment < 2 ^ 63
+    → IsThere part own number content sender.moment → AreAnnouncements sender number content ds packets
+    → (packet : Packet) (claim : Claim) → Contains packets packet → Claims config packet.bytes claim
+    → IsTrueAt own.peer part claim
 sent_true config sender own part ds number content packets only early there are packet claim among h =
     let t = target sender number content ds packets are packet among in
     announcement_true config sender t.to own part number content packet claim only early there t.is h
 
 -- and is a message
-pub sent_messages : (sender : Sender) (number : ℕ) (c : DataContent) (ds : List Destination) (packets : List Packet) → AreAnnouncements sender number c ds packets → AreMessages packets
-sent_messages sender number c ds packets are packet among = let t = target sender number c ds packets are packet among in is_message sender t.to number c packet t.is
+pub sent_messages : (sender : Sender) (number : ℕ) (c : DataContent) (ds : List Destination) (packets : List Packet)
+    → AreAnnouncements sender number c ds packets → AreMessages packets
+sent_messages sender number c ds packets are packet among =
+    let t = target sender number c ds packets are packet among in is_message sender t.to number c packet t.is

@@ -44,27 +44,44 @@ use Rattle.dds_core.proofs.Beating.{written_on}
 
 -- ---- what a peer is, said again
 
-pub stands_again : (kept : PeerKept) (config : Config) (peer after : Peer) → after.number ≡ peer.number → after.part ≡ peer.part → after.known ≡ peer.known → StandsFor kept config peer → StandsFor kept config after
+pub stands_again : (kept : PeerKept) (config : Config) (peer after : Peer) → after.number ≡ peer.number
+    → after.part ≡ peer.part → after.known ≡ peer.known → StandsFor kept config peer → StandsFor kept config after
 stands_again kept config peer after number part known s =
-    subst (λ n. StandsFor kept config (record { number = n; part = after.part; known = after.known; delivered = after.delivered })) (sym number)
-    (subst (λ p. StandsFor kept config (record { number = peer.number; part = p; known = after.known; delivered = after.delivered })) (sym part)
-    (subst (λ k. StandsFor kept config (record { number = peer.number; part = peer.part; known = k; delivered = after.delivered })) (sym known)
-    (record { is_peer = s.is_peer; moment = s.moment; early = s.early; writers = s.writers; readers = s.readers; tellable = s.tellable; watch = s.watch })))
+    subst (λ n. StandsFor kept config
+    (record { number = n; part = after.part; known = after.known; delivered = after.delivered })) (sym number)
+    (subst (λ p. StandsFor kept config
+    (record { number = peer.number; part = p; known = after.known; delivered = after.delivered })) (sym part)
+    (subst (λ k. StandsFor kept config
+    (record { number = peer.number; part = peer.part; known = k; delivered = after.delivered })) (sym known)
+    (record {
+      is_peer = s.is_peer;
+      moment = s.moment;
+      early = s.early;
+      writers = s.writers;
+      readers = s.readers;
+      tellable = s.tellable;
+      watch = s.watch;
+    })))
 
-pub numbered_prefix : (ps : List PeerConfig) (n : ℕ) (p : PeerConfig) → IsNumbered ps n p → (numbered ps n (record { prefix = unknown_prefix; writers = []; readers = [] })).prefix ≡ p.prefix
+pub numbered_prefix : (ps : List PeerConfig) (n : ℕ) (p : PeerConfig) → IsNumbered ps n p
+    → (numbered ps n (record { prefix = unknown_prefix; writers = []; readers = [] })).prefix ≡ p.prefix
 numbered_prefix ps zero p at = let low = at.0 in absurd (omega (arith, low))
 numbered_prefix ps (suc n) p at =
     let index : suc n - 1 ≡ n = omega arith in
-    ap (λ (x : PeerConfig). x.prefix) (get_or_from_slice_get ps n p _ (subst (λ (m : ℕ). slice_get ps m ≡ Some p) index at.1))
+    ap (λ (x : PeerConfig). x.prefix)
+    (get_or_from_slice_get ps n p _ (subst (λ (m : ℕ). slice_get ps m ≡ Some p) index at.1))
 
-pub prefix_is : (old : PeerKept) (config : Config) (peer : Peer) → StandsFor old config peer → prefix_of config peer.number ≡ old.prefix
+pub prefix_is : (old : PeerKept) (config : Config) (peer : Peer) → StandsFor old config peer
+    → prefix_of config peer.number ≡ old.prefix
 prefix_is old config peer s = numbered_prefix config.peers peer.number s.is_peer.own s.is_peer.at ∙ sym s.is_peer.prefix
 
 -- ---- one submessage
 
 -- one that is no ACKNACK is taken up by the peer's readers
-takes_by_readers : (config : Config) (own : GuidPrefix) (peer : ℕ) (at : Receiver) (s : Submessage) → ((a : AckNackBody) → s ≡ AckNack a → ⊥) → (old : State) (made : List Move) (dues : List Due) (new : State)
-    → InTurn (ReaderTakes config own peer at s) (numbers_from 1 (length old.part.rtps.readers)) old made dues new → Takes config own peer at s old made dues new
+takes_by_readers : (config : Config) (own : GuidPrefix) (peer : ℕ) (at : Receiver) (s : Submessage)
+    → ((a : AckNackBody) → s ≡ AckNack a → ⊥) → (old : State) (made : List Move) (dues : List Due) (new : State)
+    → InTurn (ReaderTakes config own peer at s) (numbers_from 1 (length old.part.rtps.readers)) old made dues new
+    → Takes config own peer at s old made dues new
 takes_by_readers config own peer at (AckNack a) other old made dues new h = absurd (other a refl)
 takes_by_readers config own peer at (Data d) other old made dues new h = h
 takes_by_readers config own peer at (Gap g) other old made dues new h = h
@@ -74,70 +91,98 @@ takes_by_readers config own peer at (InfoTs t) other old made dues new h = h
 takes_by_readers config own peer at (Other n) other old made dues new h = h
 takes_by_readers config own peer at Pad other old made dues new h = h
 
-pub readers_take : (old new : PeerKept) (at : Receiver) (s : Submessage) (moves after : List Move) (sent gone : Announced) → ((a : AckNackBody) → s ≡ AckNack a → ⊥) → TellsReaders old at s moves sent new after gone → TakesOneMore old at s moves sent new after gone
+pub readers_take : (old new : PeerKept) (at : Receiver) (s : Submessage) (moves after : List Move)
+    (sent gone : Announced) → ((a : AckNackBody) → s ≡ AckNack a → ⊥) → TellsReaders old at s moves sent new after gone
+    → TakesOneMore old at s moves sent new after gone
 readers_take old new at s moves after sent gone other h = record {
   made = h.made;
   after_is = h.after_is;
   takes = λ config peer stands.
-      let r : ReadersTook config old.prefix at s (length old.readers) peer h.made sent new gone = h.takes config peer stands in
+      let r : ReadersTook config old.prefix at s (length old.readers) peer h.made sent new gone =
+      h.takes config peer stands in
       record {
         state = r.state;
         dues = r.dues;
         takes = takes_by_readers config old.prefix peer.number at s other (state_of peer) h.made r.dues r.state
-            (subst (λ (n : ℕ). InTurn (ReaderTakes config old.prefix peer.number at s) (numbers_from 1 n) (state_of peer) h.made r.dues r.state) (sym stands.readers.rows) r.turn);
+            (subst (λ (n : ℕ). InTurn (ReaderTakes config old.prefix peer.number at s) (numbers_from 1 n)
+            (state_of peer) h.made r.dues r.state) (sym stands.readers.rows) r.turn);
         stands = r.stands;
         adds = r.adds;
       };
 }
 
-pub readers_take_if : {A B : Type 0} (result : Result A B) (old new : PeerKept) (at : Receiver) (s : Submessage) (moves after : List Move) (sent gone : Announced) → ((a : AckNackBody) → s ≡ AckNack a → ⊥)
-    → OnOk result (TellsReaders old at s moves sent new after gone) → OnOk result (TakesOneMore old at s moves sent new after gone)
-readers_take_if (Ok x) old new at s moves after sent gone other h = readers_take old new at s moves after sent gone other h
+pub readers_take_if : {A B : Type 0} (result : Result A B) (old new : PeerKept) (at : Receiver) (s : Submessage)
+    (moves after : List Move) (sent gone : Announced) → ((a : AckNackBody) → s ≡ AckNack a → ⊥)
+    → OnOk result (TellsReaders old at s moves sent new after gone)
+    → OnOk result (TakesOneMore old at s moves sent new after gone)
+readers_take_if (Ok x) old new at s moves after sent gone other h =
+    readers_take old new at s moves after sent gone other h
 readers_take_if (Err e) old new at s moves after sent gone other h = tt
 
 -- no packets are messages
 pub no_messages : (packets : List Packet) → packets ≡ [] → AreMessages packets
-no_messages packets none packet among = let c : Contains {X = Packet} [] packet = subst (λ (ps : List Packet). Contains ps packet) none among in let lt = c.1 in absurd (omega (arith, lt))
+no_messages packets none packet among =
+    let c : Contains {X = Packet} [] packet = subst
+    (λ (ps : List Packet). Contains ps packet) none among in let lt = c.1 in absurd (omega (arith, lt))
 
 -- ---- the submessages of a message
 
 -- what was sent, and more
-written_adds : (a b : List Due) (sent gone : Announced) → AreSent a sent.packets.items sent.unsent → AddsTo b sent gone → AreSent (a ++ b) gone.packets.items gone.unsent
+written_adds : (a b : List Due) (sent gone : Announced) → AreSent a sent.packets.items sent.unsent → AddsTo b sent gone
+    → AreSent (a ++ b) gone.packets.items gone.unsent
 written_adds a b sent gone h more =
     subst (λ (ps : List Packet). AreSent (a ++ b) ps gone.unsent) (sym more.sent)
-    (subst (λ (n : ℕ). AreSent (a ++ b) (sent.packets.items ++ more.packets) n) (sym more.lost) (written_on a b sent.packets.items more.packets sent.unsent more.unsent h more.written))
+    (subst (λ (n : ℕ). AreSent (a ++ b) (sent.packets.items ++ more.packets) n) (sym more.lost)
+    (written_on a b sent.packets.items more.packets sent.unsent more.unsent h more.written))
 
 -- nothing is taken up at first
-pub takes_none : (old : PeerKept) (message : Message) (at : Receiver) (moves : List Move) (gone : Announced) → at ≡ receiver_of message.prefix → moves ≡ [] → gone.packets.items ≡ [] → gone.unsent ≡ 0 → TakesTo old message 0 at moves old gone
+pub takes_none : (old : PeerKept) (message : Message) (at : Receiver) (moves : List Move) (gone : Announced)
+    → at ≡ receiver_of message.prefix → moves ≡ [] → gone.packets.items ≡ [] → gone.unsent ≡ 0
+    → TakesTo old message 0 at moves old gone
 takes_none old message at moves gone begins none quiet zero_lost config peer s = record {
   state = state_of peer;
   dues = [];
   stands = stands_again old config peer (with_state peer (state_of peer)) refl refl refl s;
   sent = (quiet, zero_lost);
   on = λ later refused last after h.
-      subst (λ (ms : List Move). FollowsMessage config old.prefix peer.number 0 (receiver_of message.prefix) message.submessages (state_of peer) (ms ++ later) refused last after) (sym none)
-      (subst (λ (r : Receiver). FollowsMessage config old.prefix peer.number 0 r message.submessages (state_of peer) later refused last after) begins h);
+      subst (λ (ms : List Move). FollowsMessage config old.prefix peer.number 0
+      (receiver_of message.prefix) message.submessages (state_of peer) (ms ++ later) refused last after) (sym none)
+      (subst (λ (r : Receiver). FollowsMessage config old.prefix peer.number 0 r message.submessages
+      (state_of peer) later refused last after) begins h);
 }
 
 -- one more is taken up
-pub takes_more : (old now new : PeerKept) (message : Message) (index : ℕ) (at : Receiver) (submessage : Submessage) (moves more : List Move) (sent gone : Announced) → TakesTo old message index at moves now sent
-    → drop index message.submessages ≡ submessage ∷ drop (index + 1) message.submessages → now.prefix ≡ old.prefix → TakesOneMore now at submessage moves sent new more gone
+pub takes_more : (old now new : PeerKept) (message : Message) (index : ℕ) (at : Receiver) (submessage : Submessage)
+    (moves more : List Move) (sent gone : Announced) → TakesTo old message index at moves now sent
+    → drop index message.submessages ≡ submessage ∷ drop (index + 1) message.submessages → now.prefix ≡ old.prefix
+    → TakesOneMore now at submessage moves sent new more gone
     → TakesTo old message (index + 1) (after_submessage old.prefix at submessage) more new gone
 takes_more old now new message index at submessage moves more sent gone taken here same takes config peer s =
     record {
       state = r.state;
       dues = t.dues ++ r.dues;
-      stands = stands_again new config (with_state (with_state peer t.state) r.state) (with_state peer r.state) refl refl refl r.stands;
+      stands =
+          stands_again new config (with_state (with_state peer t.state) r.state)
+          (with_state peer r.state) refl refl refl r.stands;
       sent = written_adds t.dues r.dues sent gone t.sent r.adds;
       on = λ later refused last after h.
-          let took : Takes config old.prefix peer.number at submessage t.state takes.made r.dues r.state = subst (λ (p : GuidPrefix). Takes config p peer.number at submessage t.state takes.made r.dues r.state) same r.takes in
-          let together : FollowsMessage config old.prefix peer.number index at (submessage ∷ drop (index + 1) message.submessages) t.state (takes.made ++ later) refused (r.dues ++ last) after =
+          let took : Takes config old.prefix peer.number at submessage t.state takes.made r.dues r.state =
+          subst (λ (p : GuidPrefix). Takes config p peer.number at submessage t.state takes.made r.dues r.state)
+          same r.takes in
+          let together : FollowsMessage config old.prefix peer.number index at
+          (submessage ∷ drop (index + 1) message.submessages) t.state (takes.made ++ later) refused
+          (r.dues ++ last) after =
           inr (takes.made, later, r.dues, last, r.state, refl, refl, took, h) in
           let whole = t.on (takes.made ++ later) refused (r.dues ++ last) after
-          (subst (λ (ss : List Submessage). FollowsMessage config old.prefix peer.number index at ss t.state (takes.made ++ later) refused (r.dues ++ last) after) (sym here) together) in
-          subst (λ (ms : List Move). FollowsMessage config old.prefix peer.number 0 (receiver_of message.prefix) message.submessages (state_of peer) ms refused ((t.dues ++ r.dues) ++ last) after)
+          (subst (λ (ss : List Submessage). FollowsMessage config old.prefix peer.number index at ss t.state
+          (takes.made ++ later) refused (r.dues ++ last) after) (sym here) together) in
+          subst (λ (ms : List Move). FollowsMessage config old.prefix peer.number 0
+          (receiver_of message.prefix) message.submessages (state_of peer) ms refused
+          ((t.dues ++ r.dues) ++ last) after)
           (sym (append_assoc moves takes.made later) ∙ ap (λ (ms : List Move). ms ++ later) (sym takes.after_is))
-          (subst (λ (ds : List Due). FollowsMessage config old.prefix peer.number 0 (receiver_of message.prefix) message.submessages (state_of peer) (moves ++ (takes.made ++ later)) refused ds after)
+          (subst (λ (ds : List Due). FollowsMessage config old.prefix peer.number 0
+          (receiver_of message.prefix) message.submessages (state_of peer)
+          (moves ++ (takes.made ++ later)) refused ds after)
           (sym (append_assoc t.dues r.dues last)) whole);
     }
   where
@@ -148,30 +193,52 @@ takes_more old now new message index at submessage moves more sent gone taken he
     r = takes.takes config (with_state peer t.state) t.stands
 
 -- what was taken up is all: what follows does nothing
-ends_here : (old now : PeerKept) (message : Message) (index : ℕ) (at : Receiver) (report : Report) (gone : Announced) (config : Config) (peer : Peer) (t : TakenTo old message index at report.moves now gone config peer)
-    → FollowsMessage config old.prefix peer.number index at (drop index message.submessages) t.state [] report.refused [] t.state
-    → FollowsMessage config old.prefix peer.number 0 (receiver_of message.prefix) message.submessages (state_of peer) report.moves report.refused t.dues t.state
+ends_here : (old now : PeerKept) (message : Message) (index : ℕ) (at : Receiver) (report : Report) (gone : Announced)
+    (config : Config) (peer : Peer) (t : TakenTo old message index at report.moves now gone config peer)
+    → FollowsMessage config old.prefix peer.number index at (drop index message.submessages) t.state [] report.refused
+    [] t.state
+    → FollowsMessage config old.prefix peer.number 0 (receiver_of message.prefix) message.submessages
+    (state_of peer) report.moves report.refused t.dues t.state
 ends_here old now message index at report gone config peer t end =
-    subst (λ (ms : List Move). FollowsMessage config old.prefix peer.number 0 (receiver_of message.prefix) message.submessages (state_of peer) ms report.refused t.dues t.state) (append-nil report.moves)
-    (subst (λ (ds : List Due). FollowsMessage config old.prefix peer.number 0 (receiver_of message.prefix) message.submessages (state_of peer) (report.moves ++ []) report.refused ds t.state) (append-nil t.dues)
+    subst (λ (ms : List Move). FollowsMessage config old.prefix peer.number 0
+    (receiver_of message.prefix) message.submessages (state_of peer) ms report.refused t.dues t.state)
+    (append-nil report.moves)
+    (subst (λ (ds : List Due). FollowsMessage config old.prefix peer.number 0
+    (receiver_of message.prefix) message.submessages (state_of peer) (report.moves ++ []) report.refused ds t.state)
+    (append-nil t.dues)
     (t.on [] report.refused [] t.state end))
 
 -- all are taken up, or one finds no memory
-pub takes_all : (old now : PeerKept) (message : Message) (at : Receiver) (report : Report) (gone : Announced) → TakesTo old message (length message.submessages) at report.moves now gone
-    → drop (length message.submessages) message.submessages ≡ [] → report.refused ≡ None → TakesMessage old message report now gone
+pub takes_all : (old now : PeerKept) (message : Message) (at : Receiver) (report : Report) (gone : Announced)
+    → TakesTo old message (length message.submessages) at report.moves now gone
+    → drop (length message.submessages) message.submessages ≡ [] → report.refused ≡ None
+    → TakesMessage old message report now gone
 takes_all old now message at report gone taken none fine config peer s =
     let count : ℕ = length message.submessages in
     let t : TakenTo old message count at report.moves now gone config peer = taken config peer s in
-    let end : FollowsMessage config old.prefix peer.number count at (drop count message.submessages) t.state [] report.refused [] t.state =
-    subst (λ (ss : List Submessage). FollowsMessage config old.prefix peer.number count at ss t.state [] report.refused [] t.state) (sym none) (fine, (refl, refl, refl)) in
-    record { state = t.state; dues = t.dues; follows = ends_here old now message count at report gone config peer t end; stands = t.stands; sent = t.sent }
+    let end : FollowsMessage config old.prefix peer.number count at (drop count message.submessages) t.state
+    [] report.refused [] t.state =
+    subst (λ (ss : List Submessage). FollowsMessage config old.prefix peer.number count at ss t.state [] report.refused
+    [] t.state) (sym none) (fine, (refl, refl, refl)) in
+    record {
+      state = t.state;
+      dues = t.dues;
+      follows = ends_here old now message count at report gone config peer t end;
+      stands = t.stands;
+      sent = t.sent;
+    }
 
-pub takes_some : (old now new : PeerKept) (message : Message) (index : ℕ) (at : Receiver) (submessage : Submessage) (report : Report) (sent gone : Announced) → TakesTo old message index at report.moves now sent → StandsAsWell now new → gone ≡ sent
-    → drop index message.submessages ≡ submessage ∷ drop (index + 1) message.submessages → report.refused ≡ Some index → TakesMessage old message report new gone
+pub takes_some : (old now new : PeerKept) (message : Message) (index : ℕ) (at : Receiver) (submessage : Submessage)
+    (report : Report) (sent gone : Announced) → TakesTo old message index at report.moves now sent
+    → StandsAsWell now new → gone ≡ sent
+    → drop index message.submessages ≡ submessage ∷ drop (index + 1) message.submessages → report.refused ≡ Some index
+    → TakesMessage old message report new gone
 takes_some old now new message index at submessage report sent gone taken well same here refused config peer s =
     let t : TakenTo old message index at report.moves now sent config peer = taken config peer s in
-    let end : FollowsMessage config old.prefix peer.number index at (drop index message.submessages) t.state [] report.refused [] t.state =
-    subst (λ (ss : List Submessage). FollowsMessage config old.prefix peer.number index at ss t.state [] report.refused [] t.state) (sym here) (inl (refused, (refl, refl, refl))) in
+    let end : FollowsMessage config old.prefix peer.number index at (drop index message.submessages) t.state
+    [] report.refused [] t.state =
+    subst (λ (ss : List Submessage). FollowsMessage config old.prefix peer.number index at ss t.state [] report.refused
+    [] t.state) (sym here) (inl (refused, (refl, refl, refl))) in
     record {
       state = t.state;
       dues = t.dues;
@@ -182,7 +249,9 @@ takes_some old now new message index at submessage report sent gone taken well s
 
 -- ---- the whole of a packet
 
-pub receives_message : (old new : PeerKept) (bytes : List ℕ) (read : Read) (report : Report) (gone : Announced) → ReadsMessage bytes read.message read.stop → TakesMessage old read.message report new gone → ReceivesPacket old bytes report new gone
+pub receives_message : (old new : PeerKept) (bytes : List ℕ) (read : Read) (report : Report) (gone : Announced)
+    → ReadsMessage bytes read.message read.stop → TakesMessage old read.message report new gone
+    → ReceivesPacket old bytes report new gone
 receives_message old new bytes read report gone reads takes config peer s =
     let r : TookMessage config peer old.prefix read.message report new gone = takes config peer s in
     record {
@@ -192,7 +261,10 @@ receives_message old new bytes read report gone reads takes config peer s =
         message = read.message;
         offset = read.stop;
         is_read = reads;
-        follows = subst (λ (p : GuidPrefix). FollowsMessage config p peer.number 0 (receiver_of read.message.prefix) read.message.submessages (state_of peer) report.moves report.refused r.dues r.state) (sym (prefix_is old config peer s)) r.follows;
+        follows =
+            subst (λ (p : GuidPrefix). FollowsMessage config p peer.number 0
+            (receiver_of read.message.prefix) read.message.submessages
+            (state_of peer) report.moves report.refused r.dues r.state) (sym (prefix_is old config peer s)) r.follows;
       });
       stands = r.stands;
       sent = r.sent;
@@ -202,7 +274,9 @@ receives_message old new bytes read report gone reads takes config peer s =
 abbrev pub no_move : Option ℕ → Report
 no_move refused = record { moves = []; refused = refused }
 
-unread : (old : PeerKept) (bytes : List ℕ) (refused : Option ℕ) (gone : Announced) → gone.packets.items ≡ [] → gone.unsent ≡ 0 → ((peer : Peer) → IsNotTaken bytes peer.part (no_move refused) peer.part) → ReceivesPacket old bytes (no_move refused) old gone
+unread : (old : PeerKept) (bytes : List ℕ) (refused : Option ℕ) (gone : Announced) → gone.packets.items ≡ []
+    → gone.unsent ≡ 0 → ((peer : Peer) → IsNotTaken bytes peer.part (no_move refused) peer.part)
+    → ReceivesPacket old bytes (no_move refused) old gone
 unread old bytes refused gone quiet zero_lost not config peer s = record {
   state = state_of peer;
   dues = [];
@@ -211,11 +285,17 @@ unread old bytes refused gone quiet zero_lost not config peer s = record {
   sent = (quiet, zero_lost);
 }
 
-pub receives_nothing : (old : PeerKept) (bytes : List ℕ) (gone : Announced) → gone.packets.items ≡ [] → gone.unsent ≡ 0 → ((message : Message) (offset : ℕ) → ReadsMessage bytes message offset → ⊥) → ReceivesPacket old bytes (no_move None) old gone
-receives_nothing old bytes gone quiet zero_lost none = unread old bytes None gone quiet zero_lost (λ peer. record { moves = refl; after = refl; cause = inl (refl, none) })
+pub receives_nothing : (old : PeerKept) (bytes : List ℕ) (gone : Announced) → gone.packets.items ≡ [] → gone.unsent ≡ 0
+    → ((message : Message) (offset : ℕ) → ReadsMessage bytes message offset → ⊥)
+    → ReceivesPacket old bytes (no_move None) old gone
+receives_nothing old bytes gone quiet zero_lost none =
+    unread old bytes None gone quiet zero_lost (λ peer. record { moves = refl; after = refl; cause = inl (refl, none) })
 
-pub reads_nothing : (old : PeerKept) (bytes : List ℕ) (gone : Announced) → gone.packets.items ≡ [] → gone.unsent ≡ 0 → HasSubmessage bytes → ReceivesPacket old bytes (no_move (Some 0)) old gone
-reads_nothing old bytes gone quiet zero_lost has = unread old bytes (Some 0) gone quiet zero_lost (λ peer. record { moves = refl; after = refl; cause = inr (refl, has) })
+pub reads_nothing : (old : PeerKept) (bytes : List ℕ) (gone : Announced) → gone.packets.items ≡ [] → gone.unsent ≡ 0
+    → HasSubmessage bytes → ReceivesPacket old bytes (no_move (Some 0)) old gone
+reads_nothing old bytes gone quiet zero_lost has =
+    unread old bytes (Some 0) gone quiet zero_lost
+    (λ peer. record { moves = refl; after = refl; cause = inr (refl, has) })
 
 -- an answer that sends nothing
 abbrev pub silent : Reply → Output
@@ -227,14 +307,18 @@ bounded : (id flags : ℕ) (body : List ℕ) (s : Submessage) → Reads id flags
 unfolding set_of
 bounded id flags body (Data d) h = h.valid.small
 bounded id flags body (Heartbeat b) h = h.valid.first_small
-bounded id flags body (Gap g) h = let same = ap (λ (x : NumberSet). x.base) h.body_is.set.set in let small = h.body_is.set.valid.small in base_small g h.body_is.set.field.base same small
+bounded id flags body (Gap g) h =
+    let same = ap (λ (x : NumberSet). x.base) h.body_is.set.set in let small = h.body_is.set.valid.small in base_small g
+    h.body_is.set.field.base same small
   where
     base_small : (g : GapBody) (n : ℕ) → g.gap_list.base ≡ n → n ≤ 2 ^ 62 → g.gap_list.base ≤ 2 ^ 62
     base_small g n e f = omega (arith, e, f)
 bounded id flags body Pad h = tt
 bounded id flags body (InfoDst d) h = tt
 bounded id flags body (InfoTs d) h = tt
-bounded id flags body (AckNack a) h = let same = ap (λ (x : NumberSet). x.base) h.body_is.set.set in let low = h.body_is.set.valid.first in omega (arith, same, low)
+bounded id flags body (AckNack a) h =
+    let same = ap (λ (x : NumberSet). x.base) h.body_is.set.set in let low = h.body_is.set.valid.first in
+    omega (arith, same, low)
 bounded id flags body (Other d) h = tt
 
 first_bounded : (x : Submessage) (xs : List Submessage) → IsBounded x → AreBounded xs → AreBounded (x ∷ xs)
@@ -245,17 +329,21 @@ all_bounded : (bytes : List ℕ) (ss : List Submessage) (left : List ℕ) → Re
 all_bounded bytes [] left h = λ i s at. absurd cc
 all_bounded bytes (x ∷ xs) left h = first_bounded x xs (bounded h.0 h.1 h.2 x h.5) (all_bounded h.3 xs left h.6)
 
-pub message_bounded : (bytes : List ℕ) (message : Message) (offset : ℕ) → ReadsMessage bytes message offset → AreBounded message.submessages
+pub message_bounded : (bytes : List ℕ) (message : Message) (offset : ℕ) → ReadsMessage bytes message offset
+    → AreBounded message.submessages
 message_bounded bytes message offset h = all_bounded h.body message.submessages h.left h.submessages
 
 -- ---- calls and ticks
 
 -- what a call or a tick leaves is sound, as what was known is known, and the places are those of before
-pub sound_still : (config : Config) (old new : Peer) → new.number ≡ old.number → new.known ≡ old.known → new.delivered ≡ old.delivered → new.part.rtps.readers ≡ old.part.rtps.readers → IsSound config old → IsSound config new
+pub sound_still : (config : Config) (old new : Peer) → new.number ≡ old.number → new.known ≡ old.known
+    → new.delivered ≡ old.delivered → new.part.rtps.readers ≡ old.part.rtps.readers → IsSound config old
+    → IsSound config new
 sound_still config old new number known delivered readers b =
     subst (λ n. IsBacked config n (packets_of new.delivered) new.delivered (state_of new)) (sym number)
     (subst (λ ds. IsBacked config old.number (packets_of ds) ds (state_of new)) (sym delivered)
-    (subst (λ k. IsBacked config old.number (packets_of old.delivered) old.delivered (record { part = new.part; known = k })) (sym known) (record {
+    (subst (λ k. IsBacked config old.number (packets_of old.delivered) old.delivered
+    (record { part = new.part; known = k })) (sym known) (record {
       place = λ w r p e. b.place w r p (ap (λ xs. place_of (numbered xs r []) w) (sym readers) ∙ e);
       claimed = b.claimed;
       newest = λ w r has. b.newest w r (subst (λ xs. HasNumber xs r) readers has);
@@ -266,18 +354,29 @@ effect_readers : (old : Rtps) (e : Effect) → (effect old e).readers ≡ old.re
 effect_readers old nothing = refl
 effect_readers old (writes w entry) = refl
 
-tick_readers : (old : Part) (now : ℕ) (reply : Reply) (new : Part) → TickStep old now reply new → new.rtps.readers ≡ old.rtps.readers
+tick_readers : (old : Part) (now : ℕ) (reply : Reply) (new : Part) → TickStep old now reply new
+    → new.rtps.readers ≡ old.rtps.readers
 tick_readers old now Done new h = ap (λ (p : Part). p.rtps.readers) h.1
 tick_readers old now (Refused code) new h = ap (λ (p : Part). p.rtps.readers) h.1
 tick_readers old now reply new h = absurd h
 
-pub sound_call : {tests : Tests} (old new : PeerKept) (call : Call) (output : Output) → StepsBy tests old (event.Call call) output new → SoundStepsBy tests old (event.Call call) output new
+pub sound_call : {tests : Tests} (old new : PeerKept) (call : Call) (output : Output)
+    → StepsBy tests old (event.Call call) output new → SoundStepsBy tests old (event.Call call) output new
 sound_call old new call output steps config peer s sound =
     let r = steps config peer s in
-    let readers : r.0.part.rtps.readers ≡ peer.part.rtps.readers = ap (λ (x : Rtps). x.readers) r.1.step.0.rtps ∙ effect_readers peer.part.rtps (effect_of peer.part call output.reply) in
+    let readers : r.0.part.rtps.readers ≡ peer.part.rtps.readers =
+    ap (λ (x : Rtps). x.readers) r.1.step.0.rtps
+    ∙ effect_readers peer.part.rtps (effect_of peer.part call output.reply) in
     (r.0, r.1, r.2, sound_still config peer r.0 r.1.same_number r.1.knows r.1.step.1 readers sound, tt)
 
-pub sound_tick : (old new : PeerKept) (now : ℕ) (output : Output) → Steps old (event.Tick now) output new → SoundSteps old (event.Tick now) output new
+pub sound_tick : (old new : PeerKept) (now : ℕ) (output : Output) → Steps old (event.Tick now) output new
+    → SoundSteps old (event.Tick now) output new
 sound_tick old new now output steps config peer s sound =
-    let r = steps config peer s in
-    (r.0, r.1, r.2, sound_still config peer r.0 r.1.same_number r.1.knows r.1.step.1 (tick_readers peer.part now output.reply r.0.part r.1.step.0) sound, tt)
+    let r = steps config peer s in (
+      r.0,
+      r.1,
+      r.2,
+      sound_still config peer r.0 r.1.same_number r.1.knows r.1.step.1
+          (tick_readers peer.part now output.reply r.0.part r.1.step.0) sound,
+      tt,
+    )

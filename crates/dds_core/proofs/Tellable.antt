@@ -25,7 +25,8 @@ abbrev pub IsTold : Written → Type 0
 IsTold (Changed change) = IsTellable change
 IsTold entry = Unit {0}
 
-last_or_before : (xs : List Change) (c : Change) (i : ℕ) (x : Change) → slice_get (xs ++ c ∷ []) i ≡ Some x → (slice_get xs i ≡ Some x) ⊎ (c ≡ x)
+last_or_before : (xs : List Change) (c : Change) (i : ℕ) (x : Change) → slice_get (xs ++ c ∷ []) i ≡ Some x
+    → (slice_get xs i ≡ Some x) ⊎ (c ≡ x)
 last_or_before [] c zero x at = inr (same_Some c x at)
 last_or_before [] c (suc i) x at = absurd cc
 last_or_before (y ∷ ys) c zero x at = inl at
@@ -45,15 +46,18 @@ told_one_more xs c all one zero x at = none (nat_lt 0 0) (grind (arith, nat_test
     none false is h = absurd cc
     none true is h = absurd cc
 told_one_more xs c all one (suc n) x at =
-    ⊎_elim (λ before. all (suc n) x (by_index xs n ∙ before)) (λ same. subst IsTellable same one) (last_or_before xs c n x (sym (by_index (xs ++ c ∷ []) n) ∙ at))
+    ⊎_elim (λ before. all (suc n) x (by_index xs n ∙ before)) (λ same. subst IsTellable same one)
+    (last_or_before xs c n x (sym (by_index (xs ++ c ∷ []) n) ∙ at))
 
-told_more : (w : Writer) (entry : Written) → AreTold (writer_changes w) → IsTold entry → AreTold (writer_changes (with_written w entry))
+told_more : (w : Writer) (entry : Written) → AreTold (writer_changes w) → IsTold entry
+    → AreTold (writer_changes (with_written w entry))
 told_more w (Changed change) all one = told_one_more (writer_changes w) change all one
 told_more w (Registered key) all one = all
 told_more w entry all one = all
 
 -- another thing happened at one of the writers
-pub tellable_entered : (peer : Peer) (writer : ℕ) (entry : Written) → AreTellable peer.part → IsTold entry → AreTellable (entered_at peer writer entry).part
+pub tellable_entered : (peer : Peer) (writer : ℕ) (entry : Written) → AreTellable peer.part → IsTold entry
+    → AreTellable (entered_at peer writer entry).part
 tellable_entered peer writer entry all one k =
     let ws : List Writer = peer.part.rtps.writers in
     let w : Writer = own_writer peer.part writer in
@@ -63,17 +67,20 @@ tellable_entered peer writer entry all one k =
     (numbered-cases ws writer (with_written w entry) k no_writer)
 
 -- the time went on
-numbered_ticked : (now : ℕ) (ws : List Writer) (k : ℕ) → writer_changes (get_or (map (ticked now) ws) k no_writer) ≡ writer_changes (get_or ws k no_writer)
+numbered_ticked : (now : ℕ) (ws : List Writer) (k : ℕ) → writer_changes (get_or (map (ticked now) ws) k no_writer)
+    ≡ writer_changes (get_or ws k no_writer)
 numbered_ticked now [] k = refl
 numbered_ticked now (w ∷ ws) zero = refl
 numbered_ticked now (w ∷ ws) (suc k) = numbered_ticked now ws k
 
 pub tellable_ticked : (part : Part) (now : ℕ) → AreTellable part → AreTellable (after_tick part now)
 tellable_ticked part now all zero = all zero
-tellable_ticked part now all (suc k) = subst (λ (cs : List Change). AreTold cs) (sym (numbered_ticked now part.rtps.writers k)) (all (suc k))
+tellable_ticked part now all (suc k) =
+    subst (λ (cs : List Change). AreTold cs) (sym (numbered_ticked now part.rtps.writers k)) (all (suc k))
 
 -- nothing was written yet
-none_written : (peers : List PeerConfig) (ws : List WriterConfig) (k : ℕ) → writer_changes (get_or (map (opening_writer peers) ws) k no_writer) ≡ []
+none_written : (peers : List PeerConfig) (ws : List WriterConfig) (k : ℕ)
+    → writer_changes (get_or (map (opening_writer peers) ws) k no_writer) ≡ []
 none_written peers [] k = refl
 none_written peers (w ∷ ws) zero = refl
 none_written peers (w ∷ ws) (suc k) = none_written peers ws k
@@ -90,9 +97,11 @@ tellable_opening peers own zero = none_told [] refl
 tellable_opening peers own (suc k) = none_told _ (none_written peers own.writers k)
 
 -- one of the writers became another one with the same changes
-pub tellable_put : (part : Part) (writer : ℕ) (w : Writer) → AreTellable part → writer_changes w ≡ writer_changes (own_writer part writer) → AreTellable (at_writer part writer w)
+pub tellable_put : (part : Part) (writer : ℕ) (w : Writer) → AreTellable part
+    → writer_changes w ≡ writer_changes (own_writer part writer) → AreTellable (at_writer part writer w)
 tellable_put part writer w all same k =
     ⊎_elim
     (λ e. subst (λ (x : Writer). AreTold (writer_changes x)) (sym e) (all k))
-    (λ s. subst (λ (x : Writer). AreTold (writer_changes x)) (sym s.1) (subst (λ (cs : List Change). AreTold cs) (sym same) (all writer)))
+    (λ s. subst (λ (x : Writer). AreTold (writer_changes x)) (sym s.1)
+    (subst (λ (cs : List Change). AreTold cs) (sym same) (all writer)))
     (numbered-cases part.rtps.writers writer w k no_writer)

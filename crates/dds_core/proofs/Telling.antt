@@ -24,38 +24,66 @@ done_as r x P is h = subst (λ o. IfOk o P) is h
 
 -- what each call answers
 abbrev Answer : ReaderKept → ReaderKept → Ready → Told → ℕ → Step → Type 0
-Answer old new ready said moment step = (t : Tracked) (h : List Happening) → Tracks old.reader ready.row t → Holds old.store h
-    → TellsSo (match_at (qos_of old.store.cache) ready.row moment) said t h step (Tracks new.reader ready.row) (λ xs. Holds new.store xs)
+Answer old new ready said moment step =
+    (t : Tracked) (h : List Happening) → Tracks old.reader ready.row t → Holds old.store h
+    → TellsSo (match_at (qos_of old.store.cache) ready.row moment) said t h step (Tracks new.reader ready.row)
+    (λ xs. Holds new.store xs)
 
-told_as : (old new : ReaderKept) (ready : Ready) (said : Told) (moment : ℕ) (step : Step) → ready.told ≡ said → Answer old new ready said moment step → OthersStay ready.row old.reader new.reader → TakesTold old ready moment step new
+told_as : (old new : ReaderKept) (ready : Ready) (said : Told) (moment : ℕ) (step : Step) → ready.told ≡ said
+    → Answer old new ready said moment step → OthersStay ready.row old.reader new.reader
+    → TakesTold old ready moment step new
 told_as old new ready said moment step is answer others =
-    record { told = λ t h knows holds. subst (λ x. TellsSo (match_at (qos_of old.store.cache) ready.row moment) x t h step (Tracks new.reader ready.row) (λ xs. Holds new.store xs)) (sym is) (answer t h knows holds); others = others }
+    record {
+      told = λ t h knows holds. subst
+          (λ x. TellsSo (match_at (qos_of old.store.cache) ready.row moment) x t h step (Tracks new.reader ready.row)
+          (λ xs. Holds new.store xs)) (sym is) (answer t h knows holds);
+      others = others;
+    }
 
-pub change_told : (old new : ReaderKept) (ready : Ready) (moment : ℕ) (result : Result Step Code) (step : Step) (number : ℕ) (change : Change) → ready.told ≡ told.Change number change → result ≡ Ok step
-    → IfOk result (λ s. Answer old new ready (told.Change number change) moment s) → OthersStay ready.row old.reader new.reader → TakesTold old ready moment step new
+pub change_told : (old new : ReaderKept) (ready : Ready) (moment : ℕ) (result : Result Step Code) (step : Step)
+    (number : ℕ) (change : Change) → ready.told ≡ told.Change number change → result ≡ Ok step
+    → IfOk result (λ s. Answer old new ready (told.Change number change) moment s)
+    → OthersStay ready.row old.reader new.reader → TakesTold old ready moment step new
 change_told old new ready moment result step number change is ok answer others =
-    told_as old new ready (told.Change number change) moment step is (done_as result step (λ s. Answer old new ready (told.Change number change) moment s) ok answer) others
+    told_as old new ready (told.Change number change) moment step is
+    (done_as result step (λ s. Answer old new ready (told.Change number change) moment s) ok answer) others
 
-pub gap_told : (old new : ReaderKept) (ready : Ready) (moment : ℕ) (result : Result Step Code) (step : Step) (start : ℕ) (list : NumberSet) → ready.told ≡ told.Gap start list → result ≡ Ok step
-    → IfOk result (λ s. Answer old new ready (told.Gap start list) moment s) → OthersStay ready.row old.reader new.reader → TakesTold old ready moment step new
+pub gap_told : (old new : ReaderKept) (ready : Ready) (moment : ℕ) (result : Result Step Code) (step : Step) (start : ℕ)
+    (list : NumberSet) → ready.told ≡ told.Gap start list → result ≡ Ok step
+    → IfOk result (λ s. Answer old new ready (told.Gap start list) moment s)
+    → OthersStay ready.row old.reader new.reader → TakesTold old ready moment step new
 gap_told old new ready moment result step start list is ok answer others =
-    told_as old new ready (told.Gap start list) moment step is (done_as result step (λ s. Answer old new ready (told.Gap start list) moment s) ok answer) others
+    told_as old new ready (told.Gap start list) moment step is
+    (done_as result step (λ s. Answer old new ready (told.Gap start list) moment s) ok answer) others
 
 -- an accepted HEARTBEAT, and any other
 abbrev Accepted : ReaderKept → ReaderKept → Ready → HeartbeatSeen → ℕ → Step → Type 0
-Accepted old new ready seen moment step = (t : Tracked) (h : List Happening) → Tracks old.reader ready.row t → Holds old.store h → is_later t.count seen.count ≡ true
-    → TakesHeartbeat (match_at (qos_of old.store.cache) ready.row moment) t h seen step (Tracks new.reader ready.row) (λ xs. Holds new.store xs)
+Accepted old new ready seen moment step =
+    (t : Tracked) (h : List Happening) → Tracks old.reader ready.row t → Holds old.store h
+    → is_later t.count seen.count ≡ true
+    → TakesHeartbeat (match_at (qos_of old.store.cache) ready.row moment) t h seen step (Tracks new.reader ready.row)
+    (λ xs. Holds new.store xs)
 
 abbrev Repeated : ReaderKept → ReaderKept → Ready → HeartbeatSeen → Result Step Code → Type 0
-Repeated old new ready seen result = (t : Tracked) (h : List Happening) → Tracks old.reader ready.row t → Holds old.store h → is_later t.count seen.count ≡ false
+Repeated old new ready seen result =
+    (t : Tracked) (h : List Happening) → Tracks old.reader ready.row t → Holds old.store h
+    → is_later t.count seen.count ≡ false
     → IsOk result × IfOk result (λ s. IsIdle t.place s × Tracks new.reader ready.row t × Holds new.store h)
 
-pub heartbeat_told : (old new : ReaderKept) (ready : Ready) (moment : ℕ) (result : Result Step Code) (step : Step) (seen : HeartbeatSeen) → ready.told ≡ told.Heartbeat seen → result ≡ Ok step
-    → IfOk result (λ s. Accepted old new ready seen moment s) → Repeated old new ready seen result → OthersStay ready.row old.reader new.reader → TakesTold old ready moment step new
+pub heartbeat_told : (old new : ReaderKept) (ready : Ready) (moment : ℕ) (result : Result Step Code) (step : Step)
+    (seen : HeartbeatSeen) → ready.told ≡ told.Heartbeat seen → result ≡ Ok step
+    → IfOk result (λ s. Accepted old new ready seen moment s) → Repeated old new ready seen result
+    → OthersStay ready.row old.reader new.reader → TakesTold old ready moment step new
 heartbeat_told old new ready moment result step seen is ok accepted repeated others =
-    told_as old new ready (told.Heartbeat seen) moment step is (λ t h knows holds. by t h knows holds (is_later t.count seen.count) refl) others
+    told_as old new ready (told.Heartbeat seen) moment step is
+    (λ t h knows holds. by t h knows holds (is_later t.count seen.count) refl) others
   where
-    by : (t : Tracked) (h : List Happening) → Tracks old.reader ready.row t → Holds old.store h → (b : Bool) → is_later t.count seen.count ≡ b
-        → TellsSo (match_at (qos_of old.store.cache) ready.row moment) (told.Heartbeat seen) t h step (Tracks new.reader ready.row) (λ xs. Holds new.store xs)
-    by t h knows holds true e = inl (e, done_as result step (λ s. Accepted old new ready seen moment s) ok accepted t h knows holds e)
-    by t h knows holds false e = let done = done_as result step (λ s. IsIdle t.place s × Tracks new.reader ready.row t × Holds new.store h) ok (repeated t h knows holds e).1 in inr (e, done.0, done.1, done.2)
+    by : (t : Tracked) (h : List Happening) → Tracks old.reader ready.row t → Holds old.store h → (b : Bool)
+        → is_later t.count seen.count ≡ b
+        → TellsSo (match_at (qos_of old.store.cache) ready.row moment) (told.Heartbeat seen) t h step
+        (Tracks new.reader ready.row) (λ xs. Holds new.store xs)
+    by t h knows holds true e =
+        inl (e, done_as result step (λ s. Accepted old new ready seen moment s) ok accepted t h knows holds e)
+    by t h knows holds false e =
+        let done = done_as result step (λ s. IsIdle t.place s × Tracks new.reader ready.row t × Holds new.store h) ok
+        (repeated t h knows holds e).1 in inr (e, done.0, done.1, done.2)

@@ -17,40 +17,53 @@ TickedTo now (suc n) (k ∷ ks) [] = ⊥
 TickedTo now (suc n) (k ∷ ks) (x ∷ xs) = Ticks k now x × TickedTo now n ks xs
 
 -- the others are as they were
-pub untouched : (now n : ℕ) (old new : List WriterKept) (d : WriterKept) → n < length old → TickedTo now n old new → get_or new n d ≡ get_or old n d
+pub untouched : (now n : ℕ) (old new : List WriterKept) (d : WriterKept) → n < length old → TickedTo now n old new
+    → get_or new n d ≡ get_or old n d
 untouched now zero old new d lt h = ap (λ (ks : List WriterKept). get_or ks 0 d) h
 untouched now (suc n) [] new d lt h = absurd (omega (arith, lt))
 untouched now (suc n) (k ∷ ks) [] d lt h = absurd h
 untouched now (suc n) (k ∷ ks) (x ∷ xs) d lt h = untouched now n ks xs d (omega (arith, lt)) h.1
 
-more_ticked : (now n : ℕ) (old new : List WriterKept) (d k : WriterKept) → n < length old → TickedTo now n old new → Ticks (get_or new n d) now k → TickedTo now (suc n) old (set new n k)
+more_ticked : (now n : ℕ) (old new : List WriterKept) (d k : WriterKept) → n < length old → TickedTo now n old new
+    → Ticks (get_or new n d) now k → TickedTo now (suc n) old (set new n k)
 more_ticked now zero [] new d k lt h t = absurd (omega (arith, lt))
 more_ticked now zero (x ∷ xs) [] d k lt h t = absurd cc
-more_ticked now zero (x ∷ xs) (y ∷ ys) d k lt h t =
-    (subst (λ (z : WriterKept). Ticks z now k) (ap (λ (zs : List WriterKept). get_or zs 0 d) h) t, ap (λ (zs : List WriterKept). drop 1 zs) h)
+more_ticked now zero (x ∷ xs) (y ∷ ys) d k lt h t = (
+  subst (λ (z : WriterKept). Ticks z now k)
+      (ap (λ (zs : List WriterKept). get_or zs 0 d) h) t,
+  ap (λ (zs : List WriterKept). drop 1 zs) h,
+)
 more_ticked now (suc n) [] new d k lt h t = absurd (omega (arith, lt))
 more_ticked now (suc n) (x ∷ xs) [] d k lt h t = absurd h
 more_ticked now (suc n) (x ∷ xs) (y ∷ ys) d k lt h t = (h.0, more_ticked now n xs ys d k (omega (arith, lt)) h.1 t)
 
-pub ticked_more : (now n : ℕ) (old new : List WriterKept) (d k : WriterKept) → n < length old → TickedTo now n old new → Ticks (get_or new n d) now k → TickedTo now (n + 1) old (set new n k)
-ticked_more now n old new d k lt h t = let next : suc n ≡ n + 1 = omega arith in subst (λ (m : ℕ). TickedTo now m old (set new n k)) next (more_ticked now n old new d k lt h t)
+pub ticked_more : (now n : ℕ) (old new : List WriterKept) (d k : WriterKept) → n < length old → TickedTo now n old new
+    → Ticks (get_or new n d) now k → TickedTo now (n + 1) old (set new n k)
+ticked_more now n old new d k lt h t =
+    let next : suc n ≡ n + 1 = omega arith in subst (λ (m : ℕ). TickedTo now m old (set new n k)) next
+    (more_ticked now n old new d k lt h t)
 
-pub ticked_all : (now n : ℕ) (old new : List WriterKept) → length old ≤ n → length new ≡ length old → TickedTo now n old new → AllTick old now new
+pub ticked_all : (now n : ℕ) (old new : List WriterKept) → length old ≤ n → length new ≡ length old
+    → TickedTo now n old new → AllTick old now new
 ticked_all now zero [] [] le count h = tt
 ticked_all now zero [] (x ∷ xs) le count h = absurd (omega (arith, count))
 ticked_all now zero (k ∷ ks) new le count h = absurd (omega (arith, le))
 ticked_all now (suc n) [] [] le count h = tt
 ticked_all now (suc n) [] (x ∷ xs) le count h = absurd (omega (arith, count))
 ticked_all now (suc n) (k ∷ ks) [] le count h = absurd h
-ticked_all now (suc n) (k ∷ ks) (x ∷ xs) le count h = (h.0, ticked_all now n ks xs (omega (arith, le)) (omega (arith, count)) h.1)
+ticked_all now (suc n) (k ∷ ks) (x ∷ xs) le count h =
+    (h.0, ticked_all now n ks xs (omega (arith, le)) (omega (arith, count)) h.1)
 
 -- the peer's writers stand as before, each with the tick
 
-pub same_names : (now : ℕ) (old new : List WriterKept) → AllTick old now new → map writer_identity new ≡ map writer_identity old
+pub same_names : (now : ℕ) (old new : List WriterKept) → AllTick old now new
+    → map writer_identity new ≡ map writer_identity old
 same_names now [] [] h = refl
 same_names now [] (x ∷ xs) h = absurd h
 same_names now (k ∷ ks) [] h = absurd h
-same_names now (k ∷ ks) (x ∷ xs) h = ap (λ (i : WriterIdentity). i ∷ map writer_identity xs) h.0.same ∙ ap (λ (is : List WriterIdentity). writer_identity k ∷ is) (same_names now ks xs h.1)
+same_names now (k ∷ ks) (x ∷ xs) h =
+    ap (λ (i : WriterIdentity). i ∷ map writer_identity xs) h.0.same
+    ∙ ap (λ (is : List WriterIdentity). writer_identity k ∷ is) (same_names now ks xs h.1)
 
 same_count : (now : ℕ) (old new : List WriterKept) → AllTick old now new → length new ≡ length old
 same_count now [] [] h = refl
@@ -58,19 +71,23 @@ same_count now [] (x ∷ xs) h = absurd h
 same_count now (k ∷ ks) [] h = absurd h
 same_count now (k ∷ ks) (x ∷ xs) h = let rest = same_count now ks xs h.1 in omega (arith, rest)
 
-still : (now : ℕ) (old new : List WriterKept) (ws : List Writer) (answered : ℕ → Endpoint → Option ℤ) → AllTick old now new → length ws ≡ length old
+still : (now : ℕ) (old new : List WriterKept) (ws : List Writer) (answered : ℕ → Endpoint → Option ℤ)
+    → AllTick old now new → length ws ≡ length old
     → ((j : ℕ) (k : WriterKept) → slice_get old j ≡ Some k → WriterStands k (get_or ws j no_writer) (answered (suc j)))
-    → (i : ℕ) (x : WriterKept) → slice_get new i ≡ Some x → WriterStands x (get_or (map (ticked now) ws) i no_writer) (answered (suc i))
+    → (i : ℕ) (x : WriterKept) → slice_get new i ≡ Some x
+    → WriterStands x (get_or (map (ticked now) ws) i no_writer) (answered (suc i))
 still now [] [] ws answered h count each i x at = absurd cc
 still now [] (y ∷ ys) ws answered h count each i x at = absurd h
 still now (k ∷ ks) [] ws answered h count each i x at = absurd h
 still now (k ∷ ks) (y ∷ ys) [] answered h count each i x at = absurd (omega (arith, count))
 still now (k ∷ ks) (y ∷ ys) (w ∷ ws) answered h count each zero x at =
-    subst (λ (z : WriterKept). WriterStands z (ticked now w) (answered 1)) (same_Some y x at) (h.0.stands w (answered 1) (each zero k refl))
+    subst (λ (z : WriterKept). WriterStands z (ticked now w) (answered 1)) (same_Some y x at)
+    (h.0.stands w (answered 1) (each zero k refl))
 still now (k ∷ ks) (y ∷ ys) (w ∷ ws) answered h count each (suc i) x at =
     still now ks ys ws (λ n. answered (suc n)) h.1 (omega (arith, count)) (λ j z there. each (suc j) z there) i x at
 
-pub writers_ticked : (now : ℕ) (old new : List WriterKept) (ws : List Writer) (answered : ℕ → Endpoint → Option ℤ) → AllTick old now new → WritersStand old ws answered → WritersStand new (map (ticked now) ws) answered
+pub writers_ticked : (now : ℕ) (old new : List WriterKept) (ws : List Writer) (answered : ℕ → Endpoint → Option ℤ)
+    → AllTick old now new → WritersStand old ws answered → WritersStand new (map (ticked now) ws) answered
 writers_ticked now old new ws answered h s = record {
   count = length-map ws (ticked now) ∙ (s.count ∙ sym (same_count now old new h));
   each = λ i k at. still now old new ws answered h s.count s.each i k at;

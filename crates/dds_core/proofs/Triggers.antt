@@ -31,10 +31,12 @@ use Rattle.dds_core.proofs.Taking.{silent}
 use Rattle.dds_core.proofs.Watched.{watched_call}
 
 -- an access by a condition against which there is a cause is refused
-not_by_condition : (entry : List SamplePosition → Happening) (refusal : Option Code) (test : Test) (part : Part) (reader : ℕ) (selection : Selection) (code : Code)
+not_by_condition : (entry : List SamplePosition → Happening) (refusal : Option Code) (test : Test) (part : Part)
+    (reader : ℕ) (selection : Selection) (code : Code)
     → refusal ≡ Some code → AnswersByCondition entry refusal test part reader selection (Refused code) part.dds
 not_by_condition entry refusal test part reader selection code some =
-    subst (λ (o : Option Code). AnswersByCondition entry o test part reader selection (Refused code) part.dds) (sym some) (refl, refl)
+    subst (λ (o : Option Code). AnswersByCondition entry o test part reader selection (Refused code) part.dds)
+    (sym some) (refl, refl)
 
 pub not_accessed_by : {tests : Tests} (kind : AccessKind) (kept : PeerKept) (config : Config) (peer : Peer)
     → StandsFor kept config peer → (reader : ℕ) (scope : Scope) (condition : ℕ) (code : Code)
@@ -51,107 +53,142 @@ not_accessed_by {tests} Taking kept config peer s reader scope condition code so
 
 -- ---- a look at a WaitSet
 
-filter_none : (b : Bool) (c : Cond) (rest : List Cond) (any : Bool) → (any ≡ false → rest ≡ []) → (b || any) ≡ false → cond b (c ∷ rest) rest ≡ []
+filter_none : (b : Bool) (c : Cond) (rest : List Cond) (any : Bool) → (any ≡ false → rest ≡ []) → (b || any) ≡ false
+    → cond b (c ∷ rest) rest ≡ []
 filter_none true c rest any then is = absurd cc
 filter_none false c rest any then is = then is
 
 -- none is active where no trigger value is true
 none_active : (trigger : Cond → Bool) (cs : List Cond) → list_any trigger cs ≡ false → active_of trigger cs ≡ []
 none_active trigger [] is = refl
-none_active trigger (c ∷ cs) is = filter_none (trigger c) c (filter trigger cs) (list_any trigger cs) (none_active trigger cs) is
+none_active trigger (c ∷ cs) is =
+    filter_none (trigger c) c (filter trigger cs) (list_any trigger cs) (none_active trigger cs) is
 
-filter_some : (b : Bool) (c : Cond) (rest : List Cond) (any : Bool) → (any ≡ true → rest ≡ [] → ⊥) → (b || any) ≡ true → cond b (c ∷ rest) rest ≡ [] → ⊥
+filter_some : (b : Bool) (c : Cond) (rest : List Cond) (any : Bool) → (any ≡ true → rest ≡ [] → ⊥) → (b || any) ≡ true
+    → cond b (c ∷ rest) rest ≡ [] → ⊥
 filter_some true c rest any then is nil = absurd cc
 filter_some false c rest any then is nil = then is nil
 
 -- some are active where a trigger value is true
 some_active : (trigger : Cond → Bool) (cs : List Cond) → list_any trigger cs ≡ true → active_of trigger cs ≡ [] → ⊥
 some_active trigger [] is nil = absurd cc
-some_active trigger (c ∷ cs) is nil = filter_some (trigger c) c (filter trigger cs) (list_any trigger cs) (some_active trigger cs) is nil
+some_active trigger (c ∷ cs) is nil =
+    filter_some (trigger c) c (filter trigger cs) (list_any trigger cs) (some_active trigger cs) is nil
 
 -- the refusal of the WaitSet, where the part is that of a state that stands
 abbrev used_by : Watched → ℕ → Option Code
 used_by w wait_set = use_refusal (made w.wait_sets wait_set)
 
-look_goes_on : (active : List Cond) (timed_out : Bool) (part : Part) (wait_set : ℕ) → active ≡ [] → timed_out ≡ false → used_by part.dds.watch wait_set ≡ None
+look_goes_on : (active : List Cond) (timed_out : Bool) (part : Part) (wait_set : ℕ) → active ≡ [] → timed_out ≡ false
+    → used_by part.dds.watch wait_set ≡ None
     → AnswersLook active timed_out part wait_set Waiting part.dds
 look_goes_on active timed_out part wait_set none early used =
     subst (λ (cs : List Cond). AnswersLook cs timed_out part wait_set Waiting part.dds) (sym none)
     (subst (λ (b : Bool). AnswersLook [] b part wait_set Waiting part.dds) (sym early)
     (subst (λ (o : Option Code). IsAnswered o Waiting part.dds.watch part Waiting part.dds) (sym used) (refl, refl)))
 
-look_times_out : (active : List Cond) (timed_out : Bool) (part : Part) (wait_set : ℕ) (new : Watched) → active ≡ [] → timed_out ≡ true → used_by part.dds.watch wait_set ≡ None
-    → new ≡ with_deadline part.dds.watch wait_set None → AnswersLook active timed_out part wait_set (Refused Timeout) (record part.dds { watch = new })
+look_times_out : (active : List Cond) (timed_out : Bool) (part : Part) (wait_set : ℕ) (new : Watched) → active ≡ []
+    → timed_out ≡ true → used_by part.dds.watch wait_set ≡ None
+    → new ≡ with_deadline part.dds.watch wait_set None
+    → AnswersLook active timed_out part wait_set (Refused Timeout) (record part.dds { watch = new })
 look_times_out active timed_out part wait_set new none late used ended =
-    subst (λ (cs : List Cond). AnswersLook cs timed_out part wait_set (Refused Timeout) (record part.dds { watch = new })) (sym none)
+    subst (λ (cs : List Cond). AnswersLook cs timed_out part wait_set (Refused Timeout)
+    (record part.dds { watch = new })) (sym none)
     (subst (λ (b : Bool). AnswersLook [] b part wait_set (Refused Timeout) (record part.dds { watch = new })) (sym late)
-    (subst (λ (o : Option Code). IsAnswered o (Refused Timeout) (with_deadline part.dds.watch wait_set None) part (Refused Timeout) (record part.dds { watch = new })) (sym used)
+    (subst (λ (o : Option Code). IsAnswered o (Refused Timeout) (with_deadline part.dds.watch wait_set None) part
+    (Refused Timeout) (record part.dds { watch = new })) (sym used)
     (refl, ap (λ (w : Watched). record part.dds { watch = w }) ended)))
 
-look_is_active : (active : List Cond) (timed_out : Bool) (part : Part) (wait_set : ℕ) (reply : Reply) (dds : Dds) → (active ≡ [] → ⊥)
-    → IsAnsweredInMemory true (used_by part.dds.watch wait_set) (Active active) (with_deadline part.dds.watch wait_set None) part reply dds
+look_is_active : (active : List Cond) (timed_out : Bool) (part : Part) (wait_set : ℕ) (reply : Reply) (dds : Dds)
+    → (active ≡ [] → ⊥)
+    → IsAnsweredInMemory true (used_by part.dds.watch wait_set) (Active active)
+    (with_deadline part.dds.watch wait_set None) part reply dds
     → AnswersLook active timed_out part wait_set reply dds
 look_is_active [] timed_out part wait_set reply dds some is = absurd (some refl)
 look_is_active (c ∷ cs) timed_out part wait_set reply dds some is = is
 
-look_is_refused : (active : List Cond) (timed_out : Bool) (part : Part) (wait_set : ℕ) (code : Code) → used_by part.dds.watch wait_set ≡ Some code
+look_is_refused : (active : List Cond) (timed_out : Bool) (part : Part) (wait_set : ℕ) (code : Code)
+    → used_by part.dds.watch wait_set ≡ Some code
     → AnswersLook active timed_out part wait_set (Refused code) part.dds
 look_is_refused [] true part wait_set code some =
-    subst (λ (o : Option Code). IsAnswered o (Refused Timeout) (with_deadline part.dds.watch wait_set None) part (Refused code) part.dds) (sym some) (refl, refl)
+    subst (λ (o : Option Code). IsAnswered o (Refused Timeout) (with_deadline part.dds.watch wait_set None) part
+    (Refused code) part.dds) (sym some) (refl, refl)
 look_is_refused [] false part wait_set code some =
-    subst (λ (o : Option Code). IsAnswered o Waiting part.dds.watch part (Refused code) part.dds) (sym some) (refl, refl)
+    subst (λ (o : Option Code). IsAnswered o Waiting part.dds.watch part (Refused code) part.dds) (sym some)
+    (refl, refl)
 look_is_refused (c ∷ cs) timed_out part wait_set code some =
-    inl (subst (λ (o : Option Code). IsAnswered o (Active (c ∷ cs)) (with_deadline part.dds.watch wait_set None) part (Refused code) part.dds) (sym some) (refl, refl))
+    inl (subst (λ (o : Option Code). IsAnswered o (Active (c ∷ cs)) (with_deadline part.dds.watch wait_set None) part
+    (Refused code) part.dds) (sym some) (refl, refl))
 
 -- the wait goes on
-pub waits_on : {tests : Tests} (kept : PeerKept) (config : Config) (peer : Peer) → StandsFor kept config peer → (wait_set : ℕ)
+pub waits_on : {tests : Tests} (kept : PeerKept) (config : Config) (peer : Peer) → StandsFor kept config peer
+    → (wait_set : ℕ)
     → false ≡ list_any (trigger_value tests peer.part) (conditions_of peer.part.dds.watch wait_set)
     → is_timed_out (made kept.watch.wait_sets wait_set) kept.moment ≡ false → used_by kept.watch wait_set ≡ None
     → FollowsBy tests kept config peer (event.Call (call.WaitLook wait_set)) (silent Waiting)
 waits_on {tests} kept config peer s wait_set none early used =
     unchanging_call kept config peer s (call.WaitLook wait_set) Waiting refl
-    (look_goes_on _ _ peer.part wait_set (none_active (trigger_value tests peer.part) (conditions_of peer.part.dds.watch wait_set) (sym none))
+    (look_goes_on _ _ peer.part wait_set
+    (none_active (trigger_value tests peer.part) (conditions_of peer.part.dds.watch wait_set) (sym none))
     (ap (λ (w : Watched). is_timed_out (made w.wait_sets wait_set) peer.part.dds.moment) s.watch
     ∙ (ap (λ (m : ℕ). is_timed_out (made kept.watch.wait_sets wait_set) m) s.moment ∙ early))
     (ap (λ (w : Watched). used_by w wait_set) s.watch ∙ used))
 
 -- it ends at its deadline
-pub times_out : {tests : Tests} (kept : PeerKept) (new : Watched) (config : Config) (peer : Peer) → StandsFor kept config peer → (wait_set : ℕ)
+pub times_out : {tests : Tests} (kept : PeerKept) (new : Watched) (config : Config) (peer : Peer)
+    → StandsFor kept config peer → (wait_set : ℕ)
     → false ≡ list_any (trigger_value tests peer.part) (conditions_of peer.part.dds.watch wait_set)
-    → is_timed_out (made kept.watch.wait_sets wait_set) kept.moment ≡ true → used_by kept.watch wait_set ≡ None → new ≡ with_deadline kept.watch wait_set None
-    → FollowsBy tests (record kept { watch = new }) config peer (event.Call (call.WaitLook wait_set)) (silent (Refused Timeout))
+    → is_timed_out (made kept.watch.wait_sets wait_set) kept.moment ≡ true → used_by kept.watch wait_set ≡ None
+    → new ≡ with_deadline kept.watch wait_set None
+    → FollowsBy tests (record kept { watch = new }) config peer (event.Call (call.WaitLook wait_set))
+    (silent (Refused Timeout))
 times_out {tests} kept new config peer s wait_set none late used ended =
     watched_call kept new config peer s (call.WaitLook wait_set) (Refused Timeout) refl
-    (look_times_out _ _ peer.part wait_set new (none_active (trigger_value tests peer.part) (conditions_of peer.part.dds.watch wait_set) (sym none))
+    (look_times_out _ _ peer.part wait_set new
+    (none_active (trigger_value tests peer.part) (conditions_of peer.part.dds.watch wait_set) (sym none))
     (ap (λ (w : Watched). is_timed_out (made w.wait_sets wait_set) peer.part.dds.moment) s.watch
     ∙ (ap (λ (m : ℕ). is_timed_out (made kept.watch.wait_sets wait_set) m) s.moment ∙ late))
     (ap (λ (w : Watched). used_by w wait_set) s.watch ∙ used)
     (ended ∙ ap (λ (w : Watched). with_deadline w wait_set None) (sym s.watch)))
 
 -- nobody waits there
-pub no_wait : {tests : Tests} (kept : PeerKept) (config : Config) (peer : Peer) → StandsFor kept config peer → (wait_set : ℕ) (code : Code) → used_by kept.watch wait_set ≡ Some code
+pub no_wait : {tests : Tests} (kept : PeerKept) (config : Config) (peer : Peer) → StandsFor kept config peer
+    → (wait_set : ℕ) (code : Code) → used_by kept.watch wait_set ≡ Some code
     → FollowsBy tests kept config peer (event.Call (call.WaitLook wait_set)) (silent (Refused code))
 no_wait {tests} kept config peer s wait_set code some =
     unchanging_call kept config peer s (call.WaitLook wait_set) (Refused code) refl
     (look_is_refused _ _ peer.part wait_set code (ap (λ (w : Watched). used_by w wait_set) s.watch ∙ some))
 
 -- it ends with the active conditions
-pub is_over_with : {tests : Tests} (kept : PeerKept) (new : Watched) (config : Config) (peer : Peer) → StandsFor kept config peer → (wait_set : ℕ) (active : List Cond)
+pub is_over_with : {tests : Tests} (kept : PeerKept) (new : Watched) (config : Config) (peer : Peer)
+    → StandsFor kept config peer → (wait_set : ℕ) (active : List Cond)
     → true ≡ list_any (trigger_value tests peer.part) (conditions_of peer.part.dds.watch wait_set)
-    → active ≡ active_of (trigger_value tests peer.part) (conditions_of peer.part.dds.watch wait_set) → used_by kept.watch wait_set ≡ None → new ≡ with_deadline kept.watch wait_set None
-    → FollowsBy tests (record kept { watch = new }) config peer (event.Call (call.WaitLook wait_set)) (silent (Active active))
+    → active ≡ active_of (trigger_value tests peer.part) (conditions_of peer.part.dds.watch wait_set)
+    → used_by kept.watch wait_set ≡ None → new ≡ with_deadline kept.watch wait_set None
+    → FollowsBy tests (record kept { watch = new }) config peer (event.Call (call.WaitLook wait_set))
+    (silent (Active active))
 is_over_with {tests} kept new config peer s wait_set active some is used ended =
     watched_call kept new config peer s (call.WaitLook wait_set) (Active active) refl
-    (look_is_active _ _ peer.part wait_set _ _ (some_active (trigger_value tests peer.part) (conditions_of peer.part.dds.watch wait_set) (sym some))
-    (inl (subst (λ (o : Option Code). IsAnswered o (Active (active_of (trigger_value tests peer.part) (conditions_of peer.part.dds.watch wait_set))) (with_deadline peer.part.dds.watch wait_set None) peer.part (Active active) (record peer.part.dds { watch = new }))
-    (sym (ap (λ (w : Watched). used_by w wait_set) s.watch ∙ used))
-    (ap (λ (cs : List Cond). Active cs) is, ap (λ (w : Watched). record peer.part.dds { watch = w }) (ended ∙ ap (λ (w : Watched). with_deadline w wait_set None) (sym s.watch))))))
+    (look_is_active _ _ peer.part wait_set _ _
+    (some_active (trigger_value tests peer.part) (conditions_of peer.part.dds.watch wait_set) (sym some))
+    (inl (subst (λ (o : Option Code). IsAnswered o
+    (Active (active_of (trigger_value tests peer.part) (conditions_of peer.part.dds.watch wait_set)))
+    (with_deadline peer.part.dds.watch wait_set None) peer.part (Active active)
+    (record peer.part.dds { watch = new }))
+    (sym (ap (λ (w : Watched). used_by w wait_set) s.watch ∙ used)) (
+      ap (λ (cs : List Cond). Active cs) is,
+      ap (λ (w : Watched). record peer.part.dds { watch = w })
+          (ended ∙ ap (λ (w : Watched). with_deadline w wait_set None) (sym s.watch)),
+    ))))
 
 -- or finds no memory for them
-pub lacks_memory : {tests : Tests} (kept : PeerKept) (config : Config) (peer : Peer) → StandsFor kept config peer → (wait_set : ℕ)
-    → true ≡ list_any (trigger_value tests peer.part) (conditions_of peer.part.dds.watch wait_set) → used_by kept.watch wait_set ≡ None
+pub lacks_memory : {tests : Tests} (kept : PeerKept) (config : Config) (peer : Peer) → StandsFor kept config peer
+    → (wait_set : ℕ)
+    → true ≡ list_any (trigger_value tests peer.part) (conditions_of peer.part.dds.watch wait_set)
+    → used_by kept.watch wait_set ≡ None
     → FollowsBy tests kept config peer (event.Call (call.WaitLook wait_set)) (silent (Refused Memory))
 lacks_memory {tests} kept config peer s wait_set some used =
     unchanging_call kept config peer s (call.WaitLook wait_set) (Refused Memory) refl
-    (look_is_active _ _ peer.part wait_set _ _ (some_active (trigger_value tests peer.part) (conditions_of peer.part.dds.watch wait_set) (sym some))
+    (look_is_active _ _ peer.part wait_set _ _
+    (some_active (trigger_value tests peer.part) (conditions_of peer.part.dds.watch wait_set) (sym some))
     (inr (ap (λ (w : Watched). used_by w wait_set) s.watch ∙ used, refl, refl, refl)))

@@ -44,35 +44,60 @@ use Rattle.dds_model.proofs.Framing.{with_same}
 use Rattle.dds_core.proofs.Takes.{Telling, known_of, proxies_of, reader_of, part_of, stood, stands_after, moves_on, heartbeat_on, after_step}
 
 -- what one reader did, by the rules, and what was then due
-pub record ReaderTook (config : Config) (own : GuidPrefix) (at : Receiver) (s : Submessage) (reader : ℕ) (peer : Peer) (made : List Move) (dues : List Due) (new : PeerKept) : Type 0 where
+pub record ReaderTook (config : Config) (own : GuidPrefix) (at : Receiver) (s : Submessage) (reader : ℕ) (peer : Peer)
+    (made : List Move) (dues : List Due) (new : PeerKept) : Type 0 where
   pub state : State
   pub takes : ReaderTakes config own peer.number at s reader (state_of peer) made dues state
   pub stands : StandsFor new config (with_state peer state)
 
 -- the same reader, told something that it idles at
-idles_after : (c : Telling) (k' : ReaderKept) → SameReader c.k k' → OthersStay c.row c.k.reader k'.reader → Tracks k'.reader c.row (known_of c) → Holds k'.store (reader_of c).happened → StandsFor (with_reader c.kept c.i k') c.config (with_state c.peer (state_of c.peer))
+idles_after : (c : Telling) (k' : ReaderKept) → SameReader c.k k' → OthersStay c.row c.k.reader k'.reader
+    → Tracks k'.reader c.row (known_of c) → Holds k'.store (reader_of c).happened
+    → StandsFor (with_reader c.kept c.i k') c.config (with_state c.peer (state_of c.peer))
 idles_after c k' same others knows holds =
-    subst (λ p. StandsFor (with_reader c.kept c.i k') c.config (record c.peer { part = p; known = c.peer.known })) part_same
-    (stands_after c k' (known_of c) (reader_of c).happened (proxies_of c) c.peer.known refl (record { same = same; others = others; knows = knows; holds = holds }) refl ((stood c).places c.writer) (λ w p apart e. e) refl (λ w n apart. refl))
+    subst (λ p. StandsFor (with_reader c.kept c.i k') c.config (record c.peer { part = p; known = c.peer.known }))
+    part_same
+    (stands_after c k' (known_of c) (reader_of c).happened
+    (proxies_of c) c.peer.known refl (record { same = same; others = others; knows = knows; holds = holds })
+    refl ((stood c).places c.writer) (λ w p apart e. e) refl (λ w n apart. refl))
   where
-    part_same : with_read (part_of c) (suc c.i) (proxies_of c) (record (reader_of c) { happened = (reader_of c).happened }) ≡ part_of c
+    part_same : with_read (part_of c) (suc c.i) (proxies_of c)
+        (record (reader_of c) { happened = (reader_of c).happened }) ≡ part_of c
     part_same =
-        ap (λ all. record (part_of c) { rtps = record (part_of c).rtps { readers = all }; dds = record (part_of c).dds { readers = with_numbered c.peer.part.dds.readers (suc c.i) (reader_of c) } }) (with_same c.peer.part.rtps.readers (suc c.i) [])
-        ∙ ap (λ all. record (part_of c) { dds = record (part_of c).dds { readers = all } }) (with_same c.peer.part.dds.readers (suc c.i) no_reader)
+        ap (λ all. record (part_of c) {
+          rtps = record (part_of c).rtps { readers = all };
+          dds = record (part_of c).dds
+              { readers = with_numbered c.peer.part.dds.readers (suc c.i) (reader_of c) };
+        })
+        (with_same c.peer.part.rtps.readers (suc c.i) [])
+        ∙ ap (λ all. record (part_of c) { dds = record (part_of c).dds { readers = all } })
+        (with_same c.peer.part.dds.readers (suc c.i) no_reader)
 
-no_moves : (writer : Endpoint) (reader from : ℕ) (step : Step) → step.heard ≡ false → step.to ≡ from → moves_of writer reader from step ≡ []
+no_moves : (writer : Endpoint) (reader from : ℕ) (step : Step) → step.heard ≡ false → step.to ≡ from
+    → moves_of writer reader from step ≡ []
 no_moves writer reader from step quiet still =
-    ap (λ b. (if b then Heard writer reader ∷ [] else []) ++ (if nat_lt from step.to then Place writer reader step.to step.passed ∷ [] else [])) quiet
-    ∙ (ap (λ n. if nat_lt from n then Place writer reader step.to step.passed ∷ [] else []) still ∙ ap (λ b. if b then Place writer reader step.to step.passed ∷ [] else []) (not_less from))
+    ap (λ b. (if b then Heard writer reader ∷ [] else [])
+    ++ (if nat_lt from step.to then Place writer reader step.to step.passed ∷ [] else [])) quiet
+    ∙ (ap (λ n. if nat_lt from n then Place writer reader step.to step.passed ∷ [] else []) still
+    ∙ ap (λ b. if b then Place writer reader step.to step.passed ∷ [] else []) (not_less from))
   where
     not_less : (n : ℕ) → nat_lt n n ≡ false
     not_less n = grind (arith, nat_tests)
 
 -- the names that a submessage has
-abbrev named_as : (c : Telling) (own : GuidPrefix) (at : Receiver) (a b d e : EntityId) → a ≡ d → b ≡ e → IsToReader c.config own at a b c.writer (record { peer = c.peer.number; number = suc c.i })
+abbrev named_as : (c : Telling) (own : GuidPrefix) (at : Receiver) (a b d e : EntityId) → a ≡ d → b ≡ e
+    → IsToReader c.config own at a b c.writer (record { peer = c.peer.number; number = suc c.i })
     → IsToReader c.config own at d e c.writer (record { peer = c.peer.number; number = suc c.i })
 named_as c own at a b d e f g to = record {
-  from = record { peer = to.from.peer; at_peer = to.from.at_peer; same_prefix = to.from.same_prefix; end = to.from.end; at_writer = to.from.at_writer; same_entity = to.from.same_entity ∙ g };
+  from =
+      record {
+        peer = to.from.peer;
+        at_peer = to.from.at_peer;
+        same_prefix = to.from.same_prefix;
+        end = to.from.end;
+        at_writer = to.from.at_writer;
+        same_entity = to.from.same_entity ∙ g;
+      };
   is_for = to.is_for;
   entity = to.entity;
   to = to.to;
@@ -82,47 +107,95 @@ named_as c own at a b d e f g to = record {
 
 -- what is due to the writer once a submessage was told
 abbrev answer_to : (c : Telling) (own : GuidPrefix) (at : Receiver) (entity writer_id : EntityId) → Step → List Due
-answer_to c own at entity writer_id step = acknacks_due own at.source_guid_prefix c.writer.peer entity writer_id step.acknack
+answer_to c own at entity writer_id step =
+    acknacks_due own at.source_guid_prefix c.writer.peer entity writer_id step.acknack
 
-no_answer : (c : Telling) (own : GuidPrefix) (at : Receiver) (entity writer_id : EntityId) (step : Step) → step.acknack ≡ None → answer_to c own at entity writer_id step ≡ []
-no_answer c own at entity writer_id step none = ap (λ (o : Option AckNackDue). acknacks_due own at.source_guid_prefix c.writer.peer entity writer_id o) none
+no_answer : (c : Telling) (own : GuidPrefix) (at : Receiver) (entity writer_id : EntityId) (step : Step)
+    → step.acknack ≡ None → answer_to c own at entity writer_id step ≡ []
+no_answer c own at entity writer_id step none =
+    ap (λ (o : Option AckNackDue). acknacks_due own at.source_guid_prefix c.writer.peer entity writer_id o) none
 
 -- what is ready for a reader is told
-told_so : (c : Telling) (own : GuidPrefix) (at : Receiver) (s : Submessage) (said : Told) (k' : ReaderKept) (from : ℕ) (step : Step) (reader_id writer_id : EntityId) → NamedBy s reader_id writer_id → IsToldBy at s said
-    → (to : IsToReader c.config own at reader_id writer_id c.writer (record { peer = c.peer.number; number = suc c.i })) → SameReader c.k k' → OthersStay c.row c.k.reader k'.reader → from ≡ (known_of c).place
-    → TellsSo (match_at (qos_of c.k.store.cache) c.row c.kept.moment) said (known_of c) (reader_of c).happened step (Tracks k'.reader c.row) (λ h. Holds k'.store h)
-    → ReaderTook c.config own at s (suc c.i) c.peer (moves_of c.writer (c.i + 1) from step) (answer_to c own at to.entity writer_id step) (with_reader c.kept c.i k')
+told_so : (c : Telling) (own : GuidPrefix) (at : Receiver) (s : Submessage) (said : Told) (k' : ReaderKept) (from : ℕ)
+    (step : Step) (reader_id writer_id : EntityId) → NamedBy s reader_id writer_id → IsToldBy at s said
+    → (to : IsToReader c.config own at reader_id writer_id c.writer (record { peer = c.peer.number; number = suc c.i }))
+    → SameReader c.k k' → OthersStay c.row c.k.reader k'.reader → from ≡ (known_of c).place
+    → TellsSo (match_at (qos_of c.k.store.cache) c.row c.kept.moment) said (known_of c) (reader_of c).happened step
+    (Tracks k'.reader c.row) (λ h. Holds k'.store h)
+    → ReaderTook c.config own at s (suc c.i) c.peer (moves_of c.writer (c.i + 1) from step)
+    (answer_to c own at to.entity writer_id step) (with_reader c.kept c.i k')
 told_so c own at (Data d) (told.Change number change) k' from step reader_id writer_id by is to same others place m =
     let t : Tracked = with_data d.writer_sn (change_in d.content at.timestamp) (known_of c) in
-    let n : MovesOn (match_at (qos_of c.k.store.cache) c.row c.kept.moment) t (reader_of c).happened step (Tracks k'.reader c.row) (λ h. Holds k'.store h) =
-    subst (λ x. MovesOn (match_at (qos_of c.k.store.cache) c.row c.kept.moment) (with_data d.writer_sn x (known_of c)) (reader_of c).happened step (Tracks k'.reader c.row) (λ h. Holds k'.store h)) is.1
-    (subst (λ x. MovesOn (match_at (qos_of c.k.store.cache) c.row c.kept.moment) (with_data x change (known_of c)) (reader_of c).happened step (Tracks k'.reader c.row) (λ h. Holds k'.store h)) is.0 m) in
+    let n : MovesOn (match_at (qos_of c.k.store.cache) c.row c.kept.moment) t (reader_of c).happened step
+    (Tracks k'.reader c.row) (λ h. Holds k'.store h) =
+    subst (λ x. MovesOn (match_at (qos_of c.k.store.cache) c.row c.kept.moment) (with_data d.writer_sn x (known_of c))
+    (reader_of c).happened step (Tracks k'.reader c.row) (λ h. Holds k'.store h)) is.1
+    (subst (λ x. MovesOn (match_at (qos_of c.k.store.cache) c.row c.kept.moment) (with_data x change (known_of c))
+    (reader_of c).happened step (Tracks k'.reader c.row) (λ h. Holds k'.store h)) is.0 m) in
     let r = moves_on c k' t from step same others place n in
-    let to_it : IsToReader c.config own at d.reader_id d.writer_id c.writer (record { peer = c.peer.number; number = suc c.i }) = named_as c own at reader_id writer_id d.reader_id d.writer_id by.0 by.1 to in
-    record { state = after_step c step n.new n.after; takes = inl (c.writer, to_it, (r.0, no_answer c own at to.entity writer_id step m.acknack)); stands = r.1 }
+    let to_it : IsToReader c.config own at d.reader_id d.writer_id c.writer
+    (record { peer = c.peer.number; number = suc c.i }) = named_as c own at reader_id writer_id d.reader_id
+    d.writer_id by.0 by.1 to in
+    record {
+      state = after_step c step n.new n.after;
+      takes = inl (c.writer, to_it, (r.0, no_answer c own at to.entity writer_id step m.acknack));
+      stands = r.1;
+    }
 told_so c own at (Gap g) (told.Gap start list) k' from step reader_id writer_id by is to same others place m =
     let t : Tracked = with_gap g.gap_start g.gap_list (known_of c) in
-    let n : MovesOn (match_at (qos_of c.k.store.cache) c.row c.kept.moment) t (reader_of c).happened step (Tracks k'.reader c.row) (λ h. Holds k'.store h) =
-    subst (λ x. MovesOn (match_at (qos_of c.k.store.cache) c.row c.kept.moment) (with_gap g.gap_start x (known_of c)) (reader_of c).happened step (Tracks k'.reader c.row) (λ h. Holds k'.store h)) is.1
-    (subst (λ x. MovesOn (match_at (qos_of c.k.store.cache) c.row c.kept.moment) (with_gap x list (known_of c)) (reader_of c).happened step (Tracks k'.reader c.row) (λ h. Holds k'.store h)) is.0 m) in
+    let n : MovesOn (match_at (qos_of c.k.store.cache) c.row c.kept.moment) t (reader_of c).happened step
+    (Tracks k'.reader c.row) (λ h. Holds k'.store h) =
+    subst (λ x. MovesOn (match_at (qos_of c.k.store.cache) c.row c.kept.moment) (with_gap g.gap_start x (known_of c))
+    (reader_of c).happened step (Tracks k'.reader c.row) (λ h. Holds k'.store h)) is.1
+    (subst (λ x. MovesOn (match_at (qos_of c.k.store.cache) c.row c.kept.moment) (with_gap x list (known_of c))
+    (reader_of c).happened step (Tracks k'.reader c.row) (λ h. Holds k'.store h)) is.0 m) in
     let r = moves_on c k' t from step same others place n in
-    let to_it : IsToReader c.config own at g.reader_id g.writer_id c.writer (record { peer = c.peer.number; number = suc c.i }) = named_as c own at reader_id writer_id g.reader_id g.writer_id by.0 by.1 to in
-    record { state = after_step c step n.new n.after; takes = inl (c.writer, to_it, (r.0, no_answer c own at to.entity writer_id step m.acknack)); stands = r.1 }
-told_so c own at (Heartbeat h) (told.Heartbeat seen) k' from step reader_id writer_id by is to same others place (inl m) =
-    let to_it : IsToReader c.config own at h.reader_id h.writer_id c.writer (record { peer = c.peer.number; number = suc c.i }) = named_as c own at reader_id writer_id h.reader_id h.writer_id by.0 by.1 to in
-    let later : is_later (known_of c).count h.count ≡ true = subst (λ (x : HeartbeatSeen). is_later (known_of c).count x.count ≡ true) is m.0 in
+    let to_it : IsToReader c.config own at g.reader_id g.writer_id c.writer
+    (record { peer = c.peer.number; number = suc c.i }) = named_as c own at reader_id writer_id g.reader_id
+    g.writer_id by.0 by.1 to in
+    record {
+      state = after_step c step n.new n.after;
+      takes = inl (c.writer, to_it, (r.0, no_answer c own at to.entity writer_id step m.acknack));
+      stands = r.1;
+    }
+told_so c own at (Heartbeat h) (told.Heartbeat seen) k' from step reader_id writer_id by is to same others place
+    (inl m) =
+    let to_it : IsToReader c.config own at h.reader_id h.writer_id c.writer
+    (record { peer = c.peer.number; number = suc c.i }) = named_as c own at reader_id writer_id h.reader_id
+    h.writer_id by.0 by.1 to in
+    let later : is_later (known_of c).count h.count ≡ true =
+    subst (λ (x : HeartbeatSeen). is_later (known_of c).count x.count ≡ true) is m.0 in
     let r = heartbeat_on c own at to.entity k' h seen from step is same others place later m.1 in
     let dues : List Due = answer_to c own at to.entity writer_id step in
-    let takes : TakesHeartbeat own at (state_of c.peer) c.writer (suc c.i) to.entity h (moves_of c.writer (c.i + 1) from step) dues r.0 =
-    subst (λ (ds : List Due). TakesHeartbeat own at (state_of c.peer) c.writer (suc c.i) to.entity h (moves_of c.writer (c.i + 1) from step) ds r.0)
+    let takes : TakesHeartbeat own at (state_of c.peer) c.writer (suc c.i) to.entity h
+    (moves_of c.writer (c.i + 1) from step) dues r.0 =
+    subst (λ (ds : List Due). TakesHeartbeat own at (state_of c.peer) c.writer (suc c.i) to.entity h
+    (moves_of c.writer (c.i + 1) from step) ds r.0)
     (ap (λ (w : EntityId). answer_to c own at to.entity w step) (sym by.1)) r.1 in
     record { state = r.0; takes = inl (c.writer, to_it, inl takes); stands = r.2 }
-told_so c own at (Heartbeat h) (told.Heartbeat seen) k' from step reader_id writer_id by is to same others place (inr m) =
-    let to_it : IsToReader c.config own at h.reader_id h.writer_id c.writer (record { peer = c.peer.number; number = suc c.i }) = named_as c own at reader_id writer_id h.reader_id h.writer_id by.0 by.1 to in
-    let repeated : is_later (known_of c).count h.count ≡ false = subst (λ (x : HeartbeatSeen). is_later (known_of c).count x.count ≡ false) is m.0 in
+told_so c own at (Heartbeat h) (told.Heartbeat seen) k' from step reader_id writer_id by is to same others place
+    (inr m) =
+    let to_it : IsToReader c.config own at h.reader_id h.writer_id c.writer
+    (record { peer = c.peer.number; number = suc c.i }) = named_as c own at reader_id writer_id h.reader_id
+    h.writer_id by.0 by.1 to in
+    let repeated : is_later (known_of c).count h.count ≡ false =
+    subst (λ (x : HeartbeatSeen). is_later (known_of c).count x.count ≡ false) is m.0 in
     record {
       state = state_of c.peer;
-      takes = inl (c.writer, to_it, inr (repeated, (no_moves c.writer (c.i + 1) from step m.1.heard (m.1.to ∙ sym place), no_answer c own at to.entity writer_id step m.1.acknack, refl)));
+      takes =
+          inl (
+            c.writer,
+            to_it,
+            inr (
+              repeated,
+              (
+                no_moves c.writer (c.i + 1) from step m.1.heard
+                    (m.1.to ∙ sym place),
+                no_answer c own at to.entity writer_id step m.1.acknack,
+                refl,
+              ),
+            ),
+          );
       stands = idles_after c k' same others m.2 m.3;
     }
 told_so c own at s said k' from step reader_id writer_id by is to same others place m = absurd is
@@ -132,20 +205,49 @@ abbrev pub answer_due : GuidPrefix → ReaderKept → WriterName → Step → Li
 answer_due own k name step = acknacks_due own name.guid.prefix name.writer.peer k.entity name.guid.entity step.acknack
 
 -- the reader of this index took up what was ready for it
-took : (config : Config) (peer : Peer) (kept new : PeerKept) (at : Receiver) (s : Submessage) (i : ℕ) (k : ReaderKept) (ready : Ready) (moves : List Move) (sent : Announced) (after : List Move) (gone : Announced) → StandsFor kept config peer
-    → slice_get kept.readers i ≡ Some k → IsReadyWith kept.prefix at s k ready → (t : TookAt kept i ready k moves sent new after gone)
-    → ReaderTook config kept.prefix at s (suc i) peer (moves_of t.name.writer (i + 1) t.from t.step) (answer_due kept.prefix k t.name t.step) new
+took : (config : Config) (peer : Peer) (kept new : PeerKept) (at : Receiver) (s : Submessage) (i : ℕ) (k : ReaderKept)
+    (ready : Ready) (moves : List Move) (sent : Announced) (after : List Move) (gone : Announced)
+    → StandsFor kept config peer
+    → slice_get kept.readers i ≡ Some k → IsReadyWith kept.prefix at s k ready
+    → (t : TookAt kept i ready k moves sent new after gone)
+    → ReaderTook config kept.prefix at s (suc i) peer (moves_of t.name.writer (i + 1) t.from t.step)
+    (answer_due kept.prefix k t.name t.step) new
 took config peer kept new at s i k ready moves sent after gone stands at_k is t =
-    let first : IsFirstRow k.writers own_name.writer ready.row = first_row config peer kept stands i k at_k _ ready.row is.named.first in
-    let c : Telling = record { config = config; peer = peer; kept = kept; stands = stands; i = i; k = k; at = at_k; writer = own_name.writer; row = ready.row; first = first } in
-    let to : IsToReader config kept.prefix at is.reader_id is.writer_id own_name.writer (record { peer = peer.number; number = suc i }) = is_to config peer kept stands i k at_k at is.reader_id is.writer_id ready.row is.named in
+    let first : IsFirstRow k.writers own_name.writer ready.row =
+    first_row config peer kept stands i k at_k _ ready.row is.named.first in
+    let c : Telling =
+    record {
+      config = config;
+      peer = peer;
+      kept = kept;
+      stands = stands;
+      i = i;
+      k = k;
+      at = at_k;
+      writer = own_name.writer;
+      row = ready.row;
+      first = first;
+    } in
+    let to : IsToReader config kept.prefix at is.reader_id is.writer_id own_name.writer
+    (record { peer = peer.number; number = suc i }) = is_to config peer kept stands i k at_k at is.reader_id
+    is.writer_id ready.row is.named in
     let knows : Tracks k.reader ready.row (known_of c) = (stood c).knows own_name.writer ready.row first in
-    let r = told_so c kept.prefix at s ready.told t.reader t.from t.step is.reader_id is.writer_id is.by is.told to t.same t.told.others (t.place (known_of c) knows) (t.told.told (known_of c) (reader_of c).happened knows (stood c).holds) in
+    let r =
+    told_so c kept.prefix at s ready.told t.reader t.from t.step is.reader_id is.writer_id is.by is.told to t.same
+    t.told.others (t.place (known_of c) knows)
+    (t.told.told (known_of c) (reader_of c).happened knows (stood c).holds) in
     let guid : own_name.guid ≡ writer_guid at is.writer_id = is.named.first.named in
-    let there : ReaderTook config kept.prefix at s (suc i) peer (moves_of own_name.writer (i + 1) t.from t.step) (answer_due kept.prefix k own_name t.step) (with_reader kept i t.reader) =
-    subst (λ (g : Guid). ReaderTook config kept.prefix at s (suc i) peer (moves_of own_name.writer (i + 1) t.from t.step) (acknacks_due kept.prefix g.prefix own_name.writer.peer k.entity g.entity t.step.acknack) (with_reader kept i t.reader)) (sym guid) r in
-    subst (λ (x : PeerKept). ReaderTook config kept.prefix at s (suc i) peer (moves_of t.name.writer (i + 1) t.from t.step) (answer_due kept.prefix k t.name t.step) x) (sym t.new_is)
-    (subst (λ (n : WriterName). ReaderTook config kept.prefix at s (suc i) peer (moves_of n.writer (i + 1) t.from t.step) (answer_due kept.prefix k n t.step) (with_reader kept i t.reader)) same_name there)
+    let there : ReaderTook config kept.prefix at s (suc i) peer (moves_of own_name.writer (i + 1) t.from t.step)
+    (answer_due kept.prefix k own_name t.step) (with_reader kept i t.reader) =
+    subst (λ (g : Guid). ReaderTook config kept.prefix at s (suc i) peer
+    (moves_of own_name.writer (i + 1) t.from t.step)
+    (acknacks_due kept.prefix g.prefix own_name.writer.peer k.entity g.entity t.step.acknack)
+    (with_reader kept i t.reader)) (sym guid) r in
+    subst (λ (x : PeerKept). ReaderTook config kept.prefix at s (suc i) peer
+    (moves_of t.name.writer (i + 1) t.from t.step) (answer_due kept.prefix k t.name t.step) x) (sym t.new_is)
+    (subst (λ (n : WriterName). ReaderTook config kept.prefix at s (suc i) peer
+    (moves_of n.writer (i + 1) t.from t.step) (answer_due kept.prefix k n t.step) (with_reader kept i t.reader))
+    same_name there)
   where
     own_name : WriterName
     own_name = is.named.first.name
@@ -154,11 +256,27 @@ took config peer kept new at s i k ready moves sent after gone stands at_k is t 
     same_name = same_Some own_name t.name (sym is.named.first.at ∙ t.at_name)
 
 -- nothing is ready for it, and so it has nothing to do
-idles : (config : Config) (peer : Peer) (kept : PeerKept) (at : Receiver) (s : Submessage) (i : ℕ) (k : ReaderKept) → StandsFor kept config peer → slice_get kept.readers i ≡ Some k → IsReadyFor kept.prefix at s k None
+idles : (config : Config) (peer : Peer) (kept : PeerKept) (at : Receiver) (s : Submessage) (i : ℕ) (k : ReaderKept)
+    → StandsFor kept config peer → slice_get kept.readers i ≡ Some k → IsReadyFor kept.prefix at s k None
     → ReaderTakes config kept.prefix peer.number at s (suc i) (state_of peer) [] [] (state_of peer)
-idles config peer kept at (Data d) i k stands at_k none = inr (λ w to. row_of_writer config peer kept stands i k at_k at d.reader_id d.writer_id w to (none d.reader_id d.writer_id (refl, refl)), (refl, refl, refl))
-idles config peer kept at (Gap g) i k stands at_k none = inr (λ w to. row_of_writer config peer kept stands i k at_k at g.reader_id g.writer_id w to (none g.reader_id g.writer_id (refl, refl)), (refl, refl, refl))
-idles config peer kept at (Heartbeat h) i k stands at_k none = inr (λ w to. row_of_writer config peer kept stands i k at_k at h.reader_id h.writer_id w to (none h.reader_id h.writer_id (refl, refl)), (refl, refl, refl))
+idles config peer kept at (Data d) i k stands at_k none =
+    inr (
+      λ w to. row_of_writer config peer kept stands i k at_k at d.reader_id d.writer_id w to
+          (none d.reader_id d.writer_id (refl, refl)),
+      (refl, refl, refl),
+    )
+idles config peer kept at (Gap g) i k stands at_k none =
+    inr (
+      λ w to. row_of_writer config peer kept stands i k at_k at g.reader_id g.writer_id w to
+          (none g.reader_id g.writer_id (refl, refl)),
+      (refl, refl, refl),
+    )
+idles config peer kept at (Heartbeat h) i k stands at_k none =
+    inr (
+      λ w to. row_of_writer config peer kept stands i k at_k at h.reader_id h.writer_id w to
+          (none h.reader_id h.writer_id (refl, refl)),
+      (refl, refl, refl),
+    )
 idles config peer kept at s i k stands at_k none = (refl, refl, refl)
 
 -- ---- one reader after the other
@@ -168,16 +286,30 @@ numbers_more first zero = ap (λ n. n ∷ []) (sym (none first))
   where
     none : (n : ℕ) → n + 0 ≡ n
     none n = omega arith
-numbers_more first (suc count) = ap (λ ns. first ∷ ns) (numbers_more (first + 1) count ∙ ap (λ n. numbers_from (first + 1) count ++ n ∷ []) (one_on first count))
+numbers_more first (suc count) =
+    ap (λ ns. first ∷ ns) (numbers_more (first + 1) count
+    ∙ ap (λ n. numbers_from (first + 1) count ++ n ∷ []) (one_on first count))
   where
     one_on : (a b : ℕ) → a + 1 + b ≡ a + suc b
     one_on a b = omega arith
 
 -- one more takes its turn
-pub turn_more : {X : Type 0} (step : X → State → List Move → List Due → State → Type 0) (xs : List X) (x : X) (old mid new : State) (made one : List Move) (dues due : List Due)
-    → InTurn step xs old made dues mid → step x mid one due new → InTurn step (xs ++ x ∷ []) old (made ++ one) (dues ++ due) new
-turn_more step [] x old mid new made one dues due h k =
-    (one, [], due, [], new, ap (λ ms. ms ++ one) h.0 ∙ sym (append-nil one), ap (λ ds. ds ++ due) h.1 ∙ sym (append-nil due), subst (λ s. step x s one due new) h.2 k, (refl, refl, refl))
+pub turn_more : {X : Type 0} (step : X → State → List Move → List Due → State → Type 0) (xs : List X) (x : X)
+    (old mid new : State) (made one : List Move) (dues due : List Due)
+    → InTurn step xs old made dues mid → step x mid one due new
+    → InTurn step (xs ++ x ∷ []) old (made ++ one) (dues ++ due) new
+turn_more step [] x old mid new made one dues due h k = (
+  one,
+  [],
+  due,
+  [],
+  new,
+  ap (λ ms. ms ++ one) h.0 ∙ sym (append-nil one),
+  ap (λ ds. ds ++ due) h.1
+      ∙ sym (append-nil due),
+  subst (λ s. step x s one due new) h.2 k,
+  (refl, refl, refl),
+)
 turn_more step (y ∷ ys) x old mid new made one dues due h k = (
   h.0,
   h.1 ++ one,
@@ -191,24 +323,42 @@ turn_more step (y ∷ ys) x old mid new made one dues due h k = (
 )
 
 -- none has taken it up yet
-pub takes_none : (old : PeerKept) (ready : List (Option Ready)) (moves : List Move) (sent : Announced) → TakesSome old ready 0 moves sent old moves sent
+pub takes_none : (old : PeerKept) (ready : List (Option Ready)) (moves : List Move) (sent : Announced)
+    → TakesSome old ready 0 moves sent old moves sent
 takes_none old ready moves sent = record {
   made = [];
   after_is = sym (append-nil moves);
-  takes = λ at s are config peer stands. record { state = state_of peer; dues = []; turn = (refl, refl, refl); stands = stands; adds = adds_none sent.packets.items sent.unsent };
+  takes =
+      λ at s are config peer stands. record {
+        state = state_of peer;
+        dues = [];
+        turn = (refl, refl, refl);
+        stands = stands;
+        adds = adds_none sent.packets.items sent.unsent;
+      };
   left = refl;
   prefix = refl;
 }
 
-more_took : (config : Config) (own : GuidPrefix) (at : Receiver) (s : Submessage) (i : ℕ) (peer : Peer) (made one : List Move) (due : List Due) (sent mid gone : Announced) (now new : PeerKept) (before : ReadersTook config own at s i peer made sent now mid) (after : State)
-    → ReaderTakes config own peer.number at s (suc i) before.state one due after → StandsFor new config (with_state peer after) → AddsTo due mid gone → ReadersTook config own at s (suc i) peer (made ++ one) sent new gone
+more_took : (config : Config) (own : GuidPrefix) (at : Receiver) (s : Submessage) (i : ℕ) (peer : Peer)
+    (made one : List Move) (due : List Due) (sent mid gone : Announced) (now new : PeerKept)
+    (before : ReadersTook config own at s i peer made sent now mid) (after : State)
+    → ReaderTakes config own peer.number at s (suc i) before.state one due after
+    → StandsFor new config (with_state peer after) → AddsTo due mid gone
+    → ReadersTook config own at s (suc i) peer (made ++ one) sent new gone
 more_took config own at s i peer made one due sent mid gone now new before after takes stands adds = record {
   state = after;
   dues = before.dues ++ due;
-  turn = subst (λ ns. InTurn (ReaderTakes config own peer.number at s) ns (state_of peer) (made ++ one) (before.dues ++ due) after) (sym (numbers_more 1 i))
-      (turn_more (ReaderTakes config own peer.number at s) (numbers_from 1 i) (1 + i) (state_of peer) before.state after made one before.dues due before.turn (subst (λ n. ReaderTakes config own peer.number at s n before.state one due after) (one_on i) takes));
+  turn =
+      subst (λ ns. InTurn (ReaderTakes config own peer.number at s) ns (state_of peer) (made ++ one)
+      (before.dues ++ due) after) (sym (numbers_more 1 i))
+      (turn_more (ReaderTakes config own peer.number at s) (numbers_from 1 i) (1 + i)
+      (state_of peer) before.state after made one before.dues due before.turn
+      (subst (λ n. ReaderTakes config own peer.number at s n before.state one due after) (one_on i) takes));
   stands = stands;
-  adds = adds_on before.dues due sent.packets.items mid.packets.items gone.packets.items sent.unsent mid.unsent gone.unsent before.adds adds;
+  adds =
+      adds_on before.dues due sent.packets.items mid.packets.items gone.packets.items sent.unsent mid.unsent gone.unsent
+      before.adds adds;
 }
   where
     one_on : (n : ℕ) → suc n ≡ 1 + n
@@ -218,28 +368,38 @@ next_index : (n : ℕ) → suc n ≡ n + 1
 next_index n = omega arith
 
 -- nothing was ready for this reader
-pub takes_skip : (old now : PeerKept) (ready : List (Option Ready)) (i : ℕ) (moves after : List Move) (sent gone : Announced) → TakesSome old ready i moves sent now after gone → i < length old.readers → slice_get ready i ≡ Some None
+pub takes_skip : (old now : PeerKept) (ready : List (Option Ready)) (i : ℕ) (moves after : List Move)
+    (sent gone : Announced) → TakesSome old ready i moves sent now after gone → i < length old.readers
+    → slice_get ready i ≡ Some None
     → TakesSome old ready (i + 1) moves sent now after gone
 takes_skip old now ready i moves after sent gone h within none =
     subst (λ n. TakesSome old ready n moves sent now after gone) (next_index i) (record {
       made = h.made;
       after_is = h.after_is;
       takes = λ at s are config peer stands.
-          let t : ReadersTook config old.prefix at s i peer h.made sent now gone = h.takes at s are config peer stands in
+          let t : ReadersTook config old.prefix at s i peer h.made sent now gone =
+          h.takes at s are config peer stands in
           let k = element old.readers i within in
           let at_now : slice_get now.readers i ≡ Some k.0 = left_at now.readers old.readers i k.0 h.left k.1 in
           let idle : ReaderTakes config now.prefix peer.number at s (suc i) t.state [] [] t.state =
-          idles config (with_state peer t.state) now at s i k.0 t.stands at_now (subst (λ p. IsReadyFor p at s k.0 None) (sym h.prefix) (are.each i k.0 None k.1 none)) in
-          let same : ReaderTakes config old.prefix peer.number at s (suc i) t.state [] [] t.state = subst (λ p. ReaderTakes config p peer.number at s (suc i) t.state [] [] t.state) h.prefix idle in
+          idles config (with_state peer t.state) now at s i k.0 t.stands at_now
+          (subst (λ p. IsReadyFor p at s k.0 None) (sym h.prefix) (are.each i k.0 None k.1 none)) in
+          let same : ReaderTakes config old.prefix peer.number at s (suc i) t.state [] [] t.state =
+          subst (λ p. ReaderTakes config p peer.number at s (suc i) t.state [] [] t.state) h.prefix idle in
           subst (λ ms. ReadersTook config old.prefix at s (suc i) peer ms sent now gone) (append-nil h.made)
-          (more_took config old.prefix at s i peer h.made [] [] sent gone gone now now t t.state same t.stands (adds_none gone.packets.items gone.unsent));
+          (more_took config old.prefix at s i peer h.made [] [] sent gone gone now now t t.state same t.stands
+          (adds_none gone.packets.items gone.unsent));
       left = left_more now.readers old.readers i h.left;
       prefix = h.prefix;
     })
 
 -- this reader took up what was ready for it
-pub takes_more : (old now new : PeerKept) (ready : List (Option Ready)) (i : ℕ) (one : Ready) (moves mid after : List Move) (sent went gone : Announced) → TakesSome old ready i moves sent now mid went → i < length old.readers
-    → slice_get ready i ≡ Some (Some one) → ((k : ReaderKept) → slice_get now.readers i ≡ Some k → TookAt now i one k mid went new after gone) → TakesSome old ready (i + 1) moves sent new after gone
+pub takes_more : (old now new : PeerKept) (ready : List (Option Ready)) (i : ℕ) (one : Ready)
+    (moves mid after : List Move) (sent went gone : Announced) → TakesSome old ready i moves sent now mid went
+    → i < length old.readers
+    → slice_get ready i ≡ Some (Some one)
+    → ((k : ReaderKept) → slice_get now.readers i ≡ Some k → TookAt now i one k mid went new after gone)
+    → TakesSome old ready (i + 1) moves sent new after gone
 takes_more old now new ready i one moves mid after sent went gone h within is took_at =
     let k = element old.readers i within in
     let at_now : slice_get now.readers i ≡ Some k.0 = left_at now.readers old.readers i k.0 h.left k.1 in
@@ -249,23 +409,36 @@ takes_more old now new ready i one moves mid after sent went gone h within is to
       made = h.made ++ made;
       after_is = t.after_is ∙ (ap (λ ms. ms ++ made) h.after_is ∙ append_assoc moves h.made made);
       takes = λ at s are config peer stands.
-          let before : ReadersTook config old.prefix at s i peer h.made sent now went = h.takes at s are config peer stands in
-          let with_it : IsReadyWith now.prefix at s k.0 one = subst (λ p. IsReadyWith p at s k.0 one) (sym h.prefix) (are.each i k.0 (Some one) k.1 is) in
-          let r = took config (with_state peer before.state) now new at s i k.0 one mid went after gone before.stands at_now with_it t in
+          let before : ReadersTook config old.prefix at s i peer h.made sent now went =
+          h.takes at s are config peer stands in
+          let with_it : IsReadyWith now.prefix at s k.0 one =
+          subst (λ p. IsReadyWith p at s k.0 one) (sym h.prefix) (are.each i k.0 (Some one) k.1 is) in
+          let r =
+          took config (with_state peer before.state) now new at s i k.0 one mid went after gone before.stands at_now
+          with_it t in
           let dues = answer_due now.prefix k.0 t.name t.step in
           more_took config old.prefix at s i peer h.made made dues sent went gone now new before r.state
-          (subst (λ p. ReaderTakes config p peer.number at s (suc i) before.state made dues r.state) h.prefix r.takes) r.stands t.answer;
-      left = ap (λ (c : PeerKept). drop (suc i) c.readers) t.new_is ∙ (drop_set now.readers i t.reader ∙ left_more now.readers old.readers i h.left);
+          (subst (λ p. ReaderTakes config p peer.number at s (suc i) before.state made dues r.state) h.prefix r.takes)
+          r.stands t.answer;
+      left =
+          ap (λ (c : PeerKept). drop (suc i) c.readers) t.new_is
+          ∙ (drop_set now.readers i t.reader ∙ left_more now.readers old.readers i h.left);
       prefix = ap (λ (c : PeerKept). c.prefix) t.new_is ∙ h.prefix;
     })
 
 -- the readers were told what a submessage says, once it was made ready
-pub tells_readers : (old now new : PeerKept) (at : Receiver) (s : Submessage) (ready : List (Option Ready)) (moves after : List Move) (sent gone : Announced) → StandsAsWell old now → now.prefix ≡ old.prefix → AreReady old.prefix at s now.readers ready
-    → TakesAll now ready moves sent new after gone → length now.readers ≡ length old.readers → TellsReaders old at s moves sent new after gone
+pub tells_readers : (old now new : PeerKept) (at : Receiver) (s : Submessage) (ready : List (Option Ready))
+    (moves after : List Move) (sent gone : Announced) → StandsAsWell old now → now.prefix ≡ old.prefix
+    → AreReady old.prefix at s now.readers ready
+    → TakesAll now ready moves sent new after gone → length now.readers ≡ length old.readers
+    → TellsReaders old at s moves sent new after gone
 tells_readers old now new at s ready moves after sent gone well prefix are all count = record {
   made = all.made;
   after_is = all.after_is;
   takes = λ config peer stands.
-      let r : ReadersTook config now.prefix at s (length now.readers) peer all.made sent new gone = all.takes at s (subst (λ p. AreReady p at s now.readers ready) (sym prefix) are) config peer (well config peer stands) in
-      subst (λ n. ReadersTook config old.prefix at s n peer all.made sent new gone) count (subst (λ p. ReadersTook config p at s (length now.readers) peer all.made sent new gone) prefix r);
+      let r : ReadersTook config now.prefix at s (length now.readers) peer all.made sent new gone =
+      all.takes at s (subst (λ p. AreReady p at s now.readers ready) (sym prefix) are) config peer
+      (well config peer stands) in
+      subst (λ n. ReadersTook config old.prefix at s n peer all.made sent new gone) count
+      (subst (λ p. ReadersTook config p at s (length now.readers) peer all.made sent new gone) prefix r);
 }

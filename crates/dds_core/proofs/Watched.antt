@@ -20,7 +20,8 @@ use Rattle.dds_core.proofs.Taking.{silent}
 
 -- what is kept stands for the state in which this is watched, once it is what is kept of that
 pub watches : (kept : PeerKept) (new : Watched) (config : Config) (peer : Peer) → StandsFor kept config peer
-    → StandsFor (record kept { watch = new }) config (record peer { part = record peer.part { dds = record peer.part.dds { watch = new } } })
+    → StandsFor (record kept { watch = new }) config
+    (record peer { part = record peer.part { dds = record peer.part.dds { watch = new } } })
 watches kept new config peer s = record {
   is_peer = s.is_peer;
   moment = s.moment;
@@ -32,7 +33,8 @@ watches kept new config peer s = record {
 }
 
 -- a call after which this is watched
-pub watched_call : {tests : Tests} (kept : PeerKept) (new : Watched) (config : Config) (peer : Peer) → StandsFor kept config peer → (c : Call) (reply : Reply)
+pub watched_call : {tests : Tests} (kept : PeerKept) (new : Watched) (config : Config) (peer : Peer)
+    → StandsFor kept config peer → (c : Call) (reply : Reply)
     → effect_of peer.part c reply ≡ nothing → Answers tests peer.part c reply (record peer.part.dds { watch = new })
     → FollowsBy tests (record kept { watch = new }) config peer (event.Call c) (silent reply)
 watched_call kept new config peer s c reply none is = (
@@ -46,24 +48,29 @@ watched_call kept new config peer s c reply none is = (
   watches kept new config peer s,
 )
 
-answered_so : (refusal : Option Code) (answer : Reply) (after : Watched) (part : Part) (reply : Reply) (new : Watched) → refusal ≡ None → reply ≡ answer → new ≡ after
+answered_so : (refusal : Option Code) (answer : Reply) (after : Watched) (part : Part) (reply : Reply) (new : Watched)
+    → refusal ≡ None → reply ≡ answer → new ≡ after
     → IsAnswered refusal answer after part reply (record part.dds { watch = new })
 answered_so refusal answer after part reply new none is same =
     subst (λ (o : Option Code). IsAnswered o answer after part reply (record part.dds { watch = new })) (sym none)
     (is, ap (λ (w : Watched). record part.dds { watch = w }) same)
 
-refused_so : (refusal : Option Code) (answer : Reply) (after : Watched) (part : Part) (code : Code) (reply : Reply) (new : Watched) → refusal ≡ Some code → reply ≡ Refused code → new ≡ part.dds.watch
+refused_so : (refusal : Option Code) (answer : Reply) (after : Watched) (part : Part) (code : Code) (reply : Reply)
+    (new : Watched) → refusal ≡ Some code → reply ≡ Refused code → new ≡ part.dds.watch
     → IsAnswered refusal answer after part reply (record part.dds { watch = new })
 refused_so refusal answer after part code reply new some is same =
     subst (λ (o : Option Code). IsAnswered o answer after part reply (record part.dds { watch = new })) (sym some)
     (is, ap (λ (w : Watched). record part.dds { watch = w }) same)
 
 -- a call that is done or refused
-pub done_call : (refusal : Watched → Option Code) (after : Watched → Watched) (kept : PeerKept) (new : Watched) (result : Result (Unit {0}) Code) (reply : Reply) (config : Config) (peer : Peer)
+pub done_call : (refusal : Watched → Option Code) (after : Watched → Watched) (kept : PeerKept) (new : Watched)
+    (result : Result (Unit {0}) Code) (reply : Reply) (config : Config) (peer : Peer)
     → StandsFor kept config peer → (c : Call)
-    → ((dds : Dds) → IsAnswered (refusal peer.part.dds.watch) Done (after peer.part.dds.watch) peer.part reply dds → Answers no_filters peer.part c reply dds)
+    → ((dds : Dds) → IsAnswered (refusal peer.part.dds.watch) Done (after peer.part.dds.watch) peer.part reply dds
+    → Answers no_filters peer.part c reply dds)
     → effect_of peer.part c reply ≡ nothing → reply ≡ done_reply result
-    → OnOk result (new ≡ after kept.watch) → OnOk result (refusal kept.watch ≡ None) → IfErr result (λ code. refusal kept.watch ≡ Some code) → OnErr result (new ≡ kept.watch)
+    → OnOk result (new ≡ after kept.watch) → OnOk result (refusal kept.watch ≡ None)
+    → IfErr result (λ code. refusal kept.watch ≡ Some code) → OnErr result (new ≡ kept.watch)
     → Follows (record kept { watch = new }) config peer (event.Call c) (silent reply)
 done_call refusal after kept new (Ok done) reply config peer s c answers none is ok taken refused err =
     watched_call kept new config peer s c reply none
@@ -73,71 +80,111 @@ done_call refusal after kept new (Err code) reply config peer s c answers none i
     (answers _ (refused_so _ _ _ peer.part code reply new (ap refusal s.watch ∙ refused) is (err ∙ sym s.watch)))
 
 -- one that may want memory too
-pub done_in_memory : (needs : Watched → Bool) (refusal : Watched → Option Code) (after : Watched → Watched) (kept : PeerKept) (new : Watched) (result : Result (Unit {0}) Code) (reply : Reply) (config : Config) (peer : Peer)
+pub done_in_memory : (needs : Watched → Bool) (refusal : Watched → Option Code) (after : Watched → Watched)
+    (kept : PeerKept) (new : Watched) (result : Result (Unit {0}) Code) (reply : Reply) (config : Config) (peer : Peer)
     → StandsFor kept config peer → (c : Call)
-    → ((dds : Dds) → IsAnsweredInMemory (needs peer.part.dds.watch) (refusal peer.part.dds.watch) Done (after peer.part.dds.watch) peer.part reply dds → Answers no_filters peer.part c reply dds)
+    → ((dds : Dds) → IsAnsweredInMemory (needs peer.part.dds.watch) (refusal peer.part.dds.watch) Done
+    (after peer.part.dds.watch) peer.part reply dds → Answers no_filters peer.part c reply dds)
     → effect_of peer.part c reply ≡ nothing → reply ≡ done_reply result
-    → OnOk result (new ≡ after kept.watch) → OnOk result (refusal kept.watch ≡ None) → IfErr result (λ code. Refuses (refusal kept.watch) code)
-    → (needs kept.watch ≡ false → IfErr result (λ code. refusal kept.watch ≡ Some code)) → OnErr result (new ≡ kept.watch)
+    → OnOk result (new ≡ after kept.watch) → OnOk result (refusal kept.watch ≡ None)
+    → IfErr result (λ code. Refuses (refusal kept.watch) code)
+    → (needs kept.watch ≡ false → IfErr result (λ code. refusal kept.watch ≡ Some code))
+    → OnErr result (new ≡ kept.watch)
     → Follows (record kept { watch = new }) config peer (event.Call c) (silent reply)
-done_in_memory needs refusal after kept new (Ok done) reply config peer s c answers none is ok taken refused certain err =
+done_in_memory needs refusal after kept new
+    (Ok done) reply config peer s c answers none is ok taken refused certain err =
     watched_call kept new config peer s c reply none
-    (answers _ (inl (answered_so _ _ _ peer.part reply new (ap refusal s.watch ∙ taken) is (ok ∙ ap after (sym s.watch)))))
-done_in_memory needs refusal after kept new (Err code) reply config peer s c answers none is ok taken refused certain err =
+    (answers _
+    (inl (answered_so _ _ _ peer.part reply new (ap refusal s.watch ∙ taken) is (ok ∙ ap after (sym s.watch)))))
+done_in_memory needs refusal after kept new
+    (Err code) reply config peer s c answers none is ok taken refused certain err =
     watched_call kept new config peer s c reply none
     (answers _ (wanting (needs peer.part.dds.watch) (refusal peer.part.dds.watch) _ _ peer.part code reply new
     (subst (λ (w : Watched). Refuses (refusal w) code) (sym s.watch) refused)
     (λ needless. ap refusal s.watch ∙ certain (ap needs (sym s.watch) ∙ needless)) is (err ∙ sym s.watch)))
   where
-    wanting : (needs : Bool) (refusal : Option Code) (answer : Reply) (after : Watched) (part : Part) (code : Code) (reply : Reply) (new : Watched) → Refuses refusal code → (needs ≡ false → refusal ≡ Some code)
-        → reply ≡ Refused code → new ≡ part.dds.watch → IsAnsweredInMemory needs refusal answer after part reply (record part.dds { watch = new })
+    wanting : (needs : Bool) (refusal : Option Code) (answer : Reply) (after : Watched) (part : Part) (code : Code)
+        (reply : Reply) (new : Watched) → Refuses refusal code → (needs ≡ false → refusal ≡ Some code)
+        → reply ≡ Refused code → new ≡ part.dds.watch
+        → IsAnsweredInMemory needs refusal answer after part reply (record part.dds { watch = new })
     wanting needs (Some cause) answer after part code reply new is certain told same =
-        inl (refused_so (Some cause) answer after part cause reply new refl (told ∙ ap (λ (x : Code). Refused x) is) same)
+        inl (refused_so (Some cause) answer after part cause reply new refl (told
+        ∙ ap (λ (x : Code). Refused x) is) same)
     wanting true None answer after part code reply new is certain told same =
-        inr (refl, refl, told ∙ ap (λ (x : Code). Refused x) is, ap (λ (w : Watched). record part.dds { watch = w }) same)
+        inr (
+          refl,
+          refl,
+          told
+              ∙ ap (λ (x : Code). Refused x) is,
+          ap (λ (w : Watched). record part.dds { watch = w }) same,
+        )
     wanting false None answer after part code reply new is certain told same = let some = certain refl in absurd cc
 
 -- one that gives something, which it tells, and may want memory
-pub given_in_memory : {X : Type 0} (tells : X → Reply) (told : Result X Code → Reply) → ((x : X) → told (Ok x) ≡ tells x) → ((code : Code) → told (Err code) ≡ Refused code)
-    → (refusal : Watched → Option Code) (gives : Watched → X) (after : Watched → Watched) (kept : PeerKept) (new : Watched) (result : Result X Code) (reply : Reply) (config : Config) (peer : Peer)
+pub given_in_memory : {X : Type 0} (tells : X → Reply) (told : Result X Code → Reply)
+    → ((x : X) → told (Ok x) ≡ tells x) → ((code : Code) → told (Err code) ≡ Refused code)
+    → (refusal : Watched → Option Code) (gives : Watched → X) (after : Watched → Watched) (kept : PeerKept)
+    (new : Watched) (result : Result X Code) (reply : Reply) (config : Config) (peer : Peer)
     → StandsFor kept config peer → (c : Call)
-    → ((dds : Dds) → IsAnsweredInMemory true (refusal peer.part.dds.watch) (tells (gives peer.part.dds.watch)) (after peer.part.dds.watch) peer.part reply dds → Answers no_filters peer.part c reply dds)
+    → ((dds : Dds) → IsAnsweredInMemory true (refusal peer.part.dds.watch) (tells (gives peer.part.dds.watch))
+    (after peer.part.dds.watch) peer.part reply dds → Answers no_filters peer.part c reply dds)
     → effect_of peer.part c reply ≡ nothing → reply ≡ told result
-    → OnOk result (new ≡ after kept.watch) → IfOk result (λ x. x ≡ gives kept.watch) → OnOk result (refusal kept.watch ≡ None) → IfErr result (λ code. Refuses (refusal kept.watch) code) → OnErr result (new ≡ kept.watch)
+    → OnOk result (new ≡ after kept.watch) → IfOk result (λ x. x ≡ gives kept.watch)
+    → OnOk result (refusal kept.watch ≡ None) → IfErr result (λ code. Refuses (refusal kept.watch) code)
+    → OnErr result (new ≡ kept.watch)
     → Follows (record kept { watch = new }) config peer (event.Call c) (silent reply)
-given_in_memory tells told on_ok on_err refusal gives after kept new (Ok x) reply config peer s c answers none is ok value taken refused err =
+given_in_memory tells told on_ok on_err refusal gives after kept new
+    (Ok x) reply config peer s c answers none is ok value taken refused err =
     watched_call kept new config peer s c reply none
     (answers _ (inl (answered_so _ _ _ peer.part reply new (ap refusal s.watch ∙ taken)
     (is ∙ (on_ok x ∙ ap tells (value ∙ ap gives (sym s.watch)))) (ok ∙ ap after (sym s.watch)))))
-given_in_memory tells told on_ok on_err refusal gives after kept new (Err code) reply config peer s c answers none is ok value taken refused err =
+given_in_memory tells told on_ok on_err refusal gives after kept new
+    (Err code) reply config peer s c answers none is ok value taken refused err =
     watched_call kept new config peer s c reply none
     (answers _ (wanting (refusal peer.part.dds.watch) _ _ peer.part code reply new
     (subst (λ (w : Watched). Refuses (refusal w) code) (sym s.watch) refused) (is ∙ on_err code) (err ∙ sym s.watch)))
   where
-    wanting : (refusal : Option Code) (answer : Reply) (after : Watched) (part : Part) (code : Code) (reply : Reply) (new : Watched) → Refuses refusal code
-        → reply ≡ Refused code → new ≡ part.dds.watch → IsAnsweredInMemory true refusal answer after part reply (record part.dds { watch = new })
+    wanting : (refusal : Option Code) (answer : Reply) (after : Watched) (part : Part) (code : Code) (reply : Reply)
+        (new : Watched) → Refuses refusal code
+        → reply ≡ Refused code → new ≡ part.dds.watch
+        → IsAnsweredInMemory true refusal answer after part reply (record part.dds { watch = new })
     wanting (Some cause) answer after part code reply new is told same =
-        inl (refused_so (Some cause) answer after part cause reply new refl (told ∙ ap (λ (x : Code). Refused x) is) same)
+        inl (refused_so (Some cause) answer after part cause reply new refl (told
+        ∙ ap (λ (x : Code). Refused x) is) same)
     wanting None answer after part code reply new is told same =
-        inr (refl, refl, told ∙ ap (λ (x : Code). Refused x) is, ap (λ (w : Watched). record part.dds { watch = w }) same)
+        inr (
+          refl,
+          refl,
+          told
+              ∙ ap (λ (x : Code). Refused x) is,
+          ap (λ (w : Watched). record part.dds { watch = w }) same,
+        )
 
 -- a call that tells something, and changes nothing
-pub told_call : {tests : Tests} (kept : PeerKept) (config : Config) (peer : Peer) → StandsFor kept config peer → (refusal : Option Code) (answer : Reply) (c : Call) (reply : Reply)
-    → ((dds : Dds) → IsAnswered refusal answer peer.part.dds.watch peer.part reply dds → Answers tests peer.part c reply dds)
+pub told_call : {tests : Tests} (kept : PeerKept) (config : Config) (peer : Peer) → StandsFor kept config peer
+    → (refusal : Option Code) (answer : Reply) (c : Call) (reply : Reply)
+    → ((dds : Dds) → IsAnswered refusal answer peer.part.dds.watch peer.part reply dds
+    → Answers tests peer.part c reply dds)
     → effect_of peer.part c reply ≡ nothing → refusal ≡ None → reply ≡ answer
     → FollowsBy tests kept config peer (event.Call c) (silent reply)
 told_call {tests} kept config peer s refusal answer c reply answers none taken is =
-    subst (λ (w : Watched). FollowsBy tests (record kept { watch = w }) config peer (event.Call c) (silent reply)) s.watch
-    (watched_call kept peer.part.dds.watch config peer s c reply none (answers _ (answered_so refusal answer _ peer.part reply _ taken is refl)))
+    subst (λ (w : Watched). FollowsBy tests (record kept { watch = w }) config peer (event.Call c) (silent reply))
+    s.watch
+    (watched_call kept peer.part.dds.watch config peer s c reply none
+    (answers _ (answered_so refusal answer _ peer.part reply _ taken is refl)))
 
 -- one that is refused
-pub not_told : {tests : Tests} (kept : PeerKept) (config : Config) (peer : Peer) → StandsFor kept config peer → (refusal : Option Code) (answer : Reply) (after : Watched) (code : Code) (c : Call)
-    → ((dds : Dds) → IsAnswered refusal answer after peer.part (Refused code) dds → Answers tests peer.part c (Refused code) dds)
+pub not_told : {tests : Tests} (kept : PeerKept) (config : Config) (peer : Peer) → StandsFor kept config peer
+    → (refusal : Option Code) (answer : Reply) (after : Watched) (code : Code) (c : Call)
+    → ((dds : Dds) → IsAnswered refusal answer after peer.part (Refused code) dds
+    → Answers tests peer.part c (Refused code) dds)
     → effect_of peer.part c (Refused code) ≡ nothing → refusal ≡ Some code
     → FollowsBy tests kept config peer (event.Call c) (silent (Refused code))
 not_told {tests} kept config peer s refusal answer after code c answers none some =
-    subst (λ (w : Watched). FollowsBy tests (record kept { watch = w }) config peer (event.Call c) (silent (Refused code))) s.watch
-    (watched_call kept peer.part.dds.watch config peer s c (Refused code) none (answers _ (refused_so refusal answer after peer.part code (Refused code) _ some refl refl)))
+    subst (λ (w : Watched). FollowsBy tests (record kept { watch = w }) config peer (event.Call c)
+    (silent (Refused code))) s.watch
+    (watched_call kept peer.part.dds.watch config peer s c (Refused code) none
+    (answers _ (refused_so refusal answer after peer.part code (Refused code) _ some refl refl)))
 
 -- what is so is so where the result is one or the other
 pub on_ok : {X P : Type 0} (result : Result X Code) → P → OnOk result P

@@ -28,19 +28,40 @@ use Rattle.dds_core.proofs.Tables.{map-matched_readers, told_alike}
 -- a writer at its opening
 
 state_as : (w : WriterConfig) (a b : List ℕ) (c d : List (Option ℤ)) → a ≡ b → c ≡ d
-    → ◌≡◌ {A = WriterState} (record { policy = w.history; max_samples = limit_of w.max_samples; lease = w.lease; written = []; acknowledged = a; counts = c })
-    (record { policy = w.history; max_samples = limit_of w.max_samples; lease = w.lease; written = []; acknowledged = b; counts = d })
+    → ◌≡◌ {A = WriterState}
+    (record {
+      policy = w.history;
+      max_samples = limit_of w.max_samples;
+      lease = w.lease;
+      written = [];
+      acknowledged = a;
+      counts = c;
+    })
+    (record {
+      policy = w.history;
+      max_samples = limit_of w.max_samples;
+      lease = w.lease;
+      written = [];
+      acknowledged = b;
+      counts = d;
+    })
 state_as w a b c d e f = cc
 
 identity_as : (entity : EntityId) (autodispose : Bool) (a b : List Destination) (c d : List ReaderName) → a ≡ b → c ≡ d
-    → ◌≡◌ {A = WriterIdentity} (record { entity = entity; autodispose = autodispose; destinations = a; readers = c }) (record { entity = entity; autodispose = autodispose; destinations = b; readers = d })
+    → ◌≡◌ {A = WriterIdentity} (record { entity = entity; autodispose = autodispose; destinations = a; readers = c })
+    (record { entity = entity; autodispose = autodispose; destinations = b; readers = d })
 identity_as entity autodispose a b c d e f = cc
 
 -- what looks alike of each row is of one value
-rows_begun : (rows : List ReaderProxy) (count : ℕ) → map (λ (p : ReaderProxy). p.acknowledged) rows ≡ replicate count 1 → AllByRecursion (λ (p : ReaderProxy). 1 ≤ p.acknowledged) rows
+rows_begun : (rows : List ReaderProxy) (count : ℕ) → map (λ (p : ReaderProxy). p.acknowledged) rows ≡ replicate count 1
+    → AllByRecursion (λ (p : ReaderProxy). 1 ≤ p.acknowledged) rows
 rows_begun [] count same = tt
 rows_begun (p ∷ ps) zero same = absurd cc
-rows_begun (p ∷ ps) (suc count) same = (first p.acknowledged (map (λ (q : ReaderProxy). q.acknowledged) ps) (replicate count 1) same, rows_begun ps count (rest p.acknowledged _ _ same))
+rows_begun (p ∷ ps) (suc count) same = (
+  first p.acknowledged (map (λ (q : ReaderProxy). q.acknowledged) ps) (replicate count 1) same,
+  rows_begun ps count
+      (rest p.acknowledged _ _ same),
+)
   where
     first : (a : ℕ) (xs ys : List ℕ) → a ∷ xs ≡ 1 ∷ ys → 1 ≤ a
     first a xs ys e = let one = ap (λ (ns : List ℕ). get_or ns 0 0) e in omega (arith, one)
@@ -48,25 +69,33 @@ rows_begun (p ∷ ps) (suc count) same = (first p.acknowledged (map (λ (q : Rea
     rest : (a : ℕ) (xs ys : List ℕ) → a ∷ xs ≡ 1 ∷ ys → xs ≡ ys
     rest a xs ys e = cc
 
-pub opens_writer : (peers : List PeerConfig) (w : WriterConfig) (ds : List Destination) (names : List ReaderName) (limit : Option ℕ) (kept : Kept) (count : ℕ) → count ≡ length names
+pub opens_writer : (peers : List PeerConfig) (w : WriterConfig) (ds : List Destination) (names : List ReaderName)
+    (limit : Option ℕ) (kept : Kept) (count : ℕ) → count ≡ length names
     → ds ≡ destinations w.topic 1 peers → names ≡ reader_names w.topic peers → limit ≡ limit_of w.max_samples
     → RtpsStandsFor kept (opening w.history limit w.lease count)
-    → OpensWriter peers w (record { entity = w.entity; autodispose = w.autodispose; destinations = ds; readers = names; writer = kept })
+    → OpensWriter peers w
+    (record { entity = w.entity; autodispose = w.autodispose; destinations = ds; readers = names; writer = kept })
 opens_writer peers w ds names limit kept count counted sent matched limited stands =
     let rows : List ReaderProxy = matched_readers w.topic 1 peers in
-    let many : length (reader_names w.topic peers) ≡ count = sym (counted ∙ ap (λ (ns : List ReaderName). length ns) matched) in
+    let many : length (reader_names w.topic peers) ≡ count =
+    sym (counted ∙ ap (λ (ns : List ReaderName). length ns) matched) in
     let acknowledged : map (λ (p : ReaderProxy). p.acknowledged) rows ≡ replicate count 1 =
-    map-matched_readers (λ (p : ReaderProxy). p.acknowledged) _ w.topic 1 peers ∙ (told_alike 1 reader_name w.topic 1 peers ∙ ap (λ (n : ℕ). replicate n 1) many) in
+    map-matched_readers (λ (p : ReaderProxy). p.acknowledged) _ w.topic 1 peers
+    ∙ (told_alike 1 reader_name w.topic 1 peers ∙ ap (λ (n : ℕ). replicate n 1) many) in
     let none : Option ℤ = None in
     let counts : map (λ (p : ReaderProxy). none) rows ≡ replicate count none =
-    map-matched_readers (λ (p : ReaderProxy). none) _ w.topic 1 peers ∙ (told_alike none reader_name w.topic 1 peers ∙ ap (λ (n : ℕ). replicate n none) many) in
+    map-matched_readers (λ (p : ReaderProxy). none) _ w.topic 1 peers
+    ∙ (told_alike none reader_name w.topic 1 peers ∙ ap (λ (n : ℕ). replicate n none) many) in
     record {
       identity = identity_as w.entity w.autodispose ds _ names _ sent matched;
       stands = record {
         autodispose = refl;
         readers = map-matched_readers (λ (p : ReaderProxy). p.reader) _ w.topic 1 peers
-            ∙ sym (ap (λ (ns : List ReaderName). map (λ (n : ReaderName). n.reader) ns) matched ∙ map-matched_readers (λ (n : ReaderName). n.reader) reader_name w.topic 1 peers);
-        writer = subst (λ (s : WriterState). RtpsStandsFor kept s) (state_as w (replicate count 1) _ (replicate count none) _ (sym acknowledged) (sym counts))
+            ∙ sym (ap (λ (ns : List ReaderName). map (λ (n : ReaderName). n.reader) ns) matched
+            ∙ map-matched_readers (λ (n : ReaderName). n.reader) reader_name w.topic 1 peers);
+        writer =
+            subst (λ (s : WriterState). RtpsStandsFor kept s)
+            (state_as w (replicate count 1) _ (replicate count none) _ (sym acknowledged) (sym counts))
             (subst (λ (o : Option ℕ). RtpsStandsFor kept (opening w.history o w.lease count)) limited stands);
         begun = All-from_recursion (λ (p : ReaderProxy). 1 ≤ p.acknowledged) rows (rows_begun rows count acknowledged);
       };
@@ -83,37 +112,54 @@ kept_as entity autodispose destinations readers writer = record {
 }
 
 -- what stands for a writer does so under another name
-pub stands_there : (kept now : WriterKept) (w : Writer) (answered : Endpoint → Option ℤ) → kept ≡ now → WriterStands now w answered → WriterStands kept w answered
+pub stands_there : (kept now : WriterKept) (w : Writer) (answered : Endpoint → Option ℤ) → kept ≡ now
+    → WriterStands now w answered → WriterStands kept w answered
 stands_there kept now w answered same s = subst (λ (k : WriterKept). WriterStands k w answered) (sym same) s
 
 -- a writer at which this happened besides
 
-pub enters : (kept : WriterKept) (entry : Written) (after : Kept) → ((s : WriterState) → RtpsStandsFor kept.writer s → RtpsStandsFor after (entering s entry))
+pub enters : (kept : WriterKept) (entry : Written) (after : Kept)
+    → ((s : WriterState) → RtpsStandsFor kept.writer s → RtpsStandsFor after (entering s entry))
     → Enters kept entry (record kept { writer = after })
 enters kept entry after more = record {
   same = refl;
-  stands = λ w answered s. record { autodispose = s.autodispose; readers = s.readers; writer = more (state_of w answered) s.writer; begun = s.begun };
+  stands =
+      λ w answered s. record {
+        autodispose = s.autodispose;
+        readers = s.readers;
+        writer = more
+            (state_of w answered) s.writer;
+        begun = s.begun;
+      };
 }
 
 -- the same, where it was not refused
-pub enters_if : {A B : Type 0} (result : Result A B) (kept now : WriterKept) (entry : Written) (after : Kept) → kept ≡ now → ((s : WriterState) → RtpsStandsFor kept.writer s → OnOk result (RtpsStandsFor after (entering s entry)))
+pub enters_if : {A B : Type 0} (result : Result A B) (kept now : WriterKept) (entry : Written) (after : Kept)
+    → kept ≡ now → ((s : WriterState) → RtpsStandsFor kept.writer s
+    → OnOk result (RtpsStandsFor after (entering s entry)))
     → OnOk result (Enters now entry (record kept { writer = after }))
-enters_if (Ok x) kept now entry after same more = subst (λ (k : WriterKept). Enters k entry (record kept { writer = after })) same (enters kept entry after more)
+enters_if (Ok x) kept now entry after same more =
+    subst (λ (k : WriterKept). Enters k entry (record kept { writer = after })) same (enters kept entry after more)
 enters_if (Err e) kept now entry after same more = tt
 
 -- a change that was accepted, and one that was refused
 
 pub accepts_if : (result : Result ℕ Code) (kept now : WriterKept) (change : Change) → kept ≡ now
-    → ((s : WriterState) → RtpsStandsFor kept.writer s → IfOk result (λ number. (append_refusal (history_of s) change ≡ None) × (number ≡ last_of s + 1)))
-    → IfOk result (λ number. (w : Writer) (answered : Endpoint → Option ℤ) → WriterStands now w answered → (append_refusal (writer_history w) change ≡ None) × (number ≡ length (writer_changes w) + 1))
-accepts_if (Ok n) kept now change same accepts = λ w answered s. accepts (state_of w answered) (stands_there kept now w answered same s).writer
+    → ((s : WriterState) → RtpsStandsFor kept.writer s
+    → IfOk result (λ number. (append_refusal (history_of s) change ≡ None) × (number ≡ last_of s + 1)))
+    → IfOk result (λ number. (w : Writer) (answered : Endpoint → Option ℤ) → WriterStands now w answered
+    → (append_refusal (writer_history w) change ≡ None) × (number ≡ length (writer_changes w) + 1))
+accepts_if (Ok n) kept now change same accepts =
+    λ w answered s. accepts (state_of w answered) (stands_there kept now w answered same s).writer
 accepts_if (Err e) kept now change same accepts = tt
 
 pub refuses_if : (result : Result ℕ Code) (kept now : WriterKept) (change : Change) → kept ≡ now
     → ((s : WriterState) → RtpsStandsFor kept.writer s → IfErr result (Refuses (append_refusal (history_of s) change)))
-    → IfErr result (λ code. (w : Writer) (answered : Endpoint → Option ℤ) → WriterStands now w answered → Refuses (append_refusal (writer_history w) change) code)
+    → IfErr result (λ code. (w : Writer) (answered : Endpoint → Option ℤ) → WriterStands now w answered
+    → Refuses (append_refusal (writer_history w) change) code)
 refuses_if (Ok n) kept now change same refuses = tt
-refuses_if (Err e) kept now change same refuses = λ w answered s. refuses (state_of w answered) (stands_there kept now w answered same s).writer
+refuses_if (Err e) kept now change same refuses =
+    λ w answered s. refuses (state_of w answered) (stands_there kept now w answered same s).writer
 
 -- a tick
 
@@ -121,11 +167,14 @@ refuses_if (Err e) kept now change same refuses = λ w answered s. refuses (stat
 pub behind_same : (w : Writer) (answered : Endpoint → Option ℤ) → is_behind (state_of w answered) ≡ is_writer_behind w
 behind_same w answered = any_same w.readers (length (writer_changes w))
   where
-    any_same : (rows : List ReaderProxy) (last : ℕ) → list_any (λ a. nat_le a last) (map (λ (p : ReaderProxy). p.acknowledged) rows) ≡ list_any (λ (p : ReaderProxy). nat_le p.acknowledged last) rows
+    any_same : (rows : List ReaderProxy) (last : ℕ)
+        → list_any (λ a. nat_le a last) (map (λ (p : ReaderProxy). p.acknowledged) rows)
+        ≡ list_any (λ (p : ReaderProxy). nat_le p.acknowledged last) rows
     any_same [] last = refl
     any_same (p ∷ ps) last = ap (λ (b : Bool). nat_le p.acknowledged last || b) (any_same ps last)
 
-pub ticks : (kept current : WriterKept) (now : ℕ) (after : Kept) → kept ≡ current → ((s : WriterState) → RtpsStandsFor kept.writer s → RtpsStandsFor after (ticked s now))
+pub ticks : (kept current : WriterKept) (now : ℕ) (after : Kept) → kept ≡ current
+    → ((s : WriterState) → RtpsStandsFor kept.writer s → RtpsStandsFor after (ticked s now))
     → Ticks current now (record kept { writer = after })
 ticks kept current now after same more = record {
   same = ap writer_identity same;
@@ -135,7 +184,9 @@ ticks kept current now after same more = record {
       record {
         autodispose = here.autodispose;
         readers = here.readers;
-        writer = subst (λ (b : Bool). RtpsStandsFor after (entering state (Ticked now b))) (behind_same w answered) (more state here.writer);
+        writer =
+            subst (λ (b : Bool). RtpsStandsFor after (entering state (Ticked now b))) (behind_same w answered)
+            (more state here.writer);
         begun = here.begun;
       };
 }

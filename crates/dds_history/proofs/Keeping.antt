@@ -80,7 +80,8 @@ kept_by w i (Some c) at =
 kept-at : (w : WriterHistory) (i : ℕ) → KeptBy w i (slice_get (all_of w) i)
 kept-at w i =
     let by = kept_by w i (slice_get w.changes i) refl in
-    let at = ap (λ (o : Option HeldChange). passing (is_held w.acknowledged) o) (sym (all-at w.policy 1 w.changes i)) in (
+    let at =
+    ap (λ (o : Option HeldChange). passing (is_held w.acknowledged) o) (sym (all-at w.policy 1 w.changes i)) in (
       by.0 ∙ ap (λ (o : Option HeldChange). is_some o) at,
       by.1 ∙ ap (λ (o : Option HeldChange). option_map (λ (e : HeldChange). e.change) o) at,
     )

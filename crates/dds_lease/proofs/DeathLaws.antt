@@ -146,7 +146,8 @@ other_since q now w v h low =
     (λ same. let e = eqb-true w v same in absurd (omega (arith, e, low)))
     (λ differ. differ)
     (cases_Bool (w == v)) in
-    ap (λ (b : Bool). is_over (lease_of (writer_of q.writers v)) (if b then None else or_else None (alive_since v h)) now)
+    ap (λ (b : Bool). is_over (lease_of (writer_of q.writers v))
+    (if b then None else or_else None (alive_since v h)) now)
     (sym other)
 
 -- a death, and then those above it

@@ -16,7 +16,8 @@ use Rattle.dds_lease.specs.Track.{first_over, is_over_at, track_of}
 -- ---- the first of those that die is the first whose lease is over
 
 first-of : (after k : ℕ) (due : Bool) (rest : List ℕ)
-    → find (nat_lt after) (cond due (k ∷ rest) rest) ≡ (if nat_lt after k && due then Some k else find (nat_lt after) rest)
+    → find (nat_lt after) (cond due (k ∷ rest) rest)
+    ≡ (if nat_lt after k && due then Some k else find (nat_lt after) rest)
 first-of after k true rest = ⊎_elim
     (λ above. ap (λ (b : Bool). cond b (Some k) (find (nat_lt after) rest)) above
     ∙ ap (λ (b : Bool). if b && true then Some k else find (nat_lt after) rest) (sym above))

@@ -78,7 +78,8 @@ put-track : (kept : Kept) (at : ℕ) (track : LeaseTrack) (change : LeaseTrack �
 put-track kept at track change tracks is put =
     put ∙ ap (λ (t : LeaseTrack). set kept.tracks at (change t)) is
 
-pub came-stands : (kept new : Kept) (q : ReaderQos) (h : List Happening) (a : Arrival) (moment at : ℕ) (track : LeaseTrack)
+pub came-stands : (kept new : Kept) (q : ReaderQos) (h : List Happening) (a : Arrival) (moment at : ℕ)
+    (track : LeaseTrack)
     → StandsFor kept q h → Asserts kept new at moment track → 1 + at ≡ a.writer → a.moment ≡ moment
     → StandsFor new q (Came a ∷ h)
 came-stands kept new q h a moment at track given put here same =

@@ -133,4 +133,5 @@ fresh-counts ws = (
         → 0 ≡ length (filter p (map fresh vs))
     none p not_one [] = refl
     none p not_one (v ∷ vs) = none p not_one vs
-        ∙ ap (λ (b : Bool). length (cond b (fresh v ∷ filter p (map fresh vs)) (filter p (map fresh vs)))) (sym (not_one v))
+        ∙ ap (λ (b : Bool). length (cond b (fresh v ∷ filter p (map fresh vs)) (filter p (map fresh vs))))
+        (sym (not_one v))

@@ -53,10 +53,13 @@ pub record AlikeParts (old new : Part) : Type 0 where
   pub happened : (n : ℕ) → (own_reader new n).happened ≡ (own_reader old n).happened
 
 -- parts with the same ends and moment are
-pub alike_by : (old new : Part) → new.rtps ≡ old.rtps → new.dds.moment ≡ old.dds.moment → new.dds.readers ≡ old.dds.readers → AlikeParts old new
+pub alike_by : (old new : Part) → new.rtps ≡ old.rtps → new.dds.moment ≡ old.dds.moment
+    → new.dds.readers ≡ old.dds.readers → AlikeParts old new
 alike_by old new rtps moment readers = record {
   count = ap (λ (r : Rtps). length r.writers) rtps;
-  writers = λ n. subst (λ (r : Rtps). AlikeWriters (own_writer old n) (numbered r.writers n no_writer)) (sym rtps) (writers_same (own_writer old n));
+  writers =
+      λ n. subst (λ (r : Rtps). AlikeWriters (own_writer old n) (numbered r.writers n no_writer)) (sym rtps)
+      (writers_same (own_writer old n));
   rows = ap (λ (r : Rtps). r.readers) rtps;
   moment = moment;
   readers = ap (λ (rs : List Reader). length rs) readers;
@@ -79,10 +82,12 @@ alike_on a b c f g = record {
 }
 
 -- a value of the readers of a list, where one has other things seen
-seen_apart : {X : Type 0} (f : Reader → X) (rs : List Reader) (n : ℕ) (r : Reader) → f r ≡ f (numbered rs n no_reader) → (k : ℕ)
+seen_apart : {X : Type 0} (f : Reader → X) (rs : List Reader) (n : ℕ) (r : Reader) → f r ≡ f (numbered rs n no_reader)
+    → (k : ℕ)
     → f (numbered (with_numbered rs n r) k no_reader) ≡ f (numbered rs k no_reader)
 seen_apart f rs n r same k =
-    ⊎_elim (λ e. ap f e) (λ s. ap f s.1 ∙ (same ∙ ap (λ (j : ℕ). f (numbered rs j no_reader)) (sym s.0))) (numbered-cases rs n r k no_reader)
+    ⊎_elim (λ e. ap f e) (λ s. ap f s.1 ∙ (same ∙ ap (λ (j : ℕ). f (numbered rs j no_reader)) (sym s.0)))
+    (numbered-cases rs n r k no_reader)
 
 told_alike : (part : Part) (e : Entity) (status : Status) → AlikeParts part (told_of part e status)
 told_alike part entity.Participant status = alike_by part (told_of part entity.Participant status) refl refl refl
@@ -92,7 +97,8 @@ told_alike part (entity.Writer n) status =
     record {
       count = length-with_numbered ws n (with_written w LookedAt);
       writers = λ k.
-          ⊎_elim (λ e. subst (λ (x : Writer). AlikeWriters (numbered ws k no_writer) x) (sym e) (writers_same (numbered ws k no_writer)))
+          ⊎_elim (λ e. subst (λ (x : Writer). AlikeWriters (numbered ws k no_writer) x) (sym e)
+          (writers_same (numbered ws k no_writer)))
           (λ s.
           subst (λ (x : Writer). AlikeWriters (numbered ws k no_writer) x) (sym s.1)
           (subst (λ (j : ℕ). AlikeWriters (numbered ws j no_writer) (with_written w LookedAt)) (sym s.0) (looked w)))

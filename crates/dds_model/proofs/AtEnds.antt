@@ -29,17 +29,21 @@ module _ (R : Part → Part → Type 0) (same : (part : Part) → R part part) (
   told_so part e None = same part
   told_so part e (Some status) = to_so (taker_of part.dds.listeners e status) part e status
 
-  each_so : (tell : ℕ → Part → Part) → ((n : ℕ) (part : Part) → R part (tell n part)) → (count : ℕ) (part : Part) → R part (each_told tell count part)
+  each_so : (tell : ℕ → Part → Part) → ((n : ℕ) (part : Part) → R part (tell n part)) → (count : ℕ) (part : Part)
+      → R part (each_told tell count part)
   each_so tell next zero part = same part
   each_so tell next (suc n) part =
-      on part (each_told tell n part) (tell (suc n) (each_told tell n part)) (each_so tell next n part) (next (suc n) (each_told tell n part))
+      on part (each_told tell n part) (tell (suc n) (each_told tell n part)) (each_so tell next n part)
+      (next (suc n) (each_told tell n part))
 
   reader_so : (before : Part) (n : ℕ) (part : Part) → R part (reader_told before n part)
   reader_so before n part =
       let lost : Part = lost_told before n part in
       let data_too : Part = data_told before n lost in
-      on part lost (reader_told before n part) (told_so part (entity.Reader n) (lost_raised (own_reader before n) (own_reader part n)))
-      (on lost data_too (reader_told before n part) (told_so lost (entity.Reader n) (data_raised (own_reader before n) (own_reader lost n)))
+      on part lost (reader_told before n part)
+      (told_so part (entity.Reader n) (lost_raised (own_reader before n) (own_reader part n)))
+      (on lost data_too (reader_told before n part)
+      (told_so lost (entity.Reader n) (data_raised (own_reader before n) (own_reader lost n)))
       (told_so data_too (entity.Reader n) (turn_raised (own_reader before n) (own_reader data_too n))))
 
   -- what holds of each notice, and of notices in turn, holds of the end of an event
@@ -48,11 +52,14 @@ module _ (R : Part → Part → Type 0) (same : (part : Part) → R part part) (
   end_so before part =
       let writers : Part = each_told (writer_told before) (length part.rtps.writers) part in
       on part writers (at_end before part)
-      (each_so (writer_told before) (λ n p. told_so p (entity.Writer n) (loss_raised (own_writer before n) (own_writer p n))) (length part.rtps.writers) part)
+      (each_so (writer_told before)
+      (λ n p. told_so p (entity.Writer n) (loss_raised (own_writer before n) (own_writer p n)))
+      (length part.rtps.writers) part)
       (each_so (reader_told before) (reader_so before) (length part.dds.readers) writers)
 
 -- a value of a part that no notice touches is the same at the end of an event
-pub end_keeps : {X : Type 0} (f : Part → X) → ((part : Part) (e : Entity) (status : Status) → f (told_of part e status) ≡ f part)
+pub end_keeps : {X : Type 0} (f : Part → X)
+    → ((part : Part) (e : Entity) (status : Status) → f (told_of part e status) ≡ f part)
     → (before part : Part) → f (at_end before part) ≡ f part
 end_keeps f same before part =
     end_so (λ a b. f b ≡ f a) (λ p. refl) (λ a b c first second. second ∙ first) same before part
@@ -77,18 +84,22 @@ end_rows before part = end_keeps (λ (p : Part). p.rtps.readers) rows_same befor
 
 -- ---- where nobody is told
 
-untold : (part : Part) → NobodyTakes part.dds.listeners → (e : Entity) (raised : Option Status) → told part e raised ≡ part
+untold : (part : Part) → NobodyTakes part.dds.listeners → (e : Entity) (raised : Option Status)
+    → told part e raised ≡ part
 untold part nobody e None = refl
 untold part nobody e (Some status) = ap (λ (o : Option Entity). told_to o part e status) (nobody e status)
 
-each_untold : (tell : ℕ → Part → Part) (part : Part) → ((n : ℕ) → tell n part ≡ part) → (count : ℕ) → each_told tell count part ≡ part
+each_untold : (tell : ℕ → Part → Part) (part : Part) → ((n : ℕ) → tell n part ≡ part) → (count : ℕ)
+    → each_told tell count part ≡ part
 each_untold tell part one zero = refl
 each_untold tell part one (suc n) = ap (λ (p : Part). tell (suc n) p) (each_untold tell part one n) ∙ one (suc n)
 
 reader_untold : (before part : Part) → NobodyTakes part.dds.listeners → (n : ℕ) → reader_told before n part ≡ part
 reader_untold before part nobody n =
-    ap (λ (p : Part). turn_told before n (data_told before n p)) (untold part nobody (entity.Reader n) (lost_raised (own_reader before n) (own_reader part n)))
-    ∙ (ap (λ (p : Part). turn_told before n p) (untold part nobody (entity.Reader n) (data_raised (own_reader before n) (own_reader part n)))
+    ap (λ (p : Part). turn_told before n (data_told before n p))
+    (untold part nobody (entity.Reader n) (lost_raised (own_reader before n) (own_reader part n)))
+    ∙ (ap (λ (p : Part). turn_told before n p)
+    (untold part nobody (entity.Reader n) (data_raised (own_reader before n) (own_reader part n)))
     ∙ untold part nobody (entity.Reader n) (turn_raised (own_reader before n) (own_reader part n)))
 
 -- an event's end changes nothing then
@@ -96,7 +107,9 @@ pub end_untold : (before part : Part) → NobodyTakes part.dds.listeners → at_
 unfolding at_end
 end_untold before part nobody =
     ap (λ (p : Part). each_told (reader_told before) (length part.dds.readers) p)
-    (each_untold (writer_told before) part (λ n. untold part nobody (entity.Writer n) (loss_raised (own_writer before n) (own_writer part n))) (length part.rtps.writers))
+    (each_untold (writer_told before) part
+    (λ n. untold part nobody (entity.Writer n) (loss_raised (own_writer before n) (own_writer part n)))
+    (length part.rtps.writers))
     ∙ each_untold (reader_told before) part (reader_untold before part nobody) (length part.dds.readers)
 
 -- ---- where nothing happened
@@ -109,11 +122,16 @@ data_within : (q : ReaderQos) (h : List Happening) → data_available_at q h ≤
 data_within q [] = omega arith
 data_within q (Read samples ∷ h) = omega arith
 data_within q (Took samples ∷ h) = omega arith
-data_within q (Came a ∷ h) = in_bounds (brings_sample q (Came a ∷ h)) (data_available_at q h) (length h) (data_within q h)
-data_within q (Passed w first last ∷ h) = in_bounds (brings_sample q (Passed w first last ∷ h)) (data_available_at q h) (length h) (data_within q h)
-data_within q (Heard w moment ∷ h) = in_bounds (brings_sample q (Heard w moment ∷ h)) (data_available_at q h) (length h) (data_within q h)
-data_within q (Died w moment ∷ h) = in_bounds (brings_sample q (Died w moment ∷ h)) (data_available_at q h) (length h) (data_within q h)
-data_within q (Looked status ∷ h) = in_bounds (brings_sample q (Looked status ∷ h)) (data_available_at q h) (length h) (data_within q h)
+data_within q (Came a ∷ h) =
+    in_bounds (brings_sample q (Came a ∷ h)) (data_available_at q h) (length h) (data_within q h)
+data_within q (Passed w first last ∷ h) =
+    in_bounds (brings_sample q (Passed w first last ∷ h)) (data_available_at q h) (length h) (data_within q h)
+data_within q (Heard w moment ∷ h) =
+    in_bounds (brings_sample q (Heard w moment ∷ h)) (data_available_at q h) (length h) (data_within q h)
+data_within q (Died w moment ∷ h) =
+    in_bounds (brings_sample q (Died w moment ∷ h)) (data_available_at q h) (length h) (data_within q h)
+data_within q (Looked status ∷ h) =
+    in_bounds (brings_sample q (Looked status ∷ h)) (data_available_at q h) (length h) (data_within q h)
 
 turned_within : (h : List Happening) → turned_at h ≤ length h
 turned_within [] = omega arith
@@ -128,10 +146,16 @@ not_raised a b status le = ap (λ (x : Bool). if x then Some status else None) (
 reader_quiet : (part : Part) (n : ℕ) → reader_told part n part ≡ part
 reader_quiet part n =
     let r : Reader = own_reader part n in
-    let lost : lost_raised r r ≡ None = not_raised (lost_count r.happened) (lost_count r.happened) (SampleLost (sample_lost_status r.happened r.seen.lost)) (omega arith) in
-    let data_too : data_raised r r ≡ None = not_raised (length r.happened) (data_available_at r.qos r.happened) DataAvailable (data_within r.qos r.happened) in
+    let lost : lost_raised r r ≡ None =
+    not_raised (lost_count r.happened) (lost_count r.happened)
+    (SampleLost (sample_lost_status r.happened r.seen.lost)) (omega arith) in
+    let data_too : data_raised r r ≡ None =
+    not_raised (length r.happened) (data_available_at r.qos r.happened) DataAvailable (data_within r.qos r.happened)
+    in
     let turned : turn_raised r r ≡ None =
-    not_raised (length r.happened) (turned_at r.happened) (LivelinessChanged (liveliness_changed_status r.qos r.happened r.seen.alive r.seen.not_alive)) (turned_within r.happened) in
+    not_raised (length r.happened) (turned_at r.happened)
+    (LivelinessChanged (liveliness_changed_status r.qos r.happened r.seen.alive r.seen.not_alive))
+    (turned_within r.happened) in
     ap (λ (o : Option Status). turn_told part n (data_told part n (told part (entity.Reader n) o))) lost
     ∙ (ap (λ (o : Option Status). turn_told part n (told part (entity.Reader n) o)) data_too
     ∙ ap (λ (o : Option Status). told part (entity.Reader n) o) turned)
@@ -139,11 +163,14 @@ reader_quiet part n =
 writer_quiet : (part : Part) (n : ℕ) → writer_told part n part ≡ part
 writer_quiet part n =
     let w : Writer = own_writer part n in
-    ap (λ (o : Option Status). told part (entity.Writer n) o) (not_raised (losses_of w) (losses_of w) (LivelinessLost (liveliness_lost_status w.lease w.written)) (omega arith))
+    ap (λ (o : Option Status). told part (entity.Writer n) o)
+    (not_raised (losses_of w) (losses_of w) (LivelinessLost (liveliness_lost_status w.lease w.written))
+    (omega arith))
 
 -- an event that changes nothing raises nothing, and nobody is told
 pub end_same : (part : Part) → at_end part part ≡ part
 unfolding at_end
 end_same part =
-    ap (λ (p : Part). each_told (reader_told part) (length part.dds.readers) p) (each_untold (writer_told part) part (writer_quiet part) (length part.rtps.writers))
+    ap (λ (p : Part). each_told (reader_told part) (length part.dds.readers) p)
+    (each_untold (writer_told part) part (writer_quiet part) (length part.rtps.writers))
     ∙ each_untold (reader_told part) part (reader_quiet part) (length part.dds.readers)

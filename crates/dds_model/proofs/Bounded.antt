@@ -40,7 +40,8 @@ dropped_there : (depth : ℕ) (changes : List Change) (n : ℕ) (o : Option Chan
 dropped_there depth changes n None e h = cc
 dropped_there depth changes n (Some c) e h = change_at-within changes n c e
 
-dropped_within : (policy : HistoryQos) (changes : List Change) (n : ℕ) → is_dropped_by policy changes n ≡ true → n ≤ length changes
+dropped_within : (policy : HistoryQos) (changes : List Change) (n : ℕ) → is_dropped_by policy changes n ≡ true
+    → n ≤ length changes
 dropped_within KeepAll changes n h = cc
 dropped_within (KeepLast depth) changes n h = dropped_there depth changes n (change_at changes n) refl h
 
@@ -49,7 +50,8 @@ record SpeakTo (g : WriterGrounds) (last : ℕ) : Type 0 where
   change : (n : ℕ) (c : Change) → g.is_change n c → n ≤ last
   pass : (n : ℕ) → g.may_pass n → n ≤ last
 
-come_within : (g : WriterGrounds) (last : ℕ) → SpeakTo g last → (match : Match) (old : Position) (changes : List Change) (new : Position)
+come_within : (g : WriterGrounds) (last : ℕ) → SpeakTo g last
+    → (match : Match) (old : Position) (changes : List Change) (new : Position)
     → AllCome g match old changes new → old.place ≤ last + 1 → new.place ≤ last + 1
 come_within g last s match old [] new h low = let e = ap (λ (p : Position). p.place) h in omega (arith, e, low)
 come_within g last s match old (c ∷ cs) new h low =
@@ -57,7 +59,8 @@ come_within g last s match old (c ∷ cs) new h low =
     let here = s.change old.place c h.1.is_change in
     come_within g last s match h.0 cs new h.2 (omega (arith, next, here))
 
-goes_within : (g : WriterGrounds) (last : ℕ) → SpeakTo g last → (match : Match) (old : Position) (runs : List PassedRun) (to : ℕ) (new : Position)
+goes_within : (g : WriterGrounds) (last : ℕ) → SpeakTo g last
+    → (match : Match) (old : Position) (runs : List PassedRun) (to : ℕ) (new : Position)
     → GoesTo g match old runs to new → old.place ≤ last + 1 → to ≤ last + 1
 goes_within g last s match old [] to new h low =
     let rest = come_within g last s match old h.0 new h.1 low in
@@ -69,7 +72,8 @@ goes_within g last s match old (run ∷ runs) to new h low =
     let next = ap (λ (p : Position). p.place) h.3.after in
     goes_within g last s match h.1 runs to new h.5 (omega (arith, next, passed))
 
-speaks_to : (m : Machine) (i : ℕ) (w : Endpoint) (r : ℕ) → SpeakTo (as_to (grounds_of m i) w r) (length (writer_changes (writer_at m w)))
+speaks_to : (m : Machine) (i : ℕ) (w : Endpoint) (r : ℕ)
+    → SpeakTo (as_to (grounds_of m i) w r) (length (writer_changes (writer_at m w)))
 speaks_to m i w r = record {
   change = λ n c h. change_at-within (writer_changes (writer_at m w)) n c h;
   pass = λ n h. dropped_within (writer_at m w).policy (writer_changes (writer_at m w)) n h;
@@ -85,10 +89,12 @@ Within m part = (r : ℕ) → RowsWithin m (own_proxies part r)
 set_within : (m : Machine) (part : Part) (r : ℕ) (rows : List WriterProxy) → Within m part → RowsWithin m rows → (k : ℕ)
     → RowsWithin m (numbered (with_numbered part.rtps.readers r rows) k [])
 set_within m part r rows old new k =
-    ⊎_elim (λ e. subst (λ (xs : List WriterProxy). RowsWithin m xs) (sym e) (old k)) (λ s. subst (λ (xs : List WriterProxy). RowsWithin m xs) (sym s.1) new)
+    ⊎_elim (λ e. subst (λ (xs : List WriterProxy). RowsWithin m xs) (sym e) (old k))
+    (λ s. subst (λ (xs : List WriterProxy). RowsWithin m xs) (sym s.1) new)
     (numbered-cases part.rtps.readers r rows k [])
 
-moved_within : (m : Machine) (rows : List WriterProxy) (w : Endpoint) (from to : ℕ) → place_of rows w ≡ Some from → RowsWithin m rows
+moved_within : (m : Machine) (rows : List WriterProxy) (w : Endpoint) (from to : ℕ) → place_of rows w ≡ Some from
+    → RowsWithin m rows
     → to ≤ length (writer_changes (writer_at m w)) + 1 → RowsWithin m (with_place rows w to)
 moved_within m rows w from to at old le v p h =
     ⊎_elim (λ e. old v p (sym e ∙ h))
@@ -98,22 +104,29 @@ moved_within m rows w from to at old le v p h =
     omega (arith, is, last, le))
     (place-cases rows w from to v at)
 
-move_within : (m : Machine) (i : ℕ) (old : Part) (mv : Move) (new : Part) → IsMove (grounds_of m i) old mv new → Within m old → Within m new
+move_within : (m : Machine) (i : ℕ) (old : Part) (mv : Move) (new : Part) → IsMove (grounds_of m i) old mv new
+    → Within m old → Within m new
 move_within m i old (Place w r to passed) new h low =
     let from = low r w h.place h.matched.at in
-    let within = goes_within (as_to (grounds_of m i) w r) (length (writer_changes (writer_at m w))) (speaks_to m i w r) (match_of old r h.publication) (position_at old r h.place) passed to h.end h.goes from in
+    let within =
+    goes_within (as_to (grounds_of m i) w r) (length (writer_changes (writer_at m w))) (speaks_to m i w r)
+    (match_of old r h.publication) (position_at old r h.place) passed to h.end h.goes from in
     subst (λ (q : Part). Within m q) (sym h.after)
-    (set_within m old r (with_place (own_proxies old r) w to) low (moved_within m (own_proxies old r) w h.place to h.matched.at (low r) within))
+    (set_within m old r (with_place (own_proxies old r) w to) low
+    (moved_within m (own_proxies old r) w h.place to h.matched.at (low r) within))
 move_within m i old (Heard w r) new h low =
     subst (λ (q : Part). Within m q) (sym h.after)
-    (set_within m old r (with_heard (own_proxies old r) w h.count) low (λ v p e. low r v p (sym (place-heard (own_proxies old r) w h.count v) ∙ e)))
+    (set_within m old r (with_heard (own_proxies old r) w h.count) low
+    (λ v p e. low r v p (sym (place-heard (own_proxies old r) w h.count v) ∙ e)))
 move_within m i old (Acknowledged w r to) new h low = subst (λ (q : Part). Within m q) (sym h.after) low
 
-moves_within : (m : Machine) (i : ℕ) (old : Part) (ms : List Move) (new : Part) → AreMoves (grounds_of m i) old ms new → Within m old → Within m new
+moves_within : (m : Machine) (i : ℕ) (old : Part) (ms : List Move) (new : Part) → AreMoves (grounds_of m i) old ms new
+    → Within m old → Within m new
 moves_within m i old [] new h low = subst (λ (q : Part). Within m q) (sym h) low
 moves_within m i old (mv ∷ ms) new h low = moves_within m i h.0 ms new h.2 (move_within m i old mv h.0 h.1 low)
 
-delivery_within : (m : Machine) (i : ℕ) (old : Part) (reply : Reply) (new : Part) → DeliveryStep (grounds_of m i) old reply new → Within m old → Within m new
+delivery_within : (m : Machine) (i : ℕ) (old : Part) (reply : Reply) (new : Part)
+    → DeliveryStep (grounds_of m i) old reply new → Within m old → Within m new
 delivery_within m i old (Reported report) new h low = moves_within m i old report.moves new h low
 delivery_within m i old reply new h low = absurd h
 
@@ -122,43 +135,57 @@ effect_rows old nothing = refl
 effect_rows old (writes w entry) = refl
 
 rows_within : (m : Machine) (old new : Part) → new.rtps.readers ≡ old.rtps.readers → Within m old → Within m new
-rows_within m old new e low r = subst (λ (rows : List (List WriterProxy)). RowsWithin m (numbered rows r [])) (sym e) (low r)
+rows_within m old new e low r =
+    subst (λ (rows : List (List WriterProxy)). RowsWithin m (numbered rows r [])) (sym e) (low r)
 
 -- the machine with another part of one peer
-part_within : (m : Machine) (peer : ℕ) (after : Part) → MachineGrows m (with_part m peer after) → IsBounded m → Within m after → IsBounded (with_part m peer after)
+part_within : (m : Machine) (peer : ℕ) (after : Part) → MachineGrows m (with_part m peer after) → IsBounded m
+    → Within m after → IsBounded (with_part m peer after)
 part_within m peer after g old new r w p h =
     let longer = writer-changes (writer_at m w) (writer_at (with_part m peer after) w) (g.writers w) in
     let more = ap (λ (xs : List Change). length xs) longer.1 in
     let sum = length-append (writer_changes (writer_at m w)) longer.0 in
     let within : p ≤ length (writer_changes (writer_at m w)) + 1 =
     ⊎_elim (λ e. old r w p (ap (λ (q : Part). place_of (own_proxies q r.number) w) (sym e) ∙ h))
-    (λ s. new r.number w p (ap (λ (q : Part). place_of (own_proxies q r.number) w) (sym s.1) ∙ h)) (numbered-cases m.parts peer after r.peer no_part) in
+    (λ s. new r.number w p (ap (λ (q : Part). place_of (own_proxies q r.number) w) (sym s.1) ∙ h))
+    (numbered-cases m.parts peer after r.peer no_part) in
     omega (arith, more, sum, within)
 
 part_bounded : (m : Machine) (i : ℕ) → IsBounded m → Within m (part_at m i)
 part_bounded m i b r w p h = b (record { peer = i; number = r }) w p h
 
-pub steps_bounded : (tests : AllTests) (sent : ℕ) (m : Machine) (ev : WorldEvent) (reply : Reply) (new : Machine) → IsBounded m → Step tests sent m ev reply new → IsBounded new
+pub steps_bounded : (tests : AllTests) (sent : ℕ) (m : Machine) (ev : WorldEvent) (reply : Reply) (new : Machine)
+    → IsBounded m → Step tests sent m ev reply new → IsBounded new
 steps_bounded tests sent m (world.Call peer call) reply new b (inl h) =
     let same : h.after.rtps.readers ≡ (part_at m peer).rtps.readers =
-    ap (λ (x : Rtps). x.readers) h.step.rtps ∙ effect_rows (part_at m peer).rtps (effect_of (part_at m peer) call reply) in
+    ap (λ (x : Rtps). x.readers) h.step.rtps ∙ effect_rows (part_at m peer).rtps (effect_of (part_at m peer) call reply)
+    in
     subst (λ (x : Machine). IsBounded x) (sym h.changed)
-    (part_within m peer h.after (with_part-grows m peer h.after (CallStep-grows (tests peer) (part_at m peer) call reply h.after h.step)) b
+    (part_within m peer h.after
+    (with_part-grows m peer h.after (CallStep-grows (tests peer) (part_at m peer) call reply h.after h.step)) b
     (rows_within m (part_at m peer) h.after same (part_bounded m peer b)))
-steps_bounded tests sent m (world.Call peer call) reply new b (inr h) = subst (λ (x : Machine). IsBounded x) (sym h.1.1) b
+steps_bounded tests sent m (world.Call peer call) reply new b (inr h) =
+    subst (λ (x : Machine). IsBounded x) (sym h.1.1) b
 steps_bounded tests sent m (world.Tick peer now) reply new b (inl h) =
     subst (λ (x : Machine). IsBounded x) (sym h.changed)
-    (part_within m peer h.after (with_part-grows m peer h.after (TickStep-grows (part_at m peer) now reply h.after h.step)) b
-    (rows_within m (part_at m peer) h.after (TickStep-rows (part_at m peer) now reply h.after h.step) (part_bounded m peer b)))
-steps_bounded tests sent m (world.Tick peer now) reply new b (inr h) = subst (λ (x : Machine). IsBounded x) (sym h.1.1) b
+    (part_within m peer h.after
+    (with_part-grows m peer h.after (TickStep-grows (part_at m peer) now reply h.after h.step)) b
+    (rows_within m (part_at m peer) h.after (TickStep-rows (part_at m peer) now reply h.after h.step)
+    (part_bounded m peer b)))
+steps_bounded tests sent m (world.Tick peer now) reply new b (inr h) =
+    subst (λ (x : Machine). IsBounded x) (sym h.1.1) b
 steps_bounded tests sent m (world.Deliver peer packet) reply new b (inl h) =
     subst (λ (x : Machine). IsBounded x) (sym h.2.changed)
-    (part_within m peer h.2.after (with_part-grows m peer h.2.after (DeliveryStep-grows (grounds_of m peer) (part_at m peer) reply h.2.after h.2.step)) b
+    (part_within m peer h.2.after
+    (with_part-grows m peer h.2.after
+    (DeliveryStep-grows (grounds_of m peer) (part_at m peer) reply h.2.after h.2.step)) b
     (delivery_within m peer (part_at m peer) reply h.2.after h.2.step (part_bounded m peer b)))
-steps_bounded tests sent m (world.Deliver peer packet) reply new b (inr h) = subst (λ (x : Machine). IsBounded x) (sym h.1.1) b
+steps_bounded tests sent m (world.Deliver peer packet) reply new b (inr h) =
+    subst (λ (x : Machine). IsBounded x) (sym h.1.1) b
 
 -- at the opening each place is 1
-fresh_bounded : (peers : List Peer) (i r : ℕ) (w : Endpoint) (p : ℕ) → IsFresh (numbered peers i no_peer) → place_of (own_proxies (numbered peers i no_peer).part r) w ≡ Some p → 1 ≡ p
+fresh_bounded : (peers : List Peer) (i r : ℕ) (w : Endpoint) (p : ℕ) → IsFresh (numbered peers i no_peer)
+    → place_of (own_proxies (numbered peers i no_peer).part r) w ≡ Some p → 1 ≡ p
 fresh_bounded peers i r w p f h = fresh_place (own_proxies (numbered peers i no_peer).part r) w p (f.proxies r) h
 
 pub opened_is_fresh : (config : Config) (i : ℕ) → IsFresh (numbered (opening_world config).peers i no_peer)
@@ -168,10 +195,12 @@ opened_is_fresh config (suc i) = peer_is_fresh config.peers 1 config.peers i
 pub opens_bounded : (config : Config) → IsBounded (opening config)
 opens_bounded config r w p h =
     let here = ap (λ (q : Part). place_of (own_proxies q r.number) w) (parts_at (opening_world config) r.peer) in
-    let one = fresh_bounded (opening_world config).peers r.peer r.number w p (opened_is_fresh config r.peer) (sym here ∙ h) in
+    let one =
+    fresh_bounded (opening_world config).peers r.peer r.number w p (opened_is_fresh config r.peer) (sym here ∙ h) in
     omega (arith, one)
 
-run_bounded : (config : Config) (tests : AllTests) (m after : Machine) (events : List WorldEvent) (replies : List Reply) (sent last : Traffic)
+run_bounded : (config : Config) (tests : AllTests) (m after : Machine) (events : List WorldEvent) (replies : List Reply)
+    (sent last : Traffic)
     → Run config tests sent m events replies last after → IsBounded m → IsBounded after
 run_bounded config tests m after [] [] sent last run b = subst (λ (x : Machine). IsBounded x) (sym run.0) b
 run_bounded config tests m after (e ∷ es) (p ∷ ps) sent last run b =
@@ -180,7 +209,8 @@ run_bounded config tests m after (e ∷ es) (p ∷ ps) sent last run b =
 run_bounded config tests m after [] (p ∷ ps) sent last run b = absurd run
 run_bounded config tests m after (e ∷ es) [] sent last run b = absurd run
 
-pub runs_bounded : (config : Config) (tests : AllTests) (events : List WorldEvent) (replies : List Reply) (last : Traffic) (after : Machine)
+pub runs_bounded : (config : Config) (tests : AllTests) (events : List WorldEvent) (replies : List Reply)
+    (last : Traffic) (after : Machine)
     → Run config tests no_traffic (opening config) events replies last after → IsBounded after
 runs_bounded config tests events replies last after run =
     run_bounded config tests (opening config) after events replies no_traffic last run (opens_bounded config)

@@ -28,30 +28,36 @@ IsKnown t n = (n < t.place) ⊎ (is_missing (t.slot n) ≡ false)
 pub record IsSettled (match : Match) (s : Standing) : Type 0 where
   pub not_passable : is_passable s.tracked s.tracked.place ≡ false
   pub no_room : (change : Change) → s.tracked.slot s.tracked.place ≡ Held change
-      → has_room match.qos s.happened (coming match (record { place = s.tracked.place; happened = s.happened }) change) ≡ false
+      → has_room match.qos s.happened (coming match (record { place = s.tracked.place; happened = s.happened }) change)
+      ≡ false
 
 -- ---- the place goes on
 
-pub on_forward : (match : Match) (t : Tracked) (h : List Happening) (new : Standing) → GoesOn match t h new → t.place ≤ new.tracked.place
+pub on_forward : (match : Match) (t : Tracked) (h : List Happening) (new : Standing) → GoesOn match t h new
+    → t.place ≤ new.tracked.place
 on_forward match t h new g =
     let forward =
     goes_forward (known t) match (record { place = t.place; happened = h }) g.1 g.0
     (record { place = g.0; happened = new.happened }) g.2.goes in
     let le = forward.0 in let place = g.2.place in omega (arith, le, place)
 
-on_known : (match : Match) (t : Tracked) (h : List Happening) (new : Standing) (n : ℕ) → GoesOn match t h new → IsKnown t n → IsKnown new.tracked n
+on_known : (match : Match) (t : Tracked) (h : List Happening) (new : Standing) (n : ℕ) → GoesOn match t h new
+    → IsKnown t n → IsKnown new.tracked n
 on_known match t h new n g (inl below) = let le = on_forward match t h new g in inl (omega (arith, below, le))
 on_known match t h new n g (inr something) =
-    ⊎_elim (λ below. inl below) (λ at. inr (ap (λ (s : Slot). is_missing s) (g.2.stays.slots n at) ∙ something)) (cases_lt n new.tracked.place)
+    ⊎_elim (λ below. inl below) (λ at. inr (ap (λ (s : Slot). is_missing s) (g.2.stays.slots n at) ∙ something))
+    (cases_lt n new.tracked.place)
 
-pub on_settled : (match : Match) (t : Tracked) (h : List Happening) (new : Standing) → GoesOn match t h new → IsSettled match new
+pub on_settled : (match : Match) (t : Tracked) (h : List Happening) (new : Standing) → GoesOn match t h new
+    → IsSettled match new
 on_settled match t h new g = record {
   not_passable =
       ap (λ (s : Slot). is_passable_slot new.tracked.first new.tracked.place s) (same new.tracked.place (omega arith))
       ∙ (ap (λ (f : ℕ). is_passable_slot f new.tracked.place (t.slot new.tracked.place)) g.2.stays.first
       ∙ (ap (λ (n : ℕ). is_passable t n) g.2.place ∙ g.2.stops.not_passable));
   no_room = λ change held.
-      subst (λ (n : ℕ). has_room match.qos new.happened (coming match (record { place = n; happened = new.happened }) change) ≡ false) (sym g.2.place)
+      subst (λ (n : ℕ). has_room match.qos new.happened
+      (coming match (record { place = n; happened = new.happened }) change) ≡ false) (sym g.2.place)
       (g.2.stops.no_room change
       (subst (λ (n : ℕ). t.slot n ≡ Held change) g.2.place (sym (same new.tracked.place (omega arith)) ∙ held)));
 }
@@ -61,7 +67,8 @@ on_settled match t h new g = record {
 
 -- ---- an answer
 
-held_known : (b : Bool) (change : Change) (s : Slot) → is_missing s ≡ false → is_missing (if b then Held change else s) ≡ false
+held_known : (b : Bool) (change : Change) (s : Slot) → is_missing s ≡ false
+    → is_missing (if b then Held change else s) ≡ false
 held_known true change s h = refl
 held_known false change s h = h
 
@@ -70,14 +77,16 @@ passed_known true s h = refl
 passed_known false s h = h
 
 -- what is in the window is known of once it is marked
-now_held : (a w : Bool) (change : Change) (s : Slot) → a ≡ true → w ≡ true → is_missing (if a && (w && is_missing s) then Held change else s) ≡ false
+now_held : (a w : Bool) (change : Change) (s : Slot) → a ≡ true → w ≡ true
+    → is_missing (if a && (w && is_missing s) then Held change else s) ≡ false
 now_held true true change Missing f g = refl
 now_held true true change (Held c) f g = refl
 now_held true true change Irrelevant f g = refl
 now_held true false change s f g = cc
 now_held false w change s f g = cc
 
-now_passed : (a w : Bool) (s : Slot) → a ≡ true → w ≡ true → is_missing (if a && (w && is_missing s) then Irrelevant else s) ≡ false
+now_passed : (a w : Bool) (s : Slot) → a ≡ true → w ≡ true
+    → is_missing (if a && (w && is_missing s) then Irrelevant else s) ≡ false
 now_passed true true Missing f g = refl
 now_passed true true (Held c) f g = refl
 now_passed true true Irrelevant f g = refl
@@ -88,7 +97,8 @@ within : (place n : ℕ) → place ≤ n → n < place + 256 → is_in_window pl
 within place n low high = grind (arith, nat_tests)
 
 -- the numbers that an answer is for
-is_named_by : (first last n : ℕ) → (nat_le first n && nat_le n last) ≡ true → is_named first (empty_from (last + 1)) n ≡ true
+is_named_by : (first last n : ℕ) → (nat_le first n && nat_le n last) ≡ true
+    → is_named first (empty_from (last + 1)) n ≡ true
 is_named_by first last n h = either (has_number (empty_from (last + 1)) n) named
   where
     named : (nat_le first n && nat_lt n (last + 1)) ≡ true
@@ -99,33 +109,41 @@ is_named_by first last n h = either (has_number (empty_from (last + 1)) n) named
         by true false e f = let no = ap (λ (x : Bool). x && nat_le n last) e in let none = sym h ∙ (no ∙ f) in absurd cc
         by false b e f = let no = ap (λ (x : Bool). x && nat_le n last) e in let none = sym h ∙ no in absurd cc
 
-    either : (x : Bool) → (nat_le first n && nat_lt n (last + 1)) ≡ true → ((nat_le first n && nat_lt n (last + 1)) || x) ≡ true
+    either : (x : Bool) → (nat_le first n && nat_lt n (last + 1)) ≡ true
+        → ((nat_le first n && nat_lt n (last + 1)) || x) ≡ true
     either x e = ap (λ (b : Bool). b || x) e
 
-pub answer_forward : (match : Match) (a : Answer) (old new : Standing) → TakesAnswer match a old new → old.tracked.place ≤ new.tracked.place
+pub answer_forward : (match : Match) (a : Answer) (old new : Standing) → TakesAnswer match a old new
+    → old.tracked.place ≤ new.tracked.place
 answer_forward match (Data m) old new h = on_forward match (with_data m h.0 old.tracked) old.happened new h.1
-answer_forward match (Gap first last) old new h = on_forward match (with_gap first (empty_from (last + 1)) old.tracked) old.happened new h
+answer_forward match (Gap first last) old new h =
+    on_forward match (with_gap first (empty_from (last + 1)) old.tracked) old.happened new h
 
-answer_known : (match : Match) (a : Answer) (old new : Standing) (n : ℕ) → TakesAnswer match a old new → IsKnown old.tracked n → IsKnown new.tracked n
+answer_known : (match : Match) (a : Answer) (old new : Standing) (n : ℕ) → TakesAnswer match a old new
+    → IsKnown old.tracked n → IsKnown new.tracked n
 answer_known match (Data m) old new n h k =
     on_known match (with_data m h.0 old.tracked) old.happened new n h.1
     (⊎_elim (λ b. inl b) (λ s. inr (held_known ((m == n) && is_open old.tracked n) h.0 (old.tracked.slot n) s)) k)
 answer_known match (Gap first last) old new n h k =
     on_known match (with_gap first (empty_from (last + 1)) old.tracked) old.happened new n h
     (⊎_elim (λ b. inl b)
-    (λ s. inr (passed_known (is_named first (empty_from (last + 1)) n && is_open old.tracked n) (old.tracked.slot n) s)) k)
+    (λ s. inr (passed_known (is_named first (empty_from (last + 1)) n && is_open old.tracked n) (old.tracked.slot n) s))
+    k)
 
 answer_settled : (match : Match) (a : Answer) (old new : Standing) → TakesAnswer match a old new → IsSettled match new
 answer_settled match (Data m) old new h = on_settled match (with_data m h.0 old.tracked) old.happened new h.1
-answer_settled match (Gap first last) old new h = on_settled match (with_gap first (empty_from (last + 1)) old.tracked) old.happened new h
+answer_settled match (Gap first last) old new h =
+    on_settled match (with_gap first (empty_from (last + 1)) old.tracked) old.happened new h
 
 -- a number of the window is known of once it is answered
-answer_tells : (match : Match) (a : Answer) (old new : Standing) (n : ℕ) → is_answer_to n a ≡ true → n < old.tracked.place + 256
+answer_tells : (match : Match) (a : Answer) (old new : Standing) (n : ℕ) → is_answer_to n a ≡ true
+    → n < old.tracked.place + 256
     → TakesAnswer match a old new → IsKnown new.tracked n
 answer_tells match (Data m) old new n for high h =
     on_known match (with_data m h.0 old.tracked) old.happened new n h.1
     (⊎_elim (λ b. inl b)
-    (λ low. inr (now_held (m == n) (is_in_window old.tracked.place n) h.0 (old.tracked.slot n) for (within old.tracked.place n low high)))
+    (λ low. inr (now_held (m == n) (is_in_window old.tracked.place n) h.0 (old.tracked.slot n) for
+    (within old.tracked.place n low high)))
     (cases_lt n old.tracked.place))
 answer_tells match (Gap first last) old new n for high h =
     on_known match (with_gap first (empty_from (last + 1)) old.tracked) old.happened new n h
@@ -137,28 +155,36 @@ answer_tells match (Gap first last) old new n for high h =
 
 -- ---- answers in turn
 
-pub answers_forward : (match : Match) (answers : List Answer) (old new : Standing) → TakesAnswers match answers old new → old.tracked.place ≤ new.tracked.place
+pub answers_forward : (match : Match) (answers : List Answer) (old new : Standing) → TakesAnswers match answers old new
+    → old.tracked.place ≤ new.tracked.place
 answers_forward match [] old new h = let e = ap (λ (s : Standing). s.tracked.place) h in omega (arith, e)
 answers_forward match (a ∷ rest) old new h =
     let first = answer_forward match a old h.0 h.1 in
     let later = answers_forward match rest h.0 new h.2 in
     omega (arith, first, later)
 
-answers_known : (match : Match) (answers : List Answer) (old new : Standing) (n : ℕ) → TakesAnswers match answers old new → IsKnown old.tracked n → IsKnown new.tracked n
+answers_known : (match : Match) (answers : List Answer) (old new : Standing) (n : ℕ)
+    → TakesAnswers match answers old new → IsKnown old.tracked n → IsKnown new.tracked n
 answers_known match [] old new n h k = subst (λ (s : Standing). IsKnown s.tracked n) (sym h) k
-answers_known match (a ∷ rest) old new n h k = answers_known match rest h.0 new n h.2 (answer_known match a old h.0 n h.1 k)
+answers_known match (a ∷ rest) old new n h k =
+    answers_known match rest h.0 new n h.2 (answer_known match a old h.0 n h.1 k)
 
-answers_settled : (match : Match) (answers : List Answer) (old new : Standing) → TakesAnswers match answers old new → IsSettled match old → IsSettled match new
+answers_settled : (match : Match) (answers : List Answer) (old new : Standing) → TakesAnswers match answers old new
+    → IsSettled match old → IsSettled match new
 answers_settled match [] old new h s = subst (λ (x : Standing). IsSettled match x) (sym h) s
-answers_settled match (a ∷ rest) old new h s = answers_settled match rest h.0 new h.2 (answer_settled match a old h.0 h.1)
+answers_settled match (a ∷ rest) old new h s =
+    answers_settled match rest h.0 new h.2 (answer_settled match a old h.0 h.1)
 
-answers_tell : (match : Match) (answers : List Answer) (old new : Standing) (n : ℕ) → list_any (is_answer_to n) answers ≡ true → n < old.tracked.place + 256
+answers_tell : (match : Match) (answers : List Answer) (old new : Standing) (n : ℕ)
+    → list_any (is_answer_to n) answers ≡ true → n < old.tracked.place + 256
     → TakesAnswers match answers old new → IsKnown new.tracked n
 answers_tell match [] old new n for high h = cc
 answers_tell match (a ∷ rest) old new n for high h =
-    by (is_answer_to n a) refl (λ later. answers_tell match rest h.0 new n later (omega (arith, high, answer_forward match a old h.0 h.1)) h.2)
+    by (is_answer_to n a) refl (λ later. answers_tell match rest h.0 new n later
+    (omega (arith, high, answer_forward match a old h.0 h.1)) h.2)
   where
-    by : (b : Bool) → is_answer_to n a ≡ b → (list_any (is_answer_to n) rest ≡ true → IsKnown new.tracked n) → IsKnown new.tracked n
+    by : (b : Bool) → is_answer_to n a ≡ b → (list_any (is_answer_to n) rest ≡ true → IsKnown new.tracked n)
+        → IsKnown new.tracked n
     by true e later = answers_known match rest h.0 new n h.2 (answer_tells match a old h.0 n e high h.1)
     by false e later = later (sym (ap (λ (b : Bool). b || list_any (is_answer_to n) rest) e) ∙ for)
 
@@ -169,7 +195,8 @@ missing_or_not Missing = inl refl
 missing_or_not (Held c) = inr refl
 missing_or_not Irrelevant = inr refl
 
-asked : (t : Tracked) (last n : ℕ) → t.place ≤ n → n < t.place + 256 → is_missing (t.slot n) ≡ true → n ≤ last → is_asked t last n ≡ true
+asked : (t : Tracked) (last n : ℕ) → t.place ≤ n → n < t.place + 256 → is_missing (t.slot n) ≡ true → n ≤ last
+    → is_asked t last n ≡ true
 asked t last n low high missing most =
     ap (λ (b : Bool). (b && is_missing (t.slot n)) && nat_le n last) (within t.place n low high)
     ∙ (ap (λ (b : Bool). b && nat_le n last) missing ∙ small)
@@ -178,17 +205,24 @@ asked t last n low high missing most =
     small = grind (arith, nat_tests)
 
 -- what is known of, and is no reason to go on, is held without room
-full : (match : Match) (s : Standing) (x : Slot) → s.tracked.slot s.tracked.place ≡ x → is_missing x ≡ false → IsSettled match s → IsFull match s
+full : (match : Match) (s : Standing) (x : Slot) → s.tracked.slot s.tracked.place ≡ x → is_missing x ≡ false
+    → IsSettled match s → IsFull match s
 full match s Missing is something settled = cc
-full match s (Held change) is something settled = record { change = change; held = is; no_room = settled.no_room change is }
+full match s (Held change) is something settled =
+    record { change = change; held = is; no_room = settled.no_room change is }
 full match s Irrelevant is something settled =
-    let over : is_passable s.tracked s.tracked.place ≡ true = ap (λ (y : Slot). is_passable_slot s.tracked.first s.tracked.place y) is in
+    let over : is_passable s.tracked s.tracked.place ≡ true =
+    ap (λ (y : Slot). is_passable_slot s.tracked.first s.tracked.place y) is in
     let none = settled.not_passable in absurd cc
 
-pub window_catches_up : (match : Match) (last acknowledged : ℕ) (old new : Standing) → (r : IsRepaired match last acknowledged old new) → acknowledged ≤ r.due.base
+pub window_catches_up : (match : Match) (last acknowledged : ℕ) (old new : Standing)
+    → (r : IsRepaired match last acknowledged old new) → acknowledged ≤ r.due.base
     → HasGoneOn match last old.tracked.place new × (old.tracked.place ≤ r.due.base)
-window_catches_up match last acknowledged old new r low =
-    (⊎_elim (λ short. inr (stuck short)) (λ far. inl far) (cases_lt new.tracked.place (min (old.tracked.place + 256) (last + 1))), omega (arith, base, forward))
+window_catches_up match last acknowledged old new r low = (
+  ⊎_elim (λ short. inr (stuck short)) (λ far. inl far)
+      (cases_lt new.tracked.place (min (old.tracked.place + 256) (last + 1))),
+  omega (arith, base, forward),
+)
   where
     from : Tracked
     from = r.heard.tracked
@@ -207,7 +241,8 @@ window_catches_up match last acknowledged old new r low =
 
     settled : IsSettled match new
     settled =
-        let s : IsSettled match r.heard = on_settled match (with_heartbeat r.first r.count old.tracked) old.happened r.heard r.hears in
+        let s : IsSettled match r.heard =
+        on_settled match (with_heartbeat r.first r.count old.tracked) old.happened r.heard r.hears in
         answers_settled match r.answers told new r.takes (record { not_passable = s.not_passable; no_room = s.no_room })
 
     known_of : new.tracked.place < from.place + 256 → new.tracked.place ≤ last → IsKnown new.tracked new.tracked.place
@@ -216,11 +251,13 @@ window_catches_up match last acknowledged old new r low =
         (λ missing.
         let is : has_number r.due.missing new.tracked.place ≡ true =
         r.tells.members new.tracked.place ∙ asked from last new.tracked.place further high missing most in
-        answers_tell match r.answers told new new.tracked.place (r.complete new.tracked.place is (omega (arith, low, base, further)) most) high r.takes)
+        answers_tell match r.answers told new new.tracked.place
+        (r.complete new.tracked.place is (omega (arith, low, base, further)) most) high r.takes)
         (λ something. answers_known match r.answers told new new.tracked.place r.takes (inr something))
         (missing_or_not (from.slot new.tracked.place))
 
     stuck : new.tracked.place < min (old.tracked.place + 256) (last + 1) → IsFull match new
     stuck short =
-        ⊎_elim (λ below. absurd (omega (arith, below))) (λ something. full match new (new.tracked.slot new.tracked.place) refl something settled)
+        ⊎_elim (λ below. absurd (omega (arith, below)))
+        (λ something. full match new (new.tracked.slot new.tracked.place) refl something settled)
         (known_of (omega (arith, short, forward)) (omega (arith, short)))

@@ -30,12 +30,14 @@ abbrev pub Parts : (Fss : List (List Field)) → Each Bool Fss → Type 0
 Parts [] es = Unit {0}
 Parts (Fs ∷ Fss) es = ((a b : Values Fs) → Decides (es.0 a b) (a ≡ b)) × Parts Fss es.1
 
-choices : (Fss : List (List Field)) (es : Each Bool Fss) → Parts Fss es → (c d : Choice Fss) → Decides (by false false Fss es c d) (c ≡ d)
+choices : (Fss : List (List Field)) (es : Each Bool Fss) → Parts Fss es → (c d : Choice Fss)
+    → Decides (by false false Fss es c d) (c ≡ d)
 choices [] es all c d = absurd c
 choices (Fs ∷ Fss) es all (inl x) (inl y) = Decides-like (es.0 x y) (ap inl) (λ e. cc) (all.0 x y)
 choices (Fs ∷ Fss) es all (inl x) (inr y) = (λ e. cc, λ e. cc)
 choices (Fs ∷ Fss) es all (inr x) (inl y) = (λ e. cc, λ e. cc)
-choices (Fs ∷ Fss) es all (inr x) (inr y) = Decides-like (by false false Fss es.1 x y) (ap inr) (λ e. cc) (choices Fss es.1 all.1 x y)
+choices (Fs ∷ Fss) es all (inr x) (inr y) =
+    Decides-like (by false false Fss es.1 x y) (ap inr) (λ e. cc) (choices Fss es.1 all.1 x y)
 
 -- a variant's, and then those of the later ones
 infixr 4 ◌⨾◌
@@ -43,8 +45,11 @@ pub ◌⨾◌ : {A B : Type 0} → A → B → A × B
 x ⨾ y = (x, y)
 
 -- so the derived test decides
-pub of_variants : (N : Record) (es : Each Bool N.parts) → Parts N.parts es → (a b : N.D) → Decides (by false false N.parts es (N.as_values a) (N.as_values b)) (a ≡ b)
-of_variants N es all a b = Decides-like (by false false N.parts es (N.as_values a) (N.as_values b)) (values_one N a b) (ap N.as_values) (choices N.parts es all (N.as_values a) (N.as_values b))
+pub of_variants : (N : Record) (es : Each Bool N.parts) → Parts N.parts es → (a b : N.D)
+    → Decides (by false false N.parts es (N.as_values a) (N.as_values b)) (a ≡ b)
+of_variants N es all a b =
+    Decides-like (by false false N.parts es (N.as_values a) (N.as_values b)) (values_one N a b) (ap N.as_values)
+    (choices N.parts es all (N.as_values a) (N.as_values b))
 
 pub bare : (a b : Unit {0}) → Decides true (a ≡ b)
 bare a b = (λ _. refl, λ _. refl)
@@ -53,7 +58,8 @@ module _ {A : Type 0} {E : A → A → Bool} (each : (x y : A) → Decides (E x 
   pub last : (a b : A × Unit {0}) → Decides (E a.0 b.0) (a ≡ b)
   last a b = Decides-like (E a.0 b.0) (λ e i. (e i, tt)) (λ e. ap (λ p. p.0) e) (each a.0 b.0)
 
-  pub more : {B : Type 0} {F : B → B → Bool} → ((x y : B) → Decides (F x y) (x ≡ y)) → (a b : A × B) → Decides (E a.0 b.0 && F a.1 b.1) (a ≡ b)
+  pub more : {B : Type 0} {F : B → B → Bool} → ((x y : B) → Decides (F x y) (x ≡ y)) → (a b : A × B)
+      → Decides (E a.0 b.0 && F a.1 b.1) (a ≡ b)
   more {B} {F} later a b =
       let both = Decides-and (E a.0 b.0) (F a.1 b.1) (each a.0 b.0) (later a.1 b.1) in
       Decides-like (E a.0 b.0 && F a.1 b.1) (λ h i. (h.0 i, h.1 i)) (λ e. (ap (λ p. p.0) e, ap (λ p. p.1) e)) both

@@ -34,13 +34,16 @@ readers_told f tell topic n (r ∷ rs) =
     end_told f (same_topic r.topic topic) (tell n r) (of_readers_in tell topic (n + 1) rs)
     (of_readers_in (λ k x. f (tell k x)) topic (n + 1) rs) (readers_told f tell topic (n + 1) rs)
 
-matched_told : {X Y : Type 0} (f : X → Y) (tell : ℕ → PeerConfig → ℕ → ReaderConfig → X) (topic n : ℕ) (ps : List PeerConfig)
+matched_told : {X Y : Type 0} (f : X → Y) (tell : ℕ → PeerConfig → ℕ → ReaderConfig → X) (topic n : ℕ)
+    (ps : List PeerConfig)
     → map f (of_matched_readers tell topic n ps) ≡ of_matched_readers (λ i p k r. f (tell i p k r)) topic n ps
 matched_told f tell topic n [] = refl
 matched_told {Y = Y} f tell topic n (p ∷ ps) =
     map-append f (of_readers_in (tell n p) topic 1 p.readers) (of_matched_readers tell topic (n + 1) ps)
-    ∙ (ap (λ (xs : List Y). xs ++ map f (of_matched_readers tell topic (n + 1) ps)) (readers_told f (tell n p) topic 1 p.readers)
-    ∙ ap (λ (ys : List Y). of_readers_in (λ k r. f (tell n p k r)) topic 1 p.readers ++ ys) (matched_told f tell topic (n + 1) ps))
+    ∙ (ap (λ (xs : List Y). xs ++ map f (of_matched_readers tell topic (n + 1) ps))
+    (readers_told f (tell n p) topic 1 p.readers)
+    ∙ ap (λ (ys : List Y). of_readers_in (λ k r. f (tell n p k r)) topic 1 p.readers ++ ys)
+    (matched_told f tell topic (n + 1) ps))
 
 -- a peer of the opening
 
@@ -69,7 +72,8 @@ writer_opened peers (x ∷ ws) (suc i) w h = writer_opened peers ws i w h
 abbrev names : List ReaderProxy → List Endpoint
 names rows = map (λ (p : ReaderProxy). p.reader) rows
 
-rows_opened : (peers : List PeerConfig) (own : PeerConfig) (number : ℕ) (w : WriterConfig) → IsNumbered own.writers number w
+rows_opened : (peers : List PeerConfig) (own : PeerConfig) (number : ℕ) (w : WriterConfig)
+    → IsNumbered own.writers number w
     → names (own_writer (opening_part peers own) number).readers
     ≡ of_matched_readers (λ i p k r. record { peer = i; number = k }) w.topic 1 peers
 rows_opened peers own zero w at = let low = at.0 in absurd (omega (arith, low))
@@ -102,7 +106,8 @@ opens_used config = record {
   heartbeat_sent = λ packet w count among has. let lt = among.1 in absurd (omega (arith, lt));
   acknack_sent = λ packet w r count among has. let lt = among.1 in absurd (omega (arith, lt));
   heartbeat_taken = λ w r count e.
-      let none = sym (ap (λ (k : Known). (k.tracked w r.number).count) (opened_is_fresh config r.peer).known) ∙ e in absurd cc;
+      let none =
+      sym (ap (λ (k : Known). (k.tracked w r.number).count) (opened_is_fresh config r.peer).known) ∙ e in absurd cc;
   acknack_taken = λ w r count e.
       let none = sym (ap (λ (k : Known). k.answered w.number r) (opened_is_fresh config w.peer).known) ∙ e in absurd cc;
 }

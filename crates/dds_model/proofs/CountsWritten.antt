@@ -52,14 +52,16 @@ pub plain_beats : (config : Config) (message : Message) (w : Endpoint) (count : 
 plain_beats config message w count writable plain h =
     let same = read_again message h.message h.offset writable h.is_read in
     stands_all IsPlain h.own (receiver_of message.prefix) message.submessages h.index h.at (Heartbeat h.heartbeat) plain
-    (subst (λ (m : Message). StandsAt h.own (receiver_of m.prefix) m.submessages h.index h.at (Heartbeat h.heartbeat)) same h.stands)
+    (subst (λ (m : Message). StandsAt h.own (receiver_of m.prefix) m.submessages h.index h.at (Heartbeat h.heartbeat))
+    same h.stands)
 
 pub plain_asks : (config : Config) (message : Message) (w r : Endpoint) (count : ℤ) → IsWritable message
     → AllByRecursion IsPlain message.submessages → HasAckNack config (spelling_of message) w r count → ⊥
 plain_asks config message w r count writable plain h =
     let same = read_again message h.message h.offset writable h.is_read in
     stands_all IsPlain h.own (receiver_of message.prefix) message.submessages h.index h.at (AckNack h.acknack) plain
-    (subst (λ (m : Message). StandsAt h.own (receiver_of m.prefix) m.submessages h.index h.at (AckNack h.acknack)) same h.stands)
+    (subst (λ (m : Message). StandsAt h.own (receiver_of m.prefix) m.submessages h.index h.at (AckNack h.acknack)) same
+    h.stands)
 
 -- ---- answers, and changes that are announced
 
@@ -149,7 +151,8 @@ one_beat_asks config own to body w r count writable h =
 pub one_ask : (config : Config) (own to : GuidPrefix) (body : AckNackBody) (w r : Endpoint) (count : ℤ)
     → IsWritable (message_to own to (AckNack body ∷ []))
     → HasAckNack config (spelling_of (message_to own to (AckNack body ∷ []))) w r count
-    → (far : GuidPrefix) × IsToWriter config far (addressed own to) body.reader_id body.writer_id w r × (count ≡ body.count)
+    → (far : GuidPrefix) × IsToWriter config far (addressed own to) body.reader_id body.writer_id w r
+    × (count ≡ body.count)
 unfolding ask_of
 one_ask config own to body w r count writable h =
     let here =
@@ -158,7 +161,8 @@ one_ask config own to body w r count writable h =
     let is : h.acknack ≡ body = ap (λ (s : Submessage). ask_of body s) here.1 in (
       h.own,
       subst (λ (b : AckNackBody). IsToWriter config h.own (addressed own to) b.reader_id b.writer_id w r) is
-          (subst (λ (x : Receiver). IsToWriter config h.own x h.acknack.reader_id h.acknack.writer_id w r) here.0 h.is_to),
+          (subst (λ (x : Receiver). IsToWriter config h.own x h.acknack.reader_id h.acknack.writer_id w r) here.0
+          h.is_to),
       sym h.same_count ∙ ap (λ (b : AckNackBody). b.count) is,
     )
 
@@ -185,13 +189,16 @@ one_ask_beats config own to body w count writable h =
 -- ---- lists of messages
 
 -- what is so of each message is so of those in a list
-pub each_of : {X : Type 0} (P : Due → Type 0) (f : X → Due) → ((x : X) → P (f x)) → (xs : List X) (due : Due) → Contains (map f xs) due → P due
+pub each_of : {X : Type 0} (P : Due → Type 0) (f : X → Due) → ((x : X) → P (f x)) → (xs : List X) (due : Due)
+    → Contains (map f xs) due → P due
 each_of P f all [] due among = let lt = among.1 in absurd (omega (arith, lt))
 each_of {X = X} P f all (x ∷ xs) due among =
-    ⊎_elim (λ e. subst (λ (d : Due). P d) e (all x)) (λ rest. each_of P f all xs due rest) (front_or_rest (f x) (map f xs) due among.0 among.1 among.2)
+    ⊎_elim (λ e. subst (λ (d : Due). P d) e (all x)) (λ rest. each_of P f all xs due rest)
+    (front_or_rest (f x) (map f xs) due among.0 among.1 among.2)
 
 pub contains_map : {X Y : Type 0} (f : X → Y) (xs : List X) (x : X) → Contains xs x → Contains (map f xs) (f x)
 contains_map f [] x h = let lt = h.1 in absurd (omega (arith, lt))
 contains_map {X = X} f (y ∷ ys) x h =
-    ⊎_elim (λ e. subst (λ (z : X). Contains (map f (y ∷ ys)) (f z)) e (0, omega arith, refl)) (λ later. later_in (f y) (map f ys) (f x) (contains_map f ys x later))
+    ⊎_elim (λ e. subst (λ (z : X). Contains (map f (y ∷ ys)) (f z)) e (0, omega arith, refl))
+    (λ later. later_in (f y) (map f ys) (f x) (contains_map f ys x later))
     (front_or_rest y ys x h.0 h.1 h.2)

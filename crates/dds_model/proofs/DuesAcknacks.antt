@@ -70,7 +70,8 @@ answer_names config checked own from reader_id writer_id writer reader is far w 
     let unknown : same_prefix dest every_peer ≡ false = not_every_peer config dest writer_id writer checked is.from in
     let same : dest ≡ far =
     (prefix-Decides dest far).0 (first_of (same_prefix dest far) (same_prefix dest every_peer) h.is_for unknown) in
-    let to : IsWriter config dest writer_id w = subst (λ (p : GuidPrefix). IsWriter config p writer_id w) (sym same) h.to in
+    let to : IsWriter config dest writer_id w =
+    subst (λ (p : GuidPrefix). IsWriter config p writer_id w) (sym same) h.to in
     (one_writer config dest writer_id w writer checked to is.from, by h.entity h.named h.from)
   where
     by : (entity : EntityId) → Names is.entity entity → IsReader config own entity r → r ≡ reader

@@ -92,7 +92,8 @@ last_numbered xs n is =
 pub next_asserts : (w : Writer) (moment : ℕ) → has_readers w ≡ true
     → is_assertion (with_written w (Asserted moment)) (pos (heartbeats_used w + 1)) ≡ true
 next_asserts w moment matched =
-    ap (λ (b : Bool). numbered (if b then counts_of (has_readers w) w.written ++ true ∷ [] else counts_of (has_readers w) w.written)
+    ap (λ (b : Bool). numbered (if b then counts_of (has_readers w) w.written ++ true
+    ∷ [] else counts_of (has_readers w) w.written)
     (heartbeats_used w + 1) false) matched
     ∙ last_numbered (counts_of (has_readers w) w.written) (heartbeats_used w + 1) (omega arith)
 
@@ -121,7 +122,8 @@ told_says b tests new t far to (PlaceReached v r base) h = absurd h
 told_says b tests new t far to (MayPass v r n) h =
     true_on b.peer b.part new (CallStep-grows tests b.part (AssertLiveliness b.number) Done new t.step)
     (λ w e.
-    subst (λ (rows : List ReaderProxy). NoLess (acknowledged_of (own_writer b.part w).readers e) (acknowledged_of rows e))
+    subst (λ (rows : List ReaderProxy). NoLess (acknowledged_of (own_writer b.part w).readers e)
+    (acknowledged_of rows e))
     (sym (CallStep-readers tests b.part (AssertLiveliness b.number) Done new t.step w))
     (no_less_same (acknowledged_of (own_writer b.part w).readers e)))
     (MayPass v r n) (first_says b true true far to v r n h)
@@ -134,7 +136,8 @@ told_says b tests new t far to (Asserts v r k) h =
     let after = asserted_writer b.part new b.number b.part.dds.moment t.there t.step.rtps in
     let asserts : is_assertion (own_writer new b.number) k ≡ true =
     ap (λ c. is_assertion (own_writer new b.number) c) h.2
-    ∙ (ap (λ (x : Writer). is_assertion x (pos (heartbeats_used w + 1))) after ∙ next_asserts w b.part.dds.moment t.matched) in (
+    ∙ (ap (λ (x : Writer). is_assertion x (pos (heartbeats_used w + 1))) after
+    ∙ next_asserts w b.part.dds.moment t.matched) in (
       ap (λ (e : Endpoint). e.peer) same,
       ap (λ (e : Endpoint). is_assertion (own_writer new e.number) k) same ∙ asserts,
     )
@@ -142,14 +145,19 @@ told_says b tests new t far to (Asserts v r k) h =
 pub assertions_true : (config : Config) (tests : Tests) (peer writer : ℕ) (old new : Part)
     → check_refusal config.peers ≡ None → IsPartOf config peer old
     → CallStep tests old (AssertLiveliness writer) Done new
-    → AreTruthful config peer new (assertions_due config (record { peer = peer; number = writer }) (own_writer old writer))
+    → AreTruthful config peer new
+    (assertions_due config (record { peer = peer; number = writer }) (own_writer old writer))
 assertions_true config tests peer writer old new checked of step =
     told_each config peer old writer (IsTruthful config peer new)
     (λ there matched to claim writable says.
     let own : OwnName config peer old writer = own_name config peer old of writer there in
-    let b : Beating = record { config = config; checked = checked; peer = peer; part = old; number = writer; own = own } in
-    let t = told_alone config (prefix_of config peer) (prefix_of config to) (Heartbeat (beat b true true)) claim writable says in
-    told_says b tests new (record { there = there; matched = matched; step = step }) t.0 (prefix_of config to) claim t.1)
+    let b : Beating =
+    record { config = config; checked = checked; peer = peer; part = old; number = writer; own = own } in
+    let t =
+    told_alone config (prefix_of config peer) (prefix_of config to)
+    (Heartbeat (beat b true true)) claim writable says in
+    told_says b tests new (record { there = there; matched = matched; step = step }) t.0
+    (prefix_of config to) claim t.1)
 
 -- ---- its written form
 
@@ -175,7 +183,8 @@ assertions_writable config tests peer writer old new of step sized small =
   where
     used : nat_le (2 ^ 31 - 1) (heartbeats_used (own_writer old writer)) ≡ false
     used =
-        left_if_done (has_element old.rtps.writers writer) (nat_le (2 ^ 31 - 1) (heartbeats_used (own_writer old writer)))
+        left_if_done (has_element old.rtps.writers writer)
+        (nat_le (2 ^ 31 - 1) (heartbeats_used (own_writer old writer)))
         step.answers.0
 
     left : heartbeats_used (own_writer old writer) < 2 ^ 31 - 1

@@ -45,7 +45,8 @@ pub record Ends (own to : GuidPrefix) (reader writer : EntityId) : Type 0 where
 
 -- One that tells what is known can be written, where its set has all its places.
 pub acknack_writable : (own to : GuidPrefix) (reader writer : EntityId) → Ends own to reader writer
-    → (t : Tracked) (last : ℕ) (is_final : Bool) (due : AckNackDue) → AnswersHeartbeat t last is_final (Some due) → 1 ≤ t.place
+    → (t : Tracked) (last : ℕ) (is_final : Bool) (due : AckNackDue) → AnswersHeartbeat t last is_final (Some due)
+    → 1 ≤ t.place
     → length due.missing.members ≡ 256 → IsWritable (acknack_message own to reader writer due)
 acknack_writable own to reader writer ends t last is_final due a low places =
     let base = a.3.set_base in

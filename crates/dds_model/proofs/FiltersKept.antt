@@ -54,7 +54,8 @@ SameHanded old new = handed new ≡ handed old
 as_it_was : (old new : Dds) → new ≡ old → SameHanded old new
 as_it_was old new e = ap (λ (d : Dds). handed d) e
 
-done_or_not : (refusal : Option Code) (reply : Reply) (old new : Dds) → IsDoneUnless refusal reply old old new → SameHanded old new
+done_or_not : (refusal : Option Code) (reply : Reply) (old new : Dds) → IsDoneUnless refusal reply old old new
+    → SameHanded old new
 done_or_not refusal Done old new a = as_it_was old new a.1
 done_or_not refusal (Refused code) old new a = as_it_was old new a.1
 done_or_not refusal reply old new a = absurd a
@@ -66,8 +67,10 @@ answered None answer after old reply new same a =
     ap (λ (d : Dds). handed d) a.1
     ∙ ap (λ (n : ℕ). let h : Handed = record { filters = n; listeners = old.dds.listeners } in h) same
 
-in_memory : (needs : Bool) (refusal : Option Code) (answer : Reply) (after : Watched) (old : Part) (reply : Reply) (new : Dds)
-    → after.filters ≡ old.dds.watch.filters → IsAnsweredInMemory needs refusal answer after old reply new → SameHanded old.dds new
+in_memory : (needs : Bool) (refusal : Option Code) (answer : Reply) (after : Watched) (old : Part) (reply : Reply)
+    (new : Dds)
+    → after.filters ≡ old.dds.watch.filters → IsAnsweredInMemory needs refusal answer after old reply new
+    → SameHanded old.dds new
 in_memory needs refusal answer after old reply new same (inl a) = answered refusal answer after old reply new same a
 in_memory needs refusal answer after old reply new same (inr a) = as_it_was old.dds new a.3
 
@@ -82,19 +85,22 @@ looked [] true old wait_set reply new a = answered _ _ _ old reply new refl a
 looked [] false old wait_set reply new a = answered _ _ _ old reply new refl a
 looked (c ∷ cs) timed_out old wait_set reply new a = in_memory _ _ _ _ old reply new refl a
 
-accessed : (entry : List SamplePosition → Happening) (test : Test) (old : Part) (k : ℕ) (selection : Selection) (reply : Reply) (new : Dds)
+accessed : (entry : List SamplePosition → Happening) (test : Test) (old : Part) (k : ℕ) (selection : Selection)
+    (reply : Reply) (new : Dds)
     → AnswersAccess entry test old k selection reply new → SameHanded old.dds new
 accessed entry test old k selection (Samples samples) new a = ap (λ (d : Dds). handed d) a.3
 accessed entry test old k selection (Refused code.NoData) new a = ap (λ (d : Dds). handed d) a.2
 accessed entry test old k selection (Refused code) new a = as_it_was old.dds new a.1
 accessed entry test old k selection reply new a = absurd a
 
-by_condition : (entry : List SamplePosition → Happening) (refusal : Option Code) (test : Test) (old : Part) (k : ℕ) (selection : Selection) (reply : Reply) (new : Dds)
+by_condition : (entry : List SamplePosition → Happening) (refusal : Option Code) (test : Test) (old : Part) (k : ℕ)
+    (selection : Selection) (reply : Reply) (new : Dds)
     → AnswersByCondition entry refusal test old k selection reply new → SameHanded old.dds new
 by_condition entry (Some code) test old k selection reply new a = as_it_was old.dds new a.1
 by_condition entry None test old k selection reply new a = accessed entry test old k selection reply new a
 
-answers_keep : (tests : Tests) (old : Part) (c : Call) (reply : Reply) (new : Dds) → Answers tests old c reply new → SameHanded old.dds new
+answers_keep : (tests : Tests) (old : Part) (c : Call) (reply : Reply) (new : Dds) → Answers tests old c reply new
+    → SameHanded old.dds new
 answers_keep tests old (Register v key) reply new a = done_or_not (register_refusal old v) reply old.dds new a
 answers_keep tests old (Write v key value) reply new a = done_or_not (write_refusal old v key value) reply old.dds new a
 answers_keep tests old (Dispose v key) reply new a = done_or_not (dispose_refusal old v key) reply old.dds new a
@@ -135,7 +141,8 @@ answers_keep tests old (GetConditions s) reply new a = in_memory _ _ _ _ old rep
 answers_keep tests old (WaitBegin s deadline) reply new a = answered _ _ _ old reply new refl a
 answers_keep tests old (WaitLook s) reply new a = looked _ _ old s reply new a
 answers_keep tests old (WaitEnd s) reply new a = answered _ _ _ old reply new refl a
-answers_keep tests old (SetEnabledStatuses e mask) reply new a = answered _ _ _ old reply new (enabled_keeps old.dds.watch e mask) a
+answers_keep tests old (SetEnabledStatuses e mask) reply new a =
+    answered _ _ _ old reply new (enabled_keeps old.dds.watch e mask) a
 answers_keep tests old (GetStatusChanges e) reply new a = answered _ _ _ old reply new refl a
 
 move_keeps : (g : Grounds) (old : Part) (m : Move) (new : Part) → IsMove g old m new → SameHanded old.dds new.dds
@@ -143,39 +150,48 @@ move_keeps g old (Place w r to passed) new h = ap (λ (p : Part). handed p.dds) 
 move_keeps g old (Acknowledged w r to) new h = ap (λ (p : Part). handed p.dds) h.after
 move_keeps g old (Heard w r) new h = ap (λ (p : Part). handed p.dds) h.after
 
-moves_keep : (g : Grounds) (old : Part) (ms : List Move) (new : Part) → AreMoves g old ms new → SameHanded old.dds new.dds
+moves_keep : (g : Grounds) (old : Part) (ms : List Move) (new : Part) → AreMoves g old ms new
+    → SameHanded old.dds new.dds
 moves_keep g old [] new h = ap (λ (p : Part). handed p.dds) h
 moves_keep g old (m ∷ ms) new h = moves_keep g h.0 ms new h.2 ∙ move_keeps g old m h.0 h.1
 
-taken_keeps : (config : Config) (grounds : ℕ → Grounds) (peer : ℕ) (own : GuidPrefix) (index : ℕ) (at : Receiver) (submessages : List Submessage) (old : Part) (moves : List Move) (refused : Option ℕ) (new : Part)
+taken_keeps : (config : Config) (grounds : ℕ → Grounds) (peer : ℕ) (own : GuidPrefix) (index : ℕ) (at : Receiver)
+    (submessages : List Submessage) (old : Part) (moves : List Move) (refused : Option ℕ) (new : Part)
     → TakesUp config grounds peer own index at submessages old moves refused new → SameHanded old.dds new.dds
 taken_keeps config grounds peer own index at [] old moves refused new h = ap (λ (p : Part). handed p.dds) h.2
-taken_keeps config grounds peer own index at (s ∷ rest) old moves refused new (inl h) = ap (λ (p : Part). handed p.dds) h.2
+taken_keeps config grounds peer own index at (s ∷ rest) old moves refused new (inl h) =
+    ap (λ (p : Part). handed p.dds) h.2
 taken_keeps config grounds peer own index at (s ∷ rest) old moves refused new (inr h) =
     taken_keeps config grounds peer own (index + 1) (after_submessage own at s) rest h.2 h.1 refused new h.6
     ∙ moves_keep (grounds index) old h.0 h.2 h.4
 
-event_keeps : (config : Config) (tests : Tests) (old : Peer) (ev : Event) (reply : Reply) (new : Peer) → EventStep config tests old ev reply new → SameHanded old.part.dds new.part.dds
-event_keeps config tests old (event.Call call) reply new h = answers_keep tests old.part call reply new.part.dds h.0.answers
+event_keeps : (config : Config) (tests : Tests) (old : Peer) (ev : Event) (reply : Reply) (new : Peer)
+    → EventStep config tests old ev reply new → SameHanded old.part.dds new.part.dds
+event_keeps config tests old (event.Call call) reply new h =
+    answers_keep tests old.part call reply new.part.dds h.0.answers
 event_keeps config tests old (event.Tick now) Done new h = ap (λ (p : Part). handed p.dds) h.0.1
 event_keeps config tests old (event.Tick now) (Refused code) new h = ap (λ (p : Part). handed p.dds) h.0.1
 event_keeps config tests old (event.Tick now) reply new h = absurd h.0
 event_keeps config tests old (event.Deliver packet) (Reported report) new (inl t, delivered) =
     taken_keeps config _ old.number _ 0 _ t.message.submessages old.part report.moves report.refused new.part t.taken
-event_keeps config tests old (event.Deliver packet) (Reported report) new (inr t, delivered) = ap (λ (p : Part). handed p.dds) t.after
+event_keeps config tests old (event.Deliver packet) (Reported report) new (inr t, delivered) =
+    ap (λ (p : Part). handed p.dds) t.after
 event_keeps config tests old (event.Deliver packet) reply new h = absurd h
 
-pub keeps_filters : (config : Config) (tests : Tests) (old : Peer) (ev : Event) (output : Output) (new : Peer) → PeerStep config tests old ev output new
+pub keeps_filters : (config : Config) (tests : Tests) (old : Peer) (ev : Event) (output : Output) (new : Peer)
+    → PeerStep config tests old ev output new
     → new.part.dds.watch.filters ≡ old.part.dds.watch.filters
 keeps_filters config tests old ev output new h =
     ap (λ (x : Handed). x.filters) (event_keeps config tests old ev output.reply new h.step)
 
-pub keeps_listeners : (config : Config) (tests : Tests) (old : Peer) (ev : Event) (output : Output) (new : Peer) → PeerStep config tests old ev output new
+pub keeps_listeners : (config : Config) (tests : Tests) (old : Peer) (ev : Event) (output : Output) (new : Peer)
+    → PeerStep config tests old ev output new
     → new.part.dds.listeners ≡ old.part.dds.listeners
 keeps_listeners config tests old ev output new h =
     ap (λ (x : Handed). x.listeners) (event_keeps config tests old ev output.reply new h.step)
 
-opens_none : (peers : List PeerConfig) (n : ℕ) (ps : List PeerConfig) (i : ℕ) → (get_or (opening_peers peers n ps) i no_peer).part.dds.watch.filters ≡ 0
+opens_none : (peers : List PeerConfig) (n : ℕ) (ps : List PeerConfig) (i : ℕ)
+    → (get_or (opening_peers peers n ps) i no_peer).part.dds.watch.filters ≡ 0
 opens_none peers n [] zero = refl
 opens_none peers n [] (suc i) = refl
 opens_none peers n (p ∷ ps) zero = refl
@@ -187,29 +203,39 @@ opens_no_filters config zero = refl
 opens_no_filters config (suc n) = opens_none config.peers 1 config.peers n
 
 -- the same by a peer's index
-pub opens_no_filters_at : (config : Config) (i : ℕ) → (get_or (opening_world config).peers i no_peer).part.dds.watch.filters ≡ 0
+pub opens_no_filters_at : (config : Config) (i : ℕ)
+    → (get_or (opening_world config).peers i no_peer).part.dds.watch.filters ≡ 0
 opens_no_filters_at config i = opens_none config.peers 1 config.peers i
 
 nobody_yet : (peers : List PeerConfig) (n : ℕ) (ps : List PeerConfig) (i : ℕ)
     → (get_or (opening_peers peers n ps) i no_peer).part.dds.listeners
-    ≡ nobody (length (get_or (opening_peers peers n ps) i no_peer).part.rtps.writers) (length (get_or (opening_peers peers n ps) i no_peer).part.dds.readers)
+    ≡ nobody (length (get_or (opening_peers peers n ps) i no_peer).part.rtps.writers)
+    (length (get_or (opening_peers peers n ps) i no_peer).part.dds.readers)
 nobody_yet peers n [] zero = refl
 nobody_yet peers n [] (suc i) = refl
 nobody_yet peers n (p ∷ ps) zero =
     ap (λ (w : ℕ). nobody w (length p.readers)) (sym (length-map p.writers (opening_writer peers)))
     ∙ ap (λ (r : ℕ). nobody (length (map (opening_writer peers) p.writers)) r)
-    (sym (length-map p.readers (λ (r : ReaderConfig). let x : ReaderState = record { qos = reader_qos peers r; happened = []; seen = nothing_seen } in x)))
+    (sym (length-map p.readers
+    (λ (r : ReaderConfig). let x : ReaderState = record {
+      qos = reader_qos peers r;
+      happened = [];
+      seen = nothing_seen;
+    } in x)))
 nobody_yet peers n (p ∷ ps) (suc i) = nobody_yet peers (n + 1) ps i
 
 -- a peer opens without listeners
 pub opens_nobody : (config : Config) (n : ℕ)
     → (peer_at (opening_world config) n).part.dds.listeners
-    ≡ nobody (length (peer_at (opening_world config) n).part.rtps.writers) (length (peer_at (opening_world config) n).part.dds.readers)
+    ≡ nobody (length (peer_at (opening_world config) n).part.rtps.writers)
+    (length (peer_at (opening_world config) n).part.dds.readers)
 opens_nobody config zero = refl
 opens_nobody config (suc n) = nobody_yet config.peers 1 config.peers n
 
 -- and nobody takes a status there
-pub opens_untold_at : (config : Config) (i : ℕ) → NobodyTakes (get_or (opening_world config).peers i no_peer).part.dds.listeners
+pub opens_untold_at : (config : Config) (i : ℕ)
+    → NobodyTakes (get_or (opening_world config).peers i no_peer).part.dds.listeners
 opens_untold_at config i =
     subst (λ (p : Places). NobodyTakes p) (sym (nobody_yet config.peers 1 config.peers i))
-    (nobody_is_told (length (get_or (opening_world config).peers i no_peer).part.rtps.writers) (length (get_or (opening_world config).peers i no_peer).part.dds.readers))
+    (nobody_is_told (length (get_or (opening_world config).peers i no_peer).part.rtps.writers)
+    (length (get_or (opening_world config).peers i no_peer).part.dds.readers))

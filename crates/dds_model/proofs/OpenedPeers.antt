@@ -30,7 +30,8 @@ pub fresh_place : (rows : List WriterProxy) (w : Endpoint) (n : ℕ) → AreFres
 fresh_place [] w n f h = absurd cc
 fresh_place (p ∷ ps) w n f h = by (same_endpoint p.writer w) (λ e. fresh_place ps w n f.2 e) h
   where
-    by : (b : Bool) → (place_of ps w ≡ Some n → 1 ≡ n) → option_map (λ (x : WriterProxy). x.place) (cond b (Some p) (row ps w)) ≡ Some n
+    by : (b : Bool) → (place_of ps w ≡ Some n → 1 ≡ n)
+        → option_map (λ (x : WriterProxy). x.place) (cond b (Some p) (row ps w)) ≡ Some n
         → 1 ≡ n
     by true later e = sym f.0 ∙ same_Some p.place n e
     by false later e = later e
@@ -61,18 +62,21 @@ begun peer n = record { writer = record { peer = peer; number = n }; place = 1; 
 fresh_row : (topic peer n : ℕ) (ws : List WriterConfig) → AreFresh (writers_in topic peer n ws)
 fresh_row topic peer n [] = tt
 fresh_row topic peer n (x ∷ ws) =
-    fresh_or (x.topic == topic) (begun peer n) (writers_in topic peer (n + 1) ws) refl refl (fresh_row topic peer (n + 1) ws)
+    fresh_or (x.topic == topic) (begun peer n)
+    (writers_in topic peer (n + 1) ws) refl refl (fresh_row topic peer (n + 1) ws)
 
 fresh_rows : (topic peer : ℕ) (ps : List PeerConfig) → AreFresh (matched_writers topic peer ps)
 fresh_rows topic peer [] = tt
 fresh_rows topic peer (p ∷ ps) =
     let here : AreFresh (writers_in topic peer 1 p.writers) = fresh_row topic peer 1 p.writers in
-    fresh_both (writers_in topic peer 1 p.writers) (matched_writers topic (peer + 1) ps) here (fresh_rows topic (peer + 1) ps)
+    fresh_both (writers_in topic peer 1 p.writers) (matched_writers topic (peer + 1) ps) here
+    (fresh_rows topic (peer + 1) ps)
 
 abbrev reader_rows : List PeerConfig → List ReaderConfig → List (List WriterProxy)
 reader_rows peers rs = map (λ (x : ReaderConfig). matched_writers x.topic 1 peers) rs
 
-fresh_reader : (peers : List PeerConfig) (rs : List ReaderConfig) (r : ℕ) → AreFresh (get_or (reader_rows peers rs) r [])
+fresh_reader : (peers : List PeerConfig) (rs : List ReaderConfig) (r : ℕ)
+    → AreFresh (get_or (reader_rows peers rs) r [])
 fresh_reader peers [] r = tt
 fresh_reader peers (x ∷ rs) zero = fresh_rows x.topic 1 peers
 fresh_reader peers (x ∷ rs) (suc r) = fresh_reader peers rs r
@@ -130,7 +134,9 @@ abbrev opened_peer : Config → ℕ → Peer
 opened_peer config i = get_or (opening_peers config.peers 1 config.peers) i no_peer
 
 pub opens_known : (config : Config) (i number : ℕ)
-    → IsBacked config number (packets_of (opened_peer config i).delivered) (opened_peer config i).delivered (state_of (opened_peer config i))
+    → IsBacked config number (packets_of (opened_peer config i).delivered) (opened_peer config i).delivered
+    (state_of (opened_peer config i))
 opens_known config i number =
-    subst (λ (ds : List Delivery). IsBacked config number (packets_of ds) ds (state_of (opened_peer config i))) (sym (opening_delivered config.peers 1 config.peers i))
+    subst (λ (ds : List Delivery). IsBacked config number (packets_of ds) ds (state_of (opened_peer config i)))
+    (sym (opening_delivered config.peers 1 config.peers i))
     (backed config number (opened_peer config i) (peer_is_fresh config.peers 1 config.peers i))

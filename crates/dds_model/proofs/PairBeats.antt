@@ -41,7 +41,8 @@ any_is : (x : ℕ) (xs : List ℕ) → list_any (λ y. y == x) xs ≡ true → C
 any_is x [] h = cc
 any_is x (y ∷ ys) h = by (y == x) refl h (λ later. any_is x ys later)
   where
-    by : (b : Bool) → (y == x) ≡ b → (b || list_any (λ z. z == x) ys) ≡ true → (list_any (λ z. z == x) ys ≡ true → Contains ys x) → Contains (y ∷ ys) x
+    by : (b : Bool) → (y == x) ≡ b → (b || list_any (λ z. z == x) ys) ≡ true
+        → (list_any (λ z. z == x) ys ≡ true → Contains ys x) → Contains (y ∷ ys) x
     by true e k later = (0, omega arith, eqb-true y x e)
     by false e k later = later_in y ys x (later k)
 
@@ -73,8 +74,11 @@ behind_peer n (p ∷ ps) r a h low = by (same_endpoint p.reader r) refl h (λ k.
         (peer_first p.reader.peer (peers_of rest) (list_any (λ y. y == p.reader.peer) (peers_of rest)) refl)
     here e false is = cc
 
-    by : (b : Bool) → same_endpoint p.reader r ≡ b → option_map (λ (q : ReaderProxy). q.acknowledged) (cond b (Some p) (row_of (λ (q : ReaderProxy). q.reader) ps r)) ≡ Some a
-        → (acknowledged_of ps r ≡ Some a → Contains (peers_of rest) r.peer) → Contains (peers_of (cond (nat_le p.acknowledged n) (p ∷ rest) rest)) r.peer
+    by : (b : Bool) → same_endpoint p.reader r ≡ b
+        → option_map (λ (q : ReaderProxy). q.acknowledged)
+        (cond b (Some p) (row_of (λ (q : ReaderProxy). q.reader) ps r)) ≡ Some a
+        → (acknowledged_of ps r ≡ Some a → Contains (peers_of rest) r.peer)
+        → Contains (peers_of (cond (nat_le p.acknowledged n) (p ∷ rest) rest)) r.peer
     by true e k later =
         let is = same_Some p.acknowledged a k in
         let small : nat_le p.acknowledged n ≡ true = grind (arith, nat_tests, is, low) in
@@ -83,18 +87,26 @@ behind_peer n (p ∷ ps) r a h low = by (same_endpoint p.reader r) refl h (λ k.
 
 -- ---- what is due
 
-due_of : (config : Config) (peer : ℕ) (part : Part) (number to : ℕ) → heartbeats_used (own_writer part number) < 2 ^ 31 - 1 → Contains (peers_of (readers_behind (own_writer part number))) to
+due_of : (config : Config) (peer : ℕ) (part : Part) (number to : ℕ)
+    → heartbeats_used (own_writer part number) < 2 ^ 31 - 1
+    → Contains (peers_of (readers_behind (own_writer part number))) to
     → Contains (heartbeats_of config peer number (own_writer part number)) (heartbeat_due config peer part number to)
 due_of config peer part number to low among = by (nat_lt (heartbeats_used (own_writer part number)) (2 ^ 31 - 1)) left
   where
     left : nat_lt (heartbeats_used (own_writer part number)) (2 ^ 31 - 1) ≡ true
     left = grind (arith, nat_tests)
 
-    by : (b : Bool) → b ≡ true → Contains (if b then map (heartbeat_due config peer part number) (peers_of (readers_behind (own_writer part number))) else []) (heartbeat_due config peer part number to)
-    by true e = contains_map (heartbeat_due config peer part number) (peers_of (readers_behind (own_writer part number))) to among
+    by : (b : Bool) → b ≡ true
+        → Contains (if b then map (heartbeat_due config peer part number)
+        (peers_of (readers_behind (own_writer part number))) else []) (heartbeat_due config peer part number to)
+    by true e =
+        contains_map (heartbeat_due config peer part number)
+        (peers_of (readers_behind (own_writer part number))) to among
     by false e = cc
 
-among_all : (config : Config) (peer number : ℕ) (ws : List Writer) (k : ℕ) (d : Due) → k < length ws → Contains (heartbeats_of config peer (number + k) (get_or ws k no_writer)) d → Contains (heartbeats_from config peer number ws) d
+among_all : (config : Config) (peer number : ℕ) (ws : List Writer) (k : ℕ) (d : Due) → k < length ws
+    → Contains (heartbeats_of config peer (number + k) (get_or ws k no_writer)) d
+    → Contains (heartbeats_from config peer number ws) d
 among_all config peer number [] k d lt h = absurd (omega (arith, lt))
 among_all config peer number (w ∷ ws) zero d lt h =
     let here : number + 0 ≡ number = omega arith in
@@ -106,21 +118,30 @@ among_all config peer number (w ∷ ws) (suc k) d lt h =
     (among_all config peer (number + 1) ws k d (omega (arith, lt))
     (subst (λ (n : ℕ). Contains (heartbeats_of config peer n (get_or ws k no_writer)) d) over h))
 
-among_dues : (config : Config) (peer : ℕ) (part : Part) (number : ℕ) (d : Due) → HasNumber part.rtps.writers number → Contains (heartbeats_of config peer number (own_writer part number)) d → Contains (heartbeats_due config peer part) d
+among_dues : (config : Config) (peer : ℕ) (part : Part) (number : ℕ) (d : Due) → HasNumber part.rtps.writers number
+    → Contains (heartbeats_of config peer number (own_writer part number)) d
+    → Contains (heartbeats_due config peer part) d
 among_dues config peer part zero d has h = let low = has.0 in absurd (omega (arith, low))
 among_dues config peer part (suc i) d has h =
     let high = has.1 in
     let number : suc i ≡ 1 + i = omega arith in
-    among_all config peer 1 part.rtps.writers i d (omega (arith, high)) (subst (λ (n : ℕ). Contains (heartbeats_of config peer n (get_or part.rtps.writers i no_writer)) d) number h)
+    among_all config peer 1 part.rtps.writers i d (omega (arith, high))
+    (subst (λ (n : ℕ). Contains (heartbeats_of config peer n (get_or part.rtps.writers i no_writer)) d) number h)
 
 -- ---- what is sent
 
-pub beats_are_sent : (config : Config) (tests : AllTests) (writer reader : Endpoint) (acknowledged now : ℕ) (old new : WorldState) → check_refusal config.peers ≡ None → HasUsedCounts config old
-    → acknowledged_of (writer_at (machine_of old) writer).readers reader ≡ Some acknowledged → acknowledged ≤ length (writer_changes (writer_at (machine_of old) writer))
-    → heartbeats_used_at old writer < 2 ^ 31 - 1 → (step : RuledStep config tests old (world.Tick writer.peer now) Done 0 new) → HasBeatTo config writer reader.peer step.packets
+pub beats_are_sent : (config : Config) (tests : AllTests) (writer reader : Endpoint) (acknowledged now : ℕ)
+    (old new : WorldState) → check_refusal config.peers ≡ None → HasUsedCounts config old
+    → acknowledged_of (writer_at (machine_of old) writer).readers reader ≡ Some acknowledged
+    → acknowledged ≤ length (writer_changes (writer_at (machine_of old) writer))
+    → heartbeats_used_at old writer < 2 ^ 31 - 1
+    → (step : RuledStep config tests old (world.Tick writer.peer now) Done 0 new)
+    → HasBeatTo config writer reader.peer step.packets
 beats_are_sent config tests writer reader acknowledged now old new checked used row behind left step = record {
   packet = post due;
-  among = subst (λ (ps : List Packet). Contains ps (post due)) (sym (all_sent step.dues step.packets 0 refl step.are_sent)) (contains_map post step.dues due is_due);
+  among =
+      subst (λ (ps : List Packet). Contains ps (post due)) (sym (all_sent step.dues step.packets 0 refl step.are_sent))
+      (contains_map post step.dues due is_due);
   to = refl;
   count = (beat_of config writer.peer part writer.number).count;
   has = record {
@@ -165,7 +186,9 @@ beats_are_sent config tests writer reader acknowledged now old new checked used 
     is_due =
         subst (λ (ds : List Due). Contains ds due) (sym step.due)
         (among_dues config writer.peer part writer.number due here
-        (due_of config writer.peer part writer.number reader.peer left' (behind_peer (length (writer_changes (own_writer part writer.number))) (own_writer part writer.number).readers reader acknowledged row' behind')))
+        (due_of config writer.peer part writer.number reader.peer left'
+        (behind_peer (length (writer_changes (own_writer part writer.number)))
+        (own_writer part writer.number).readers reader acknowledged row' behind')))
 
     writable : IsWritable due.message
     writable = due_writable step.dues step.packets 0 due refl step.are_sent is_due

@@ -23,10 +23,14 @@ module _ (before : WorldState) (e : WorldEvent) (world : WorldState) (p : ℕ) w
   known_ended = (world_beside before e world).known p
 
   -- a writer's matched readers, and its changes
-  pub rows_ended : (k : ℕ) → (own_writer (peer_at (world_ended before e world) p).part k).readers ≡ (own_writer (peer_at world p).part k).readers
-  rows_ended k = alike_readers (own_writer (peer_at world p).part k) (own_writer (peer_at (world_ended before e world) p).part k) (alike.writers k)
+  pub rows_ended : (k : ℕ) → (own_writer (peer_at (world_ended before e world) p).part k).readers
+      ≡ (own_writer (peer_at world p).part k).readers
+  rows_ended k =
+      alike_readers (own_writer (peer_at world p).part k) (own_writer (peer_at (world_ended before e world) p).part k)
+      (alike.writers k)
 
-  pub changes_ended : (k : ℕ) → writer_changes (own_writer (peer_at (world_ended before e world) p).part k) ≡ writer_changes (own_writer (peer_at world p).part k)
+  pub changes_ended : (k : ℕ) → writer_changes (own_writer (peer_at (world_ended before e world) p).part k)
+      ≡ writer_changes (own_writer (peer_at world p).part k)
   changes_ended k = (alike.writers k).changes
 
   -- what a tick leaves
@@ -40,7 +44,8 @@ module _ (before : WorldState) (e : WorldEvent) (world : WorldState) (p : ℕ) w
   }
 
   -- the reader of a round
-  pub seat_ended : (m : Match) (w : Endpoint) (r : ℕ) → Seat m w r (state_of (peer_at world p)) → Seat m w r (state_of (peer_at (world_ended before e world) p))
+  pub seat_ended : (m : Match) (w : Endpoint) (r : ℕ) → Seat m w r (state_of (peer_at world p))
+      → Seat m w r (state_of (peer_at (world_ended before e world) p))
   seat_ended m w r s = record {
     rows = subst (λ (xs : List (List WriterProxy)). HasNumber xs r) (sym alike.rows) s.rows;
     there = subst (λ (n : ℕ). (1 ≤ r) × (r ≤ n)) (sym alike.readers) s.there;
@@ -51,7 +56,9 @@ module _ (before : WorldState) (e : WorldEvent) (world : WorldState) (p : ℕ) w
         ∙ (s.place ∙ ap (λ (k : Known). Some (k.tracked w r).place) (sym known_ended));
   }
 
-  pub standing_ended : (w : Endpoint) (r : ℕ) → standing_of (state_of (peer_at (world_ended before e world) p)) w r ≡ standing_of (state_of (peer_at world p)) w r
+  pub standing_ended : (w : Endpoint) (r : ℕ) → standing_of (state_of (peer_at (world_ended before e world) p)) w r
+      ≡ standing_of (state_of (peer_at world p)) w r
   standing_ended w r =
-      ap (λ (k : Known). standing (k.tracked w r) (own_reader (peer_at (world_ended before e world) p).part r).happened) known_ended
+      ap (λ (k : Known). standing (k.tracked w r) (own_reader (peer_at (world_ended before e world) p).part r).happened)
+      known_ended
       ∙ ap (λ (h : List Happening). standing ((peer_at world p).known.tracked w r) h) (alike.happened r)

@@ -10,7 +10,8 @@ use Rattle.dds_model.specs.Protocol.{AreGrouped}
 
 -- an answer to one more number is one more answer at most
 
-joined_few : (b : Bool) (n first last : ℕ) (rest : List Answer) → length (if b then Gap n last ∷ rest else Gap n n ∷ Gap first last ∷ rest) ≤ suc (suc (length rest))
+joined_few : (b : Bool) (n first last : ℕ) (rest : List Answer)
+    → length (if b then Gap n last ∷ rest else Gap n n ∷ Gap first last ∷ rest) ≤ suc (suc (length rest))
 joined_few true n first last rest = omega arith
 joined_few false n first last rest = omega arith
 
@@ -34,7 +35,8 @@ pub filter_few : (p : ℕ → Bool) (ns : List ℕ) → length (filter p ns) ≤
 filter_few p [] = omega arith
 filter_few p (n ∷ ns) = by (p n) (filter_few p ns)
   where
-    by : (b : Bool) → length (filter p ns) ≤ length ns → length (cond b (n ∷ filter p ns) (filter p ns)) ≤ suc (length ns)
+    by : (b : Bool) → length (filter p ns) ≤ length ns → length (cond b (n ∷ filter p ns) (filter p ns))
+        ≤ suc (length ns)
     by true h = omega (arith, h)
     by false h = omega (arith, h)
 
@@ -47,13 +49,17 @@ count_numbers from (suc count) = ap suc (count_numbers (from + 1) count)
 none_grouped : (groups : List (List Answer)) → AreGrouped [] groups → length groups ≡ 0
 none_grouped [] h = refl
 none_grouped (g ∷ gs) h =
-    let same = ap (λ (xs : List Answer). length xs) h.1 in let sum = length-append g h.0 in let some = h.2 in absurd (omega (arith, same, sum, some))
+    let same =
+    ap (λ (xs : List Answer). length xs) h.1 in let sum = length-append g h.0 in let some = h.2 in
+    absurd (omega (arith, same, sum, some))
 
-groups_few : (answers : List Answer) (groups : List (List Answer)) → AreGrouped answers groups → length groups * 8 ≤ length answers + 7
+groups_few : (answers : List Answer) (groups : List (List Answer)) → AreGrouped answers groups
+    → length groups * 8 ≤ length answers + 7
 groups_few answers [] h = omega arith
 groups_few answers (g ∷ gs) h = by h.0 h.1 h.4 h.5 (groups_few h.0 gs h.5)
   where
-    by : (rest : List Answer) → answers ≡ g ++ rest → (rest ≢ [] → length g ≡ 8) → AreGrouped rest gs → length gs * 8 ≤ length rest + 7 → suc (length gs) * 8 ≤ length answers + 7
+    by : (rest : List Answer) → answers ≡ g ++ rest → (rest ≢ [] → length g ≡ 8) → AreGrouped rest gs
+        → length gs * 8 ≤ length rest + 7 → suc (length gs) * 8 ≤ length answers + 7
     by [] is full grouped later =
         let none = none_grouped gs grouped in
         let same = ap (λ (xs : List Answer). length xs) is in
@@ -64,7 +70,8 @@ groups_few answers (g ∷ gs) h = by h.0 h.1 h.4 h.5 (groups_few h.0 gs h.5)
         let same = ap (λ (xs : List Answer). length xs) is in
         let sum = length-append g (a ∷ rest) in omega (arith, eight, same, sum, later)
 
-pub few_groups : (kept : ℕ → Bool) (set : NumberSet) (from to : ℕ) (groups : List (List Answer)) → AreGrouped (answers_to kept (requested set from to)) groups → length groups ≤ 32
+pub few_groups : (kept : ℕ → Bool) (set : NumberSet) (from to : ℕ) (groups : List (List Answer))
+    → AreGrouped (answers_to kept (requested set from to)) groups → length groups ≤ 32
 few_groups kept set from to groups h =
     let few = groups_few (answers_to kept (requested set from to)) groups h in
     let most = answers_few kept (requested set from to) in

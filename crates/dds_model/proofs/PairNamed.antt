@@ -31,7 +31,8 @@ named_row (p ∷ ps) r a h = by (same_endpoint p.reader r) refl h (λ k. named_r
     rest = map (λ (q : ReaderProxy). q.reader) ps
 
     by : (b : Bool) → same_endpoint p.reader r ≡ b
-        → option_map (λ (q : ReaderProxy). q.acknowledged) (cond b (Some p) (row_of (λ (q : ReaderProxy). q.reader) ps r)) ≡ Some a
+        → option_map (λ (q : ReaderProxy). q.acknowledged)
+        (cond b (Some p) (row_of (λ (q : ReaderProxy). q.reader) ps r)) ≡ Some a
         → (acknowledged_of ps r ≡ Some a → Contains rest r) → Contains (p.reader ∷ rest) r
     by true e k later = (0, omega arith, same_is p.reader r e)
     by false e k later = later_in p.reader rest r (later k)
@@ -46,7 +47,8 @@ record IsEnd (topic peer n : ℕ) (rs : List ReaderConfig) (x : Endpoint) : Type
   is : name_at peer (n + index) ≡ x
   of : end.topic ≡ topic
 
-later_end : (topic peer n : ℕ) (r : ReaderConfig) (rs : List ReaderConfig) (x : Endpoint) → IsEnd topic peer (n + 1) rs x
+later_end : (topic peer n : ℕ) (r : ReaderConfig) (rs : List ReaderConfig) (x : Endpoint)
+    → IsEnd topic peer (n + 1) rs x
     → IsEnd topic peer n (r ∷ rs) x
 later_end topic peer n r rs x e =
     let k = e.index in
@@ -68,7 +70,14 @@ an_end topic peer n (r ∷ rs) x h =
         ⊎_elim
         (λ (first : name_at peer n ≡ x).
         let here : n + 0 ≡ n = omega arith in
-        record { index = 0; end = r; at = refl; is = ap (λ (m : ℕ). name_at peer m) here ∙ first; of = eqb-true r.topic topic e })
+        record {
+          index = 0;
+          end = r;
+          at = refl;
+          is = ap (λ (m : ℕ). name_at peer m) here
+              ∙ first;
+          of = eqb-true r.topic topic e;
+        })
         (λ more. later more) (front_or_rest (name_at peer n) rest x k.0 k.1 k.2)
     by false e k later = later k
 
@@ -84,7 +93,13 @@ later_peer : (topic n : ℕ) (p : PeerConfig) (ps : List PeerConfig) (x : Endpoi
 later_peer topic n p ps x e =
     let k = e.index in
     let over : n + 1 + k ≡ n + suc k = omega arith in
-    record { index = suc e.index; peer = e.peer; at = e.at; end = subst (λ (m : ℕ). IsEnd topic m 1 e.peer.readers x) over e.end }
+    record {
+      index = suc e.index;
+      peer = e.peer;
+      at = e.at;
+      end = subst
+          (λ (m : ℕ). IsEnd topic m 1 e.peer.readers x) over e.end;
+    }
 
 an_end_of : (topic n : ℕ) (ps : List PeerConfig) (x : Endpoint) → Contains (names topic n ps) x → IsEndOf topic n ps x
 an_end_of topic n [] x h = let lt = h.1 in absurd (omega (arith, lt))
@@ -92,7 +107,13 @@ an_end_of topic n (p ∷ ps) x h =
     ⊎_elim
     (λ here.
     let first : n ≡ n + 0 = omega arith in
-    record { index = 0; peer = p; at = refl; end = subst (λ (m : ℕ). IsEnd topic m 1 p.readers x) first (an_end topic n 1 p.readers x here) })
+    record {
+      index = 0;
+      peer = p;
+      at = refl;
+      end = subst (λ (m : ℕ). IsEnd topic m 1 p.readers x) first
+          (an_end topic n 1 p.readers x here);
+    })
     (λ later. later_peer topic n p ps x (an_end_of topic (n + 1) ps x later))
     (Contains-append_cases (names_in topic n 1 p.readers) (names topic (n + 1) ps) x h)
 
@@ -114,7 +135,9 @@ pair_named config writer reader part a of row =
         is_reader = record {
           peer = found.peer;
           at_peer = at_peer;
-          same_prefix = ap (λ (p : PeerConfig). p.prefix) (sym (numbered_is config.peers reader.peer found.peer _ at_peer.0 at_peer.1));
+          same_prefix =
+              ap (λ (p : PeerConfig). p.prefix)
+              (sym (numbered_is config.peers reader.peer found.peer _ at_peer.0 at_peer.1));
           end = found.end.end;
           at_reader = at_reader;
           same_entity = refl;
@@ -146,5 +169,8 @@ pair_named config writer reader part a of row =
     at_reader =
         let i = found.end.index in
         let number : 1 + i ≡ reader.number = ap (λ (e : Endpoint). e.number) found.end.is in
-        let index : i ≡ reader.number - 1 = omega (arith, number) in
-        (omega (arith, number), subst (λ (k : ℕ). slice_get found.peer.readers k ≡ Some found.end.end) index found.end.at)
+        let index : i ≡ reader.number - 1 = omega (arith, number) in (
+          omega (arith, number),
+          subst (λ (k : ℕ). slice_get found.peer.readers k
+              ≡ Some found.end.end) index found.end.at,
+        )

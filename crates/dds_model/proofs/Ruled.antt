@@ -26,61 +26,82 @@ use Rattle.dds_model.proofs.Tables.{numbered-same, place-hits}
 -- ---- what is known after a step at one reader, as to one writer
 
 -- what has to hold of that writer and that reader
-pub record BackedAt (config : Config) (peer : ℕ) (packets : List (List ℕ)) (deliveries : List Delivery) (w : Endpoint) (r : ℕ) (state : State) : Type 0 where
+pub record BackedAt (config : Config) (peer : ℕ) (packets : List (List ℕ)) (deliveries : List Delivery) (w : Endpoint)
+    (r : ℕ) (state : State) : Type 0 where
   pub place : (p : ℕ) → place_of (own_proxies state.part r) w ≡ Some p → (state.known.tracked w r).place ≡ p
   pub claimed : IsClaimed config peer packets w r (state.known.tracked w r)
   pub newest : TookNone config peer deliveries w r (state.known.tracked w r)
-  pub heard : (count : ℤ) → heard_of (own_proxies state.part r) w ≡ Some (Some count) → is_later (state.known.tracked w r).count count ≡ false
+  pub heard : (count : ℤ) → heard_of (own_proxies state.part r) w ≡ Some (Some count)
+      → is_later (state.known.tracked w r).count count ≡ false
 
 -- all else is as it was
-pub backed_on : (config : Config) (peer : ℕ) (packets : List (List ℕ)) (deliveries : List Delivery) (v : Endpoint) (k : ℕ) (old new : State) → Frames old v k new → IsBacked config peer packets deliveries old
+pub backed_on : (config : Config) (peer : ℕ) (packets : List (List ℕ)) (deliveries : List Delivery) (v : Endpoint)
+    (k : ℕ) (old new : State) → Frames old v k new → IsBacked config peer packets deliveries old
     → BackedAt config peer packets deliveries v k new → IsBacked config peer packets deliveries new
 backed_on config peer packets deliveries v k old new f b h = record {
   place = λ w r p e.
-      ⊎_elim (λ same. subst (λ (x : Endpoint). (new.known.tracked x r).place ≡ p) (sym same.0) (subst (λ (n : ℕ). (new.known.tracked v n).place ≡ p) (sym same.1)
-      (h.place p (subst (λ (n : ℕ). place_of (own_proxies new.part n) v ≡ Some p) same.1 (subst (λ (x : Endpoint). place_of (own_proxies new.part r) x ≡ Some p) same.0 e)))))
-      (λ apart. ap (λ (t : Tracked). t.place) (f.tracked w r apart) ∙ b.place w r p (place_before w r apart (number_or_not r k) ∙ e))
+      ⊎_elim (λ same. subst (λ (x : Endpoint). (new.known.tracked x r).place ≡ p) (sym same.0)
+      (subst (λ (n : ℕ). (new.known.tracked v n).place ≡ p) (sym same.1)
+      (h.place p (subst (λ (n : ℕ). place_of (own_proxies new.part n) v ≡ Some p) same.1
+      (subst (λ (x : Endpoint). place_of (own_proxies new.part r) x ≡ Some p) same.0 e)))))
+      (λ apart. ap (λ (t : Tracked). t.place) (f.tracked w r apart)
+      ∙ b.place w r p (place_before w r apart (number_or_not r k) ∙ e))
       (pair_or_not w r v k);
   claimed = λ w r.
-      ⊎_elim (λ same. subst (λ (x : Endpoint). IsClaimed config peer packets x r (new.known.tracked x r)) (sym same.0) (subst (λ (n : ℕ). IsClaimed config peer packets v n (new.known.tracked v n)) (sym same.1) h.claimed))
-      (λ apart. subst (λ (t : Tracked). IsClaimed config peer packets w r t) (sym (f.tracked w r apart)) (b.claimed w r))
+      ⊎_elim (λ same. subst (λ (x : Endpoint). IsClaimed config peer packets x r (new.known.tracked x r)) (sym same.0)
+      (subst (λ (n : ℕ). IsClaimed config peer packets v n (new.known.tracked v n)) (sym same.1) h.claimed))
+      (λ apart. subst (λ (t : Tracked). IsClaimed config peer packets w r t) (sym (f.tracked w r apart))
+      (b.claimed w r))
       (pair_or_not w r v k);
   newest = λ w r there.
-      ⊎_elim (λ same. subst (λ (x : Endpoint). TookNone config peer deliveries x r (new.known.tracked x r)) (sym same.0) (subst (λ (n : ℕ). TookNone config peer deliveries v n (new.known.tracked v n)) (sym same.1) h.newest))
+      ⊎_elim (λ same. subst (λ (x : Endpoint). TookNone config peer deliveries x r (new.known.tracked x r)) (sym same.0)
+      (subst (λ (n : ℕ). TookNone config peer deliveries v n (new.known.tracked v n)) (sym same.1) h.newest))
       (λ apart.
       let count = f.count in
       let least = there.0 in
       let most = there.1 in
       let there_before : HasNumber old.part.rtps.readers r = (least, omega (arith, count, most)) in
-      subst (λ (t : Tracked). TookNone config peer deliveries w r t) (sym (f.tracked w r apart)) (b.newest w r there_before))
+      subst (λ (t : Tracked). TookNone config peer deliveries w r t) (sym (f.tracked w r apart))
+      (b.newest w r there_before))
       (pair_or_not w r v k);
   heard = λ w r count e.
-      ⊎_elim (λ same. subst (λ (x : Endpoint). is_later (new.known.tracked x r).count count ≡ false) (sym same.0) (subst (λ (n : ℕ). is_later (new.known.tracked v n).count count ≡ false) (sym same.1)
-      (h.heard count (subst (λ (n : ℕ). heard_of (own_proxies new.part n) v ≡ Some (Some count)) same.1 (subst (λ (x : Endpoint). heard_of (own_proxies new.part r) x ≡ Some (Some count)) same.0 e)))))
-      (λ apart. ap (λ (t : Tracked). is_later t.count count) (f.tracked w r apart) ∙ b.heard w r count (heard_before w r apart (number_or_not r k) ∙ e))
+      ⊎_elim (λ same. subst (λ (x : Endpoint). is_later (new.known.tracked x r).count count ≡ false) (sym same.0)
+      (subst (λ (n : ℕ). is_later (new.known.tracked v n).count count ≡ false) (sym same.1)
+      (h.heard count (subst (λ (n : ℕ). heard_of (own_proxies new.part n) v ≡ Some (Some count)) same.1
+      (subst (λ (x : Endpoint). heard_of (own_proxies new.part r) x ≡ Some (Some count)) same.0 e)))))
+      (λ apart. ap (λ (t : Tracked). is_later t.count count) (f.tracked w r apart)
+      ∙ b.heard w r count (heard_before w r apart (number_or_not r k) ∙ e))
       (pair_or_not w r v k);
 }
   where
-    place_before : (w : Endpoint) (r : ℕ) → ((w ≡ v) × (r ≡ k) → ⊥) → (r ≡ k) ⊎ (r ≡ k → ⊥) → place_of (own_proxies old.part r) w ≡ place_of (own_proxies new.part r) w
+    place_before : (w : Endpoint) (r : ℕ) → ((w ≡ v) × (r ≡ k) → ⊥) → (r ≡ k) ⊎ (r ≡ k → ⊥)
+        → place_of (own_proxies old.part r) w ≡ place_of (own_proxies new.part r) w
     place_before w r apart (inl e) =
-        subst (λ (n : ℕ). place_of (own_proxies old.part n) w ≡ place_of (own_proxies new.part n) w) (sym e) (sym (f.places w (λ same. apart (same, e))))
+        subst (λ (n : ℕ). place_of (own_proxies old.part n) w ≡ place_of (own_proxies new.part n) w) (sym e)
+        (sym (f.places w (λ same. apart (same, e))))
     place_before w r apart (inr n) = ap (λ (xs : List WriterProxy). place_of xs w) (sym (f.proxies r n))
 
-    heard_before : (w : Endpoint) (r : ℕ) → ((w ≡ v) × (r ≡ k) → ⊥) → (r ≡ k) ⊎ (r ≡ k → ⊥) → heard_of (own_proxies old.part r) w ≡ heard_of (own_proxies new.part r) w
+    heard_before : (w : Endpoint) (r : ℕ) → ((w ≡ v) × (r ≡ k) → ⊥) → (r ≡ k) ⊎ (r ≡ k → ⊥)
+        → heard_of (own_proxies old.part r) w ≡ heard_of (own_proxies new.part r) w
     heard_before w r apart (inl e) =
-        subst (λ (n : ℕ). heard_of (own_proxies old.part n) w ≡ heard_of (own_proxies new.part n) w) (sym e) (sym (f.heard w (λ same. apart (same, e))))
+        subst (λ (n : ℕ). heard_of (own_proxies old.part n) w ≡ heard_of (own_proxies new.part n) w) (sym e)
+        (sym (f.heard w (λ same. apart (same, e))))
     heard_before w r apart (inr n) = ap (λ (xs : List WriterProxy). heard_of xs w) (sym (f.proxies r n))
 
 -- ---- the place goes on
 
 -- what the reader may rest on, the packets claim
-pub says_as_much : (config : Config) (before : List Delivery) (packet : List ℕ) (peer index : ℕ) (w : Endpoint) (r : ℕ) (t : Tracked) → IsClaimed config peer (packet ∷ packets_of before) w r t
+pub says_as_much : (config : Config) (before : List Delivery) (packet : List ℕ) (peer index : ℕ) (w : Endpoint) (r : ℕ)
+    (t : Tracked) → IsClaimed config peer (packet ∷ packets_of before) w r t
     → SayAsMuch (known t) (as_to (claimed config before packet peer index) w r) t.place
-says_as_much config before packet peer index w r t k = record { is_change = λ n c low h. k.change n c low h; may_pass = λ n low h. k.pass n low h }
+says_as_much config before packet peer index w r t k =
+    record { is_change = λ n c low h. k.change n c low h; may_pass = λ n low h. k.pass n low h }
 
 -- the moves that it makes are legal
-pub goes_moves : (config : Config) (before : List Delivery) (packet : List ℕ) (peer index : ℕ) (old : State) (w : Endpoint) (r : ℕ) (t : Tracked) (moves : List Move) (new : State)
-    → IsClaimed config peer (packet ∷ packets_of before) w r t → (h : Goes old w r t moves new) → t.place ≡ h.place → AreMoves (claimed config before packet peer index) old.part moves new.part
+pub goes_moves : (config : Config) (before : List Delivery) (packet : List ℕ) (peer index : ℕ) (old : State)
+    (w : Endpoint) (r : ℕ) (t : Tracked) (moves : List Move) (new : State)
+    → IsClaimed config peer (packet ∷ packets_of before) w r t → (h : Goes old w r t moves new) → t.place ≡ h.place
+    → AreMoves (claimed config before packet peer index) old.part moves new.part
 goes_moves config before packet peer index old w r t moves new k h at = by (nat_lt h.place h.to) refl
   where
     g : Grounds
@@ -93,7 +114,9 @@ goes_moves config before packet peer index old w r t moves new k h at = by (nat_
     end = record { place = h.to; happened = h.happened }
 
     way : GoesTo (known t) (match_of old.part r h.publication) from h.passed h.to end
-    way = subst (λ (n : ℕ). GoesTo (known t) (match_of old.part r h.publication) (record { place = n; happened = (own_reader old.part r).happened }) h.passed h.to end) at h.advances.goes
+    way =
+        subst (λ (n : ℕ). GoesTo (known t) (match_of old.part r h.publication)
+        (record { place = n; happened = (own_reader old.part r).happened }) h.passed h.to end) at h.advances.goes
 
     part_is : new.part ≡ at_reader old.part r (with_place (own_proxies old.part r) w h.to) h.happened
     part_is = ap (λ (s : State). s.part) h.after
@@ -105,7 +128,11 @@ goes_moves config before packet peer index old w r t moves new k h at = by (nat_
       matched = h.matched;
       forward = lt;
       end = end;
-      goes = goes_on (known t) (as_to g w r) h.place (subst (λ (n : ℕ). SayAsMuch (known t) (as_to g w r) n) at (says_as_much config before packet peer index w r t k)) (match_of old.part r h.publication) from h.passed h.to end (omega arith) way;
+      goes =
+          goes_on (known t) (as_to g w r) h.place
+          (subst (λ (n : ℕ). SayAsMuch (known t) (as_to g w r) n) at
+          (says_as_much config before packet peer index w r t k))
+          (match_of old.part r h.publication) from h.passed h.to end (omega arith) way;
       after = part_is;
     }
 
@@ -116,37 +143,49 @@ goes_moves config before packet peer index old w r t moves new k h at = by (nat_
         let happened : h.happened ≡ (own_reader old.part r).happened = ap (λ (p : Position). p.happened) still.0 in
         part_is
         ∙ (ap (λ (n : ℕ). at_reader old.part r (with_place (own_proxies old.part r) w n) h.happened) to
-        ∙ (ap (λ (xs : List Happening). at_reader old.part r (with_place (own_proxies old.part r) w h.place) xs) happened ∙ at_reader_same old.part r w h.place h.matched.at))
+        ∙ (ap (λ (xs : List Happening). at_reader old.part r (with_place (own_proxies old.part r) w h.place) xs)
+        happened ∙ at_reader_same old.part r w h.place h.matched.at))
 
     by : (b : Bool) → nat_lt h.place h.to ≡ b → AreMoves g old.part moves new.part
     by true e =
-        let made : moves ≡ Place w r h.to h.passed ∷ [] = h.moves_are ∙ ap (λ (b : Bool). if b then Place w r h.to h.passed ∷ [] else []) e in
-        subst (λ (ms : List Move). AreMoves g old.part ms new.part) (sym made) (new.part, legal (grind (arith, nat_tests)), refl)
+        let made : moves ≡ Place w r h.to h.passed ∷ [] =
+        h.moves_are ∙ ap (λ (b : Bool). if b then Place w r h.to h.passed ∷ [] else []) e in
+        subst (λ (ms : List Move). AreMoves g old.part ms new.part) (sym made)
+        (new.part, legal (grind (arith, nat_tests)), refl)
     by false e =
         let made : moves ≡ [] = h.moves_are ∙ ap (λ (b : Bool). if b then Place w r h.to h.passed ∷ [] else []) e in
         subst (λ (ms : List Move). AreMoves g old.part ms new.part) (sym made) (stays (grind (arith, nat_tests)))
 
 -- other readers and writers see nothing of it
-pub goes_frames : (old : State) (w : Endpoint) (r : ℕ) (t : Tracked) (moves : List Move) (new : State) → Goes old w r t moves new → Frames old w r new
+pub goes_frames : (old : State) (w : Endpoint) (r : ℕ) (t : Tracked) (moves : List Move) (new : State)
+    → Goes old w r t moves new → Frames old w r new
 goes_frames old w r t moves new h =
     subst (λ (s : State). Frames old w r s) (sym h.after)
-    (frames_at old w r (λ (p : WriterProxy). record p { place = h.to }) (λ p. refl) h.happened (with_tracked old.known w r h.known) (has_reader old.part r h.place w h.matched.at) (λ v k apart. tracked_elsewhere old.known w r h.known v k apart))
+    (frames_at old w r (λ (p : WriterProxy). record p { place = h.to }) (λ p. refl) h.happened
+    (with_tracked old.known w r h.known) (has_reader old.part r h.place w h.matched.at)
+    (λ v k apart. tracked_elsewhere old.known w r h.known v k apart))
 
 -- what is known stays backed
-pub goes_backed : (config : Config) (peer : ℕ) (packets : List (List ℕ)) (deliveries : List Delivery) (old : State) (w : Endpoint) (r : ℕ) (t : Tracked) (moves : List Move) (new : State)
-    → IsClaimed config peer packets w r t → TookNone config peer deliveries w r t → ((count : ℤ) → heard_of (own_proxies old.part r) w ≡ Some (Some count) → is_later t.count count ≡ false)
+pub goes_backed : (config : Config) (peer : ℕ) (packets : List (List ℕ)) (deliveries : List Delivery) (old : State)
+    (w : Endpoint) (r : ℕ) (t : Tracked) (moves : List Move) (new : State)
+    → IsClaimed config peer packets w r t → TookNone config peer deliveries w r t
+    → ((count : ℤ) → heard_of (own_proxies old.part r) w ≡ Some (Some count) → is_later t.count count ≡ false)
     → Goes old w r t moves new → BackedAt config peer packets deliveries w r new
 goes_backed config peer packets deliveries old w r t moves new k newest heard h =
     subst (λ (s : State). BackedAt config peer packets deliveries w r s) (sym h.after) (record {
       place = λ p e.
-          let at : Some h.to ≡ Some p = sym (ap (λ (xs : List WriterProxy). place_of xs w) rows ∙ place-hits (own_proxies old.part r) w h.place h.to h.matched.at) ∙ e in
+          let at : Some h.to ≡ Some p =
+          sym (ap (λ (xs : List WriterProxy). place_of xs w) rows
+          ∙ place-hits (own_proxies old.part r) w h.place h.to h.matched.at) ∙ e in
           ap (λ (x : Tracked). x.place) here ∙ (h.advances.place ∙ same_Some h.to p at);
       claimed = subst (λ (x : Tracked). IsClaimed config peer packets w r x) (sym here)
-          (advanced_claimed config peer packets w r (match_of old.part r h.publication) t (own_reader old.part r).happened h.to h.passed h.known h.happened k h.advances);
+          (advanced_claimed config peer packets w r (match_of old.part r h.publication) t
+          (own_reader old.part r).happened h.to h.passed h.known h.happened k h.advances);
       newest = λ d count among applied. ap (λ (x : Option ℤ). is_later x count) counts ∙ newest d count among applied;
       heard = λ count e.
           ap (λ (x : Option ℤ). is_later x count) counts
-          ∙ heard count (sym (heard_still (own_proxies old.part r) w h.to) ∙ (ap (λ (xs : List WriterProxy). heard_of xs w) (sym rows) ∙ e));
+          ∙ heard count (sym (heard_still (own_proxies old.part r) w h.to)
+          ∙ (ap (λ (xs : List WriterProxy). heard_of xs w) (sym rows) ∙ e));
     })
   where
     here : (with_tracked old.known w r h.known).tracked w r ≡ h.known
@@ -155,8 +194,11 @@ goes_backed config peer packets deliveries old w r t moves new k newest heard h 
     counts : ((with_tracked old.known w r h.known).tracked w r).count ≡ t.count
     counts = ap (λ (x : Tracked). x.count) here ∙ h.advances.stays.count
 
-    rows : own_proxies (at_reader old.part r (with_place (own_proxies old.part r) w h.to) h.happened) r ≡ with_place (own_proxies old.part r) w h.to
-    rows = numbered-same old.part.rtps.readers r (with_place (own_proxies old.part r) w h.to) [] (has_reader old.part r h.place w h.matched.at)
+    rows : own_proxies (at_reader old.part r (with_place (own_proxies old.part r) w h.to) h.happened) r
+        ≡ with_place (own_proxies old.part r) w h.to
+    rows =
+        numbered-same old.part.rtps.readers r (with_place (own_proxies old.part r) w h.to) []
+        (has_reader old.part r h.place w h.matched.at)
 
 -- ---- counts of HEARTBEATs
 

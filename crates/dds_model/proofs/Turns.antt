@@ -7,8 +7,10 @@ use Rattle.dds_model.specs.Protocol.{Due, State, InTurn}
 pub in_turn : {X : Type 0} (R : State → List Due → State → Type 0) → ((s : State) → R s [] s)
     → ((a b c : State) (first rest : List Due) → R a first b → R b rest c → R a (first ++ rest) c)
     → (step : X → State → List Move → List Due → State → Type 0)
-    → ((x : X) (old : State) (moves : List Move) (dues : List Due) (new : State) → step x old moves dues new → R old dues new)
-    → (xs : List X) (old : State) (moves : List Move) (dues : List Due) (new : State) → InTurn step xs old moves dues new
+    → ((x : X) (old : State) (moves : List Move) (dues : List Due) (new : State) → step x old moves dues new
+    → R old dues new)
+    → (xs : List X) (old : State) (moves : List Move) (dues : List Due) (new : State)
+    → InTurn step xs old moves dues new
     → R old dues new
 in_turn R none on step each [] old moves dues new h =
     subst (λ (s : State). R old dues s) (sym h.2) (subst (λ (ds : List Due). R old ds old) (sym h.1) (none old))

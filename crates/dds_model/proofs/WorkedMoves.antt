@@ -38,16 +38,39 @@ pair history = record { peers = peer_1 history ∷ peer_2 ∷ [] }
 -- w1, with its limit, what happened there and what r1 has acknowledged
 abbrev pub writing : HistoryQos → Option ℕ → List Written → ℕ → Writer
 writing policy max_samples happened acknowledged =
-    record { policy = policy; max_samples = max_samples; lease = None; autodispose = true; written = happened; readers = record { reader = r1; acknowledged = acknowledged } ∷ [] }
+    record {
+      policy = policy;
+      max_samples = max_samples;
+      lease = None;
+      autodispose = true;
+      written = happened;
+      readers = record { reader = r1; acknowledged = acknowledged } ∷ [];
+    }
 
 abbrev pub part_1 : Writer → Part
-part_1 w = record { rtps = record { writers = w ∷ []; readers = [] }; dds = record { moment = 0; readers = []; watch = nothing_watched 1 0; listeners = nobody 1 0 } }
+part_1 w =
+    record {
+      rtps = record { writers = w ∷ []; readers = [] };
+      dds = record { moment = 0; readers = []; watch = nothing_watched 1 0; listeners = nobody 1 0 };
+    }
 
 -- r1 at this place, with the count by which it heard w1 last, and what happened there
 abbrev pub part_2 : ℕ → Option ℤ → List Happening → Part
 part_2 place heard happened = record {
   rtps = record { writers = []; readers = (record { writer = w1; place = place; heard = heard } ∷ []) ∷ [] };
-  dds = record { moment = 0; readers = record { qos = reader_qos (pair KeepAll).peers (reader r1_id 0); happened = happened; seen = nothing_seen } ∷ []; watch = nothing_watched 0 1; listeners = nobody 0 1 };
+  dds =
+      record {
+        moment = 0;
+        readers = record {
+          qos = reader_qos (pair KeepAll).peers
+              (reader r1_id 0);
+          happened = happened;
+          seen = nothing_seen;
+        }
+            ∷ [];
+        watch = nothing_watched 0 1;
+        listeners = nobody 0 1;
+      };
 }
 
 abbrev pub machine : Writer → Part → Machine
@@ -65,7 +88,8 @@ came number change = Came (record { writer = 1; number = number; change = change
 
 -- a delivery at peer 2, where w1 is so, makes these moves
 abbrev pub Delivers : Writer → Part → List Move → Part → Type 0
-Delivers w old moves new = DeliveryStep (grounds_of (machine w old) 2) old (Reported (record { moves = moves; refused = None })) new
+Delivers w old moves new =
+    DeliveryStep (grounds_of (machine w old) 2) old (Reported (record { moves = moves; refused = None })) new
 
 -- what a delivery at peer 2 may rest on, where w1 is so
 abbrev grounds_at_2 : Writer → Grounds
@@ -106,8 +130,11 @@ place_goes grounds place to old happened passed forward goes = (
 )
 
 -- the change at r1's place comes, where there is room for it, and the place is then one more
-pub comes_next : (grounds : Grounds) (n : ℕ) (change : Change) (happened : List Happening) → grounds.is_change w1 1 n change → has_room (reader_qos (pair KeepAll).peers (reader r1_id 0)) happened (came n change) ≡ true
-    → AreMoves grounds (part_2 n None happened) (Place w1 1 (n + 1) [] ∷ []) (part_2 (n + 1) None (came n change ∷ happened))
+pub comes_next : (grounds : Grounds) (n : ℕ) (change : Change) (happened : List Happening)
+    → grounds.is_change w1 1 n change
+    → has_room (reader_qos (pair KeepAll).peers (reader r1_id 0)) happened (came n change) ≡ true
+    → AreMoves grounds (part_2 n None happened) (Place w1 1 (n + 1) [] ∷ [])
+    (part_2 (n + 1) None (came n change ∷ happened))
 comes_next grounds n change happened is_change room =
     let one : Position = position (n + 1) (came n change ∷ happened) in
     place_goes grounds n (n + 1) happened (came n change ∷ happened) [] (omega arith)
@@ -134,11 +161,15 @@ abbrev the_match : Match
 the_match = match_of (part_2 1 None []) 1 1
 
 -- no change comes that the writer has not made, and none out of its turn
-comes-not_4 : (happened : List Happening) (change : Change) (new : Position) → Comes (as_to (grounds_at_2 kept) w1 1) the_match (position 4 happened) change new → ⊥
+comes-not_4 : (happened : List Happening) (change : Change) (new : Position)
+    → Comes (as_to (grounds_at_2 kept) w1 1) the_match (position 4 happened) change new → ⊥
 comes-not_4 happened change new h = let is = h.is_change in absurd cc
 
-comes-not_2_before_1 : (new : Position) → Comes (as_to (grounds_at_2 kept) w1 1) the_match (position 1 []) (write_of 1 2) new → ⊥
-comes-not_2_before_1 new h = let value = ap (λ (c : Change). slice_index c.value 0) (some_is (write_of 1 1) (write_of 1 2) h.is_change) in absurd (omega arith)
+comes-not_2_before_1 : (new : Position)
+    → Comes (as_to (grounds_at_2 kept) w1 1) the_match (position 1 []) (write_of 1 2) new → ⊥
+comes-not_2_before_1 new h =
+    let value = ap (λ (c : Change). slice_index c.value 0)
+    (some_is (write_of 1 1) (write_of 1 2) h.is_change) in absurd (omega arith)
 
 -- a place goes forward alone
 place-not_to_itself : (new : Part) → Places (grounds_at_2 kept) (part_2 2 None came_1) w1 1 2 [] new → ⊥
@@ -151,7 +182,8 @@ run first last = record { first = first; last = last }
 
 -- a writer that keeps the last one of each key: 2 is dropped
 abbrev pub one_dropped : Writer
-one_dropped = writing (KeepLast 1) None (Changed (write_of 2 3) ∷ Changed (write_of 2 2) ∷ Changed (write_of 1 1) ∷ []) 1
+one_dropped =
+    writing (KeepLast 1) None (Changed (write_of 2 3) ∷ Changed (write_of 2 2) ∷ Changed (write_of 1 1) ∷ []) 1
 
 abbrev lost_2 : List Happening
 lost_2 = came 3 (write_of 2 3) ∷ Passed 1 2 2 ∷ came_1
@@ -177,7 +209,13 @@ place-passes_2 =
       position 2 came_1,
       position 3 (Passed 1 2 2 ∷ came_1),
       ([], refl, refl),
-      record { begins = refl; ordered = omega arith; may_pass = each_of_one (Dropped one_dropped) 2 refl; after = refl },
+      record {
+        begins = refl;
+        ordered = omega arith;
+        may_pass = each_of_one
+            (Dropped one_dropped) 2 refl;
+        after = refl;
+      },
       tt,
       (write_of 2 3 ∷ [], (position 4 lost_2, record { is_change = refl; room = refl; after = refl }, refl), refl),
     )
@@ -187,30 +225,44 @@ place-passes_2 =
 abbrev two_dropped : Writer
 two_dropped = writing (KeepLast 1) None (Changed (write_of 2 4) ∷ one_dropped.written) 1
 
-passes-2_and_3 : Passes (as_to (grounds_at_2 two_dropped) w1 1) the_match (position 2 came_1) (run 2 3) (position 4 (Passed 1 2 3 ∷ came_1))
-passes-2_and_3 = record { begins = refl; ordered = omega arith; may_pass = each_of_2_and_3 (Dropped two_dropped) refl refl; after = refl }
+passes-2_and_3 : Passes (as_to (grounds_at_2 two_dropped) w1 1) the_match (position 2 came_1) (run 2 3)
+    (position 4 (Passed 1 2 3 ∷ came_1))
+passes-2_and_3 =
+    record {
+      begins = refl;
+      ordered = omega arith;
+      may_pass = each_of_2_and_3
+          (Dropped two_dropped) refl refl;
+      after = refl;
+    }
 
 -- a run ends where a change is not dropped, and begins at the place
-passes-not_4 : (old new : Position) (first : ℕ) → first ≤ 4 → Passes (as_to (grounds_at_2 two_dropped) w1 1) the_match old (run first 4) new → ⊥
+passes-not_4 : (old new : Position) (first : ℕ) → first ≤ 4
+    → Passes (as_to (grounds_at_2 two_dropped) w1 1) the_match old (run first 4) new → ⊥
 passes-not_4 old new first low h = let dropped = h.may_pass 4 low (omega arith) in absurd cc
 
-passes-not_from_3 : (happened : List Happening) (new : Position) → Passes (as_to (grounds_at_2 two_dropped) w1 1) the_match (position 2 happened) (run 3 3) new → ⊥
+passes-not_from_3 : (happened : List Happening) (new : Position)
+    → Passes (as_to (grounds_at_2 two_dropped) w1 1) the_match (position 2 happened) (run 3 3) new → ⊥
 passes-not_from_3 happened new h = let begins = h.begins in absurd (omega arith)
 
 -- of a writer that keeps all no change is passed over
-passes-none_of_keep_all : (old new : Position) (first last : ℕ) → Passes (as_to (grounds_at_2 kept) w1 1) the_match old (run first last) new → ⊥
+passes-none_of_keep_all : (old new : Position) (first last : ℕ)
+    → Passes (as_to (grounds_at_2 kept) w1 1) the_match old (run first last) new → ⊥
 passes-none_of_keep_all old new first last h = let dropped = h.may_pass first (omega arith) h.ordered in absurd cc
 
 -- ---- runs that are apart
 
 -- four changes of which 1 and 3 are dropped: two runs, and 2 comes between them
 abbrev apart : Writer
-apart = writing (KeepLast 1) None (Changed (write_of 1 4) ∷ Changed (write_of 1 3) ∷ Changed (write_of 2 2) ∷ Changed (write_of 1 1) ∷ []) 1
+apart =
+    writing (KeepLast 1) None (Changed (write_of 1 4) ∷ Changed (write_of 1 3) ∷ Changed (write_of 2 2)
+    ∷ Changed (write_of 1 1) ∷ []) 1
 
 abbrev lost_1_and_3 : List Happening
 lost_1_and_3 = came 4 (write_of 1 4) ∷ Passed 1 3 3 ∷ came 2 (write_of 2 2) ∷ Passed 1 1 1 ∷ []
 
-goes-over_two_runs : GoesTo (as_to (grounds_at_2 apart) w1 1) the_match (position 1 []) (run 1 1 ∷ run 3 3 ∷ []) 5 (position 5 lost_1_and_3)
+goes-over_two_runs : GoesTo (as_to (grounds_at_2 apart) w1 1) the_match (position 1 []) (run 1 1 ∷ run 3 3 ∷ []) 5
+    (position 5 lost_1_and_3)
 goes-over_two_runs = (
   position 1 [],
   position 2 (Passed 1 1 1 ∷ []),
@@ -220,7 +272,15 @@ goes-over_two_runs = (
   (
     position 3 (came 2 (write_of 2 2) ∷ Passed 1 1 1 ∷ []),
     position 4 (Passed 1 3 3 ∷ came 2 (write_of 2 2) ∷ Passed 1 1 1 ∷ []),
-    (write_of 2 2 ∷ [], (position 3 (came 2 (write_of 2 2) ∷ Passed 1 1 1 ∷ []), record { is_change = refl; room = refl; after = refl }, refl), refl),
+    (
+      write_of 2 2 ∷ [],
+      (
+        position 3 (came 2 (write_of 2 2) ∷ Passed 1 1 1 ∷ []),
+        record { is_change = refl; room = refl; after = refl },
+        refl,
+      ),
+      refl,
+    ),
     record { begins = refl; ordered = omega arith; may_pass = each_of_one (Dropped apart) 3 refl; after = refl },
     tt,
     (write_of 1 4 ∷ [], (position 5 lost_1_and_3, record { is_change = refl; room = refl; after = refl }, refl), refl),
@@ -231,18 +291,21 @@ goes-over_two_runs = (
 apart-not_touching : IsApart (run 1 1) (run 2 2 ∷ []) → ⊥
 apart-not_touching h = absurd (omega (arith, h))
 
-goes-not_over_touching_runs : (grounds : WriterGrounds) (match : Match) (old new : Position) (to : ℕ) → GoesTo grounds match old (run 1 1 ∷ run 2 2 ∷ []) to new → ⊥
+goes-not_over_touching_runs : (grounds : WriterGrounds) (match : Match) (old new : Position) (to : ℕ)
+    → GoesTo grounds match old (run 1 1 ∷ run 2 2 ∷ []) to new → ⊥
 goes-not_over_touching_runs grounds match old new to h = absurd (omega (arith, h.4))
 
 -- a place never stands within a run that it went over
-come-forward : (grounds : WriterGrounds) (match : Match) (old : Position) (changes : List Change) (new : Position) → AllCome grounds match old changes new → old.place ≤ new.place
+come-forward : (grounds : WriterGrounds) (match : Match) (old : Position) (changes : List Change) (new : Position)
+    → AllCome grounds match old changes new → old.place ≤ new.place
 come-forward grounds match old [] new h = let same = ap (λ (p : Position). p.place) h in omega arith
 come-forward grounds match old (change ∷ changes) new h =
     let next = ap (λ (p : Position). p.place) h.1.after in
     let rest = come-forward grounds match h.0 changes new h.2 in
     omega arith
 
-goes-behind_the_run : (grounds : WriterGrounds) (match : Match) (old new : Position) (to : ℕ) → GoesTo grounds match old (run 1 2 ∷ []) to new → 3 ≤ to
+goes-behind_the_run : (grounds : WriterGrounds) (match : Match) (old new : Position) (to : ℕ)
+    → GoesTo grounds match old (run 1 2 ∷ []) to new → 3 ≤ to
 goes-behind_the_run grounds match old new to h =
     let behind = ap (λ (p : Position). p.place) h.3.after in
     let rest = come-forward grounds match h.1 h.5.0 new h.5.1 in

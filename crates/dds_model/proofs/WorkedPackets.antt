@@ -24,7 +24,8 @@ use Rattle.dds_model.proofs.WorkedReceivers.{prefix_1, prefix_2, w1_id, r1_id, w
 
 -- an INFO_DST and a submessage with 28 octets of body, from one peer to the other
 abbrev packet : GuidPrefix → GuidPrefix → ℕ → ℕ → List ℕ → List ℕ
-packet from to id flags body = codes "RTPS" ++ 2 ∷ 5 ∷ 0 ∷ 0 ∷ (from.0 ++ 0x0e ∷ 1 ∷ 12 ∷ 0 ∷ (to.0 ++ id ∷ flags ∷ 28 ∷ 0 ∷ body))
+packet from to id flags body =
+    codes "RTPS" ++ 2 ∷ 5 ∷ 0 ∷ 0 ∷ (from.0 ++ 0x0e ∷ 1 ∷ 12 ∷ 0 ∷ (to.0 ++ id ∷ flags ∷ 28 ∷ 0 ∷ body))
 
 abbrev message : GuidPrefix → GuidPrefix → Submessage → Message
 message from to submessage = record { prefix = from; submessages = InfoDst to ∷ submessage ∷ [] }
@@ -38,8 +39,10 @@ octets from to body id flags source destination long =
     omega (arith, all, rest, source, destination, long)
 
 -- such a packet is such a message, and is read to its end
-packet-read : (from to : GuidPrefix) (id flags : ℕ) (body : List ℕ) (submessage : Submessage) → length from.0 ≡ 12 → length to.0 ≡ 12 → length body ≡ 28
-    → IsFrame (id ∷ flags ∷ 28 ∷ 0 ∷ body) id flags body [] → Reads id flags body submessage → ReadsMessage (packet from to id flags body) (message from to submessage) 68
+packet-read : (from to : GuidPrefix) (id flags : ℕ) (body : List ℕ) (submessage : Submessage) → length from.0 ≡ 12
+    → length to.0 ≡ 12 → length body ≡ 28
+    → IsFrame (id ∷ flags ∷ 28 ∷ 0 ∷ body) id flags body [] → Reads id flags body submessage
+    → ReadsMessage (packet from to id flags body) (message from to submessage) 68
 packet-read from to id flags body submessage source destination long frame reads = record {
   minor = 5;
   vendor = 0 ∷ 0 ∷ [];
@@ -81,7 +84,8 @@ packet-claims from to own id flags body submessage at claim reads stands says = 
 -- ---- the GAP of gapStart 2 and the empty set from 3 on
 
 abbrev gap_body : List ℕ
-gap_body = 0 ∷ 0 ∷ 1 ∷ 7 ∷ 0 ∷ 0 ∷ 1 ∷ 2 ∷ 0 ∷ 0 ∷ 0 ∷ 0 ∷ 2 ∷ 0 ∷ 0 ∷ 0 ∷ 0 ∷ 0 ∷ 0 ∷ 0 ∷ 3 ∷ 0 ∷ 0 ∷ 0 ∷ 0 ∷ 0 ∷ 0 ∷ 0 ∷ []
+gap_body =
+    0 ∷ 0 ∷ 1 ∷ 7 ∷ 0 ∷ 0 ∷ 1 ∷ 2 ∷ 0 ∷ 0 ∷ 0 ∷ 0 ∷ 2 ∷ 0 ∷ 0 ∷ 0 ∷ 0 ∷ 0 ∷ 0 ∷ 0 ∷ 3 ∷ 0 ∷ 0 ∷ 0 ∷ 0 ∷ 0 ∷ 0 ∷ 0 ∷ []
 
 abbrev gap : GapBody
 gap = record { reader_id = r1_id; writer_id = w1_id; gap_start = 2; gap_list = empty_from 3 }
@@ -106,7 +110,9 @@ gap-known = record {
 }
 
 gap-read : ReadsMessage (packet prefix_1 prefix_2 0x08 1 gap_body) (message prefix_1 prefix_2 (Gap gap)) 68
-gap-read = packet-read prefix_1 prefix_2 0x08 1 gap_body (Gap gap) refl refl refl (record { len = 28; small = omega arith; text = refl; extent = refl }) gap-known
+gap-read =
+    packet-read prefix_1 prefix_2 0x08 1 gap_body
+    (Gap gap) refl refl refl (record { len = 28; small = omega arith; text = refl; extent = refl }) gap-known
 
 -- so the packet lets r1 pass 2
 gap-claims : Claims network (packet prefix_1 prefix_2 0x08 1 gap_body) (MayPass w1 r1 2)
@@ -117,10 +123,23 @@ gap-claims =
 -- ---- the ACKNACK of base 2 and the set with 2
 
 abbrev acknack_body : List ℕ
-acknack_body = 0 ∷ 0 ∷ 1 ∷ 7 ∷ 0 ∷ 0 ∷ 1 ∷ 2 ∷ 0 ∷ 0 ∷ 0 ∷ 0 ∷ 2 ∷ 0 ∷ 0 ∷ 0 ∷ 1 ∷ 0 ∷ 0 ∷ 0 ∷ 0 ∷ 0 ∷ 0 ∷ 0x80 ∷ 1 ∷ 0 ∷ 0 ∷ 0 ∷ []
+acknack_body =
+    0 ∷ 0 ∷ 1 ∷ 7 ∷ 0 ∷ 0 ∷ 1 ∷ 2 ∷ 0 ∷ 0 ∷ 0 ∷ 0 ∷ 2 ∷ 0 ∷ 0 ∷ 0 ∷ 1 ∷ 0 ∷ 0 ∷ 0 ∷ 0 ∷ 0 ∷ 0 ∷ 0x80 ∷ 1 ∷ 0 ∷ 0 ∷ 0
+    ∷ []
 
 abbrev acknack : AckNackBody
-acknack = record { reader_id = r1_id; writer_id = w1_id; reader_sn_state = record { base = 2; members = true ∷ replicate 255 false }; count = pos 1; final_flag = false }
+acknack =
+    record {
+      reader_id = r1_id;
+      writer_id = w1_id;
+      reader_sn_state = record {
+        base = 2;
+        members = true
+            ∷ replicate 255 false;
+      };
+      count = pos 1;
+      final_flag = false;
+    }
 
 acknack-known : IsKnownKind 0x06 1 acknack_body (AckNack acknack)
 unfolding set_of bits_below
@@ -134,7 +153,14 @@ acknack-known = record {
     ids = refl;
     set = record {
       field = record { base = 2; num_bits = 1; words = 2 ^ 31 ∷ [] };
-      valid = record { first = omega arith; small = omega arith; few = omega arith; enough = refl; each = (omega arith, tt) };
+      valid =
+          record {
+            first = omega arith;
+            small = omega arith;
+            few = omega arith;
+            enough = refl;
+            each = (omega arith, tt);
+          };
       text = refl;
       set = refl;
     };
@@ -143,8 +169,12 @@ acknack-known = record {
   valid = record { reader = refl; writer = refl; count = omega (arith, ints) };
 }
 
-acknack-read : ReadsMessage (packet prefix_2 prefix_1 0x06 1 acknack_body) (message prefix_2 prefix_1 (AckNack acknack)) 68
-acknack-read = packet-read prefix_2 prefix_1 0x06 1 acknack_body (AckNack acknack) refl refl refl (record { len = 28; small = omega arith; text = refl; extent = refl }) acknack-known
+acknack-read : ReadsMessage (packet prefix_2 prefix_1 0x06 1 acknack_body)
+    (message prefix_2 prefix_1 (AckNack acknack)) 68
+acknack-read =
+    packet-read prefix_2 prefix_1 0x06 1 acknack_body
+    (AckNack acknack) refl refl refl (record { len = 28; small = omega arith; text = refl; extent = refl })
+    acknack-known
 
 -- so r1 has reached 2
 acknack-claims : Claims network (packet prefix_2 prefix_1 0x06 1 acknack_body) (PlaceReached w1 r1 2)
@@ -155,10 +185,20 @@ acknack-claims =
 -- ---- the first HEARTBEAT of a writer without changes, with the flags F and L
 
 abbrev heartbeat_body : List ℕ
-heartbeat_body = 0 ∷ 0 ∷ 0 ∷ 0 ∷ 0 ∷ 0 ∷ 1 ∷ 2 ∷ 0 ∷ 0 ∷ 0 ∷ 0 ∷ 1 ∷ 0 ∷ 0 ∷ 0 ∷ 0 ∷ 0 ∷ 0 ∷ 0 ∷ 0 ∷ 0 ∷ 0 ∷ 0 ∷ 1 ∷ 0 ∷ 0 ∷ 0 ∷ []
+heartbeat_body =
+    0 ∷ 0 ∷ 0 ∷ 0 ∷ 0 ∷ 0 ∷ 1 ∷ 2 ∷ 0 ∷ 0 ∷ 0 ∷ 0 ∷ 1 ∷ 0 ∷ 0 ∷ 0 ∷ 0 ∷ 0 ∷ 0 ∷ 0 ∷ 0 ∷ 0 ∷ 0 ∷ 0 ∷ 1 ∷ 0 ∷ 0 ∷ 0 ∷ []
 
 abbrev heartbeat : HeartbeatBody
-heartbeat = record { reader_id = every_reader; writer_id = w1_id; first_sn = 1; last_sn = 0; count = pos 1; final_flag = true; liveliness_flag = true }
+heartbeat =
+    record {
+      reader_id = every_reader;
+      writer_id = w1_id;
+      first_sn = 1;
+      last_sn = 0;
+      count = pos 1;
+      final_flag = true;
+      liveliness_flag = true;
+    }
 
 abbrev heartbeat_packet : List ℕ
 heartbeat_packet = packet prefix_1 prefix_2 0x07 7 heartbeat_body
@@ -168,11 +208,23 @@ heartbeat-known = record {
   kind = refl;
   flags_are = (refl, refl);
   body_is = ([], refl);
-  valid = record { reader = refl; writer = refl; first = omega arith; not_past = omega arith; first_small = omega arith; last_small = omega arith; count = omega (arith, ints) };
+  valid =
+      record {
+        reader = refl;
+        writer = refl;
+        first = omega arith;
+        not_past = omega arith;
+        first_small = omega arith;
+        last_small = omega arith;
+        count = omega (arith, ints);
+      };
 }
 
 heartbeat-read : ReadsMessage heartbeat_packet (message prefix_1 prefix_2 (Heartbeat heartbeat)) 68
-heartbeat-read = packet-read prefix_1 prefix_2 0x07 7 heartbeat_body (Heartbeat heartbeat) refl refl refl (record { len = 28; small = omega arith; text = refl; extent = refl }) heartbeat-known
+heartbeat-read =
+    packet-read prefix_1 prefix_2 0x07 7 heartbeat_body
+    (Heartbeat heartbeat) refl refl refl (record { len = 28; small = omega arith; text = refl; extent = refl })
+    heartbeat-known
 
 heartbeat-claims : Claims network heartbeat_packet (Asserts w1 r1 (pos 1))
 heartbeat-claims =
@@ -205,5 +257,6 @@ newest-not_again : IsNewest network (delivery ∷ []) w1 r1 (pos 1) → ⊥
 newest-not_again newest = absurd (omega (arith, ints, newest delivery (pos 1) (0, omega arith, refl) heartbeat-applied))
 
 -- a HEARTBEAT that found no memory, or stands behind what found none, was not applied
-applied-not_from_the_refused : IsApplied network (record { packet = heartbeat_packet; report = record { moves = []; refused = Some 0 } }) w1 r1 (pos 1) → ⊥
+applied-not_from_the_refused : IsApplied network
+    (record { packet = heartbeat_packet; report = record { moves = []; refused = Some 0 } }) w1 r1 (pos 1) → ⊥
 applied-not_from_the_refused h = absurd (omega (arith, h.before))

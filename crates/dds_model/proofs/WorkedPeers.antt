@@ -31,22 +31,30 @@ abbrev at_place_2 : Grounds
 at_place_2 = grounds_of (machine kept (part_2 2 None came_1)) 1
 
 -- r1 has the first change: w1 learns so, and no more
-acknowledges-2 : DeliveryStep at_place_2 (part_1 (acknowledged 1)) (Reported (record { moves = Acknowledged 1 r1 2 ∷ []; refused = None })) (part_1 (acknowledged 2))
-acknowledges-2 = (part_1 (acknowledged 2), record { acknowledged = 1; matched = refl; forward = omega arith; has_place = omega arith; after = refl }, refl)
+acknowledges-2 : DeliveryStep at_place_2 (part_1 (acknowledged 1))
+    (Reported (record { moves = Acknowledged 1 r1 2 ∷ []; refused = None })) (part_1 (acknowledged 2))
+acknowledges-2 = (
+  part_1 (acknowledged 2),
+  record { acknowledged = 1; matched = refl; forward = omega arith; has_place = omega arith; after = refl },
+  refl,
+)
 
 acknowledges-not_3 : (new : Part) → Acknowledges at_place_2 (part_1 (acknowledged 1)) 1 r1 3 new → ⊥
 acknowledges-not_3 new h = absurd (omega (arith, h.has_place))
 
 -- nor again, nor for a reader that is not matched
 acknowledges-not_again : (new : Part) → Acknowledges at_place_2 (part_1 (acknowledged 2)) 1 r1 2 new → ⊥
-acknowledges-not_again new h = let is = some_is 2 h.acknowledged h.matched in let forward = h.forward in absurd (omega arith)
+acknowledges-not_again new h =
+    let is = some_is 2 h.acknowledged h.matched in let forward = h.forward in absurd (omega arith)
 
-acknowledges-not_unmatched : (to : ℕ) (new : Part) → Acknowledges at_place_2 (part_1 (acknowledged 1)) 1 (record { peer = 2; number = 2 }) to new → ⊥
+acknowledges-not_unmatched : (to : ℕ) (new : Part)
+    → Acknowledges at_place_2 (part_1 (acknowledged 1)) 1 (record { peer = 2; number = 2 }) to new → ⊥
 acknowledges-not_unmatched to new h = let matched = h.matched in absurd cc
 
 -- a writer with room for two changes refuses the third until the first is acknowledged
 abbrev full : ℕ → Part
-full acknowledged = part_1 (writing KeepAll (Some 2) (Changed (write_of 1 2) ∷ Changed (write_of 1 1) ∷ []) acknowledged)
+full acknowledged =
+    part_1 (writing KeepAll (Some 2) (Changed (write_of 1 2) ∷ Changed (write_of 1 1) ∷ []) acknowledged)
 
 refusal-full : change_refusal (full 1) 1 (write_of 1 3) ≡ Some Timeout
 refusal-full = refl
@@ -59,7 +67,9 @@ refusal-acknowledged = refl
 -- two assertions, a write, a tick at which r1 was behind, one at which it was not, a register and a third assertion: each
 -- assertion takes a HEARTBEAT count, and each tick with a reader behind
 abbrev asserting : List Written
-asserting = Asserted 20 ∷ Registered (key 2) ∷ Ticked 10 false ∷ Ticked 5 true ∷ Changed (write_of 1 1) ∷ Asserted 0 ∷ Asserted 0 ∷ []
+asserting =
+    Asserted 20 ∷ Registered (key 2) ∷ Ticked 10 false ∷ Ticked 5 true ∷ Changed (write_of 1 1) ∷ Asserted 0
+    ∷ Asserted 0 ∷ []
 
 counts-in_order : counts_of true asserting ≡ true ∷ true ∷ false ∷ true ∷ []
 counts-in_order = refl
@@ -98,7 +108,20 @@ abbrev asserted : Writer
 asserted = writing (KeepLast 1) None (Asserted 0 ∷ []) 1
 
 hears-1 : Delivers asserted (part_2 1 None []) (Heard w1 1 ∷ []) (part_2 1 (Some (pos 1)) (WasHeard 1 0 ∷ []))
-hears-1 = (part_2 1 (Some (pos 1)) (WasHeard 1 0 ∷ []), record { publication = 1; matched = refl; heard = None; last = refl; count = pos 1; later = tt; may_hear = refl; after = refl }, refl)
+hears-1 = (
+  part_2 1 (Some (pos 1)) (WasHeard 1 0 ∷ []),
+  record {
+    publication = 1;
+    matched = refl;
+    heard = None;
+    last = refl;
+    count = pos 1;
+    later = tt;
+    may_hear = refl;
+    after = refl;
+  },
+  refl,
+)
 
 none_after_1 : (count : ℤ) → is_assertion asserted count ≡ true → pos 1 <ℤ count → ⊥
 none_after_1 (pos zero) is later = absurd cc
@@ -106,8 +129,11 @@ none_after_1 (pos (suc zero)) is later = absurd (omega (arith, ints, later))
 none_after_1 (pos (suc (suc n))) is later = absurd cc
 none_after_1 (negsuc n) is later = absurd cc
 
-hears-not_again : (new : Part) → Hears (grounds_of (machine asserted (part_2 1 (Some (pos 1)) (WasHeard 1 0 ∷ []))) 2) (part_2 1 (Some (pos 1)) (WasHeard 1 0 ∷ [])) w1 1 new → ⊥
-hears-not_again new h = none_after_1 h.count h.may_hear (subst (λ (heard : Option ℤ). IsLater heard h.count) (sym (some_is (Some (pos 1)) h.heard h.last)) h.later)
+hears-not_again : (new : Part) → Hears (grounds_of (machine asserted (part_2 1 (Some (pos 1)) (WasHeard 1 0 ∷ []))) 2)
+    (part_2 1 (Some (pos 1)) (WasHeard 1 0 ∷ [])) w1 1 new → ⊥
+hears-not_again new h =
+    none_after_1 h.count h.may_hear
+    (subst (λ (heard : Option ℤ). IsLater heard h.count) (sym (some_is (Some (pos 1)) h.heard h.last)) h.later)
 
 -- ---- what is true of a peer's own lists and places
 

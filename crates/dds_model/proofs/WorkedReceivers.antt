@@ -35,10 +35,29 @@ abbrev pub r3_id : EntityId
 r3_id = record { 0 = 0 ∷ 0 ∷ 3 ∷ 7 ∷ [] }
 
 abbrev pub writer : HistoryQos → WriterConfig
-writer history = record { entity = w1_id; topic = 0; ownership = Shared; history = history; max_samples = negsuc 0; strength = pos 0; lease = None; autodispose = true }
+writer history =
+    record {
+      entity = w1_id;
+      topic = 0;
+      ownership = Shared;
+      history = history;
+      max_samples = negsuc 0;
+      strength = pos 0;
+      lease = None;
+      autodispose = true;
+    }
 
 abbrev pub reader : EntityId → ℕ → ReaderConfig
-reader entity topic = record { entity = entity; topic = topic; ownership = Shared; history = KeepAll; max_samples = negsuc 0; max_instances = negsuc 0; lease = None }
+reader entity topic =
+    record {
+      entity = entity;
+      topic = topic;
+      ownership = Shared;
+      history = KeepAll;
+      max_samples = negsuc 0;
+      max_instances = negsuc 0;
+      lease = None;
+    }
 
 abbrev pub peer_1 : PeerConfig
 peer_1 = record { prefix = prefix_1; writers = writer KeepAll ∷ []; readers = [] }
@@ -116,33 +135,64 @@ after-pad : after_submessage prefix_2 (record to_2 { timestamp = 5 }) Pad ≡ re
 after-pad = refl
 
 -- so the DATA of a message whose first part is for another peer has not the timestamp of that part
-stands-info_ts_to_another : (d : DataBody) → StandsAt prefix_2 (receiver_of prefix_1) (InfoDst prefix_1 ∷ InfoTs (Some 5) ∷ InfoDst prefix_2 ∷ Data d ∷ []) 3 to_2 (Data d)
+stands-info_ts_to_another : (d : DataBody)
+    → StandsAt prefix_2 (receiver_of prefix_1)
+    (InfoDst prefix_1 ∷ InfoTs (Some 5) ∷ InfoDst prefix_2 ∷ Data d ∷ []) 3 to_2 (Data d)
 stands-info_ts_to_another d = (refl, refl)
 
-stands-info_ts : (d : DataBody) → StandsAt prefix_2 (receiver_of prefix_1) (InfoDst prefix_2 ∷ InfoTs (Some 5) ∷ Data d ∷ []) 2 (record to_2 { timestamp = 5 }) (Data d)
+stands-info_ts : (d : DataBody) → StandsAt prefix_2 (receiver_of prefix_1)
+    (InfoDst prefix_2 ∷ InfoTs (Some 5) ∷ Data d ∷ []) 2 (record to_2 { timestamp = 5 }) (Data d)
 stands-info_ts d = (refl, refl)
 
 -- an index counts from 0, and one past the end is none's
-stands-not_at_one : (d : DataBody) (at : Receiver) → StandsAt prefix_2 (receiver_of prefix_1) (InfoDst prefix_2 ∷ InfoTs (Some 5) ∷ Data d ∷ []) 1 at (Data d) → ⊥
+stands-not_at_one : (d : DataBody) (at : Receiver)
+    → StandsAt prefix_2 (receiver_of prefix_1) (InfoDst prefix_2 ∷ InfoTs (Some 5) ∷ Data d ∷ []) 1 at (Data d) → ⊥
 stands-not_at_one d at h = let e = h.1 in absurd cc
 
-stands-not_past_the_end : (d : DataBody) (at : Receiver) → StandsAt prefix_2 (receiver_of prefix_1) (InfoDst prefix_2 ∷ InfoTs (Some 5) ∷ Data d ∷ []) 3 at (Data d) → ⊥
+stands-not_past_the_end : (d : DataBody) (at : Receiver)
+    → StandsAt prefix_2 (receiver_of prefix_1) (InfoDst prefix_2 ∷ InfoTs (Some 5) ∷ Data d ∷ []) 3 at (Data d) → ⊥
 stands-not_past_the_end d at h = h
 
 -- ---- whom a submessage speaks to, and for whom
 
 abbrev pub w1_named : IsWriter network prefix_1 w1_id w1
-w1_named = record { peer = peer_1; at_peer = (omega arith, refl); same_prefix = refl; end = writer KeepAll; at_writer = (omega arith, refl); same_entity = refl }
+w1_named =
+    record {
+      peer = peer_1;
+      at_peer = (omega arith, refl);
+      same_prefix = refl;
+      end = writer KeepAll;
+      at_writer = (omega arith, refl);
+      same_entity = refl;
+    }
 
 abbrev pub r1_named : IsReader network prefix_2 r1_id r1
-r1_named = record { peer = peer_2; at_peer = (omega arith, refl); same_prefix = refl; end = reader r1_id 0; at_reader = (omega arith, refl); same_entity = refl }
+r1_named =
+    record {
+      peer = peer_2;
+      at_peer = (omega arith, refl);
+      same_prefix = refl;
+      end = reader r1_id 0;
+      at_reader = (omega arith, refl);
+      same_entity = refl;
+    }
 
 abbrev pub r3_named : IsReader network prefix_2 r3_id r3
-r3_named = record { peer = peer_2; at_peer = (omega arith, refl); same_prefix = refl; end = reader r3_id 0; at_reader = (omega arith, refl); same_entity = refl }
+r3_named =
+    record {
+      peer = peer_2;
+      at_peer = (omega arith, refl);
+      same_prefix = refl;
+      end = reader r3_id 0;
+      at_reader = (omega arith, refl);
+      same_entity = refl;
+    }
 
 -- the readerId of r1, and that of zeros, name r1
-pub to_r1 : (reader_id : EntityId) (timestamp : ℕ) → Names reader_id r1_id → IsToReader network prefix_2 (record to_2 { timestamp = timestamp }) reader_id w1_id w1 r1
-to_r1 reader_id timestamp named = record { from = w1_named; is_for = refl; entity = r1_id; to = r1_named; named = named; matched = refl }
+pub to_r1 : (reader_id : EntityId) (timestamp : ℕ) → Names reader_id r1_id
+    → IsToReader network prefix_2 (record to_2 { timestamp = timestamp }) reader_id w1_id w1 r1
+to_r1 reader_id timestamp named =
+    record { from = w1_named; is_for = refl; entity = r1_id; to = r1_named; named = named; matched = refl }
 
 -- that of zeros names r3 too
 pub to_r3 : IsToReader network prefix_2 to_2 every_reader w1_id w1 r3
@@ -151,39 +201,53 @@ to_r3 = record { from = w1_named; is_for = refl; entity = r3_id; to = r3_named; 
 pub some_is : {X : Type 0} (a b : X) → Some a ≡ Some b → a ≡ b
 some_is a b h = cc
 
-pub writer-is : (prefix : GuidPrefix) (entity : EntityId) (w : IsWriter network prefix entity w1) → w.end ≡ writer KeepAll
+pub writer-is : (prefix : GuidPrefix) (entity : EntityId) (w : IsWriter network prefix entity w1)
+    → w.end ≡ writer KeepAll
 writer-is prefix entity w =
     let peer : peer_1 ≡ w.peer = some_is peer_1 w.peer w.at_peer.1 in
-    let end : Some (writer KeepAll) ≡ Some w.end = subst (λ (p : PeerConfig). slice_get p.writers 0 ≡ Some w.end) (sym peer) w.at_writer.1 in
+    let end : Some (writer KeepAll) ≡ Some w.end =
+    subst (λ (p : PeerConfig). slice_get p.writers 0 ≡ Some w.end) (sym peer) w.at_writer.1 in
     sym (some_is (writer KeepAll) w.end end)
 
-pub reader-is : (prefix : GuidPrefix) (entity : EntityId) (number : ℕ) (r : IsReader network prefix entity (record { peer = 2; number = number })) → slice_get peer_2.readers (number - 1) ≡ Some r.end
-reader-is prefix entity number r = subst (λ (p : PeerConfig). slice_get p.readers (number - 1) ≡ Some r.end) (sym (some_is peer_2 r.peer r.at_peer.1)) r.at_reader.1
+pub reader-is : (prefix : GuidPrefix) (entity : EntityId) (number : ℕ)
+    (r : IsReader network prefix entity (record { peer = 2; number = number }))
+    → slice_get peer_2.readers (number - 1) ≡ Some r.end
+reader-is prefix entity number r =
+    subst (λ (p : PeerConfig). slice_get p.readers (number - 1) ≡ Some r.end)
+    (sym (some_is peer_2 r.peer r.at_peer.1)) r.at_reader.1
 
 -- no submessage speaks to a reader of another topic, whatever its readerId and its part
-pub not_to_r2 : (own : GuidPrefix) (at : Receiver) (reader_id writer_id : EntityId) → IsToReader network own at reader_id writer_id w1 r2 → ⊥
+pub not_to_r2 : (own : GuidPrefix) (at : Receiver) (reader_id writer_id : EntityId)
+    → IsToReader network own at reader_id writer_id w1 r2 → ⊥
 not_to_r2 own at reader_id writer_id h =
-    let writer_topic : h.from.end.topic ≡ 0 = ap (λ (w : WriterConfig). w.topic) (writer-is at.source_guid_prefix writer_id h.from) in
-    let reader_topic : 1 ≡ h.to.end.topic = ap (λ (r : ReaderConfig). r.topic) (some_is (reader r2_id 1) h.to.end (reader-is own h.entity 2 h.to)) in
+    let writer_topic : h.from.end.topic ≡ 0 =
+    ap (λ (w : WriterConfig). w.topic) (writer-is at.source_guid_prefix writer_id h.from) in
+    let reader_topic : 1 ≡ h.to.end.topic =
+    ap (λ (r : ReaderConfig). r.topic) (some_is (reader r2_id 1) h.to.end (reader-is own h.entity 2 h.to)) in
     let matched = h.matched in
     absurd (omega arith)
 
 -- the readerId of r1 does not name r3
-pub not_to_r3 : (own : GuidPrefix) (at : Receiver) (writer_id : EntityId) → IsToReader network own at r1_id writer_id w1 r3 → ⊥
+pub not_to_r3 : (own : GuidPrefix) (at : Receiver) (writer_id : EntityId)
+    → IsToReader network own at r1_id writer_id w1 r3 → ⊥
 not_to_r3 own at writer_id h =
-    let entity : r3_id ≡ h.to.end.entity = ap (λ (r : ReaderConfig). r.entity) (some_is (reader r3_id 0) h.to.end (reader-is own h.entity 3 h.to)) in
+    let entity : r3_id ≡ h.to.end.entity =
+    ap (λ (r : ReaderConfig). r.entity) (some_is (reader r3_id 0) h.to.end (reader-is own h.entity 3 h.to)) in
     let same = h.to.same_entity in
-    ⊎_elim (λ e. let third = ap (λ (id : EntityId). slice_index id.0 2) (e ∙ (sym same ∙ sym entity)) in absurd (omega arith))
+    ⊎_elim (λ e. let third = ap (λ (id : EntityId). slice_index id.0 2)
+    (e ∙ (sym same ∙ sym entity)) in absurd (omega arith))
     (λ e. let third = ap (λ (id : EntityId). slice_index id.0 2) e in absurd (omega arith)) h.named
 
 -- nor does a part for another peer speak to r1
-not_in_a_part_for_1 : (own : GuidPrefix) (at : Receiver) (reader_id writer_id : EntityId) → is_for at own ≡ false → IsToReader network own at reader_id writer_id w1 r1 → ⊥
+not_in_a_part_for_1 : (own : GuidPrefix) (at : Receiver) (reader_id writer_id : EntityId) → is_for at own ≡ false
+    → IsToReader network own at reader_id writer_id w1 r1 → ⊥
 not_in_a_part_for_1 own at reader_id writer_id not h = let is = h.is_for in absurd cc
 
 -- ---- for whom a submessage of a reader speaks
 
 pub from_r1 : (reader_id : EntityId) → Names reader_id r1_id → IsToWriter network prefix_1 to_1 reader_id w1_id w1 r1
-from_r1 reader_id named = record { entity = r1_id; from = r1_named; named = named; is_for = refl; to = w1_named; matched = refl }
+from_r1 reader_id named =
+    record { entity = r1_id; from = r1_named; named = named; is_for = refl; to = w1_named; matched = refl }
 
 pub from_r3 : IsToWriter network prefix_1 to_1 every_reader w1_id w1 r3
 from_r3 = record { entity = r3_id; from = r3_named; named = inr refl; is_for = refl; to = w1_named; matched = refl }

@@ -29,7 +29,15 @@ part = record no_part {
   dds = record no_part.dds {
     moment = 5;
     readers = record {
-      qos = record { ownership = Shared; history = KeepAll; max_samples = None; max_instances = None; writers = leased ∷ leased ∷ [] };
+      qos =
+          record {
+            ownership = Shared;
+            history = KeepAll;
+            max_samples = None;
+            max_instances = None;
+            writers = leased
+                ∷ leased ∷ [];
+          };
       happened = Heard 2 5 ∷ Heard 1 2 ∷ [];
       seen = nothing_seen;
     } ∷ [];
@@ -47,7 +55,8 @@ tick-both_die : (own_reader (after_tick part 15) 1).happened ≡ Died 2 15 ∷ D
 tick-both_die = refl
 
 -- and nobody dies twice
-tick-once : (own_reader (after_tick (after_tick part 12) 15) 1).happened ≡ Died 2 15 ∷ Died 1 12 ∷ Heard 2 5 ∷ Heard 1 2 ∷ []
+tick-once : (own_reader (after_tick (after_tick part 12) 15) 1).happened
+    ≡ Died 2 15 ∷ Died 1 12 ∷ Heard 2 5 ∷ Heard 1 2 ∷ []
 tick-once = refl
 
 tick-deadly : is_deadly part 12 ≡ true

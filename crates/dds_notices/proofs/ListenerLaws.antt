@@ -69,12 +69,14 @@ pub nobody_is_told : (writers readers : ℕ) → NobodyTakes (nobody writers rea
 nobody_is_told writers readers entity status =
     let places : Places = nobody writers readers in
     let none : is_any places ≡ false =
-    ap (λ (b : Bool). b || list_any (λ (o : Option Place). is_some o) (replicate readers None)) (any_of Place writers) ∙ any_of Place readers in
+    ap (λ (b : Bool). b || list_any (λ (o : Option Place). is_some o) (replicate readers None)) (any_of Place writers)
+    ∙ any_of Place readers in
     rw (none_entity places none entity) refl
 
 module _ {L : Type 0} (notices : L → List Notice) (capacity : L → ℕ) where
   -- nobody stands for nobody
-  pub nobody_stands : (writers readers : ℕ) → StandsFor notices capacity (nobody writers readers) (nobody writers readers)
+  pub nobody_stands : (writers readers : ℕ)
+      → StandsFor notices capacity (nobody writers readers) (nobody writers readers)
   nobody_stands writers readers = record {
     writers = length-replicate writers None ∙ sym (length-replicate writers None);
     readers = length-replicate readers None ∙ sym (length-replicate readers None);
@@ -85,15 +87,20 @@ module _ {L : Type 0} (notices : L → List Notice) (capacity : L → ℕ) where
     ];
   }
 
-  no_place : (slot : Option (Slot L)) (place : Option Place) → StandsAt notices capacity slot place → slot ≡ None → place ≡ None
+  no_place : (slot : Option (Slot L)) (place : Option Place) → StandsAt notices capacity slot place → slot ≡ None
+      → place ≡ None
   no_place None None stands h = refl
   no_place None (Some place) stands h = absurd stands
   no_place (Some slot) place stands h = cc
 
   -- where no listener is set, none takes a status
-  pub nobody_takes : (slots : Slotted L) (places : Places) → is_any slots ≡ false → StandsFor notices capacity slots places
+  pub nobody_takes : (slots : Slotted L) (places : Places) → is_any slots ≡ false
+      → StandsFor notices capacity slots places
       → (entity : Entity) (status : Status) → taker_of places entity status ≡ None
   nobody_takes slots places h stands entity status =
-      let own = no_place (at_entity slots entity) (at_entity places entity) (stands.each entity) (none_entity slots h entity) in
-      let over = no_place slots.participant places.participant (stands.each Participant) (none_entity slots h Participant) in
+      let own =
+      no_place (at_entity slots entity) (at_entity places entity) (stands.each entity) (none_entity slots h entity)
+      in
+      let over =
+      no_place slots.participant places.participant (stands.each Participant) (none_entity slots h Participant) in
       rw (own, over) refl

@@ -45,7 +45,8 @@ keep_none : (room : ℕ) → [] ≡ keep_last {X = Notice} room []
 keep_none room = sym (drop_none (0 - room))
 
 module _ {L : Type 0} (notices : L → List Notice) (capacity : L → ℕ) where
-  number_stands : (xs : List (Option (Slot L))) (ys : List (Option Place)) (n : ℕ) (slot : Option (Slot L)) (place : Option Place)
+  number_stands : (xs : List (Option (Slot L))) (ys : List (Option Place)) (n : ℕ) (slot : Option (Slot L))
+      (place : Option Place)
       → length ys ≡ length xs → is_number n (length xs) ≡ true → StandsAt notices capacity slot place
       → ((k : ℕ) → StandsAt notices capacity (at_number xs k) (at_number ys k))
       → (k : ℕ) → StandsAt notices capacity (at_number (set xs (n - 1) slot) k) (at_number (set ys (n - 1) place) k)
@@ -57,7 +58,8 @@ module _ {L : Type 0} (notices : L → List Notice) (capacity : L → ℕ) where
       (eqb_tells k n)
 
   -- another listener stands, for a place of its own
-  pub entity_stands : (kept : Slotted L) (places : Places) (entity : Entity) (slot : Option (Slot L)) (place : Option Place)
+  pub entity_stands : (kept : Slotted L) (places : Places) (entity : Entity) (slot : Option (Slot L))
+      (place : Option Place)
       → StandsFor notices capacity kept places → has_entity kept entity ≡ true → StandsAt notices capacity slot place
       → StandsFor notices capacity (with_entity kept entity slot) (with_entity places entity place)
   entity_stands kept places Participant slot place all h stands = record {
@@ -70,7 +72,8 @@ module _ {L : Type 0} (notices : L → List Notice) (capacity : L → ℕ) where
     readers = all.readers;
     each = elim [
       | Participant ↦ all.each Participant
-      | Writer k ↦ number_stands kept.writers places.writers n slot place all.writers h stands (λ j. all.each (Writer j)) k
+      | Writer k ↦
+          number_stands kept.writers places.writers n slot place all.writers h stands (λ j. all.each (Writer j)) k
       | Reader k ↦ all.each (Reader k)
     ];
   }
@@ -80,7 +83,8 @@ module _ {L : Type 0} (notices : L → List Notice) (capacity : L → ℕ) where
     each = elim [
       | Participant ↦ all.each Participant
       | Writer k ↦ all.each (Writer k)
-      | Reader k ↦ number_stands kept.readers places.readers n slot place all.readers h stands (λ j. all.each (Reader j)) k
+      | Reader k ↦
+          number_stands kept.readers places.readers n slot place all.readers h stands (λ j. all.each (Reader j)) k
     ];
   }
 
@@ -97,7 +101,8 @@ module _ {L : Type 0} (notices : L → List Notice) (capacity : L → ℕ) where
       (subst (λ (e : Entity). has_entity old e ≡ true) is_entity there) in
       let stands = subst (λ (k : Slotted L). StandsFor notices capacity k places) (sym is_old) all in
       let one = told (at_entity places here) (stands.each here) in
-      rw (is_entity, one.2) (entity_stands before places here one.0 (with_notice (at_entity places here) notice) stands has one.1)
+      rw (is_entity, one.2) (entity_stands before places here one.0
+      (with_notice (at_entity places here) notice) stands has one.1)
 
   -- the listener of this number, among those of the writers or of the readers, as `tell_at` of src/slots.rt tells it
   pub numbered_tells : (among : List (Option (Slot L)) → Slotted L) (xs new : List (Option (Slot L))) (old : Slotted L)
@@ -119,7 +124,8 @@ module _ {L : Type 0} (notices : L → List Notice) (capacity : L → ℕ) where
   pub participant_tells : (p new : Option (Slot L)) (ws rs : List (Option (Slot L))) (old : Slotted L) (entity : Entity)
       (notice : Notice)
       → record { participant = p; writers = ws; readers = rs } ≡ old → entity ≡ Participant
-      → ((place : Option Place) → StandsAt notices capacity p place → StandsAt notices capacity new (with_notice place notice))
+      → ((place : Option Place) → StandsAt notices capacity p place
+      → StandsAt notices capacity new (with_notice place notice))
       → (places : Places) → StandsFor notices capacity old places
       → StandsFor notices capacity (record { participant = new; writers = ws; readers = rs })
       (with_entity places entity (with_notice (at_entity places entity) notice))
@@ -141,17 +147,20 @@ module _ {L : Type 0} (notices : L → List Notice) (capacity : L → ℕ) where
   fresh_stands : (mask : StatusMask) (listener : Option L) → is_fresh notices listener ≡ true
       → StandsAt notices capacity (slot_of mask listener) (listener_place capacity mask listener)
   fresh_stands mask None h = tt
-  fresh_stands mask (Some listener) h = (refl, record { room = refl; kept = nothing (notices listener) h ∙ keep_none (capacity listener) })
+  fresh_stands mask (Some listener) h =
+      (refl, record { room = refl; kept = nothing (notices listener) h ∙ keep_none (capacity listener) })
 
   -- what is set at an entity that there is
   pub sets : (old : Slotted L) (entity : Entity) (mask : StatusMask) (listener : Option L)
       → has_entity old entity ≡ true → is_fresh notices listener ≡ true
-      → Sets notices capacity old entity mask listener (listener_of (at_entity old entity)) (with_entity old entity (slot_of mask listener))
+      → Sets notices capacity old entity mask listener (listener_of (at_entity old entity))
+      (with_entity old entity (slot_of mask listener))
   sets old entity mask listener there fresh = record {
     accepted = simp (there, fresh);
     set = refl;
     back = λ places stands. (
       handed_back (at_entity old entity) (at_entity places entity) (stands.each entity),
-      entity_stands old places entity (slot_of mask listener) (listener_place capacity mask listener) stands there (fresh_stands mask listener fresh),
+      entity_stands old places entity (slot_of mask listener) (listener_place capacity mask listener) stands there
+          (fresh_stands mask listener fresh),
     );
   }

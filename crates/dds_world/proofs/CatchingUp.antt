@@ -61,10 +61,14 @@ some_is (Some x) h = (x, refl)
 some_is None h = absurd cc
 
 -- the entity id that the configuration gives a reader
-entity_is : (config : Config) (prefix : GuidPrefix) (entity : EntityId) (r : Endpoint) → IsReader config prefix entity r → reader_entity config r.peer r.number ≡ entity
+entity_is : (config : Config) (prefix : GuidPrefix) (entity : EntityId) (r : Endpoint) → IsReader config prefix entity r
+    → reader_entity config r.peer r.number ≡ entity
 entity_is config prefix entity r is =
-    ap (λ (o : Option PeerConfig). option_map_or (λ (p : PeerConfig). option_map_or (λ (x : ReaderConfig). x.entity) (slice_get p.readers (r.number - 1)) every_reader) o every_reader) is.at_peer.1
-    ∙ (ap (λ (o : Option ReaderConfig). option_map_or (λ (x : ReaderConfig). x.entity) o every_reader) is.at_reader.1 ∙ is.same_entity)
+    ap (λ (o : Option PeerConfig). option_map_or
+    (λ (p : PeerConfig). option_map_or (λ (x : ReaderConfig). x.entity)
+    (slice_get p.readers (r.number - 1)) every_reader) o every_reader) is.at_peer.1
+    ∙ (ap (λ (o : Option ReaderConfig). option_map_or (λ (x : ReaderConfig). x.entity) o every_reader) is.at_reader.1
+    ∙ is.same_entity)
 
 -- a tick of the writer's peer, for which memory was found and at which nothing was lost
 record Tick : Type 0 where
@@ -96,12 +100,17 @@ noted_tick t = world_ended t.network (world.Tick t.m.writer.peer t.m.moment) (af
 
 ruled0 : (t : Tick) → RuledStep t.config t.tests t.network (world.Tick t.m.writer.peer t.m.moment) Done 0 (after_tick t)
 ruled0 t =
-    subst (λ (n : ℕ). RuledStep t.config t.tests t.network (world.Tick t.m.writer.peer t.m.moment) Done n (after_tick t)) (none_lost t.old.unsent (w0 t).step.lost t.mid.unsent (w0 t).step.counted t.same t.below)
-    (subst (λ (r : Reply). RuledStep t.config t.tests t.network (world.Tick t.m.writer.peer t.m.moment) r (w0 t).step.lost (after_tick t))
-    (whole_tick t.tests t.config t.network t.m.writer.peer t.m.moment t.ticked.reply (after_tick t) t.whole (w0 t).step.ruled.step) (w0 t).step.ruled)
+    subst (λ (n : ℕ). RuledStep t.config t.tests t.network (world.Tick t.m.writer.peer t.m.moment) Done n
+    (after_tick t)) (none_lost t.old.unsent (w0 t).step.lost t.mid.unsent (w0 t).step.counted t.same t.below)
+    (subst (λ (r : Reply). RuledStep t.config t.tests t.network (world.Tick t.m.writer.peer t.m.moment) r
+    (w0 t).step.lost (after_tick t))
+    (whole_tick t.tests t.config t.network t.m.writer.peer t.m.moment t.ticked.reply (after_tick t) t.whole
+    (w0 t).step.ruled.step) (w0 t).step.ruled)
 
 sent0 : (t : Tick) → t.mid.sent ≡ t.old.sent ++ (ruled0 t).packets
-sent0 t = sent_by t.config t.network t.old (world.Tick t.m.writer.peer t.m.moment) Done 0 (after_tick t) t.mid t.s (w0 t).stands (ruled0 t)
+sent0 t =
+    sent_by t.config t.network t.old (world.Tick t.m.writer.peer t.m.moment) Done 0 (after_tick t) t.mid t.s
+    (w0 t).stands (ruled0 t)
 
 abbrev part : Tick → Part
 part t = (peer_at t.network t.m.writer.peer).part
@@ -116,17 +125,22 @@ of : (t : Tick) → IsPartOf t.config t.m.writer.peer (part t)
 of t = t.s.used.of_config t.m.writer.peer (there t)
 
 acknowledged : Tick → ℕ
-acknowledged t = (some_is (acknowledged_of (writer_at (machine_of t.network) t.m.writer).readers t.m.reader) t.known.matched).0
+acknowledged t =
+    (some_is (acknowledged_of (writer_at (machine_of t.network) t.m.writer).readers t.m.reader) t.known.matched).0
 
 abbrev the_last : Tick → ℕ
 the_last t = length (writer_changes (writer_at (machine_of t.network) t.m.writer))
 
-row : (t : Tick) → acknowledged_of (writer_at (machine_of t.network) t.m.writer).readers t.m.reader ≡ Some (acknowledged t)
+row : (t : Tick) → acknowledged_of (writer_at (machine_of t.network) t.m.writer).readers t.m.reader
+    ≡ Some (acknowledged t)
 unfolding acknowledged
 row t = (some_is (acknowledged_of (writer_at (machine_of t.network) t.m.writer).readers t.m.reader) t.known.matched).1
 
-own_row : (t : Tick) → acknowledged_of (own_writer (part t) t.m.writer.number).readers t.m.reader ≡ Some (acknowledged t)
-own_row t = subst (λ (w : Writer). acknowledged_of w.readers t.m.reader ≡ Some (acknowledged t)) (writer_is t.network t.m.writer) (row t)
+own_row : (t : Tick) → acknowledged_of (own_writer (part t) t.m.writer.number).readers t.m.reader
+    ≡ Some (acknowledged t)
+own_row t =
+    subst (λ (w : Writer). acknowledged_of w.readers t.m.reader ≡ Some (acknowledged t))
+    (writer_is t.network t.m.writer) (row t)
 
 here : (t : Tick) → HasNumber (part t).rtps.writers t.m.writer.number
 here t = has_writer (part t) t.m.writer.number t.m.reader (acknowledged t, own_row t)
@@ -158,35 +172,47 @@ answer_of old m from to replies = record {
 }
 
 -- what hindered it is shown without the place after it
-abbrev EndsSo : AllTests → Config → WorldState → WorldKept → Matched → ℕ → List WorldEvent → List RoundReply → WorldKept → Type 0
+abbrev EndsSo : AllTests → Config → WorldState → WorldKept → Matched → ℕ → List WorldEvent → List RoundReply → WorldKept
+    → Type 0
 EndsSo tests config network old m place events replies new =
-    (after : WorldState) × RuledRun config tests network old.unsent events (replies_of replies) after new.unsent × StandsFor new config after
+    (after : WorldState) × RuledRun config tests network old.unsent events (replies_of replies) after new.unsent
+    × StandsFor new config after
     × (IsHindered network m.writer m.reader (answer_of old m place place replies)
     ⊎ HasCaughtUp after m.writer m.reader place (length (writer_changes (writer_at (machine_of network) m.writer))))
 
 abbrev Ends : Tick → List WorldEvent → List RoundReply → WorldKept → Type 0
 Ends t events replies new = EndsSo t.tests t.config t.network t.old t.m t.place events replies new
 
-ends_as : (t : Tick) (events events' : List WorldEvent) (replies replies' : List RoundReply) (new new' : WorldKept) → events ≡ events' → replies ≡ replies' → new ≡ new' → Ends t events' replies' new' → Ends t events replies new
+ends_as : (t : Tick) (events events' : List WorldEvent) (replies replies' : List RoundReply) (new new' : WorldKept)
+    → events ≡ events' → replies ≡ replies' → new ≡ new' → Ends t events' replies' new' → Ends t events replies new
 ends_as t events events' replies replies' new new' e r n h =
     subst (λ (k : WorldKept). Ends t events replies k) (sym n)
-    (subst (λ (rs : List RoundReply). Ends t events rs new') (sym r) (subst (λ (es : List WorldEvent). Ends t es replies' new') (sym e) h))
+    (subst (λ (rs : List RoundReply). Ends t events rs new') (sym r)
+    (subst (λ (es : List WorldEvent). Ends t es replies' new') (sym e) h))
 
 -- ---- no HEARTBEAT was sent
 
 -- where the reader is not behind, it has caught up already
-not_behind : (t : Tick) → the_last t < acknowledged t → HasCaughtUp (noted_tick t) t.m.writer t.m.reader t.place (the_last t)
+not_behind : (t : Tick) → the_last t < acknowledged t
+    → HasCaughtUp (noted_tick t) t.m.writer t.m.reader t.place (the_last t)
 not_behind t past =
     record {
       place = t.place;
       acknowledged = acknowledged t;
       stands = record {
-        here = subst (λ (n : ℕ). (1 ≤ t.m.reader.number) × (t.m.reader.number ≤ n)) (sym (left t.m.reader.peer).readers) (stands t).here;
+        here =
+            subst (λ (n : ℕ). (1 ≤ t.m.reader.number) × (t.m.reader.number ≤ n)) (sym (left t.m.reader.peer).readers)
+            (stands t).here;
         place_is = place_is (noted_tick t) t.m.reader t.m.writer
-            ∙ (ap (λ (rows : List (List WriterProxy)). place_of (numbered_rows rows) t.m.writer) (left t.m.reader.peer).rows ∙ (sym (place_is t.network t.m.reader t.m.writer) ∙ t.at));
-        known = ap (λ (k : Known). (k.tracked t.m.writer t.m.reader.number).place) (left t.m.reader.peer).known ∙ (stands t).known;
-        acknowledged_is = ap (λ (w : Writer). acknowledged_of w.readers t.m.reader) (writer_is (noted_tick t) t.m.writer)
-            ∙ (ap (λ (rows : List ReaderProxy). acknowledged_of rows t.m.reader) ((left t.m.writer.peer).acknowledged t.m.writer.number) ∙ own_row t);
+            ∙ (ap (λ (rows : List (List WriterProxy)). place_of (numbered_rows rows) t.m.writer)
+            (left t.m.reader.peer).rows ∙ (sym (place_is t.network t.m.reader t.m.writer) ∙ t.at));
+        known =
+            ap (λ (k : Known). (k.tracked t.m.writer t.m.reader.number).place) (left t.m.reader.peer).known
+            ∙ (stands t).known;
+        acknowledged_is =
+            ap (λ (w : Writer). acknowledged_of w.readers t.m.reader) (writer_is (noted_tick t) t.m.writer)
+            ∙ (ap (λ (rows : List ReaderProxy). acknowledged_of rows t.m.reader)
+            ((left t.m.writer.peer).acknowledged t.m.writer.number) ∙ own_row t);
       };
       reached = inl (omega (arith, past, low));
       told = omega (arith, past, high);
@@ -203,32 +229,41 @@ not_behind t past =
     low : acknowledged t ≤ t.place
     low =
         subst (λ (o : Option ℕ). NoLess o (Some t.place)) (row t)
-        (subst (λ (o : Option ℕ). NoLess (acknowledged_of (writer_at (machine_of t.network) t.m.writer).readers t.m.reader) o) t.at (t.s.sound.acknowledged t.m.writer t.m.reader))
+        (subst (λ (o : Option ℕ). NoLess
+        (acknowledged_of (writer_at (machine_of t.network) t.m.writer).readers t.m.reader) o) t.at
+        (t.s.sound.acknowledged t.m.writer t.m.reader))
 
     high : t.place ≤ the_last t + 1
     high = t.s.bounded t.m.reader t.m.writer t.place t.at
 
 -- a HEARTBEAT that was sent is found
 beat_is_found : (t : Tick) → acknowledged t ≤ the_last t → heartbeats_used_at t.network t.m.writer < 2 ^ 31 - 1
-    → HasNone (IsTo t.m.reader.peer (sought.Heartbeat t.m.pair.writer)) t.mid.sent (length t.old.sent) (length t.mid.sent) → ⊥
+    → HasNone (IsTo t.m.reader.peer (sought.Heartbeat t.m.pair.writer)) t.mid.sent (length t.old.sent)
+    (length t.mid.sent) → ⊥
 beat_is_found t behind left none =
-    let beat = beats_are_sent t.config t.tests t.m.writer t.m.reader (acknowledged t) t.m.moment t.network (after_tick t) (core t).stands.is_peer.checked t.s.used (row t) behind left (ruled0 t) in
+    let beat =
+    beats_are_sent t.config t.tests t.m.writer t.m.reader (acknowledged t) t.m.moment t.network (after_tick t)
+    (core t).stands.is_peer.checked t.s.used (row t) behind left (ruled0 t) in
     let name = own_name t.config t.m.writer.peer (part t) (of t) t.m.writer.number (here t) in
     let has : Has beat.packet.bytes (sought.Heartbeat t.m.pair.writer) =
     subst (λ (e : EntityId). Has beat.packet.bytes (sought.Heartbeat e)) (sym t.known.writer)
-    (beat_sought t.config t.m.writer beat.packet.bytes beat.count _ (writer_entity t.config t.m.writer.peer t.m.writer.number) name.name beat.has) in
-    among_none (IsTo t.m.reader.peer (sought.Heartbeat t.m.pair.writer)) t.old.sent (ruled0 t).packets t.mid.sent beat.packet (sent0 t) beat.among (beat.to, has) none
+    (beat_sought t.config t.m.writer beat.packet.bytes beat.count _
+    (writer_entity t.config t.m.writer.peer t.m.writer.number) name.name beat.has) in
+    among_none (IsTo t.m.reader.peer (sought.Heartbeat t.m.pair.writer)) t.old.sent
+    (ruled0 t).packets t.mid.sent beat.packet (sent0 t) beat.among (beat.to, has) none
 
 -- the reader is behind, as the answer says
 told_behind : (t : Tick) → acknowledged t ≤ the_last t → t.m.pair.is_behind ≡ true
 told_behind t behind =
     t.known.behind
-    ∙ (ap (λ (o : Option ℕ). option_map_or (λ a. nat_le a (the_last t)) o false) (row t) ∙ is_le (acknowledged t) (the_last t) behind)
+    ∙ (ap (λ (o : Option ℕ). option_map_or (λ a. nat_le a (the_last t)) o false) (row t)
+    ∙ is_le (acknowledged t) (the_last t) behind)
   where
     is_le : (a b : ℕ) → a ≤ b → nat_le a b ≡ true
     is_le a b le = grind (arith, nat_tests, le)
 
-no_beat : (t : Tick) → HasNone (IsTo t.m.reader.peer (sought.Heartbeat t.m.pair.writer)) t.mid.sent (length t.old.sent) (length t.mid.sent)
+no_beat : (t : Tick) → HasNone (IsTo t.m.reader.peer (sought.Heartbeat t.m.pair.writer)) t.mid.sent (length t.old.sent)
+    (length t.mid.sent)
     → Ends t (world.Tick t.m.writer.peer t.m.moment ∷ []) (t.ticked ∷ []) t.mid
 no_beat t none = (
   noted_tick t,
@@ -236,7 +271,8 @@ no_beat t none = (
   (w0 t).stands,
   ⊎_elim (λ past. inr (not_behind t past))
       (λ behind.
-      ⊎_elim (λ left. absurd (beat_is_found t behind left none)) (λ used. inl (inr (inr (inr (inl (refl, told_behind t behind, used))))))
+      ⊎_elim (λ left. absurd (beat_is_found t behind left none))
+      (λ used. inl (inr (inr (inr (inl (refl, told_behind t behind, used))))))
       (cases_lt (heartbeats_used_at t.network t.m.writer) (2 ^ 31 - 1)))
       (cases_lt (the_last t) (acknowledged t)),
 )
@@ -248,14 +284,17 @@ record Hear : Type 0 where
   k : ℕ
   heard : RoundReply
   mid : WorldKept
-  first : IsFirst (IsTo t.m.reader.peer (sought.Heartbeat t.m.pair.writer)) t.mid.sent (length t.old.sent) (length t.mid.sent) k
+  first : IsFirst (IsTo t.m.reader.peer (sought.Heartbeat t.m.pair.writer)) t.mid.sent (length t.old.sent)
+      (length t.mid.sent) k
   step : IsStep t.tests t.mid (world.Deliver t.m.reader.peer k) heard mid
   whole : is_whole heard.reply ≡ true
   same : mid.unsent ≤ t.old.unsent
   more : t.old.unsent ≤ t.mid.unsent
 
-w1 : (h : Hear) → Went h.t.tests h.t.config (noted_tick h.t) h.t.mid (world.Deliver h.t.m.reader.peer h.k) h.heard.reply h.mid
-w1 h = went h.t.config (noted_tick h.t) h.t.mid (world.Deliver h.t.m.reader.peer h.k) h.heard h.mid h.step (w0 h.t).stands
+w1 : (h : Hear) → Went h.t.tests h.t.config (noted_tick h.t) h.t.mid
+    (world.Deliver h.t.m.reader.peer h.k) h.heard.reply h.mid
+w1 h =
+    went h.t.config (noted_tick h.t) h.t.mid (world.Deliver h.t.m.reader.peer h.k) h.heard h.mid h.step (w0 h.t).stands
 
 abbrev after_beat : Hear → WorldState
 after_beat h = (w1 h).after
@@ -264,8 +303,11 @@ after_beat h = (w1 h).after
 abbrev noted_beat : Hear → WorldState
 noted_beat h = world_ended (noted_tick h.t) (world.Deliver h.t.m.reader.peer h.k) (after_beat h)
 
-hears : (h : Hear) → Delivers h.t.config h.t.tests (noted_tick h.t) h.t.m.reader.peer h.first.packet (w1 h).step.lost (after_beat h)
-hears h = delivers h.t.config (noted_tick h.t) h.t.mid h.t.m.reader.peer h.k h.first.packet h.heard.reply h.mid (w0 h.t).stands h.first.at.1 h.whole (w1 h)
+hears : (h : Hear) → Delivers h.t.config h.t.tests (noted_tick h.t) h.t.m.reader.peer h.first.packet (w1 h).step.lost
+    (after_beat h)
+hears h =
+    delivers h.t.config (noted_tick h.t) h.t.mid h.t.m.reader.peer h.k h.first.packet h.heard.reply h.mid
+    (w0 h.t).stands h.first.at.1 h.whole (w1 h)
 
 among1 : (h : Hear) → Contains (ruled0 h.t).packets h.first.packet
 among1 h =
@@ -275,7 +317,8 @@ among1 h =
 
 beat_has : (h : Hear) → (count : ℤ) × HasHeartbeat h.t.config h.first.packet.bytes h.t.m.writer count
 beat_has h =
-    beat_found h.t.config h.t.tests h.t.network h.t.m.moment 0 (after_tick h.t) h.t.m.writer h.first.packet (of h.t) (here h.t) (ruled0 h.t) (among1 h)
+    beat_found h.t.config h.t.tests h.t.network h.t.m.moment 0 (after_tick h.t) h.t.m.writer h.first.packet (of h.t)
+    (here h.t) (ruled0 h.t) (among1 h)
     (subst (λ (e : EntityId). Has h.first.packet.bytes (sought.Heartbeat e)) h.t.known.writer h.first.is.1)
 
 begins : (h : Hear) → BeginsRound h.t.config h.t.tests h.t.m.writer h.t.m.reader h.t.network (after_beat h)
@@ -318,16 +361,20 @@ none1 h =
     let more = h.more in
     let below = h.t.below in
     let first = h.t.same in
-    none_lost h.t.mid.unsent (w1 h).step.lost h.mid.unsent (w1 h).step.counted (omega (arith, same, more)) (omega (arith, below, first))
+    none_lost h.t.mid.unsent (w1 h).step.lost h.mid.unsent (w1 h).step.counted (omega (arith, same, more))
+    (omega (arith, below, first))
 
 sent1 : (h : Hear) → h.mid.sent ≡ h.t.mid.sent ++ (hears h).step.packets
-sent1 h = sent_by h.t.config (noted_tick h.t) h.t.mid (world.Deliver h.t.m.reader.peer (hears h).number) _ (w1 h).step.lost (after_beat h) h.mid (w0 h.t).stands (w1 h).stands (hears h).step
+sent1 h =
+    sent_by h.t.config (noted_tick h.t) h.t.mid (world.Deliver h.t.m.reader.peer (hears h).number) _ (w1 h).step.lost
+    (after_beat h) h.mid (w0 h.t).stands (w1 h).stands (hears h).step
 
 -- the ACKNACK, as it is looked for
 abbrev ask_of : Hear → Sought
 ask_of h = sought.AckNack h.t.m.pair.reader h.t.m.pair.writer
 
-ask_is : (h : Hear) → sought.AckNack (pair h.t).pair.reader_entity (writer_entity h.t.config h.t.m.writer.peer h.t.m.writer.number) ≡ ask_of h
+ask_is : (h : Hear) → sought.AckNack (pair h.t).pair.reader_entity
+    (writer_entity h.t.config h.t.m.writer.peer h.t.m.writer.number) ≡ ask_of h
 ask_is h =
     let r : h.t.m.pair.reader ≡ (pair h.t).pair.reader_entity =
     h.t.known.reader ∙ entity_is h.t.config _ (pair h.t).pair.reader_entity h.t.m.reader (pair h.t).pair.is_reader in
@@ -338,14 +385,16 @@ ask_is_found : (h : Hear) → acknacks_used_at h.t.network h.t.m.writer h.t.m.re
     → HasNone (IsTo h.t.m.writer.peer (ask_of h)) h.mid.sent (length h.t.mid.sent) (length h.mid.sent) → ⊥
 unfolding begun begins w1 hears
 ask_is_found h left none =
-    let last : the_last h.t ≡ length (writer_changes (own_writer (part h.t) h.t.m.writer.number)) = ap (λ (w : Writer). length (writer_changes w)) (writer_is h.t.network h.t.m.writer) in
+    let last : the_last h.t ≡ length (writer_changes (own_writer (part h.t) h.t.m.writer.number)) =
+    ap (λ (w : Writer). length (writer_changes w)) (writer_is h.t.network h.t.m.writer) in
     let small = few h.t in
     let ask = asks_found (begun h) (omega (arith, small, last)) left (none1 h) in
     among_none (IsTo h.t.m.writer.peer (ask_of h)) h.t.mid.sent (hears h).step.packets h.mid.sent ask.0 (sent1 h) ask.1
     (ask.2, subst (λ (x : Sought). Has ask.0.bytes x) (ask_is h) ask.3) none
 
 no_ask : (h : Hear) → HasNone (IsTo h.t.m.writer.peer (ask_of h)) h.mid.sent (length h.t.mid.sent) (length h.mid.sent)
-    → Ends h.t (world.Tick h.t.m.writer.peer h.t.m.moment ∷ world.Deliver h.t.m.reader.peer h.k ∷ []) (h.t.ticked ∷ h.heard ∷ []) h.mid
+    → Ends h.t (world.Tick h.t.m.writer.peer h.t.m.moment ∷ world.Deliver h.t.m.reader.peer h.k ∷ [])
+    (h.t.ticked ∷ h.heard ∷ []) h.mid
 no_ask h none = (
   noted_beat h,
   (after_tick h.t, h.t.mid.unsent, (w0 h.t).step, (after_beat h, h.mid.unsent, (w1 h).step, (refl, refl))),
@@ -368,8 +417,11 @@ record Ask : Type 0 where
   same : mid.unsent ≤ h.t.old.unsent
   more : h.t.old.unsent ≤ h.mid.unsent
 
-w2 : (a : Ask) → Went a.h.t.tests a.h.t.config (noted_beat a.h) a.h.mid (world.Deliver a.h.t.m.writer.peer a.k) a.asked.reply a.mid
-w2 a = went a.h.t.config (noted_beat a.h) a.h.mid (world.Deliver a.h.t.m.writer.peer a.k) a.asked a.mid a.step (w1 a.h).stands
+w2 : (a : Ask) → Went a.h.t.tests a.h.t.config (noted_beat a.h) a.h.mid
+    (world.Deliver a.h.t.m.writer.peer a.k) a.asked.reply a.mid
+w2 a =
+    went a.h.t.config (noted_beat a.h) a.h.mid (world.Deliver a.h.t.m.writer.peer a.k) a.asked a.mid a.step
+    (w1 a.h).stands
 
 abbrev after_ask : Ask → WorldState
 after_ask a = (w2 a).after
@@ -384,19 +436,27 @@ none2 a =
     let more = a.more in
     let below = a.h.t.below in
     let first = a.h.same in
-    none_lost a.h.mid.unsent (w2 a).step.lost a.mid.unsent (w2 a).step.counted (omega (arith, same, more)) (omega (arith, below, first))
+    none_lost a.h.mid.unsent (w2 a).step.lost a.mid.unsent (w2 a).step.counted (omega (arith, same, more))
+    (omega (arith, below, first))
 
 reported : (a : Ask) → WholeReport a.asked.reply
-reported a = whole_report a.h.t.tests a.h.t.config (noted_beat a.h) a.h.t.m.writer.peer a.k a.asked.reply (after_ask a) a.whole (w2 a).step.ruled.step
+reported a =
+    whole_report a.h.t.tests a.h.t.config (noted_beat a.h) a.h.t.m.writer.peer a.k a.asked.reply (after_ask a) a.whole
+    (w2 a).step.ruled.step
 
-takes : (a : Ask) → Delivers a.h.t.config a.h.t.tests (noted_beat a.h) a.h.t.m.writer.peer a.first.packet 0 (after_ask a)
+takes : (a : Ask) → Delivers a.h.t.config a.h.t.tests (noted_beat a.h) a.h.t.m.writer.peer a.first.packet 0
+    (after_ask a)
 takes a = record {
   number = a.k;
-  at = subst (λ (ps : List Packet). slice_get ps (a.k - 1) ≡ Some a.first.packet) (sym (w1 a.h).stands.sent) a.first.at.1;
+  at = subst (λ (ps : List Packet). slice_get ps (a.k - 1) ≡ Some a.first.packet)
+      (sym (w1 a.h).stands.sent) a.first.at.1;
   report = (reported a).report;
   whole = (reported a).none;
-  step = subst (λ (n : ℕ). RuledStep a.h.t.config a.h.t.tests (noted_beat a.h) (world.Deliver a.h.t.m.writer.peer a.k) (Reported (reported a).report) n (after_ask a)) (none2 a)
-      (subst (λ (r : Reply). RuledStep a.h.t.config a.h.t.tests (noted_beat a.h) (world.Deliver a.h.t.m.writer.peer a.k) r (w2 a).step.lost (after_ask a)) (reported a).is (w2 a).step.ruled);
+  step =
+      subst (λ (n : ℕ). RuledStep a.h.t.config a.h.t.tests (noted_beat a.h) (world.Deliver a.h.t.m.writer.peer a.k)
+      (Reported (reported a).report) n (after_ask a)) (none2 a)
+      (subst (λ (r : Reply). RuledStep a.h.t.config a.h.t.tests (noted_beat a.h)
+      (world.Deliver a.h.t.m.writer.peer a.k) r (w2 a).step.lost (after_ask a)) (reported a).is (w2 a).step.ruled);
 }
 
 among2 : (a : Ask) → Contains (hears a.h).step.packets a.first.packet
@@ -407,7 +467,9 @@ among2 a =
 
 ask_has : (a : Ask) → (count : ℤ) × HasAckNack a.h.t.config a.first.packet.bytes a.h.t.m.writer a.h.t.m.reader count
 unfolding begun begins hears
-ask_has a = ask_found_among (begun a.h) a.first.packet (among2 a) (subst (λ (x : Sought). Has a.first.packet.bytes x) (sym (ask_is a.h)) a.first.is.1)
+ask_has a =
+    ask_found_among (begun a.h) a.first.packet (among2 a)
+    (subst (λ (x : Sought). Has a.first.packet.bytes x) (sym (ask_is a.h)) a.first.is.1)
 
 asks : (a : Ask) → AsksInRound a.h.t.config a.h.t.tests a.h.t.m.writer a.h.t.m.reader a.h.t.network (after_ask a)
 unfolding begins hears
@@ -425,47 +487,70 @@ abbrev answers : Ask → List Packet
 answers a = (takes a).step.packets
 
 sent2 : (a : Ask) → a.mid.sent ≡ a.h.mid.sent ++ answers a
-sent2 a = sent_by a.h.t.config (noted_beat a.h) a.h.mid (world.Deliver a.h.t.m.writer.peer (takes a).number) _ 0 (after_ask a) a.mid (w1 a.h).stands (w2 a).stands (takes a).step
+sent2 a =
+    sent_by a.h.t.config (noted_beat a.h) a.h.mid (world.Deliver a.h.t.m.writer.peer (takes a).number) _ 0
+    (after_ask a) a.mid (w1 a.h).stands (w2 a).stands (takes a).step
 
 -- all of them are delivered
-all_answers : (a : Ask) → answers_at a.h.t.m.reader.peer (length a.h.mid.sent) (length a.mid.sent) ≡ map (λ k. world.Deliver a.h.t.m.reader.peer k) (numbers_from (length a.h.mid.sent + 1) (length (answers a)))
+all_answers : (a : Ask) → answers_at a.h.t.m.reader.peer (length a.h.mid.sent) (length a.mid.sent)
+    ≡ map (λ k. world.Deliver a.h.t.m.reader.peer k) (numbers_from (length a.h.mid.sent + 1) (length (answers a)))
 unfolding asks
 all_answers a =
     let c = a.h.t in
     let most : length (answers a) ≤ 32 =
-    answers_are_few c.config a.h.t.tests c.m.writer c.m.reader c.place (acknowledged c) c.network (after_ask a) (core c).stands.is_peer.checked c.s.sound c.s.used c.s.bounded (pair c).pair (stands c) (asks a) in
+    answers_are_few c.config a.h.t.tests c.m.writer c.m.reader c.place (acknowledged c) c.network (after_ask a)
+    (core c).stands.is_peer.checked c.s.sound c.s.used c.s.bounded (pair c).pair (stands c) (asks a) in
     let size = ap (λ (ps : List Packet). length ps) (sent2 a) in
     let parts = length-append a.h.mid.sent (answers a) in
-    let count : min 32 (length a.mid.sent - length a.h.mid.sent) ≡ length (answers a) = omega (arith, most, size, parts) in
+    let count : min 32 (length a.mid.sent - length a.h.mid.sent) ≡ length (answers a) =
+    omega (arith, most, size, parts) in
     ap (λ (n : ℕ). map (λ k. world.Deliver c.m.reader.peer k) (numbers_from (length a.h.mid.sent + 1) n)) count
 
-answered : (a : Ask) (later : List WorldEvent) (rest : List RoundReply) (new : WorldKept) → are_whole rest ≡ true → Answering a.h.t.tests a.h.t.m (length a.h.mid.sent) a.mid later rest new
-    → Ends a.h.t (world.Tick a.h.t.m.writer.peer a.h.t.m.moment ∷ world.Deliver a.h.t.m.reader.peer a.h.k ∷ world.Deliver a.h.t.m.writer.peer a.k ∷ later) (a.h.t.ticked ∷ a.h.heard ∷ a.asked ∷ rest) new
+answered : (a : Ask) (later : List WorldEvent) (rest : List RoundReply) (new : WorldKept) → are_whole rest ≡ true
+    → Answering a.h.t.tests a.h.t.m (length a.h.mid.sent) a.mid later rest new
+    → Ends a.h.t (world.Tick a.h.t.m.writer.peer a.h.t.m.moment ∷ world.Deliver a.h.t.m.reader.peer a.h.k
+    ∷ world.Deliver a.h.t.m.writer.peer a.k ∷ later) (a.h.t.ticked ∷ a.h.heard ∷ a.asked ∷ rest) new
 unfolding asks
 answered a later rest new whole next = (
   all.after,
-  (after_tick c, c.mid.unsent, (w0 c).step, (after_beat a.h, a.h.mid.unsent, (w1 a.h).step, (after_ask a, a.mid.unsent, (w2 a).step, run))),
+  (
+    after_tick c,
+    c.mid.unsent,
+    (w0 c).step,
+    (after_beat a.h, a.h.mid.unsent, (w1 a.h).step, (after_ask a, a.mid.unsent, (w2 a).step, run)),
+  ),
   all.stands,
-  inr (pair_catches_up c.config a.h.t.tests c.m.writer c.m.reader c.place (acknowledged c) c.network all.after (core c).stands.is_peer.checked c.s.sound c.s.used c.s.bounded (pair c).pair (stands c) round),
+  inr (pair_catches_up c.config a.h.t.tests c.m.writer c.m.reader c.place (acknowledged c) c.network all.after
+      (core c).stands.is_peer.checked c.s.sound c.s.used c.s.bounded (pair c).pair (stands c) round),
 )
   where
     c : Tick
     c = a.h.t
 
-    steps : AreSteps a.h.t.tests a.mid (map (λ k. world.Deliver c.m.reader.peer k) (numbers_from (length a.h.mid.sent + 1) (length (answers a)))) rest new
+    steps : AreSteps a.h.t.tests a.mid
+        (map (λ k. world.Deliver c.m.reader.peer k) (numbers_from (length a.h.mid.sent + 1) (length (answers a)))) rest
+        new
     steps = subst (λ (es : List WorldEvent). AreSteps a.h.t.tests a.mid es rest new) (next.0 ∙ all_answers a) next.1
 
-    at : (k : ℕ) (p : Packet) → slice_get (answers a) k ≡ Some p → slice_get a.mid.sent (length a.h.mid.sent + 1 + k - 1) ≡ Some p
+    at : (k : ℕ) (p : Packet) → slice_get (answers a) k ≡ Some p
+        → slice_get a.mid.sent (length a.h.mid.sent + 1 + k - 1) ≡ Some p
     at k p is =
         let index : length a.h.mid.sent + k ≡ length a.h.mid.sent + 1 + k - 1 = omega arith in
         subst (λ (i : ℕ). slice_get a.mid.sent i ≡ Some p) index
-        (subst (λ (ps : List Packet). slice_get ps (length a.h.mid.sent + k) ≡ Some p) (sym (sent2 a)) (get_later a.h.mid.sent (answers a) k p is))
+        (subst (λ (ps : List Packet). slice_get ps (length a.h.mid.sent + k) ≡ Some p) (sym (sent2 a))
+        (get_later a.h.mid.sent (answers a) k p is))
 
-    all : Ran a.h.t.tests c.config (noted_ask a) a.mid (map (λ k. world.Deliver c.m.reader.peer k) (numbers_from (length a.h.mid.sent + 1) (length (answers a)))) rest new (λ x. DeliversAll c.config a.h.t.tests (noted_ask a) c.m.reader.peer (answers a) x)
-    all = deliver_all c.config c.m.reader.peer (length a.h.mid.sent + 1) (answers a) (noted_ask a) a.mid rest new (omega arith) at whole steps (w2 a).stands
+    all : Ran a.h.t.tests c.config (noted_ask a) a.mid
+        (map (λ k. world.Deliver c.m.reader.peer k) (numbers_from (length a.h.mid.sent + 1) (length (answers a)))) rest
+        new (λ x. DeliversAll c.config a.h.t.tests (noted_ask a) c.m.reader.peer (answers a) x)
+    all =
+        deliver_all c.config c.m.reader.peer (length a.h.mid.sent + 1) (answers a) (noted_ask a) a.mid rest new
+        (omega arith) at whole steps (w2 a).stands
 
     run : RuledRun c.config a.h.t.tests (noted_ask a) a.mid.unsent later (replies_of rest) all.after new.unsent
-    run = subst (λ (es : List WorldEvent). RuledRun c.config a.h.t.tests (noted_ask a) a.mid.unsent es (replies_of rest) all.after new.unsent) (sym (next.0 ∙ all_answers a)) all.run
+    run =
+        subst (λ (es : List WorldEvent). RuledRun c.config a.h.t.tests (noted_ask a) a.mid.unsent es
+        (replies_of rest) all.after new.unsent) (sym (next.0 ∙ all_answers a)) all.run
 
     round : IsRepairRound c.config a.h.t.tests c.m.writer c.m.reader c.network all.after
     round = record { asked = after_ask a; asks = asks a; repairs = all.then }
@@ -473,42 +558,77 @@ answered a later rest new whole next = (
 -- ---- the stages
 
 -- what is so of replies that were found whole
-whole_as : (replies rest : List RoundReply) (r : RoundReply) → replies ≡ r ∷ rest → are_whole replies ≡ true → (is_whole r.reply ≡ true) × (are_whole rest ≡ true)
-whole_as replies rest r is whole = both_are (is_whole r.reply) (are_whole rest) (subst (λ (rs : List RoundReply). are_whole rs ≡ true) is whole)
+whole_as : (replies rest : List RoundReply) (r : RoundReply) → replies ≡ r ∷ rest → are_whole replies ≡ true
+    → (is_whole r.reply ≡ true) × (are_whole rest ≡ true)
+whole_as replies rest r is whole =
+    both_are (is_whole r.reply) (are_whole rest) (subst (λ (rs : List RoundReply). are_whole rs ≡ true) is whole)
 
-after_hearing : (h : Hear) (events : List WorldEvent) (replies : List RoundReply) (new : WorldKept) → are_whole replies ≡ true → new.unsent ≤ h.t.old.unsent → h.t.old.unsent ≤ h.mid.unsent
+after_hearing : (h : Hear) (events : List WorldEvent) (replies : List RoundReply) (new : WorldKept)
+    → are_whole replies ≡ true → new.unsent ≤ h.t.old.unsent → h.t.old.unsent ≤ h.mid.unsent
     → Acknowledging h.t.tests h.t.m (length h.t.mid.sent) h.mid events replies new
-    → Ends h.t (world.Tick h.t.m.writer.peer h.t.m.moment ∷ world.Deliver h.t.m.reader.peer h.k ∷ events) (h.t.ticked ∷ h.heard ∷ replies) new
+    → Ends h.t (world.Tick h.t.m.writer.peer h.t.m.moment ∷ world.Deliver h.t.m.reader.peer h.k ∷ events)
+    (h.t.ticked ∷ h.heard ∷ replies) new
 after_hearing h events replies new whole same more next =
     ⊎_elim
     (λ f. ends_as h.t (before ++ events) before (h.t.ticked ∷ h.heard ∷ replies) (h.t.ticked ∷ h.heard ∷ []) new h.mid
-    (ap (λ (es : List WorldEvent). before ++ es) f.0) (ap (λ (rs : List RoundReply). h.t.ticked ∷ h.heard ∷ rs) f.1) f.2 (no_ask h f.3))
+    (ap (λ (es : List WorldEvent). before ++ es) f.0) (ap (λ (rs : List RoundReply). h.t.ticked ∷ h.heard ∷ rs) f.1) f.2
+    (no_ask h f.3))
     (λ f.
     let all = whole_as replies f.4 f.1 f.8 whole in
     let w = went h.t.config (noted_beat h) h.mid (world.Deliver h.t.m.writer.peer f.0) f.1 f.2 f.6 (w1 h).stands in
     let rest = unsent_on h.t.tests h.t.config (ended w) f.2 f.3 f.4 new f.9.1 w.stands in
-    let a : Ask = record { h = h; k = f.0; asked = f.1; mid = f.2; first = f.5; step = f.6; whole = all.0; same = omega (arith, rest, same); more = more } in
-    ends_as h.t (before ++ events) (before ++ world.Deliver h.t.m.writer.peer f.0 ∷ f.3) (h.t.ticked ∷ h.heard ∷ replies) (h.t.ticked ∷ h.heard ∷ f.1 ∷ f.4) new new
-    (ap (λ (es : List WorldEvent). before ++ es) f.7) (ap (λ (rs : List RoundReply). h.t.ticked ∷ h.heard ∷ rs) f.8) refl (answered a f.3 f.4 new all.1 f.9))
+    let a : Ask =
+    record {
+      h = h;
+      k = f.0;
+      asked = f.1;
+      mid = f.2;
+      first = f.5;
+      step = f.6;
+      whole = all.0;
+      same = omega (arith, rest, same);
+      more = more;
+    } in
+    ends_as h.t (before ++ events) (before ++ world.Deliver h.t.m.writer.peer f.0 ∷ f.3)
+    (h.t.ticked ∷ h.heard ∷ replies) (h.t.ticked ∷ h.heard ∷ f.1 ∷ f.4) new new
+    (ap (λ (es : List WorldEvent). before ++ es) f.7)
+    (ap (λ (rs : List RoundReply). h.t.ticked ∷ h.heard ∷ rs) f.8) refl (answered a f.3 f.4 new all.1 f.9))
     next
   where
     before : List WorldEvent
     before = world.Tick h.t.m.writer.peer h.t.m.moment ∷ world.Deliver h.t.m.reader.peer h.k ∷ []
 
-after_ticking : (t : Tick) (events : List WorldEvent) (replies : List RoundReply) (new : WorldKept) → are_whole replies ≡ true → new.unsent ≤ t.old.unsent → t.old.unsent ≤ t.mid.unsent
-    → Beating t.tests t.m (length t.old.sent) t.mid events replies new → Ends t (world.Tick t.m.writer.peer t.m.moment ∷ events) (t.ticked ∷ replies) new
+after_ticking : (t : Tick) (events : List WorldEvent) (replies : List RoundReply) (new : WorldKept)
+    → are_whole replies ≡ true → new.unsent ≤ t.old.unsent → t.old.unsent ≤ t.mid.unsent
+    → Beating t.tests t.m (length t.old.sent) t.mid events replies new
+    → Ends t (world.Tick t.m.writer.peer t.m.moment ∷ events) (t.ticked ∷ replies) new
 after_ticking t events replies new whole same more next =
     ⊎_elim
     (λ f. ends_as t (tick ∷ events) (tick ∷ []) (t.ticked ∷ replies) (t.ticked ∷ []) new t.mid
-    (ap (λ (es : List WorldEvent). tick ∷ es) f.0) (ap (λ (rs : List RoundReply). t.ticked ∷ rs) f.1) f.2 (no_beat t f.3))
+    (ap (λ (es : List WorldEvent). tick ∷ es) f.0) (ap (λ (rs : List RoundReply). t.ticked ∷ rs) f.1) f.2
+    (no_beat t f.3))
     (λ f.
     let all = whole_as replies f.4 f.1 f.8 whole in
     let w = went t.config (noted_tick t) t.mid (world.Deliver t.m.reader.peer f.0) f.1 f.2 f.6 (w0 t).stands in
     let steps : AreSteps t.tests f.2 f.3 f.4 new = acks_steps t.m (length t.mid.sent) f.2 f.3 f.4 new f.9 in
     let rest = unsent_on t.tests t.config (ended w) f.2 f.3 f.4 new steps w.stands in
-    let one = unsent_on t.tests t.config (noted_tick t) t.mid (world.Deliver t.m.reader.peer f.0 ∷ []) (f.1 ∷ []) f.2 (f.2, f.6, refl) (w0 t).stands in
-    let h : Hear = record { t = t; k = f.0; heard = f.1; mid = f.2; first = f.5; step = f.6; whole = all.0; same = omega (arith, rest, same); more = more } in
-    ends_as t (tick ∷ events) (tick ∷ world.Deliver t.m.reader.peer f.0 ∷ f.3) (t.ticked ∷ replies) (t.ticked ∷ f.1 ∷ f.4) new new
+    let one =
+    unsent_on t.tests t.config (noted_tick t) t.mid (world.Deliver t.m.reader.peer f.0 ∷ []) (f.1 ∷ []) f.2
+    (f.2, f.6, refl) (w0 t).stands in
+    let h : Hear =
+    record {
+      t = t;
+      k = f.0;
+      heard = f.1;
+      mid = f.2;
+      first = f.5;
+      step = f.6;
+      whole = all.0;
+      same = omega (arith, rest, same);
+      more = more;
+    } in
+    ends_as t (tick ∷ events) (tick ∷ world.Deliver t.m.reader.peer f.0 ∷ f.3) (t.ticked ∷ replies)
+    (t.ticked ∷ f.1 ∷ f.4) new new
     (ap (λ (es : List WorldEvent). tick ∷ es) f.7) (ap (λ (rs : List RoundReply). t.ticked ∷ rs) f.8) refl
     (after_hearing h f.3 f.4 new all.1 same (omega (arith, one, more)) f.9))
     next
@@ -518,11 +638,15 @@ after_ticking t events replies new whole same more next =
 
 -- ---- the round
 
-ends : {tests : AllTests} → (old : WorldKept) (m : Matched) (ticked : RoundReply) (mid : WorldKept) (events : List WorldEvent) (replies : List RoundReply) (new : WorldKept) → IsKnown old m
-    → IsStep tests old (world.Tick m.writer.peer m.moment) ticked mid → Beating tests m (length old.sent) mid events replies new
-    → (config : Config) (network : WorldState) (place : ℕ) → StandsFor old config network → place_at (machine_of network) m.reader m.writer ≡ Some place
+ends : {tests : AllTests} → (old : WorldKept) (m : Matched) (ticked : RoundReply) (mid : WorldKept)
+    (events : List WorldEvent) (replies : List RoundReply) (new : WorldKept) → IsKnown old m
+    → IsStep tests old (world.Tick m.writer.peer m.moment) ticked mid
+    → Beating tests m (length old.sent) mid events replies new
+    → (config : Config) (network : WorldState) (place : ℕ) → StandsFor old config network
+    → place_at (machine_of network) m.reader m.writer ≡ Some place
     → EndsSo tests config network old m place (world.Tick m.writer.peer m.moment ∷ events) (ticked ∷ replies) new
-ends {tests} old m ticked mid events replies new known tick beats config network place s at = by (are_whole (ticked ∷ replies)) refl
+ends {tests} old m ticked mid events replies new known tick beats config network place s at =
+    by (are_whole (ticked ∷ replies)) refl
   where
     steps : AreSteps tests mid events replies new
     steps = beats_steps m (length old.sent) mid events replies new beats
@@ -533,7 +657,9 @@ ends {tests} old m ticked mid events replies new known tick beats config network
     hindered : IsHindered network m.writer m.reader (answer_of old m place place (ticked ∷ replies))
         → EndsSo tests config network old m place (world.Tick m.writer.peer m.moment ∷ events) (ticked ∷ replies) new
     hindered why =
-        let r = ran config network old (world.Tick m.writer.peer m.moment ∷ events) (ticked ∷ replies) new (mid, tick, steps) s in
+        let r =
+        ran config network old (world.Tick m.writer.peer m.moment ∷ events) (ticked ∷ replies) new
+        (mid, tick, steps) s in
         (r.after, r.run, r.stands, inl why)
 
     good : are_whole (ticked ∷ replies) ≡ true → new.unsent ≤ old.unsent → old.unsent < 2 ^ 64 - 1
@@ -541,7 +667,9 @@ ends {tests} old m ticked mid events replies new known tick beats config network
     good whole same below =
         let all = both_are (is_whole ticked.reply) (are_whole replies) whole in
         let rest = unsent_on tests config (ended w) mid events replies new steps w.stands in
-        let one = unsent_on tests config network old (world.Tick m.writer.peer m.moment ∷ []) (ticked ∷ []) mid (mid, tick, refl) s in
+        let one =
+        unsent_on tests config network old (world.Tick m.writer.peer m.moment ∷ []) (ticked ∷ []) mid
+        (mid, tick, refl) s in
         let t : Tick = record {
           tests = tests;
           config = config;
@@ -567,9 +695,11 @@ ends {tests} old m ticked mid events replies new known tick beats config network
     all_sent whole false e =
         let all : List WorldEvent = world.Tick m.writer.peer m.moment ∷ events in
         let same = unsent_shown tests old.unsent old all (ticked ∷ replies) new (mid, tick, steps) (omega arith) e in
-        ⊎_elim (λ below. good whole same below) (λ full. hindered (inr (inr (inl full)))) (cases_lt old.unsent (2 ^ 64 - 1))
+        ⊎_elim (λ below. good whole same below) (λ full. hindered (inr (inr (inl full))))
+        (cases_lt old.unsent (2 ^ 64 - 1))
 
-    by : (b : Bool) → are_whole (ticked ∷ replies) ≡ b → EndsSo tests config network old m place (world.Tick m.writer.peer m.moment ∷ events) (ticked ∷ replies) new
+    by : (b : Bool) → are_whole (ticked ∷ replies) ≡ b
+        → EndsSo tests config network old m place (world.Tick m.writer.peer m.moment ∷ events) (ticked ∷ replies) new
     by false e = hindered (inl e)
     by true e = all_sent e (has_unsent old.unsent (ticked ∷ replies)) refl
 
@@ -578,8 +708,10 @@ still_there : (o : Option ℕ) (from : ℕ) → IsAtMost from o → o ≡ Some (
 still_there (Some to) from h = refl
 still_there None from h = absurd h
 
-rounds_of : {tests : AllTests} → (old : WorldKept) (m : Matched) (ticked : RoundReply) (mid : WorldKept) (events : List WorldEvent) (replies : List RoundReply) (new : WorldKept)
-    (from : ℕ) (to : Option ℕ) → IsKnown old m → IsStep tests old (world.Tick m.writer.peer m.moment) ticked mid → Beating tests m (length old.sent) mid events replies new
+rounds_of : {tests : AllTests} → (old : WorldKept) (m : Matched) (ticked : RoundReply) (mid : WorldKept)
+    (events : List WorldEvent) (replies : List RoundReply) (new : WorldKept)
+    (from : ℕ) (to : Option ℕ) → IsKnown old m → IsStep tests old (world.Tick m.writer.peer m.moment) ticked mid
+    → Beating tests m (length old.sent) mid events replies new
     → IsPlace old m.reader m.writer (Some from) → IsPlace new m.reader m.writer to
     → Rounds tests old m.writer m.reader (answer_of old m from (unwrap_or to from) (ticked ∷ replies)) new
 rounds_of {tests} old m ticked mid events replies new from to known tick beats from_is to_is = record {
@@ -590,10 +722,13 @@ rounds_of {tests} old m ticked mid events replies new from to known tick beats f
       let before : place_at (machine_of network) m.reader m.writer ≡ Some from = sym (from_is config network s) in
       let end = ends old m ticked mid events replies new known tick beats config network from s before in
       let all : List WorldEvent = world.Tick m.writer.peer m.moment ∷ events in
-      let no_less = places_after config tests network old.unsent all (replies_of (ticked ∷ replies)) end.0 new.unsent end.1 m.reader m.writer in
+      let no_less =
+      places_after config tests network old.unsent all
+      (replies_of (ticked ∷ replies)) end.0 new.unsent end.1 m.reader m.writer in
       let at_most = subst (λ (o : Option ℕ). NoLess o (place_at (machine_of end.0) m.reader m.writer)) before no_less in
       let after : to ≡ place_at (machine_of end.0) m.reader m.writer = to_is config end.0 end.2 in
-      let there : to ≡ Some (unwrap_or to from) = still_there to from (subst (λ (o : Option ℕ). IsAtMost from o) (sym after) at_most) in
+      let there : to ≡ Some (unwrap_or to from) =
+      still_there to from (subst (λ (o : Option ℕ). IsAtMost from o) (sym after) at_most) in
       record {
         is_round = round_is old m ticked mid events replies new known tick beats config network s;
         after = end.0;
@@ -605,19 +740,29 @@ rounds_of {tests} old m ticked mid events replies new from to known tick beats f
         last = k.last;
         from = before;
         to = sym after ∙ there;
-        caught_up = subst (λ (n : ℕ). IsHindered network m.writer m.reader (answer_of old m from from (ticked ∷ replies)) ⊎ HasCaughtUp end.0 m.writer m.reader from n)
+        caught_up =
+            subst (λ (n : ℕ). IsHindered network m.writer m.reader (answer_of old m from from (ticked ∷ replies))
+            ⊎ HasCaughtUp end.0 m.writer m.reader from n)
             (sym k.last) end.3;
       };
 }
 
-pub rounds_are : {tests : AllTests} → (old : WorldKept) (writer reader : Endpoint) (m : Matched) (ticked : RoundReply) (mid : WorldKept) (replies all : List RoundReply) (new : WorldKept)
-    (events : List WorldEvent) (from : ℕ) (to : Option ℕ) → m.writer ≡ writer → m.reader ≡ reader → all ≡ ticked ∷ replies → IsKnown old m
-    → IsStep tests old (world.Tick m.writer.peer m.moment) ticked mid → Beating tests m (length old.sent) mid events replies new
-    → IsPlace old reader writer (Some from) → IsPlace new reader writer to → Rounds tests old writer reader (answer_of old m from (unwrap_or to from) all) new
+pub rounds_are : {tests : AllTests}
+    → (old : WorldKept) (writer reader : Endpoint) (m : Matched) (ticked : RoundReply) (mid : WorldKept)
+    (replies all : List RoundReply) (new : WorldKept)
+    (events : List WorldEvent) (from : ℕ) (to : Option ℕ) → m.writer ≡ writer → m.reader ≡ reader
+    → all ≡ ticked ∷ replies → IsKnown old m
+    → IsStep tests old (world.Tick m.writer.peer m.moment) ticked mid
+    → Beating tests m (length old.sent) mid events replies new
+    → IsPlace old reader writer (Some from) → IsPlace new reader writer to
+    → Rounds tests old writer reader (answer_of old m from (unwrap_or to from) all) new
 rounds_are {tests} old writer reader m ticked mid replies all new events from to w r is known tick beats =
-    subst (λ (e : Endpoint). IsPlace old reader e (Some from) → IsPlace new reader e to → Rounds tests old e reader (answer all) new) w
-    (subst (λ (e : Endpoint). IsPlace old e m.writer (Some from) → IsPlace new e m.writer to → Rounds tests old m.writer e (answer all) new) r
-    (subst (λ (rs : List RoundReply). IsPlace old m.reader m.writer (Some from) → IsPlace new m.reader m.writer to → Rounds tests old m.writer m.reader (answer rs) new) (sym is)
+    subst (λ (e : Endpoint). IsPlace old reader e (Some from) → IsPlace new reader e to
+    → Rounds tests old e reader (answer all) new) w
+    (subst (λ (e : Endpoint). IsPlace old e m.writer (Some from) → IsPlace new e m.writer to
+    → Rounds tests old m.writer e (answer all) new) r
+    (subst (λ (rs : List RoundReply). IsPlace old m.reader m.writer (Some from) → IsPlace new m.reader m.writer to
+    → Rounds tests old m.writer m.reader (answer rs) new) (sym is)
     (λ from_is to_is. rounds_of old m ticked mid events replies new from to known tick beats from_is to_is)))
   where
     answer : List RoundReply → Round

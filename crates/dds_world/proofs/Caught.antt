@@ -47,7 +47,8 @@ pub record CoreAt (config : Config) (network : WorldState) (n : ℕ) : Type 0 wh
   pub stands : CoreStandsFor core config (peer_at network n)
   pub known : IsSound config (peer_at network n)
 
-pub core_at : (kept : WorldKept) (config : Config) (network : WorldState) (n : ℕ) → StandsFor kept config network → HasNumber network.peers n → CoreAt config network n
+pub core_at : (kept : WorldKept) (config : Config) (network : WorldState) (n : ℕ) → StandsFor kept config network
+    → HasNumber network.peers n → CoreAt config network n
 core_at kept config network zero s has = let low = has.0 in absurd (omega (arith, low))
 core_at kept config network (suc i) s has =
     let count = s.count in
@@ -56,7 +57,8 @@ core_at kept config network (suc i) s has =
     record { core = found.0; stands = s.each i found.0 found.1; known = s.known i found.0 found.1 }
 
 -- a peer that has readers is there
-peer_there : (peers : List Peer) (n r : ℕ) → HasNumber (numbered peers n no_peer).part.rtps.readers r → HasNumber peers n
+peer_there : (peers : List Peer) (n r : ℕ) → HasNumber (numbered peers n no_peer).part.rtps.readers r
+    → HasNumber peers n
 peer_there peers zero r has = let low = has.0 in let high = has.1 in absurd (omega (arith, low, high))
 peer_there peers (suc i) r has = (omega arith, within peers i has)
   where
@@ -70,20 +72,27 @@ pub record PlaceKnown (network : WorldState) (writer reader : Endpoint) (place :
   pub here : HasNumber (peer_at network reader.peer).part.dds.readers reader.number
   pub known : (tracked_at network writer reader).place ≡ place
 
-pub place_known : (kept : WorldKept) (config : Config) (network : WorldState) (writer reader : Endpoint) (place : ℕ) → StandsFor kept config network
+pub place_known : (kept : WorldKept) (config : Config) (network : WorldState) (writer reader : Endpoint) (place : ℕ)
+    → StandsFor kept config network
     → place_at (machine_of network) reader writer ≡ Some place → PlaceKnown network writer reader place
 place_known kept config network writer reader place s at =
-    let row : place_of (own_proxies (peer_at network reader.peer).part reader.number) writer ≡ Some place = sym (place_is network reader writer) ∙ at in
+    let row : place_of (own_proxies (peer_at network reader.peer).part reader.number) writer ≡ Some place =
+    sym (place_is network reader writer) ∙ at in
     let has = has_reader (peer_at network reader.peer).part reader.number place writer row in
     let c = core_at kept config network reader.peer s (peer_there network.peers reader.peer reader.number has) in
     let rows = c.stands.readers.rows in
     let count = c.stands.readers.count in
     let low = has.0 in
     let high = has.1 in
-    record { here = (omega (arith, low), omega (arith, high, rows, count)); known = c.known.place writer reader.number place row }
+    record {
+      here = (omega (arith, low), omega (arith, high, rows, count));
+      known = c.known.place writer reader.number
+          place row;
+    }
 
 -- a writer has far fewer changes than there are numbers
-pub few_changes : (core : PeerKept) (config : Config) (peer : Peer) (n : ℕ) → CoreStandsFor core config peer → HasNumber peer.part.rtps.writers n → length (writer_changes (own_writer peer.part n)) < 2 ^ 62
+pub few_changes : (core : PeerKept) (config : Config) (peer : Peer) (n : ℕ) → CoreStandsFor core config peer
+    → HasNumber peer.part.rtps.writers n → length (writer_changes (own_writer peer.part n)) < 2 ^ 62
 few_changes core config peer zero s has = let low = has.0 in absurd (omega (arith, low))
 few_changes core config peer (suc i) s has =
     let count = s.writers.count in
@@ -96,17 +105,24 @@ few_changes core config peer (suc i) s has =
 
 -- ---- one step
 
-pub went : {tests : AllTests} → (config : Config) (network : WorldState) (old : WorldKept) (ev : WorldEvent) (reply : RoundReply) (new : WorldKept) → IsStep tests old ev reply new → StandsFor old config network
+pub went : {tests : AllTests} → (config : Config) (network : WorldState) (old : WorldKept) (ev : WorldEvent)
+    (reply : RoundReply) (new : WorldKept) → IsStep tests old ev reply new → StandsFor old config network
     → Went tests config network old ev reply.reply new
 went config network old ev reply new step s = went_by config network old ev reply.reply new step.rules step.sends s
 
 -- the packets that were sent at it follow those before
-pub sent_by : {tests : AllTests} → (config : Config) (network : WorldState) (old : WorldKept) (ev : WorldEvent) (reply : Reply) (lost : ℕ) (after : WorldState) (new : WorldKept) → StandsFor old config network → StandsFor new config (world_ended network ev after)
+pub sent_by : {tests : AllTests}
+    → (config : Config) (network : WorldState) (old : WorldKept) (ev : WorldEvent) (reply : Reply) (lost : ℕ)
+    (after : WorldState) (new : WorldKept) → StandsFor old config network
+    → StandsFor new config (world_ended network ev after)
     → (r : RuledStep config tests network ev reply lost after) → new.sent ≡ old.sent ++ r.packets
-sent_by config network old ev reply lost after new s stands r = sym stands.sent ∙ (r.sent ∙ ap (λ (ps : List Packet). ps ++ r.packets) s.sent)
+sent_by config network old ev reply lost after new s stands r =
+    sym stands.sent ∙ (r.sent ∙ ap (λ (ps : List Packet). ps ++ r.packets) s.sent)
 
 -- a tick for which memory was found is done
-pub whole_tick : (tests : AllTests) → (config : Config) (old : WorldState) (peer now : ℕ) (reply : Reply) (new : WorldState) → is_whole reply ≡ true → WorldStep config tests old (world.Tick peer now) reply new → reply ≡ Done
+pub whole_tick : (tests : AllTests)
+    → (config : Config) (old : WorldState) (peer now : ℕ) (reply : Reply) (new : WorldState) → is_whole reply ≡ true
+    → WorldStep config tests old (world.Tick peer now) reply new → reply ≡ Done
 whole_tick tests config old peer now Done new whole step = refl
 whole_tick tests config old peer now (Reported report) new whole (inl h) =
     absurd (subst (λ (r : Reply). TickStep (peer_at old peer).part now r h.after.part) h.replies h.step.step.0)
@@ -123,15 +139,22 @@ not_some : (o : Option ℕ) → not (is_some o) ≡ true → o ≡ None
 not_some None h = refl
 not_some (Some n) h = absurd cc
 
-pub whole_report : (tests : AllTests) → (config : Config) (old : WorldState) (peer k : ℕ) (reply : Reply) (new : WorldState) → is_whole reply ≡ true → WorldStep config tests old (world.Deliver peer k) reply new → WholeReport reply
+pub whole_report : (tests : AllTests)
+    → (config : Config) (old : WorldState) (peer k : ℕ) (reply : Reply) (new : WorldState) → is_whole reply ≡ true
+    → WorldStep config tests old (world.Deliver peer k) reply new → WholeReport reply
 whole_report tests config old peer k Done new whole (inl h) =
-    absurd (subst (λ (r : Reply). EventStep config (tests peer) (peer_at old peer) (event.Deliver h.0.bytes) r h.3.after) h.3.replies h.3.step.step)
+    absurd (subst (λ (r : Reply). EventStep config (tests peer) (peer_at old peer)
+    (event.Deliver h.0.bytes) r h.3.after) h.3.replies h.3.step.step)
 whole_report tests config old peer k Done new whole (inr h) = let r = h.1.is_refused in absurd cc
-whole_report tests config old peer k (Reported report) new whole step = record { report = report; is = refl; none = not_some report.refused whole }
+whole_report tests config old peer k (Reported report) new whole step =
+    record { report = report; is = refl; none = not_some report.refused whole }
 whole_report tests config old peer k reply new whole step = absurd cc
 
-pub delivers : {tests : AllTests} → (config : Config) (network : WorldState) (old : WorldKept) (peer k : ℕ) (packet : Packet) (reply : Reply) (new : WorldKept) → StandsFor old config network → slice_get old.sent (k - 1) ≡ Some packet → is_whole reply ≡ true
-    → (w : Went tests config network old (world.Deliver peer k) reply new) → Delivers config tests network peer packet w.step.lost w.after
+pub delivers : {tests : AllTests}
+    → (config : Config) (network : WorldState) (old : WorldKept) (peer k : ℕ) (packet : Packet) (reply : Reply)
+    (new : WorldKept) → StandsFor old config network → slice_get old.sent (k - 1) ≡ Some packet → is_whole reply ≡ true
+    → (w : Went tests config network old (world.Deliver peer k) reply new)
+    → Delivers config tests network peer packet w.step.lost w.after
 delivers {tests} config network old peer k packet reply new s at whole w =
     let r = whole_report tests config network peer k reply w.after whole w.step.ruled.step in
     record {
@@ -139,7 +162,9 @@ delivers {tests} config network old peer k packet reply new s at whole w =
       at = subst (λ (ps : List Packet). slice_get ps (k - 1) ≡ Some packet) (sym s.sent) at;
       report = r.report;
       whole = r.none;
-      step = subst (λ (x : Reply). RuledStep config tests network (world.Deliver peer k) x w.step.lost w.after) r.is w.step.ruled;
+      step =
+          subst (λ (x : Reply). RuledStep config tests network (world.Deliver peer k) x w.step.lost w.after) r.is
+          w.step.ruled;
     }
 
 -- ---- steps one after the other
@@ -149,16 +174,24 @@ both_are true b h = (refl, h)
 both_are false b h = absurd cc
 
 -- a run by the rules, and what is so after it
-pub record Ran (tests : AllTests) (config : Config) (network : WorldState) (old : WorldKept) (events : List WorldEvent) (replies : List RoundReply) (new : WorldKept) (Then : WorldState → Type 0) : Type 0 where
+pub record Ran (tests : AllTests) (config : Config) (network : WorldState) (old : WorldKept) (events : List WorldEvent)
+    (replies : List RoundReply) (new : WorldKept) (Then : WorldState → Type 0) : Type 0 where
   pub after : WorldState
   pub run : RuledRun config tests network old.unsent events (replies_of replies) after new.unsent
   pub stands : StandsFor new config after
   pub then : Then after
 
-pub ran : {tests : AllTests} → (config : Config) (network : WorldState) (old : WorldKept) (events : List WorldEvent) (replies : List RoundReply) (new : WorldKept) → AreSteps tests old events replies new → StandsFor old config network
+pub ran : {tests : AllTests} → (config : Config) (network : WorldState) (old : WorldKept) (events : List WorldEvent)
+    (replies : List RoundReply) (new : WorldKept) → AreSteps tests old events replies new → StandsFor old config network
     → Ran tests config network old events replies new (λ x. Unit {0})
 ran config network old [] [] new same s =
-    record { after = network; run = (refl, ap (λ (k : WorldKept). k.unsent) same); stands = subst (λ (k : WorldKept). StandsFor k config network) (sym same) s; then = tt }
+    record {
+      after = network;
+      run = (refl, ap (λ (k : WorldKept). k.unsent) same);
+      stands = subst
+          (λ (k : WorldKept). StandsFor k config network) (sym same) s;
+      then = tt;
+    }
 ran config network old (e ∷ es) (r ∷ rs) new h s =
     let w = went config network old e r h.0 h.1 s in
     let rest = ran config (world_ended network e w.after) h.0 es rs new h.2 w.stands in
@@ -170,7 +203,9 @@ ran config network old (e ∷ es) [] new h s = absurd h
 no_less : (old lost new : ℕ) → new ≡ min (old + lost) (2 ^ 64 - 1) → old ≤ 2 ^ 64 - 1 → old ≤ new
 no_less old lost new is few = omega (arith, is, few)
 
-pub unsent_on : (tests : AllTests) → (config : Config) (network : WorldState) (old : WorldKept) (events : List WorldEvent) (replies : List RoundReply) (new : WorldKept) → AreSteps tests old events replies new → StandsFor old config network
+pub unsent_on : (tests : AllTests)
+    → (config : Config) (network : WorldState) (old : WorldKept) (events : List WorldEvent) (replies : List RoundReply)
+    (new : WorldKept) → AreSteps tests old events replies new → StandsFor old config network
     → old.unsent ≤ new.unsent
 unsent_on tests config network old [] [] new same s = let e = ap (λ (k : WorldKept). k.unsent) same in omega (arith, e)
 unsent_on tests config network old (e ∷ es) (r ∷ rs) new h s =
@@ -186,9 +221,12 @@ none_of : (a b : Bool) → (a || b) ≡ false → (a ≡ false) × (b ≡ false)
 none_of true b h = absurd cc
 none_of false b h = (refl, h)
 
-pub unsent_shown : (tests : AllTests) → (before : ℕ) (old : WorldKept) (events : List WorldEvent) (replies : List RoundReply) (new : WorldKept)
-    → AreSteps tests old events replies new → old.unsent ≤ before → has_unsent before replies ≡ false → new.unsent ≤ before
-unsent_shown tests before old [] [] new same low none = let e = ap (λ (k : WorldKept). k.unsent) same in omega (arith, e, low)
+pub unsent_shown : (tests : AllTests)
+    → (before : ℕ) (old : WorldKept) (events : List WorldEvent) (replies : List RoundReply) (new : WorldKept)
+    → AreSteps tests old events replies new → old.unsent ≤ before → has_unsent before replies ≡ false
+    → new.unsent ≤ before
+unsent_shown tests before old [] [] new same low none =
+    let e = ap (λ (k : WorldKept). k.unsent) same in omega (arith, e, low)
 unsent_shown tests before old (e ∷ es) (r ∷ rs) new h low none =
     let parts = none_of (nat_lt before r.unsent) (has_unsent before rs) none in
     let here = parts.0 in
@@ -202,25 +240,42 @@ pub none_lost : (old lost new : ℕ) → new ≡ min (old + lost) (2 ^ 64 - 1) �
 none_lost old lost new is same few = omega (arith, is, same, few)
 
 -- packets are delivered in turn, with memory for all of them
-pub deliver_all : {tests : AllTests} → (config : Config) (peer first : ℕ) (packets : List Packet) (network : WorldState) (old : WorldKept) (replies : List RoundReply) (new : WorldKept) → 1 ≤ first
-    → ((k : ℕ) (p : Packet) → slice_get packets k ≡ Some p → slice_get old.sent (first + k - 1) ≡ Some p) → are_whole replies ≡ true
-    → AreSteps tests old (map (λ k. world.Deliver peer k) (numbers_from first (length packets))) replies new → StandsFor old config network
-    → Ran tests config network old (map (λ k. world.Deliver peer k) (numbers_from first (length packets))) replies new (λ x. DeliversAll config tests network peer packets x)
+pub deliver_all : {tests : AllTests}
+    → (config : Config) (peer first : ℕ) (packets : List Packet) (network : WorldState) (old : WorldKept)
+    (replies : List RoundReply) (new : WorldKept) → 1 ≤ first
+    → ((k : ℕ) (p : Packet) → slice_get packets k ≡ Some p → slice_get old.sent (first + k - 1) ≡ Some p)
+    → are_whole replies ≡ true
+    → AreSteps tests old (map (λ k. world.Deliver peer k) (numbers_from first (length packets))) replies new
+    → StandsFor old config network
+    → Ran tests config network old (map (λ k. world.Deliver peer k) (numbers_from first (length packets))) replies new
+    (λ x. DeliversAll config tests network peer packets x)
 deliver_all config peer first [] network old [] new low there whole same s =
-    record { after = network; run = (refl, ap (λ (k : WorldKept). k.unsent) same); stands = subst (λ (k : WorldKept). StandsFor k config network) (sym same) s; then = refl }
+    record {
+      after = network;
+      run = (refl, ap (λ (k : WorldKept). k.unsent) same);
+      stands = subst
+          (λ (k : WorldKept). StandsFor k config network) (sym same) s;
+      then = refl;
+    }
 deliver_all config peer first [] network old (r ∷ rs) new low there whole h s = absurd h
 deliver_all config peer first (p ∷ ps) network old [] new low there whole h s = absurd h
 deliver_all config peer first (p ∷ ps) network old (r ∷ rs) new low there whole h s =
     let w = went config network old (world.Deliver peer first) r h.0 h.1 s in
     let all = both_are (is_whole r.reply) (are_whole rs) whole in
     let here : first + 0 - 1 ≡ first - 1 = omega arith in
-    let at : slice_get old.sent (first - 1) ≡ Some p = subst (λ (i : ℕ). slice_get old.sent i ≡ Some p) here (there 0 p refl) in
-    let later : (k : ℕ) (q : Packet) → slice_get ps k ≡ Some q → slice_get h.0.sent (first + 1 + k - 1) ≡ Some q = λ k q is.
+    let at : slice_get old.sent (first - 1) ≡ Some p =
+    subst (λ (i : ℕ). slice_get old.sent i ≡ Some p) here (there 0 p refl) in
+    let later : (k : ℕ) (q : Packet) → slice_get ps k ≡ Some q → slice_get h.0.sent (first + 1 + k - 1) ≡ Some q =
+    λ k q is.
     let next : first + suc k - 1 ≡ first + 1 + k - 1 = omega arith in
     subst (λ (i : ℕ). slice_get h.0.sent i ≡ Some q) next
-    (subst (λ (xs : List Packet). slice_get xs (first + suc k - 1) ≡ Some q) (sym (sent_by config network old (world.Deliver peer first) r.reply w.step.lost w.after h.0 s w.stands w.step.ruled))
+    (subst (λ (xs : List Packet). slice_get xs (first + suc k - 1) ≡ Some q)
+    (sym (sent_by config network old
+    (world.Deliver peer first) r.reply w.step.lost w.after h.0 s w.stands w.step.ruled))
     (slice_get-append old.sent w.step.ruled.packets (first + suc k - 1) q (there (suc k) q is))) in
-    let rest = deliver_all config peer (first + 1) ps (world_ended network (world.Deliver peer first) w.after) h.0 rs new (omega (arith, low)) later all.1 h.2 w.stands in
+    let rest =
+    deliver_all config peer (first + 1) ps (world_ended network (world.Deliver peer first) w.after) h.0 rs new
+    (omega (arith, low)) later all.1 h.2 w.stands in
     record {
       after = rest.after;
       run = (w.after, h.0.unsent, w.step, rest.run);
@@ -231,7 +286,8 @@ deliver_all config peer first (p ∷ ps) network old (r ∷ rs) new low there wh
 -- ---- no place goes back
 
 places_on : (config : Config) (tests : AllTests) (old : WorldState) (ev : WorldEvent) (reply : Reply) (new : WorldState)
-    → WorldStep config tests old ev reply new → (r w : Endpoint) → NoLess (place_at (machine_of old) r w) (place_at (machine_of new) r w)
+    → WorldStep config tests old ev reply new → (r w : Endpoint)
+    → NoLess (place_at (machine_of old) r w) (place_at (machine_of new) r w)
 places_on config tests old (world.Call peer call) reply new step r w =
     ⊎_elim (λ p. (steps_stays config (tests peer) old peer (event.Call call) reply new p).grows.places r w)
     (λ x. (stays_same config old peer new x.1.after).grows.places r w) step
@@ -242,15 +298,18 @@ places_on config tests old (world.Deliver peer k) reply new step r w =
     ⊎_elim (λ p. (steps_stays config (tests peer) old peer (event.Deliver p.0.bytes) reply new p.3).grows.places r w)
     (λ x. (stays_same config old peer new x.1.after).grows.places r w) step
 
-pub places_after : (config : Config) (tests : AllTests) (old : WorldState) (first : ℕ) (events : List WorldEvent) (replies : List Reply) (new : WorldState) (last : ℕ)
-    → RuledRun config tests old first events replies new last → (r w : Endpoint) → NoLess (place_at (machine_of old) r w) (place_at (machine_of new) r w)
+pub places_after : (config : Config) (tests : AllTests) (old : WorldState) (first : ℕ) (events : List WorldEvent)
+    (replies : List Reply) (new : WorldState) (last : ℕ)
+    → RuledRun config tests old first events replies new last → (r w : Endpoint)
+    → NoLess (place_at (machine_of old) r w) (place_at (machine_of new) r w)
 places_after config tests old first [] [] new last run r w =
     subst (λ (x : WorldState). NoLess (place_at (machine_of old) r w) (place_at (machine_of x) r w)) (sym run.0)
     (no_less_same (place_at (machine_of old) r w))
 places_after config tests old first (e ∷ es) (reply ∷ replies) new last run r w =
     no_less_on (place_at (machine_of old) r w) (place_at (machine_of run.0) r w) (place_at (machine_of new) r w)
     (places_on config tests old e reply run.0 run.2.ruled.step r w)
-    (subst (λ (o : Option ℕ). NoLess o (place_at (machine_of new) r w)) (beside_place run.0 (world_ended old e run.0) (world_beside old e run.0) r w)
+    (subst (λ (o : Option ℕ). NoLess o (place_at (machine_of new) r w))
+    (beside_place run.0 (world_ended old e run.0) (world_beside old e run.0) r w)
     (places_after config tests (world_ended old e run.0) run.1 es replies new last run.3 r w))
 places_after config tests old first [] (reply ∷ replies) new last run r w = absurd run
 places_after config tests old first (e ∷ es) [] new last run r w = absurd run
@@ -258,24 +317,30 @@ places_after config tests old first (e ∷ es) [] new last run r w = absurd run
 -- ---- packets that were sent at a step
 
 -- one from this index on is among those that follow
-pub later_packet : (old packets : List Packet) (i : ℕ) (p : Packet) → length old ≤ i → slice_get (old ++ packets) i ≡ Some p → Contains packets p
+pub later_packet : (old packets : List Packet) (i : ℕ) (p : Packet) → length old ≤ i
+    → slice_get (old ++ packets) i ≡ Some p → Contains packets p
 later_packet [] packets i p low at = contains_at packets i p at
 later_packet (x ∷ old) packets zero p low at = absurd (omega (arith, low))
 later_packet (x ∷ old) packets (suc i) p low at = later_packet old packets i p (omega (arith, low)) at
 
 -- and each of them has such an index
-pub packet_later : (old packets : List Packet) (p : Packet) → Contains packets p → (i : ℕ) × (length old ≤ i) × (i < length (old ++ packets)) × (slice_get (old ++ packets) i ≡ Some p)
+pub packet_later : (old packets : List Packet) (p : Packet) → Contains packets p
+    → (i : ℕ) × (length old ≤ i) × (i < length (old ++ packets)) × (slice_get (old ++ packets) i ≡ Some p)
 packet_later [] packets p h = place packets h
   where
     place : (ps : List Packet) → Contains ps p → (i : ℕ) × (0 ≤ i) × (i < length ps) × (slice_get ps i ≡ Some p)
     place [] h = let lt = h.1 in absurd (omega (arith, lt))
     place (q ∷ qs) h =
-        ⊎_elim (λ e. (0, omega arith, omega arith, ap (λ (x : Packet). Some x) e)) (λ later. let r = place qs later in let lt = r.2 in (suc r.0, omega arith, omega (arith, lt), r.3))
+        ⊎_elim (λ e. (0, omega arith, omega arith, ap (λ (x : Packet). Some x) e))
+        (λ later. let r = place qs later in let lt = r.2 in (suc r.0, omega arith, omega (arith, lt), r.3))
         (front_or_rest q qs p h.0 h.1 h.2)
-packet_later (x ∷ old) packets p h = let r = packet_later old packets p h in let low = r.1 in let lt = r.2 in (suc r.0, omega (arith, low), omega (arith, lt), r.3)
+packet_later (x ∷ old) packets p h =
+    let r = packet_later old packets p h in let low = r.1 in let lt = r.2 in
+    (suc r.0, omega (arith, low), omega (arith, lt), r.3)
 
 -- so a packet of them that is looked for is found
-pub among_none : (Is : Packet → Type 0) (old packets new : List Packet) (p : Packet) → new ≡ old ++ packets → Contains packets p → Is p → HasNone Is new (length old) (length new) → ⊥
+pub among_none : (Is : Packet → Type 0) (old packets new : List Packet) (p : Packet) → new ≡ old ++ packets
+    → Contains packets p → Is p → HasNone Is new (length old) (length new) → ⊥
 among_none Is old packets new p is among has none =
     let r = packet_later old packets p among in
     let low = r.1 in
@@ -283,12 +348,15 @@ among_none Is old packets new p is among has none =
     let size = ap (λ (ps : List Packet). length ps) is in
     let back : r.0 ≡ r.0 + 1 - 1 = omega arith in
     let at : slice_get new (r.0 + 1 - 1) ≡ Some p =
-    subst (λ (i : ℕ). slice_get new i ≡ Some p) back (subst (λ (ps : List Packet). slice_get ps r.0 ≡ Some p) (sym is) r.3) in
+    subst (λ (i : ℕ). slice_get new i ≡ Some p) back
+    (subst (λ (ps : List Packet). slice_get ps r.0 ≡ Some p) (sym is) r.3) in
     none (r.0 + 1) p (omega (arith, low)) (omega (arith, lt, size)) (omega arith, at) has
 
 -- one of those that follow has its index after the others
-pub get_later : (old packets : List Packet) (k : ℕ) (p : Packet) → slice_get packets k ≡ Some p → slice_get (old ++ packets) (length old + k) ≡ Some p
-get_later [] packets k p h = let same : k ≡ 0 + k = omega arith in subst (λ (i : ℕ). slice_get packets i ≡ Some p) same h
+pub get_later : (old packets : List Packet) (k : ℕ) (p : Packet) → slice_get packets k ≡ Some p
+    → slice_get (old ++ packets) (length old + k) ≡ Some p
+get_later [] packets k p h =
+    let same : k ≡ 0 + k = omega arith in subst (λ (i : ℕ). slice_get packets i ≡ Some p) same h
 get_later (x ∷ old) packets k p h =
     let next : suc (length old + k) ≡ suc (length old) + k = omega arith in
     subst (λ (i : ℕ). slice_get (x ∷ old ++ packets) i ≡ Some p) next (get_later old packets k p h)

@@ -36,27 +36,36 @@ set_again (z ∷ zs) zero x y = refl
 set_again (z ∷ zs) (suc i) x y = ap (λ ws. z ∷ ws) (set_again zs i x y)
 
 -- the network at the end of an event of this peer
-pub ended_at : (network : WorldState) (whole : WorldEvent) (i : ℕ) (stepped : Peer) (sent : List Packet) → peer_of whole ≡ suc i → i < length network.peers
-    → world_ended network whole (with_peer network i stepped sent) ≡ with_peer network i (peer_at_end (get_or network.peers i no_peer) stepped) sent
+pub ended_at : (network : WorldState) (whole : WorldEvent) (i : ℕ) (stepped : Peer) (sent : List Packet)
+    → peer_of whole ≡ suc i → i < length network.peers
+    → world_ended network whole (with_peer network i stepped sent)
+    ≡ with_peer network i (peer_at_end (get_or network.peers i no_peer) stepped) sent
 ended_at network whole i stepped sent is low =
     let next : WorldState = with_peer network i stepped sent in
     let before : Peer = get_or network.peers i no_peer in
     let end : Peer = peer_at_end before stepped in
     let first : with_peer next i (peer_at_end before (get_or next.peers i no_peer)) sent ≡ with_peer next i end sent =
-    ap (λ (p : Peer). with_peer next i (peer_at_end before p) sent) (get_or-set_same network.peers i stepped no_peer low) in
+    ap (λ (p : Peer). with_peer next i (peer_at_end before p) sent)
+    (get_or-set_same network.peers i stepped no_peer low) in
     let here : with_peer next i (peer_at_end before (get_or next.peers i no_peer)) sent ≡ with_peer network i end sent =
-    first ∙ ap (λ (ps : List Peer). let w : WorldState = record { peers = ps; sent = sent } in w) (set_again network.peers i stepped end) in
-    subst (λ (n : ℕ). record next { peers = with_numbered next.peers n (peer_at_end (peer_at network n) (peer_at next n)) } ≡ with_peer network i end sent) (sym is) here
+    first ∙ ap (λ (ps : List Peer). let w : WorldState = record { peers = ps; sent = sent } in w)
+    (set_again network.peers i stepped end) in
+    subst (λ (n : ℕ). record next
+    { peers = with_numbered next.peers n (peer_at_end (peer_at network n) (peer_at next n)) }
+    ≡ with_peer network i end sent) (sym is) here
 
 -- what the network stands for with it
-pub peer_stands : (kept new : WorldKept) (config : Config) (network : WorldState) (i : ℕ) (after : PeerKept) (left : Slotted Recording) (p : Peer) (sent : List Packet)
+pub peer_stands : (kept new : WorldKept) (config : Config) (network : WorldState) (i : ℕ) (after : PeerKept)
+    (left : Slotted Recording) (p : Peer) (sent : List Packet)
     → StandsFor kept config network → new.peers ≡ set kept.peers i after → new.listeners ≡ set kept.listeners i left
     → ((j : ℕ) → (get_or (set network.peers i p) j no_peer).part.dds.watch.filters ≡ get_or new.filters j 0)
     → CoreStandsFor after config p → AreTold left p.part.dds.listeners → IsSound config p
     → sent ≡ new.sent → AreMessages new.sent → new.unsent ≤ 2 ^ 64 - 1
-    → Sound config (with_peer network i p sent) → HasUsedCounts config (with_peer network i p sent) → IsBounded (machine_of (with_peer network i p sent))
+    → Sound config (with_peer network i p sent) → HasUsedCounts config (with_peer network i p sent)
+    → IsBounded (machine_of (with_peer network i p sent))
     → StandsFor new config (with_peer network i p sent)
-peer_stands kept new config network i after left p sent s peers listeners filters stands told known is messages few sound used bounded =
+peer_stands kept new config network i after left p sent s peers listeners filters stands told known is messages few
+    sound used bounded =
     let c1 = length-set network.peers i p in
     let c2 = length-set kept.peers i after in
     let c3 = ap (λ (ks : List PeerKept). length ks) peers in
@@ -66,13 +75,19 @@ peer_stands kept new config network i after left p sent s peers listeners filter
     let listened = s.listened in
     record {
       count = omega (arith, c1, c2, c3, count);
-      each = λ j k at. each_set (λ (x : PeerKept) (q : Peer). CoreStandsFor x config q) kept.peers network.peers i after p no_peer s.count s.each stands j k
+      each =
+          λ j k at. each_set (λ (x : PeerKept) (q : Peer). CoreStandsFor x config q) kept.peers network.peers i after p
+          no_peer s.count s.each stands j k
           (subst (λ (ks : List PeerKept). slice_get ks j ≡ Some k) peers at);
-      known = λ j k at. each_set (λ (x : PeerKept) (q : Peer). IsSound config q) kept.peers network.peers i after p no_peer s.count s.known known j k
+      known =
+          λ j k at. each_set (λ (x : PeerKept) (q : Peer). IsSound config q) kept.peers network.peers i after p no_peer
+          s.count s.known known j k
           (subst (λ (ks : List PeerKept). slice_get ks j ≡ Some k) peers at);
       filters = filters;
       listened = omega (arith, c1, d2, d3, listened);
-      listeners = λ j k at. each_set (λ (x : Slotted Recording) (q : Peer). AreTold x q.part.dds.listeners) kept.listeners network.peers i left p no_peer s.listened s.listeners told j k
+      listeners =
+          λ j k at. each_set (λ (x : Slotted Recording) (q : Peer). AreTold x q.part.dds.listeners) kept.listeners
+          network.peers i left p no_peer s.listened s.listeners told j k
           (subst (λ (ks : List (Slotted Recording)). slice_get ks j ≡ Some k) listeners at);
       sent = is;
       sound = sound;

@@ -43,26 +43,38 @@ grows_same old new same = ([], same ∙ sym (append-nil old))
 grows_on : (a b c : List Packet) → Grows a b → Grows b c → Grows a c
 grows_on a b c f g = (f.0 ++ g.0, g.1 ∙ (ap (λ (ps : List Packet). ps ++ g.0) f.1 ∙ append_assoc a f.0 g.0))
 
-world_grows : (config : Config) (tests : AllTests) (old : WorldState) (ev : WorldEvent) (reply : Reply) (new : WorldState) → WorldStep config tests old ev reply new → Grows old.sent new.sent
+world_grows : (config : Config) (tests : AllTests) (old : WorldState) (ev : WorldEvent) (reply : Reply)
+    (new : WorldState) → WorldStep config tests old ev reply new → Grows old.sent new.sent
 world_grows config tests old (world.Call peer call) reply new step =
-    ⊎_elim (λ p. (p.posted, ap (λ (w : WorldState). w.sent) p.changed)) (λ r. grows_same old.sent new.sent (ap (λ (w : WorldState). w.sent) r.1.after)) step
+    ⊎_elim (λ p. (p.posted, ap (λ (w : WorldState). w.sent) p.changed))
+    (λ r. grows_same old.sent new.sent (ap (λ (w : WorldState). w.sent) r.1.after)) step
 world_grows config tests old (world.Tick peer now) reply new step =
-    ⊎_elim (λ p. (p.posted, ap (λ (w : WorldState). w.sent) p.changed)) (λ r. grows_same old.sent new.sent (ap (λ (w : WorldState). w.sent) r.1.after)) step
+    ⊎_elim (λ p. (p.posted, ap (λ (w : WorldState). w.sent) p.changed))
+    (λ r. grows_same old.sent new.sent (ap (λ (w : WorldState). w.sent) r.1.after)) step
 world_grows config tests old (world.Deliver peer k) reply new step =
-    ⊎_elim (λ p. (p.3.posted, ap (λ (w : WorldState). w.sent) p.3.changed)) (λ r. grows_same old.sent new.sent (ap (λ (w : WorldState). w.sent) r.1.after)) step
+    ⊎_elim (λ p. (p.3.posted, ap (λ (w : WorldState). w.sent) p.3.changed))
+    (λ r. grows_same old.sent new.sent (ap (λ (w : WorldState). w.sent) r.1.after)) step
 
 record GoesOn (config : Config) (old new : WorldKept) : Type 0 where
   after : WorldState
   stands : StandsFor new config after
   grows : Grows old.sent new.sent
 
-step_on : (tests : AllTests) → (config : Config) (network : WorldState) (old : WorldKept) (ev : WorldEvent) (reply : Reply) (new : WorldKept) → Steps tests old ev reply new → StandsFor old config network → GoesOn config old new
+step_on : (tests : AllTests) → (config : Config) (network : WorldState) (old : WorldKept) (ev : WorldEvent)
+    (reply : Reply) (new : WorldKept) → Steps tests old ev reply new → StandsFor old config network
+    → GoesOn config old new
 step_on tests config network old ev reply new steps s =
     let t = steps config network s in
     let g = world_grows config tests network ev reply t.0 t.1 in
-    record { after = world_ended network ev t.0; stands = t.3; grows = (g.0, sym t.3.sent ∙ (g.1 ∙ ap (λ (ps : List Packet). ps ++ g.0) s.sent)) }
+    record {
+      after = world_ended network ev t.0;
+      stands = t.3;
+      grows = (g.0, sym t.3.sent ∙ (g.1 ∙ ap (λ (ps : List Packet). ps ++ g.0) s.sent));
+    }
 
-steps_on : (tests : AllTests) → (config : Config) (network : WorldState) (old : WorldKept) (events : List WorldEvent) (replies : List RoundReply) (new : WorldKept) → AreSteps tests old events replies new → StandsFor old config network → GoesOn config old new
+steps_on : (tests : AllTests) → (config : Config) (network : WorldState) (old : WorldKept) (events : List WorldEvent)
+    (replies : List RoundReply) (new : WorldKept) → AreSteps tests old events replies new → StandsFor old config network
+    → GoesOn config old new
 steps_on tests config network old [] [] new same s = record {
   after = network;
   stands = subst (λ (k : WorldKept). StandsFor k config network) (sym same) s;
@@ -71,28 +83,42 @@ steps_on tests config network old [] [] new same s = record {
 steps_on tests config network old (e ∷ es) (r ∷ rs) new h s =
     let first = step_on tests config network old e r.reply h.0 h.1.step s in
     let rest = steps_on tests config first.after h.0 es rs new h.2 first.stands in
-    record { after = rest.after; stands = rest.stands; grows = grows_on old.sent h.0.sent new.sent first.grows rest.grows }
+    record {
+      after = rest.after;
+      stands = rest.stands;
+      grows = grows_on old.sent h.0.sent new.sent first.grows
+          rest.grows;
+    }
 steps_on tests config network old [] (r ∷ rs) new h s = absurd h
 steps_on tests config network old (e ∷ es) [] new h s = absurd h
 
-get_back : (xs ys : List Packet) (i : ℕ) (p : Packet) → i < length xs → slice_get (xs ++ ys) i ≡ Some p → slice_get xs i ≡ Some p
+get_back : (xs ys : List Packet) (i : ℕ) (p : Packet) → i < length xs → slice_get (xs ++ ys) i ≡ Some p
+    → slice_get xs i ≡ Some p
 get_back [] ys i p low at = absurd (omega (arith, low))
 get_back (x ∷ xs) ys zero p low at = at
 get_back (x ∷ xs) ys (suc i) p low at = get_back xs ys i p (omega (arith, low)) at
 
-none_on : (Is : Packet → Type 0) (old new : List Packet) (from to : ℕ) → Grows old new → to ≤ length old → HasNone Is old from to → HasNone Is new from to
+none_on : (Is : Packet → Type 0) (old new : List Packet) (from to : ℕ) → Grows old new → to ≤ length old
+    → HasNone Is old from to → HasNone Is new from to
 none_on Is old new from to g high none = λ k packet above within at is.
-    let back = get_back old g.0 (k - 1) packet (omega (arith, above, within, high)) (subst (λ (ps : List Packet). slice_get ps (k - 1) ≡ Some packet) g.1 at.1) in
+    let back =
+    get_back old g.0 (k - 1) packet (omega (arith, above, within, high))
+    (subst (λ (ps : List Packet). slice_get ps (k - 1) ≡ Some packet) g.1 at.1) in
     none k packet above within (at.0, back) is
 
-first_on : (Is : Packet → Type 0) (old new : List Packet) (from to k : ℕ) → Grows old new → to ≤ length old → IsFirst Is old from to k → IsFirst Is new from to k
+first_on : (Is : Packet → Type 0) (old new : List Packet) (from to k : ℕ) → Grows old new → to ≤ length old
+    → IsFirst Is old from to k → IsFirst Is new from to k
 first_on Is old new from to k g high f =
     let within = f.within in
     record {
       above = f.above;
       within = f.within;
       packet = f.packet;
-      at = (f.at.0, subst (λ (ps : List Packet). slice_get ps (k - 1) ≡ Some f.packet) (sym g.1) (slice_get-append old g.0 (k - 1) f.packet f.at.1));
+      at = (
+        f.at.0,
+        subst (λ (ps : List Packet). slice_get ps (k - 1) ≡ Some f.packet) (sym g.1)
+            (slice_get-append old g.0 (k - 1) f.packet f.at.1),
+      );
       is = f.is;
       first = none_on Is old new from (k - 1) g (omega (arith, within, high)) f.first;
     }
@@ -100,113 +126,178 @@ first_on Is old new from to k g high f =
 -- ---- steps one after the other
 
 -- one more step
-pub steps_more : {tests : AllTests} → (old : WorldKept) (events : List WorldEvent) (replies : List RoundReply) (mid : WorldKept) (ev : WorldEvent) (reply : RoundReply) (new : WorldKept) → AreSteps tests old events replies mid → IsStep tests mid ev reply new
+pub steps_more : {tests : AllTests}
+    → (old : WorldKept) (events : List WorldEvent) (replies : List RoundReply) (mid : WorldKept) (ev : WorldEvent)
+    (reply : RoundReply) (new : WorldKept) → AreSteps tests old events replies mid → IsStep tests mid ev reply new
     → AreSteps tests old (events ++ ev ∷ []) (replies ++ reply ∷ []) new
-steps_more {tests} old [] [] mid ev reply new same step = (new, subst (λ (k : WorldKept). IsStep tests k ev reply new) same step, refl)
+steps_more {tests} old [] [] mid ev reply new same step =
+    (new, subst (λ (k : WorldKept). IsStep tests k ev reply new) same step, refl)
 steps_more old (e ∷ es) (r ∷ rs) mid ev reply new h step = (h.0, h.1, steps_more h.0 es rs mid ev reply new h.2 step)
 steps_more old [] (r ∷ rs) mid ev reply new h step = absurd h
 steps_more old (e ∷ es) [] mid ev reply new h step = absurd h
 
-steps_as : (tests : AllTests) → (old : WorldKept) (events later : List WorldEvent) (replies rest : List RoundReply) (new : WorldKept) → events ≡ later → replies ≡ rest → AreSteps tests old later rest new → AreSteps tests old events replies new
+steps_as : (tests : AllTests) → (old : WorldKept) (events later : List WorldEvent) (replies rest : List RoundReply)
+    (new : WorldKept) → events ≡ later → replies ≡ rest → AreSteps tests old later rest new
+    → AreSteps tests old events replies new
 steps_as tests old events later replies rest new e r h =
-    subst (λ (es : List WorldEvent). AreSteps tests old es replies new) (sym e) (subst (λ (rs : List RoundReply). AreSteps tests old later rs new) (sym r) h)
+    subst (λ (es : List WorldEvent). AreSteps tests old es replies new) (sym e)
+    (subst (λ (rs : List RoundReply). AreSteps tests old later rs new) (sym r) h)
 
-stage_steps : {tests : AllTests} → (Is : Packet → Type 0) (from peer : ℕ) (Next : WorldKept → List WorldEvent → List RoundReply → WorldKept → Type 0) (old : WorldKept) (events : List WorldEvent) (replies : List RoundReply) (new : WorldKept)
-    → ((mid : WorldKept) (es : List WorldEvent) (rs : List RoundReply) → Next mid es rs new → AreSteps tests mid es rs new) → Stage tests Is from peer Next old events replies new → AreSteps tests old events replies new
+stage_steps : {tests : AllTests}
+    → (Is : Packet → Type 0) (from peer : ℕ) (Next : WorldKept → List WorldEvent → List RoundReply → WorldKept → Type 0)
+    (old : WorldKept) (events : List WorldEvent) (replies : List RoundReply) (new : WorldKept)
+    → ((mid : WorldKept) (es : List WorldEvent) (rs : List RoundReply) → Next mid es rs new
+    → AreSteps tests mid es rs new) → Stage tests Is from peer Next old events replies new
+    → AreSteps tests old events replies new
 stage_steps {tests} Is from peer Next old events replies new next h =
     ⊎_elim (λ f. steps_as tests old events [] replies [] new f.0 f.1 f.2)
-    (λ f. steps_as tests old events (world.Deliver peer f.0 ∷ f.3) replies (f.1 ∷ f.4) new f.7 f.8 (f.2, f.6, next f.2 f.3 f.4 f.9)) h
+    (λ f. steps_as tests old events (world.Deliver peer f.0 ∷ f.3) replies (f.1 ∷ f.4) new f.7 f.8
+    (f.2, f.6, next f.2 f.3 f.4 f.9)) h
 
-pub acks_steps : {tests : AllTests} → (m : Matched) (from : ℕ) (old : WorldKept) (events : List WorldEvent) (replies : List RoundReply) (new : WorldKept) → Acknowledging tests m from old events replies new → AreSteps tests old events replies new
+pub acks_steps : {tests : AllTests}
+    → (m : Matched) (from : ℕ) (old : WorldKept) (events : List WorldEvent) (replies : List RoundReply)
+    (new : WorldKept) → Acknowledging tests m from old events replies new → AreSteps tests old events replies new
 acks_steps {tests} m from old events replies new h =
-    stage_steps (IsTo m.writer.peer (sought.AckNack m.pair.reader m.pair.writer)) from m.writer.peer (Answering tests m (length old.sent)) old events replies new
+    stage_steps (IsTo m.writer.peer (sought.AckNack m.pair.reader m.pair.writer)) from m.writer.peer
+    (Answering tests m (length old.sent)) old events replies new
     (λ mid es rs a. a.1) h
 
-pub beats_steps : {tests : AllTests} → (m : Matched) (from : ℕ) (old : WorldKept) (events : List WorldEvent) (replies : List RoundReply) (new : WorldKept) → Beating tests m from old events replies new → AreSteps tests old events replies new
+pub beats_steps : {tests : AllTests}
+    → (m : Matched) (from : ℕ) (old : WorldKept) (events : List WorldEvent) (replies : List RoundReply)
+    (new : WorldKept) → Beating tests m from old events replies new → AreSteps tests old events replies new
 beats_steps {tests} m from old events replies new h =
-    stage_steps (IsTo m.reader.peer (sought.Heartbeat m.pair.writer)) from m.reader.peer (Acknowledging tests m (length old.sent)) old events replies new
+    stage_steps (IsTo m.reader.peer (sought.Heartbeat m.pair.writer)) from m.reader.peer
+    (Acknowledging tests m (length old.sent)) old events replies new
     (λ mid es rs a. acks_steps m (length old.sent) mid es rs new a) h
 
 -- one more answer
-answer_more : (peer first count : ℕ) → map (λ k. world.Deliver peer k) (numbers_from first (suc count)) ≡ map (λ k. world.Deliver peer k) (numbers_from first count) ++ world.Deliver peer (first + count) ∷ []
-answer_more peer first zero = let same : first ≡ first + 0 = omega arith in ap (λ (k : ℕ). world.Deliver peer k ∷ []) same
+answer_more : (peer first count : ℕ) → map (λ k. world.Deliver peer k) (numbers_from first (suc count))
+    ≡ map (λ k. world.Deliver peer k) (numbers_from first count) ++ world.Deliver peer (first + count) ∷ []
+answer_more peer first zero =
+    let same : first ≡ first + 0 = omega arith in ap (λ (k : ℕ). world.Deliver peer k ∷ []) same
 answer_more peer first (suc count) =
     let next : first + 1 + count ≡ first + suc count = omega arith in
     ap (λ (es : List WorldEvent). world.Deliver peer first ∷ es) (answer_more peer (first + 1) count)
-    ∙ ap (λ (k : ℕ). world.Deliver peer first ∷ (map (λ k. world.Deliver peer k) (numbers_from (first + 1) count) ++ world.Deliver peer k ∷ [])) next
+    ∙ ap (λ (k : ℕ). world.Deliver peer first
+    ∷ (map (λ k. world.Deliver peer k) (numbers_from (first + 1) count) ++ world.Deliver peer k ∷ [])) next
 
-pub answered_more : {tests : AllTests} → (old : WorldKept) (peer from index count packet : ℕ) (replies : List RoundReply) (mid : WorldKept) (reply : RoundReply) (new : WorldKept) → count ≡ index + 1 → packet ≡ from + index + 1
-    → AreSteps tests old (map (λ k. world.Deliver peer k) (numbers_from (from + 1) index)) replies mid → IsStep tests mid (world.Deliver peer packet) reply new
+pub answered_more : {tests : AllTests}
+    → (old : WorldKept) (peer from index count packet : ℕ) (replies : List RoundReply) (mid : WorldKept)
+    (reply : RoundReply) (new : WorldKept) → count ≡ index + 1 → packet ≡ from + index + 1
+    → AreSteps tests old (map (λ k. world.Deliver peer k) (numbers_from (from + 1) index)) replies mid
+    → IsStep tests mid (world.Deliver peer packet) reply new
     → AreSteps tests old (map (λ k. world.Deliver peer k) (numbers_from (from + 1) count)) (replies ++ reply ∷ []) new
 answered_more {tests} old peer from index count packet replies mid reply new is number steps step =
     let same : packet ≡ from + 1 + index = omega (arith, number) in
     let next : suc index ≡ count = omega (arith, is) in
-    let all = steps_more old (map (λ k. world.Deliver peer k) (numbers_from (from + 1) index)) replies mid (world.Deliver peer (from + 1 + index)) reply new steps
+    let all =
+    steps_more old (map (λ k. world.Deliver peer k) (numbers_from (from + 1) index)) replies mid
+    (world.Deliver peer (from + 1 + index)) reply new steps
     (subst (λ (k : ℕ). IsStep tests mid (world.Deliver peer k) reply new) same step) in
-    subst (λ (c : ℕ). AreSteps tests old (map (λ k. world.Deliver peer k) (numbers_from (from + 1) c)) (replies ++ reply ∷ []) new) next
-    (subst (λ (es : List WorldEvent). AreSteps tests old es (replies ++ reply ∷ []) new) (sym (answer_more peer (from + 1) index)) all)
+    subst (λ (c : ℕ). AreSteps tests old (map (λ k. world.Deliver peer k) (numbers_from (from + 1) c))
+    (replies ++ reply ∷ []) new) next
+    (subst (λ (es : List WorldEvent). AreSteps tests old es (replies ++ reply ∷ []) new)
+    (sym (answer_more peer (from + 1) index)) all)
 
 -- ---- the stages are those of a round
 
-acknack_is : (config : Config) (network : WorldState) (m : Matched) → Knows config network m → sought.AckNack m.pair.reader m.pair.writer ≡ acknack_of config m.writer m.reader
+acknack_is : (config : Config) (network : WorldState) (m : Matched) → Knows config network m
+    → sought.AckNack m.pair.reader m.pair.writer ≡ acknack_of config m.writer m.reader
 acknack_is config network m k = let r = k.reader in let w = k.writer in cc
 
-heartbeat_is : (config : Config) (network : WorldState) (m : Matched) → Knows config network m → sought.Heartbeat m.pair.writer ≡ heartbeat_of config m.writer
+heartbeat_is : (config : Config) (network : WorldState) (m : Matched) → Knows config network m
+    → sought.Heartbeat m.pair.writer ≡ heartbeat_of config m.writer
 heartbeat_is config network m k = let w = k.writer in cc
 
 -- what is said of these events and replies is said of those that they are
-said_of : (P : List WorldEvent → List RoundReply → Type 0) (events later : List WorldEvent) (replies rest : List RoundReply)
+said_of : (P : List WorldEvent → List RoundReply → Type 0) (events later : List WorldEvent)
+    (replies rest : List RoundReply)
     → events ≡ later → replies ≡ rest → P later rest → P events replies
 said_of P events later replies rest e r h =
     subst (λ (es : List WorldEvent). P es replies) (sym e) (subst (λ (rs : List RoundReply). P later rs) (sym r) h)
 
-after_heartbeat : {tests : AllTests} → (config : Config) (network known : WorldState) (m : Matched) (from : ℕ) (old : WorldKept) (events : List WorldEvent) (replies : List RoundReply) (new : WorldKept) → Knows config known m → StandsFor old config network
-    → Acknowledging tests m from old events replies new → AfterHeartbeat config m.writer m.reader new.sent from (length old.sent) events replies
+after_heartbeat : {tests : AllTests}
+    → (config : Config) (network known : WorldState) (m : Matched) (from : ℕ) (old : WorldKept)
+    (events : List WorldEvent) (replies : List RoundReply) (new : WorldKept) → Knows config known m
+    → StandsFor old config network
+    → Acknowledging tests m from old events replies new
+    → AfterHeartbeat config m.writer m.reader new.sent from (length old.sent) events replies
 after_heartbeat {tests} config network known m from old events replies new k s h =
     let high : length old.sent ≤ length old.sent = omega arith in
-    let grows = (steps_on tests config network old events replies new (acks_steps m from old events replies new h) s).grows in
+    let grows =
+    (steps_on tests config network old events replies new (acks_steps m from old events replies new h) s).grows in
     let is = acknack_is config known m k in
     ⊎_elim
     (λ f.
-    let none = none_on (IsTo m.writer.peer (sought.AckNack m.pair.reader m.pair.writer)) old.sent new.sent from (length old.sent) grows high f.3 in
-    said_of (AfterHeartbeat config m.writer m.reader new.sent from (length old.sent)) events [] replies [] f.0 f.1 (subst (λ (x : Sought). HasNone (IsTo m.writer.peer x) new.sent from (length old.sent)) is none))
+    let none =
+    none_on (IsTo m.writer.peer (sought.AckNack m.pair.reader m.pair.writer)) old.sent new.sent from
+    (length old.sent) grows high f.3 in
+    said_of (AfterHeartbeat config m.writer m.reader new.sent from (length old.sent)) events [] replies [] f.0 f.1
+    (subst (λ (x : Sought). HasNone (IsTo m.writer.peer x) new.sent from (length old.sent)) is none))
     (λ f.
-    let first = first_on (IsTo m.writer.peer (sought.AckNack m.pair.reader m.pair.writer)) old.sent new.sent from (length old.sent) f.0 grows high f.5 in
+    let first =
+    first_on (IsTo m.writer.peer (sought.AckNack m.pair.reader m.pair.writer)) old.sent new.sent from
+    (length old.sent) f.0 grows high f.5 in
     let answers = subst (λ (n : ℕ). f.3 ≡ answers_at m.reader.peer (length old.sent) n) (sym f.6.sent) f.9.0 in
-    said_of (AfterHeartbeat config m.writer m.reader new.sent from (length old.sent)) events (world.Deliver m.writer.peer f.0 ∷ f.3) replies (f.1 ∷ f.4) f.7 f.8
-    (refl, subst (λ (x : Sought). IsFirst (IsTo m.writer.peer x) new.sent from (length old.sent) f.0) is first, answers))
-    h
-
-after_tick : {tests : AllTests} → (config : Config) (network known : WorldState) (m : Matched) (from : ℕ) (old : WorldKept) (events : List WorldEvent) (replies : List RoundReply) (new : WorldKept) → Knows config known m → StandsFor old config network
-    → Beating tests m from old events replies new → AfterTick config m.writer m.reader new.sent from (length old.sent) events replies
-after_tick {tests} config network known m from old events replies new k s h =
-    let high : length old.sent ≤ length old.sent = omega arith in
-    let grows = (steps_on tests config network old events replies new (beats_steps m from old events replies new h) s).grows in
-    let is = heartbeat_is config known m k in
-    ⊎_elim
-    (λ f.
-    let none = none_on (IsTo m.reader.peer (sought.Heartbeat m.pair.writer)) old.sent new.sent from (length old.sent) grows high f.3 in
-    said_of (AfterTick config m.writer m.reader new.sent from (length old.sent)) events [] replies [] f.0 f.1 (subst (λ (x : Sought). HasNone (IsTo m.reader.peer x) new.sent from (length old.sent)) is none))
-    (λ f.
-    let first = first_on (IsTo m.reader.peer (sought.Heartbeat m.pair.writer)) old.sent new.sent from (length old.sent) f.0 grows high f.5 in
-    let on = step_on tests config network old (world.Deliver m.reader.peer f.0) f.1.reply f.2 f.6.step s in
-    let later = after_heartbeat config on.after known m (length old.sent) f.2 f.3 f.4 new k on.stands f.9 in
-    said_of (AfterTick config m.writer m.reader new.sent from (length old.sent)) events (world.Deliver m.reader.peer f.0 ∷ f.3) replies (f.1 ∷ f.4) f.7 f.8 (
+    said_of (AfterHeartbeat config m.writer m.reader new.sent from (length old.sent)) events
+    (world.Deliver m.writer.peer f.0 ∷ f.3) replies (f.1 ∷ f.4) f.7 f.8 (
       refl,
-      subst (λ (x : Sought). IsFirst (IsTo m.reader.peer x) new.sent from (length old.sent) f.0) is first,
-      subst (λ (n : ℕ). AfterHeartbeat config m.writer m.reader new.sent (length old.sent) n f.3 f.4) (sym f.6.sent) later,
+      subst (λ (x : Sought). IsFirst (IsTo m.writer.peer x) new.sent from (length old.sent) f.0) is first,
+      answers,
     ))
     h
 
-pub round_is : {tests : AllTests} → (old : WorldKept) (m : Matched) (ticked : RoundReply) (mid : WorldKept) (events : List WorldEvent) (replies : List RoundReply) (new : WorldKept) → IsKnown old m → IsStep tests old (world.Tick m.writer.peer m.moment) ticked mid
-    → Beating tests m (length old.sent) mid events replies new → (config : Config) (network : WorldState) → StandsFor old config network
+after_tick : {tests : AllTests} → (config : Config) (network known : WorldState) (m : Matched) (from : ℕ)
+    (old : WorldKept) (events : List WorldEvent) (replies : List RoundReply) (new : WorldKept) → Knows config known m
+    → StandsFor old config network
+    → Beating tests m from old events replies new
+    → AfterTick config m.writer m.reader new.sent from (length old.sent) events replies
+after_tick {tests} config network known m from old events replies new k s h =
+    let high : length old.sent ≤ length old.sent = omega arith in
+    let grows =
+    (steps_on tests config network old events replies new (beats_steps m from old events replies new h) s).grows in
+    let is = heartbeat_is config known m k in
+    ⊎_elim
+    (λ f.
+    let none =
+    none_on (IsTo m.reader.peer (sought.Heartbeat m.pair.writer)) old.sent new.sent from
+    (length old.sent) grows high f.3 in
+    said_of (AfterTick config m.writer m.reader new.sent from (length old.sent)) events [] replies [] f.0 f.1
+    (subst (λ (x : Sought). HasNone (IsTo m.reader.peer x) new.sent from (length old.sent)) is none))
+    (λ f.
+    let first =
+    first_on (IsTo m.reader.peer (sought.Heartbeat m.pair.writer)) old.sent new.sent from
+    (length old.sent) f.0 grows high f.5 in
+    let on = step_on tests config network old (world.Deliver m.reader.peer f.0) f.1.reply f.2 f.6.step s in
+    let later = after_heartbeat config on.after known m (length old.sent) f.2 f.3 f.4 new k on.stands f.9 in
+    said_of (AfterTick config m.writer m.reader new.sent from (length old.sent)) events
+    (world.Deliver m.reader.peer f.0 ∷ f.3) replies (f.1 ∷ f.4) f.7 f.8 (
+      refl,
+      subst (λ (x : Sought). IsFirst (IsTo m.reader.peer x) new.sent from (length old.sent) f.0) is first,
+      subst (λ (n : ℕ). AfterHeartbeat config m.writer m.reader new.sent (length old.sent) n f.3 f.4)
+          (sym f.6.sent) later,
+    ))
+    h
+
+pub round_is : {tests : AllTests}
+    → (old : WorldKept) (m : Matched) (ticked : RoundReply) (mid : WorldKept) (events : List WorldEvent)
+    (replies : List RoundReply) (new : WorldKept) → IsKnown old m
+    → IsStep tests old (world.Tick m.writer.peer m.moment) ticked mid
+    → Beating tests m (length old.sent) mid events replies new → (config : Config) (network : WorldState)
+    → StandsFor old config network
     → IsRound config network m.writer m.reader new.sent (world.Tick m.writer.peer m.moment ∷ events) (ticked ∷ replies)
 round_is {tests} old m ticked mid events replies new known tick beats config network s =
     let k = known config network s in
     let on = step_on tests config network old (world.Tick m.writer.peer m.moment) ticked.reply mid tick.step s in
     let after = after_tick config on.after network m (length old.sent) mid events replies new k on.stands beats in
-    let counted = subst (λ (n : ℕ). AfterTick config m.writer m.reader new.sent (length old.sent) n events replies) (sym tick.sent) after in
-    (refl, k.moment, subst (λ (ps : List Packet). AfterTick config m.writer m.reader new.sent (length ps) ticked.sent events replies) (sym s.sent) counted)
+    let counted =
+    subst (λ (n : ℕ). AfterTick config m.writer m.reader new.sent (length old.sent) n events replies)
+    (sym tick.sent) after in (
+      refl,
+      k.moment,
+      subst (λ (ps : List Packet). AfterTick config m.writer m.reader new.sent
+          (length ps) ticked.sent events replies) (sym s.sent) counted,
+    )
 
 -- ---- who is matched
 
@@ -217,7 +308,9 @@ record IsPeerAt (config : Config) (network : WorldState) (kept : PeerKept) (numb
   numbered : peer.number ≡ number
   part : part_at (machine_of network) number ≡ peer.part
 
-peer_is : (kept : WorldKept) (i number : ℕ) (core : PeerKept) (config : Config) (network : WorldState) → StandsFor kept config network → number ≡ i + 1 → slice_get kept.peers i ≡ Some core → IsPeerAt config network core number
+peer_is : (kept : WorldKept) (i number : ℕ) (core : PeerKept) (config : Config) (network : WorldState)
+    → StandsFor kept config network → number ≡ i + 1 → slice_get kept.peers i ≡ Some core
+    → IsPeerAt config network core number
 peer_is kept i number core config network s is at =
     let count = s.count in
     let low = get-within kept.peers i core at in
@@ -231,27 +324,36 @@ peer_is kept i number core config network s is at =
     subst (λ (n : ℕ). IsPeerAt config network core n) next here
 
 -- a peer that is kept at this index
-pub peer_kept : (inside peers : List PeerKept) (i count : ℕ) (core : PeerKept) → inside ≡ peers → core ≡ get_or inside i core
+pub peer_kept : (inside peers : List PeerKept) (i count : ℕ) (core : PeerKept) → inside ≡ peers
+    → core ≡ get_or inside i core
     → count ≡ length peers → i < count → slice_get peers i ≡ Some core
 peer_kept inside peers i count core same is counted low =
     let within : i < length peers = omega (arith, counted, low) in
     let here = subst (λ (ps : List PeerKept). core ≡ get_or ps i core) same is in
     slice_get-get_or peers i core within ∙ ap (λ (x : PeerKept). Some x) (sym here)
 
-pub no_pair_matched : (kept : WorldKept) (i : ℕ) (core : PeerKept) (writer reader : Endpoint) → writer.peer ≡ i + 1 → slice_get kept.peers i ≡ Some core
-    → ((config : Config) (peer : Peer) → CoreStandsFor core config peer → IsPair config peer writer.number reader None) → NotMatched kept writer reader
+pub no_pair_matched : (kept : WorldKept) (i : ℕ) (core : PeerKept) (writer reader : Endpoint) → writer.peer ≡ i + 1
+    → slice_get kept.peers i ≡ Some core
+    → ((config : Config) (peer : Peer) → CoreStandsFor core config peer → IsPair config peer writer.number reader None)
+    → NotMatched kept writer reader
 no_pair_matched kept i core writer reader is at none = λ config network s.
     let p = peer_is kept i writer.peer core config network s is at in
-    subst (λ (part : Part). acknowledged_of (own_writer part writer.number).readers reader ≡ None) (sym p.part) (none config p.peer p.stands)
+    subst (λ (part : Part). acknowledged_of (own_writer part writer.number).readers reader ≡ None) (sym p.part)
+    (none config p.peer p.stands)
 
-pub pair_matched : (kept : WorldKept) (i : ℕ) (core : PeerKept) (writer reader : Endpoint) (pair : Pair) (now : ℕ) → writer.peer ≡ i + 1 → slice_get kept.peers i ≡ Some core
-    → ((config : Config) (peer : Peer) → CoreStandsFor core config peer → IsPair config peer writer.number reader (Some pair)) → ((config : Config) (peer : Peer) → CoreStandsFor core config peer → now ≡ peer.part.dds.moment)
+pub pair_matched : (kept : WorldKept) (i : ℕ) (core : PeerKept) (writer reader : Endpoint) (pair : Pair) (now : ℕ)
+    → writer.peer ≡ i + 1 → slice_get kept.peers i ≡ Some core
+    → ((config : Config) (peer : Peer) → CoreStandsFor core config peer
+    → IsPair config peer writer.number reader (Some pair))
+    → ((config : Config) (peer : Peer) → CoreStandsFor core config peer → now ≡ peer.part.dds.moment)
     → IsKnown kept (record { writer = writer; reader = reader; pair = pair; moment = now })
 pair_matched kept i core writer reader pair now is at found moment = λ config network s.
     let p = peer_is kept i writer.peer core config network s is at in
     let f = found config p.peer p.stands in
     record {
-      matched = subst (λ (part : Part). IsSome (acknowledged_of (own_writer part writer.number).readers reader)) (sym p.part) f.0;
+      matched =
+          subst (λ (part : Part). IsSome (acknowledged_of (own_writer part writer.number).readers reader))
+          (sym p.part) f.0;
       writer = subst (λ (n : ℕ). pair.writer ≡ writer_entity config n writer.number) p.numbered f.1;
       reader = f.2;
       behind = f.3 ∙ ap (λ (part : Part). is_reader_behind (own_writer part writer.number) reader) (sym p.part);
@@ -264,11 +366,14 @@ pair_matched kept i core writer reader pair now is at found moment = λ config n
 -- the place, in each state that the network stands for
 abbrev pub IsPlace : WorldKept → Endpoint → Endpoint → Option ℕ → Type 0
 IsPlace kept reader writer place =
-    (config : Config) (network : WorldState) → StandsFor kept config network → place ≡ place_at (machine_of network) reader writer
+    (config : Config) (network : WorldState) → StandsFor kept config network
+    → place ≡ place_at (machine_of network) reader writer
 
-pub place_kept : (kept : WorldKept) (i : ℕ) (core : PeerKept) (reader writer : Endpoint) (place : Option ℕ) → reader.peer ≡ i + 1
+pub place_kept : (kept : WorldKept) (i : ℕ) (core : PeerKept) (reader writer : Endpoint) (place : Option ℕ)
+    → reader.peer ≡ i + 1
     → slice_get kept.peers i ≡ Some core
-    → ((config : Config) (peer : Peer) → CoreStandsFor core config peer → place ≡ place_of (own_proxies peer.part reader.number) writer)
+    → ((config : Config) (peer : Peer) → CoreStandsFor core config peer
+    → place ≡ place_of (own_proxies peer.part reader.number) writer)
     → IsPlace kept reader writer place
 place_kept kept i core reader writer place is at of_core = λ config network s.
     let p = peer_is kept i reader.peer core config network s is at in
@@ -281,11 +386,15 @@ no_cause None h = cc
 no_cause (Some x) h = refl
 
 pub are_matched : (kept : WorldKept) (m : Matched) → IsKnown kept m → AreMatched kept m.writer m.reader
-are_matched kept m known config network s = no_cause (acknowledged_of (writer_at (machine_of network) m.writer).readers m.reader) (known config network s).matched
+are_matched kept m known config network s =
+    no_cause (acknowledged_of (writer_at (machine_of network) m.writer).readers m.reader)
+    (known config network s).matched
 
-pub not_matched : (kept : WorldKept) (writer reader : Endpoint) → NotMatched kept writer reader → RefusesRound kept writer reader BadParameter
+pub not_matched : (kept : WorldKept) (writer reader : Endpoint) → NotMatched kept writer reader
+    → RefusesRound kept writer reader BadParameter
 not_matched kept writer reader none config network s =
-    subst (λ (o : Option ℕ). Refuses (if is_some o then None else Some BadParameter) BadParameter) (sym (none config network s)) refl
+    subst (λ (o : Option ℕ). Refuses (if is_some o then None else Some BadParameter) BadParameter)
+    (sym (none config network s)) refl
 
 nothing_less : (a b : Option ℕ) → NoLess a b → None ≡ b → a ≡ None
 nothing_less None b h is = refl
@@ -293,9 +402,11 @@ nothing_less (Some x) None h is = absurd h
 nothing_less (Some x) (Some y) h is = cc
 
 -- without a place they are not matched
-pub not_placed : (kept : WorldKept) (writer reader : Endpoint) → IsPlace kept reader writer None → NotMatched kept writer reader
+pub not_placed : (kept : WorldKept) (writer reader : Endpoint) → IsPlace kept reader writer None
+    → NotMatched kept writer reader
 not_placed kept writer reader none config network s =
-    nothing_less (acknowledged_of (writer_at (machine_of network) writer).readers reader) (place_at (machine_of network) reader writer) (s.sound.acknowledged writer reader)
+    nothing_less (acknowledged_of (writer_at (machine_of network) writer).readers reader)
+    (place_at (machine_of network) reader writer) (s.sound.acknowledged writer reader)
     (none config network s)
 
 -- ---- the first such packet
@@ -304,25 +415,33 @@ not_placed kept writer reader none config network s =
 at_most_next : (k n : ℕ) → k ≤ n + 1 → (k ≤ n) ⊎ (k ≡ n + 1)
 at_most_next zero n h = inl (omega arith)
 at_most_next (suc k) zero h = inr (omega (arith, h))
-at_most_next (suc k) (suc n) h = ⊎_elim (λ a. inl (omega (arith, a))) (λ b. inr (omega (arith, b))) (at_most_next k n (omega (arith, h)))
+at_most_next (suc k) (suc n) h =
+    ⊎_elim (λ a. inl (omega (arith, a))) (λ b. inr (omega (arith, b))) (at_most_next k n (omega (arith, h)))
 
 pub none_yet : (Is : Packet → Type 0) (sent : List Packet) (from to : ℕ) → to ≤ from → HasNone Is sent from to
 none_yet Is sent from to low = λ k packet above within at is. absurd (omega (arith, low, above, within))
 
-pub none_within : (Is : Packet → Type 0) (sent : List Packet) (from to index : ℕ) → to ≤ index → HasNone Is sent from index → HasNone Is sent from to
-none_within Is sent from to index low none = λ k packet above within at is. none k packet above (omega (arith, low, within)) at is
+pub none_within : (Is : Packet → Type 0) (sent : List Packet) (from to index : ℕ) → to ≤ index
+    → HasNone Is sent from index → HasNone Is sent from to
+none_within Is sent from to index low none =
+    λ k packet above within at is. none k packet above (omega (arith, low, within)) at is
 
-pub none_more : (Is : Packet → Type 0) (sent : List Packet) (from index next : ℕ) (packet : Packet) → next ≡ index + 1 → index < length sent → packet ≡ get_or sent index packet → (Is packet → ⊥) → HasNone Is sent from index → HasNone Is sent from next
+pub none_more : (Is : Packet → Type 0) (sent : List Packet) (from index next : ℕ) (packet : Packet) → next ≡ index + 1
+    → index < length sent → packet ≡ get_or sent index packet → (Is packet → ⊥) → HasNone Is sent from index
+    → HasNone Is sent from next
 none_more Is sent from index next packet is low here other none = λ k p above within at is_p.
     ⊎_elim (λ before. none k p above before at is_p)
     (λ last.
     let number : k - 1 ≡ index = omega (arith, last) in
     let there : slice_get sent index ≡ Some p = subst (λ (n : ℕ). slice_get sent n ≡ Some p) number at.1 in
-    let same : packet ≡ p = here ∙ same_Some (get_or sent index packet) p (sym (slice_get-get_or sent index packet low) ∙ there) in
+    let same : packet ≡ p =
+    here ∙ same_Some (get_or sent index packet) p (sym (slice_get-get_or sent index packet low) ∙ there) in
     other (subst (λ (x : Packet). Is x) (sym same) is_p))
     (at_most_next k index (omega (arith, within, is)))
 
-pub found_here : (Is : Packet → Type 0) (sent : List Packet) (from index number : ℕ) (packet : Packet) → number ≡ index + 1 → from ≤ index → index < length sent → packet ≡ get_or sent index packet → Is packet → HasNone Is sent from index
+pub found_here : (Is : Packet → Type 0) (sent : List Packet) (from index number : ℕ) (packet : Packet)
+    → number ≡ index + 1 → from ≤ index → index < length sent → packet ≡ get_or sent index packet → Is packet
+    → HasNone Is sent from index
     → IsFirst Is sent from (length sent) number
 found_here Is sent from index number packet is above low here such none =
     let before : index ≡ number - 1 = omega (arith, is) in
@@ -330,7 +449,11 @@ found_here Is sent from index number packet is above low here such none =
       above = omega (arith, is, above);
       within = omega (arith, is, low);
       packet = packet;
-      at = (omega (arith, is), subst (λ (n : ℕ). slice_get sent n ≡ Some packet) before (slice_get-get_or sent index packet low ∙ ap (λ (x : Packet). Some x) (sym here)));
+      at = (
+        omega (arith, is),
+        subst (λ (n : ℕ). slice_get sent n ≡ Some packet) before
+            (slice_get-get_or sent index packet low ∙ ap (λ (x : Packet). Some x) (sym here)),
+      );
       is = such;
       first = subst (λ (n : ℕ). HasNone Is sent from n) before none;
     }

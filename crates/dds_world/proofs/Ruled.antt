@@ -40,7 +40,9 @@ pub progresses_at : (tests : AllTests) (old new : WorldKept) (ev : WorldEvent) (
 progresses_at tests old new ev reply steps = progresses tests old new ev reply (steps_at old new ev reply steps)
 
 -- the number of the peer of this index
-numbered_so : (kept : WorldKept) (config : Config) (network : WorldState) (i : ℕ) (core : PeerKept) → StandsFor kept config network → slice_get kept.peers i ≡ Some core → (get_or network.peers i no_peer).number ≡ suc i
+numbered_so : (kept : WorldKept) (config : Config) (network : WorldState) (i : ℕ) (core : PeerKept)
+    → StandsFor kept config network → slice_get kept.peers i ≡ Some core
+    → (get_or network.peers i no_peer).number ≡ suc i
 numbered_so kept config network i core s at =
     let count = s.count in
     let low = get-within kept.peers i core at in s.sound.number (suc i) (omega arith, omega (arith, count, low))
@@ -50,7 +52,8 @@ next_number i n is = omega (arith, is)
 
 -- ---- a call
 
-effect_due : (config : Config) (peer : Peer) (effect : Effect) (output : Output) → SendsFor config peer effect output → AreSent (announcements_due config peer.number peer.part effect) output.packets output.unsent
+effect_due : (config : Config) (peer : Peer) (effect : Effect) (output : Output) → SendsFor config peer effect output
+    → AreSent (announcements_due config peer.number peer.part effect) output.packets output.unsent
 effect_due config peer (writes w (Changed change)) output one = one.are_sent
 effect_due config peer (writes w (Registered key)) output none = (none.packets, none.unsent)
 effect_due config peer (writes w (Asserted moment)) output are = are
@@ -58,23 +61,33 @@ effect_due config peer (writes w LookedAt) output none = (none.packets, none.uns
 effect_due config peer (writes w (Ticked now behind)) output none = (none.packets, none.unsent)
 effect_due config peer nothing output none = (none.packets, none.unsent)
 
-call_dues : {tests : AllTests} → (kept new : WorldKept) (i : ℕ) (call : Call) (reply : Reply) (a : Acts tests kept i (event.Call call) reply new) → SendsItsDues tests kept i (event.Call call) (world.Call (suc i) call) reply new a
+call_dues : {tests : AllTests} → (kept new : WorldKept) (i : ℕ) (call : Call) (reply : Reply)
+    (a : Acts tests kept i (event.Call call) reply new)
+    → SendsItsDues tests kept i (event.Call call) (world.Call (suc i) call) reply new a
 call_dues kept new i call reply a config network next s rules =
     let peer : Peer = get_or network.peers i no_peer in
     let output : Output = a.acts.output in
-    let sent = effect_due config peer (effect_of peer.part call output.reply) output (a.sends config peer (s.each i a.acts.core a.acts.at)) in
-    let replied : AreSent (announcements_due config peer.number peer.part (effect_of peer.part call reply)) output.packets output.unsent =
-    subst (λ (r : Reply). AreSent (announcements_due config peer.number peer.part (effect_of peer.part call r)) output.packets output.unsent) (sym a.acts.replies) sent in (
+    let sent =
+    effect_due config peer (effect_of peer.part call output.reply) output
+    (a.sends config peer (s.each i a.acts.core a.acts.at)) in
+    let replied : AreSent (announcements_due config peer.number peer.part (effect_of peer.part call reply))
+    output.packets output.unsent =
+    subst (λ (r : Reply). AreSent (announcements_due config peer.number peer.part (effect_of peer.part call r))
+    output.packets output.unsent) (sym a.acts.replies) sent in (
       announcements_due config (suc i) peer.part (effect_of peer.part call reply),
       refl,
-      subst (λ (n : ℕ). AreSent (announcements_due config n peer.part (effect_of peer.part call reply)) output.packets output.unsent)
+      subst (λ (n : ℕ). AreSent (announcements_due config n peer.part (effect_of peer.part call reply)) output.packets
+          output.unsent)
           (numbered_so kept config network i a.acts.core s a.acts.at) replied,
     )
 
-pub called : {tests : AllTests} → (kept new : WorldKept) (i peer : ℕ) (call : Call) (reply : Reply) → peer ≡ i + 1 → Acts tests kept i (event.Call call) reply new → RuledSteps tests kept (world.Call peer call) reply new
+pub called : {tests : AllTests} → (kept new : WorldKept) (i peer : ℕ) (call : Call) (reply : Reply) → peer ≡ i + 1
+    → Acts tests kept i (event.Call call) reply new → RuledSteps tests kept (world.Call peer call) reply new
 called {tests} kept new i peer call reply is a =
     subst (λ (n : ℕ). RuledSteps tests kept (world.Call n call) reply new) (next_number i peer is)
-    (acts_ruled kept new i (event.Call call) (world.Call (suc i) call) reply refl (calls_at tests kept.sent (suc i) call) a (call_dues kept new i call reply a))
+    (acts_ruled kept new i (event.Call call)
+    (world.Call (suc i) call) reply refl (calls_at tests kept.sent (suc i) call) a
+    (call_dues kept new i call reply a))
 
 -- ---- a tick
 
@@ -83,69 +96,93 @@ abbrev due_so : Config → ℕ → Part → Reply → List Due
 due_so config peer part Done = heartbeats_due config peer part
 due_so config peer part reply = []
 
-tick_due : (config : Config) (peer : Peer) (reply : Reply) → due_at_tick config peer reply ≡ due_so config peer.number peer.part reply
+tick_due : (config : Config) (peer : Peer) (reply : Reply)
+    → due_at_tick config peer reply ≡ due_so config peer.number peer.part reply
 tick_due config peer Done = refl
 tick_due config peer reply = refl
 
-are_due_so : (config : Config) (network next : WorldState) (i now : ℕ) (reply : Reply) → AreDue config network (world.Tick (suc i) now) reply next (due_so config (suc i) (get_or network.peers i no_peer).part reply)
+are_due_so : (config : Config) (network next : WorldState) (i now : ℕ) (reply : Reply)
+    → AreDue config network (world.Tick (suc i) now) reply next
+    (due_so config (suc i) (get_or network.peers i no_peer).part reply)
 are_due_so config network next i now Done = refl
 are_due_so config network next i now reply = refl
 
-tick_dues : {tests : AllTests} → (kept new : WorldKept) (i now : ℕ) (reply : Reply) (a : Acts tests kept i (event.Tick now) reply new) → SendsItsDues tests kept i (event.Tick now) (world.Tick (suc i) now) reply new a
+tick_dues : {tests : AllTests} → (kept new : WorldKept) (i now : ℕ) (reply : Reply)
+    (a : Acts tests kept i (event.Tick now) reply new)
+    → SendsItsDues tests kept i (event.Tick now) (world.Tick (suc i) now) reply new a
 tick_dues kept new i now reply a config network next s rules =
     let peer : Peer = get_or network.peers i no_peer in
     let output : Output = a.acts.output in
     let sent : AreSent (due_so config peer.number peer.part output.reply) output.packets output.unsent =
-    subst (λ (ds : List Due). AreSent ds output.packets output.unsent) (tick_due config peer output.reply) (a.sends config peer (s.each i a.acts.core a.acts.at)) in
+    subst (λ (ds : List Due). AreSent ds output.packets output.unsent) (tick_due config peer output.reply)
+    (a.sends config peer (s.each i a.acts.core a.acts.at)) in
     let replied : AreSent (due_so config peer.number peer.part reply) output.packets output.unsent =
-    subst (λ (r : Reply). AreSent (due_so config peer.number peer.part r) output.packets output.unsent) (sym a.acts.replies) sent in (
+    subst (λ (r : Reply). AreSent (due_so config peer.number peer.part r) output.packets output.unsent)
+    (sym a.acts.replies) sent in (
       due_so config (suc i) peer.part reply,
       are_due_so config network next i now reply,
       subst (λ (n : ℕ). AreSent (due_so config n peer.part reply) output.packets output.unsent)
           (numbered_so kept config network i a.acts.core s a.acts.at) replied,
     )
 
-pub ticked : {tests : AllTests} → (kept new : WorldKept) (i peer now : ℕ) (reply : Reply) → peer ≡ i + 1 → Acts tests kept i (event.Tick now) reply new → RuledSteps tests kept (world.Tick peer now) reply new
+pub ticked : {tests : AllTests} → (kept new : WorldKept) (i peer now : ℕ) (reply : Reply) → peer ≡ i + 1
+    → Acts tests kept i (event.Tick now) reply new → RuledSteps tests kept (world.Tick peer now) reply new
 ticked {tests} kept new i peer now reply is a =
     subst (λ (n : ℕ). RuledSteps tests kept (world.Tick n now) reply new) (next_number i peer is)
-    (acts_ruled kept new i (event.Tick now) (world.Tick (suc i) now) reply refl (ticks_at tests kept.sent (suc i) now) a (tick_dues kept new i now reply a))
+    (acts_ruled kept new i (event.Tick now) (world.Tick (suc i) now) reply refl (ticks_at tests kept.sent (suc i) now) a
+    (tick_dues kept new i now reply a))
 
 -- ---- a delivery
 
 -- what is due to the packet that this report is of
-reported_due : (config : Config) (network next : WorldState) (peer number : ℕ) (packet : Packet) (reply : Reply) (report : Report) (dues : List Due) → reply ≡ Reported report → slice_get network.sent (number - 1) ≡ Some packet
-    → TakesPacket config peer packet.bytes (state_of (peer_at network peer)) report dues (state_of (peer_at next peer)) → AreDue config network (world.Deliver peer number) reply next dues
+reported_due : (config : Config) (network next : WorldState) (peer number : ℕ) (packet : Packet) (reply : Reply)
+    (report : Report) (dues : List Due) → reply ≡ Reported report → slice_get network.sent (number - 1) ≡ Some packet
+    → TakesPacket config peer packet.bytes (state_of (peer_at network peer)) report dues (state_of (peer_at next peer))
+    → AreDue config network (world.Deliver peer number) reply next dues
 reported_due config network next peer number packet reply report dues is at takes =
     subst (λ (r : Reply). AreDue config network (world.Deliver peer number) r next dues) (sym is) (packet, at, takes)
 
-delivery_dues : {tests : AllTests} → (kept new : WorldKept) (i j : ℕ) (packet : Packet) (reply : Reply) → slice_get kept.sent j ≡ Some packet → (a : Acts tests kept i (event.Deliver packet.bytes) reply new)
+delivery_dues : {tests : AllTests} → (kept new : WorldKept) (i j : ℕ) (packet : Packet) (reply : Reply)
+    → slice_get kept.sent j ≡ Some packet → (a : Acts tests kept i (event.Deliver packet.bytes) reply new)
     → SendsItsDues tests kept i (event.Deliver packet.bytes) (world.Deliver (suc i) (j + 1)) reply new a
 delivery_dues kept new i j packet reply at a config network next s rules =
     let before : State = state_of (get_or network.peers i no_peer) in
     let later : State = state_of (get_or next.peers i no_peer) in
     let there : slice_get network.sent ((j + 1) - 1) ≡ Some packet =
-    subst (λ (ps : List Packet). slice_get ps ((j + 1) - 1) ≡ Some packet) (sym s.sent) (found_at kept.sent j packet at) in (
+    subst (λ (ps : List Packet). slice_get ps ((j + 1) - 1) ≡ Some packet) (sym s.sent)
+    (found_at kept.sent j packet at) in (
       rules.dues,
-      reported_due config network next (suc i) (j + 1) packet reply rules.report rules.dues (a.acts.replies ∙ rules.reply) there
-          (subst (λ (n : ℕ). TakesPacket config n packet.bytes before rules.report rules.dues later) (numbered_so kept config network i a.acts.core s a.acts.at) rules.takes),
+      reported_due config network next (suc i) (j + 1) packet reply rules.report rules.dues
+          (a.acts.replies ∙ rules.reply) there
+          (subst (λ (n : ℕ). TakesPacket config n packet.bytes before rules.report rules.dues later)
+          (numbered_so kept config network i a.acts.core s a.acts.at) rules.takes),
       rules.sent,
     )
 
 -- a packet that was sent is taken up by the rules
-taken_up : {tests : AllTests} → (kept new : WorldKept) (i j : ℕ) (packet : Packet) (reply : Reply) → slice_get kept.sent j ≡ Some packet → Acts tests kept i (event.Deliver packet.bytes) reply new → RuledSteps tests kept (world.Deliver (suc i) (j + 1)) reply new
+taken_up : {tests : AllTests} → (kept new : WorldKept) (i j : ℕ) (packet : Packet) (reply : Reply)
+    → slice_get kept.sent j ≡ Some packet → Acts tests kept i (event.Deliver packet.bytes) reply new
+    → RuledSteps tests kept (world.Deliver (suc i) (j + 1)) reply new
 taken_up {tests} kept new i j packet reply at a =
-    acts_ruled kept new i (event.Deliver packet.bytes) (world.Deliver (suc i) (j + 1)) reply refl (delivers_at tests kept.sent (suc i) (j + 1) packet (omega arith) (found_at kept.sent j packet at)) a
+    acts_ruled kept new i (event.Deliver packet.bytes)
+    (world.Deliver (suc i) (j + 1)) reply refl (delivers_at tests kept.sent (suc i) (j + 1) packet (omega arith)
+    (found_at kept.sent j packet at)) a
     (delivery_dues kept new i j packet reply at a)
 
-pub delivered : {tests : AllTests} → (kept new : WorldKept) (i j : ℕ) (bytes : List ℕ) (reply : Reply) → IsCopy kept.sent j bytes → Acts tests kept i (event.Deliver bytes) reply new → RuledSteps tests kept (world.Deliver (i + 1) (j + 1)) reply new
+pub delivered : {tests : AllTests} → (kept new : WorldKept) (i j : ℕ) (bytes : List ℕ) (reply : Reply)
+    → IsCopy kept.sent j bytes → Acts tests kept i (event.Deliver bytes) reply new
+    → RuledSteps tests kept (world.Deliver (i + 1) (j + 1)) reply new
 delivered {tests} kept new i j bytes reply copy a =
     let packet = copy.packet in
-    let own : Acts tests kept i (event.Deliver packet.bytes) reply new = subst (λ (b : List ℕ). Acts tests kept i (event.Deliver b) reply new) copy.same a in
+    let own : Acts tests kept i (event.Deliver packet.bytes) reply new =
+    subst (λ (b : List ℕ). Acts tests kept i (event.Deliver b) reply new) copy.same a in
     let next : suc i ≡ i + 1 = omega arith in
-    subst (λ (n : ℕ). RuledSteps tests kept (world.Deliver n (j + 1)) reply new) next (taken_up kept new i j packet reply copy.at own)
+    subst (λ (n : ℕ). RuledSteps tests kept (world.Deliver n (j + 1)) reply new) next
+    (taken_up kept new i j packet reply copy.at own)
 
 -- a packet that finds no memory
-pub not_delivered : {tests : AllTests} → (kept : WorldKept) (i j : ℕ) → i < length kept.peers → j < length kept.sent → RuledSteps tests kept (world.Deliver (i + 1) (j + 1)) (Reported (record { moves = []; refused = Some 0 })) kept
+pub not_delivered : {tests : AllTests} → (kept : WorldKept) (i j : ℕ) → i < length kept.peers → j < length kept.sent
+    → RuledSteps tests kept (world.Deliver (i + 1) (j + 1)) (Reported (record { moves = []; refused = Some 0 })) kept
 not_delivered {tests} kept i j low high config network s =
     let few = s.few in
     let count = s.count in
@@ -176,4 +213,5 @@ not_delivered {tests} kept i j low high config network s =
       counts = (0, omega arith, omega (arith, few));
       quiet = λ nothing. (refl, refl);
     } in
-    delivered kept kept i j packet.0.bytes reply (record { packet = packet.0; at = packet.1; same = refl }) acts config network s
+    delivered kept kept i j packet.0.bytes reply
+    (record { packet = packet.0; at = packet.1; same = refl }) acts config network s

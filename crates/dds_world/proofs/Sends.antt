@@ -30,8 +30,10 @@ use Rattle.dds_world.specs.Acting.{Acts, Counts, IsQuiet}
 use Rattle.dds_world.proofs.Posted.{lost_in_all, lost_is, posted_count, posted_on}
 
 -- a change that a peer announces is announced in the network
-announced : (kept new : WorldKept) (config : Config) (writer : Endpoint) (readers : List ReaderProxy) (number : ℕ) (change : Change) (output : Output) → Posts kept.sent output.packets new.sent → Counts kept output new
-    → SendsChange config writer readers number change output → Announced config (traffic kept) writer readers number change (traffic new)
+announced : (kept new : WorldKept) (config : Config) (writer : Endpoint) (readers : List ReaderProxy) (number : ℕ)
+    (change : Change) (output : Output) → Posts kept.sent output.packets new.sent → Counts kept output new
+    → SendsChange config writer readers number change output
+    → Announced config (traffic kept) writer readers number change (traffic new)
 announced kept new config writer readers number change output posts counts one =
     let parts = posted_count output.packets posts.posted posts.lost posts.are_posted in
     record {
@@ -41,13 +43,18 @@ announced kept new config writer readers number change output posts counts one =
       says = λ packet reader m same matched. one.says packet reader (posts.of_packets packet m) same matched;
       different = posts.different one.different;
       lost = output.unsent + posts.lost;
-      counted = lost_in_all (length posts.posted) (length output.packets) posts.lost output.unsent (length (peers_of readers)) parts one.counted;
-      are_sent = posted_on (changes_due config writer readers number change) output.packets posts.posted output.unsent posts.lost one.are_sent posts.are_posted;
+      counted =
+          lost_in_all (length posts.posted) (length output.packets) posts.lost output.unsent
+          (length (peers_of readers)) parts one.counted;
+      are_sent =
+          posted_on (changes_due config writer readers number change) output.packets posts.posted output.unsent
+          posts.lost one.are_sent posts.are_posted;
       unsent = lost_is kept new output posts counts;
     }
 
 -- what a peer sends of its dues is sent in the network
-pub dues_sent : (kept new : WorldKept) (dues : List Due) (output : Output) → Posts kept.sent output.packets new.sent → Counts kept output new → AreSent dues output.packets output.unsent → SendsDues dues (traffic kept) (traffic new)
+pub dues_sent : (kept new : WorldKept) (dues : List Due) (output : Output) → Posts kept.sent output.packets new.sent
+    → Counts kept output new → AreSent dues output.packets output.unsent → SendsDues dues (traffic kept) (traffic new)
 dues_sent kept new dues output posts counts are = record {
   packets = posts.posted;
   sent = posts.sent;
@@ -56,33 +63,45 @@ dues_sent kept new dues output posts counts are = record {
   unsent = lost_is kept new output posts counts;
 }
 
-traffic_as : (a b : List Packet) (m n : ℕ) → a ≡ b → m ≡ n → ◌≡◌ {A = Traffic} (record { sent = a; unsent = m }) (record { sent = b; unsent = n })
+traffic_as : (a b : List Packet) (m n : ℕ) → a ≡ b → m ≡ n
+    → ◌≡◌ {A = Traffic} (record { sent = a; unsent = m }) (record { sent = b; unsent = n })
 traffic_as a b m n e f = cc
 
-same_traffic : (kept new : WorldKept) (output : Output) → IsQuiet kept output new → SendsNothing output → traffic new ≡ traffic kept
-same_traffic kept new output quiet none = let q = quiet none in traffic_as new.sent kept.sent new.unsent kept.unsent q.0 q.1
+same_traffic : (kept new : WorldKept) (output : Output) → IsQuiet kept output new → SendsNothing output
+    → traffic new ≡ traffic kept
+same_traffic kept new output quiet none =
+    let q = quiet none in traffic_as new.sent kept.sent new.unsent kept.unsent q.0 q.1
 
 -- what a peer of this number and this part sends for an effect
 abbrev SendsAt : Config → Traffic → ℕ → Part → Effect → Traffic → Type 0
 SendsAt config old peer part (writes writer (Changed change)) new =
-    Announced config old (record { peer = peer; number = writer }) (own_writer part writer).readers (length (writer_changes (own_writer part writer)) + 1) change new
+    Announced config old (record { peer = peer; number = writer }) (own_writer part writer).readers
+    (length (writer_changes (own_writer part writer)) + 1) change new
 SendsAt config old peer part (writes writer (Asserted moment)) new =
     SendsDues (assertions_due config (record { peer = peer; number = writer }) (own_writer part writer)) old new
 SendsAt config old peer part other new = new ≡ old
 
-effect_sends : (kept new : WorldKept) (config : Config) (peer : Peer) (effect : Effect) (output : Output) → Posts kept.sent output.packets new.sent → Counts kept output new → IsQuiet kept output new
+effect_sends : (kept new : WorldKept) (config : Config) (peer : Peer) (effect : Effect) (output : Output)
+    → Posts kept.sent output.packets new.sent → Counts kept output new → IsQuiet kept output new
     → SendsFor config peer effect output → SendsAt config (traffic kept) peer.number peer.part effect (traffic new)
 effect_sends kept new config peer (writes w (Changed change)) output posts counts quiet one =
-    announced kept new config (record { peer = peer.number; number = w }) (own_writer peer.part w).readers (length (writer_changes (own_writer peer.part w)) + 1) change output posts counts one
-effect_sends kept new config peer (writes w (Registered key)) output posts counts quiet none = same_traffic kept new output quiet none
+    announced kept new config (record { peer = peer.number; number = w }) (own_writer peer.part w).readers
+    (length (writer_changes (own_writer peer.part w)) + 1) change output posts counts one
+effect_sends kept new config peer (writes w (Registered key)) output posts counts quiet none =
+    same_traffic kept new output quiet none
 effect_sends kept new config peer (writes w (Asserted moment)) output posts counts quiet are =
-    dues_sent kept new (assertions_due config (record { peer = peer.number; number = w }) (own_writer peer.part w)) output posts counts are
-effect_sends kept new config peer (writes w LookedAt) output posts counts quiet none = same_traffic kept new output quiet none
-effect_sends kept new config peer (writes w (Ticked now behind)) output posts counts quiet none = same_traffic kept new output quiet none
+    dues_sent kept new (assertions_due config (record { peer = peer.number; number = w }) (own_writer peer.part w))
+    output posts counts are
+effect_sends kept new config peer (writes w LookedAt) output posts counts quiet none =
+    same_traffic kept new output quiet none
+effect_sends kept new config peer (writes w (Ticked now behind)) output posts counts quiet none =
+    same_traffic kept new output quiet none
 effect_sends kept new config peer nothing output posts counts quiet none = same_traffic kept new output quiet none
 
 -- a peer of the machine sends so
-machine_sends : (config : Config) (old new : Traffic) (network : WorldState) (peer : ℕ) (effect : Effect) → SendsAt config old peer (part_at (machine_of network) peer) effect new → SendsOf config old (machine_of network) peer effect new
+machine_sends : (config : Config) (old new : Traffic) (network : WorldState) (peer : ℕ) (effect : Effect)
+    → SendsAt config old peer (part_at (machine_of network) peer) effect new
+    → SendsOf config old (machine_of network) peer effect new
 machine_sends config old new network peer (writes w (Changed change)) h = h
 machine_sends config old new network peer (writes w (Registered key)) h = h
 machine_sends config old new network peer (writes w (Asserted moment)) h = h
@@ -91,7 +110,8 @@ machine_sends config old new network peer (writes w (Ticked now behind)) h = h
 machine_sends config old new network peer nothing h = h
 
 -- what is sent at a call of the peer of this index
-call_sends : {tests : AllTests} → (kept new : WorldKept) (i : ℕ) (c : Call) (reply : Reply) → Acts tests kept i (event.Call c) reply new → Announces kept (world.Call (suc i) c) reply new
+call_sends : {tests : AllTests} → (kept new : WorldKept) (i : ℕ) (c : Call) (reply : Reply)
+    → Acts tests kept i (event.Call c) reply new → Announces kept (world.Call (suc i) c) reply new
 call_sends kept new i c reply a config network s =
     let acts = a.acts in
     let old : Traffic = traffic kept in
@@ -100,23 +120,30 @@ call_sends kept new i c reply a config network s =
     let count = s.count in
     let low = get-within kept.peers i acts.core acts.at in
     let number : peer.number ≡ suc i = s.sound.number (suc i) (omega arith, omega (arith, count, low)) in
-    let part : part_at (machine_of network) (suc i) ≡ peer.part = numbered-map (λ (p : Peer). p.part) network.peers (suc i) no_peer in
+    let part : part_at (machine_of network) (suc i) ≡ peer.part =
+    numbered-map (λ (p : Peer). p.part) network.peers (suc i) no_peer in
     let effect : Effect = effect_of peer.part c output.reply in
     let sent : SendsAt config old peer.number peer.part effect (traffic new) =
-    effect_sends kept new config peer effect output acts.posts a.counts a.quiet (a.sends config peer (s.each i acts.core acts.at)) in
+    effect_sends kept new config peer effect output acts.posts a.counts a.quiet
+    (a.sends config peer (s.each i acts.core acts.at)) in
     let replied : SendsAt config old peer.number peer.part (effect_of peer.part c reply) (traffic new) =
-    subst (λ (r : Reply). SendsAt config old peer.number peer.part (effect_of peer.part c r) (traffic new)) (sym acts.replies) sent in
+    subst (λ (r : Reply). SendsAt config old peer.number peer.part (effect_of peer.part c r) (traffic new))
+    (sym acts.replies) sent in
     let numbered' : SendsAt config old (suc i) peer.part (effect_of peer.part c reply) (traffic new) =
     subst (λ (n : ℕ). SendsAt config old n peer.part (effect_of peer.part c reply) (traffic new)) number replied in
-    let parted : SendsAt config old (suc i) (part_at (machine_of network) (suc i)) (effect_of (part_at (machine_of network) (suc i)) c reply) (traffic new) =
+    let parted : SendsAt config old (suc i) (part_at (machine_of network) (suc i))
+    (effect_of (part_at (machine_of network) (suc i)) c reply) (traffic new) =
     subst (λ (p : Part). SendsAt config old (suc i) p (effect_of p c reply) (traffic new)) (sym part) numbered' in
-    machine_sends config old (traffic new) network (suc i) (effect_of (part_at (machine_of network) (suc i)) c reply) parted
+    machine_sends config old (traffic new) network (suc i)
+    (effect_of (part_at (machine_of network) (suc i)) c reply) parted
 
 number_of : (i n : ℕ) → n ≡ i + 1 → suc i ≡ n
 number_of i n is = omega (arith, is)
 
-pub called_sends : {tests : AllTests} → (kept new : WorldKept) (i peer : ℕ) (c : Call) (reply : Reply) → peer ≡ i + 1 → Acts tests kept i (event.Call c) reply new → Announces kept (world.Call peer c) reply new
-called_sends kept new i peer c reply is a = subst (λ (n : ℕ). Announces kept (world.Call n c) reply new) (number_of i peer is) (call_sends kept new i c reply a)
+pub called_sends : {tests : AllTests} → (kept new : WorldKept) (i peer : ℕ) (c : Call) (reply : Reply) → peer ≡ i + 1
+    → Acts tests kept i (event.Call c) reply new → Announces kept (world.Call peer c) reply new
+called_sends kept new i peer c reply is a =
+    subst (λ (n : ℕ). Announces kept (world.Call n c) reply new) (number_of i peer is) (call_sends kept new i c reply a)
 
 -- a tick sends what is due
 
@@ -125,17 +152,23 @@ abbrev TicksAt : Config → Traffic → ℕ → Part → Reply → Traffic → T
 TicksAt config old peer part Done new = SendsDues (heartbeats_due config peer part) old new
 TicksAt config old peer part reply new = new ≡ old
 
-tick_sends : (kept new : WorldKept) (config : Config) (peer : Peer) (reply : Reply) (output : Output) → Posts kept.sent output.packets new.sent → Counts kept output new → IsQuiet kept output new
-    → AreSent (due_at_tick config peer reply) output.packets output.unsent → TicksAt config (traffic kept) peer.number peer.part reply (traffic new)
-tick_sends kept new config peer Done output posts counts quiet are = dues_sent kept new (heartbeats_due config peer.number peer.part) output posts counts are
-tick_sends kept new config peer reply output posts counts quiet are = same_traffic kept new output quiet (record { packets = are.0; unsent = are.1 })
+tick_sends : (kept new : WorldKept) (config : Config) (peer : Peer) (reply : Reply) (output : Output)
+    → Posts kept.sent output.packets new.sent → Counts kept output new → IsQuiet kept output new
+    → AreSent (due_at_tick config peer reply) output.packets output.unsent
+    → TicksAt config (traffic kept) peer.number peer.part reply (traffic new)
+tick_sends kept new config peer Done output posts counts quiet are =
+    dues_sent kept new (heartbeats_due config peer.number peer.part) output posts counts are
+tick_sends kept new config peer reply output posts counts quiet are =
+    same_traffic kept new output quiet (record { packets = are.0; unsent = are.1 })
 
-machine_ticks : (config : Config) (old new : Traffic) (network : WorldState) (peer now : ℕ) (reply : Reply) → TicksAt config old peer (part_at (machine_of network) peer) reply new
+machine_ticks : (config : Config) (old new : Traffic) (network : WorldState) (peer now : ℕ) (reply : Reply)
+    → TicksAt config old peer (part_at (machine_of network) peer) reply new
     → Sends config old (machine_of network) (world.Tick peer now) reply new
 machine_ticks config old new network peer now Done h = h
 machine_ticks config old new network peer now reply h = h
 
-ticks_sent : {tests : AllTests} → (kept new : WorldKept) (i now : ℕ) (reply : Reply) → Acts tests kept i (event.Tick now) reply new → Announces kept (world.Tick (suc i) now) reply new
+ticks_sent : {tests : AllTests} → (kept new : WorldKept) (i now : ℕ) (reply : Reply)
+    → Acts tests kept i (event.Tick now) reply new → Announces kept (world.Tick (suc i) now) reply new
 ticks_sent kept new i now reply a config network s =
     let acts = a.acts in
     let old : Traffic = traffic kept in
@@ -143,39 +176,56 @@ ticks_sent kept new i now reply a config network s =
     let count = s.count in
     let low = get-within kept.peers i acts.core acts.at in
     let number : peer.number ≡ suc i = s.sound.number (suc i) (omega arith, omega (arith, count, low)) in
-    let part : part_at (machine_of network) (suc i) ≡ peer.part = numbered-map (λ (p : Peer). p.part) network.peers (suc i) no_peer in
+    let part : part_at (machine_of network) (suc i) ≡ peer.part =
+    numbered-map (λ (p : Peer). p.part) network.peers (suc i) no_peer in
     let sent : TicksAt config old peer.number peer.part acts.output.reply (traffic new) =
-    tick_sends kept new config peer acts.output.reply acts.output acts.posts a.counts a.quiet (a.sends config peer (s.each i acts.core acts.at)) in
-    let replied : TicksAt config old peer.number peer.part reply (traffic new) = subst (λ (r : Reply). TicksAt config old peer.number peer.part r (traffic new)) (sym acts.replies) sent in
+    tick_sends kept new config peer acts.output.reply acts.output acts.posts a.counts a.quiet
+    (a.sends config peer (s.each i acts.core acts.at)) in
+    let replied : TicksAt config old peer.number peer.part reply (traffic new) =
+    subst (λ (r : Reply). TicksAt config old peer.number peer.part r (traffic new)) (sym acts.replies) sent in
     machine_ticks config old (traffic new) network (suc i) now reply
-    (subst (λ (p : Part). TicksAt config old (suc i) p reply (traffic new)) (sym part) (subst (λ (n : ℕ). TicksAt config old n peer.part reply (traffic new)) number replied))
+    (subst (λ (p : Part). TicksAt config old (suc i) p reply (traffic new)) (sym part)
+    (subst (λ (n : ℕ). TicksAt config old n peer.part reply (traffic new)) number replied))
 
-pub ticked_sends : {tests : AllTests} → (kept new : WorldKept) (i peer now : ℕ) (reply : Reply) → peer ≡ i + 1 → Acts tests kept i (event.Tick now) reply new → Announces kept (world.Tick peer now) reply new
-ticked_sends kept new i peer now reply is a = subst (λ (n : ℕ). Announces kept (world.Tick n now) reply new) (number_of i peer is) (ticks_sent kept new i now reply a)
+pub ticked_sends : {tests : AllTests} → (kept new : WorldKept) (i peer now : ℕ) (reply : Reply) → peer ≡ i + 1
+    → Acts tests kept i (event.Tick now) reply new → Announces kept (world.Tick peer now) reply new
+ticked_sends kept new i peer now reply is a =
+    subst (λ (n : ℕ). Announces kept (world.Tick n now) reply new) (number_of i peer is)
+    (ticks_sent kept new i now reply a)
 
 -- a delivery sends what is then due
 
-reported : (config : Config) (old new : Traffic) (network : WorldState) (peer number : ℕ) (reply : Reply) (report : Report) → reply ≡ Reported report → (dues : List Due) → SendsDues dues old new
+reported : (config : Config) (old new : Traffic) (network : WorldState) (peer number : ℕ) (reply : Reply)
+    (report : Report) → reply ≡ Reported report → (dues : List Due) → SendsDues dues old new
     → Sends config old (machine_of network) (world.Deliver peer number) reply new
 reported config old new network peer number (Reported r) report is dues h = inl (dues, h)
 reported config old new network peer number reply report is dues h = absurd cc
 
-pub delivered_sends : {tests : AllTests} → (kept new : WorldKept) (i peer number : ℕ) (bytes : List ℕ) (reply : Reply) → Acts tests kept i (event.Deliver bytes) reply new → Announces kept (world.Deliver peer number) reply new
+pub delivered_sends : {tests : AllTests} → (kept new : WorldKept) (i peer number : ℕ) (bytes : List ℕ) (reply : Reply)
+    → Acts tests kept i (event.Deliver bytes) reply new → Announces kept (world.Deliver peer number) reply new
 delivered_sends kept new i peer number bytes reply a config network s =
     let acts = a.acts in
     let at_peer : Peer = get_or network.peers i no_peer in
-    let rules = (acts.steps config at_peer (s.each i acts.core acts.at) (s.filters i) (s.listeners i acts.slots acts.slots_at) (s.known i acts.core acts.at)).2 in
-    reported config (traffic kept) (traffic new) network peer number reply rules.report (acts.replies ∙ rules.reply) rules.dues (dues_sent kept new rules.dues acts.output acts.posts a.counts rules.sent)
+    let rules =
+    (acts.steps config at_peer (s.each i acts.core acts.at) (s.filters i) (s.listeners i acts.slots acts.slots_at)
+    (s.known i acts.core acts.at)).2 in
+    reported config (traffic kept) (traffic new) network peer number reply rules.report
+    (acts.replies ∙ rules.reply) rules.dues
+    (dues_sent kept new rules.dues acts.output acts.posts a.counts rules.sent)
 
 -- what is refused sends nothing
 
-pub refused_call_sends : (kept : WorldKept) (peer : ℕ) (c : Call) → Announces kept (world.Call peer c) (Refused BadParameter) kept
+pub refused_call_sends : (kept : WorldKept) (peer : ℕ) (c : Call)
+    → Announces kept (world.Call peer c) (Refused BadParameter) kept
 refused_call_sends kept peer c config network s =
-    subst (λ (e : Effect). SendsOf config (traffic kept) (machine_of network) peer e (traffic kept)) (sym (refused_nothing (part_at (machine_of network) peer) c BadParameter)) refl
+    subst (λ (e : Effect). SendsOf config (traffic kept) (machine_of network) peer e (traffic kept))
+    (sym (refused_nothing (part_at (machine_of network) peer) c BadParameter)) refl
 
-pub refused_tick_sends : (kept : WorldKept) (peer now : ℕ) → Announces kept (world.Tick peer now) (Refused BadParameter) kept
+pub refused_tick_sends : (kept : WorldKept) (peer now : ℕ)
+    → Announces kept (world.Tick peer now) (Refused BadParameter) kept
 refused_tick_sends kept peer now config network s = refl
 
-pub quiet_delivery_sends : (kept : WorldKept) (peer number : ℕ) (reply : Reply) → Announces kept (world.Deliver peer number) reply kept
+pub quiet_delivery_sends : (kept : WorldKept) (peer number : ℕ) (reply : Reply)
+    → Announces kept (world.Deliver peer number) reply kept
 quiet_delivery_sends kept peer number (Reported report) config network s = inr refl
 quiet_delivery_sends kept peer number reply config network s = refl

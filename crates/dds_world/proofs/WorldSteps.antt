@@ -52,13 +52,15 @@ use Rattle.dds_world.proofs.Replaced.{ended_at, peer_stands, same_at, with_peer}
 
 -- lists of which any two elements differ
 
-last_apart : (R : Packet → Packet → Type 0) (qs : List Packet) (p : Packet) → AllPairs R (qs ++ p ∷ []) → (x : Packet) → Contains qs x → R x p
+last_apart : (R : Packet → Packet → Type 0) (qs : List Packet) (p : Packet) → AllPairs R (qs ++ p ∷ []) → (x : Packet)
+    → Contains qs x → R x p
 last_apart R qs p all x c =
     let total = length-append qs (p ∷ []) in
     let within : length qs < length (qs ++ p ∷ []) = omega (arith, total) in
     let here : get_or (qs ++ p ∷ []) c.0 x ≡ x = get_or_append_left qs (p ∷ []) x c.0 c.1 ∙ c.2 in
     let last : get_or (qs ++ p ∷ []) (length qs) x ≡ p = get_or_at qs p [] x (length qs) refl in
-    subst (λ (y : Packet). R y p) here (subst (λ (y : Packet). R (get_or (qs ++ p ∷ []) c.0 x) y) last (all c.0 (length qs) x c.1 within))
+    subst (λ (y : Packet). R y p) here
+    (subst (λ (y : Packet). R (get_or (qs ++ p ∷ []) c.0 x) y) last (all c.0 (length qs) x c.1 within))
 
 front_apart : (R : Packet → Packet → Type 0) (qs : List Packet) (p : Packet) → AllPairs R (qs ++ p ∷ []) → AllPairs R qs
 front_apart R qs p all i j d lt within =
@@ -66,33 +68,55 @@ front_apart R qs p all i j d lt within =
     let low : i < length qs = omega (arith, lt, within) in
     let here : get_or (qs ++ p ∷ []) i d ≡ get_or qs i d = get_or_append_left qs (p ∷ []) d i low in
     let there : get_or (qs ++ p ∷ []) j d ≡ get_or qs j d = get_or_append_left qs (p ∷ []) d j within in
-    subst (λ (y : Packet). R y (get_or qs j d)) here (subst (λ (y : Packet). R (get_or (qs ++ p ∷ []) i d) y) there (all i j d lt (omega (arith, within, total))))
+    subst (λ (y : Packet). R y (get_or qs j d)) here
+    (subst (λ (y : Packet). R (get_or (qs ++ p ∷ []) i d) y) there (all i j d lt (omega (arith, within, total))))
 
-more_apart : (R : Packet → Packet → Type 0) (ps : List Packet) (p : Packet) → AllPairs R ps → ((x : Packet) → Contains ps x → R x p) → AllPairs R (ps ++ p ∷ [])
+more_apart : (R : Packet → Packet → Type 0) (ps : List Packet) (p : Packet) → AllPairs R ps
+    → ((x : Packet) → Contains ps x → R x p) → AllPairs R (ps ++ p ∷ [])
 more_apart R [] p all each = λ i j d lt within. absurd (omega (arith, lt, within))
 more_apart R (x ∷ ps) p all each =
     let first : All (R x) ps = λ k d lt. all 0 (suc k) d (omega arith) (omega (arith, lt)) in
     let rest : AllPairs R ps = λ i j d lt within. all (suc i) (suc j) d (omega (arith, lt)) (omega (arith, within)) in
-    AllPairs-cons R x (ps ++ p ∷ []) (All-push (R x) ps p first (each x (0, omega arith, refl))) (more_apart R ps p rest (λ y c. each y (suc c.0, omega (arith, c.1), c.2)))
+    AllPairs-cons R x (ps ++ p ∷ []) (All-push (R x) ps p first (each x (0, omega arith, refl)))
+    (more_apart R ps p rest (λ y c. each y (suc c.0, omega (arith, c.1), c.2)))
 
 -- nothing was sent yet
 pub posts_none : (old : List Packet) → Posts old [] old
-posts_none old = record { posted = []; sent = sym (append_nothing old); lost = 0; are_posted = (refl, refl); of_packets = λ p c. c; fewer = omega arith; different = λ d. d }
+posts_none old =
+    record {
+      posted = [];
+      sent = sym (append_nothing old);
+      lost = 0;
+      are_posted = (refl, refl);
+      of_packets = λ p c. c;
+      fewer = omega arith;
+      different = λ d. d;
+    }
 
 -- the packets in their order, with one more that was sent, or was lost
 
-one_posted : (packets posted : List Packet) (packet : Packet) (lost : ℕ) → ArePosted packets posted lost → ArePosted (packets ++ packet ∷ []) (posted ++ packet ∷ []) lost
+one_posted : (packets posted : List Packet) (packet : Packet) (lost : ℕ) → ArePosted packets posted lost
+    → ArePosted (packets ++ packet ∷ []) (posted ++ packet ∷ []) lost
 one_posted [] posted packet lost h = inl ([], ap (λ (ps : List Packet). ps ++ packet ∷ []) h.0, (refl, h.1))
-one_posted (p ∷ ps) posted packet lost (inl f) = inl (f.0 ++ packet ∷ [], ap (λ (xs : List Packet). xs ++ packet ∷ []) f.1, one_posted ps f.0 packet lost f.2)
+one_posted (p ∷ ps) posted packet lost (inl f) =
+    inl (f.0 ++ packet ∷ [], ap (λ (xs : List Packet). xs ++ packet ∷ []) f.1, one_posted ps f.0 packet lost f.2)
 one_posted (p ∷ ps) posted packet lost (inr g) = inr (g.0, g.1, one_posted ps posted packet g.0 g.2)
 
-one_lost : (packets posted : List Packet) (packet : Packet) (lost : ℕ) → ArePosted packets posted lost → ArePosted (packets ++ packet ∷ []) posted (lost + 1)
+one_lost : (packets posted : List Packet) (packet : Packet) (lost : ℕ) → ArePosted packets posted lost
+    → ArePosted (packets ++ packet ∷ []) posted (lost + 1)
 one_lost [] posted packet lost h = inr (lost, refl, h)
 one_lost (p ∷ ps) posted packet lost (inl f) = inl (f.0, f.1, one_lost ps f.0 packet lost f.2)
-one_lost (p ∷ ps) posted packet lost (inr g) = inr (lost, refl, subst (λ (n : ℕ). ArePosted (ps ++ packet ∷ []) posted n) (sym g.1) (one_lost ps posted packet g.0 g.2))
+one_lost (p ∷ ps) posted packet lost (inr g) =
+    inr (
+      lost,
+      refl,
+      subst (λ (n : ℕ). ArePosted (ps ++ packet ∷ []) posted n) (sym g.1)
+          (one_lost ps posted packet g.0 g.2),
+    )
 
 -- one more packet was sent, or found no memory
-pub posts_more : (old packets now new : List Packet) (packet : Packet) (b : Bool) → Posts old packets now → new ≡ (if b then now ++ packet ∷ [] else now) → Posts old (packets ++ packet ∷ []) new
+pub posts_more : (old packets now new : List Packet) (packet : Packet) (b : Bool) → Posts old packets now
+    → new ≡ (if b then now ++ packet ∷ [] else now) → Posts old (packets ++ packet ∷ []) new
 posts_more old packets now new packet true h is =
     let count = length-append h.posted (packet ∷ []) in
     let total = length-append packets (packet ∷ []) in
@@ -102,10 +126,13 @@ posts_more old packets now new packet true h is =
       sent = is ∙ (ap (λ (xs : List Packet). xs ++ packet ∷ []) h.sent ∙ append_assoc old h.posted (packet ∷ []));
       lost = h.lost;
       are_posted = one_posted packets h.posted packet h.lost h.are_posted;
-      of_packets = λ p c. ⊎_elim (λ o. Contains-append_left packets (packet ∷ []) p (h.of_packets p o)) (λ o. Contains-append_right packets (packet ∷ []) p o) (Contains-append_cases h.posted (packet ∷ []) p c);
+      of_packets =
+          λ p c. ⊎_elim (λ o. Contains-append_left packets (packet ∷ []) p (h.of_packets p o))
+          (λ o. Contains-append_right packets (packet ∷ []) p o) (Contains-append_cases h.posted (packet ∷ []) p c);
       fewer = omega (arith, count, total, fewer);
       different = λ d.
-          more_apart (λ (a b : Packet). a.to ≢ b.to) h.posted packet (h.different (front_apart (λ (a b : Packet). a.to ≢ b.to) packets packet d))
+          more_apart (λ (a b : Packet). a.to ≢ b.to) h.posted packet
+          (h.different (front_apart (λ (a b : Packet). a.to ≢ b.to) packets packet d))
           (λ x c. last_apart (λ (a b : Packet). a.to ≢ b.to) packets packet d x (h.of_packets x c));
     }
 posts_more old packets now new packet false h is =
@@ -122,37 +149,54 @@ posts_more old packets now new packet false h is =
     }
 
 -- what is delivered is taken up, since claims are true
-pub progresses : (tests : AllTests) → (kept new : WorldKept) (ev : WorldEvent) (reply : Reply) → Steps tests kept ev reply new → MovesOn kept ev reply
+pub progresses : (tests : AllTests) → (kept new : WorldKept) (ev : WorldEvent) (reply : Reply)
+    → Steps tests kept ev reply new → MovesOn kept ev reply
 progresses tests kept new ev reply steps config network s =
     let t = steps config network s in
-    subst (λ (ps : List Packet). Progresses config ps (machine_of network) ev reply) s.sent (composes config tests network t.0 ev reply s.sound t.1).1
+    subst (λ (ps : List Packet). Progresses config ps (machine_of network) ev reply) s.sent
+    (composes config tests network t.0 ev reply s.sound t.1).1
 
 -- how an event of a peer of this number is one of the network
 abbrev pub IsEventOf : AllTests → List Packet → Event → ℕ → WorldEvent → Type 0
-IsEventOf tests sent ev peer whole = (config : Config) (old new : WorldState) (reply : Reply) → old.sent ≡ sent → PeerSteps config (tests peer) old peer ev reply new → WorldStep config tests old whole reply new
+IsEventOf tests sent ev peer whole =
+    (config : Config) (old new : WorldState) (reply : Reply) → old.sent ≡ sent
+    → PeerSteps config (tests peer) old peer ev reply new → WorldStep config tests old whole reply new
 
-pub calls_at : (tests : AllTests) → (sent : List Packet) (peer : ℕ) (call : Call) → IsEventOf tests sent (event.Call call) peer (world.Call peer call)
+pub calls_at : (tests : AllTests) → (sent : List Packet) (peer : ℕ) (call : Call)
+    → IsEventOf tests sent (event.Call call) peer (world.Call peer call)
 calls_at tests sent peer call config old new reply same step = inl step
 
-pub ticks_at : (tests : AllTests) → (sent : List Packet) (peer now : ℕ) → IsEventOf tests sent (event.Tick now) peer (world.Tick peer now)
+pub ticks_at : (tests : AllTests) → (sent : List Packet) (peer now : ℕ)
+    → IsEventOf tests sent (event.Tick now) peer (world.Tick peer now)
 ticks_at tests sent peer now config old new reply same step = inl step
 
-pub delivers_at : (tests : AllTests) → (sent : List Packet) (peer number : ℕ) (packet : Packet) → 1 ≤ number → slice_get sent (number - 1) ≡ Some packet → IsEventOf tests sent (event.Deliver packet.bytes) peer (world.Deliver peer number)
-delivers_at tests sent peer number packet low found config old new reply same step = inl (packet, low, subst (λ (ps : List Packet). slice_get ps (number - 1) ≡ Some packet) (sym same) found, step)
+pub delivers_at : (tests : AllTests) → (sent : List Packet) (peer number : ℕ) (packet : Packet) → 1 ≤ number
+    → slice_get sent (number - 1) ≡ Some packet
+    → IsEventOf tests sent (event.Deliver packet.bytes) peer (world.Deliver peer number)
+delivers_at tests sent peer number packet low found config old new reply same step =
+    inl (packet, low, subst (λ (ps : List Packet). slice_get ps (number - 1) ≡ Some packet) (sym same) found, step)
 
 -- what the peer of this index sends at an event is what is due at it
-abbrev pub SendsItsDues : (tests : AllTests) → (kept : WorldKept) (i : ℕ) (ev : Event) (whole : WorldEvent) (reply : Reply) (new : WorldKept) → Acts tests kept i ev reply new → Type 0
-SendsItsDues tests kept i ev whole reply new a = (config : Config) (network next : WorldState) → StandsFor kept config network
+abbrev pub SendsItsDues : (tests : AllTests)
+    → (kept : WorldKept) (i : ℕ) (ev : Event) (whole : WorldEvent) (reply : Reply) (new : WorldKept)
+    → Acts tests kept i ev reply new → Type 0
+SendsItsDues tests kept i ev whole reply new a =
+    (config : Config) (network next : WorldState) → StandsFor kept config network
     → CoreKeepsRules config (get_or network.peers i no_peer) ev a.acts.output (get_or next.peers i no_peer)
-    → (dues : List Due) × AreDue config network whole reply next dues × AreSent dues a.acts.output.packets a.acts.output.unsent
+    → (dues : List Due) × AreDue config network whole reply next dues
+    × AreSent dues a.acts.output.packets a.acts.output.unsent
 
 -- an event of the peer of this index is one of the network by the rules of the protocol
-pub acts_ruled : {tests : AllTests} → (kept new : WorldKept) (i : ℕ) (ev : Event) (whole : WorldEvent) (reply : Reply) → peer_of whole ≡ suc i → IsEventOf tests kept.sent ev (suc i) whole → (a : Acts tests kept i ev reply new) → SendsItsDues tests kept i ev whole reply new a
+pub acts_ruled : {tests : AllTests} → (kept new : WorldKept) (i : ℕ) (ev : Event) (whole : WorldEvent) (reply : Reply)
+    → peer_of whole ≡ suc i → IsEventOf tests kept.sent ev (suc i) whole → (a : Acts tests kept i ev reply new)
+    → SendsItsDues tests kept i ev whole reply new a
     → RuledSteps tests kept whole reply new
 acts_ruled {tests} kept new i ev whole reply its into acts sends config network s =
     let a = acts.acts in
     let core : CoreStandsFor a.core config (get_or network.peers i no_peer) = s.each i a.core a.at in
-    let r = a.steps config (get_or network.peers i no_peer) core (s.filters i) (s.listeners i a.slots a.slots_at) (s.known i a.core a.at) in
+    let r =
+    a.steps config (get_or network.peers i no_peer) core (s.filters i) (s.listeners i a.slots a.slots_at)
+    (s.known i a.core a.at) in
     let next : WorldState = with_peer network i r.0 new.sent in
     let low : i < length kept.peers = get-within kept.peers i a.core a.at in
     let count = s.count in
@@ -164,7 +208,9 @@ acts_ruled {tests} kept new i ev whole reply its into acts sends config network 
       step = r.1;
       posted = a.posts.posted;
       of_packets = a.posts.of_packets;
-      changed = ap (λ (ps : List Packet). with_peer network i r.0 ps) (a.posts.sent ∙ ap (λ (ps : List Packet). ps ++ a.posts.posted) (sym s.sent));
+      changed =
+          ap (λ (ps : List Packet). with_peer network i r.0 ps)
+          (a.posts.sent ∙ ap (λ (ps : List Packet). ps ++ a.posts.posted) (sym s.sent));
     } in
     let whole_step : WorldStep config tests network whole reply next = into config network next reply s.sent step in
     let low' : i < length network.peers = omega (arith, count, low) in
@@ -184,16 +230,21 @@ acts_ruled {tests} kept new i ev whole reply its into acts sends config network 
     let c = composes config tests network next whole reply s.sound whole_step in
     let unsent = lost_is kept new a.output a.posts acts.counts in
     let end : Peer = peer_at_end (get_or network.peers i no_peer) r.0 in
-    let ends : world_ended network whole next ≡ with_peer network i end new.sent = ended_at network whole i r.0 new.sent its low' in
-    let used : HasUsedCounts config next = steps_used config tests network whole reply lost next core.is_peer.checked s.used ruled in
-    let bounded : IsBounded (machine_of next) = steps_bounded tests (length network.sent) (machine_of network) whole reply (machine_of next) s.bounded c.0 in
+    let ends : world_ended network whole next ≡ with_peer network i end new.sent =
+    ended_at network whole i r.0 new.sent its low' in
+    let used : HasUsedCounts config next =
+    steps_used config tests network whole reply lost next core.is_peer.checked s.used ruled in
+    let bounded : IsBounded (machine_of next) =
+    steps_bounded tests (length network.sent) (machine_of network) whole reply (machine_of next) s.bounded c.0 in
     let stands : StandsFor new config (with_peer network i end new.sent) =
     peer_stands kept new config network i a.after a.left end new.sent s a.peers a.listeners
-    (λ j. same_at (λ (p : Peer). p.part.dds.watch.filters) network.peers i end (r.4 ∙ sym (s.filters i)) j ∙ (s.filters j ∙ ap (λ (ns : List ℕ). get_or ns j 0) (sym a.filters)))
+    (λ j. same_at (λ (p : Peer). p.part.dds.watch.filters) network.peers i end (r.4 ∙ sym (s.filters i)) j
+    ∙ (s.filters j ∙ ap (λ (ns : List ℕ). get_or ns j 0) (sym a.filters)))
     r.3 r.5 r.6 refl
     (λ packet m.
     ⊎_elim (λ o. s.messages packet o) (λ o. a.messages packet (a.posts.of_packets packet o))
-    (Contains-append_cases kept.sent a.posts.posted packet (subst (λ (ps : List Packet). Contains ps packet) a.posts.sent m)))
+    (Contains-append_cases kept.sent a.posts.posted packet
+    (subst (λ (ps : List Packet). Contains ps packet) a.posts.sent m)))
     (omega (arith, unsent))
     (subst (λ (w : WorldState). Sound config w) ends (ended_sound config network whole next c.2))
     (subst (λ (w : WorldState). HasUsedCounts config w) ends (ended_used config network whole next used))
@@ -202,37 +253,60 @@ acts_ruled {tests} kept new i ev whole reply its into acts sends config network 
       lost,
       ruled,
       unsent,
-      subst (λ (ps : List Packet). Step tests (length ps) (machine_of network) whole reply (machine_of next)) s.sent c.0,
+      subst (λ (ps : List Packet). Step tests (length ps) (machine_of network) whole reply (machine_of next)) s.sent
+          c.0,
       subst (λ (w : WorldState). StandsFor new config w) (sym ends) stands,
     )
 
 -- the packet of an index, by its number
-pub found_at : (sent : List Packet) (j : ℕ) (packet : Packet) → slice_get sent j ≡ Some packet → slice_get sent ((j + 1) - 1) ≡ Some packet
-found_at sent j packet at = let same : (j + 1) - 1 ≡ j = omega arith in subst (λ (n : ℕ). slice_get sent n ≡ Some packet) (sym same) at
+pub found_at : (sent : List Packet) (j : ℕ) (packet : Packet) → slice_get sent j ≡ Some packet
+    → slice_get sent ((j + 1) - 1) ≡ Some packet
+found_at sent j packet at =
+    let same : (j + 1) - 1 ≡ j = omega arith in subst (λ (n : ℕ). slice_get sent n ≡ Some packet) (sym same) at
 
 -- a packet that finds no memory
 
 abbrev pub nothing_moved : Output
 nothing_moved = record { reply = Reported (record { moves = []; refused = Some 0 }); packets = []; unsent = 0 }
 
-pub comes_to_nothing : {tests : Tests} → (core : PeerKept) (count : ℕ) (slots : Slotted Recording) (bytes : List ℕ) → HasSubmessage bytes
+pub comes_to_nothing : {tests : Tests} → (core : PeerKept) (count : ℕ) (slots : Slotted Recording) (bytes : List ℕ)
+    → HasSubmessage bytes
     → StepsAt tests core count slots (event.Deliver bytes) nothing_moved core slots
 comes_to_nothing {tests} core count slots bytes some config peer s counted told sound =
     let delivery : Delivery = record { packet = bytes; report = record { moves = []; refused = Some 0 } } in
-    let after : Peer = record { number = peer.number; part = peer.part; known = peer.known; delivered = delivery ∷ peer.delivered } in
+    let after : Peer =
+    record { number = peer.number; part = peer.part; known = peer.known; delivered = delivery ∷ peer.delivered } in
     let step : PeerStep config tests peer (event.Deliver bytes) nothing_moved after = record {
       same_number = refl;
       knows = tt;
       step = (inr (record { moves = refl; after = refl; cause = inr (refl, some) }), refl);
       sent = λ p claim c says. absurd (omega (arith, c.1));
     } in
-    let stands : CoreStandsFor core config after = record { is_peer = s.is_peer; moment = s.moment; early = s.early; writers = s.writers; readers = s.readers; tellable = s.tellable; watch = s.watch } in
-    let known : IsSound config after = unread_backed config peer.number peer.delivered bytes (state_of peer) (state_of peer) delivery.report (record { moves = refl; after = refl; cause = inr (refl, some) }) refl sound in
+    let stands : CoreStandsFor core config after =
+    record {
+      is_peer = s.is_peer;
+      moment = s.moment;
+      early = s.early;
+      writers = s.writers;
+      readers = s.readers;
+      tellable = s.tellable;
+      watch = s.watch;
+    } in
+    let known : IsSound config after =
+    unread_backed config peer.number peer.delivered bytes (state_of peer) (state_of peer) delivery.report
+    (record { moves = refl; after = refl; cause = inr (refl, some) }) refl sound in
     let rules : CoreKeepsRules config peer (event.Deliver bytes) nothing_moved after =
-    record { report = delivery.report; reply = refl; dues = []; takes = inr (record { moves = refl; after = refl; cause = inr (refl, some) }, refl, refl); sent = (refl, refl) } in
+    record {
+      report = delivery.report;
+      reply = refl;
+      dues = [];
+      takes = inr (record { moves = refl; after = refl; cause = inr (refl, some) }, refl, refl);
+      sent = (refl, refl);
+    } in
     let same : peer_at_end peer after ≡ after = ap (λ (p : Part). record after { part = p }) (end_same peer.part) in
     let end =
-    subst (λ (p : Peer). CoreStandsFor core config p × (p.part.dds.watch.filters ≡ count) × AreTold slots p.part.dds.listeners × IsSound config p) (sym same)
+    subst (λ (p : Peer). CoreStandsFor core config p × (p.part.dds.watch.filters ≡ count)
+    × AreTold slots p.part.dds.listeners × IsSound config p) (sym same)
     (stands, counted, told, known) in
     (after, step, rules, end.0, end.1, end.2, end.3)
 
@@ -252,18 +326,23 @@ no_such : (n count : ℕ) → (nat_lt 0 n && nat_le n count) ≡ false → (n �
 no_such zero count h = inl refl
 no_such (suc n) count h = inr (grind (arith, nat_tests, h))
 
-nobody : (kept : WorldKept) (config : Config) (network : WorldState) (peer : ℕ) → StandsFor kept config network → (nat_lt 0 peer && nat_le peer (length kept.peers)) ≡ false → HasNumber network.peers peer → ⊥
+nobody : (kept : WorldKept) (config : Config) (network : WorldState) (peer : ℕ) → StandsFor kept config network
+    → (nat_lt 0 peer && nat_le peer (length kept.peers)) ≡ false → HasNumber network.peers peer → ⊥
 nobody kept config network peer s none has =
     let count = s.count in
     let low = has.0 in
     let high = has.1 in
-    ⊎_elim (λ z. omega (arith, z, low)) (λ past. omega (arith, past, high, count)) (no_such peer (length kept.peers) none)
+    ⊎_elim (λ z. omega (arith, z, low)) (λ past. omega (arith, past, high, count))
+    (no_such peer (length kept.peers) none)
 
 -- what is refused changes nothing, and nothing is due
-stays : {tests : AllTests} → (kept : WorldKept) (config : Config) (network : WorldState) (ev : WorldEvent) → StandsFor kept config network → WorldStep config tests network ev (Refused BadParameter) network
+stays : {tests : AllTests} → (kept : WorldKept) (config : Config) (network : WorldState) (ev : WorldEvent)
+    → StandsFor kept config network → WorldStep config tests network ev (Refused BadParameter) network
     → AreDue config network ev (Refused BadParameter) network []
-    → (after : WorldState) × (lost : ℕ) × RuledStep config tests network ev (Refused BadParameter) lost after × (kept.unsent ≡ min (kept.unsent + lost) (2 ^ 64 - 1))
-    × Step tests (length kept.sent) (machine_of network) ev (Refused BadParameter) (machine_of after) × StandsFor kept config (world_ended network ev after)
+    → (after : WorldState) × (lost : ℕ) × RuledStep config tests network ev (Refused BadParameter) lost after
+    × (kept.unsent ≡ min (kept.unsent + lost) (2 ^ 64 - 1))
+    × Step tests (length kept.sent) (machine_of network) ev (Refused BadParameter) (machine_of after)
+    × StandsFor kept config (world_ended network ev after)
 stays {tests} kept config network ev s step none =
     let few = s.few in
     let c = composes config tests network network ev (Refused BadParameter) s.sound step in
@@ -274,24 +353,49 @@ stays {tests} kept config network ev s step none =
       packets = [];
       sent = sym (append_nothing network.sent);
       are_sent = (refl, refl);
-    } in
-    (network, 0, ruled, omega (arith, few), subst (λ (ps : List Packet). Step tests (length ps) (machine_of network) ev (Refused BadParameter) (machine_of network)) s.sent c.0, subst (λ (w : WorldState). StandsFor kept config w) (sym (ended_same network ev)) s)
+    } in (
+      network,
+      0,
+      ruled,
+      omega (arith, few),
+      subst
+          (λ (ps : List Packet). Step tests (length ps) (machine_of network) ev (Refused BadParameter)
+          (machine_of network)) s.sent c.0,
+      subst (λ (w : WorldState). StandsFor kept config w)
+          (sym (ended_same network ev)) s,
+    )
 
-pub unknown_call : {tests : AllTests} → (kept : WorldKept) (peer : ℕ) (call : Call) → (nat_lt 0 peer && nat_le peer (length kept.peers)) ≡ false → RuledSteps tests kept (world.Call peer call) (Refused BadParameter) kept
+pub unknown_call : {tests : AllTests} → (kept : WorldKept) (peer : ℕ) (call : Call)
+    → (nat_lt 0 peer && nat_le peer (length kept.peers)) ≡ false
+    → RuledSteps tests kept (world.Call peer call) (Refused BadParameter) kept
 unknown_call kept peer call none config network s =
-    stays kept config network (world.Call peer call) s (inr (λ has. nobody kept config network peer s none has, record { is_refused = refl; after = refl }))
-    (sym (ap (λ (e : Effect). announcements_due config peer (peer_at network peer).part e) (refused_nothing (peer_at network peer).part call BadParameter)))
+    stays kept config network (world.Call peer call) s
+    (inr (λ has. nobody kept config network peer s none has, record { is_refused = refl; after = refl }))
+    (sym (ap (λ (e : Effect). announcements_due config peer (peer_at network peer).part e)
+    (refused_nothing (peer_at network peer).part call BadParameter)))
 
-pub unknown_tick : {tests : AllTests} → (kept : WorldKept) (peer now : ℕ) → (nat_lt 0 peer && nat_le peer (length kept.peers)) ≡ false → RuledSteps tests kept (world.Tick peer now) (Refused BadParameter) kept
+pub unknown_tick : {tests : AllTests} → (kept : WorldKept) (peer now : ℕ)
+    → (nat_lt 0 peer && nat_le peer (length kept.peers)) ≡ false
+    → RuledSteps tests kept (world.Tick peer now) (Refused BadParameter) kept
 unknown_tick kept peer now none config network s =
-    stays kept config network (world.Tick peer now) s (inr (λ has. nobody kept config network peer s none has, record { is_refused = refl; after = refl })) refl
+    stays kept config network (world.Tick peer now) s
+    (inr (λ has. nobody kept config network peer s none has, record { is_refused = refl; after = refl })) refl
 
-pub unknown_delivery : {tests : AllTests} → (kept : WorldKept) (peer number : ℕ) → (nat_lt 0 peer && nat_le peer (length kept.peers)) ≡ false → RuledSteps tests kept (world.Deliver peer number) (Refused BadParameter) kept
+pub unknown_delivery : {tests : AllTests} → (kept : WorldKept) (peer number : ℕ)
+    → (nat_lt 0 peer && nat_le peer (length kept.peers)) ≡ false
+    → RuledSteps tests kept (world.Deliver peer number) (Refused BadParameter) kept
 unknown_delivery kept peer number none config network s =
-    stays kept config network (world.Deliver peer number) s (inr (inr (inr (λ has. nobody kept config network peer s none has)), record { is_refused = refl; after = refl })) refl
+    stays kept config network (world.Deliver peer number) s
+    (inr (
+      inr (inr (λ has. nobody kept config network peer s none has)),
+      record { is_refused = refl; after = refl },
+    )) refl
 
-pub unknown_packet : {tests : AllTests} → (kept : WorldKept) (peer number : ℕ) → (nat_lt 0 number && nat_le number (length kept.sent)) ≡ false → RuledSteps tests kept (world.Deliver peer number) (Refused BadParameter) kept
+pub unknown_packet : {tests : AllTests} → (kept : WorldKept) (peer number : ℕ)
+    → (nat_lt 0 number && nat_le number (length kept.sent)) ≡ false
+    → RuledSteps tests kept (world.Deliver peer number) (Refused BadParameter) kept
 unknown_packet kept peer number none config network s =
     let count = ap (λ (ps : List Packet). length ps) s.sent in
-    let why : (number ≡ 0) ⊎ (length network.sent < number) ⊎ (HasNumber network.peers peer → ⊥) = ⊎_elim (λ z. inl z) (λ past. inr (inl (omega (arith, past, count)))) (no_such number (length kept.sent) none) in
+    let why : (number ≡ 0) ⊎ (length network.sent < number) ⊎ (HasNumber network.peers peer → ⊥) =
+    ⊎_elim (λ z. inl z) (λ past. inr (inl (omega (arith, past, count)))) (no_such number (length kept.sent) none) in
     stays kept config network (world.Deliver peer number) s (inr (why, record { is_refused = refl; after = refl })) refl

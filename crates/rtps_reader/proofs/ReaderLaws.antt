@@ -251,7 +251,8 @@ pub keeps_all : {S : Type 0} {Stands : S → List Happening → Type 0} {policie
     {reader : Proxies} {items : List WriterProxy} {writer : ℕ} {proxy new : WriterProxy} {before after : S}
     {answer : Result Step Code}
     → Opened reader items writer proxy → ProxyKeepsRest Stands policies spare proxy new before after answer
-    → KeepsRest Stands policies spare writer reader (record { proxies = slice_set items writer new }) before after answer
+    → KeepsRest Stands policies spare writer reader
+    (record { proxies = slice_set items writer new }) before after answer
 keeps_all {reader = reader} {items} {writer} {new = new} {answer = answer} o keeps = record {
   sayable = keeps.sayable;
   others = others_stay o new;

@@ -63,7 +63,8 @@ marks_step true false named_number low lt more window m now_n now_number new_n e
     (new_is, e1 refl) now_is
 
 -- one number more is marked if it is named
-pub marks_more : (start : ℕ) (list : NumberSet) (w now new : Marks) (number n : ℕ) (named : Bool) → window_place w ≤ number
+pub marks_more : (start : ℕ) (list : NumberSet) (w now new : Marks) (number n : ℕ) (named : Bool)
+    → window_place w ≤ number
     → number < window_place w + 256 → window_place now ≡ window_place w
     → named ≡ is_named start list number → ((k : ℕ) → mark_of now k ≡ mark_named start list number w k)
     → mark_of new n ≡ (if (named && (is_in_window (window_place now) number && is_none (mark_of now number))) &&

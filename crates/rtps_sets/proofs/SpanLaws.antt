@@ -24,14 +24,16 @@ pub span_le : (xs : List Bool) → span xs ≤ length xs
 span_le [] = omega arith
 span_le (x ∷ xs) = cons_le x (span xs) (length xs) (span_le xs)
 
-pub span_more : (xs : List Bool) (i : ℕ) (b : Bool) → i < length xs → get_or xs i false ≡ b → span (take (i + 1) xs) ≡ cond b (i + 1) (span (take i xs))
+pub span_more : (xs : List Bool) (i : ℕ) (b : Bool) → i < length xs → get_or xs i false ≡ b
+    → span (take (i + 1) xs) ≡ cond b (i + 1) (span (take i xs))
 span_more xs i true lt e =
     let len : suc (length (take i xs)) ≡ i + 1 = omega (arith, length-take-le i xs (omega arith)) in
     ap span (take_more xs i false lt ∙ ap (λ (b : Bool). take i xs ++ b ∷ []) e) ∙ span_true (take i xs) ∙ len
 span_more xs i false lt e = rw (take_more xs i false lt, e) (span_false (take i xs))
 
 -- what stands past the span is false
-front_false : (b : Bool) (n : ℕ) (bs : List Bool) → bs ≡ take n bs ++ replicate (length bs - n) false → b ∷ bs ≡ take (span_after b n) (b ∷ bs) ++ replicate (suc (length bs) - span_after b n) false
+front_false : (b : Bool) (n : ℕ) (bs : List Bool) → bs ≡ take n bs ++ replicate (length bs - n) false
+    → b ∷ bs ≡ take (span_after b n) (b ∷ bs) ++ replicate (suc (length bs) - span_after b n) false
 front_false true n bs e =
     let k : suc (length bs) - suc n ≡ length bs - n = omega arith in
     rw k (ap (λ (t : List Bool). true ∷ t) e)
@@ -47,7 +49,8 @@ pub span_all : (xs : List Bool) → xs ≡ take (span xs) xs ++ replicate (lengt
 span_all [] = refl
 span_all (x ∷ xs) = front_false x (span xs) xs (span_all xs)
 
-last_after : (b : Bool) (n : ℕ) (bs : List Bool) → (0 < n → get_or bs (n - 1) false ≡ true) → 0 < span_after b n → get_or (b ∷ bs) (span_after b n - 1) false ≡ true
+last_after : (b : Bool) (n : ℕ) (bs : List Bool) → (0 < n → get_or bs (n - 1) false ≡ true) → 0 < span_after b n
+    → get_or (b ∷ bs) (span_after b n - 1) false ≡ true
 last_after true zero bs below lt = refl
 last_after true (suc n) bs below lt =
     let k : suc (suc n) - 1 ≡ suc n = omega arith in
@@ -59,7 +62,8 @@ last_after false (suc n) bs below lt =
     let j : suc n - 1 ≡ n = omega arith in
     rw k (rw j at (below (omega arith)))
 
-past_after : (b : Bool) (n : ℕ) (bs : List Bool) → ((k : ℕ) → n ≤ k → get_or bs k false ≡ false) → (k : ℕ) → span_after b n ≤ k → get_or (b ∷ bs) k false ≡ false
+past_after : (b : Bool) (n : ℕ) (bs : List Bool) → ((k : ℕ) → n ≤ k → get_or bs k false ≡ false) → (k : ℕ)
+    → span_after b n ≤ k → get_or (b ∷ bs) k false ≡ false
 past_after true n bs past zero le = absurd (omega arith)
 past_after true n bs past (suc k) le = past k (omega arith)
 past_after false zero bs past zero le = refl

@@ -20,7 +20,8 @@ content_valid kind.DisposeUnregister key value of_key short = of_key
 
 -- what a DATA says of a change of this kind means the change
 change_again : (k : ChangeKind) (key : Key) (value : List ℕ) (moment : ℕ) → (k ≢ kind.Write → value ≡ [])
-    → change_in (content_with k key value) moment ≡ record { kind = k; key = key; value = value; source_timestamp = moment }
+    → change_in (content_with k key value) moment
+    ≡ record { kind = k; key = key; value = value; source_timestamp = moment }
 change_again kind.Write key value moment empty = refl
 change_again kind.Dispose key value moment empty = rw (empty (λ e. cc)) refl
 change_again kind.Unregister key value moment empty = rw (empty (λ e. cc)) refl

@@ -58,39 +58,59 @@ key_only false false ps payload k shows = hash_again (parameter_value 112 ps) k 
 
 -- `SaysContent`, by disposed, unregistered, D and K
 abbrev Says : Bool → Bool → Bool → Bool → List Parameter → List ℕ → DataContent → Type 0
-Says disposed unregistered datum key ps payload (Write d) = ((disposed ≡ false) × (unregistered ≡ false)) × (datum ≡ true) × (key ≡ false) × ReadsDatum payload d
-Says disposed unregistered datum key ps payload (Dispose k) = ((disposed ≡ true) × (unregistered ≡ false)) × ShowsKey datum key ps payload k
-Says disposed unregistered datum key ps payload (Unregister k) = ((disposed ≡ false) × (unregistered ≡ true)) × ShowsKey datum key ps payload k
-Says disposed unregistered datum key ps payload (DisposeUnregister k) = ((disposed ≡ true) × (unregistered ≡ true)) × ShowsKey datum key ps payload k
+Says disposed unregistered datum key ps payload (Write d) =
+    ((disposed ≡ false) × (unregistered ≡ false)) × (datum ≡ true) × (key ≡ false) × ReadsDatum payload d
+Says disposed unregistered datum key ps payload (Dispose k) =
+    ((disposed ≡ true) × (unregistered ≡ false)) × ShowsKey datum key ps payload k
+Says disposed unregistered datum key ps payload (Unregister k) =
+    ((disposed ≡ false) × (unregistered ≡ true)) × ShowsKey datum key ps payload k
+Says disposed unregistered datum key ps payload (DisposeUnregister k) =
+    ((disposed ≡ true) × (unregistered ≡ true)) × ShowsKey datum key ps payload k
 
-pub mapped_some : {A B P : Type 0} (f : A → B) (o : Option A) (y : B) → option_map f o ≡ Some y → ((x : A) → o ≡ Some x → f x ≡ y → P) → P
+pub mapped_some : {A B P : Type 0} (f : A → B) (o : Option A) (y : B) → option_map f o ≡ Some y
+    → ((x : A) → o ≡ Some x → f x ≡ y → P) → P
 mapped_some f None y e go = absurd cc
 mapped_some f (Some x) y e go = go x refl (some_is (f x) y e)
 
-says_found : (disposed unregistered datum key : Bool) (ps : List Parameter) (payload : List ℕ) (c : DataContent) → AreOctets payload
-    → content_by disposed unregistered datum key (hash_in ps) payload ≡ Some c → Says disposed unregistered datum key ps payload c
+says_found : (disposed unregistered datum key : Bool) (ps : List Parameter) (payload : List ℕ) (c : DataContent)
+    → AreOctets payload
+    → content_by disposed unregistered datum key (hash_in ps) payload ≡ Some c
+    → Says disposed unregistered datum key ps payload c
 unfolding content_by ended_at
 says_found false false true false ps payload c octets e = mapped_some Write (datum_at payload) c e (λ d q r.
-    subst (λ (x : DataContent). Says false false true false ps payload x) r ((refl, refl), refl, refl, datum_found payload d octets q))
+    subst (λ (x : DataContent). Says false false true false ps payload x) r
+    ((refl, refl), refl, refl, datum_found payload d octets q))
 says_found false false true true ps payload c octets e = absurd cc
 says_found false false false key ps payload c octets e = absurd cc
-says_found true true datum key ps payload c octets e = mapped_some DisposeUnregister (shown_key_at datum key (hash_in ps) payload) c e (λ k q r.
-    subst (λ (x : DataContent). Says true true datum key ps payload x) r ((refl, refl), key_found datum key ps payload k octets q))
-says_found true false datum key ps payload c octets e = mapped_some Dispose (shown_key_at datum key (hash_in ps) payload) c e (λ k q r.
-    subst (λ (x : DataContent). Says true false datum key ps payload x) r ((refl, refl), key_found datum key ps payload k octets q))
-says_found false true datum key ps payload c octets e = mapped_some Unregister (shown_key_at datum key (hash_in ps) payload) c e (λ k q r.
-    subst (λ (x : DataContent). Says false true datum key ps payload x) r ((refl, refl), key_found datum key ps payload k octets q))
+says_found true true datum key ps payload c octets e =
+    mapped_some DisposeUnregister (shown_key_at datum key (hash_in ps) payload) c e (λ k q r.
+    subst (λ (x : DataContent). Says true true datum key ps payload x) r
+    ((refl, refl), key_found datum key ps payload k octets q))
+says_found true false datum key ps payload c octets e =
+    mapped_some Dispose (shown_key_at datum key (hash_in ps) payload) c e (λ k q r.
+    subst (λ (x : DataContent). Says true false datum key ps payload x) r
+    ((refl, refl), key_found datum key ps payload k octets q))
+says_found false true datum key ps payload c octets e =
+    mapped_some Unregister (shown_key_at datum key (hash_in ps) payload) c e (λ k q r.
+    subst (λ (x : DataContent). Says false true datum key ps payload x) r
+    ((refl, refl), key_found datum key ps payload k octets q))
 
 says_only : (disposed unregistered datum key : Bool) (ps : List Parameter) (payload : List ℕ) (c : DataContent)
-    → Says disposed unregistered datum key ps payload c → content_by disposed unregistered datum key (hash_in ps) payload ≡ Some c
+    → Says disposed unregistered datum key ps payload c
+    → content_by disposed unregistered datum key (hash_in ps) payload ≡ Some c
 unfolding content_by ended_at
-says_only disposed unregistered datum key ps payload (Write d) says = rw (says.0.0, says.0.1, says.1, says.2, datum_only payload d says.3) refl
-says_only disposed unregistered datum key ps payload (Dispose k) says = rw (says.0.0, says.0.1, key_only datum key ps payload k says.1) refl
-says_only disposed unregistered datum key ps payload (Unregister k) says = rw (says.0.0, says.0.1, key_only datum key ps payload k says.1) refl
-says_only disposed unregistered datum key ps payload (DisposeUnregister k) says = rw (says.0.0, says.0.1, key_only datum key ps payload k says.1) refl
+says_only disposed unregistered datum key ps payload (Write d) says =
+    rw (says.0.0, says.0.1, says.1, says.2, datum_only payload d says.3) refl
+says_only disposed unregistered datum key ps payload (Dispose k) says =
+    rw (says.0.0, says.0.1, key_only datum key ps payload k says.1) refl
+says_only disposed unregistered datum key ps payload (Unregister k) says =
+    rw (says.0.0, says.0.1, key_only datum key ps payload k says.1) refl
+says_only disposed unregistered datum key ps payload (DisposeUnregister k) says =
+    rw (says.0.0, says.0.1, key_only datum key ps payload k says.1) refl
 
 -- the status that is found is that of the status info
-status_is : (o : Option (List ℕ)) → unwrap_or (option_or None (option_map (λ (v : List ℕ). slice_index v 3) o)) 0 ≡ slice_index (unwrap_or o []) 3
+status_is : (o : Option (List ℕ)) → unwrap_or (option_or None (option_map (λ (v : List ℕ). slice_index v 3) o)) 0
+    ≡ slice_index (unwrap_or o []) 3
 status_is None = refl
 status_is (Some v) = refl
 
@@ -98,11 +118,14 @@ content_found : (flags : ℕ) (ps : List Parameter) (payload : List ℕ) (c : Da
     → content_at flags (summed nothing ps) payload ≡ Some c → SaysContent flags ps payload c
 unfolding content_at
 content_found flags ps payload c octets e =
-    let said : Says (has_flag (status_of ps) 1) (has_flag (status_of ps) 2) (has_flag flags 4) (has_flag flags 8) ps payload c =
-    says_found (has_flag (status_of ps) 1) (has_flag (status_of ps) 2) (has_flag flags 4) (has_flag flags 8) ps payload c octets (rw (status_is (parameter_value 113 ps)) at e) in
+    let said : Says (has_flag (status_of ps) 1) (has_flag (status_of ps) 2) (has_flag flags 4)
+    (has_flag flags 8) ps payload c =
+    says_found (has_flag (status_of ps) 1) (has_flag (status_of ps) 2) (has_flag flags 4)
+    (has_flag flags 8) ps payload c octets (rw (status_is (parameter_value 113 ps)) at e) in
     as_said c said
   where
-    as_said : (x : DataContent) → Says (has_flag (status_of ps) 1) (has_flag (status_of ps) 2) (has_flag flags 4) (has_flag flags 8) ps payload x → SaysContent flags ps payload x
+    as_said : (x : DataContent) → Says (has_flag (status_of ps) 1) (has_flag (status_of ps) 2) (has_flag flags 4)
+        (has_flag flags 8) ps payload x → SaysContent flags ps payload x
     as_said (Write d) s = s
     as_said (Dispose k) s = s
     as_said (Unregister k) s = s
@@ -112,9 +135,13 @@ content_only : (flags : ℕ) (ps : List Parameter) (payload : List ℕ) (c : Dat
     → content_at flags (summed nothing ps) payload ≡ Some c
 unfolding content_at
 content_only flags ps payload c says =
-    rw (status_is (parameter_value 113 ps)) (says_only (has_flag (status_of ps) 1) (has_flag (status_of ps) 2) (has_flag flags 4) (has_flag flags 8) ps payload c (as_said c says))
+    rw (status_is (parameter_value 113 ps))
+    (says_only (has_flag (status_of ps) 1) (has_flag (status_of ps) 2) (has_flag flags 4)
+    (has_flag flags 8) ps payload c (as_said c says))
   where
-    as_said : (x : DataContent) → SaysContent flags ps payload x → Says (has_flag (status_of ps) 1) (has_flag (status_of ps) 2) (has_flag flags 4) (has_flag flags 8) ps payload x
+    as_said : (x : DataContent) → SaysContent flags ps payload x
+        → Says (has_flag (status_of ps) 1) (has_flag (status_of ps) 2) (has_flag flags 4)
+        (has_flag flags 8) ps payload x
     as_said (Write d) s = s
     as_said (Dispose k) s = s
     as_said (Unregister k) s = s
@@ -131,7 +158,8 @@ record FindsInline (flags : ℕ) (bytes : List ℕ) (x : Parameters × List ℕ)
   sum : x.0 ≡ summed nothing parameters
   octets : AreOctets x.1
 
-inline_found : (flags : ℕ) (bytes : List ℕ) (x : Parameters × List ℕ) → AreOctets bytes → inline_at flags bytes ≡ Some x → FindsInline flags bytes x
+inline_found : (flags : ℕ) (bytes : List ℕ) (x : Parameters × List ℕ) → AreOctets bytes → inline_at flags bytes ≡ Some x
+    → FindsInline flags bytes x
 unfolding inline_at
 inline_found flags bytes x octets e =
     let order = order_of flags in
@@ -139,24 +167,38 @@ inline_found flags bytes x octets e =
     cond_is {P = FindsInline flags bytes x} (has_flag flags 2) _ (Some whole) (Some x) e
     (λ set p.
     let f = parameters_found order bytes x octets p in
-    record { parameters = f.parameters; inline = match_true (has_flag flags 2) (ReadsParameters (order_of flags) bytes f.parameters x.1) ((f.parameters ≡ []) × (x.1 ≡ bytes)) set f.reads; sum = f.sum; octets = f.octets })
+    record {
+      parameters = f.parameters;
+      inline = match_true (has_flag flags 2)
+          (ReadsParameters (order_of flags) bytes f.parameters x.1)
+          ((f.parameters ≡ []) × (x.1 ≡ bytes)) set f.reads;
+      sum = f.sum;
+      octets = f.octets;
+    })
     (λ clear p. subst (λ (y : Parameters × List ℕ). FindsInline flags bytes y) (some_is whole x p) (record {
       parameters = [];
-      inline = match_false (has_flag flags 2) (ReadsParameters (order_of flags) bytes [] bytes) (([] ≡ []) × (bytes ≡ bytes)) clear (refl, refl);
+      inline =
+          match_false (has_flag flags 2) (ReadsParameters (order_of flags) bytes [] bytes)
+          (([] ≡ []) × (bytes ≡ bytes)) clear (refl, refl);
       sum = refl;
       octets = octets;
     }))
 
-inline_by : (b : Bool) (order : Endianness) (bytes : List ℕ) (ps : List Parameter) (payload : List ℕ) (read : Option (Parameters × List ℕ))
-    → (ReadsParameters order bytes ps payload → read ≡ Some (summed nothing ps, payload)) → IsInline b order bytes ps payload
+inline_by : (b : Bool) (order : Endianness) (bytes : List ℕ) (ps : List Parameter) (payload : List ℕ)
+    (read : Option (Parameters × List ℕ))
+    → (ReadsParameters order bytes ps payload → read ≡ Some (summed nothing ps, payload))
+    → IsInline b order bytes ps payload
     → cond b read (Some (nothing, bytes)) ≡ Some (summed nothing ps, payload)
 inline_by true order bytes ps payload read again i = again i
 inline_by false order bytes ps payload read again i = rw (i.0, i.1) refl
 
-inline_only : (flags : ℕ) (bytes : List ℕ) (ps : List Parameter) (payload : List ℕ) → IsInline (has_flag flags 2) (order_of flags) bytes ps payload
+inline_only : (flags : ℕ) (bytes : List ℕ) (ps : List Parameter) (payload : List ℕ)
+    → IsInline (has_flag flags 2) (order_of flags) bytes ps payload
     → inline_at flags bytes ≡ Some (summed nothing ps, payload)
 unfolding inline_at
-inline_only flags bytes ps payload i = inline_by (has_flag flags 2) (order_of flags) bytes ps payload _ (parameters_only (order_of flags) bytes ps payload) i
+inline_only flags bytes ps payload i =
+    inline_by (has_flag flags 2) (order_of flags) bytes ps payload _
+    (parameters_only (order_of flags) bytes ps payload) i
 
 -- ---- the head
 
@@ -189,9 +231,12 @@ head_found : (order : Endianness) (body : List ℕ) (x : ℕ × EntityId × Enti
     → AreOctets body → data_head_at order body ≡ Some x → HasHead order body x
 unfolding data_head_at
 head_found order body x octets e =
-    option_and_then_some (λ y. Some (y.0.0.0.1, y.0.0.1.0, y.0.0.1.1, y.0.1, y.1)) (head_fields order body) x e (λ y q r.
+    option_and_then_some (λ y. Some (y.0.0.0.1, y.0.0.1.0, y.0.0.1.1, y.0.1, y.1)) (head_fields order body) x e
+    (λ y q r.
     let ids = field_both field_entity_id field_entity_id in
-    let t = (field_both (field_both (field_both (field_u16 order) (field_u16 order)) ids) (field_sn order)).takes body y.0 y.1 octets q in
+    let t =
+    (field_both (field_both (field_both (field_u16 order) (field_u16 order)) ids) (field_sn order)).takes body y.0
+    y.1 octets q in
     let made : ℕ × EntityId × EntityId × ℕ × List ℕ = (y.0.0.0.1, y.0.0.1.0, y.0.0.1.1, y.0.1, y.1) in
     subst (λ (z : ℕ × EntityId × EntityId × ℕ × List ℕ). HasHead order body z) (some_is made x r) (record {
       extra = y.0.0.0.0;
@@ -210,7 +255,8 @@ head_only : (order : Endianness) (extra way : ℕ) (reader writer : EntityId) (n
 unfolding data_head_at
 head_only order extra way reader writer n rest p q r s t =
     ap (data_head_at order) (head_row order extra way reader writer n rest)
-    ∙ rw ((field_both (field_both (field_both (field_u16 order) (field_u16 order)) (field_both field_entity_id field_entity_id)) (field_sn order)).again
+    ∙ rw ((field_both (field_both (field_both (field_u16 order) (field_u16 order))
+    (field_both field_entity_id field_entity_id)) (field_sn order)).again
     (((extra, way), (reader, writer)), n) rest (((p, q), (r, s)), t)) refl
 
 -- ---- the whole
@@ -220,21 +266,31 @@ pub record FindsData (flags : ℕ) (body : List ℕ) (d : Data) : Type 0 where
   pub reads : ReadsData flags body d
   pub valid : IsData d
 
-pub data_found : (flags : ℕ) (body : List ℕ) (d : Data) → AreOctets body → data_at flags body ≡ Some d → FindsData flags body d
+pub data_found : (flags : ℕ) (body : List ℕ) (d : Data) → AreOctets body → data_at flags body ≡ Some d
+    → FindsData flags body d
 unfolding data_at
 data_found flags body d octets e =
     let order = order_of flags in
-    let after : ℕ × EntityId × EntityId × ℕ × List ℕ → Option Data = λ x. cond (ltb x.0 16) None (octets_at (x.0 - 16) x.4) >>= λ s. inline_at flags s.1 >>= λ p. content_at flags p.0 p.1 >>= λ c. cond (ltb x.3 1) None (Some (record { reader_id = x.1; writer_id = x.2; writer_sn = x.3; content = c })) in
+    let after : ℕ × EntityId × EntityId × ℕ × List ℕ → Option Data =
+    λ x. cond (ltb x.0 16) None (octets_at (x.0 - 16) x.4) >>= λ s. inline_at flags s.1 >>= λ p. content_at flags
+    p.0 p.1 >>= λ c. cond (ltb x.3 1) None
+    (Some (record { reader_id = x.1; writer_id = x.2; writer_sn = x.3; content = c })) in
     let g = guard_some (has_flag flags 16) (data_head_at (order_of flags) body >>= after) d e in
     option_and_then_some after (data_head_at (order_of flags) body) d g.1 (λ x q r.
     let head = head_found order body x octets q in
-    option_and_then_some (λ s. inline_at flags s.1 >>= λ p. content_at flags p.0 p.1 >>= λ c. cond (ltb x.3 1) None (Some (record { reader_id = x.1; writer_id = x.2; writer_sn = x.3; content = c }))) (cond (ltb x.0 16) None (octets_at (x.0 - 16) x.4)) d r (λ s q2 r2.
+    option_and_then_some (λ s. inline_at flags s.1 >>= λ p. content_at flags p.0 p.1 >>= λ c. cond (ltb x.3 1) None
+    (Some (record { reader_id = x.1; writer_id = x.2; writer_sn = x.3; content = c })))
+    (cond (ltb x.0 16) None (octets_at (x.0 - 16) x.4)) d r (λ s q2 r2.
     let long = guard_some (ltb x.0 16) (octets_at (x.0 - 16) x.4) s q2 in
     let way : 16 ≤ x.0 = ltb-false _ _ long.0 in
     let skipped = (field_octets (x.0 - 16)).takes x.4 s.0 s.1 head.octets long.1 in
-    option_and_then_some (λ p. content_at flags p.0 p.1 >>= λ c. cond (ltb x.3 1) None (Some (record { reader_id = x.1; writer_id = x.2; writer_sn = x.3; content = c }))) (inline_at flags s.1) d r2 (λ p q3 r3.
+    option_and_then_some (λ p. content_at flags p.0 p.1 >>= λ c. cond (ltb x.3 1) None
+    (Some (record { reader_id = x.1; writer_id = x.2; writer_sn = x.3; content = c }))) (inline_at flags s.1) d r2
+    (λ p q3 r3.
     let inline = inline_found flags s.1 p skipped.0.octets q3 in
-    option_and_then_some (λ c. cond (ltb x.3 1) None (Some (record { reader_id = x.1; writer_id = x.2; writer_sn = x.3; content = c }))) (content_at flags p.0 p.1) d r3 (λ c q4 r4.
+    option_and_then_some
+    (λ c. cond (ltb x.3 1) None (Some (record { reader_id = x.1; writer_id = x.2; writer_sn = x.3; content = c })))
+    (content_at flags p.0 p.1) d r3 (λ c q4 r4.
     let made : Data = record { reader_id = x.1; writer_id = x.2; writer_sn = x.3; content = c } in
     let first = guard_some (ltb x.3 1) (Some made) d r4 in
     let way-is : x.0 ≡ 16 + length s.0 = omega (arith, skipped.1) in
@@ -249,14 +305,17 @@ data_found flags body d octets e =
         payload = p.1;
         extra_small = head.extra_small;
         skipped_small = rw (← way-is) head.way_small;
-        text = head.text ∙ ap (λ (w : ℕ). data_head order head.extra w x.1 x.2 x.3 ++ x.4) way-is ∙ ap (λ (z : List ℕ). data_head order head.extra (16 + length s.0) x.1 x.2 x.3 ++ z) skipped.0.parts;
+        text =
+            head.text ∙ ap (λ (w : ℕ). data_head order head.extra w x.1 x.2 x.3 ++ x.4) way-is
+            ∙ ap (λ (z : List ℕ). data_head order head.extra (16 + length s.0) x.1 x.2 x.3 ++ z) skipped.0.parts;
         inline = inline.inline;
         says = content_found flags inline.parameters p.1 c inline.octets same;
       };
       valid = record { reader = head.reader; writer = head.writer; first = ltb-false _ _ first.0; small = head.small };
     })))))
 
-pub data_only : (flags : ℕ) (d : Data) (body : List ℕ) → has_flag flags 16 ≡ false → ReadsData flags body d → IsData d → data_at flags body ≡ Some d
+pub data_only : (flags : ℕ) (d : Data) (body : List ℕ) → has_flag flags 16 ≡ false → ReadsData flags body d → IsData d
+    → data_at flags body ≡ Some d
 unfolding data_at
 data_only flags d body standard x valid =
     let order = order_of flags in
@@ -266,7 +325,8 @@ data_only flags d body standard x valid =
     ap (data_at flags) x.text
     ∙ rw (
       standard,
-      head_only (order_of flags) x.extra (16 + length x.skipped) d.reader_id d.writer_id d.writer_sn (x.skipped ++ x.from_parameters) x.extra_small x.skipped_small valid.reader valid.writer valid.small,
+      head_only (order_of flags) x.extra (16 + length x.skipped) d.reader_id d.writer_id d.writer_sn
+          (x.skipped ++ x.from_parameters) x.extra_small x.skipped_small valid.reader valid.writer valid.small,
       way,
       sub,
       (field_octets (length x.skipped)).again x.skipped x.from_parameters refl,

@@ -38,22 +38,42 @@ text_le submessages.Pad valid = omega arith
 text_le (submessages.InfoDst prefix) valid = omega (arith, valid)
 text_le (submessages.InfoTs None) valid = omega arith
 text_le (submessages.InfoTs (Some moment)) valid = omega arith
-text_le (submessages.Data d) valid = simp length-append (omega (arith, content_le d.content valid.1, valid.0.reader, valid.0.writer))
+text_le (submessages.Data d) valid =
+    simp length-append (omega (arith, content_le d.content valid.1, valid.0.reader, valid.0.writer))
 text_le (submessages.Heartbeat h) valid = simp length-append (omega (arith, valid.reader, valid.writer))
-text_le (submessages.AckNack a) valid = simp length-append (omega (arith, set_le a.reader_sn_state valid.1, valid.0.reader, valid.0.writer))
-text_le (submessages.Gap g) valid = simp length-append (omega (arith, set_le g.gap_list valid.1, valid.0.reader, valid.0.writer))
+text_le (submessages.AckNack a) valid =
+    simp length-append (omega (arith, set_le a.reader_sn_state valid.1, valid.0.reader, valid.0.writer))
+text_le (submessages.Gap g) valid =
+    simp length-append (omega (arith, set_le g.gap_list valid.1, valid.0.reader, valid.0.writer))
 text_le (submessages.Other id) valid = absurd valid
 
 pub submessage_le : (s : Submessage) → IsSpellable s → length (spelling_of_submessage s) ≤ 1072
 submessage_le s valid =
     let text = text_le s valid in
-    omega (arith, len_16 (order_of (flags_of s)) (length (body_of s)), length-append (number (order_of (flags_of s)) w16 (length (body_of s))) (body_of s), length-append (text_of s) (padding (length (text_of s))), length-replicate {A = ℕ} ((4 - length (text_of s) % 4) % 4) 0)
+    omega (
+      arith,
+      len_16 (order_of (flags_of s)) (length (body_of s)),
+      length-append
+          (number (order_of (flags_of s)) w16 (length (body_of s))) (body_of s),
+      length-append (text_of s)
+          (padding (length (text_of s))),
+      length-replicate {A = ℕ} ((4 - length (text_of s) % 4) % 4) 0,
+    )
 
-all_le : (ss : List Submessage) → AllByRecursion IsSpellable ss → length (flat_map spelling_of_submessage ss) ≤ 1072 * length ss
+all_le : (ss : List Submessage) → AllByRecursion IsSpellable ss
+    → length (flat_map spelling_of_submessage ss) ≤ 1072 * length ss
 all_le [] valid = omega arith
-all_le (s ∷ ss) valid = omega (arith, length-append (spelling_of_submessage s) (flat_map spelling_of_submessage ss), submessage_le s valid.0, all_le ss valid.1)
+all_le (s ∷ ss) valid =
+    omega (
+      arith,
+      length-append (spelling_of_submessage s)
+          (flat_map spelling_of_submessage ss),
+      submessage_le s valid.0,
+      all_le ss valid.1,
+    )
 
-pub short_writable : (m : Message) → length m.prefix.0 ≡ 12 → AllByRecursion IsSpellable m.submessages → length m.submessages ≤ 61 → IsWritable m
+pub short_writable : (m : Message) → length m.prefix.0 ≡ 12 → AllByRecursion IsSpellable m.submessages
+    → length m.submessages ≤ 61 → IsWritable m
 short_writable m prefix each few =
     let all = length-append (header_text 5 (0 ∷ 0 ∷ []) m.prefix) (flat_map spelling_of_submessage m.submessages) in
     let header = header_length 5 (0 ∷ 0 ∷ []) m.prefix refl prefix in

@@ -27,7 +27,13 @@ last_octet value = slice_index value 3
 
 -- what was found before, or else what these say
 abbrev pub summed : Parameters → List Parameter → Parameters
-summed found ps = record { key_hash = option_or found.key_hash (option_map key_seen (parameter_value 112 ps)); status = option_or found.status (option_map last_octet (parameter_value 113 ps)) }
+summed found ps =
+    record {
+      key_hash = option_or found.key_hash
+          (option_map key_seen (parameter_value 112 ps));
+      status = option_or found.status
+          (option_map last_octet (parameter_value 113 ps));
+    }
 
 parameters_are : (a b : Option Key) (c d : Option ℕ) → a ≡ b → c ≡ d
     → ◌≡◌ {A = Parameters} (record { key_hash = a; status = c }) (record { key_hash = b; status = d })
@@ -48,14 +54,24 @@ first_or f true v o = refl
 first_or f false v o = refl
 
 summed_none : (found : Parameters) → found ≡ summed found []
-summed_none found = parameters_are found.key_hash _ found.status _ (sym (or_none found.key_hash)) (sym (or_none found.status))
+summed_none found =
+    parameters_are found.key_hash _ found.status _ (sym (or_none found.key_hash)) (sym (or_none found.status))
 
-summed_more : (found : Parameters) (p : Parameter) (ps : List Parameter) → summed (summed found (p ∷ [])) ps ≡ summed found (p ∷ ps)
+summed_more : (found : Parameters) (p : Parameter) (ps : List Parameter)
+    → summed (summed found (p ∷ [])) ps ≡ summed found (p ∷ ps)
 summed_more found p ps =
-    let key : option_or (option_or found.key_hash (option_map key_seen (parameter_value 112 (p ∷ [])))) (option_map key_seen (parameter_value 112 ps)) ≡ option_or found.key_hash (option_map key_seen (parameter_value 112 (p ∷ ps))) =
-    or_assoc found.key_hash (option_map key_seen (parameter_value 112 (p ∷ []))) (option_map key_seen (parameter_value 112 ps)) ∙ ap (option_or found.key_hash) (sym (first_or key_seen (eqb p.id 112) p.value (parameter_value 112 ps))) in
-    let status : option_or (option_or found.status (option_map last_octet (parameter_value 113 (p ∷ [])))) (option_map last_octet (parameter_value 113 ps)) ≡ option_or found.status (option_map last_octet (parameter_value 113 (p ∷ ps))) =
-    or_assoc found.status (option_map last_octet (parameter_value 113 (p ∷ []))) (option_map last_octet (parameter_value 113 ps)) ∙ ap (option_or found.status) (sym (first_or last_octet (eqb p.id 113) p.value (parameter_value 113 ps))) in
+    let key : option_or (option_or found.key_hash (option_map key_seen (parameter_value 112 (p ∷ []))))
+    (option_map key_seen (parameter_value 112 ps))
+    ≡ option_or found.key_hash (option_map key_seen (parameter_value 112 (p ∷ ps))) =
+    or_assoc found.key_hash (option_map key_seen (parameter_value 112 (p ∷ [])))
+    (option_map key_seen (parameter_value 112 ps))
+    ∙ ap (option_or found.key_hash) (sym (first_or key_seen (eqb p.id 112) p.value (parameter_value 112 ps))) in
+    let status : option_or (option_or found.status (option_map last_octet (parameter_value 113 (p ∷ []))))
+    (option_map last_octet (parameter_value 113 ps))
+    ≡ option_or found.status (option_map last_octet (parameter_value 113 (p ∷ ps))) =
+    or_assoc found.status (option_map last_octet (parameter_value 113 (p ∷ [])))
+    (option_map last_octet (parameter_value 113 ps))
+    ∙ ap (option_or found.status) (sym (first_or last_octet (eqb p.id 113) p.value (parameter_value 113 ps))) in
     parameters_are _ _ _ _ key status
 
 -- ---- one parameter
@@ -67,14 +83,16 @@ by_test m n false e = inr e
 is_or_not : (m n : ℕ) → (m ≡ n) ⊎ (eqb m n ≡ false)
 is_or_not m n = by_test m n (eqb m n) refl
 
-noted_only : (found : Parameters) (p : Parameter) → IsParameter p → noted_at found p.id p.value ≡ Some (summed found (p ∷ []))
+noted_only : (found : Parameters) (p : Parameter) → IsParameter p
+    → noted_at found p.id p.value ≡ Some (summed found (p ∷ []))
 unfolding noted_at
 noted_only found p valid =
     let whole : eqb (length p.value % 4) 0 ≡ true = eq-eqb _ 0 valid.whole in
     elim (is_or_not p.id 112) [
       | inl is ↦
           let long : eqb (length p.value) 16 ≡ true = eq-eqb _ 16 (valid.key_hash is) in
-          let key : key_at p.value ≡ Some (key_seen p.value, []) = ap key_at (sym (append-nil p.value)) ∙ field_key.again (key_seen p.value) [] (valid.key_hash is) in
+          let key : key_at p.value ≡ Some (key_seen p.value, []) =
+          ap key_at (sym (append-nil p.value)) ∙ field_key.again (key_seen p.value) [] (valid.key_hash is) in
           rw (whole, is, long, key) (ap Some (parameters_are _ _ _ _ refl (sym (or_none found.status))))
       | inr other ↦ elim (is_or_not p.id 113) [
         | inl is ↦
@@ -88,19 +106,23 @@ passes : {A : Type 0} (b : Bool) (o : Option A) (x : A) → cond b o None ≡ So
 passes true o x e = (refl, e)
 passes false o x e = absurd cc
 
-noted_whole : (found more : Parameters) (id : ℕ) (value : List ℕ) → noted_at found id value ≡ Some more → length value % 4 ≡ 0
+noted_whole : (found more : Parameters) (id : ℕ) (value : List ℕ) → noted_at found id value ≡ Some more
+    → length value % 4 ≡ 0
 unfolding noted_at
 noted_whole found more id value e = eqb-true _ 0 (passes (eqb (length value % 4) 0) _ more e).0
 
 noted_key : (found more : Parameters) (value : List ℕ) → noted_at found 112 value ≡ Some more → length value ≡ 16
 unfolding noted_at
-noted_key found more value e = eqb-true _ 16 (passes (eqb (length value) 16) _ more (passes (eqb (length value % 4) 0) _ more e).1).0
+noted_key found more value e =
+    eqb-true _ 16 (passes (eqb (length value) 16) _ more (passes (eqb (length value % 4) 0) _ more e).1).0
 
 noted_status : (found more : Parameters) (value : List ℕ) → noted_at found 113 value ≡ Some more → length value ≡ 4
 unfolding noted_at
-noted_status found more value e = eqb-true _ 4 (passes (eqb (length value) 4) _ more (passes (eqb (length value % 4) 0) _ more e).1).0
+noted_status found more value e =
+    eqb-true _ 4 (passes (eqb (length value) 4) _ more (passes (eqb (length value % 4) 0) _ more e).1).0
 
-noted_valid : (found more : Parameters) (id : ℕ) (value : List ℕ) → id < 2 ^ 16 → id ≢ 1 → length value < 2 ^ 16 → noted_at found id value ≡ Some more
+noted_valid : (found more : Parameters) (id : ℕ) (value : List ℕ) → id < 2 ^ 16 → id ≢ 1 → length value < 2 ^ 16
+    → noted_at found id value ≡ Some more
     → IsParameter (record { id = id; value = value })
 noted_valid found more id value small no_sentinel short e = record {
   small = small;
@@ -121,22 +143,29 @@ record TakesParameter (order : Endianness) (bytes : List ℕ) (x : ℕ × List �
   extent : length x.1 ≡ cond (eqb x.0 1) 0 len
   octets : AreOctets x.2
 
-parameter_found : (order : Endianness) (bytes : List ℕ) (x : ℕ × List ℕ × List ℕ) → AreOctets bytes → parameter_at order bytes ≡ Some x
+parameter_found : (order : Endianness) (bytes : List ℕ) (x : ℕ × List ℕ × List ℕ) → AreOctets bytes
+    → parameter_at order bytes ≡ Some x
     → TakesParameter order bytes x
 unfolding parameter_at
 parameter_found order bytes x octets e =
-    option_and_then_some (λ id. number_at order w16 id.1 >>= λ len. octets_at (cond (eqb id.0 1) 0 len.0) len.1 >>= λ value. Some (id.0, value.0, value.1)) (number_at order w16 bytes) x e (λ id q1 e1.
+    option_and_then_some (λ id. number_at order w16 id.1 >>= λ len. octets_at
+    (cond (eqb id.0 1) 0 len.0) len.1 >>= λ value. Some (id.0, value.0, value.1)) (number_at order w16 bytes) x e
+    (λ id q1 e1.
     let t0 = (field_u16 order).takes bytes id.0 id.1 octets q1 in
-    option_and_then_some (λ len. octets_at (cond (eqb id.0 1) 0 len.0) len.1 >>= λ value. Some (id.0, value.0, value.1)) (number_at order w16 id.1) x e1 (λ len q2 e2.
+    option_and_then_some (λ len. octets_at (cond (eqb id.0 1) 0 len.0) len.1 >>= λ value. Some (id.0, value.0, value.1))
+    (number_at order w16 id.1) x e1 (λ len q2 e2.
     let t1 = (field_u16 order).takes id.1 len.0 len.1 t0.0.octets q2 in
-    option_and_then_some (λ value. Some (id.0, value.0, value.1)) (octets_at (cond (eqb id.0 1) 0 len.0) len.1) x e2 (λ value q3 e3.
+    option_and_then_some (λ value. Some (id.0, value.0, value.1)) (octets_at (cond (eqb id.0 1) 0 len.0) len.1) x e2
+    (λ value q3 e3.
     let t2 = (field_octets (cond (eqb id.0 1) 0 len.0)).takes len.1 value.0 value.1 t1.0.octets q3 in
     let made : ℕ × List ℕ × List ℕ = (id.0, value.0, value.1) in
     subst (λ (y : ℕ × List ℕ × List ℕ). TakesParameter order bytes y) (some_is made x e3) (record {
       len = len.0;
       len_small = t1.1;
       id_small = t0.1;
-      text = t0.0.parts ∙ ap (λ (z : List ℕ). number order w16 id.0 ++ z) (t1.0.parts ∙ ap (λ (z : List ℕ). number order w16 len.0 ++ z) t2.0.parts);
+      text =
+          t0.0.parts ∙ ap (λ (z : List ℕ). number order w16 id.0 ++ z)
+          (t1.0.parts ∙ ap (λ (z : List ℕ). number order w16 len.0 ++ z) t2.0.parts);
       extent = t2.1;
       octets = t2.0.octets;
     }))))
@@ -145,16 +174,26 @@ empty_is : (xs : List ℕ) → length xs ≡ 0 → xs ≡ []
 empty_is [] e = refl
 empty_is (x ∷ xs) e = absurd (omega arith)
 
-sentinel_found : (order : Endianness) (bytes : List ℕ) (x : ℕ × List ℕ × List ℕ) → TakesParameter order bytes x → x.0 ≡ 1 → ReadsParameters order bytes [] x.2
+sentinel_found : (order : Endianness) (bytes : List ℕ) (x : ℕ × List ℕ × List ℕ) → TakesParameter order bytes x
+    → x.0 ≡ 1 → ReadsParameters order bytes [] x.2
 sentinel_found order bytes x t is =
-    let none : x.1 ≡ [] = empty_is x.1 (t.extent ∙ ap (λ (n : ℕ). cond (eqb n 1) 0 t.len) is) in
-    (t.len, t.len_small, t.text ∙ ap (λ (n : ℕ). number order w16 n ++ (number order w16 t.len ++ (x.1 ++ x.2))) is ∙ ap (λ (z : List ℕ). number order w16 1 ++ (number order w16 t.len ++ (z ++ x.2))) none ∙ sym (append_assoc (number order w16 1) (number order w16 t.len) x.2))
+    let none : x.1 ≡ [] = empty_is x.1 (t.extent ∙ ap (λ (n : ℕ). cond (eqb n 1) 0 t.len) is) in (
+      t.len,
+      t.len_small,
+      t.text ∙ ap (λ (n : ℕ). number order w16 n ++ (number order w16 t.len ++ (x.1 ++ x.2))) is
+          ∙ ap (λ (z : List ℕ). number order w16 1 ++ (number order w16 t.len ++ (z ++ x.2))) none
+          ∙ sym (append_assoc (number order w16 1) (number order w16 t.len) x.2),
+    )
 
-value_found : (order : Endianness) (bytes : List ℕ) (x : ℕ × List ℕ × List ℕ) → TakesParameter order bytes x → eqb x.0 1 ≡ false
+value_found : (order : Endianness) (bytes : List ℕ) (x : ℕ × List ℕ × List ℕ) → TakesParameter order bytes x
+    → eqb x.0 1 ≡ false
     → (length x.1 < 2 ^ 16) × (bytes ≡ parameter_text order (record { id = x.0; value = x.1 }) ++ x.2)
 value_found order bytes x t other =
-    let len : length x.1 ≡ t.len = t.extent ∙ ap (λ (b : Bool). cond b 0 t.len) other in
-    (rw len t.len_small, t.text ∙ ap (λ (n : ℕ). number order w16 x.0 ++ (number order w16 n ++ (x.1 ++ x.2))) (sym len) ∙ regroup (number order w16 x.0) (number order w16 (length x.1)) x.1 x.2)
+    let len : length x.1 ≡ t.len = t.extent ∙ ap (λ (b : Bool). cond b 0 t.len) other in (
+      rw len t.len_small,
+      t.text ∙ ap (λ (n : ℕ). number order w16 x.0 ++ (number order w16 n ++ (x.1 ++ x.2))) (sym len)
+          ∙ regroup (number order w16 x.0) (number order w16 (length x.1)) x.1 x.2,
+    )
   where
     regroup : (a b c d : List ℕ) → a ++ (b ++ (c ++ d)) ≡ (a ++ b ++ c) ++ d
     regroup a b c d = simp append_assoc
@@ -188,23 +227,36 @@ sentinel_again order len rest small =
 
 -- ---- the parameters up to the sentinel
 
-pub record FindsParameters (order : Endianness) (bytes : List ℕ) (found : Parameters) (x : Parameters × List ℕ) : Type 0 where
+pub record FindsParameters (order : Endianness) (bytes : List ℕ) (found : Parameters)
+    (x : Parameters × List ℕ) : Type 0 where
   pub parameters : List Parameter
   pub reads : ReadsParameters order bytes parameters x.1
   pub sum : x.0 ≡ summed found parameters
   pub octets : AreOctets x.1
 
-from_found : (fuel : ℕ) (order : Endianness) (found : Parameters) (bytes : List ℕ) (x : Parameters × List ℕ) → AreOctets bytes
+from_found : (fuel : ℕ) (order : Endianness) (found : Parameters) (bytes : List ℕ) (x : Parameters × List ℕ)
+    → AreOctets bytes
     → parameters_from fuel order found bytes ≡ Some x → FindsParameters order bytes found x
 unfolding parameters_from
 from_found zero order found bytes x octets e = absurd cc
 from_found (suc fuel) order found bytes x octets e =
-    option_and_then_some (λ p. cond (eqb p.0 1) (Some (found, p.2)) (noted_at found p.0 p.1 >>= λ more. parameters_from fuel order more p.2)) (parameter_at order bytes) x e (λ p q1 e1.
+    option_and_then_some (λ p. cond (eqb p.0 1) (Some (found, p.2))
+    (noted_at found p.0 p.1 >>= λ more. parameters_from fuel order more p.2)) (parameter_at order bytes) x e
+    (λ p q1 e1.
     let t = parameter_found order bytes p octets q1 in
     let whole : Parameters × List ℕ = (found, p.2) in
-    cond_is {P = FindsParameters order bytes found x} (eqb p.0 1) (Some whole) (noted_at found p.0 p.1 >>= λ more. parameters_from fuel order more p.2) (Some x) e1
-    (λ is s. subst (λ (y : Parameters × List ℕ). FindsParameters order bytes found y) (some_is whole x s) (record { parameters = []; reads = sentinel_found order bytes p t (eqb-true p.0 1 is); sum = summed_none found; octets = t.octets }))
-    (λ other s. option_and_then_some (λ more. parameters_from fuel order more p.2) (noted_at found p.0 p.1) x s (λ more q2 e2.
+    cond_is {P = FindsParameters order bytes found x} (eqb p.0 1) (Some whole)
+    (noted_at found p.0 p.1 >>= λ more. parameters_from fuel order more p.2) (Some x) e1
+    (λ is s. subst (λ (y : Parameters × List ℕ). FindsParameters order bytes found y) (some_is whole x s)
+    (record {
+      parameters = [];
+      reads = sentinel_found order bytes p t
+          (eqb-true p.0 1 is);
+      sum = summed_none found;
+      octets = t.octets;
+    }))
+    (λ other s. option_and_then_some (λ more. parameters_from fuel order more p.2) (noted_at found p.0 p.1) x s
+    (λ more q2 e2.
     let rest = from_found fuel order more p.2 x t.octets e2 in
     let parameter : Parameter = record { id = p.0; value = p.1 } in
     let there = value_found order bytes p t other in
@@ -213,37 +265,59 @@ from_found (suc fuel) order found bytes x octets e =
     record {
       parameters = parameter ∷ rest.parameters;
       reads = (p.2, valid, there.1, rest.reads);
-      sum = rest.sum ∙ ap (λ (y : Parameters). summed y rest.parameters) more-is ∙ summed_more found parameter rest.parameters;
+      sum =
+          rest.sum ∙ ap (λ (y : Parameters). summed y rest.parameters) more-is
+          ∙ summed_more found parameter rest.parameters;
       octets = rest.octets;
     })))
 
-shorter : (order : Endianness) (p : Parameter) (bytes after : List ℕ) → bytes ≡ parameter_text order p ++ after → length after < length bytes
+shorter : (order : Endianness) (p : Parameter) (bytes after : List ℕ) → bytes ≡ parameter_text order p ++ after
+    → length after < length bytes
 shorter order p bytes after e =
     let head = number order w16 p.id ++ number order w16 (length p.value) in
-    omega (arith, ap length e, length-append (parameter_text order p) after, length-append head p.value, length-append (number order w16 p.id) (number order w16 (length p.value)), len_16 order p.id)
+    omega (
+      arith,
+      ap length e,
+      length-append (parameter_text order p) after,
+      length-append head p.value,
+      length-append
+          (number order w16 p.id) (number order w16 (length p.value)),
+      len_16 order p.id,
+    )
 
-from_only : (ps : List Parameter) (fuel : ℕ) (order : Endianness) (found : Parameters) (bytes rest : List ℕ) → ReadsParameters order bytes ps rest
+from_only : (ps : List Parameter) (fuel : ℕ) (order : Endianness) (found : Parameters) (bytes rest : List ℕ)
+    → ReadsParameters order bytes ps rest
     → length bytes < fuel → parameters_from fuel order found bytes ≡ Some (summed found ps, rest)
 unfolding parameters_from
 from_only [] zero order found bytes rest r lt = absurd (omega arith)
 from_only [] (suc fuel) order found bytes rest r lt =
-    ap (parameters_from (suc fuel) order found) r.2 ∙ rw (sentinel_again order r.0 rest r.1) (ap (λ (y : Parameters). Some (y, rest)) (summed_none found))
+    ap (parameters_from (suc fuel) order found) r.2
+    ∙ rw (sentinel_again order r.0 rest r.1) (ap (λ (y : Parameters). Some (y, rest)) (summed_none found))
 from_only (p ∷ ps) zero order found bytes rest r lt = absurd (omega arith)
 from_only (p ∷ ps) (suc fuel) order found bytes rest r lt =
     let other : eqb p.id 1 ≡ false = ne_eqb p.id 1 r.1.no_sentinel in
     let less = shorter order p bytes r.0 r.2 in
     ap (parameters_from (suc fuel) order found) r.2
-    ∙ rw (parameter_again order p r.0 r.1, other, noted_only found p r.1, from_only ps fuel order (summed found (p ∷ [])) r.0 rest r.3 (omega arith)) (ap (λ (y : Parameters). Some (y, rest)) (summed_more found p ps))
+    ∙ rw (
+      parameter_again order p r.0 r.1,
+      other,
+      noted_only found p r.1,
+      from_only ps fuel order
+          (summed found (p ∷ [])) r.0 rest r.3 (omega arith),
+    )
+    (ap (λ (y : Parameters). Some (y, rest)) (summed_more found p ps))
 
 abbrev pub nothing : Parameters
 nothing = record { key_hash = None; status = None }
 
-pub parameters_found : (order : Endianness) (bytes : List ℕ) (x : Parameters × List ℕ) → AreOctets bytes → parameters_at order bytes ≡ Some x
+pub parameters_found : (order : Endianness) (bytes : List ℕ) (x : Parameters × List ℕ) → AreOctets bytes
+    → parameters_at order bytes ≡ Some x
     → FindsParameters order bytes nothing x
 unfolding parameters_at
 parameters_found order bytes x octets e = from_found (suc (length bytes)) order nothing bytes x octets e
 
-pub parameters_only : (order : Endianness) (bytes : List ℕ) (ps : List Parameter) (rest : List ℕ) → ReadsParameters order bytes ps rest
+pub parameters_only : (order : Endianness) (bytes : List ℕ) (ps : List Parameter) (rest : List ℕ)
+    → ReadsParameters order bytes ps rest
     → parameters_at order bytes ≡ Some (summed nothing ps, rest)
 unfolding parameters_at
 parameters_only order bytes ps rest r = from_only ps (suc (length bytes)) order nothing bytes rest r (omega arith)
@@ -260,47 +334,59 @@ pub may_begin : (order : Endianness) (bytes : List ℕ) → MayGoOn order bytes 
 unfolding parameters_at
 may_begin order bytes = record { fuel = suc (length bytes); enough = omega arith; same = refl }
 
-pub may_go_on : (order : Endianness) (bytes : List ℕ) (found : Parameters) (left : List ℕ) (id : ℕ) (value rest : List ℕ) (more : Parameters)
-    → parameter_at order left ≡ Some (id, value, rest) → id ≢ 1 → noted_at found id value ≡ Some more → length rest < length left
+pub may_go_on : (order : Endianness) (bytes : List ℕ) (found : Parameters) (left : List ℕ) (id : ℕ)
+    (value rest : List ℕ) (more : Parameters)
+    → parameter_at order left ≡ Some (id, value, rest) → id ≢ 1 → noted_at found id value ≡ Some more
+    → length rest < length left
     → MayGoOn order bytes found left → MayGoOn order bytes more rest
 unfolding parameters_from
 may_go_on order bytes found left id value rest more e other noted less on = step on.fuel on.enough on.same
   where
-    step : (fuel : ℕ) → length left < fuel → parameters_from fuel order found left ≡ parameters_at order bytes → MayGoOn order bytes more rest
+    step : (fuel : ℕ) → length left < fuel → parameters_from fuel order found left ≡ parameters_at order bytes
+        → MayGoOn order bytes more rest
     step zero lt same = absurd (omega arith)
     step (suc fuel) lt same =
         let no : eqb id 1 ≡ false = ne_eqb id 1 other in
-        let one : parameters_from (suc fuel) order found left ≡ parameters_from fuel order more rest = rw (e, no, noted) refl in
+        let one : parameters_from (suc fuel) order found left ≡ parameters_from fuel order more rest =
+        rw (e, no, noted) refl in
         record { fuel = fuel; enough = omega arith; same = sym one ∙ same }
 
-pub ends_without : (order : Endianness) (bytes : List ℕ) (found : Parameters) (left : List ℕ) → parameter_at order left ≡ None
+pub ends_without : (order : Endianness) (bytes : List ℕ) (found : Parameters) (left : List ℕ)
+    → parameter_at order left ≡ None
     → MayGoOn order bytes found left → None ≡ parameters_at order bytes
 unfolding parameters_from
 ends_without order bytes found left e on = step on.fuel on.enough on.same
   where
-    step : (fuel : ℕ) → length left < fuel → parameters_from fuel order found left ≡ parameters_at order bytes → None ≡ parameters_at order bytes
+    step : (fuel : ℕ) → length left < fuel → parameters_from fuel order found left ≡ parameters_at order bytes
+        → None ≡ parameters_at order bytes
     step zero lt same = same
     step (suc fuel) lt same = rw e at same
 
-pub ends_at_sentinel : (order : Endianness) (bytes : List ℕ) (found : Parameters) (left : List ℕ) (id : ℕ) (value rest : List ℕ)
-    → parameter_at order left ≡ Some (id, value, rest) → id ≡ 1 → MayGoOn order bytes found left → Some (found, rest) ≡ parameters_at order bytes
+pub ends_at_sentinel : (order : Endianness) (bytes : List ℕ) (found : Parameters) (left : List ℕ) (id : ℕ)
+    (value rest : List ℕ)
+    → parameter_at order left ≡ Some (id, value, rest) → id ≡ 1 → MayGoOn order bytes found left
+    → Some (found, rest) ≡ parameters_at order bytes
 unfolding parameters_from
 ends_at_sentinel order bytes found left id value rest e is on = step on.fuel on.enough on.same
   where
-    step : (fuel : ℕ) → length left < fuel → parameters_from fuel order found left ≡ parameters_at order bytes → Some (found, rest) ≡ parameters_at order bytes
+    step : (fuel : ℕ) → length left < fuel → parameters_from fuel order found left ≡ parameters_at order bytes
+        → Some (found, rest) ≡ parameters_at order bytes
     step zero lt same = absurd (omega arith)
     step (suc fuel) lt same =
         let yes : eqb id 1 ≡ true = eq-eqb id 1 is in
         let one : parameters_from (suc fuel) order found left ≡ Some (found, rest) = rw (e, yes) refl in
         sym one ∙ same
 
-pub ends_at_invalid : (order : Endianness) (bytes : List ℕ) (found : Parameters) (left : List ℕ) (id : ℕ) (value rest : List ℕ)
-    → parameter_at order left ≡ Some (id, value, rest) → id ≢ 1 → noted_at found id value ≡ None → MayGoOn order bytes found left
+pub ends_at_invalid : (order : Endianness) (bytes : List ℕ) (found : Parameters) (left : List ℕ) (id : ℕ)
+    (value rest : List ℕ)
+    → parameter_at order left ≡ Some (id, value, rest) → id ≢ 1 → noted_at found id value ≡ None
+    → MayGoOn order bytes found left
     → None ≡ parameters_at order bytes
 unfolding parameters_from
 ends_at_invalid order bytes found left id value rest e other noted on = step on.fuel on.enough on.same
   where
-    step : (fuel : ℕ) → length left < fuel → parameters_from fuel order found left ≡ parameters_at order bytes → None ≡ parameters_at order bytes
+    step : (fuel : ℕ) → length left < fuel → parameters_from fuel order found left ≡ parameters_at order bytes
+        → None ≡ parameters_at order bytes
     step zero lt same = absurd (omega arith)
     step (suc fuel) lt same =
         let no : eqb id 1 ≡ false = ne_eqb id 1 other in

@@ -29,16 +29,20 @@ one_more : (front : List ℕ) (w : ℕ) (read : Option (List ℕ × List ℕ))
 one_more front w None = refl
 one_more front w (Some x) = ap (λ (z : List ℕ). Some (z, x.1)) (append_assoc front (w ∷ []) x.0)
 
-pub words_step : (order : Endianness) (front : List ℕ) (n i w : ℕ) (rest after : List ℕ) (total : Option (List ℕ × List ℕ)) → i < n
+pub words_step : (order : Endianness) (front : List ℕ) (n i w : ℕ) (rest after : List ℕ)
+    (total : Option (List ℕ × List ℕ)) → i < n
     → number_at order w32 rest ≡ Some (w, after)
-    → with_front front (words_at order (n - i) rest) ≡ total → with_front (front ++ w ∷ []) (words_at order (n - (i + 1)) after) ≡ total
+    → with_front front (words_at order (n - i) rest) ≡ total
+    → with_front (front ++ w ∷ []) (words_at order (n - (i + 1)) after) ≡ total
 unfolding words_at
 words_step order front n i w rest after total lt e so_far =
     let k : n - i ≡ suc (n - (i + 1)) = omega arith in
-    let one : with_front front (words_at order (n - i) rest) ≡ with_front front (words_at order (n - (i + 1)) after >>= λ ws. Some (w ∷ ws.0, ws.1)) = rw (k, e) refl in
+    let one : with_front front (words_at order (n - i) rest)
+    ≡ with_front front (words_at order (n - (i + 1)) after >>= λ ws. Some (w ∷ ws.0, ws.1)) = rw (k, e) refl in
     one_more front w (words_at order (n - (i + 1)) after) ∙ sym one ∙ so_far
 
-pub words_fail : (order : Endianness) (front : List ℕ) (n i : ℕ) (rest : List ℕ) (total : Option (List ℕ × List ℕ)) → i < n → number_at order w32 rest ≡ None
+pub words_fail : (order : Endianness) (front : List ℕ) (n i : ℕ) (rest : List ℕ) (total : Option (List ℕ × List ℕ))
+    → i < n → number_at order w32 rest ≡ None
     → with_front front (words_at order (n - i) rest) ≡ total → None ≡ total
 unfolding words_at
 words_fail order front n i rest total lt e so_far =
@@ -50,26 +54,36 @@ pub words_start : (read : Option (List ℕ × List ℕ)) → with_front [] read 
 words_start None = refl
 words_start (Some x) = refl
 
-pub words_done : (order : Endianness) (front : List ℕ) (n i : ℕ) (rest : List ℕ) (total : Option (List ℕ × List ℕ)) → n ≤ i
+pub words_done : (order : Endianness) (front : List ℕ) (n i : ℕ) (rest : List ℕ) (total : Option (List ℕ × List ℕ))
+    → n ≤ i
     → with_front front (words_at order (n - i) rest) ≡ total → Some (front, rest) ≡ total
 unfolding words_at
 words_done order front n i rest total le so_far =
     let k : n - i ≡ 0 = omega arith in
-    let one : with_front front (words_at order (n - i) rest) ≡ Some (front, rest) = rw k (ap (λ (z : List ℕ). Some (z, rest)) (append-nil front)) in
+    let one : with_front front (words_at order (n - i) rest) ≡ Some (front, rest) =
+    rw k (ap (λ (z : List ℕ). Some (z, rest)) (append-nil front)) in
     sym one ∙ so_far
 
-words_takes : (order : Endianness) (n : ℕ) (bytes ws rest : List ℕ) → AreOctets bytes → words_at order n bytes ≡ Some (ws, rest)
+words_takes : (order : Endianness) (n : ℕ) (bytes ws rest : List ℕ) → AreOctets bytes
+    → words_at order n bytes ≡ Some (ws, rest)
     → Takes bytes (flat_map (number order w32) ws) rest × ((length ws ≡ n) × AllByRecursion (λ w. w < 2 ^ 32) ws)
 unfolding words_at
-words_takes order zero bytes ws rest octets e = subst (λ (p : List ℕ × List ℕ). Takes bytes (flat_map (number order w32) p.0) p.1 × ((length p.0 ≡ 0) × AllByRecursion (λ w. w < 2 ^ 32) p.0)) (some_is ([], bytes) (ws, rest) e) (record { parts = refl; octets = octets }, (refl, tt))
+words_takes order zero bytes ws rest octets e =
+    subst (λ (p : List ℕ × List ℕ). Takes bytes (flat_map (number order w32) p.0) p.1
+    × ((length p.0 ≡ 0) × AllByRecursion (λ w. w < 2 ^ 32) p.0)) (some_is ([], bytes) (ws, rest) e)
+    (record { parts = refl; octets = octets }, (refl, tt))
 words_takes order (suc n) bytes ws rest octets e =
-    option_and_then_some (λ w. words_at order n w.1 >>= λ vs. Some (w.0 ∷ vs.0, vs.1)) (number_at order w32 bytes) (ws, rest) e (λ w q r.
+    option_and_then_some (λ w. words_at order n w.1 >>= λ vs. Some (w.0 ∷ vs.0, vs.1)) (number_at order w32 bytes)
+    (ws, rest) e (λ w q r.
     let t = (field_u32 order).takes bytes w.0 w.1 octets q in
     option_and_then_some (λ vs. Some (w.0 ∷ vs.0, vs.1)) (words_at order n w.1) (ws, rest) r (λ vs q2 r2.
     let u = words_takes order n w.1 vs.0 vs.1 t.0.octets q2 in
     let made : List ℕ × List ℕ = (w.0 ∷ vs.0, vs.1) in
-    subst (λ (p : List ℕ × List ℕ). Takes bytes (flat_map (number order w32) p.0) p.1 × ((length p.0 ≡ suc n) × AllByRecursion (λ w. w < 2 ^ 32) p.0)) (some_is made (ws, rest) r2)
-    (Takes-then bytes (number order w32 w.0) w.1 (flat_map (number order w32) vs.0) vs.1 t.0 u.0, (ap suc u.1.0, (t.1, u.1.1)))))
+    subst (λ (p : List ℕ × List ℕ). Takes bytes (flat_map (number order w32) p.0) p.1
+    × ((length p.0 ≡ suc n) × AllByRecursion (λ w. w < 2 ^ 32) p.0)) (some_is made (ws, rest) r2) (
+      Takes-then bytes (number order w32 w.0) w.1 (flat_map (number order w32) vs.0) vs.1 t.0 u.0,
+      (ap suc u.1.0, (t.1, u.1.1)),
+    )))
 
 words_again : (order : Endianness) (n : ℕ) (ws rest : List ℕ) → (length ws ≡ n) × AllByRecursion (λ w. w < 2 ^ 32) ws
     → words_at order n (flat_map (number order w32) ws ++ rest) ≡ Some (ws, rest)
@@ -79,35 +93,50 @@ words_again order zero (w ∷ ws) rest fits = absurd (omega (arith, fits.0))
 words_again order (suc n) [] rest fits = absurd (omega (arith, fits.0))
 words_again order (suc n) (w ∷ ws) rest fits =
     ap (words_at order (suc n)) (append_assoc (number order w32 w) (flat_map (number order w32) ws) rest)
-    ∙ rw ((field_u32 order).again w (flat_map (number order w32) ws ++ rest) fits.1.0, words_again order n ws rest (omega (arith, fits.0), fits.1.1)) refl
+    ∙ rw (
+      (field_u32 order).again w (flat_map (number order w32) ws ++ rest) fits.1.0,
+      words_again order n ws rest
+          (omega (arith, fits.0), fits.1.1),
+    ) refl
 
-set_field_takes : (order : Endianness) (bytes : List ℕ) (r : SetField) (rest : List ℕ) → AreOctets bytes → set_field_at order bytes ≡ Some (r, rest)
+set_field_takes : (order : Endianness) (bytes : List ℕ) (r : SetField) (rest : List ℕ) → AreOctets bytes
+    → set_field_at order bytes ≡ Some (r, rest)
     → Takes bytes (set_text order r) rest × IsSetField r
 unfolding set_field_at
 set_field_takes order bytes r rest octets e =
-    option_and_then_some (λ b. number_at order w32 b.1 >>= λ c. cond (ltb b.0 1 || ltb 256 c.0) None (words_at order (words_for c.0) c.1) >>= λ w. Some (record { base = b.0; num_bits = c.0; words = w.0 }, w.1)) (sn_at order bytes) (r, rest) e (λ b q1 e1.
+    option_and_then_some (λ b. number_at order w32 b.1 >>= λ c. cond (ltb b.0 1 || ltb 256 c.0) None
+    (words_at order (words_for c.0) c.1) >>= λ w. Some (record { base = b.0; num_bits = c.0; words = w.0 }, w.1))
+    (sn_at order bytes) (r, rest) e (λ b q1 e1.
     let t0 = (field_sn order).takes bytes b.0 b.1 octets q1 in
-    option_and_then_some (λ c. cond (ltb b.0 1 || ltb 256 c.0) None (words_at order (words_for c.0) c.1) >>= λ w. Some (record { base = b.0; num_bits = c.0; words = w.0 }, w.1)) (number_at order w32 b.1) (r, rest) e1 (λ c q2 e2.
+    option_and_then_some (λ c. cond (ltb b.0 1 || ltb 256 c.0) None (words_at order (words_for c.0) c.1) >>= λ w. Some
+    (record { base = b.0; num_bits = c.0; words = w.0 }, w.1)) (number_at order w32 b.1) (r, rest) e1 (λ c q2 e2.
     let t1 = (field_u32 order).takes b.1 c.0 c.1 t0.0.octets q2 in
-    option_and_then_some (λ w. Some (record { base = b.0; num_bits = c.0; words = w.0 }, w.1)) (cond (ltb b.0 1 || ltb 256 c.0) None (words_at order (words_for c.0) c.1)) (r, rest) e2 (λ w q3 e3.
+    option_and_then_some (λ w. Some (record { base = b.0; num_bits = c.0; words = w.0 }, w.1))
+    (cond (ltb b.0 1 || ltb 256 c.0) None (words_at order (words_for c.0) c.1)) (r, rest) e2 (λ w q3 e3.
     let g = guard_some (ltb b.0 1 || ltb 256 c.0) (words_at order (words_for c.0) c.1) w q3 in
     let n = neither (ltb b.0 1) (ltb 256 c.0) g.0 in
     let t2 = words_takes order (words_for c.0) c.1 w.0 w.1 t1.0.octets g.1 in
     let made : SetField × List ℕ = (record { base = b.0; num_bits = c.0; words = w.0 }, w.1) in
     subst (λ (p : SetField × List ℕ). Takes bytes (set_text order p.0) p.1 × IsSetField p.0) (some_is made (r, rest) e3) (
-      Takes-then bytes (sn_text order b.0 ++ number order w32 c.0) c.1 (flat_map (number order w32) w.0) w.1 (Takes-then bytes (sn_text order b.0) b.1 (number order w32 c.0) c.1 t0.0 t1.0) t2.0,
+      Takes-then bytes (sn_text order b.0 ++ number order w32 c.0) c.1 (flat_map (number order w32) w.0) w.1
+          (Takes-then bytes (sn_text order b.0) b.1 (number order w32 c.0) c.1 t0.0 t1.0) t2.0,
       record { first = ltb-false _ _ n.0; small = t0.1; few = ltb-false _ _ n.1; enough = t2.1.0; each = t2.1.1 },
     ))))
 
-set_field_again : (order : Endianness) (r : SetField) (rest : List ℕ) → IsSetField r → set_field_at order (set_text order r ++ rest) ≡ Some (r, rest)
+set_field_again : (order : Endianness) (r : SetField) (rest : List ℕ) → IsSetField r
+    → set_field_at order (set_text order r ++ rest) ≡ Some (r, rest)
 unfolding set_field_at
 set_field_again order r rest fits =
     let early : ltb r.base 1 ≡ false = le-ltb _ _ fits.first in
     let many : ltb 256 r.num_bits ≡ false = le-ltb _ _ fits.few in
     let small : r.num_bits < 2 ^ 32 = omega (arith, fits.few) in
-    ap (set_field_at order) (append_assoc (sn_text order r.base ++ number order w32 r.num_bits) (flat_map (number order w32) r.words) rest ∙ append_assoc (sn_text order r.base) (number order w32 r.num_bits) (flat_map (number order w32) r.words ++ rest))
+    ap (set_field_at order) (append_assoc (sn_text order r.base ++ number order w32 r.num_bits)
+    (flat_map (number order w32) r.words) rest
+    ∙ append_assoc (sn_text order r.base) (number order w32 r.num_bits)
+    (flat_map (number order w32) r.words ++ rest))
     ∙ rw (
-      (field_sn order).again r.base (number order w32 r.num_bits ++ (flat_map (number order w32) r.words ++ rest)) fits.small,
+      (field_sn order).again r.base (number order w32 r.num_bits ++ (flat_map (number order w32) r.words ++ rest))
+          fits.small,
       (field_u32 order).again r.num_bits (flat_map (number order w32) r.words ++ rest) small,
       early,
       many,
@@ -132,9 +161,11 @@ bits_at (suc n) (suc k) w lt = let e : suc n - 1 - suc k ≡ n - 1 - k = omega a
 
 pub flags_length : (ws : List ℕ) → length (flat_map word_bits ws) ≡ 32 * length ws
 flags_length [] = refl
-flags_length (w ∷ ws) = omega (arith, length-append (word_bits w) (flat_map word_bits ws), bits_length 32 w, flags_length ws)
+flags_length (w ∷ ws) =
+    omega (arith, length-append (word_bits w) (flat_map word_bits ws), bits_length 32 w, flags_length ws)
 
-pub flag_at : (ws : List ℕ) (i : ℕ) → i < 32 * length ws → get_or (flat_map word_bits ws) i false ≡ eqb (bit_and (get_or ws (i / 32) 0 / 2 ^ (31 - i % 32)) 1) 1
+pub flag_at : (ws : List ℕ) (i : ℕ) → i < 32 * length ws
+    → get_or (flat_map word_bits ws) i false ≡ eqb (bit_and (get_or ws (i / 32) 0 / 2 ^ (31 - i % 32)) 1) 1
 flag_at [] i lt = absurd (omega arith)
 flag_at (w ∷ ws) i lt =
     let len = bits_length 32 w in
@@ -142,31 +173,42 @@ flag_at (w ∷ ws) i lt =
       | inl below ↦
           let q : i / 32 ≡ 0 = omega arith in
           let r : 31 - i % 32 ≡ 32 - 1 - i = omega arith in
-          get_or_append_left (word_bits w) (flat_map word_bits ws) false i (omega arith) ∙ rw (q, r) (bits_at 32 i w below)
+          get_or_append_left (word_bits w) (flat_map word_bits ws) false i (omega arith)
+          ∙ rw (q, r) (bits_at 32 i w below)
       | inr above ↦
           let j : i ≡ length (word_bits w) + (i - 32) = omega arith in
           let q : i / 32 ≡ suc ((i - 32) / 32) = omega arith in
           let r : i % 32 ≡ (i - 32) % 32 = omega arith in
-          ap (λ (k : ℕ). get_or (word_bits w ++ flat_map word_bits ws) k false) j ∙ get_or-append-add (word_bits w) (flat_map word_bits ws) (i - 32) false ∙ rw (q, r) (flag_at ws (i - 32) (omega arith))
+          ap (λ (k : ℕ). get_or (word_bits w ++ flat_map word_bits ws) k false) j
+          ∙ get_or-append-add (word_bits w) (flat_map word_bits ws) (i - 32) false
+          ∙ rw (q, r) (flag_at ws (i - 32) (omega arith))
     ]
 
 -- the first i flags, and false in the other places
 abbrev pub filled : List Bool → ℕ → List Bool
 filled bits i = take i bits ++ replicate (256 - i) false
 
-pub filled_true : (bits : List Bool) (i : ℕ) → i < length bits → i < 256 → get_or bits i false ≡ true → set (filled bits i) i true ≡ filled bits (i + 1)
+pub filled_true : (bits : List Bool) (i : ℕ) → i < length bits → i < 256 → get_or bits i false ≡ true
+    → set (filled bits i) i true ≡ filled bits (i + 1)
 filled_true bits i lt small e =
     let k : 256 - i ≡ suc (256 - (i + 1)) = omega arith in
     let one : filled bits i ≡ take i bits ++ false ∷ replicate (256 - (i + 1)) false = rw k refl in
-    let more : take (i + 1) bits ≡ take i bits ++ true ∷ [] = take_more bits i false lt ∙ ap (λ (b : Bool). take i bits ++ b ∷ []) e in
-    ap (λ (z : List Bool). set z i true) one ∙ set_in (take i bits) false (replicate (256 - (i + 1)) false) true i (length-take-le i bits (omega arith)) ∙ sym (append_assoc (take i bits) (true ∷ []) (replicate (256 - (i + 1)) false)) ∙ ap (λ (z : List Bool). z ++ replicate (256 - (i + 1)) false) (sym more)
+    let more : take (i + 1) bits ≡ take i bits ++ true ∷ [] =
+    take_more bits i false lt ∙ ap (λ (b : Bool). take i bits ++ b ∷ []) e in
+    ap (λ (z : List Bool). set z i true) one
+    ∙ set_in (take i bits) false (replicate (256 - (i + 1)) false) true i (length-take-le i bits (omega arith))
+    ∙ sym (append_assoc (take i bits) (true ∷ []) (replicate (256 - (i + 1)) false))
+    ∙ ap (λ (z : List Bool). z ++ replicate (256 - (i + 1)) false) (sym more)
 
-pub filled_false : (bits : List Bool) (i : ℕ) → i < length bits → i < 256 → get_or bits i false ≡ false → filled bits i ≡ filled bits (i + 1)
+pub filled_false : (bits : List Bool) (i : ℕ) → i < length bits → i < 256 → get_or bits i false ≡ false
+    → filled bits i ≡ filled bits (i + 1)
 filled_false bits i lt small e =
     let k : 256 - i ≡ suc (256 - (i + 1)) = omega arith in
     let one : filled bits i ≡ take i bits ++ false ∷ replicate (256 - (i + 1)) false = rw k refl in
-    let more : take (i + 1) bits ≡ take i bits ++ false ∷ [] = take_more bits i false lt ∙ ap (λ (b : Bool). take i bits ++ b ∷ []) e in
-    one ∙ sym (append_assoc (take i bits) (false ∷ []) (replicate (256 - (i + 1)) false)) ∙ ap (λ (z : List Bool). z ++ replicate (256 - (i + 1)) false) (sym more)
+    let more : take (i + 1) bits ≡ take i bits ++ false ∷ [] =
+    take_more bits i false lt ∙ ap (λ (b : Bool). take i bits ++ b ∷ []) e in
+    one ∙ sym (append_assoc (take i bits) (false ∷ []) (replicate (256 - (i + 1)) false))
+    ∙ ap (λ (z : List Bool). z ++ replicate (256 - (i + 1)) false) (sym more)
 
 -- ---- a set
 
@@ -174,15 +216,20 @@ pub record TakesSet (order : Endianness) (bytes : List ℕ) (x : NumberSet × Li
   pub reads : ReadsSet order bytes x.0 x.1
   pub octets : AreOctets x.1
 
-pub set_found : (order : Endianness) (bytes : List ℕ) (x : NumberSet × List ℕ) → AreOctets bytes → set_at order bytes ≡ Some x → TakesSet order bytes x
+pub set_found : (order : Endianness) (bytes : List ℕ) (x : NumberSet × List ℕ) → AreOctets bytes
+    → set_at order bytes ≡ Some x → TakesSet order bytes x
 unfolding set_at
-set_found order bytes x octets e = option_and_then_some (λ r. Some (set_of r.0, r.1)) (set_field_at order bytes) x e (λ r q p.
+set_found order bytes x octets e =
+    option_and_then_some (λ r. Some (set_of r.0, r.1)) (set_field_at order bytes) x e (λ r q p.
     let t = set_field_takes order bytes r.0 r.1 octets q in
     subst (λ (y : NumberSet × List ℕ). TakesSet order bytes y) (some_is (set_of r.0, r.1) x p) (record {
       reads = record { field = r.0; valid = t.1; text = t.0.parts; set = refl };
       octets = t.0.octets;
     }))
 
-pub set_only : (order : Endianness) (bytes : List ℕ) (s : NumberSet) (rest : List ℕ) → ReadsSet order bytes s rest → set_at order bytes ≡ Some (s, rest)
+pub set_only : (order : Endianness) (bytes : List ℕ) (s : NumberSet) (rest : List ℕ) → ReadsSet order bytes s rest
+    → set_at order bytes ≡ Some (s, rest)
 unfolding set_at
-set_only order bytes s rest r = ap (set_at order) r.text ∙ rw (set_field_again order r.field rest r.valid) (ap (λ (z : NumberSet). Some (z, rest)) (sym r.set))
+set_only order bytes s rest r =
+    ap (set_at order) r.text ∙ rw (set_field_again order r.field rest r.valid)
+    (ap (λ (z : NumberSet). Some (z, rest)) (sym r.set))

@@ -20,8 +20,10 @@ bit_of_mod : (w n m : ℕ) → m < n → bit_and (w % 2 ^ n / 2 ^ m) 1 ≡ bit_a
 bit_of_mod w n m lt =
     let x = w / 2 ^ m in
     let k : n ≡ (n - 1 - m + 1) + m = omega arith in
-    let cut : w % 2 ^ n / 2 ^ m ≡ w / 2 ^ m % 2 ^ (n - 1 - m + 1) = ap (λ (e : ℕ). w % 2 ^ e / 2 ^ m) k ∙ field_of w (n - 1 - m + 1) m in
-    let two : w / 2 ^ m % 2 ^ (n - 1 - m + 1) ≡ (w / 2 ^ m / 2 ^ 1 % 2 ^ (n - 1 - m)) * 2 ^ 1 + w / 2 ^ m % 2 ^ 1 = mod-pow-add (w / 2 ^ m) (n - 1 - m) 1 in
+    let cut : w % 2 ^ n / 2 ^ m ≡ w / 2 ^ m % 2 ^ (n - 1 - m + 1) =
+    ap (λ (e : ℕ). w % 2 ^ e / 2 ^ m) k ∙ field_of w (n - 1 - m + 1) m in
+    let two : w / 2 ^ m % 2 ^ (n - 1 - m + 1) ≡ (w / 2 ^ m / 2 ^ 1 % 2 ^ (n - 1 - m)) * 2 ^ 1 + w / 2 ^ m % 2 ^ 1 =
+    mod-pow-add (w / 2 ^ m) (n - 1 - m) 1 in
     let same : (w % 2 ^ n / 2 ^ m) % 2 ≡ (w / 2 ^ m) % 2 = omega (arith, cut, two) in
     and_mask (w % 2 ^ n / 2 ^ m) 1 ∙ same ∙ sym (and_mask (w / 2 ^ m) 1)
 
@@ -33,7 +35,8 @@ bits_of_mod (suc k) n w le = rw (bit_of_mod w n k (omega arith), bits_of_mod k n
 pub word_below : (n : ℕ) (fs : List Bool) → word_of n fs < 2 ^ n
 unfolding word_of
 word_below zero fs = omega arith
-word_below (suc n) fs = doubled (get_or fs 0 false) (2 ^ n) (word_of n (drop 1 fs)) (2 ^ suc n) (pow-suc 2 n) (word_below n (drop 1 fs))
+word_below (suc n) fs =
+    doubled (get_or fs 0 false) (2 ^ n) (word_of n (drop 1 fs)) (2 ^ suc n) (pow-suc 2 n) (word_below n (drop 1 fs))
   where
     doubled : (b : Bool) (p r q : ℕ) → q ≡ p * 2 → r < p → cond b p 0 + r < q
     doubled true p r q e lt = omega arith
@@ -64,7 +67,8 @@ bits_word (suc n) fs =
     let r = word_of n (drop 1 fs) in
     let lt = word_below n (drop 1 fs) in
     let low : bits_below n (cond (get_or fs 0 false) (2 ^ n) 0 + word_of n (drop 1 fs)) ≡ front n (drop 1 fs) =
-    sym (bits_of_mod n n (cond (get_or fs 0 false) (2 ^ n) 0 + word_of n (drop 1 fs)) (omega arith)) ∙ ap (bits_below n) (low_bits (get_or fs 0 false) n (word_of n (drop 1 fs)) lt) ∙ bits_word n (drop 1 fs) in
+    sym (bits_of_mod n n (cond (get_or fs 0 false) (2 ^ n) 0 + word_of n (drop 1 fs)) (omega arith))
+    ∙ ap (bits_below n) (low_bits (get_or fs 0 false) n (word_of n (drop 1 fs)) lt) ∙ bits_word n (drop 1 fs) in
     rw (top_bit (get_or fs 0 false) n (word_of n (drop 1 fs)) lt, low) refl
 
 -- ---- all the words
@@ -86,13 +90,16 @@ unfolding words_of
 words_bits zero fs = refl
 words_bits (suc k) fs =
     let e : 32 * suc k ≡ 32 + 32 * k = omega arith in
-    ap (λ (z : List Bool). z ++ flat_map word_bits (words_of k (drop 32 fs))) (bits_word 32 fs) ∙ ap (λ (z : List Bool). front 32 fs ++ z) (words_bits k (drop 32 fs)) ∙ sym (front_append 32 (32 * k) fs) ∙ ap (λ (n : ℕ). front n fs) (sym e)
+    ap (λ (z : List Bool). z ++ flat_map word_bits (words_of k (drop 32 fs))) (bits_word 32 fs)
+    ∙ ap (λ (z : List Bool). front 32 fs ++ z) (words_bits k (drop 32 fs)) ∙ sym (front_append 32 (32 * k) fs)
+    ∙ ap (λ (n : ℕ). front n fs) (sym e)
 
 take_front : (i n : ℕ) (fs : List Bool) → i ≤ n → i ≤ length fs → take i (front n fs) ≡ take i fs
 take_front zero n fs le long = refl
 take_front (suc i) zero fs le long = absurd (omega arith)
 take_front (suc i) (suc n) [] le long = absurd (omega arith)
-take_front (suc i) (suc n) (x ∷ fs) le long = ap (λ (z : List Bool). x ∷ z) (take_front i n fs (omega arith) (omega arith))
+take_front (suc i) (suc n) (x ∷ fs) le long =
+    ap (λ (z : List Bool). x ∷ z) (take_front i n fs (omega arith) (omega arith))
 
 pub words_len : (k : ℕ) (fs : List Bool) → length (words_of k fs) ≡ k
 unfolding words_of
@@ -105,17 +112,29 @@ words_small zero fs = tt
 words_small (suc k) fs = (word_below 32 fs, words_small k (drop 32 fs))
 
 pub set_field_valid : (s : NumberSet) → IsSet s → IsSetField (set_field_of s)
-set_field_valid s valid = record { first = valid.first; small = valid.small; few = omega (arith, span_le s.members, valid.places); enough = words_len (words_for (span s.members)) s.members; each = words_small (words_for (span s.members)) s.members }
+set_field_valid s valid =
+    record {
+      first = valid.first;
+      small = valid.small;
+      few = omega (arith, span_le s.members, valid.places);
+      enough = words_len (words_for (span s.members)) s.members;
+      each = words_small (words_for (span s.members)) s.members;
+    }
 
 pub set_again : (s : NumberSet) → IsSet s → s ≡ set_of (set_field_of s)
 unfolding set_of
 set_again s valid =
     let n = span s.members in
     let le : span s.members ≤ 32 * words_for (span s.members) = omega arith in
-    let front-is : take (span s.members) (flat_map word_bits (words_of (words_for (span s.members)) s.members)) ≡ take (span s.members) s.members =
-    ap (take (span s.members)) (words_bits (words_for (span s.members)) s.members) ∙ take_front (span s.members) (32 * words_for (span s.members)) s.members le (span_le s.members) in
-    let all : s.members ≡ take (span s.members) (flat_map word_bits (words_of (words_for (span s.members)) s.members)) ++ replicate (256 - span s.members) false =
-    span_all s.members ∙ ap (λ (m : ℕ). take (span s.members) s.members ++ replicate (m - span s.members) false) valid.places ∙ ap (λ (z : List Bool). z ++ replicate (256 - span s.members) false) (sym front-is) in
+    let front-is : take (span s.members) (flat_map word_bits (words_of (words_for (span s.members)) s.members))
+    ≡ take (span s.members) s.members =
+    ap (take (span s.members)) (words_bits (words_for (span s.members)) s.members)
+    ∙ take_front (span s.members) (32 * words_for (span s.members)) s.members le (span_le s.members) in
+    let all : s.members ≡ take (span s.members) (flat_map word_bits (words_of (words_for (span s.members)) s.members))
+    ++ replicate (256 - span s.members) false =
+    span_all s.members
+    ∙ ap (λ (m : ℕ). take (span s.members) s.members ++ replicate (m - span s.members) false) valid.places
+    ∙ ap (λ (z : List Bool). z ++ replicate (256 - span s.members) false) (sym front-is) in
     ap (λ (f : List Bool). record { base = s.base; members = f }) all
 
 -- ---- writing
@@ -127,7 +146,8 @@ has_at s p k =
     rw (le, e) refl
 
 more : (fs : List Bool) (p k : ℕ) → k < 32
-    → word_of (32 - k) (drop (p + k) fs) ≡ cond (get_or fs (p + k) false) (2 ^ (31 - k)) 0 + word_of (32 - (k + 1)) (drop (p + (k + 1)) fs)
+    → word_of (32 - k) (drop (p + k) fs) ≡ cond (get_or fs (p + k) false) (2 ^ (31 - k)) 0 + word_of (32 - (k + 1))
+    (drop (p + (k + 1)) fs)
 unfolding word_of
 more fs p k lt =
     let e : 32 - k ≡ suc (31 - k) = omega arith in
@@ -153,13 +173,18 @@ word_end fs k word total le so_far =
 
 pub words_step : (out : List ℕ) (fs : List Bool) (n j : ℕ) (total : List ℕ) → j < n
     → out ++ flat_map (number Little w32) (words_of (n - j) (drop (32 * j) fs)) ≡ total
-    → (out ++ number Little w32 (word_of 32 (drop (32 * j) fs))) ++ flat_map (number Little w32) (words_of (n - (j + 1)) (drop (32 * (j + 1)) fs)) ≡ total
+    → (out ++ number Little w32 (word_of 32 (drop (32 * j) fs)))
+    ++ flat_map (number Little w32) (words_of (n - (j + 1)) (drop (32 * (j + 1)) fs)) ≡ total
 unfolding words_of
 words_step out fs n j total lt so_far =
     let e : n - j ≡ suc (n - (j + 1)) = omega arith in
     let g : 32 * j + 32 ≡ 32 * (j + 1) = omega arith in
-    let one : words_of (n - j) (drop (32 * j) fs) ≡ word_of 32 (drop (32 * j) fs) ∷ words_of (n - (j + 1)) (drop (32 * (j + 1)) fs) = rw e (ap (λ (z : List Bool). word_of 32 (drop (32 * j) fs) ∷ words_of (n - (j + 1)) z) (drop-drop 32 (32 * j) fs ∙ ap (λ (m : ℕ). drop m fs) g)) in
-    append_assoc out (number Little w32 (word_of 32 (drop (32 * j) fs))) (flat_map (number Little w32) (words_of (n - (j + 1)) (drop (32 * (j + 1)) fs)))
+    let one : words_of (n - j) (drop (32 * j) fs)
+    ≡ word_of 32 (drop (32 * j) fs) ∷ words_of (n - (j + 1)) (drop (32 * (j + 1)) fs) = rw e
+    (ap (λ (z : List Bool). word_of 32 (drop (32 * j) fs) ∷ words_of (n - (j + 1)) z)
+    (drop-drop 32 (32 * j) fs ∙ ap (λ (m : ℕ). drop m fs) g)) in
+    append_assoc out (number Little w32 (word_of 32 (drop (32 * j) fs)))
+    (flat_map (number Little w32) (words_of (n - (j + 1)) (drop (32 * (j + 1)) fs)))
     ∙ ap (λ (z : List ℕ). out ++ flat_map (number Little w32) z) (sym one) ∙ so_far
 
 pub words_end : (out : List ℕ) (fs : List Bool) (n j : ℕ) (total : List ℕ) → n ≤ j
@@ -172,13 +197,23 @@ words_end out fs n j total le so_far =
 
 octets_len : (ws : List ℕ) → length (flat_map (number Little w32) ws) ≡ 4 * length ws
 octets_len [] = refl
-octets_len (w ∷ ws) = omega (arith, length-append (number Little w32 w) (flat_map (number Little w32) ws), octets_len ws)
+octets_len (w ∷ ws) =
+    omega (arith, length-append (number Little w32 w) (flat_map (number Little w32) ws), octets_len ws)
 
 pub text_of_set_len : (s : NumberSet) → length (set_text Little (set_field_of s)) ≡ 12 + 4 * words_for (span s.members)
-text_of_set_len s = omega (arith, length-append (sn_text Little s.base ++ number Little w32 (span s.members)) (flat_map (number Little w32) (words_of (words_for (span s.members)) s.members)), octets_len (words_of (words_for (span s.members)) s.members), words_len (words_for (span s.members)) s.members)
+text_of_set_len s =
+    omega (
+      arith,
+      length-append (sn_text Little s.base ++ number Little w32 (span s.members))
+          (flat_map (number Little w32) (words_of (words_for (span s.members)) s.members)),
+      octets_len
+          (words_of (words_for (span s.members)) s.members),
+      words_len (words_for (span s.members)) s.members,
+    )
 
 -- the parts of a set, put one after another
-pub set_parts : (s : NumberSet) (o u b e p : List ℕ) (base n : ℕ) → base ≡ s.base → n ≡ span s.members → u ≡ o ++ sn_text Little base
+pub set_parts : (s : NumberSet) (o u b e p : List ℕ) (base n : ℕ) → base ≡ s.base → n ≡ span s.members
+    → u ≡ o ++ sn_text Little base
     → b ≡ number Little w32 n → e ≡ u ++ b → p ≡ e ++ flat_map (number Little w32) (words_of (words_for n) s.members)
     → p ≡ o ++ set_text Little (set_field_of s)
 set_parts s o u b e p base n hb hn hu ho he hp =
@@ -187,9 +222,14 @@ set_parts s o u b e p base n hb hn hu ho he hp =
     let tail = flat_map (number Little w32) (words_of (words_for (span s.members)) s.members) in
     let u' : u ≡ o ++ sn_text Little s.base = hu ∙ ap (λ (x : ℕ). o ++ sn_text Little x) hb in
     let b' : b ≡ number Little w32 (span s.members) = ho ∙ ap (number Little w32) hn in
-    let e' : e ≡ (o ++ sn_text Little s.base) ++ number Little w32 (span s.members) = he ∙ ap (λ (x : List ℕ). x ++ b) u' ∙ ap (λ (x : List ℕ). (o ++ sn_text Little s.base) ++ x) b' in
-    let p' : p ≡ ((o ++ sn_text Little s.base) ++ number Little w32 (span s.members)) ++ flat_map (number Little w32) (words_of (words_for (span s.members)) s.members) = hp ∙ ap (λ (x : ℕ). e ++ flat_map (number Little w32) (words_of (words_for x) s.members)) hn ∙ ap (λ (x : List ℕ). x ++ flat_map (number Little w32) (words_of (words_for (span s.members)) s.members)) e' in
-    p' ∙ append_assoc (o ++ head) mid tail ∙ append_assoc o head (mid ++ tail) ∙ ap (λ (x : List ℕ). o ++ x) (sym (append_assoc head mid tail))
+    let e' : e ≡ (o ++ sn_text Little s.base) ++ number Little w32 (span s.members) =
+    he ∙ ap (λ (x : List ℕ). x ++ b) u' ∙ ap (λ (x : List ℕ). (o ++ sn_text Little s.base) ++ x) b' in
+    let p' : p ≡ ((o ++ sn_text Little s.base) ++ number Little w32 (span s.members))
+    ++ flat_map (number Little w32) (words_of (words_for (span s.members)) s.members) = hp
+    ∙ ap (λ (x : ℕ). e ++ flat_map (number Little w32) (words_of (words_for x) s.members)) hn
+    ∙ ap (λ (x : List ℕ). x ++ flat_map (number Little w32) (words_of (words_for (span s.members)) s.members)) e' in
+    p' ∙ append_assoc (o ++ head) mid tail ∙ append_assoc o head (mid ++ tail)
+    ∙ ap (λ (x : List ℕ). o ++ x) (sym (append_assoc head mid tail))
 
 pub acknack_parts : (o ids s n a d p : List ℕ)
     → a ≡ o ++ ids → d ≡ a ++ s → p ≡ d ++ n → p ≡ o ++ (ids ++ (s ++ n))

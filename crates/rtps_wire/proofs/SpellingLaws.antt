@@ -71,11 +71,26 @@ end_parameters status k rest len =
     let sentinel = number Little w16 1 ++ number Little w16 0 in
     let after : List ℕ = parameter_text Little info ++ (sentinel ++ (spelling_of_key k ++ rest)) in (
       after,
-      record { small = omega arith; no_sentinel = λ e. omega (arith, e); short = omega (arith, len); whole = rw len refl; key_hash = λ e. len; status = λ e. omega (arith, e) },
+      record {
+        small = omega arith;
+        no_sentinel = λ e. omega (arith, e);
+        short = omega (arith, len);
+        whole = rw len
+            refl;
+        key_hash = λ e. len;
+        status = λ e. omega (arith, e);
+      },
       regroup (parameter_text Little hash) (parameter_text Little info) sentinel (spelling_of_key k) rest,
       (
         sentinel ++ (spelling_of_key k ++ rest),
-        record { small = omega arith; no_sentinel = λ e. omega (arith, e); short = omega arith; whole = refl; key_hash = λ e. omega (arith, e); status = λ e. refl },
+        record {
+          small = omega arith;
+          no_sentinel = λ e. omega (arith, e);
+          short = omega arith;
+          whole = refl;
+          key_hash = λ e. omega (arith, e);
+          status = λ e. refl;
+        },
         refl,
         (0, omega arith, refl),
       ),
@@ -102,10 +117,12 @@ end_known d zeros status k len says = record {
 }
 
 key_known : (k : Key) (zeros : List ℕ) → length k.0 ≡ 16 → ReadsKey (spelling_of_key k ++ zeros) k
-key_known k zeros len = record { order = Little; options = 0 ∷ 0 ∷ []; rest = zeros; two = refl; text = refl; valid = len }
+key_known k zeros len =
+    record { order = Little; options = 0 ∷ 0 ∷ []; rest = zeros; two = refl; text = refl; valid = len }
 
 content_known : (d : Data) (zeros : List ℕ) (c : DataContent) → d.content ≡ c → IsContent c
-    → ReadsData (content_flags c) (data_head Little 0 16 d.reader_id d.writer_id d.writer_sn ++ (text_of_content c ++ zeros)) d
+    → ReadsData (content_flags c) (data_head Little 0 16 d.reader_id d.writer_id d.writer_sn
+    ++ (text_of_content c ++ zeros)) d
 content_known d zeros (Write x) is valid = record {
   extra = 0;
   skipped = [];
@@ -116,11 +133,27 @@ content_known d zeros (Write x) is valid = record {
   skipped_small = omega arith;
   text = refl;
   inline = (refl, refl);
-  says = rw is ((refl, refl), refl, refl, record { order = Little; options = 0 ∷ 0 ∷ []; rest = zeros; two = refl; text = refl; valid = valid });
+  says =
+      rw is (
+        (refl, refl),
+        refl,
+        refl,
+        record {
+          order = Little;
+          options = 0 ∷ 0
+              ∷ [];
+          rest = zeros;
+          two = refl;
+          text = refl;
+          valid = valid;
+        },
+      );
 }
 content_known d zeros (Dispose k) is valid = end_known d zeros 1 k valid (rw is ((refl, refl), key_known k zeros valid))
-content_known d zeros (Unregister k) is valid = end_known d zeros 2 k valid (rw is ((refl, refl), key_known k zeros valid))
-content_known d zeros (DisposeUnregister k) is valid = end_known d zeros 3 k valid (rw is ((refl, refl), key_known k zeros valid))
+content_known d zeros (Unregister k) is valid =
+    end_known d zeros 2 k valid (rw is ((refl, refl), key_known k zeros valid))
+content_known d zeros (DisposeUnregister k) is valid =
+    end_known d zeros 3 k valid (rw is ((refl, refl), key_known k zeros valid))
 
 standard : (c : DataContent) → has_flag (content_flags c) 16 ≡ false
 standard (Write d) = refl
@@ -132,9 +165,11 @@ standard (DisposeUnregister k) = refl
 
 spelled_known : (s : Submessage) → IsSpellable s → IsKnownKind (id_of s) (flags_of s) (body_of s) s
 spelled_known submessages.Pad valid = record { kind = refl; flags_are = tt; body_is = tt; valid = tt }
-spelled_known (submessages.InfoDst prefix) valid = record { kind = refl; flags_are = tt; body_is = (padding (length prefix.0), refl); valid = valid }
+spelled_known (submessages.InfoDst prefix) valid =
+    record { kind = refl; flags_are = tt; body_is = (padding (length prefix.0), refl); valid = valid }
 spelled_known (submessages.InfoTs None) valid = record { kind = refl; flags_are = refl; body_is = tt; valid = tt }
-spelled_known (submessages.InfoTs (Some n)) valid = record { kind = refl; flags_are = refl; body_is = (padding 8, refl); valid = valid }
+spelled_known (submessages.InfoTs (Some n)) valid =
+    record { kind = refl; flags_are = refl; body_is = (padding 8, refl); valid = valid }
 spelled_known (submessages.Heartbeat h) valid = record {
   kind = refl;
   flags_are = (final_flag h.final_flag h.liveliness_flag, liveliness_flag h.final_flag h.liveliness_flag);
@@ -143,11 +178,14 @@ spelled_known (submessages.Heartbeat h) valid = record {
 }
 spelled_known (submessages.Data d) valid =
     let head = data_head Little 0 16 d.reader_id d.writer_id d.writer_sn in
-    let zeros = padding (length (data_head Little 0 16 d.reader_id d.writer_id d.writer_sn ++ text_of_content d.content)) in
+    let zeros =
+    padding (length (data_head Little 0 16 d.reader_id d.writer_id d.writer_sn ++ text_of_content d.content)) in
     record {
       kind = refl;
       flags_are = standard d.content;
-      body_is = subst (λ (z : List ℕ). ReadsData (content_flags d.content) z d) (sym (append_assoc head (text_of_content d.content) zeros)) (content_known d zeros d.content refl valid.1);
+      body_is =
+          subst (λ (z : List ℕ). ReadsData (content_flags d.content) z d)
+          (sym (append_assoc head (text_of_content d.content) zeros)) (content_known d zeros d.content refl valid.1);
       valid = valid.0;
     }
 spelled_known (submessages.AckNack a) valid =
@@ -163,7 +201,14 @@ spelled_known (submessages.AckNack a) valid =
         from_count = n ++ zeros;
         rest = zeros;
         ids = append_assoc ids (set ++ n) zeros;
-        set = rw (one_little a.final_flag) (record { field = set_field_of a.reader_sn_state; valid = set_field_valid a.reader_sn_state valid.1; text = append_assoc set n zeros; set = set_again a.reader_sn_state valid.1 });
+        set =
+            rw (one_little a.final_flag)
+            (record {
+              field = set_field_of a.reader_sn_state;
+              valid = set_field_valid a.reader_sn_state valid.1;
+              text = append_assoc set n zeros;
+              set = set_again a.reader_sn_state valid.1;
+            });
         count = rw (one_little a.final_flag) refl;
       };
       valid = valid.0;
@@ -179,7 +224,13 @@ spelled_known (submessages.Gap g) valid =
         from_set = set ++ zeros;
         rest = zeros;
         head = append_assoc head set zeros;
-        set = record { field = set_field_of g.gap_list; valid = set_field_valid g.gap_list valid.1; text = refl; set = set_again g.gap_list valid.1 };
+        set =
+            record {
+              field = set_field_of g.gap_list;
+              valid = set_field_valid g.gap_list valid.1;
+              text = refl;
+              set = set_again g.gap_list valid.1;
+            };
       };
       valid = valid.0;
     }
@@ -190,17 +241,39 @@ spelled_known (submessages.Other id) valid = absurd valid
 -- a body is empty only at PAD and INFO_TS
 body_positive : (s : Submessage) → IsSpellable s → ((id_of s ≡ 1) ⊎ (id_of s ≡ 9)) ⊎ (0 < length (body_of s))
 body_positive submessages.Pad valid = inl (inl refl)
-body_positive (submessages.InfoDst prefix) valid = inr (omega (arith, valid, length-append prefix.0 (padding (length prefix.0))))
+body_positive (submessages.InfoDst prefix) valid =
+    inr (omega (arith, valid, length-append prefix.0 (padding (length prefix.0))))
 body_positive (submessages.InfoTs moment) valid = inl (inr refl)
 body_positive (submessages.Heartbeat h) valid =
-    inr (omega (arith, length-append (heartbeat_text Little h) (padding (length (heartbeat_text Little h))), length-append (h.reader_id.0 ++ h.writer_id.0 ++ sn_text Little h.first_sn ++ sn_text Little h.last_sn) (count_text Little h.count)))
+    inr (omega (
+      arith,
+      length-append (heartbeat_text Little h)
+          (padding (length (heartbeat_text Little h))),
+      length-append
+          (h.reader_id.0 ++ h.writer_id.0 ++ sn_text Little h.first_sn ++ sn_text Little h.last_sn)
+          (count_text Little h.count),
+    ))
 body_positive (submessages.Data d) valid = inr (omega arith)
 body_positive (submessages.AckNack a) valid =
     let text = text_of_acknack a in
-    inr (omega (arith, valid.0.reader, length-append text (padding (length text)), length-append (a.reader_id.0 ++ a.writer_id.0) (text_of_set a.reader_sn_state ++ count_text Little a.count), length-append a.reader_id.0 a.writer_id.0))
+    inr (omega (
+      arith,
+      valid.0.reader,
+      length-append text (padding (length text)),
+      length-append
+          (a.reader_id.0 ++ a.writer_id.0)
+          (text_of_set a.reader_sn_state ++ count_text Little a.count),
+      length-append a.reader_id.0 a.writer_id.0,
+    ))
 body_positive (submessages.Gap g) valid =
     let text = gap_head Little g ++ text_of_set g.gap_list in
-    inr (omega (arith, length-append text (padding (length text)), length-append (gap_head Little g) (text_of_set g.gap_list), text_of_set_len g.gap_list))
+    inr (omega (
+      arith,
+      length-append text (padding (length text)),
+      length-append (gap_head Little g)
+          (text_of_set g.gap_list),
+      text_of_set_len g.gap_list,
+    ))
 body_positive (submessages.Other id) valid = absurd valid
 
 stays_within : (s : Submessage) (b : Bool) → IsSpellable s → runs_to_end (id_of s) (length (body_of s)) ≡ b → b ≡ false
@@ -210,7 +283,8 @@ stays_within s true valid e =
     elim (body_positive s valid) [
       | inl ids ↦ elim ids [
         | inl is ↦
-            let no_pad : not (eqb (id_of s) 1) ≡ true = (both_hold (eqb (length (body_of s)) 0) (not (eqb (id_of s) 1)) front.0).1 in
+            let no_pad : not (eqb (id_of s) 1) ≡ true =
+            (both_hold (eqb (length (body_of s)) 0) (not (eqb (id_of s) 1)) front.0).1 in
             let one : false ≡ true = rw is at no_pad in
             absurd cc
         | inr is ↦
@@ -225,14 +299,22 @@ spelled_frame : (s : Submessage) (rest : List ℕ) → IsSpellable s → length 
     → IsFrame (spelling_of_submessage s ++ rest) (id_of s) (flags_of s) (body_of s) rest
 spelled_frame s rest valid lt =
     let len = length (body_of s) in
-    record { len = length (body_of s); small = lt; text = refl; extent = match_false (runs_to_end (id_of s) len) (rest ≡ []) (length (body_of s) ≡ length (body_of s)) (stays_within s (runs_to_end (id_of s) (length (body_of s))) valid refl) refl }
+    record {
+      len = length (body_of s);
+      small = lt;
+      text = refl;
+      extent = match_false (runs_to_end (id_of s) len)
+          (rest ≡ []) (length (body_of s) ≡ length (body_of s))
+          (stays_within s (runs_to_end (id_of s) (length (body_of s))) valid refl) refl;
+    }
 
 body_le : (s : Submessage) → length (body_of s) ≤ length (spelling_of_submessage s)
 body_le s = omega (arith, length-append (number (order_of (flags_of s)) w16 (length (body_of s))) (body_of s))
 
 -- ---- messages
 
-spelled_all : (ss : List Submessage) → AllByRecursion IsSpellable ss → length (flat_map spelling_of_submessage ss) ≤ 65535
+spelled_all : (ss : List Submessage) → AllByRecursion IsSpellable ss
+    → length (flat_map spelling_of_submessage ss) ≤ 65535
     → ReadsAll (flat_map spelling_of_submessage ss) ss []
 spelled_all [] valid short = (inl (omega arith), refl)
 spelled_all (s ∷ ss) valid short =
@@ -249,7 +331,19 @@ spelled_all (s ∷ ss) valid short =
 pub message_again : (m : Message) → IsWritable m → ReadsMessage (spelling_of m) m (length (spelling_of m))
 message_again m w =
     let len = length-append (header_text 5 (0 ∷ 0 ∷ []) m.prefix) (flat_map spelling_of_submessage m.submessages) in
-    record { minor = 5; vendor = 0 ∷ 0 ∷ []; body = flat_map spelling_of_submessage m.submessages; left = []; two = refl; prefix = w.prefix; header = refl; submessages = spelled_all m.submessages w.submessages (omega (arith, w.short)); stop = omega arith; short = w.short }
+    record {
+      minor = 5;
+      vendor = 0 ∷ 0 ∷ [];
+      body = flat_map spelling_of_submessage m.submessages;
+      left = [];
+      two = refl;
+      prefix = w.prefix;
+      header = refl;
+      submessages = spelled_all m.submessages w.submessages
+          (omega (arith, w.short));
+      stop = omega arith;
+      short = w.short;
+    }
 
 -- ---- what the writer asks
 
@@ -264,18 +358,21 @@ spellable_at (x ∷ ss) (suc i) s valid lt e = spellable_at ss i s valid.1 (omeg
 
 -- the submessages up to one take no more than all of them
 front_le : (ss : List Submessage) (i : ℕ) (s : Submessage) → i < length ss → s ≡ get_or ss i s
-    → length (flat_map spelling_of_submessage (take i ss)) + length (spelling_of_submessage s) ≤ length (flat_map spelling_of_submessage ss)
+    → length (flat_map spelling_of_submessage (take i ss)) + length (spelling_of_submessage s)
+    ≤ length (flat_map spelling_of_submessage ss)
 front_le [] i s lt e = absurd (omega arith)
 front_le (x ∷ ss) zero s lt e =
     let len = length-append (spelling_of_submessage x) (flat_map spelling_of_submessage ss) in
-    subst (λ (y : Submessage). length (flat_map spelling_of_submessage (take zero (x ∷ ss))) + length (spelling_of_submessage y) ≤ length (flat_map spelling_of_submessage (x ∷ ss))) (sym e) (omega arith)
+    subst (λ (y : Submessage). length (flat_map spelling_of_submessage (take zero (x ∷ ss))) + length
+    (spelling_of_submessage y) ≤ length (flat_map spelling_of_submessage (x ∷ ss))) (sym e) (omega arith)
 front_le (x ∷ ss) (suc i) s lt e =
     let len = length-append (spelling_of_submessage x) (flat_map spelling_of_submessage ss) in
     let front = length-append (spelling_of_submessage x) (flat_map spelling_of_submessage (take i ss)) in
     omega (arith, front_le ss i s (omega arith) e)
 
 pub too_long : (m : Message) (i : ℕ) (s : Submessage) → i < length m.submessages → s ≡ get_or m.submessages i s
-    → 65535 < 20 + length (flat_map spelling_of_submessage (take i m.submessages)) + length (spelling_of_submessage s) → IsWritable m → ⊥
+    → 65535 < 20 + length (flat_map spelling_of_submessage (take i m.submessages)) + length (spelling_of_submessage s)
+    → IsWritable m → ⊥
 too_long m i s lt e past w =
     let all = length-append (header_text 5 (0 ∷ 0 ∷ []) m.prefix) (flat_map spelling_of_submessage m.submessages) in
     let header = header_length 5 (0 ∷ 0 ∷ []) m.prefix refl w.prefix in

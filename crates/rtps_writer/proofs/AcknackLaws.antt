@@ -44,7 +44,8 @@ acknack-stands kept s reader base count held counts given history put =
     }
 
 -- one that is applied, by what came of it
-pub stands-applied : (kept : Kept) (s : WriterState) (reader base : ℕ) (count : ℤ) → is_applied s reader base count ≡ true
+pub stands-applied : (kept : Kept) (s : WriterState) (reader base : ℕ) (count : ℤ)
+    → is_applied s reader base count ≡ true
     → StandsFor kept (applied s reader base count) → StandsFor kept (after_acknack s reader base count)
 stands-applied kept s reader base count is stands =
     subst (λ (x : WriterState). StandsFor kept x) (sym (after-applied s reader base count is)) stands

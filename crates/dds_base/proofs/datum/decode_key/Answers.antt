@@ -11,7 +11,8 @@ found None bytes octets h = tt
 found (Some k) bytes octets h = key_form_found bytes k octets (sym h)
 
 pub returns-clause-found : goal.returns-clause-found
-returns-clause-found c = found c.key_of.result c.args.bytes.now (λ i. omega (arith, c.type_inv.bytes i)) c.key_of.ensures
+returns-clause-found c =
+    found c.key_of.result c.args.bytes.now (λ i. omega (arith, c.type_inv.bytes i)) c.key_of.ensures
 
 pub returns-clause-only : goal.returns-clause-only
 returns-clause-only c = λ k reads. c.key_of.ensures ∙ key_form_only c.args.bytes.now k reads

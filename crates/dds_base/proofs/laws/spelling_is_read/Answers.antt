@@ -7,10 +7,26 @@ use Rattle.dds_base.proofs.DatumLaws.{datum_only, key_form_only}
 use Rattle.dds_base.proofs.laws.spelling_is_read.Goals as goal
 
 pub returns-clause-datum : goal.returns-clause-datum
-returns-clause-datum c = λ d valid. record { order = Little; options = 0 ∷ 0 ∷ []; rest = []; two = refl; text = sym (append-nil (spelling_of_datum d)); valid = valid }
+returns-clause-datum c =
+    λ d valid. record {
+      order = Little;
+      options = 0 ∷ 0 ∷ [];
+      rest = [];
+      two = refl;
+      text = sym (append-nil (spelling_of_datum d));
+      valid = valid;
+    }
 
 pub returns-clause-key : goal.returns-clause-key
-returns-clause-key c = λ k valid. record { order = Little; options = 0 ∷ 0 ∷ []; rest = []; two = refl; text = sym (append-nil (spelling_of_key k)); valid = valid }
+returns-clause-key c =
+    λ k valid. record {
+      order = Little;
+      options = 0 ∷ 0 ∷ [];
+      rest = [];
+      two = refl;
+      text = sym (append-nil (spelling_of_key k));
+      valid = valid;
+    }
 
 pub returns-clause-one_datum : goal.returns-clause-one_datum
 returns-clause-one_datum c = λ bytes d e p q. some_is d e (sym (datum_only bytes d p) ∙ datum_only bytes e q)

@@ -19,6 +19,10 @@ returns-clause-writable c =
       count = z;
       final_flag = c.args.due.now.is_final;
     }) ∷ [] in
-    let all = c.from_vec.ensures.items ∙ (c.in_ok-submessages.ensures.items ∙ ap acknack (to_z-of_z w32 c.args.due.now.count fits)) in
+    let all =
+    c.from_vec.ensures.items
+    ∙ (c.in_ok-submessages.ensures.items ∙ ap acknack (to_z-of_z w32 c.args.due.now.count fits)) in
     subst (λ (ss : List Submessage). IsWritable (record { prefix = c.args.own; submessages = ss })) (sym all)
-    (acknack_writable c.args.own c.args.writer.now.guid.prefix c.args.reader c.args.writer.now.guid.entity c.args.due.now c.as_slice-own.ensures.len c.as_slice-to.ensures.len c.as_slice-reader.ensures.len c.as_slice-writer.ensures.len fits c.requires)
+    (acknack_writable c.args.own c.args.writer.now.guid.prefix c.args.reader c.args.writer.now.guid.entity
+    c.args.due.now c.as_slice-own.ensures.len c.as_slice-to.ensures.len c.as_slice-reader.ensures.len
+    c.as_slice-writer.ensures.len fits c.requires)

@@ -7,5 +7,7 @@ use Rattle.dds_core.proofs.acknack.send_acknack.Goals as goal
 
 pub returns-in_default-clause-adds : goal.returns-in_default-clause-adds
 returns-in_default-clause-adds c =
-    subst (λ (o : Option AckNackDue). AddsTo (acknacks_due c.args.own c.args.writer.now.guid.prefix c.args.writer.now.writer.peer c.args.reader c.args.writer.now.guid.entity o) c.args.sent.now c.args.sent.now) (sym c.in_default.is)
+    subst (λ (o : Option AckNackDue). AddsTo
+    (acknacks_due c.args.own c.args.writer.now.guid.prefix c.args.writer.now.writer.peer c.args.reader
+    c.args.writer.now.guid.entity o) c.args.sent.now c.args.sent.now) (sym c.in_default.is)
     (adds_none c.args.sent.now.packets.items c.args.sent.now.unsent)

@@ -12,8 +12,10 @@ returns-clause-writable c =
     let few = c.loop-answer.invariant.few in
     let eight = c.requires.few in
     let last = c.loop-answer-test.false in
-    subst (λ (ss : List Submessage). IsWritable (record { prefix = c.args.answering.now.own; submessages = ss })) (sym c.from_vec.ensures.items)
-    (answers_writable c.args.answering.now.own c.loop-answer.submessages.items c.as_slice-own.ensures.len c.loop-answer.invariant.each (omega (arith, few, eight, last)))
+    subst (λ (ss : List Submessage). IsWritable (record { prefix = c.args.answering.now.own; submessages = ss }))
+    (sym c.from_vec.ensures.items)
+    (answers_writable c.args.answering.now.own c.loop-answer.submessages.items c.as_slice-own.ensures.len
+    c.loop-answer.invariant.each (omega (arith, few, eight, last)))
 
 pub loop-answer-preserved : goal.loop-answer-preserved
 loop-answer-preserved c =
@@ -22,7 +24,8 @@ loop-answer-preserved c =
     record {
       says = λ s stands. stands_more
           (submessages_of (changes_of s.written) c.args.answering.now.reader.guid.entity c.args.answering.now.entity)
-          (InfoDst c.args.answering.now.reader.guid.prefix) c.loop-answer.submessages.items c.push_answer.new.submessages.items
+          (InfoDst c.args.answering.now.reader.guid.prefix) c.loop-answer.submessages.items
+          c.push_answer.new.submessages.items
           c.args.answers.now c.loop-answer.answer-index c.answer-item.result c.loop-answer-test.true c.answer-item.is
           (c.loop-answer.invariant.says s stands) (c.in_ok-push_answer.ensures.adds s stands);
       each = c.in_ok-push_answer.ensures.spells.each c.loop-answer.invariant.each;

@@ -9,5 +9,7 @@ use Rattle.dds_core.proofs.answering.rooms.Given as goal
 abbrev pub invariant-loop-name : goal.invariant-loop-name
 invariant-loop-name l = record {
   count : length l.rooms.items ≡ l.name-index;
-  each : (i : ℕ) (name : ReaderName) (room : Option Room) → slice_get l.fn.readers i ≡ Some name → slice_get l.rooms.items i ≡ Some room → IsRoom l.fn.own l.fn.entity (receiver_at l.fn.receiver) l.fn.body name room;
+  each : (i : ℕ) (name : ReaderName) (room : Option Room) → slice_get l.fn.readers i ≡ Some name
+      → slice_get l.rooms.items i ≡ Some room
+      → IsRoom l.fn.own l.fn.entity (receiver_at l.fn.receiver) l.fn.body name room;
 }

@@ -12,7 +12,8 @@ abbrev pub invariant-loop-rest : goal.invariant-loop-rest
 invariant-loop-rest l = record {
   can : AreAnswerable l.fn.writer l.rest;
   few : l.sent.unsent + length l.rest ≤ l.initial.sent.unsent + length l.fn.answers;
-  sends : (s : WriterState) → RtpsStandsFor l.fn.writer s → SentBefore l.fn.answering (changes_of s.written) l.fn.answers l.rest l.initial.sent l.sent;
+  sends : (s : WriterState) → RtpsStandsFor l.fn.writer s
+      → SentBefore l.fn.answering (changes_of s.written) l.fn.answers l.rest l.initial.sent l.sent;
   messages : AreMessages l.initial.sent.packets.items → AreMessages l.sent.packets.items;
 }
 

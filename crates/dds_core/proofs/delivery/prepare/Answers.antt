@@ -5,21 +5,34 @@ use Rattle.dds_core.proofs.Ready.{none_there, all_alike_self, alike_more, ready_
 use Rattle.dds_core.proofs.delivery.prepare.Goals as goal
 
 pub loop-index-init : goal.loop-index-init
-loop-index-init c = record { alike = all_alike_self c.args.readers.now; count = search rules; each = λ i k r at_k at_r. absurd (none_there c.new-ready.result.items i r c.new-ready.ensures.items at_r) }
+loop-index-init c =
+    record {
+      alike = all_alike_self c.args.readers.now;
+      count = search rules;
+      each = λ i k r at_k at_r.
+          absurd (none_there c.new-ready.result.items i r c.new-ready.ensures.items at_r);
+    }
 
 pub returns-in_err-one-clause-alike : goal.returns-in_err-one-clause-alike
 returns-in_err-one-clause-alike c =
-    alike_more c.args.readers.now c.loop-index.readers c.loop-index.index _ c.prepare.new.self c.loop-index.invariant.alike (search rules) (search rules) c.prepare.ensures.alike
+    alike_more c.args.readers.now c.loop-index.readers c.loop-index.index _ c.prepare.new.self
+    c.loop-index.invariant.alike (search rules) (search rules) c.prepare.ensures.alike
 
 pub returns-in_err-push-clause-alike : goal.returns-in_err-push-clause-alike
 returns-in_err-push-clause-alike c =
-    alike_more c.args.readers.now c.loop-index.readers c.loop-index.index _ c.prepare.new.self c.loop-index.invariant.alike (search rules) (search rules) c.prepare.ensures.alike
+    alike_more c.args.readers.now c.loop-index.readers c.loop-index.index _ c.prepare.new.self
+    c.loop-index.invariant.alike (search rules) (search rules) c.prepare.ensures.alike
 
 pub loop-index-preserved : goal.loop-index-preserved
 loop-index-preserved c =
     record {
-      alike = alike_more c.args.readers.now c.loop-index.readers c.loop-index.index _ c.prepare.new.self c.loop-index.invariant.alike (search rules) (search rules) c.prepare.ensures.alike;
+      alike =
+          alike_more c.args.readers.now c.loop-index.readers c.loop-index.index _ c.prepare.new.self
+          c.loop-index.invariant.alike (search rules) (search rules) c.prepare.ensures.alike;
       count = grind (arith, common_steps);
-      each = ready_more c.args.own.now (receiver_at c.args.receiver.now) c.args.submessage.now c.loop-index.readers c.loop-index.ready.items c.push.new.self.items c.loop-index.index c.prepare.new.self c.in_ok-one.one c.loop-index.invariant.count
+      each =
+          ready_more c.args.own.now (receiver_at c.args.receiver.now) c.args.submessage.now c.loop-index.readers
+          c.loop-index.ready.items c.push.new.self.items c.loop-index.index c.prepare.new.self c.in_ok-one.one
+          c.loop-index.invariant.count
           c.in_ok-push.ensures.items c.loop-index.invariant.each c.in_ok-one.ensures.ready;
     }

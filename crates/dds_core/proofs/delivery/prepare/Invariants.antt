@@ -9,5 +9,6 @@ abbrev pub invariant-loop-index : goal.invariant-loop-index
 invariant-loop-index l = record {
   alike : AreAlike l.initial.readers l.readers;
   count : length l.ready.items ≡ l.index;
-  each : (i : ℕ) (k : ReaderKept) (r : Option Ready) → slice_get l.readers i ≡ Some k → slice_get l.ready.items i ≡ Some r → IsReadyFor l.fn.own (receiver_at l.fn.receiver) l.fn.submessage k r;
+  each : (i : ℕ) (k : ReaderKept) (r : Option Ready) → slice_get l.readers i ≡ Some k
+      → slice_get l.ready.items i ≡ Some r → IsReadyFor l.fn.own (receiver_at l.fn.receiver) l.fn.submessage k r;
 }

@@ -12,14 +12,22 @@ expire-requires c =
     let k : ReaderKept = get_or c.loop-index.readers c.loop-index.index c.index-readers-index.result in
     let at : slice_get c.loop-index.readers c.loop-index.index ≡ Some k =
     slice_get-get_or c.loop-index.readers c.loop-index.index c.index-readers-index.result (search rules) in
-    record { room = room_next c.args.now c.loop-index.index c.args.readers.now c.loop-index.readers k c.requires.room c.loop-index.invariant at }
+    record {
+      room = room_next c.args.now c.loop-index.index c.args.readers.now c.loop-index.readers k c.requires.room
+          c.loop-index.invariant at;
+    }
 
 pub loop-index-preserved : goal.loop-index-preserved
 loop-index-preserved c =
     let k : ReaderKept = get_or c.loop-index.readers c.loop-index.index c.index-readers-index.result in
     let at : slice_get c.loop-index.readers c.loop-index.index ≡ Some k =
     slice_get-get_or c.loop-index.readers c.loop-index.index c.index-readers-index.result (search rules) in
-    expired_more c.args.now c.loop-index.index c.args.readers.now c.loop-index.readers k c.expire.new.self c.loop-index.invariant at c.expire.ensures.expires
+    expired_more c.args.now c.loop-index.index c.args.readers.now c.loop-index.readers k c.expire.new.self
+    c.loop-index.invariant at c.expire.ensures.expires
 
 pub returns : goal.returns
-returns c = record { expires = all_expired c.args.now c.loop-index.index c.args.readers.now c.loop-index.readers (search rules) c.loop-index.invariant }
+returns c =
+    record {
+      expires = all_expired c.args.now c.loop-index.index c.args.readers.now c.loop-index.readers
+          (search rules) c.loop-index.invariant;
+    }

@@ -11,5 +11,6 @@ use Rattle.dds_core.proofs.heartbeat.is_peer_behind.Given as goal
 
 abbrev pub invariant-loop-index : goal.invariant-loop-index
 invariant-loop-index l = (w : Writer) (answered : Endpoint → Option ℤ)
-    → map (λ (p : ReaderProxy). p.reader) w.readers ≡ map (λ (r : ReaderName). r.reader) l.fn.readers → RtpsStandsFor l.fn.writer (state_of w answered)
+    → map (λ (p : ReaderProxy). p.reader) w.readers ≡ map (λ (r : ReaderName). r.reader) l.fn.readers
+    → RtpsStandsFor l.fn.writer (state_of w answered)
     → is_peer_behind w l.fn.peer ≡ is_behind_from w l.fn.peer (drop l.index w.readers)

@@ -15,21 +15,31 @@ loop-destination-preserved c =
     elim c.if-is_peer_behind.branch [
       | then-is_peer_behind v ↦
           let more = v.send.ensures.few in
-          subst (λ (x : Announced). SentTo beat c.args.writer.now c.args.readers.now (take (i + 1) ds) (i + 1) c.args.sent.now x) (sym v.sent-is)
+          subst (λ (x : Announced). SentTo beat c.args.writer.now c.args.readers.now (take (i + 1) ds)
+          (i + 1) c.args.sent.now x) (sym v.sent-is)
           (record {
             few = omega (arith, few, more);
             beats = λ w answered same stands.
-                beats_more beat w ds i _ true c.args.sent.now.packets.items c.loop-destination.sent.packets.items v.send.new.sent.packets.items c.args.sent.now.unsent c.loop-destination.sent.unsent v.send.new.sent.unsent
-                c.loop-destination-test.true (sym (c.is_peer_behind.ensures w answered same stands) ∙ v.if-is_peer_behind.true) (before.beats w answered same stands) (v.send.ensures.adds (message_to beat _) v.message-message.ensures.says);
+                beats_more beat w ds i _ true c.args.sent.now.packets.items c.loop-destination.sent.packets.items
+                v.send.new.sent.packets.items c.args.sent.now.unsent c.loop-destination.sent.unsent
+                v.send.new.sent.unsent
+                c.loop-destination-test.true (sym (c.is_peer_behind.ensures w answered same stands)
+                ∙ v.if-is_peer_behind.true) (before.beats w answered same stands)
+                (v.send.ensures.adds (message_to beat _) v.message-message.ensures.says);
             messages = λ h. v.send.ensures.messages (before.messages h);
           })
       | else-is_peer_behind v ↦
-          subst (λ (x : Announced). SentTo beat c.args.writer.now c.args.readers.now (take (i + 1) ds) (i + 1) c.args.sent.now x) (sym v.sent-is)
+          subst (λ (x : Announced). SentTo beat c.args.writer.now c.args.readers.now (take (i + 1) ds)
+          (i + 1) c.args.sent.now x) (sym v.sent-is)
           (record {
             few = omega (arith, few);
             beats = λ w answered same stands.
-                beats_more beat w ds i _ false c.args.sent.now.packets.items c.loop-destination.sent.packets.items c.loop-destination.sent.packets.items c.args.sent.now.unsent c.loop-destination.sent.unsent c.loop-destination.sent.unsent
-                c.loop-destination-test.true (sym (c.is_peer_behind.ensures w answered same stands) ∙ v.if-is_peer_behind.false) (before.beats w answered same stands) (adds_none c.loop-destination.sent.packets.items c.loop-destination.sent.unsent);
+                beats_more beat w ds i _ false c.args.sent.now.packets.items c.loop-destination.sent.packets.items
+                c.loop-destination.sent.packets.items c.args.sent.now.unsent c.loop-destination.sent.unsent
+                c.loop-destination.sent.unsent
+                c.loop-destination-test.true (sym (c.is_peer_behind.ensures w answered same stands)
+                ∙ v.if-is_peer_behind.false) (before.beats w answered same stands)
+                (adds_none c.loop-destination.sent.packets.items c.loop-destination.sent.unsent);
             messages = before.messages;
           })
     ]

@@ -11,8 +11,11 @@ loop-destination-preserved c =
     let more = c.send.ensures.few in
     record {
       few = omega (arith, few, more);
-      sent = told_more beat c.args.destinations.now c.loop-destination.destination-index _ c.loop-destination.sent.packets.items
-          c.send.new.sent.packets.items c.loop-destination.sent.unsent c.send.new.sent.unsent c.loop-destination-test.true
+      sent =
+          told_more beat c.args.destinations.now c.loop-destination.destination-index _
+          c.loop-destination.sent.packets.items
+          c.send.new.sent.packets.items c.loop-destination.sent.unsent c.send.new.sent.unsent
+          c.loop-destination-test.true
           before.sent (c.send.ensures.adds (message_to beat _) c.message-message.ensures.says);
       messages = c.send.ensures.messages before.messages;
     }

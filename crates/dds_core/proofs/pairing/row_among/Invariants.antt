@@ -4,4 +4,5 @@ use Rattle.dds_core.proofs.pairing.row_among.Given as goal
 
 -- no name before this one is the reader's
 abbrev pub invariant-loop-row : goal.invariant-loop-row
-invariant-loop-row l = (j : ℕ) (n : ReaderName) → j < l.row → slice_get l.fn.names j ≡ Some n → n.reader ≡ l.fn.reader → ⊥
+invariant-loop-row l =
+    (j : ℕ) (n : ReaderName) → j < l.row → slice_get l.fn.names j ≡ Some n → n.reader ≡ l.fn.reader → ⊥

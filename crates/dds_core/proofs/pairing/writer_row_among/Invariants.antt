@@ -4,4 +4,5 @@ use Rattle.dds_core.proofs.pairing.writer_row_among.Given as goal
 
 -- no name before this one is the writer's
 abbrev pub invariant-loop-row : goal.invariant-loop-row
-invariant-loop-row l = (j : ℕ) (n : WriterName) → j < l.row → slice_get l.fn.names j ≡ Some n → n.writer ≡ l.fn.writer → ⊥
+invariant-loop-row l =
+    (j : ℕ) (n : WriterName) → j < l.row → slice_get l.fn.names j ≡ Some n → n.writer ≡ l.fn.writer → ⊥

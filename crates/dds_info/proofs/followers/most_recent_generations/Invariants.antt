@@ -7,5 +7,6 @@ use Rattle.dds_info.proofs.followers.most_recent_generations.Given as goal
 abbrev pub invariant-loop-other : goal.invariant-loop-other
 invariant-loop-other l = record {
   small : own_generations l.last < 2 ^ 64;
-  rest : last_or l.last (filter (is_of l.sample.instance_handle) (drop l.other-index l.later)) ≡ last_or l.sample (filter (is_of l.sample.instance_handle) l.later);
+  rest : last_or l.last (filter (is_of l.sample.instance_handle) (drop l.other-index l.later))
+      ≡ last_or l.sample (filter (is_of l.sample.instance_handle) l.later);
 }

@@ -8,7 +8,8 @@ loop-at-init c = record {
   above = omega (arith, c.number-from.ensures.number);
   same = first-skips c.args.after c.args.now 1 c.number-from.result c.args.tracks.now
       (omega (arith, c.number-from.ensures.number))
-      ∙ ap (λ (n : ℕ). first_over c.args.after c.args.now n (drop c.number-from.result c.args.tracks.now)) (omega arith);
+      ∙ ap (λ (n : ℕ). first_over c.args.after c.args.now n (drop c.number-from.result c.args.tracks.now))
+      (omega arith);
 }
 
 pub loop-at-preserved : goal.loop-at-preserved

@@ -72,4 +72,8 @@ events : (a b : Event) → Decides (of_events.ghosts.eq a b) (a ≡ b)
 events = of_variants enum_of_events _ (last calls ⨾ last Decides-eqb ⨾ last (lists Decides-eqb) ⨾ tt)
 
 pub returns : goal.returns
-returns c = record { equal = Decides-at c.eq.result (of_events.ghosts.eq c.args.event.now c.args.other.now) c.eq.ensures (events c.args.event.now c.args.other.now) }
+returns c =
+    record {
+      equal = Decides-at c.eq.result (of_events.ghosts.eq c.args.event.now c.args.other.now) c.eq.ensures
+          (events c.args.event.now c.args.other.now);
+    }

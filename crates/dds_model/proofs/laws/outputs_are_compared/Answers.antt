@@ -59,20 +59,43 @@ instance_states a b = search rules
 
 infos : (a b : SampleInfo) → Decides (of_infos.ghosts.eq a b) (a ≡ b)
 infos a b =
-    let all = Decides-and _ _ (sample_states a.sample_state b.sample_state) (Decides-and _ _ (view_states a.view_state b.view_state)
-    (Decides-and _ _ (instance_states a.instance_state b.instance_state) (Decides-and _ _ (Decides-eqb a.disposed_generation_count b.disposed_generation_count)
-    (Decides-and _ _ (Decides-eqb a.no_writers_generation_count b.no_writers_generation_count) (Decides-and _ _ (Decides-eqb a.sample_rank b.sample_rank)
-    (Decides-and _ _ (Decides-eqb a.generation_rank b.generation_rank) (Decides-and _ _ (Decides-eqb a.absolute_generation_rank b.absolute_generation_rank)
-    (Decides-and _ _ (Decides-eqb a.source_timestamp b.source_timestamp) (Decides-and _ _ (Decides-eqb a.instance_handle b.instance_handle)
-    (Decides-and _ _ (Decides-eqb a.publication_handle b.publication_handle) (booleans_Decides a.valid_data b.valid_data))))))))))) in
+    let all =
+    Decides-and _ _ (sample_states a.sample_state b.sample_state)
+    (Decides-and _ _ (view_states a.view_state b.view_state)
+    (Decides-and _ _ (instance_states a.instance_state b.instance_state)
+    (Decides-and _ _ (Decides-eqb a.disposed_generation_count b.disposed_generation_count)
+    (Decides-and _ _ (Decides-eqb a.no_writers_generation_count b.no_writers_generation_count)
+    (Decides-and _ _ (Decides-eqb a.sample_rank b.sample_rank)
+    (Decides-and _ _ (Decides-eqb a.generation_rank b.generation_rank)
+    (Decides-and _ _ (Decides-eqb a.absolute_generation_rank b.absolute_generation_rank)
+    (Decides-and _ _ (Decides-eqb a.source_timestamp b.source_timestamp)
+    (Decides-and _ _ (Decides-eqb a.instance_handle b.instance_handle)
+    (Decides-and _ _ (Decides-eqb a.publication_handle b.publication_handle)
+    (booleans_Decides a.valid_data b.valid_data))))))))))) in
     Decides-like (of_infos.ghosts.eq a b)
-    (λ h i. record { sample_state = h.0 i; view_state = h.1.0 i; instance_state = h.1.1.0 i; disposed_generation_count = h.1.1.1.0 i; no_writers_generation_count = h.1.1.1.1.0 i; sample_rank = h.1.1.1.1.1.0 i; generation_rank = h.1.1.1.1.1.1.0 i; absolute_generation_rank = h.1.1.1.1.1.1.1.0 i; source_timestamp = h.1.1.1.1.1.1.1.1.0 i; instance_handle = h.1.1.1.1.1.1.1.1.1.0 i; publication_handle = h.1.1.1.1.1.1.1.1.1.1.0 i; valid_data = h.1.1.1.1.1.1.1.1.1.1.1 i })
+    (λ h i. record {
+      sample_state = h.0 i;
+      view_state = h.1.0 i;
+      instance_state = h.1.1.0 i;
+      disposed_generation_count = h.1.1.1.0 i;
+      no_writers_generation_count = h.1.1.1.1.0 i;
+      sample_rank = h.1.1.1.1.1.0 i;
+      generation_rank = h.1.1.1.1.1.1.0 i;
+      absolute_generation_rank = h.1.1.1.1.1.1.1.0 i;
+      source_timestamp = h.1.1.1.1.1.1.1.1.0 i;
+      instance_handle = h.1.1.1.1.1.1.1.1.1.0 i;
+      publication_handle = h.1.1.1.1.1.1.1.1.1.1.0 i;
+      valid_data = h.1.1.1.1.1.1.1.1.1.1.1 i;
+    })
     (λ e. (cc, (cc, (cc, (cc, (cc, (cc, (cc, (cc, (cc, (cc, (cc, cc)))))))))))) all
 
 samples : (a b : Sample) → Decides (of_samples.ghosts.eq a b) (a ≡ b)
 samples a b =
-    let all = Decides-and _ _ (keys a.key b.key) (Decides-and _ _ (lists Decides-eqb a.value b.value) (infos a.info b.info)) in
-    Decides-like (of_samples.ghosts.eq a b) (λ h i. record { key = h.0 i; value = h.1.0 i; info = h.1.1 i }) (λ e. (cc, (cc, cc))) all
+    let all =
+    Decides-and _ _ (keys a.key b.key) (Decides-and _ _ (lists Decides-eqb a.value b.value) (infos a.info b.info))
+    in
+    Decides-like (of_samples.ghosts.eq a b) (λ h i. record { key = h.0 i; value = h.1.0 i; info = h.1.1 i })
+    (λ e. (cc, (cc, cc))) all
 
 -- ---- reports
 
@@ -98,11 +121,20 @@ reports a b =
 
 liveliness_statuses : (a b : LivelinessChangedStatus) → Decides (of_statuses.ghosts.eq a b) (a ≡ b)
 liveliness_statuses a b =
-    let all = Decides-and _ _ (Decides-int_eq a.alive_count b.alive_count) (Decides-and _ _ (Decides-int_eq a.not_alive_count b.not_alive_count)
-    (Decides-and _ _ (Decides-int_eq a.alive_count_change b.alive_count_change) (Decides-and _ _ (Decides-int_eq a.not_alive_count_change b.not_alive_count_change)
+    let all =
+    Decides-and _ _ (Decides-int_eq a.alive_count b.alive_count)
+    (Decides-and _ _ (Decides-int_eq a.not_alive_count b.not_alive_count)
+    (Decides-and _ _ (Decides-int_eq a.alive_count_change b.alive_count_change)
+    (Decides-and _ _ (Decides-int_eq a.not_alive_count_change b.not_alive_count_change)
     (Decides-eqb a.last_publication_handle b.last_publication_handle)))) in
     Decides-like (of_statuses.ghosts.eq a b)
-    (λ h i. record { alive_count = h.0 i; not_alive_count = h.1.0 i; alive_count_change = h.1.1.0 i; not_alive_count_change = h.1.1.1.0 i; last_publication_handle = h.1.1.1.1 i })
+    (λ h i. record {
+      alive_count = h.0 i;
+      not_alive_count = h.1.0 i;
+      alive_count_change = h.1.1.0 i;
+      not_alive_count_change = h.1.1.1.0 i;
+      last_publication_handle = h.1.1.1.1 i;
+    })
     (λ e. (cc, (cc, (cc, (cc, cc))))) all
 
 sample_lost_statuses : (a b : SampleLostStatus) → Decides (of_sample_lost.ghosts.eq a b) (a ≡ b)
@@ -138,8 +170,15 @@ packets a b = search rules
 
 outputs : (a b : Output) → Decides (of_outputs.ghosts.eq a b) (a ≡ b)
 outputs a b =
-    let all = Decides-and _ _ (replies a.reply b.reply) (Decides-and _ _ (lists packets a.packets b.packets) (Decides-eqb a.unsent b.unsent)) in
-    Decides-like (of_outputs.ghosts.eq a b) (λ h i. record { reply = h.0 i; packets = h.1.0 i; unsent = h.1.1 i }) (λ e. (cc, (cc, cc))) all
+    let all =
+    Decides-and _ _ (replies a.reply b.reply)
+    (Decides-and _ _ (lists packets a.packets b.packets) (Decides-eqb a.unsent b.unsent)) in
+    Decides-like (of_outputs.ghosts.eq a b) (λ h i. record { reply = h.0 i; packets = h.1.0 i; unsent = h.1.1 i })
+    (λ e. (cc, (cc, cc))) all
 
 pub returns : goal.returns
-returns c = record { equal = Decides-at c.eq.result (of_outputs.ghosts.eq c.args.output.now c.args.other.now) c.eq.ensures (outputs c.args.output.now c.args.other.now) }
+returns c =
+    record {
+      equal = Decides-at c.eq.result (of_outputs.ghosts.eq c.args.output.now c.args.other.now) c.eq.ensures
+          (outputs c.args.output.now c.args.other.now);
+    }

@@ -7,4 +7,5 @@ returns-clause-opening c = opens_backed
 
 pub returns-clause-packet : goal.returns-clause-packet
 returns-clause-packet c = λ config peer before bytes old report dues new checked backed takes.
-    let taken = takes_packet config peer before bytes old report dues new checked backed takes in (taken.receives, taken.backed)
+    let taken =
+    takes_packet config peer before bytes old report dues new checked backed takes in (taken.receives, taken.backed)

@@ -15,4 +15,5 @@ returns-clause-ok c =
     c.put_ids.new.out.items c.put_set.new.out.items c.put_count.new.out.items
     c.in_ok-put_ids.ensures.ok c.in_ok-put_set.ensures.ok
     (c.in_ok-put_count.ensures.ok
-    ∙ ap (λ (z : ℤ). c.put_set.new.out.items ++ count_text Little z) (to_z-of_z w32 c.args.a.now.count c.requires.valid.count))
+    ∙ ap (λ (z : ℤ). c.put_set.new.out.items ++ count_text Little z)
+    (to_z-of_z w32 c.args.a.now.count c.requires.valid.count))

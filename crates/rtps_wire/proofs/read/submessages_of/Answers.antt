@@ -11,30 +11,62 @@ begins left bytes here (inl same) = subst (λ (b : List ℕ). HasFrame b) same h
 begins left bytes here (inr there) = there
 
 pub loop-frame-init : goal.loop-frame-init
-loop-frame-init c = record { on = λ ss end r. rw c.new-submessages.ensures.items r; fewer = let none = ap length c.new-submessages.ensures.items in omega (arith, none); first = inl refl; octets = λ i. omega (arith, c.type_inv.bytes i) }
+loop-frame-init c =
+    record {
+      on = λ ss end r. rw c.new-submessages.ensures.items r;
+      fewer = let none = ap length
+          c.new-submessages.ensures.items in omega (arith, none);
+      first = inl refl;
+      octets = λ i.
+          omega (arith, c.type_inv.bytes i);
+    }
 
 pub loop-frame-preserved : goal.loop-frame-preserved
 loop-frame-preserved c =
-    let f = frame_found c.loop-frame.left.now (c.in-Some.frame.id, c.in-Some.frame.flags, c.in-Some.frame.body.now, c.in-Some.rest.now) c.loop-frame.invariant.octets (sym c.in-Some.ensures.value) in
+    let f =
+    frame_found c.loop-frame.left.now
+    (c.in-Some.frame.id, c.in-Some.frame.flags, c.in-Some.frame.body.now, c.in-Some.rest.now)
+    c.loop-frame.invariant.octets (sym c.in-Some.ensures.value) in
     record {
-      on = λ ss end r. rw (c.in_ok-push.ensures.items, append_assoc) (c.loop-frame.invariant.on (c.submessage_of.result ∷ ss) end
-          (c.in-Some.frame.id, c.in-Some.frame.flags, c.in-Some.frame.body.now, c.in-Some.rest.now, f.frame, c.submessage_of.ensures, r));
+      on = λ ss end r. rw (c.in_ok-push.ensures.items, append_assoc)
+          (c.loop-frame.invariant.on (c.submessage_of.result ∷ ss) end (
+            c.in-Some.frame.id,
+            c.in-Some.frame.flags,
+            c.in-Some.frame.body.now,
+            c.in-Some.rest.now,
+            f.frame,
+            c.submessage_of.ensures,
+            r,
+          ));
       fewer =
-          let longer = ap length c.in_ok-push.ensures.items ∙ length-append c.loop-frame.submessages.items (c.submessage_of.result ∷ []) in
+          let longer =
+          ap length c.in_ok-push.ensures.items ∙ length-append c.loop-frame.submessages.items
+          (c.submessage_of.result ∷ []) in
           let before = c.loop-frame.invariant.fewer in
           omega (arith, longer, before, c.in-Some.ensures.rest);
-      first = inr (begins c.loop-frame.left.now c.args.bytes.now (c.in-Some.frame.id, c.in-Some.frame.flags, c.in-Some.frame.body.now, c.in-Some.rest.now, f.frame) c.loop-frame.invariant.first);
+      first =
+          inr (begins c.loop-frame.left.now c.args.bytes.now
+          (c.in-Some.frame.id, c.in-Some.frame.flags, c.in-Some.frame.body.now, c.in-Some.rest.now, f.frame)
+          c.loop-frame.invariant.first);
       octets = f.octets;
     }
 
 pub returns : goal.returns
 returns c =
     let none : frame_at c.loop-frame.left.now ≡ None = sym c.in_default.ensures.value in
-    let all = c.loop-frame.invariant.on [] c.loop-frame.left.now (frame_none c.loop-frame.left.now c.loop-frame.invariant.octets none, refl) in
+    let all =
+    c.loop-frame.invariant.on [] c.loop-frame.left.now
+    (frame_none c.loop-frame.left.now c.loop-frame.invariant.octets none, refl) in
     (rw (← append-nil c.loop-frame.submessages.items) all, c.loop-frame.invariant.fewer)
 
 pub returns-in_err-push : goal.returns-in_err-push
 returns-in_err-push c =
-    let f = frame_found c.loop-frame.left.now (c.in-Some.frame.id, c.in-Some.frame.flags, c.in-Some.frame.body.now, c.in-Some.rest.now) c.loop-frame.invariant.octets (sym c.in-Some.ensures.value) in
-    let has : HasFrame c.args.bytes.now = begins c.loop-frame.left.now c.args.bytes.now (c.in-Some.frame.id, c.in-Some.frame.flags, c.in-Some.frame.body.now, c.in-Some.rest.now, f.frame) c.loop-frame.invariant.first in
+    let f =
+    frame_found c.loop-frame.left.now
+    (c.in-Some.frame.id, c.in-Some.frame.flags, c.in-Some.frame.body.now, c.in-Some.rest.now)
+    c.loop-frame.invariant.octets (sym c.in-Some.ensures.value) in
+    let has : HasFrame c.args.bytes.now =
+    begins c.loop-frame.left.now c.args.bytes.now
+    (c.in-Some.frame.id, c.in-Some.frame.flags, c.in-Some.frame.body.now, c.in-Some.rest.now, f.frame)
+    c.loop-frame.invariant.first in
     search rules

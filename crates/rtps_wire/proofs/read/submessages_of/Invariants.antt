@@ -7,7 +7,8 @@ use Rattle.rtps_wire.proofs.read.submessages_of.Given as goal
 -- what is left may be read on
 abbrev pub invariant-loop-frame : goal.invariant-loop-frame
 invariant-loop-frame l = record {
-  on : (ss : List Submessage) (end : List ℕ) → ReadsAll l.left ss end → ReadsAll l.bytes (l.submessages.items ++ ss) end;
+  on : (ss : List Submessage) (end : List ℕ) → ReadsAll l.left ss end
+      → ReadsAll l.bytes (l.submessages.items ++ ss) end;
   fewer : length l.submessages.items + length l.left ≤ length l.bytes;
   first : (l.left ≡ l.bytes) ⊎ HasFrame l.bytes;
   octets : AreOctets l.left;

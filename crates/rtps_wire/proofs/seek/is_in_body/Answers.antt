@@ -8,8 +8,15 @@ loop-frame-init c = seeks_none c.args.bytes.now c.args.wanted.now (λ i. omega (
 
 pub loop-frame-preserved : goal.loop-frame-preserved
 loop-frame-preserved c =
-    let f = frame_found c.loop-frame.left.now (c.in-Some.frame.id, c.in-Some.frame.flags, c.in-Some.frame.body.now, c.in-Some.rest.now) c.loop-frame.invariant.octets (sym c.in-Some.ensures.value) in
-    seeks_more c.args.bytes.now c.loop-frame.left.now c.args.wanted.now c.loop-frame.has c.is_frame_sought-has.result c.in-Some.frame.id c.in-Some.frame.flags c.in-Some.frame.body.now c.in-Some.rest.now c.loop-frame.invariant f.body f c.is_frame_sought-has.ensures
+    let f =
+    frame_found c.loop-frame.left.now
+    (c.in-Some.frame.id, c.in-Some.frame.flags, c.in-Some.frame.body.now, c.in-Some.rest.now)
+    c.loop-frame.invariant.octets (sym c.in-Some.ensures.value) in
+    seeks_more c.args.bytes.now c.loop-frame.left.now c.args.wanted.now c.loop-frame.has c.is_frame_sought-has.result
+    c.in-Some.frame.id c.in-Some.frame.flags c.in-Some.frame.body.now c.in-Some.rest.now c.loop-frame.invariant
+    f.body f c.is_frame_sought-has.ensures
 
 pub returns : goal.returns
-returns c = sought_all c.args.bytes.now c.loop-frame.left.now c.args.wanted.now c.loop-frame.has c.loop-frame.invariant (sym c.in_default.ensures.value)
+returns c =
+    sought_all c.args.bytes.now c.loop-frame.left.now c.args.wanted.now c.loop-frame.has c.loop-frame.invariant
+    (sym c.in_default.ensures.value)

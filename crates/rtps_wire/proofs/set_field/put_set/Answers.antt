@@ -3,5 +3,8 @@ use Rattle.rtps_wire.proofs.SetSpelling.{set_parts}
 use Rattle.rtps_wire.proofs.set_field.put_set.Goals as goal
 
 pub returns-clause-ok : goal.returns-clause-ok
-returns-clause-ok c = set_parts c.args.set.now c.args.out.now.items c.put_u64.new.out.items c.to_le_bytes.result c.extend_from_slice.new.self.items c.put_words.new.out.items c.number.result c.bits-bits.result
-    (c.number.ensures.number ∙ c.base.ensures.base) c.bits-bits.ensures.bits c.in_ok-put_u64.ensures.ok c.to_le_bytes.ensures c.in_ok-extend_from_slice.ensures.items c.in_ok-put_words.ensures.ok
+returns-clause-ok c =
+    set_parts c.args.set.now c.args.out.now.items c.put_u64.new.out.items c.to_le_bytes.result
+    c.extend_from_slice.new.self.items c.put_words.new.out.items c.number.result c.bits-bits.result
+    (c.number.ensures.number ∙ c.base.ensures.base) c.bits-bits.ensures.bits c.in_ok-put_u64.ensures.ok
+    c.to_le_bytes.ensures c.in_ok-extend_from_slice.ensures.items c.in_ok-put_words.ensures.ok

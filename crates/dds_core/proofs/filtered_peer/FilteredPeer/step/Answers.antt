@@ -8,5 +8,7 @@ pub returns-clause-step : goal.returns-clause-step
 returns-clause-step g c =
     let inside = c.self.inside in
     let kept : FilteredKept g.row.F.Denot = record { peer = inside.peer; filters = inside.filters } in
-    subst (λ (k : FilteredKept g.row.F.Denot). Steps (tests_of g.F.Filter.meaning k.filters) k c.args.event c.step_by.result (record { peer = c.step_by.new.self; filters = inside.filters }))
+    subst (λ (k : FilteredKept g.row.F.Denot). Steps
+    (tests_of g.F.Filter.meaning k.filters) k c.args.event c.step_by.result
+    (record { peer = c.step_by.new.self; filters = inside.filters }))
     c.self.view_is (steps _ kept c.args.event c.step_by.result c.step_by.new.self c.step_by.ensures.step)

@@ -9,7 +9,8 @@ returns-clause-step g c = λ config peer given.
     let within : c.in-Some.index < length c.self.inside.readers.items = search rules in
     let done = c.access-samples in
     accessed_at c.in-Some.index c.index_mut.result.now done.new.self config peer c.self.view_is given
-    (is_access_by c.args.kind (g.T.Filters.meaning c.args.filters.now) peer.part c.args.reader c.args.scope c.args.condition
+    (is_access_by c.args.kind (g.T.Filters.meaning c.args.filters.now) peer.part c.args.reader c.args.scope
+    c.args.condition
     c.in-Ok.asked (c.in-Ok.ensures config peer given)) c.in-Some.ensures.0 within c.index_mut.ensures.value
     done.ensures.same done.result done.ensures.answer done.ensures.after _ _ c.answered.ensures
     c.reply_to_access.ensures
@@ -17,4 +18,5 @@ returns-clause-step g c = λ config peer given.
 pub returns-in-Err-clause-step : goal.returns-in-Err-clause-step
 returns-in-Err-clause-step g c = λ config peer given.
     follows_as _ config peer _ _ _ c.refused.ensures
-    (not_accessed_by c.args.kind _ config peer given c.args.reader c.args.scope c.args.condition c.in-Err.code (c.in-Err.ensures config peer given))
+    (not_accessed_by c.args.kind _ config peer given c.args.reader c.args.scope c.args.condition c.in-Err.code
+    (c.in-Err.ensures config peer given))

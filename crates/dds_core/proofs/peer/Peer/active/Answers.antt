@@ -12,15 +12,24 @@ use Rattle.dds_core.specs.Watching.{AreActive}
 use Rattle.dds_core.proofs.peer.Peer.active.Goals as goal
 
 -- so it is of what was answered, whoever stands for it
-answered : (tests : Tests) (watch : Watched) (wait_set : ℕ) (kept : PeerKept) (result : Result (List Cond) Code) → watch ≡ kept.watch
-    → ((config : Config) (peer : Peer) → StandsFor kept config peer → IfOk result (λ active. active ≡ active_of (trigger_value tests peer.part) (conditions_of watch wait_set)))
+answered : (tests : Tests) (watch : Watched) (wait_set : ℕ) (kept : PeerKept) (result : Result (List Cond) Code)
+    → watch ≡ kept.watch
+    → ((config : Config) (peer : Peer) → StandsFor kept config peer
+    → IfOk result (λ active. active ≡ active_of (trigger_value tests peer.part) (conditions_of watch wait_set)))
     → IfOk result (AreActive tests kept wait_set)
 answered tests watch wait_set kept (Ok active) same tells = λ config peer s.
-    tells config peer s ∙ ap (λ (w : Watched). active_of (trigger_value tests peer.part) (conditions_of w wait_set)) (same ∙ sym s.watch)
+    tells config peer s ∙ ap (λ (w : Watched). active_of (trigger_value tests peer.part) (conditions_of w wait_set))
+    (same ∙ sym s.watch)
 answered tests watch wait_set kept (Err code) same tells = tt
 
 pub returns-clause-ok : goal.returns-clause-ok
 returns-clause-ok g c =
     let tests = g.T.Filters.meaning c.args.filters.now in
-    answered tests c.self.inside.watch c.args.wait_set c.args.self.now c.active.result (ap (λ (k : PeerKept). k.watch) c.self.view_is)
-    (λ config peer given. c.active.ensures.ok (trigger_value tests peer.part) (λ x b after k. (k.called.met.0 config peer given ∙ ap (λ (y : Cond). trigger_value tests peer.part y) k.shows, k.called.met.1.1)))
+    answered tests c.self.inside.watch c.args.wait_set c.args.self.now c.active.result
+    (ap (λ (k : PeerKept). k.watch) c.self.view_is)
+    (λ config peer given. c.active.ensures.ok (trigger_value tests peer.part)
+    (λ x b after k. (
+      k.called.met.0 config peer given
+          ∙ ap (λ (y : Cond). trigger_value tests peer.part y) k.shows,
+      k.called.met.1.1,
+    )))

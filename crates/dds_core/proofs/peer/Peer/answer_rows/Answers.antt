@@ -14,7 +14,9 @@ use Rattle.dds_core.proofs.peer.Peer.answer_rows.Goals as goal
 
 pub loop-row-init : goal.loop-row-init
 loop-row-init c = record {
-  takes = λ k at. rows_none c.args.self.now c.args.index c.args.body.now k c.args.rooms.items c.args.moves.now.items c.args.sent.now at;
+  takes =
+      λ k at. rows_none c.args.self.now c.args.index c.args.body.now k c.args.rooms.items c.args.moves.now.items
+      c.args.sent.now at;
   rest = refl;
   count = refl;
   few = omega arith;
@@ -37,7 +39,8 @@ answer_row-requires-clause-room c =
     let i = c.loop-row.row in
     let within : i < length c.loop-row.rooms.items = search rules in
     let there : slice_get c.args.rooms.items i ≡ Some c.index_mut.result.now =
-    still_ready c.args.rooms.items c.loop-row.rooms.items i c.index_mut.result.now c.index_mut.result.now c.loop-row.invariant.rest within c.index_mut.ensures.value in
+    still_ready c.args.rooms.items c.loop-row.rooms.items i c.index_mut.result.now c.index_mut.result.now
+    c.loop-row.invariant.rest within c.index_mut.ensures.value in
     c.requires.rooms i c.in-Some.room (there ∙ ap (λ (x : Option Room). Some x) (sym c.in-Some.ensures.value))
 
 pub loop-row-preserved : goal.loop-row-preserved
@@ -48,9 +51,12 @@ loop-row-preserved c =
     let moves = c.args.moves.now.items in
     let sent = c.args.sent.now in
     let within : i < length c.loop-row.rooms.items = search rules in
-    let there : slice_get rooms i ≡ Some c.index_mut.result.now = still_ready rooms c.loop-row.rooms.items i c.index_mut.result.now c.index_mut.result.now c.loop-row.invariant.rest within c.index_mut.ensures.value in
+    let there : slice_get rooms i ≡ Some c.index_mut.result.now =
+    still_ready rooms c.loop-row.rooms.items i c.index_mut.result.now c.index_mut.result.now
+    c.loop-row.invariant.rest within c.index_mut.ensures.value in
     let rest = rest_more rooms c.loop-row.rooms.items i c.take.new.self c.loop-row.invariant.rest in
-    let count : length _ ≡ length rooms = length-set c.loop-row.rooms.items i c.take.new.self ∙ c.loop-row.invariant.count in
+    let count : length _ ≡ length rooms =
+    length-set c.loop-row.rooms.items i c.take.new.self ∙ c.loop-row.invariant.count in
     let size = c.loop-row.invariant.count in
     let room = c.loop-row.invariant.room in
     let few = c.loop-row.invariant.few in
@@ -59,47 +65,85 @@ loop-row-preserved c =
     let known : i < length k.readers = omega (arith, within, size, many) in
     elim c.match-take.branch [
       | in-Some w ↦
-          let is : slice_get rooms i ≡ Some (Some w.in-Some.room) = there ∙ ap (λ (x : Option Room). Some x) (sym w.in-Some.ensures.value) in
+          let is : slice_get rooms i ≡ Some (Some w.in-Some.room) =
+          there ∙ ap (λ (x : Option Room). Some x) (sym w.in-Some.ensures.value) in
           let len = w.answer_row.ensures.len in
           let capacity = w.answer_row.ensures.capacity in
           let more = w.answer_row.ensures.few in
           record {
             takes = λ x at.
                 let same : k ≡ x = same_Some k x (sym c.requires.within.1 ∙ at) in
-                let takes : TakesRows old c.args.index c.args.body.now x rooms (i + 1) moves sent w.answer_row.new.self w.answer_row.new.moves.items w.answer_row.new.sent =
-                rows_more old c.loop-row.self w.answer_row.new.self c.args.index c.args.body.now x rooms i w.in-Some.room moves c.loop-row.moves.items w.answer_row.new.moves.items sent c.loop-row.sent w.answer_row.new.sent (c.loop-row.invariant.takes x at)
+                let takes : TakesRows old c.args.index c.args.body.now x rooms
+                (i + 1) moves sent w.answer_row.new.self w.answer_row.new.moves.items w.answer_row.new.sent =
+                rows_more old c.loop-row.self w.answer_row.new.self c.args.index c.args.body.now x rooms i
+                w.in-Some.room moves c.loop-row.moves.items w.answer_row.new.moves.items sent c.loop-row.sent
+                w.answer_row.new.sent (c.loop-row.invariant.takes x at)
                 (subst (λ (y : WriterKept). i < length y.readers) same known) is w.answer_row.ensures.takes in
-                subst (λ (q : PeerKept). TakesRows old c.args.index c.args.body.now x rooms (i + 1) moves sent q c.match-take.moves.items c.match-take.sent) (sym w.self-is)
-                (subst (λ (m : Vec Move _). TakesRows old c.args.index c.args.body.now x rooms (i + 1) moves sent w.answer_row.new.self m.items c.match-take.sent) (sym w.moves-is)
-                (subst (λ (y : Announced). TakesRows old c.args.index c.args.body.now x rooms (i + 1) moves sent w.answer_row.new.self w.answer_row.new.moves.items y) (sym w.sent-is) takes));
+                subst (λ (q : PeerKept). TakesRows old c.args.index c.args.body.now x rooms
+                (i + 1) moves sent q c.match-take.moves.items c.match-take.sent) (sym w.self-is)
+                (subst (λ (m : Vec Move _). TakesRows old c.args.index c.args.body.now x rooms
+                (i + 1) moves sent w.answer_row.new.self m.items c.match-take.sent) (sym w.moves-is)
+                (subst (λ (y : Announced). TakesRows old c.args.index c.args.body.now x rooms
+                (i + 1) moves sent w.answer_row.new.self w.answer_row.new.moves.items y) (sym w.sent-is) takes));
             rest = rest;
             count = count;
-            few = subst (λ (y : Announced). y.unsent ≤ sent.unsent + 256 * (i + 1)) (sym w.sent-is) (omega (arith, few, more));
-            messages = λ h. subst (λ (y : Announced). AreMessages y.packets.items) (sym w.sent-is) (w.answer_row.ensures.messages (c.loop-row.invariant.messages h));
-            room = omega (arith, room, len, capacity, ap (λ (m : Vec Move _). vec_len m) w.moves-is, ap (λ (m : Vec Move _). vec_capacity m) w.moves-is);
+            few =
+                subst (λ (y : Announced). y.unsent ≤ sent.unsent + 256 * (i + 1)) (sym w.sent-is)
+                (omega (arith, few, more));
+            messages =
+                λ h. subst (λ (y : Announced). AreMessages y.packets.items) (sym w.sent-is)
+                (w.answer_row.ensures.messages (c.loop-row.invariant.messages h));
+            room =
+                omega (
+                  arith,
+                  room,
+                  len,
+                  capacity,
+                  ap (λ (m : Vec Move _). vec_len m) w.moves-is,
+                  ap (λ (m : Vec Move _). vec_capacity m) w.moves-is,
+                );
           }
       | in_default w ↦
-          let none : slice_get rooms i ≡ Some None = there ∙ ap (λ (x : Option Room). Some x) (sym c.take.ensures.value ∙ w.in_default.is) in
+          let none : slice_get rooms i ≡ Some None =
+          there ∙ ap (λ (x : Option Room). Some x) (sym c.take.ensures.value ∙ w.in_default.is) in
           record {
             takes = λ x at.
                 let same : k ≡ x = same_Some k x (sym c.requires.within.1 ∙ at) in
-                let takes : TakesRows old c.args.index c.args.body.now x rooms (i + 1) moves sent c.loop-row.self c.loop-row.moves.items c.loop-row.sent =
-                rows_skip old c.loop-row.self c.args.index c.args.body.now x rooms i moves c.loop-row.moves.items sent c.loop-row.sent (c.loop-row.invariant.takes x at) (subst (λ (y : WriterKept). i < length y.readers) same known) none in
-                subst (λ (q : PeerKept). TakesRows old c.args.index c.args.body.now x rooms (i + 1) moves sent q c.match-take.moves.items c.match-take.sent) (sym w.self-is)
-                (subst (λ (m : Vec Move _). TakesRows old c.args.index c.args.body.now x rooms (i + 1) moves sent c.loop-row.self m.items c.match-take.sent) (sym w.moves-is)
-                (subst (λ (y : Announced). TakesRows old c.args.index c.args.body.now x rooms (i + 1) moves sent c.loop-row.self c.loop-row.moves.items y) (sym w.sent-is) takes));
+                let takes : TakesRows old c.args.index c.args.body.now x rooms
+                (i + 1) moves sent c.loop-row.self c.loop-row.moves.items c.loop-row.sent =
+                rows_skip old c.loop-row.self c.args.index c.args.body.now x rooms i moves c.loop-row.moves.items sent
+                c.loop-row.sent (c.loop-row.invariant.takes x at)
+                (subst (λ (y : WriterKept). i < length y.readers) same known) none in
+                subst (λ (q : PeerKept). TakesRows old c.args.index c.args.body.now x rooms
+                (i + 1) moves sent q c.match-take.moves.items c.match-take.sent) (sym w.self-is)
+                (subst (λ (m : Vec Move _). TakesRows old c.args.index c.args.body.now x rooms
+                (i + 1) moves sent c.loop-row.self m.items c.match-take.sent) (sym w.moves-is)
+                (subst (λ (y : Announced). TakesRows old c.args.index c.args.body.now x rooms
+                (i + 1) moves sent c.loop-row.self c.loop-row.moves.items y) (sym w.sent-is) takes));
             rest = rest;
             count = count;
-            few = subst (λ (y : Announced). y.unsent ≤ sent.unsent + 256 * (i + 1)) (sym w.sent-is) (omega (arith, few));
-            messages = λ h. subst (λ (y : Announced). AreMessages y.packets.items) (sym w.sent-is) (c.loop-row.invariant.messages h);
-            room = omega (arith, room, ap (λ (m : Vec Move _). vec_len m) w.moves-is, ap (λ (m : Vec Move _). vec_capacity m) w.moves-is);
+            few =
+                subst (λ (y : Announced). y.unsent ≤ sent.unsent + 256 * (i + 1)) (sym w.sent-is) (omega (arith, few));
+            messages =
+                λ h. subst (λ (y : Announced). AreMessages y.packets.items) (sym w.sent-is)
+                (c.loop-row.invariant.messages h);
+            room =
+                omega (
+                  arith,
+                  room,
+                  ap (λ (m : Vec Move _). vec_len m) w.moves-is,
+                  ap (λ (m : Vec Move _). vec_capacity m) w.moves-is,
+                );
           }
     ]
 
 pub returns-clause-takes : goal.returns-clause-takes
 returns-clause-takes c = λ k at.
     let same : c.requires.within.0 ≡ k = same_Some c.requires.within.0 k (sym c.requires.within.1 ∙ at) in
-    let many : length c.args.rooms.items ≡ length k.readers = c.requires.within.2 ∙ ap (λ (x : WriterKept). length x.readers) same in
+    let many : length c.args.rooms.items ≡ length k.readers =
+    c.requires.within.2 ∙ ap (λ (x : WriterKept). length x.readers) same in
     let count = c.loop-row.invariant.count in
     let end : c.loop-row.row ≡ length c.args.rooms.items = search rules in
-    subst (λ (n : ℕ). TakesRows c.args.self.now c.args.index c.args.body.now k c.args.rooms.items n c.args.moves.now.items c.args.sent.now c.loop-row.self c.loop-row.moves.items c.loop-row.sent) (end ∙ many) (c.loop-row.invariant.takes k at)
+    subst (λ (n : ℕ). TakesRows c.args.self.now c.args.index c.args.body.now k c.args.rooms.items n
+    c.args.moves.now.items c.args.sent.now c.loop-row.self c.loop-row.moves.items c.loop-row.sent) (end ∙ many)
+    (c.loop-row.invariant.takes k at)

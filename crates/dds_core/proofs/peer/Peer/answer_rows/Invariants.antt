@@ -8,7 +8,9 @@ use Rattle.dds_core.proofs.peer.Peer.answer_rows.Given as goal
 -- the readers so far were answered, and the rest is as it was
 abbrev pub invariant-loop-row : goal.invariant-loop-row
 invariant-loop-row l = record {
-  takes : (k : WriterKept) → slice_get l.initial.self.writers l.fn.index ≡ Some k → TakesRows l.initial.self l.fn.index l.fn.body k l.fn.rooms.items l.row l.initial.moves.items l.initial.sent l.self l.moves.items l.sent;
+  takes : (k : WriterKept) → slice_get l.initial.self.writers l.fn.index ≡ Some k
+      → TakesRows l.initial.self l.fn.index l.fn.body k l.fn.rooms.items l.row l.initial.moves.items l.initial.sent
+      l.self l.moves.items l.sent;
   rest : drop l.row l.rooms.items ≡ drop l.row l.fn.rooms.items;
   count : length l.rooms.items ≡ length l.fn.rooms.items;
   few : l.sent.unsent ≤ l.initial.sent.unsent + 256 * l.row;

@@ -15,7 +15,8 @@ pub returns-in-Unregister-clause-step : goal.returns-in-Unregister-clause-step
 returns-in-Unregister-clause-step g c = plainly_called _ _ _ _ _ _ c.in-Unregister.is c.unregister.ensures.step refl
 
 pub returns-in-AssertLiveliness-clause-step : goal.returns-in-AssertLiveliness-clause-step
-returns-in-AssertLiveliness-clause-step g c = plainly_called _ _ _ _ _ _ c.in-AssertLiveliness.is c.assert_liveliness.ensures.step refl
+returns-in-AssertLiveliness-clause-step g c =
+    plainly_called _ _ _ _ _ _ c.in-AssertLiveliness.is c.assert_liveliness.ensures.step refl
 
 pub returns-in-Read-clause-step : goal.returns-in-Read-clause-step
 returns-in-Read-clause-step g c = plainly_called _ _ _ _ _ _ c.in-Read.is c.access.ensures.step refl
@@ -24,58 +25,75 @@ pub returns-in-Take-clause-step : goal.returns-in-Take-clause-step
 returns-in-Take-clause-step g c = plainly_called _ _ _ _ _ _ c.in-Take.is c.access-in-Take.ensures.step refl
 
 pub returns-in-GetKeyValue-clause-step : goal.returns-in-GetKeyValue-clause-step
-returns-in-GetKeyValue-clause-step g c = plainly_called _ _ _ _ _ _ c.in-GetKeyValue.is c.get_key_value.ensures.step refl
+returns-in-GetKeyValue-clause-step g c =
+    plainly_called _ _ _ _ _ _ c.in-GetKeyValue.is c.get_key_value.ensures.step refl
 
 pub returns-in-LookupInstance-clause-step : goal.returns-in-LookupInstance-clause-step
-returns-in-LookupInstance-clause-step g c = plainly_called _ _ _ _ _ _ c.in-LookupInstance.is c.lookup_instance.ensures.step refl
+returns-in-LookupInstance-clause-step g c =
+    plainly_called _ _ _ _ _ _ c.in-LookupInstance.is c.lookup_instance.ensures.step refl
 
 pub returns-in-GetSampleLost-clause-step : goal.returns-in-GetSampleLost-clause-step
-returns-in-GetSampleLost-clause-step g c = plainly_called _ _ _ _ _ _ c.in-GetSampleLost.is c.get_sample_lost.ensures.step refl
+returns-in-GetSampleLost-clause-step g c =
+    plainly_called _ _ _ _ _ _ c.in-GetSampleLost.is c.get_sample_lost.ensures.step refl
 
 pub returns-in-GetLivelinessChanged-clause-step : goal.returns-in-GetLivelinessChanged-clause-step
-returns-in-GetLivelinessChanged-clause-step g c = plainly_called _ _ _ _ _ _ c.in-GetLivelinessChanged.is c.get_liveliness_changed.ensures.step refl
+returns-in-GetLivelinessChanged-clause-step g c =
+    plainly_called _ _ _ _ _ _ c.in-GetLivelinessChanged.is c.get_liveliness_changed.ensures.step refl
 
 pub returns-in-GetLivelinessLost-clause-step : goal.returns-in-GetLivelinessLost-clause-step
-returns-in-GetLivelinessLost-clause-step g c = plainly_called _ _ _ _ _ _ c.in-GetLivelinessLost.is c.get_liveliness_lost.ensures.step refl
+returns-in-GetLivelinessLost-clause-step g c =
+    plainly_called _ _ _ _ _ _ c.in-GetLivelinessLost.is c.get_liveliness_lost.ensures.step refl
 
 pub returns-in-ReadByCondition-clause-step : goal.returns-in-ReadByCondition-clause-step
-returns-in-ReadByCondition-clause-step g c = called _ _ _ _ _ _ c.in-ReadByCondition.is c.access_by_condition.ensures.step
+returns-in-ReadByCondition-clause-step g c =
+    called _ _ _ _ _ _ c.in-ReadByCondition.is c.access_by_condition.ensures.step
 
 pub returns-in-TakeByCondition-clause-step : goal.returns-in-TakeByCondition-clause-step
-returns-in-TakeByCondition-clause-step g c = called _ _ _ _ _ _ c.in-TakeByCondition.is c.access_by_condition-in-TakeByCondition.ensures.step
+returns-in-TakeByCondition-clause-step g c =
+    called _ _ _ _ _ _ c.in-TakeByCondition.is c.access_by_condition-in-TakeByCondition.ensures.step
 
 pub returns-in-CreateReadCondition-clause-step : goal.returns-in-CreateReadCondition-clause-step
-returns-in-CreateReadCondition-clause-step g c = plainly_called _ _ _ _ _ _ c.in-CreateReadCondition.is c.create_read_condition.ensures.step refl
+returns-in-CreateReadCondition-clause-step g c =
+    plainly_called _ _ _ _ _ _ c.in-CreateReadCondition.is c.create_read_condition.ensures.step refl
 
 pub returns-in-CreateQueryCondition-clause-step : goal.returns-in-CreateQueryCondition-clause-step
-returns-in-CreateQueryCondition-clause-step g c = plainly_called _ _ _ _ _ _ c.in-CreateQueryCondition.is c.create_query_condition.ensures.step refl
+returns-in-CreateQueryCondition-clause-step g c =
+    plainly_called _ _ _ _ _ _ c.in-CreateQueryCondition.is c.create_query_condition.ensures.step refl
 
 pub returns-in-CreateGuardCondition-clause-step : goal.returns-in-CreateGuardCondition-clause-step
-returns-in-CreateGuardCondition-clause-step g c = plainly_called _ _ _ _ _ _ c.in-CreateGuardCondition.is c.create_guard_condition.ensures.step refl
+returns-in-CreateGuardCondition-clause-step g c =
+    plainly_called _ _ _ _ _ _ c.in-CreateGuardCondition.is c.create_guard_condition.ensures.step refl
 
 pub returns-in-SetTriggerValue-clause-step : goal.returns-in-SetTriggerValue-clause-step
-returns-in-SetTriggerValue-clause-step g c = plainly_called _ _ _ _ _ _ c.in-SetTriggerValue.is c.set_trigger_value.ensures.step refl
+returns-in-SetTriggerValue-clause-step g c =
+    plainly_called _ _ _ _ _ _ c.in-SetTriggerValue.is c.set_trigger_value.ensures.step refl
 
 pub returns-in-DeleteCondition-clause-step : goal.returns-in-DeleteCondition-clause-step
-returns-in-DeleteCondition-clause-step g c = plainly_called _ _ _ _ _ _ c.in-DeleteCondition.is c.delete_condition.ensures.step refl
+returns-in-DeleteCondition-clause-step g c =
+    plainly_called _ _ _ _ _ _ c.in-DeleteCondition.is c.delete_condition.ensures.step refl
 
 pub returns-in-GetTriggerValue-clause-step : goal.returns-in-GetTriggerValue-clause-step
 returns-in-GetTriggerValue-clause-step g c = called _ _ _ _ _ _ c.in-GetTriggerValue.is c.get_trigger_value.ensures.step
 
 pub returns-in-CreateWaitSet-clause-step : goal.returns-in-CreateWaitSet-clause-step
-returns-in-CreateWaitSet-clause-step g c = plainly_called _ _ _ _ _ _ c.in-CreateWaitSet.is c.create_wait_set.ensures.step refl
+returns-in-CreateWaitSet-clause-step g c =
+    plainly_called _ _ _ _ _ _ c.in-CreateWaitSet.is c.create_wait_set.ensures.step refl
 
 pub returns-in-DeleteWaitSet-clause-step : goal.returns-in-DeleteWaitSet-clause-step
-returns-in-DeleteWaitSet-clause-step g c = plainly_called _ _ _ _ _ _ c.in-DeleteWaitSet.is c.delete_wait_set.ensures.step refl
+returns-in-DeleteWaitSet-clause-step g c =
+    plainly_called _ _ _ _ _ _ c.in-DeleteWaitSet.is c.delete_wait_set.ensures.step refl
 
 pub returns-in-AttachCondition-clause-step : goal.returns-in-AttachCondition-clause-step
-returns-in-AttachCondition-clause-step g c = plainly_called _ _ _ _ _ _ c.in-AttachCondition.is c.attach_condition.ensures.step refl
+returns-in-AttachCondition-clause-step g c =
+    plainly_called _ _ _ _ _ _ c.in-AttachCondition.is c.attach_condition.ensures.step refl
 
 pub returns-in-DetachCondition-clause-step : goal.returns-in-DetachCondition-clause-step
-returns-in-DetachCondition-clause-step g c = plainly_called _ _ _ _ _ _ c.in-DetachCondition.is c.detach_condition.ensures.step refl
+returns-in-DetachCondition-clause-step g c =
+    plainly_called _ _ _ _ _ _ c.in-DetachCondition.is c.detach_condition.ensures.step refl
 
 pub returns-in-GetConditions-clause-step : goal.returns-in-GetConditions-clause-step
-returns-in-GetConditions-clause-step g c = plainly_called _ _ _ _ _ _ c.in-GetConditions.is c.get_conditions.ensures.step refl
+returns-in-GetConditions-clause-step g c =
+    plainly_called _ _ _ _ _ _ c.in-GetConditions.is c.get_conditions.ensures.step refl
 
 pub returns-in-WaitBegin-clause-step : goal.returns-in-WaitBegin-clause-step
 returns-in-WaitBegin-clause-step g c = plainly_called _ _ _ _ _ _ c.in-WaitBegin.is c.wait_begin.ensures.step refl
@@ -87,7 +105,9 @@ pub returns-in-WaitEnd-clause-step : goal.returns-in-WaitEnd-clause-step
 returns-in-WaitEnd-clause-step g c = plainly_called _ _ _ _ _ _ c.in-WaitEnd.is c.wait_end.ensures.step refl
 
 pub returns-in-SetEnabledStatuses-clause-step : goal.returns-in-SetEnabledStatuses-clause-step
-returns-in-SetEnabledStatuses-clause-step g c = plainly_called _ _ _ _ _ _ c.in-SetEnabledStatuses.is c.set_enabled_statuses.ensures.step refl
+returns-in-SetEnabledStatuses-clause-step g c =
+    plainly_called _ _ _ _ _ _ c.in-SetEnabledStatuses.is c.set_enabled_statuses.ensures.step refl
 
 pub returns-in-GetStatusChanges-clause-step : goal.returns-in-GetStatusChanges-clause-step
-returns-in-GetStatusChanges-clause-step g c = plainly_called _ _ _ _ _ _ c.in-GetStatusChanges.is c.get_status_changes.ensures.step refl
+returns-in-GetStatusChanges-clause-step g c =
+    plainly_called _ _ _ _ _ _ c.in-GetStatusChanges.is c.get_status_changes.ensures.step refl

@@ -14,6 +14,9 @@ pub returns-clause-step : goal.returns-clause-step
 returns-clause-step c = λ config peer given.
     let s = subst (λ (k : PeerKept). StandsFor k config peer) (sym c.self.view_is) given in
     follows_as _ config peer _ _ _ c.answered.ensures
-    (given_in_memory (λ n. Created n) made_reply (λ n. refl) (λ code. refl) (λ w. number_refusal w.conditions) (λ w. length w.conditions + 1) (λ w. with_condition w (Guard false)) _
-    c.create-made.new.self c.create-made.result c.reply_to_made.result config peer s call.CreateGuardCondition (λ dds h. h) refl c.reply_to_made.ensures
-    c.create-made.ensures.ok c.create-made.ensures.number c.create-made.ensures.taken c.create-made.ensures.refused c.create-made.ensures.err)
+    (given_in_memory (λ n. Created n) made_reply (λ n. refl) (λ code. refl) (λ w. number_refusal w.conditions)
+    (λ w. length w.conditions + 1) (λ w. with_condition w (Guard false)) _
+    c.create-made.new.self c.create-made.result c.reply_to_made.result config peer s call.CreateGuardCondition
+    (λ dds h. h) refl c.reply_to_made.ensures
+    c.create-made.ensures.ok c.create-made.ensures.number c.create-made.ensures.taken c.create-made.ensures.refused
+    c.create-made.ensures.err)

@@ -21,13 +21,22 @@ returns-clause-step c = λ config peer given.
     let known : has_element peer.part.dds.readers c.args.reader ≡ true =
     known_end peer.part.dds.readers c.args.reader c.in-Some._reader _ c.in-Some.ensures.0 within s.readers.count in
     let here : has_filter c.self.inside.watch c.args.filter ≡ true = search rules in
-    let there : has_filter peer.part.dds.watch c.args.filter ≡ true = ap (λ (w : Watched). has_filter w c.args.filter) s.watch ∙ here in
-    let free : query_condition_refusal peer.part c.args.reader c.args.filter ≡ number_refusal peer.part.dds.watch.conditions =
+    let there : has_filter peer.part.dds.watch c.args.filter ≡ true =
+    ap (λ (w : Watched). has_filter w c.args.filter) s.watch ∙ here in
+    let free : query_condition_refusal peer.part c.args.reader c.args.filter
+    ≡ number_refusal peer.part.dds.watch.conditions =
     ap (λ (b : Bool). if b then read_condition_refusal peer.part c.args.reader else Some BadParameter) there
     ∙ ap (λ (b : Bool). if not b then Some BadParameter else number_refusal peer.part.dds.watch.conditions) known in
     follows_as _ config peer _ _ _ c.answered.ensures
-    (given_in_memory (λ n. Created n) made_reply (λ n. refl) (λ code. refl) (λ w. number_refusal w.conditions) (λ w. length w.conditions + 1) (λ w. with_condition w (Samples c.args.reader c.args.masks (Some c.args.filter))) _
-    c.create-made.new.self c.create-made.result c.reply_to_made.result config peer s (call.CreateQueryCondition c.args.reader c.args.masks c.args.filter)
-    (λ dds h. subst (λ (o : Option Code). IsAnsweredInMemory true o (Created (length peer.part.dds.watch.conditions + 1)) (with_condition peer.part.dds.watch (Samples c.args.reader c.args.masks (Some c.args.filter))) peer.part c.reply_to_made.result dds)
+    (given_in_memory (λ n. Created n) made_reply (λ n. refl) (λ code. refl) (λ w. number_refusal w.conditions)
+    (λ w. length w.conditions + 1) (λ w. with_condition w (Samples c.args.reader c.args.masks (Some c.args.filter)))
+    _
+    c.create-made.new.self c.create-made.result c.reply_to_made.result config peer s
+    (call.CreateQueryCondition c.args.reader c.args.masks c.args.filter)
+    (λ dds h. subst (λ (o : Option Code). IsAnsweredInMemory true o
+    (Created (length peer.part.dds.watch.conditions + 1))
+    (with_condition peer.part.dds.watch (Samples c.args.reader c.args.masks (Some c.args.filter))) peer.part
+    c.reply_to_made.result dds)
     (sym free) h) refl c.reply_to_made.ensures
-    c.create-made.ensures.ok c.create-made.ensures.number c.create-made.ensures.taken c.create-made.ensures.refused c.create-made.ensures.err)
+    c.create-made.ensures.ok c.create-made.ensures.number c.create-made.ensures.taken c.create-made.ensures.refused
+    c.create-made.ensures.err)

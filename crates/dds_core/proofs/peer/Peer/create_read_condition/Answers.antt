@@ -21,8 +21,15 @@ returns-clause-step c = λ config peer given.
     let known : has_element peer.part.dds.readers c.args.reader ≡ true =
     known_end peer.part.dds.readers c.args.reader c.in-Some._index _ c.in-Some.ensures.0 within s.readers.count in
     follows_as _ config peer _ _ _ c.answered.ensures
-    (given_in_memory (λ n. Created n) made_reply (λ n. refl) (λ code. refl) (λ w. number_refusal w.conditions) (λ w. length w.conditions + 1) (λ w. with_condition w (Samples c.args.reader c.args.masks None)) _
-    c.create-made.new.self c.create-made.result c.reply_to_made.result config peer s (call.CreateReadCondition c.args.reader c.args.masks)
-    (λ dds h. subst (λ (o : Option Code). IsAnsweredInMemory true o (Created (length peer.part.dds.watch.conditions + 1)) (with_condition peer.part.dds.watch (Samples c.args.reader c.args.masks None)) peer.part c.reply_to_made.result dds)
-    (sym (ap (λ (b : Bool). if not b then Some BadParameter else number_refusal peer.part.dds.watch.conditions) known)) h) refl c.reply_to_made.ensures
-    c.create-made.ensures.ok c.create-made.ensures.number c.create-made.ensures.taken c.create-made.ensures.refused c.create-made.ensures.err)
+    (given_in_memory (λ n. Created n) made_reply (λ n. refl) (λ code. refl) (λ w. number_refusal w.conditions)
+    (λ w. length w.conditions + 1) (λ w. with_condition w (Samples c.args.reader c.args.masks None)) _
+    c.create-made.new.self c.create-made.result c.reply_to_made.result config peer s
+    (call.CreateReadCondition c.args.reader c.args.masks)
+    (λ dds h. subst (λ (o : Option Code). IsAnsweredInMemory true o
+    (Created (length peer.part.dds.watch.conditions + 1))
+    (with_condition peer.part.dds.watch (Samples c.args.reader c.args.masks None)) peer.part c.reply_to_made.result
+    dds)
+    (sym (ap (λ (b : Bool). if not b then Some BadParameter else number_refusal peer.part.dds.watch.conditions) known))
+    h) refl c.reply_to_made.ensures
+    c.create-made.ensures.ok c.create-made.ensures.number c.create-made.ensures.taken c.create-made.ensures.refused
+    c.create-made.ensures.err)

@@ -13,6 +13,9 @@ pub returns-clause-step : goal.returns-clause-step
 returns-clause-step c = λ config peer given.
     let s = subst (λ (k : PeerKept). StandsFor k config peer) (sym c.self.view_is) given in
     follows_as _ config peer _ _ _ c.answered.ensures
-    (given_in_memory (λ n. Created n) made_reply (λ n. refl) (λ code. refl) (λ w. number_refusal w.wait_sets) (λ w. length w.wait_sets + 1) (λ w. with_wait_set w) _
-    c.create_wait_set-made.new.self c.create_wait_set-made.result c.reply_to_made.result config peer s call.CreateWaitSet (λ dds h. h) refl c.reply_to_made.ensures
-    c.create_wait_set-made.ensures.ok c.create_wait_set-made.ensures.number c.create_wait_set-made.ensures.taken c.create_wait_set-made.ensures.refused c.create_wait_set-made.ensures.err)
+    (given_in_memory (λ n. Created n) made_reply (λ n. refl) (λ code. refl) (λ w. number_refusal w.wait_sets)
+    (λ w. length w.wait_sets + 1) (λ w. with_wait_set w) _
+    c.create_wait_set-made.new.self c.create_wait_set-made.result c.reply_to_made.result config peer s
+    call.CreateWaitSet (λ dds h. h) refl c.reply_to_made.ensures
+    c.create_wait_set-made.ensures.ok c.create_wait_set-made.ensures.number c.create_wait_set-made.ensures.taken
+    c.create_wait_set-made.ensures.refused c.create_wait_set-made.ensures.err)

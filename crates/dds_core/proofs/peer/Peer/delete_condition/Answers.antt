@@ -12,6 +12,8 @@ pub returns-clause-step : goal.returns-clause-step
 returns-clause-step c = λ config peer given.
     let s = subst (λ (k : PeerKept). StandsFor k config peer) (sym c.self.view_is) given in
     follows_as _ config peer _ _ _ c.answered.ensures
-    (done_call (λ w. unless_there (is_some (made w.conditions c.args.condition))) (λ w. without_condition w c.args.condition) _
-    c.delete-done.new.self c.delete-done.result c.reply_to.result config peer s (call.DeleteCondition c.args.condition) (λ dds h. h) refl c.reply_to.ensures
+    (done_call (λ w. unless_there (is_some (made w.conditions c.args.condition)))
+    (λ w. without_condition w c.args.condition) _
+    c.delete-done.new.self c.delete-done.result c.reply_to.result config peer s (call.DeleteCondition c.args.condition)
+    (λ dds h. h) refl c.reply_to.ensures
     c.delete-done.ensures.ok c.delete-done.ensures.taken c.delete-done.ensures.refused c.delete-done.ensures.err)

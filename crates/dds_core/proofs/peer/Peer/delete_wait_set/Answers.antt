@@ -12,5 +12,7 @@ returns-clause-step c = λ config peer given.
     let s = subst (λ (k : PeerKept). StandsFor k config peer) (sym c.self.view_is) given in
     follows_as _ config peer _ _ _ c.answered.ensures
     (done_call (λ w. free_refusal (made w.wait_sets c.args.wait_set)) (λ w. with_wait_set_at w c.args.wait_set None) _
-    c.delete_wait_set-done.new.self c.delete_wait_set-done.result c.reply_to.result config peer s (call.DeleteWaitSet c.args.wait_set) (λ dds h. h) refl c.reply_to.ensures
-    c.delete_wait_set-done.ensures.ok c.delete_wait_set-done.ensures.taken c.delete_wait_set-done.ensures.refused c.delete_wait_set-done.ensures.err)
+    c.delete_wait_set-done.new.self c.delete_wait_set-done.result c.reply_to.result config peer s
+    (call.DeleteWaitSet c.args.wait_set) (λ dds h. h) refl c.reply_to.ensures
+    c.delete_wait_set-done.ensures.ok c.delete_wait_set-done.ensures.taken c.delete_wait_set-done.ensures.refused
+    c.delete_wait_set-done.ensures.err)

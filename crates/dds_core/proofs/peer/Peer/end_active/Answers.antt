@@ -20,5 +20,6 @@ returns-in-Ok-clause-step g c = λ config peer given.
 pub returns-in-Err-clause-step : goal.returns-in-Err-clause-step
 returns-in-Err-clause-step g c = λ config peer given.
     follows_as _ config peer _ _ _ c.refused.ensures
-    (subst (λ (x : Code). FollowsBy (g.T.Filters.meaning c.args.filters.now) c.args.self.now config peer (event.Call (call.WaitLook c.args.wait_set)) (silent (Refused x))) (sym c.in-Err.ensures.memory)
+    (subst (λ (x : Code). FollowsBy (g.T.Filters.meaning c.args.filters.now) c.args.self.now config peer
+    (event.Call (call.WaitLook c.args.wait_set)) (silent (Refused x))) (sym c.in-Err.ensures.memory)
     (lacks_memory _ config peer given c.args.wait_set (c.requires.active config peer given) c.requires.used))

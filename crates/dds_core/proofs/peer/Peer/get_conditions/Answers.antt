@@ -14,9 +14,13 @@ use Rattle.dds_core.proofs.peer.Peer.get_conditions.Goals as goal
 pub returns-clause-step : goal.returns-clause-step
 returns-clause-step c = λ config peer given.
     let s = subst (λ (k : PeerKept). StandsFor k config peer) (sym c.self.view_is) given in
-    subst (λ (k : PeerKept). Follows k config peer (event.Call (call.GetConditions c.args.wait_set)) c.answered.result) c.self.view_is
+    subst (λ (k : PeerKept). Follows k config peer (event.Call (call.GetConditions c.args.wait_set)) c.answered.result)
+    c.self.view_is
     (follows_as _ config peer _ _ _ c.answered.ensures
-    (given_in_memory (λ cs. Conditions cs) conditions_reply (λ cs. refl) (λ code. refl) (λ w. unless_there (is_some (made w.wait_sets c.args.wait_set)))
-    (λ w. conditions_of w c.args.wait_set) (λ w. w) _ _ c.conditions-conditions.result c.reply_to_conditions.result config peer s
+    (given_in_memory (λ cs. Conditions cs) conditions_reply (λ cs. refl) (λ code. refl)
+    (λ w. unless_there (is_some (made w.wait_sets c.args.wait_set)))
+    (λ w. conditions_of w c.args.wait_set)
+    (λ w. w) _ _ c.conditions-conditions.result c.reply_to_conditions.result config peer s
     (call.GetConditions c.args.wait_set) (λ dds h. h) refl c.reply_to_conditions.ensures
-    (on_ok c.conditions-conditions.result refl) c.conditions-conditions.ensures.ok c.conditions-conditions.ensures.taken c.conditions-conditions.ensures.refused (on_err c.conditions-conditions.result refl)))
+    (on_ok c.conditions-conditions.result refl) c.conditions-conditions.ensures.ok c.conditions-conditions.ensures.taken
+    c.conditions-conditions.ensures.refused (on_err c.conditions-conditions.result refl)))

@@ -13,17 +13,25 @@ returns-in-Some-key_value-clause-step c = λ config peer given.
     let i = c.in-Some.index in
     let s = subst (λ (k : PeerKept). StandsFor k config peer) (sym c.self.view_is) given in
     let within : i < length c.self.inside.readers.items = search rules in
-    let at : slice_get c.self.inside.readers.items i ≡ Some c.index.result.now = slice_get-get_or c.self.inside.readers.items i _ within ∙ ap (λ (x : ReaderKept). Some x) (sym c.index.ensures) in
-    subst (λ (k : PeerKept). Follows k config peer (event.Call (call.GetKeyValue c.args.reader c.args.instance)) c.answered.result) c.self.view_is
+    let at : slice_get c.self.inside.readers.items i ≡ Some c.index.result.now =
+    slice_get-get_or c.self.inside.readers.items i _ within ∙ ap (λ (x : ReaderKept). Some x) (sym c.index.ensures)
+    in
+    subst (λ (k : PeerKept). Follows k config peer
+    (event.Call (call.GetKeyValue c.args.reader c.args.instance)) c.answered.result) c.self.view_is
     (follows_as _ config peer _ _ _ c.answered.ensures
-    (key_told _ config peer c.args.reader i c.index.result.now c.args.instance c.in-Some-key_value.key s c.in-Some.ensures.0 within at c.in-Some-key_value.ensures))
+    (key_told _ config peer c.args.reader i c.index.result.now c.args.instance c.in-Some-key_value.key s
+    c.in-Some.ensures.0 within at c.in-Some-key_value.ensures))
 
 pub returns-in-None-clause-step : goal.returns-in-None-clause-step
 returns-in-None-clause-step c = λ config peer given.
     let i = c.in-Some.index in
     let s = subst (λ (k : PeerKept). StandsFor k config peer) (sym c.self.view_is) given in
     let within : i < length c.self.inside.readers.items = search rules in
-    let at : slice_get c.self.inside.readers.items i ≡ Some c.index.result.now = slice_get-get_or c.self.inside.readers.items i _ within ∙ ap (λ (x : ReaderKept). Some x) (sym c.index.ensures) in
-    subst (λ (k : PeerKept). Follows k config peer (event.Call (call.GetKeyValue c.args.reader c.args.instance)) c.refused-in-None.result) c.self.view_is
+    let at : slice_get c.self.inside.readers.items i ≡ Some c.index.result.now =
+    slice_get-get_or c.self.inside.readers.items i _ within ∙ ap (λ (x : ReaderKept). Some x) (sym c.index.ensures)
+    in
+    subst (λ (k : PeerKept). Follows k config peer
+    (event.Call (call.GetKeyValue c.args.reader c.args.instance)) c.refused-in-None.result) c.self.view_is
     (follows_as _ config peer _ _ _ c.refused-in-None.ensures
-    (key_not_told _ config peer c.args.reader i c.index.result.now c.args.instance s c.in-Some.ensures.0 within at c.in-None.ensures))
+    (key_not_told _ config peer c.args.reader i c.index.result.now c.args.instance s c.in-Some.ensures.0 within at
+    c.in-None.ensures))

@@ -11,6 +11,8 @@ use Rattle.dds_core.proofs.peer.Peer.get_status_changes.Goals as goal
 pub returns-clause-step : goal.returns-clause-step
 returns-clause-step c = λ config peer given.
     follows_as _ config peer _ _ _ c.answered.ensures
-    (told_call _ config peer given (unless_there (knows_entity peer.part.dds.watch c.args.entity)) (StatusChanges (status_changes peer.part c.args.entity))
+    (told_call _ config peer given (unless_there (knows_entity peer.part.dds.watch c.args.entity))
+    (StatusChanges (status_changes peer.part c.args.entity))
     (call.GetStatusChanges c.args.entity) (StatusChanges c.statuses_of-statuses.result) (λ dds h. h) refl
-    (ap (λ (w : Watched). unless_there (knows_entity w c.args.entity)) given.watch ∙ search rules) (ap (λ (m : StatusMask). StatusChanges m) (c.statuses_of-statuses.ensures config peer given)))
+    (ap (λ (w : Watched). unless_there (knows_entity w c.args.entity)) given.watch ∙ search rules)
+    (ap (λ (m : StatusMask). StatusChanges m) (c.statuses_of-statuses.ensures config peer given)))

@@ -11,6 +11,8 @@ pub returns-clause-step : goal.returns-clause-step
 returns-clause-step g c = λ config peer given.
     let tests = g.T.Filters.meaning c.args.filters.now in
     follows_as _ config peer _ _ _ c.answered.ensures
-    (told_call _ config peer given (unless_there (knows peer.part.dds.watch c.args.condition)) (TriggerValue (trigger_value tests peer.part c.args.condition))
+    (told_call _ config peer given (unless_there (knows peer.part.dds.watch c.args.condition))
+    (TriggerValue (trigger_value tests peer.part c.args.condition))
     (call.GetTriggerValue c.args.condition) (TriggerValue c.trigger_of-value.result) (λ dds h. h) refl
-    (ap (λ (w : Watched). unless_there (knows w c.args.condition)) given.watch ∙ search rules) (ap (λ (b : Bool). TriggerValue b) (c.trigger_of-value.ensures config peer given)))
+    (ap (λ (w : Watched). unless_there (knows w c.args.condition)) given.watch ∙ search rules)
+    (ap (λ (b : Bool). TriggerValue b) (c.trigger_of-value.ensures config peer given)))

@@ -13,7 +13,11 @@ returns-clause-step c = λ config peer given.
     let i = c.in-Some.index in
     let s = subst (λ (k : PeerKept). StandsFor k config peer) (sym c.self.view_is) given in
     let within : i < length c.self.inside.readers.items = search rules in
-    let at : slice_get c.self.inside.readers.items i ≡ Some c.index.result.now = slice_get-get_or c.self.inside.readers.items i _ within ∙ ap (λ (x : ReaderKept). Some x) (sym c.index.ensures) in
-    subst (λ (k : PeerKept). Follows k config peer (event.Call (call.LookupInstance c.args.reader c.args.key)) c.answered.result) c.self.view_is
+    let at : slice_get c.self.inside.readers.items i ≡ Some c.index.result.now =
+    slice_get-get_or c.self.inside.readers.items i _ within ∙ ap (λ (x : ReaderKept). Some x) (sym c.index.ensures)
+    in
+    subst (λ (k : PeerKept). Follows k config peer
+    (event.Call (call.LookupInstance c.args.reader c.args.key)) c.answered.result) c.self.view_is
     (follows_as _ config peer _ _ _ c.answered.ensures
-    (handle_told _ config peer c.args.reader i c.index.result.now c.args.key c.lookup-handle.result s c.in-Some.ensures.0 within at c.lookup-handle.ensures))
+    (handle_told _ config peer c.args.reader i c.index.result.now c.args.key c.lookup-handle.result s
+    c.in-Some.ensures.0 within at c.lookup-handle.ensures))

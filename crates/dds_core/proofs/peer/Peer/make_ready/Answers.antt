@@ -8,14 +8,38 @@ use Rattle.dds_core.proofs.peer.Peer.make_ready.Goals as goal
 
 pub returns-clause-ready : goal.returns-clause-ready
 returns-clause-ready c =
-    let same = with_items_is c.self.inside.readers c.prepare.new.readers (c.prepare.ensures.alike.count ∙ c.deref_mut.ensures.len) in
-    subst (λ (rs : List ReaderKept). IfOk c.prepare.result (λ all. AreReady c.args.self.now.prefix (receiver_at c.args.receiver.now) c.args.submessage.now rs all.items)) (sym same)
-    (subst (λ (k : PeerKept). IfOk c.prepare.result (λ all. AreReady k.prefix (receiver_at c.args.receiver.now) c.args.submessage.now c.prepare.new.readers all.items)) c.self.view_is c.prepare.ensures.ready)
+    let same =
+    with_items_is c.self.inside.readers c.prepare.new.readers
+    (c.prepare.ensures.alike.count ∙ c.deref_mut.ensures.len) in
+    subst (λ (rs : List ReaderKept). IfOk c.prepare.result
+    (λ all. AreReady c.args.self.now.prefix (receiver_at c.args.receiver.now) c.args.submessage.now rs all.items))
+    (sym same)
+    (subst (λ (k : PeerKept). IfOk c.prepare.result
+    (λ all. AreReady k.prefix (receiver_at c.args.receiver.now) c.args.submessage.now c.prepare.new.readers
+    all.items)) c.self.view_is c.prepare.ensures.ready)
 
 pub returns-clause-stands : goal.returns-clause-stands
 returns-clause-stands c =
-    let same = with_items_is c.self.inside.readers c.prepare.new.readers (c.prepare.ensures.alike.count ∙ c.deref_mut.ensures.len) in
-    let alike = subst (λ (rs : List ReaderKept). AreAlike rs c.prepare.new.readers) c.deref_mut.ensures.value c.prepare.ensures.alike in
-    subst (λ (rs : List ReaderKept). StandsAsWell c.args.self.now (record { prefix = c.self.inside.prefix; moment = c.self.inside.moment; writers = c.self.inside.writers.items; readers = rs; watch = c.self.inside.watch })) (sym same)
-    (subst (λ (k : PeerKept). StandsAsWell k (record { prefix = c.self.inside.prefix; moment = c.self.inside.moment; writers = c.self.inside.writers.items; readers = c.prepare.new.readers; watch = c.self.inside.watch })) c.self.view_is
+    let same =
+    with_items_is c.self.inside.readers c.prepare.new.readers
+    (c.prepare.ensures.alike.count ∙ c.deref_mut.ensures.len) in
+    let alike =
+    subst (λ (rs : List ReaderKept). AreAlike rs c.prepare.new.readers) c.deref_mut.ensures.value
+    c.prepare.ensures.alike in
+    subst (λ (rs : List ReaderKept). StandsAsWell c.args.self.now
+    (record {
+      prefix = c.self.inside.prefix;
+      moment = c.self.inside.moment;
+      writers = c.self.inside.writers.items;
+      readers = rs;
+      watch = c.self.inside.watch;
+    })) (sym same)
+    (subst (λ (k : PeerKept). StandsAsWell k
+    (record {
+      prefix = c.self.inside.prefix;
+      moment = c.self.inside.moment;
+      writers = c.self.inside.writers.items;
+      readers = c.prepare.new.readers;
+      watch = c.self.inside.watch;
+    })) c.self.view_is
     (alike_core _ c.prepare.new.readers alike))

@@ -37,5 +37,6 @@ returns g c = record {
       tells_all g.L.Listener.notices g.L.Listener.capacity (reader_told before) c.args.self.now c.args.slots.now
       c.loop-index.self c.loop-index.slots c.loop-index.index _ _ (length c.args.self.now.readers)
       c.loop-index.auto.index-end c.loop-index-test.false c.len-index-end.ensures
-      (omega (arith, ap (λ (k : PeerKept). length k.readers) c.self.view_is)) (c.loop-index.invariant.told before marks);
+      (omega (arith, ap (λ (k : PeerKept). length k.readers) c.self.view_is))
+      (c.loop-index.invariant.told before marks);
 }

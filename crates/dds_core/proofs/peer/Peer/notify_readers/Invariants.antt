@@ -7,6 +7,7 @@ use Rattle.dds_core.proofs.peer.Peer.notify_readers.Given as goal
 abbrev pub invariant-loop-index : goal.invariant-loop-index
 invariant-loop-index g l = record {
   told : (before : Part) → AreMarksOf l.marks before
-      → Tells g.L.Listener.notices g.L.Listener.capacity (each_told (reader_told before) l.index) l.fn.self l.fn.slots l.self l.slots;
+      → Tells g.L.Listener.notices g.L.Listener.capacity
+      (each_told (reader_told before) l.index) l.fn.self l.fn.slots l.self l.slots;
   count : length l.self.readers ≡ length l.fn.self.readers;
 }

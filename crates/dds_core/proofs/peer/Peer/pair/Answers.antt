@@ -19,7 +19,11 @@ returns-in_default-row_among c = record {
 
 -- what an index past the end would give
 abbrev no_name : ReaderName
-no_name = record { reader = record { peer = 0; number = 0 }; guid = record { prefix = record { 0 = [] }; entity = record { 0 = [] } } }
+no_name =
+    record {
+      reader = record { peer = 0; number = 0 };
+      guid = record { prefix = record { 0 = [] }; entity = record { 0 = [] } };
+    }
 
 pub returns : goal.returns
 returns c = record {

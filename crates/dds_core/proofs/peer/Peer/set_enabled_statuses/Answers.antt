@@ -12,5 +12,6 @@ returns-clause-step c = λ config peer given.
     let s = subst (λ (k : PeerKept). StandsFor k config peer) (sym c.self.view_is) given in
     follows_as _ config peer _ _ _ c.answered.ensures
     (done_call (λ w. unless_there (knows_entity w c.args.entity)) (λ w. with_enabled w c.args.entity c.args.mask) _
-    c.enable-done.new.self c.enable-done.result c.reply_to.result config peer s (call.SetEnabledStatuses c.args.entity c.args.mask) (λ dds h. h) refl c.reply_to.ensures
+    c.enable-done.new.self c.enable-done.result c.reply_to.result config peer s
+    (call.SetEnabledStatuses c.args.entity c.args.mask) (λ dds h. h) refl c.reply_to.ensures
     c.enable-done.ensures.ok c.enable-done.ensures.taken c.enable-done.ensures.refused c.enable-done.ensures.err)

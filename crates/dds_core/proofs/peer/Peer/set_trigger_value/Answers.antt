@@ -12,6 +12,9 @@ pub returns-clause-step : goal.returns-clause-step
 returns-clause-step c = λ config peer given.
     let s = subst (λ (k : PeerKept). StandsFor k config peer) (sym c.self.view_is) given in
     follows_as _ config peer _ _ _ c.answered.ensures
-    (done_call (λ w. guard_refusal (made w.conditions c.args.condition)) (λ w. with_condition_at w c.args.condition (Some (Guard c.args.value))) _
-    c.set_guard-done.new.self c.set_guard-done.result c.reply_to.result config peer s (call.SetTriggerValue c.args.condition c.args.value) (λ dds h. h) refl c.reply_to.ensures
-    c.set_guard-done.ensures.ok c.set_guard-done.ensures.taken c.set_guard-done.ensures.refused c.set_guard-done.ensures.err)
+    (done_call (λ w. guard_refusal (made w.conditions c.args.condition))
+    (λ w. with_condition_at w c.args.condition (Some (Guard c.args.value))) _
+    c.set_guard-done.new.self c.set_guard-done.result c.reply_to.result config peer s
+    (call.SetTriggerValue c.args.condition c.args.value) (λ dds h. h) refl c.reply_to.ensures
+    c.set_guard-done.ensures.ok c.set_guard-done.ensures.taken c.set_guard-done.ensures.refused
+    c.set_guard-done.ensures.err)

@@ -13,16 +13,29 @@ use Rattle.dds_core.proofs.peer.Peer.take_all.Goals.{in-Some, in_default}
 use Rattle.dds_core.proofs.peer.Peer.take_all.Goals as goal
 
 pub loop-index-init : goal.loop-index-init
-loop-index-init c = record { takes = takes_none c.args.self.now c.args.ready.items c.args.moves.now.items c.args.sent.now; rest = refl; count = refl; few = omega arith; messages = λ h. h; room = omega (arith, c.requires.room) }
+loop-index-init c =
+    record {
+      takes = takes_none c.args.self.now c.args.ready.items c.args.moves.now.items c.args.sent.now;
+      rest = refl;
+      count = refl;
+      few = omega arith;
+      messages = λ h. h;
+      room = omega (arith, c.requires.room);
+    }
 
 pub take_at-requires-clause-can : goal.take_at-requires-clause-can
 take_at-requires-clause-can c =
     let i = c.loop-index.index in
     let within : i < length c.loop-index.ready.items = search rules in
     let there : slice_get c.args.ready.items i ≡ Some c.index_mut.result.now =
-    still_ready c.args.ready.items c.loop-index.ready.items i c.index_mut.result.now c.index_mut.result.now c.loop-index.invariant.rest within c.index_mut.ensures.value in
-    let can = c.requires.can i c.in-Some.one (there ∙ ap (λ (x : Option Ready). Some x) (sym c.in-Some.ensures.value)) in
-    (can.0, left_at c.loop-index.self.readers c.args.self.now.readers i can.0 c.loop-index.invariant.takes.left can.1, can.2)
+    still_ready c.args.ready.items c.loop-index.ready.items i c.index_mut.result.now c.index_mut.result.now
+    c.loop-index.invariant.rest within c.index_mut.ensures.value in
+    let can =
+    c.requires.can i c.in-Some.one (there ∙ ap (λ (x : Option Ready). Some x) (sym c.in-Some.ensures.value)) in (
+      can.0,
+      left_at c.loop-index.self.readers c.args.self.now.readers i can.0 c.loop-index.invariant.takes.left can.1,
+      can.2,
+    )
 
 pub take_at-requires-clause-room : goal.take_at-requires-clause-room
 take_at-requires-clause-room c =
@@ -36,42 +49,89 @@ loop-index-preserved c =
     let i = c.loop-index.index in
     let within : i < length c.loop-index.ready.items = search rules in
     let there : slice_get c.args.ready.items i ≡ Some c.index_mut.result.now =
-    still_ready c.args.ready.items c.loop-index.ready.items i c.index_mut.result.now c.index_mut.result.now c.loop-index.invariant.rest within c.index_mut.ensures.value in
+    still_ready c.args.ready.items c.loop-index.ready.items i c.index_mut.result.now c.index_mut.result.now
+    c.loop-index.invariant.rest within c.index_mut.ensures.value in
     let rest = rest_more c.args.ready.items c.loop-index.ready.items i c.take.new.self c.loop-index.invariant.rest in
-    let count : length _ ≡ length c.args.ready.items = length-set c.loop-index.ready.items i c.take.new.self ∙ c.loop-index.invariant.count in
+    let count : length _ ≡ length c.args.ready.items =
+    length-set c.loop-index.ready.items i c.take.new.self ∙ c.loop-index.invariant.count in
     let room = c.loop-index.invariant.room in
     let few = c.loop-index.invariant.few in
-    let known : i < length c.args.self.now.readers = fewer c.args.self.now.readers c.args.ready.items i c.requires.count (subst (λ n. i < n) c.loop-index.invariant.count within) in
+    let known : i < length c.args.self.now.readers =
+    fewer c.args.self.now.readers c.args.ready.items i c.requires.count
+    (subst (λ n. i < n) c.loop-index.invariant.count within) in
     elim c.match-take.branch [
       | in-Some w ↦
-          let is : slice_get c.args.ready.items i ≡ Some (Some w.in-Some.one) = there ∙ ap (λ (x : Option Ready). Some x) (sym w.in-Some.ensures.value) in
-          let takes = takes_more c.args.self.now c.loop-index.self w.take_at.new.self c.args.ready.items i w.in-Some.one c.args.moves.now.items c.loop-index.moves.items w.take_at.new.moves.items c.args.sent.now c.loop-index.sent w.take_at.new.sent
+          let is : slice_get c.args.ready.items i ≡ Some (Some w.in-Some.one) =
+          there ∙ ap (λ (x : Option Ready). Some x) (sym w.in-Some.ensures.value) in
+          let takes =
+          takes_more c.args.self.now c.loop-index.self w.take_at.new.self c.args.ready.items i w.in-Some.one
+          c.args.moves.now.items c.loop-index.moves.items w.take_at.new.moves.items c.args.sent.now
+          c.loop-index.sent w.take_at.new.sent
           c.loop-index.invariant.takes known is w.take_at.ensures.takes in
           let more = w.take_at.ensures.few in
           let len = w.take_at.ensures.len in
           let capacity = w.take_at.ensures.capacity in
           record {
-            takes = subst (λ (k : PeerKept). TakesSome c.args.self.now c.args.ready.items (i + 1) c.args.moves.now.items c.args.sent.now k c.match-take.moves.items c.match-take.sent) (sym w.self-is)
-                (subst (λ (m : Vec Move _). TakesSome c.args.self.now c.args.ready.items (i + 1) c.args.moves.now.items c.args.sent.now w.take_at.new.self m.items c.match-take.sent) (sym w.moves-is)
-                (subst (λ (x : Announced). TakesSome c.args.self.now c.args.ready.items (i + 1) c.args.moves.now.items c.args.sent.now w.take_at.new.self w.take_at.new.moves.items x) (sym w.sent-is) takes));
-            few = subst (λ (x : Announced). x.unsent ≤ c.args.sent.now.unsent + (i + 1)) (sym w.sent-is) (omega (arith, few, more));
-            messages = λ h. subst (λ (x : Announced). AreMessages x.packets.items) (sym w.sent-is) (w.take_at.ensures.messages (c.loop-index.invariant.messages h));
+            takes =
+                subst (λ (k : PeerKept). TakesSome c.args.self.now c.args.ready.items
+                (i + 1) c.args.moves.now.items c.args.sent.now k c.match-take.moves.items c.match-take.sent)
+                (sym w.self-is)
+                (subst (λ (m : Vec Move _). TakesSome c.args.self.now c.args.ready.items
+                (i + 1) c.args.moves.now.items c.args.sent.now w.take_at.new.self m.items c.match-take.sent)
+                (sym w.moves-is)
+                (subst (λ (x : Announced). TakesSome c.args.self.now c.args.ready.items
+                (i + 1) c.args.moves.now.items c.args.sent.now w.take_at.new.self w.take_at.new.moves.items x)
+                (sym w.sent-is) takes));
+            few =
+                subst (λ (x : Announced). x.unsent ≤ c.args.sent.now.unsent + (i + 1)) (sym w.sent-is)
+                (omega (arith, few, more));
+            messages =
+                λ h. subst (λ (x : Announced). AreMessages x.packets.items) (sym w.sent-is)
+                (w.take_at.ensures.messages (c.loop-index.invariant.messages h));
             rest = rest;
             count = count;
-            room = omega (arith, room, len, capacity, ap (λ (m : Vec Move _). vec_len m) w.moves-is, ap (λ (m : Vec Move _). vec_capacity m) w.moves-is);
+            room =
+                omega (
+                  arith,
+                  room,
+                  len,
+                  capacity,
+                  ap (λ (m : Vec Move _). vec_len m) w.moves-is,
+                  ap (λ (m : Vec Move _). vec_capacity m) w.moves-is,
+                );
           }
       | in_default w ↦
-          let none : slice_get c.args.ready.items i ≡ Some None = there ∙ ap (λ (x : Option Ready). Some x) (sym c.take.ensures.value ∙ w.in_default.is) in
-          let takes = takes_skip c.args.self.now c.loop-index.self c.args.ready.items i c.args.moves.now.items c.loop-index.moves.items c.args.sent.now c.loop-index.sent c.loop-index.invariant.takes known none in
+          let none : slice_get c.args.ready.items i ≡ Some None =
+          there ∙ ap (λ (x : Option Ready). Some x) (sym c.take.ensures.value ∙ w.in_default.is) in
+          let takes =
+          takes_skip c.args.self.now c.loop-index.self c.args.ready.items i c.args.moves.now.items
+          c.loop-index.moves.items c.args.sent.now c.loop-index.sent c.loop-index.invariant.takes known none in
           record {
-            takes = subst (λ (k : PeerKept). TakesSome c.args.self.now c.args.ready.items (i + 1) c.args.moves.now.items c.args.sent.now k c.match-take.moves.items c.match-take.sent) (sym w.self-is)
-                (subst (λ (m : Vec Move _). TakesSome c.args.self.now c.args.ready.items (i + 1) c.args.moves.now.items c.args.sent.now c.loop-index.self m.items c.match-take.sent) (sym w.moves-is)
-                (subst (λ (x : Announced). TakesSome c.args.self.now c.args.ready.items (i + 1) c.args.moves.now.items c.args.sent.now c.loop-index.self c.loop-index.moves.items x) (sym w.sent-is) takes));
-            few = subst (λ (x : Announced). x.unsent ≤ c.args.sent.now.unsent + (i + 1)) (sym w.sent-is) (omega (arith, few));
-            messages = λ h. subst (λ (x : Announced). AreMessages x.packets.items) (sym w.sent-is) (c.loop-index.invariant.messages h);
+            takes =
+                subst (λ (k : PeerKept). TakesSome c.args.self.now c.args.ready.items
+                (i + 1) c.args.moves.now.items c.args.sent.now k c.match-take.moves.items c.match-take.sent)
+                (sym w.self-is)
+                (subst (λ (m : Vec Move _). TakesSome c.args.self.now c.args.ready.items
+                (i + 1) c.args.moves.now.items c.args.sent.now c.loop-index.self m.items c.match-take.sent)
+                (sym w.moves-is)
+                (subst (λ (x : Announced). TakesSome c.args.self.now c.args.ready.items
+                (i + 1) c.args.moves.now.items c.args.sent.now c.loop-index.self c.loop-index.moves.items x)
+                (sym w.sent-is) takes));
+            few =
+                subst (λ (x : Announced). x.unsent ≤ c.args.sent.now.unsent + (i + 1)) (sym w.sent-is)
+                (omega (arith, few));
+            messages =
+                λ h. subst (λ (x : Announced). AreMessages x.packets.items) (sym w.sent-is)
+                (c.loop-index.invariant.messages h);
             rest = rest;
             count = count;
-            room = omega (arith, room, ap (λ (m : Vec Move _). vec_len m) w.moves-is, ap (λ (m : Vec Move _). vec_capacity m) w.moves-is);
+            room =
+                omega (
+                  arith,
+                  room,
+                  ap (λ (m : Vec Move _). vec_len m) w.moves-is,
+                  ap (λ (m : Vec Move _). vec_capacity m) w.moves-is,
+                );
           }
     ]
   where
@@ -80,4 +140,5 @@ loop-index-preserved c =
 
 pub returns-clause-takes : goal.returns-clause-takes
 returns-clause-takes c =
-    takes_all c.args.self.now c.loop-index.self c.args.ready.items c.args.moves.now.items c.loop-index.moves.items c.args.sent.now c.loop-index.sent c.loop-index.index (search rules) (search rules) c.loop-index.invariant.takes
+    takes_all c.args.self.now c.loop-index.self c.args.ready.items c.args.moves.now.items c.loop-index.moves.items
+    c.args.sent.now c.loop-index.sent c.loop-index.index (search rules) (search rules) c.loop-index.invariant.takes

@@ -7,8 +7,15 @@ use Rattle.dds_core.proofs.peer.Peer.take_at.Goals as goal
 
 pub returns-clause-takes : goal.returns-clause-takes
 returns-clause-takes c = λ k at.
-    let there : slice_get c.self.inside.readers.items c.args.index ≡ Some k = subst (λ (q : PeerKept). slice_get q.readers c.args.index ≡ Some k) (sym c.self.view_is) at in
-    let is_k : c.index_mut-end.result.now ≡ k = c.index_mut-end.ensures.value ∙ get_or_from_slice_get c.self.inside.readers.items c.args.index k _ there in
-    took_by c.args.self.now c.args.index c.args.ready k c.index_mut-end.result.now c.take_up-step.new.self c.args.moves.now.items c.args.sent.now _ c.push_moves.new.moves.items c.send_acknack.new.sent c.writer-writer.result c.place-from.result c.take_up-step.result
-    is_k at c.writer-writer.ensures c.place-from.ensures (ap (λ (q : PeerKept). q.moment) c.self.view_is) c.take_up-step.ensures.told c.take_up-step.ensures.same (ap (λ (q : PeerKept). with_reader q c.args.index c.take_up-step.new.self) c.self.view_is)
-    c.push_moves.ensures.moved (ap (λ (q : PeerKept). q.prefix) c.self.view_is) (c.entity.ensures ∙ c.take_up-step.ensures.same.entity) c.send_acknack.ensures.adds
+    let there : slice_get c.self.inside.readers.items c.args.index ≡ Some k =
+    subst (λ (q : PeerKept). slice_get q.readers c.args.index ≡ Some k) (sym c.self.view_is) at in
+    let is_k : c.index_mut-end.result.now ≡ k =
+    c.index_mut-end.ensures.value ∙ get_or_from_slice_get c.self.inside.readers.items c.args.index k _ there in
+    took_by c.args.self.now c.args.index c.args.ready k c.index_mut-end.result.now c.take_up-step.new.self
+    c.args.moves.now.items c.args.sent.now _ c.push_moves.new.moves.items c.send_acknack.new.sent
+    c.writer-writer.result c.place-from.result c.take_up-step.result
+    is_k at c.writer-writer.ensures c.place-from.ensures
+    (ap (λ (q : PeerKept). q.moment) c.self.view_is) c.take_up-step.ensures.told c.take_up-step.ensures.same
+    (ap (λ (q : PeerKept). with_reader q c.args.index c.take_up-step.new.self) c.self.view_is)
+    c.push_moves.ensures.moved (ap (λ (q : PeerKept). q.prefix) c.self.view_is)
+    (c.entity.ensures ∙ c.take_up-step.ensures.same.entity) c.send_acknack.ensures.adds

@@ -16,8 +16,11 @@ pub returns-in-Err-clause-step : goal.returns-in-Err-clause-step
 returns-in-Err-clause-step c = λ config peer given.
     let s = subst (λ (k : PeerKept). StandsFor k config peer) (sym c.self.view_is) given in
     let alike : AreAlike c.self.inside.readers.items c.expire_all.new.readers =
-    subst (λ (ks : List ReaderKept). AreAlike ks c.expire_all.new.readers) c.as_mut_slice.ensures.value c.in-Err.ensures.alike in
-    let same = with_items_is c.self.inside.readers c.expire_all.new.readers (c.in-Err.ensures.alike.count ∙ c.as_mut_slice.ensures.len) in
+    subst (λ (ks : List ReaderKept). AreAlike ks c.expire_all.new.readers) c.as_mut_slice.ensures.value
+    c.in-Err.ensures.alike in
+    let same =
+    with_items_is c.self.inside.readers c.expire_all.new.readers
+    (c.in-Err.ensures.alike.count ∙ c.as_mut_slice.ensures.len) in
     let refused = c.in-Err.ensures.refused in
     let deadly : HasDeadly c.self.inside.readers.items c.args.now =
     subst (λ (ks : List ReaderKept). HasDeadly ks c.args.now) c.as_mut_slice.ensures.value refused.1 in
@@ -26,22 +29,32 @@ returns-in-Err-clause-step c = λ config peer given.
     (subst (λ (ks : List ReaderKept). AreAlike c.self.inside.readers.items ks) (sym same) alike) (refused.0, deadly))
 
 -- what goes out, by what the peer keeps
-beats : (c : goal.After-from_vec) → BeatsOfAll c.self.inside.prefix c.self.inside.writers.items c.from_vec.result c.tick_all-packets.result.unsent
+beats : (c : goal.After-from_vec)
+    → BeatsOfAll c.self.inside.prefix c.self.inside.writers.items c.from_vec.result c.tick_all-packets.result.unsent
 beats c =
-    subst (λ (ps : List Packet). BeatsOfAll c.self.inside.prefix c.self.inside.writers.items ps c.tick_all-packets.result.unsent) (sym c.from_vec.ensures.elements)
-    (subst (λ (ks : List WriterKept). BeatsOfAll c.self.inside.prefix ks c.tick_all-packets.result.packets.items c.tick_all-packets.result.unsent) c.as_mut_slice-2.ensures.value c.tick_all-packets.ensures.beats)
+    subst (λ (ps : List Packet). BeatsOfAll c.self.inside.prefix c.self.inside.writers.items ps
+    c.tick_all-packets.result.unsent) (sym c.from_vec.ensures.elements)
+    (subst (λ (ks : List WriterKept). BeatsOfAll c.self.inside.prefix ks c.tick_all-packets.result.packets.items
+    c.tick_all-packets.result.unsent) c.as_mut_slice-2.ensures.value c.tick_all-packets.ensures.beats)
 
 pub returns-clause-step : goal.returns-clause-step
 returns-clause-step c = λ config peer given.
     let s = subst (λ (k : PeerKept). StandsFor k config peer) (sym c.self.view_is) given in
     let all : AllTick c.self.inside.writers.items c.args.now c.tick_all-packets.new.writers =
-    subst (λ (ks : List WriterKept). AllTick ks c.args.now c.tick_all-packets.new.writers) c.as_mut_slice-2.ensures.value c.tick_all-packets.ensures.ticks in
+    subst (λ (ks : List WriterKept). AllTick ks c.args.now c.tick_all-packets.new.writers)
+    c.as_mut_slice-2.ensures.value c.tick_all-packets.ensures.ticks in
     let expired : AllExpire c.self.inside.readers.items c.args.now c.expire_all.new.readers =
-    subst (λ (ks : List ReaderKept). AllExpire ks c.args.now c.expire_all.new.readers) c.as_mut_slice.ensures.value c.in_default.ensures.expires in
-    let same = with_items_is c.self.inside.readers c.expire_all.new.readers (c.in_default.ensures.expires.count ∙ c.as_mut_slice.ensures.len) in
+    subst (λ (ks : List ReaderKept). AllExpire ks c.args.now c.expire_all.new.readers) c.as_mut_slice.ensures.value
+    c.in_default.ensures.expires in
+    let same =
+    with_items_is c.self.inside.readers c.expire_all.new.readers
+    (c.in_default.ensures.expires.count ∙ c.as_mut_slice.ensures.len) in
     ticks _ _ _ config peer s c.args.now (search rules) (search rules)
-    (subst (λ (ks : List WriterKept). AllTick c.self.inside.writers.items c.args.now ks) (sym (written_back c.tick_all-packets.new.writers c.self.inside.writers.items c.self.inside.writers.len (search rules) (search rules))) all)
-    (subst (λ (ks : List ReaderKept). AllExpire c.self.inside.readers.items c.args.now ks) (sym same) expired) _ refl (beats c)
+    (subst (λ (ks : List WriterKept). AllTick c.self.inside.writers.items c.args.now ks)
+    (sym (written_back c.tick_all-packets.new.writers c.self.inside.writers.items c.self.inside.writers.len
+    (search rules) (search rules))) all)
+    (subst (λ (ks : List ReaderKept). AllExpire c.self.inside.readers.items c.args.now ks) (sym same) expired) _
+    refl (beats c)
 
 pub returns-clause-sends : goal.returns-clause-sends
 returns-clause-sends c = λ config peer given.

@@ -15,30 +15,38 @@ known false value is = absurd cc
 pub returns-in-Some : goal.returns-in-Some
 returns-in-Some g c = λ config peer given.
     let tests = g.T.Filters.meaning c.args.filters.now in
-    let here : c.self.inside.watch ≡ peer.part.dds.watch = ap (λ (k : PeerKept). k.watch) c.self.view_is ∙ sym given.watch in
+    let here : c.self.inside.watch ≡ peer.part.dds.watch =
+    ap (λ (k : PeerKept). k.watch) c.self.view_is ∙ sym given.watch in
     let entity = c.in-Status.entity in
     let statuses = c.statuses_of.result in
     let there = c.in-Some.ensures.there in
     c.intersects.ensures tt
     ∙ (ap (λ (m : StatusMask). meet m statuses) (there.1 (record { 0 = 0 }))
     ∙ (ap (λ (w : Watched). meet (enabled_of w entity (record { 0 = 0 })) statuses) here
-    ∙ (ap (λ (m : StatusMask). meet (enabled_of peer.part.dds.watch entity (record { 0 = 0 })) m) (c.statuses_of.ensures config peer given)
-    ∙ (known (knows_entity peer.part.dds.watch entity) _ (ap (λ (w : Watched). knows_entity w entity) (sym here) ∙ there.0)
+    ∙ (ap (λ (m : StatusMask). meet (enabled_of peer.part.dds.watch entity (record { 0 = 0 })) m)
+    (c.statuses_of.ensures config peer given)
+    ∙ (known (knows_entity peer.part.dds.watch entity) _
+    (ap (λ (w : Watched). knows_entity w entity) (sym here) ∙ there.0)
     ∙ ap (λ (x : Cond). trigger_value tests peer.part x) (sym c.in-Status.is)))))
 
 pub returns-in-None : goal.returns-in-None
 returns-in-None g c = λ config peer given.
     let tests = g.T.Filters.meaning c.args.filters.now in
-    let here : c.self.inside.watch ≡ peer.part.dds.watch = ap (λ (k : PeerKept). k.watch) c.self.view_is ∙ sym given.watch in
+    let here : c.self.inside.watch ≡ peer.part.dds.watch =
+    ap (λ (k : PeerKept). k.watch) c.self.view_is ∙ sym given.watch in
     let entity = c.in-Status.entity in
-    let strange : knows_entity peer.part.dds.watch entity ≡ false = ap (λ (w : Watched). knows_entity w entity) (sym here) ∙ c.in-None.ensures.none in
-    sym (ap (λ (b : Bool). b && meet (enabled_of peer.part.dds.watch entity (record { 0 = 0 })) (status_changes peer.part entity)) strange)
+    let strange : knows_entity peer.part.dds.watch entity ≡ false =
+    ap (λ (w : Watched). knows_entity w entity) (sym here) ∙ c.in-None.ensures.none in
+    sym (ap (λ (b : Bool). b && meet (enabled_of peer.part.dds.watch entity (record { 0 = 0 }))
+    (status_changes peer.part entity)) strange)
     ∙ ap (λ (x : Cond). trigger_value tests peer.part x) (sym c.in-Status.is)
 
 pub returns-in-Made : goal.returns-in-Made
 returns-in-Made g c = λ config peer given.
     let tests = g.T.Filters.meaning c.args.filters.now in
-    let here : c.self.inside.watch ≡ peer.part.dds.watch = ap (λ (k : PeerKept). k.watch) c.self.view_is ∙ sym given.watch in
+    let here : c.self.inside.watch ≡ peer.part.dds.watch =
+    ap (λ (k : PeerKept). k.watch) c.self.view_is ∙ sym given.watch in
     c.value_of.ensures config peer given
-    ∙ (ap (λ (x : Option Condition). condition_value tests peer.part x) (c.condition.ensures.made ∙ ap (λ (w : Watched). made w.conditions c.in-Made.number) here)
+    ∙ (ap (λ (x : Option Condition). condition_value tests peer.part x)
+    (c.condition.ensures.made ∙ ap (λ (w : Watched). made w.conditions c.in-Made.number) here)
     ∙ ap (λ (x : Cond). trigger_value tests peer.part x) (sym c.in-Made.is))

@@ -13,32 +13,52 @@ use Rattle.dds_core.proofs.CallSteps.{follows_as, unregister_at, unregistered_at
 use Rattle.dds_core.proofs.peer.Peer.unregister.Goals as goal
 
 -- the change is made or refused, and what goes out is said of either
-unregisters : (c : goal.After-make) → Steps c.args.self.now (event.Call (call.Unregister c.args.writer c.args.key)) c.make.result c.make.new.self × Sends c.args.self.now (event.Call (call.Unregister c.args.writer c.args.key)) c.make.result
+unregisters : (c : goal.After-make)
+    → Steps c.args.self.now (event.Call (call.Unregister c.args.writer c.args.key)) c.make.result c.make.new.self
+    × Sends c.args.self.now (event.Call (call.Unregister c.args.writer c.args.key)) c.make.result
 unregisters c =
     let i = c.in-Some.index in
-    let made = subst (λ (v : List ℕ). Makes c.args.self.now i c.unregister_kind-kind.result c.args.key v c.make.result c.make.new.self) (c.from_vec-none.ensures.octets ∙ c.new.ensures.items) c.make.ensures.makes in
+    let made =
+    subst (λ (v : List ℕ). Makes c.args.self.now i c.unregister_kind-kind.result c.args.key v c.make.result
+    c.make.new.self) (c.from_vec-none.ensures.octets ∙ c.new.ensures.items) c.make.ensures.makes in
     let within : i < length c.args.self.now.writers = search rules in
-    let here : i < length c.self.inside.writers.items = let same = ap (λ (k : PeerKept). length k.writers) c.self.view_is in omega (arith, within, same) in
-    let first : slice_get c.self.inside.writers.items i ≡ Some c.index.result.now = slice_get-get_or c.self.inside.writers.items i _ here ∙ ap (λ (x : WriterKept). Some x) (sym c.index.ensures) in
-    let second : slice_get c.self.inside.writers.items i ≡ Some c.index-2.result.now = slice_get-get_or c.self.inside.writers.items i _ here ∙ ap (λ (x : WriterKept). Some x) (sym c.index-2.ensures) in
-    let one : c.index-2.result.now ≡ c.index.result.now = same_Some c.index-2.result.now c.index.result.now (sym second ∙ first) in
-    let at : slice_get c.args.self.now.writers i ≡ Some c.index.result.now = subst (λ (k : PeerKept). slice_get k.writers i ≡ Some c.index.result.now) c.self.view_is first in
-    let makes = λ (config : Config) (peer : Peer) (s : StandsFor c.args.self.now config peer). unregister_at c.args.self.now c.args.writer i c.index.result.now c.args.key c.unregister_kind-kind.result config peer s c.in-Some.ensures.0 within at
+    let here : i < length c.self.inside.writers.items =
+    let same = ap (λ (k : PeerKept). length k.writers) c.self.view_is in omega (arith, within, same) in
+    let first : slice_get c.self.inside.writers.items i ≡ Some c.index.result.now =
+    slice_get-get_or c.self.inside.writers.items i _ here ∙ ap (λ (x : WriterKept). Some x) (sym c.index.ensures) in
+    let second : slice_get c.self.inside.writers.items i ≡ Some c.index-2.result.now =
+    slice_get-get_or c.self.inside.writers.items i _ here ∙ ap (λ (x : WriterKept). Some x) (sym c.index-2.ensures)
+    in
+    let one : c.index-2.result.now ≡ c.index.result.now =
+    same_Some c.index-2.result.now c.index.result.now (sym second ∙ first) in
+    let at : slice_get c.args.self.now.writers i ≡ Some c.index.result.now =
+    subst (λ (k : PeerKept). slice_get k.writers i ≡ Some c.index.result.now) c.self.view_is first in
+    let makes =
+    λ (config : Config) (peer : Peer)
+    (s : StandsFor c.args.self.now config peer). unregister_at c.args.self.now c.args.writer i c.index.result.now
+    c.args.key c.unregister_kind-kind.result config peer s c.in-Some.ensures.0 within at
     (λ w answered stands. sym (c.is_registered.ensures w answered stands) ∙ c.if-not-is_registered.false)
-    (λ w answered stands. c.unregister_kind-kind.ensures w answered (subst (λ (k : WriterKept). WriterStands k w answered) (sym one) stands)) in (
-      λ config peer s. made_steps c.args.self.now c.make.new.self config peer s (call.Unregister c.args.writer c.args.key) _ _ c.make.result (makes config peer s) (made config peer s),
-      λ config peer s. made_sends c.make.new.self config peer (call.Unregister c.args.writer c.args.key) _ _ c.make.result (makes config peer s) (made config peer s),
+    (λ w answered stands. c.unregister_kind-kind.ensures w answered
+    (subst (λ (k : WriterKept). WriterStands k w answered) (sym one) stands)) in (
+      λ config peer s. made_steps c.args.self.now c.make.new.self config peer s
+          (call.Unregister c.args.writer c.args.key) _ _ c.make.result (makes config peer s) (made config peer s),
+      λ config peer s. made_sends c.make.new.self config peer
+          (call.Unregister c.args.writer c.args.key) _ _ c.make.result (makes config peer s) (made config peer s),
     )
 
 pub returns-then-not-is_registered-clause-step : goal.returns-then-not-is_registered-clause-step
 returns-then-not-is_registered-clause-step c = λ config peer s.
     let i = c.in-Some.index in
     let within : i < length c.args.self.now.writers = search rules in
-    let here : i < length c.self.inside.writers.items = let same = ap (λ (k : PeerKept). length k.writers) c.self.view_is in omega (arith, within, same) in
-    let there : slice_get c.self.inside.writers.items i ≡ Some c.index.result.now = slice_get-get_or c.self.inside.writers.items i _ here ∙ ap (λ (x : WriterKept). Some x) (sym c.index.ensures) in
-    let at : slice_get c.args.self.now.writers i ≡ Some c.index.result.now = subst (λ (k : PeerKept). slice_get k.writers i ≡ Some c.index.result.now) c.self.view_is there in
+    let here : i < length c.self.inside.writers.items =
+    let same = ap (λ (k : PeerKept). length k.writers) c.self.view_is in omega (arith, within, same) in
+    let there : slice_get c.self.inside.writers.items i ≡ Some c.index.result.now =
+    slice_get-get_or c.self.inside.writers.items i _ here ∙ ap (λ (x : WriterKept). Some x) (sym c.index.ensures) in
+    let at : slice_get c.args.self.now.writers i ≡ Some c.index.result.now =
+    subst (λ (k : PeerKept). slice_get k.writers i ≡ Some c.index.result.now) c.self.view_is there in
     follows_as _ config peer _ _ _ c.refused-then-not-is_registered.ensures
-    (unregistered_at c.args.self.now c.args.writer i c.index.result.now c.args.key config peer s c.in-Some.ensures.0 within at (λ w answered stands. sym (c.is_registered.ensures w answered stands) ∙ c.if-not-is_registered.true))
+    (unregistered_at c.args.self.now c.args.writer i c.index.result.now c.args.key config peer s c.in-Some.ensures.0
+    within at (λ w answered stands. sym (c.is_registered.ensures w answered stands) ∙ c.if-not-is_registered.true))
 
 pub returns-clause-step : goal.returns-clause-step
 returns-clause-step c = (unregisters c).0

@@ -16,9 +16,13 @@ returns-in-Some g c = λ config peer given.
     let s = subst (λ (k : PeerKept). StandsFor k config peer) (sym c.self.view_is) given in
     let i = c.in-Some.index in
     let tests = g.T.Filters.meaning c.args.filters.now in
-    let whole : Some (Samples c.in-Some-Samples.reader c.in-Some-Samples.masks c.in-Some-Samples.filter) ≡ c.args.condition = search rules in
+    let whole : Some (Samples c.in-Some-Samples.reader c.in-Some-Samples.masks c.in-Some-Samples.filter)
+    ≡ c.args.condition = search rules in
     let within : i < length c.self.inside.readers.items = search rules in
-    let at : slice_get c.self.inside.readers.items i ≡ Some c.index.result.now = slice_get-get_or c.self.inside.readers.items i _ within ∙ ap (λ (x : ReaderKept). Some x) (sym c.index.ensures) in
+    let at : slice_get c.self.inside.readers.items i ≡ Some c.index.result.now =
+    slice_get-get_or c.self.inside.readers.items i _ within ∙ ap (λ (x : ReaderKept). Some x) (sym c.index.ensures)
+    in
     c.has_match.ensures _ _ _ (s.readers.each i c.index.result.now at)
-    ∙ (ap (λ (n : ℕ). has_match (own_reader peer.part n).qos (own_reader peer.part n).happened c.in-Some-Samples.masks (test_of tests c.in-Some-Samples.filter)) (number_is c.in-Some-Samples.reader i c.in-Some.ensures.0)
+    ∙ (ap (λ (n : ℕ). has_match (own_reader peer.part n).qos (own_reader peer.part n).happened c.in-Some-Samples.masks
+    (test_of tests c.in-Some-Samples.filter)) (number_is c.in-Some-Samples.reader i c.in-Some.ensures.0)
     ∙ ap (λ (x : Option Condition). condition_value tests peer.part x) whole)

@@ -11,6 +11,8 @@ pub returns-clause-step : goal.returns-clause-step
 returns-clause-step c = λ config peer given.
     let s = subst (λ (k : PeerKept). StandsFor k config peer) (sym c.self.view_is) given in
     follows_as _ config peer _ _ _ c.answered.ensures
-    (done_call (λ w. free_refusal (made w.wait_sets c.args.wait_set)) (λ w. with_deadline w c.args.wait_set (Some c.args.deadline)) _
-    c.begin-done.new.self c.begin-done.result c.reply_to.result config peer s (call.WaitBegin c.args.wait_set c.args.deadline) (λ dds h. h) refl c.reply_to.ensures
+    (done_call (λ w. free_refusal (made w.wait_sets c.args.wait_set))
+    (λ w. with_deadline w c.args.wait_set (Some c.args.deadline)) _
+    c.begin-done.new.self c.begin-done.result c.reply_to.result config peer s
+    (call.WaitBegin c.args.wait_set c.args.deadline) (λ dds h. h) refl c.reply_to.ensures
     c.begin-done.ensures.ok c.begin-done.ensures.taken c.begin-done.ensures.refused c.begin-done.ensures.err)

@@ -12,5 +12,6 @@ returns-clause-step c = λ config peer given.
     let s = subst (λ (k : PeerKept). StandsFor k config peer) (sym c.self.view_is) given in
     follows_as _ config peer _ _ _ c.answered.ensures
     (done_call (λ w. use_refusal (made w.wait_sets c.args.wait_set)) (λ w. with_deadline w c.args.wait_set None) _
-    c.end-done.new.self c.end-done.result c.reply_to.result config peer s (call.WaitEnd c.args.wait_set) (λ dds h. h) refl c.reply_to.ensures
+    c.end-done.new.self c.end-done.result c.reply_to.result config peer s (call.WaitEnd c.args.wait_set)
+    (λ dds h. h) refl c.reply_to.ensures
     c.end-done.ensures.ok c.end-done.ensures.taken c.end-done.ensures.refused c.end-done.ensures.err)

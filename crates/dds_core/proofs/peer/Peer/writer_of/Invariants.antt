@@ -4,4 +4,5 @@ use Rattle.dds_core.proofs.peer.Peer.writer_of.Given as goal
 
 -- no writer before this one has the entity
 abbrev pub invariant-loop-index : goal.invariant-loop-index
-invariant-loop-index l = (j : ℕ) (k : WriterKept) → j < l.index → slice_get l.self.writers j ≡ Some k → k.entity ≡ l.entity → ⊥
+invariant-loop-index l =
+    (j : ℕ) (k : WriterKept) → j < l.index → slice_get l.self.writers j ≡ Some k → k.entity ≡ l.entity → ⊥

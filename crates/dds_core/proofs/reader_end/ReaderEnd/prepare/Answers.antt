@@ -6,7 +6,11 @@ use Rattle.dds_core.proofs.reader_end.ReaderEnd.prepare.Goals as goal
 
 pub returns-in_default-row_of-clause-ready : goal.returns-in_default-row_of-clause-ready
 returns-in_default-row_of-clause-ready c = λ reader_id writer_id by k here.
-    let one = names_one c.args.submessage.now reader_id writer_id c.in-Some.ids.reader c.in-Some.ids.writer by c.in-Some.ensures in
+    let one =
+    names_one c.args.submessage.now reader_id writer_id c.in-Some.ids.reader c.in-Some.ids.writer
+    by c.in-Some.ensures in
     c.in_default-row_of.ensures.none k
-    (subst (λ (w : EntityId). IsNamedFor c.args.own.now c.args.self.now (receiver_at c.args.receiver.now) c.in-Some.ids.reader w k) one.1
-    (subst (λ (r : EntityId). IsNamedFor c.args.own.now c.args.self.now (receiver_at c.args.receiver.now) r writer_id k) one.0 here))
+    (subst (λ (w : EntityId). IsNamedFor c.args.own.now c.args.self.now
+    (receiver_at c.args.receiver.now) c.in-Some.ids.reader w k) one.1
+    (subst (λ (r : EntityId). IsNamedFor c.args.own.now c.args.self.now (receiver_at c.args.receiver.now) r writer_id k)
+    one.0 here))

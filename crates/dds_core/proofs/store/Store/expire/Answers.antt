@@ -10,7 +10,13 @@ use Rattle.dds_core.proofs.store.Store.expire.Goals as goal
 
 pub loop-writer-init : goal.loop-writer-init
 loop-writer-init c =
-    let store : StoreKept = record { lost = c.self.inside.lost; turned = c.self.inside.turned; leases = c.self.inside.leases; cache = c.self.inside.cache } in
+    let store : StoreKept =
+    record {
+      lost = c.self.inside.lost;
+      turned = c.self.inside.turned;
+      leases = c.self.inside.leases;
+      cache = c.self.inside.cache;
+    } in
     subst (λ (s : StoreKept). Dying (qos_of s.cache) c.args.now 0 s store) c.self.view_is
     (record {
       room = subst (λ (s : StoreKept). HasRoomForDeaths c.args.now s) (sym c.self.view_is) c.requires.room;
@@ -33,9 +39,12 @@ loop-writer-preserved c =
       lost = search rules;
       died = λ h s.
           let l = before.died h s in
-          let leases = subst (λ (p : ReaderQos). LeasesStandFor c.loop-writer.self-inside.leases p l.happened) before.qos l.holds.leases in
+          let leases =
+          subst (λ (p : ReaderQos). LeasesStandFor c.loop-writer.self-inside.leases p l.happened) before.qos
+          l.holds.leases in
           let cache : CacheStandsFor c.died.new.self (Died w now ∷ l.happened) = search rules in
           next_died q now c.loop-writer.after w _ _ _ l (c.in-Some.ensures.died q l.happened leases)
-          (c.in-Some.ensures.turn q l.happened leases) cache (search rules) refl (c.in-Some.ensures.first q l.happened leases)
+          (c.in-Some.ensures.turn q l.happened leases) cache
+          (search rules) refl (c.in-Some.ensures.first q l.happened leases)
           (c.happened-self-inside.ensures.entries (Died w now ∷ l.happened) cache);
     }

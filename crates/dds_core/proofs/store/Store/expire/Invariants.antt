@@ -7,7 +7,12 @@ use Rattle.dds_core.proofs.store.Store.expire.Given as goal
 abbrev pub invariant-loop-writer : goal.invariant-loop-writer
 invariant-loop-writer l =
     Dying (qos_of l.fn.self.cache) l.fn.now l.after l.fn.self
-    (record { lost = l.self-inside.lost; turned = l.self-inside.turned; leases = l.self-inside.leases; cache = l.self-inside.cache })
+    (record {
+      lost = l.self-inside.lost;
+      turned = l.self-inside.turned;
+      leases = l.self-inside.leases;
+      cache = l.self-inside.cache;
+    })
 
 abbrev pub decreases-loop-writer : goal.decreases-loop-writer
 decreases-loop-writer l = writer_count l.self-inside.leases - l.after

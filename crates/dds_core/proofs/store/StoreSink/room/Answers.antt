@@ -10,5 +10,6 @@ pub returns : goal.returns
 returns c = record {
   room = λ h given.
       let s = subst (λ (k : StoreKept). Holds k h) (sym c.self.view_is) given in
-      c.has_room.ensures.room h s.cache ∙ ap (λ (k : StoreKept). has_room (qos_of k.cache) h (Came c.args.arrival.now)) c.self.view_is;
+      c.has_room.ensures.room h s.cache
+      ∙ ap (λ (k : StoreKept). has_room (qos_of k.cache) h (Came c.args.arrival.now)) c.self.view_is;
 }

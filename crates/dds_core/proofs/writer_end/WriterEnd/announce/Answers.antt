@@ -30,7 +30,8 @@ announce-requires-clause-valid c =
 pub returns-clause-announces : goal.returns-clause-announces
 returns-clause-announces c = λ w answered now.
     let change : Change = c.in-Some.change.now in
-    let sender : WriterKept → Sender = λ k. record { prefix = c.args.prefix; entity = k.entity; moment = c.args.moment } in
+    let sender : WriterKept → Sender =
+    λ k. record { prefix = c.args.prefix; entity = k.entity; moment = c.args.moment } in
     let inside : WriterKept = record {
       entity = c.self.inside.entity;
       autodispose = c.self.inside.autodispose;
@@ -38,18 +39,25 @@ returns-clause-announces c = λ w answered now.
       readers = c.self.inside.readers.items;
       writer = c.self.inside.writer;
     } in
-    let stands : WriterStands inside w answered = subst (λ (k : WriterKept). WriterStands k w answered) (sym c.self.view_is) now in
+    let stands : WriterStands inside w answered =
+    subst (λ (k : WriterKept). WriterStands k w answered) (sym c.self.view_is) now in
     let is : kept_change (history_of (state_of w answered)) c.args.number ≡ Some change =
     sym (c.get.ensures.change (state_of w answered) stands.writer) ∙ ap option_copied c.in-Some.is in
-    let to : AreAnnouncements (sender inside) c.args.number c.of_change-content.result inside.destinations c.announce.result.packets.items =
-    subst (λ (ds : List Destination). AreAnnouncements (sender inside) c.args.number c.of_change-content.result ds c.announce.result.packets.items)
+    let to : AreAnnouncements (sender inside) c.args.number c.of_change-content.result inside.destinations
+    c.announce.result.packets.items =
+    subst (λ (ds : List Destination). AreAnnouncements
+    (sender inside) c.args.number c.of_change-content.result ds c.announce.result.packets.items)
     c.as_slice-destinations.ensures.value c.announce.ensures.packets in
-    let of_change : AreAnnouncements (sender inside) c.args.number (content_of change) inside.destinations c.announce.result.packets.items =
-    subst (λ (x : DataContent). AreAnnouncements (sender inside) c.args.number x inside.destinations c.announce.result.packets.items)
+    let of_change : AreAnnouncements (sender inside) c.args.number
+    (content_of change) inside.destinations c.announce.result.packets.items =
+    subst (λ (x : DataContent). AreAnnouncements
+    (sender inside) c.args.number x inside.destinations c.announce.result.packets.items)
     c.of_change-content.ensures.says to in
-    subst (λ (o : Option Change). AnnouncesKept (sender c.args.self.now) c.args.number o c.args.self.now.destinations c.announce.result.packets.items)
+    subst (λ (o : Option Change). AnnouncesKept
+    (sender c.args.self.now) c.args.number o c.args.self.now.destinations c.announce.result.packets.items)
     (sym is)
-    (subst (λ (k : WriterKept). AreAnnouncements (sender k) c.args.number (content_of change) k.destinations c.announce.result.packets.items)
+    (subst (λ (k : WriterKept). AreAnnouncements (sender k) c.args.number
+    (content_of change) k.destinations c.announce.result.packets.items)
     c.self.view_is of_change)
 
 pub returns-clause-messages : goal.returns-clause-messages

@@ -3,10 +3,14 @@ use Rattle.dds_core.proofs.WriterEnds.{accepts_if, enters_if, refuses_if}
 use Rattle.dds_core.proofs.writer_end.WriterEnd.append.Goals as goal
 
 pub returns-clause-ok : goal.returns-clause-ok
-returns-clause-ok c = enters_if c.write.result _ c.args.self.now (Changed c.args.change) c.write.new.self c.self.view_is c.write.ensures.ok
+returns-clause-ok c =
+    enters_if c.write.result _ c.args.self.now
+    (Changed c.args.change) c.write.new.self c.self.view_is c.write.ensures.ok
 
 pub returns-clause-accepted : goal.returns-clause-accepted
-returns-clause-accepted c = accepts_if c.write.result _ c.args.self.now c.args.change c.self.view_is c.write.ensures.accepted
+returns-clause-accepted c =
+    accepts_if c.write.result _ c.args.self.now c.args.change c.self.view_is c.write.ensures.accepted
 
 pub returns-clause-refused : goal.returns-clause-refused
-returns-clause-refused c = refuses_if c.write.result _ c.args.self.now c.args.change c.self.view_is c.write.ensures.refused
+returns-clause-refused c =
+    refuses_if c.write.result _ c.args.self.now c.args.change c.self.view_is c.write.ensures.refused

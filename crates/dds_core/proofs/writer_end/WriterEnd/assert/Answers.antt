@@ -20,7 +20,8 @@ send_to_all-requires-clause-valid c =
 
 pub returns-clause-ok : goal.returns-clause-ok
 returns-clause-ok c =
-    enters_if {A = Unit {0}} {B = Unit {0}} (Ok tt) _ c.args.self.now (Asserted c.args.now) c.assert.new.self c.self.view_is
+    enters_if {A = Unit {0}} {B = Unit {0}} (Ok tt) _ c.args.self.now
+    (Asserted c.args.now) c.assert.new.self c.self.view_is
     c.in_ok-due.ensures.ok
 
 pub returns-clause-tells : goal.returns-clause-tells
@@ -28,14 +29,18 @@ returns-clause-tells c = λ w answered s.
     let kept : WriterKept =
     kept_as c.self.inside.entity c.self.inside.autodispose c.self.inside.destinations.items c.self.inside.readers.items
     c.self.inside.writer in
-    let beat : Beat = record { prefix = c.args.prefix; entity = c.self.inside.entity; due = c.in-Some.due; asserts = true } in
+    let beat : Beat =
+    record { prefix = c.args.prefix; entity = c.self.inside.entity; due = c.in-Some.due; asserts = true } in
     let sent = c.send_to_all.result in
     let here = stands_there kept c.args.self.now w answered c.self.view_is s in
     let accepted = c.in_ok-due.ensures.accepted (state_of w answered) here.writer in
-    let due : heartbeat_asserted (state_of w answered) c.args.now ≡ Some c.in-Some.due = sym accepted.1 ∙ c.in-Some.is in (
+    let due : heartbeat_asserted (state_of w answered) c.args.now ≡ Some c.in-Some.due =
+    sym accepted.1 ∙ c.in-Some.is in (
       count_left w answered accepted.0,
-      subst (λ (k : WriterKept). AreSent (assertions_of c.args.prefix k w) sent.packets.items sent.unsent) c.self.view_is
+      subst (λ (k : WriterKept). AreSent (assertions_of c.args.prefix k w) sent.packets.items sent.unsent)
+          c.self.view_is
           (subst (λ (dues : List Due). AreSent dues sent.packets.items sent.unsent)
-          (ap (λ (ds : List Destination). told_to beat ds) c.as_slice.ensures.value ∙ told_are c.args.prefix kept w answered c.args.now c.in-Some.due due)
+          (ap (λ (ds : List Destination). told_to beat ds) c.as_slice.ensures.value
+          ∙ told_are c.args.prefix kept w answered c.args.now c.in-Some.due due)
           c.send_to_all.ensures.sent),
     )

@@ -11,6 +11,8 @@ pub returns : goal.returns
 returns c =
     let counted : c.len.result ≡ length c.in_ok-readers.readers.items = search rules in
     let fits : SFits w32 c.args.config.now.max_samples = search rules in
-    let limit = c.limit_of-limit.ensures ∙ ap (λ (z : ℤ). limit_of z) (to_z-of_z w32 c.args.config.now.max_samples fits) in
-    opens_writer c.args.peers.now c.args.config.now c.in_ok-destinations.destinations.items c.in_ok-readers.readers.items c.limit_of-limit.result c.in-Ok.writer c.len.result counted
+    let limit =
+    c.limit_of-limit.ensures ∙ ap (λ (z : ℤ). limit_of z) (to_z-of_z w32 c.args.config.now.max_samples fits) in
+    opens_writer c.args.peers.now c.args.config.now c.in_ok-destinations.destinations.items
+    c.in_ok-readers.readers.items c.limit_of-limit.result c.in-Ok.writer c.len.result counted
     c.in_ok-destinations.ensures.names c.in_ok-readers.ensures.names limit c.in-Ok.ensures.ok

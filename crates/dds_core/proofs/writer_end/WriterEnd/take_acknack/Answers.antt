@@ -22,14 +22,17 @@ pub send_answers-requires-clause-can : goal.send_answers-requires-clause-can
 send_answers-requires-clause-can c =
     let whole = c.self.invariant in
     subst (λ (xs : List Answer). AreAnswerable c.take_acknack-acknowledged.new.self xs) (sym c.as_slice.ensures.value)
-    (answerable c.take_acknack-acknowledged.new.self whole.state c.args.row _ c.args.body.now.reader_sn_state _ c.take_acknack-acknowledged.result.answers.items (c.take_acknack-acknowledged.ensures.stands whole.state whole.stands) whole.short c.requires.base
+    (answerable c.take_acknack-acknowledged.new.self whole.state c.args.row _ c.args.body.now.reader_sn_state _
+    c.take_acknack-acknowledged.result.answers.items
+    (c.take_acknack-acknowledged.ensures.stands whole.state whole.stands) whole.short c.requires.base
     (c.take_acknack-acknowledged.ensures.answers whole.state whole.stands))
 
 pub send_answers-requires-clause-few : goal.send_answers-requires-clause-few
 send_answers-requires-clause-few c =
     let whole = c.self.invariant in
     let few = few_answers whole.state c.args.row _ c.args.body.now.reader_sn_state _ in
-    subst (λ (xs : List Answer). length xs ≤ 256) (sym (c.as_slice.ensures.value ∙ c.take_acknack-acknowledged.ensures.answers whole.state whole.stands)) few
+    subst (λ (xs : List Answer). length xs ≤ 256)
+    (sym (c.as_slice.ensures.value ∙ c.take_acknack-acknowledged.ensures.answers whole.state whole.stands)) few
 
 pub invariant_of-self : goal.invariant_of-self
 invariant_of-self c =
@@ -48,12 +51,22 @@ returns-clause-takes c =
     let old : WriterKept =
     kept_as c.self.inside.entity c.self.inside.autodispose c.self.inside.destinations.items c.self.inside.readers.items
     c.self.inside.writer in
-    let within : c.args.row < length c.self.inside.readers.items = let row = c.requires.row in let same = ap (λ (k : WriterKept). length k.readers) c.self.view_is in omega (arith, row, same) in
-    subst (λ (k : WriterKept). TakesAckNack k c.args.prefix c.args.row c.args.body.now c.args.sent.now (record old { writer = c.take_acknack-acknowledged.new.self }) c.take_acknack-acknowledged.result.acknowledged c.send_answers.new.sent) c.self.view_is
-    (acknack_taken old c.args.prefix c.args.row c.args.body.now c.args.sent.now c.take_acknack-acknowledged.new.self c.take_acknack-acknowledged.result.acknowledged c.send_answers.new.sent _ _ c.as_slice.result.now
+    let within : c.args.row < length c.self.inside.readers.items =
+    let row = c.requires.row in let same = ap (λ (k : WriterKept). length k.readers) c.self.view_is in
+    omega (arith, row, same) in
+    subst (λ (k : WriterKept). TakesAckNack k c.args.prefix c.args.row c.args.body.now c.args.sent.now
+    (record old { writer = c.take_acknack-acknowledged.new.self }) c.take_acknack-acknowledged.result.acknowledged
+    c.send_answers.new.sent) c.self.view_is
+    (acknack_taken old c.args.prefix c.args.row c.args.body.now c.args.sent.now c.take_acknack-acknowledged.new.self
+    c.take_acknack-acknowledged.result.acknowledged c.send_answers.new.sent _ _ c.as_slice.result.now
     (answering_of c.args.prefix c.self.inside.entity c.index.result.now)
-    c.base.ensures.base (to_z-of_z w32 c.args.body.now.count (search rules)) c.take_acknack-acknowledged.ensures.stands c.take_acknack-acknowledged.ensures.acknowledged
-    (λ s given. c.as_slice.ensures.value ∙ c.take_acknack-acknowledged.ensures.answers s given) c.send_answers.ensures.sends
+    c.base.ensures.base (to_z-of_z w32 c.args.body.now.count (search rules)) c.take_acknack-acknowledged.ensures.stands
+    c.take_acknack-acknowledged.ensures.acknowledged
+    (λ s given. c.as_slice.ensures.value ∙ c.take_acknack-acknowledged.ensures.answers s given)
+    c.send_answers.ensures.sends
     (λ name at.
-    let is : c.index.result.now ≡ name = same_Some c.index.result.now name (sym (slice_get-get_or c.self.inside.readers.items c.args.row _ within ∙ ap (λ (x : ReaderName). Some x) (sym c.index.ensures)) ∙ at) in
+    let is : c.index.result.now ≡ name =
+    same_Some c.index.result.now name
+    (sym (slice_get-get_or c.self.inside.readers.items c.args.row _ within
+    ∙ ap (λ (x : ReaderName). Some x) (sym c.index.ensures)) ∙ at) in
     ap (λ (x : ReaderName). answering_of c.args.prefix c.self.inside.entity x) is))

@@ -15,17 +15,21 @@ use Rattle.dds_core.proofs.writer_end.WriterEnd.tick.Goals as goal
 pub send_beats-requires-clause-valid : goal.send_beats-requires-clause-valid
 send_beats-requires-clause-valid c =
     let whole = c.self.invariant in
-    valid_due c.self.inside.writer whole.state c.args.now c.in-Some.due whole.stands (sym (c.tick.ensures.due whole.state whole.stands) ∙ c.in-Some.is)
+    valid_due c.self.inside.writer whole.state c.args.now c.in-Some.due whole.stands
+    (sym (c.tick.ensures.due whole.state whole.stands) ∙ c.in-Some.is)
 
 pub returns-in_default-clause-ticks : goal.returns-in_default-clause-ticks
-returns-in_default-clause-ticks c = ticks _ c.args.self.now c.args.now c.tick.new.self c.self.view_is c.tick.ensures.stands
+returns-in_default-clause-ticks c =
+    ticks _ c.args.self.now c.args.now c.tick.new.self c.self.view_is c.tick.ensures.stands
 
 pub returns-in_default-clause-beats : goal.returns-in_default-clause-beats
 returns-in_default-clause-beats c = λ w answered s.
     let here = stands_there _ c.args.self.now w answered c.self.view_is s in
     let old = c.args.sent.now in
     subst (λ (dues : List Due). Adds dues old.packets.items old.unsent old.packets.items old.unsent)
-    (beats_none c.args.prefix c.args.self.now w answered c.args.now (sym (c.tick.ensures.due (state_of w answered) here.writer) ∙ c.in_default.is)) (adds_none old.packets.items old.unsent)
+    (beats_none c.args.prefix c.args.self.now w answered c.args.now
+    (sym (c.tick.ensures.due (state_of w answered) here.writer) ∙ c.in_default.is))
+    (adds_none old.packets.items old.unsent)
 
 pub returns-clause-ticks : goal.returns-clause-ticks
 returns-clause-ticks c = ticks _ c.args.self.now c.args.now c.tick.new.self c.self.view_is c.tick.ensures.stands
@@ -37,11 +41,19 @@ returns-clause-beats c = λ w answered s.
     let kept : WriterKept =
     kept_as c.self.inside.entity c.self.inside.autodispose c.self.inside.destinations.items c.self.inside.readers.items
     c.self.inside.writer in
-    let beat : Beat = record { prefix = c.args.prefix; entity = c.self.inside.entity; due = c.in-Some.due; asserts = false } in
+    let beat : Beat =
+    record { prefix = c.args.prefix; entity = c.self.inside.entity; due = c.in-Some.due; asserts = false } in
     let here = stands_there kept c.args.self.now w answered c.self.view_is s in
-    let after = (ticks _ c.args.self.now c.args.now c.tick.new.self c.self.view_is c.tick.ensures.stands).stands w answered s in
-    let due : heartbeat_due (state_of w answered) c.args.now ≡ Some c.in-Some.due = sym (c.tick.ensures.due (state_of w answered) here.writer) ∙ c.in-Some.is in
-    let sent = c.send_beats.ensures.beats (ticked c.args.now w) answered (here.readers ∙ ap (λ (ns : List ReaderName). map (λ (n : ReaderName). n.reader) ns) (sym c.as_slice-readers.ensures.value)) after.writer in
-    subst (λ (k : WriterKept). Adds (beats_of c.args.prefix k w) old.packets.items old.unsent new.packets.items new.unsent) c.self.view_is
+    let after =
+    (ticks _ c.args.self.now c.args.now c.tick.new.self c.self.view_is c.tick.ensures.stands).stands w answered s in
+    let due : heartbeat_due (state_of w answered) c.args.now ≡ Some c.in-Some.due =
+    sym (c.tick.ensures.due (state_of w answered) here.writer) ∙ c.in-Some.is in
+    let sent =
+    c.send_beats.ensures.beats (ticked c.args.now w) answered
+    (here.readers ∙ ap (λ (ns : List ReaderName). map (λ (n : ReaderName). n.reader) ns)
+    (sym c.as_slice-readers.ensures.value)) after.writer in
+    subst (λ (k : WriterKept). Adds (beats_of c.args.prefix k w) old.packets.items old.unsent new.packets.items
+    new.unsent) c.self.view_is
     (subst (λ (dues : List Due). Adds dues old.packets.items old.unsent new.packets.items new.unsent)
-    (ap (λ (ds : List Destination). beats_to beat w ds) c.as_slice-destinations.ensures.value ∙ beats_are c.args.prefix kept w answered c.args.now c.in-Some.due due) sent)
+    (ap (λ (ds : List Destination). beats_to beat w ds) c.as_slice-destinations.ensures.value
+    ∙ beats_are c.args.prefix kept w answered c.args.now c.in-Some.due due) sent)

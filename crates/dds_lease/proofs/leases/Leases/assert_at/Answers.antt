@@ -57,7 +57,8 @@ turns : (c : goal.After-writer-1)
     (record { tracks = c.if-track.self-inside.tracks.items; last_turned = c.args.writer })
     (c.number.result - 1) c.args.now c.index.result.now
 turns c =
-    let here : c.args.writer ≡ 1 + (c.number.result - 1) = omega (arith, c.requires.matched.0, c.number.ensures.number) in
+    let here : c.args.writer ≡ 1 + (c.number.result - 1) =
+    omega (arith, c.requires.matched.0, c.number.ensures.number) in
     record {
       within = within _ _ c.args.writer c.number.result c.self.view_is c.requires.matched c.number.ensures.number;
       is = c.index.ensures;

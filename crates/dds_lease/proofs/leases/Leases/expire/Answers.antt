@@ -85,7 +85,8 @@ returns-clause-died c = λ q h given.
     c.in_ok-writer.ensures.above c.in_ok-writer.ensures.over c.index-track.ensures in
     let above = c.in_ok-writer.ensures.above in
     died-stands _ _ q h c.in_ok-writer.writer c.args.now (c.number.result - 1) c.index-track.result.now
-    (stands-as _ _ q h c.self.view_is given) (omega (arith, c.number.ensures.number, above.0)) one.within one.is one.alive
+    (stands-as _ _ q h c.self.view_is given)
+    (omega (arith, c.number.ensures.number, above.0)) one.within one.is one.alive
     refl refl
 
 pub returns-clause-turn : goal.returns-clause-turn

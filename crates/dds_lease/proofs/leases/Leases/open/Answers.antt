@@ -17,6 +17,7 @@ invariant_of-result c =
 pub returns-clause-ok : goal.returns-clause-ok
 returns-clause-ok c = record {
   tracks = c.in_ok-tracks.ensures
-      ∙ (ap (λ (ws : List MatchedWriter). map fresh ws) c.as_slice.ensures.elements ∙ sym (fresh-tracks c.args.qos.now));
+      ∙ (ap (λ (ws : List MatchedWriter). map fresh ws) c.as_slice.ensures.elements
+      ∙ sym (fresh-tracks c.args.qos.now));
   last_turned = refl;
 }

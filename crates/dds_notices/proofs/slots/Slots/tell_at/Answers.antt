@@ -5,7 +5,8 @@ use Rattle.dds_notices.proofs.slots.Slots.tell_at.Goals as goal
 
 pub returns-in-Participant : goal.returns-in-Participant
 returns-in-Participant g c =
-    participant_tells g.L.Listener.notices g.L.Listener.capacity _ _ _ _ c.args.self.now c.args.entity c.args.notice.now c.self.view_is c.in-Participant.is
+    participant_tells g.L.Listener.notices g.L.Listener.capacity _ _ _ _ c.args.self.now c.args.entity c.args.notice.now
+    c.self.view_is c.in-Participant.is
     c.tell.ensures
 
 pub returns-in-Writer : goal.returns-in-Writer

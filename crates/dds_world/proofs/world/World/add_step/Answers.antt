@@ -5,6 +5,17 @@ use Rattle.dds_world.proofs.world.World.add_step.Goals as goal
 
 pub returns-clause-step : goal.returns-clause-step
 returns-clause-step g c =
-    let reply : RoundReply = record { reply = c.step-reply.result; sent = c.sent-sent.result; unsent = c.unsent-unsent.result } in
-    let items : c.push.new.self.items ≡ c.args.replies.now.items ++ reply ∷ [] = grind (arith, common_steps) in
-    (reply, items, record { step = c.step-reply.ensures.step; sends = c.step-reply.ensures.sends; progress = c.step-reply.ensures.progress; rules = c.step-reply.ensures.rules; sent = c.sent-sent.ensures.sent; unsent = c.unsent-unsent.ensures.unsent })
+    let reply : RoundReply =
+    record { reply = c.step-reply.result; sent = c.sent-sent.result; unsent = c.unsent-unsent.result } in
+    let items : c.push.new.self.items ≡ c.args.replies.now.items ++ reply ∷ [] = grind (arith, common_steps) in (
+      reply,
+      items,
+      record {
+        step = c.step-reply.ensures.step;
+        sends = c.step-reply.ensures.sends;
+        progress = c.step-reply.ensures.progress;
+        rules = c.step-reply.ensures.rules;
+        sent = c.sent-sent.ensures.sent;
+        unsent = c.unsent-unsent.ensures.unsent;
+      },
+    )

@@ -28,9 +28,14 @@ returns-clause-adds g c =
         a.2,
         refl,
         refl,
-        (counted, same_steps g.F.Filter.meaning g.L.Listener.notices g.L.Listener.capacity c.args.self.now mid c.deliver_answers.new.self later d.0 c.add_step.ensures.filters d.2),
+        (
+          counted,
+          same_steps g.F.Filter.meaning g.L.Listener.notices g.L.Listener.capacity c.args.self.now mid
+              c.deliver_answers.new.self later d.0 c.add_step.ensures.filters d.2,
+        ),
       ),
     )
 
 pub returns-in_default-clause-adds : goal.returns-in_default-clause-adds
-returns-in_default-clause-adds g c = ([], [], sym (append-nil c.args.replies.now.items), inl (refl, refl, refl, c.in_default.ensures))
+returns-in_default-clause-adds g c =
+    ([], [], sym (append-nil c.args.replies.now.items), inl (refl, refl, refl, c.in_default.ensures))

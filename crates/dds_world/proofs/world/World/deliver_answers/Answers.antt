@@ -20,8 +20,11 @@ loop-index-preserved g c =
     let kept = c.add_step.ensures.capacity in (
       i.0 ++ a.0 ∷ [],
       a.1 ∙ (ap (λ (rs : List RoundReply). rs ++ a.0 ∷ []) i.1 ∙ append_assoc c.args.replies.now.items i.0 (a.0 ∷ [])),
-      answered_more (kept_of g.L.Listener.notices g.L.Listener.capacity first) c.args.peer c.args.from c.loop-index.index _ _ i.0 (kept_of g.L.Listener.notices g.L.Listener.capacity c.loop-index.self) a.0 (kept_of g.L.Listener.notices g.L.Listener.capacity c.add_step.new.self) refl refl i.2
-          (same_step g.F.Filter.meaning g.L.Listener.notices g.L.Listener.capacity first c.loop-index.self c.add_step.new.self _ a.0 i.5 a.2),
+      answered_more (kept_of g.L.Listener.notices g.L.Listener.capacity first) c.args.peer c.args.from
+          c.loop-index.index _ _ i.0 (kept_of g.L.Listener.notices g.L.Listener.capacity c.loop-index.self) a.0
+          (kept_of g.L.Listener.notices g.L.Listener.capacity c.add_step.new.self) refl refl i.2
+          (same_step g.F.Filter.meaning g.L.Listener.notices g.L.Listener.capacity first c.loop-index.self
+          c.add_step.new.self _ a.0 i.5 a.2),
       omega (arith, more, total, so_far),
       omega (arith, room, kept),
       c.add_step.ensures.filters ∙ i.5,
@@ -34,6 +37,8 @@ returns-clause-steps g c =
     let all : c.loop-index.index ≡ min 32 (length first.sent - c.args.from) = omega arith in (
       i.0,
       i.1,
-      subst (λ (n : ℕ). AreSteps (tests_in g.F.Filter.meaning first) (kept_of g.L.Listener.notices g.L.Listener.capacity first) (map (λ k. world.Deliver c.args.peer k) (numbers_from (c.args.from + 1) n)) i.0
+      subst (λ (n : ℕ). AreSteps (tests_in g.F.Filter.meaning first)
+          (kept_of g.L.Listener.notices g.L.Listener.capacity first)
+          (map (λ k. world.Deliver c.args.peer k) (numbers_from (c.args.from + 1) n)) i.0
           (kept_of g.L.Listener.notices g.L.Listener.capacity c.loop-index.self)) all i.2,
     )

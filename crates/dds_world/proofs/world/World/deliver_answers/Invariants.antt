@@ -11,7 +11,10 @@ use Rattle.dds_world.proofs.world.World.deliver_answers.Given as goal
 abbrev pub invariant-loop-index : goal.invariant-loop-index
 invariant-loop-index g l =
     (added : List RoundReply) × (l.replies.items ≡ l.initial.replies.items ++ added)
-    × AreSteps (tests_in g.F.Filter.meaning l.initial.self) (kept_of g.L.Listener.notices g.L.Listener.capacity l.initial.self) (map (λ k. world.Deliver l.fn.peer k) (numbers_from (l.fn.from + 1) l.index)) added (kept_of g.L.Listener.notices g.L.Listener.capacity l.self)
+    × AreSteps (tests_in g.F.Filter.meaning l.initial.self)
+    (kept_of g.L.Listener.notices g.L.Listener.capacity l.initial.self)
+    (map (λ k. world.Deliver l.fn.peer k) (numbers_from (l.fn.from + 1) l.index)) added
+    (kept_of g.L.Listener.notices g.L.Listener.capacity l.self)
     × (vec_len l.replies ≡ vec_len l.initial.replies + l.index)
     × (vec_capacity l.initial.replies ≤ vec_capacity l.replies)
     × (filters_of l.self ≡ filters_of l.initial.self)

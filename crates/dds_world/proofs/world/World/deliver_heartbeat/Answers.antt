@@ -13,13 +13,30 @@ returns-clause-adds g c =
     let d = c.deliver_acknack.ensures.adds in
     let mid = c.add_step.new.self in
     let new = c.deliver_acknack.new.self in
-    let next = subst (λ (n : ℕ). Acknowledging (tests_in g.F.Filter.meaning mid) c.args.m.now n (kept_of g.L.Listener.notices g.L.Listener.capacity mid) d.0 d.1 (kept_of g.L.Listener.notices g.L.Listener.capacity new)) c.sent-sent.ensures.sent d.3 in
-    let later = same_acks g.F.Filter.meaning g.L.Listener.notices g.L.Listener.capacity c.args.self.now mid new c.args.m.now _ d.0 d.1 c.add_step.ensures.filters next in (
+    let next =
+    subst (λ (n : ℕ). Acknowledging (tests_in g.F.Filter.meaning mid) c.args.m.now n
+    (kept_of g.L.Listener.notices g.L.Listener.capacity mid) d.0 d.1
+    (kept_of g.L.Listener.notices g.L.Listener.capacity new)) c.sent-sent.ensures.sent d.3 in
+    let later =
+    same_acks g.F.Filter.meaning g.L.Listener.notices g.L.Listener.capacity c.args.self.now mid new c.args.m.now _
+    d.0 d.1 c.add_step.ensures.filters next in (
       world.Deliver c.args.m.now.reader.peer c.in-Some.packet ∷ d.0,
       a.0 ∷ d.1,
       d.2 ∙ (ap (λ (rs : List RoundReply). rs ++ d.1) a.1 ∙ append_assoc c.args.replies.now.items (a.0 ∷ []) d.1),
-      inr (c.in-Some.packet, a.0, kept_of g.L.Listener.notices g.L.Listener.capacity mid, d.0, d.1, c.in-Some.ensures, a.2, refl, refl, later),
+      inr (
+        c.in-Some.packet,
+        a.0,
+        kept_of g.L.Listener.notices g.L.Listener.capacity mid,
+        d.0,
+        d.1,
+        c.in-Some.ensures,
+        a.2,
+        refl,
+        refl,
+        later,
+      ),
     )
 
 pub returns-in_default-clause-adds : goal.returns-in_default-clause-adds
-returns-in_default-clause-adds g c = ([], [], sym (append-nil c.args.replies.now.items), inl (refl, refl, refl, c.in_default.ensures))
+returns-in_default-clause-adds g c =
+    ([], [], sym (append-nil c.args.replies.now.items), inl (refl, refl, refl, c.in_default.ensures))

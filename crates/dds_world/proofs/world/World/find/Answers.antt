@@ -6,7 +6,8 @@ use Rattle.dds_world.proofs.Rounds.{none_yet, none_within, none_more, found_here
 use Rattle.dds_world.proofs.world.World.find.Goals as goal
 
 pub loop-index-init : goal.loop-index-init
-loop-index-init g c = none_yet (IsTo c.args.peer c.args.wanted.now) c.args.self.now.sent c.args.from c.args.from (omega arith)
+loop-index-init g c =
+    none_yet (IsTo c.args.peer c.args.wanted.now) c.args.self.now.sent c.args.from c.args.from (omega arith)
 
 pub loop-index-preserved : goal.loop-index-preserved
 loop-index-preserved g c =
@@ -14,8 +15,10 @@ loop-index-preserved g c =
     let count = ap (λ (ps : List Packet). length ps) sent_is in
     let packet : Packet = c.index.result.now in
     let low : c.loop-index.index < length c.args.self.now.sent = omega (arith, count) in
-    let here : packet ≡ get_or c.args.self.now.sent c.loop-index.index packet = subst (λ (ps : List Packet). packet ≡ get_or ps c.loop-index.index packet) sent_is c.index.ensures in
-    none_more (IsTo c.args.peer c.args.wanted.now) c.args.self.now.sent c.args.from c.loop-index.index _ packet refl low here (λ x. let t : false ≡ true = c.if-is_to.ensures.1 x in cc) c.loop-index.invariant
+    let here : packet ≡ get_or c.args.self.now.sent c.loop-index.index packet =
+    subst (λ (ps : List Packet). packet ≡ get_or ps c.loop-index.index packet) sent_is c.index.ensures in
+    none_more (IsTo c.args.peer c.args.wanted.now) c.args.self.now.sent c.args.from c.loop-index.index _ packet refl low
+    here (λ x. let t : false ≡ true = c.if-is_to.ensures.1 x in cc) c.loop-index.invariant
 
 pub returns-then-is_to : goal.returns-then-is_to
 returns-then-is_to g c =
@@ -23,12 +26,15 @@ returns-then-is_to g c =
     let count = ap (λ (ps : List Packet). length ps) sent_is in
     let packet : Packet = c.index.result.now in
     let low : c.loop-index.index < length c.args.self.now.sent = omega (arith, count) in
-    let here : packet ≡ get_or c.args.self.now.sent c.loop-index.index packet = subst (λ (ps : List Packet). packet ≡ get_or ps c.loop-index.index packet) sent_is c.index.ensures in
-    found_here (IsTo c.args.peer c.args.wanted.now) c.args.self.now.sent c.args.from c.loop-index.index _ packet refl (omega arith) low here (c.if-is_to.ensures.0 refl) c.loop-index.invariant
+    let here : packet ≡ get_or c.args.self.now.sent c.loop-index.index packet =
+    subst (λ (ps : List Packet). packet ≡ get_or ps c.loop-index.index packet) sent_is c.index.ensures in
+    found_here (IsTo c.args.peer c.args.wanted.now) c.args.self.now.sent c.args.from c.loop-index.index _ packet
+    refl (omega arith) low here (c.if-is_to.ensures.0 refl) c.loop-index.invariant
 
 pub returns : goal.returns
 returns g c =
     let sent_is = ap (λ (k : Held g.row.F.Denot g.row.L.Denot). k.sent) c.self.view_is in
     let count = ap (λ (ps : List Packet). length ps) sent_is in
     let past : length c.args.self.now.sent ≤ c.loop-index.index = omega (arith, count) in
-    none_within (IsTo c.args.peer c.args.wanted.now) c.args.self.now.sent c.args.from _ c.loop-index.index past c.loop-index.invariant
+    none_within (IsTo c.args.peer c.args.wanted.now) c.args.self.now.sent c.args.from _ c.loop-index.index past
+    c.loop-index.invariant

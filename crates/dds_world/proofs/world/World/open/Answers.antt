@@ -5,13 +5,17 @@ use Rattle.dds_world.proofs.world.World.open.Goals as goal
 
 pub returns-clause-opening : goal.returns-clause-opening
 returns-clause-opening g c =
-    let held : Held g.row.F.Denot g.row.L.Denot = record { cores = c.in_ok-peers.peers.items; sent = c.new.result.items; unsent = 0 } in
-    opened g.L.Listener.notices g.L.Listener.capacity c.args.config.now held c.in_ok-peers.ensures.opening c.new.ensures.items refl
+    let held : Held g.row.F.Denot g.row.L.Denot =
+    record { cores = c.in_ok-peers.peers.items; sent = c.new.result.items; unsent = 0 } in
+    opened g.L.Listener.notices g.L.Listener.capacity c.args.config.now held c.in_ok-peers.ensures.opening
+    c.new.ensures.items refl
 
 pub returns-clause-none : goal.returns-clause-none
 returns-clause-none g c = λ peer.
-    let held : Held g.row.F.Denot g.row.L.Denot = record { cores = c.in_ok-peers.peers.items; sent = c.new.result.items; unsent = 0 } in
+    let held : Held g.row.F.Denot g.row.L.Denot =
+    record { cores = c.in_ok-peers.peers.items; sent = c.new.result.items; unsent = 0 } in
     no_filters_at g.L.Listener.notices g.L.Listener.capacity c.args.config.now _ held c.in_ok-peers.ensures.opening peer
 
 pub returns-clause-taken : goal.returns-clause-taken
-returns-clause-taken g c = c.in_ok-peers.ensures.opening.taken (some_peers c.args.config.now.peers c.in_ok-check.ensures.ok)
+returns-clause-taken g c =
+    c.in_ok-peers.ensures.opening.taken (some_peers c.args.config.now.peers c.in_ok-check.ensures.ok)

@@ -24,17 +24,27 @@ returns-clause-round g c =
     let before = c.in-Some-place.ensures.place in
     let a = c.add_step.ensures.step in
     let d = c.deliver_heartbeat.ensures.adds in
-    let first : c.add_step.new.replies.items ≡ a.0 ∷ [] = a.1 ∙ ap (λ (rs : List RoundReply). rs ++ a.0 ∷ []) c.in_ok-replies.ensures.items in
-    let all : c.from_vec-replies.result ≡ a.0 ∷ d.1 = c.from_vec-replies.ensures.elements ∙ (d.2 ∙ ap (λ (rs : List RoundReply). rs ++ d.1) first) in
-    let sent = subst (λ (n : ℕ). Beating (tests_in g.F.Filter.meaning mid) m n (kept_of g.L.Listener.notices g.L.Listener.capacity mid) d.0 d.1 new) c.sent-sent.ensures.sent d.3 in
-    let beats = same_beats g.F.Filter.meaning g.L.Listener.notices g.L.Listener.capacity start mid last m _ d.0 d.1 c.add_step.ensures.filters sent in
+    let first : c.add_step.new.replies.items ≡ a.0 ∷ [] =
+    a.1 ∙ ap (λ (rs : List RoundReply). rs ++ a.0 ∷ []) c.in_ok-replies.ensures.items in
+    let all : c.from_vec-replies.result ≡ a.0 ∷ d.1 =
+    c.from_vec-replies.ensures.elements ∙ (d.2 ∙ ap (λ (rs : List RoundReply). rs ++ d.1) first) in
+    let sent =
+    subst (λ (n : ℕ). Beating (tests_in g.F.Filter.meaning mid) m n
+    (kept_of g.L.Listener.notices g.L.Listener.capacity mid) d.0 d.1 new) c.sent-sent.ensures.sent d.3 in
+    let beats =
+    same_beats g.F.Filter.meaning g.L.Listener.notices g.L.Listener.capacity start mid last m _ d.0 d.1
+    c.add_step.ensures.filters sent in
     let round =
-    rounds_are old writer reader m a.0 (kept_of g.L.Listener.notices g.L.Listener.capacity mid) d.1 c.from_vec-replies.result new d.0 from c.place-2.result
+    rounds_are old writer reader m a.0
+    (kept_of g.L.Listener.notices g.L.Listener.capacity mid) d.1 c.from_vec-replies.result new d.0 from
+    c.place-2.result
     known.0 known.1 all known.2 a.2 beats before c.place-2.ensures.place in
     let to : ℕ = c.unwrap_or-to.result in
-    subst (λ (n : ℕ). Rounds (tests_in g.F.Filter.meaning start) old writer reader (record (answer_of old m from to c.from_vec-replies.result) { unsent_before = n }) new)
+    subst (λ (n : ℕ). Rounds (tests_in g.F.Filter.meaning start) old writer reader
+    (record (answer_of old m from to c.from_vec-replies.result) { unsent_before = n }) new)
     (sym c.unsent-unsent_before.ensures.unsent)
-    (subst (λ (n : ℕ). Rounds (tests_in g.F.Filter.meaning start) old writer reader (answer_of old m from n c.from_vec-replies.result) new) (sym c.unwrap_or-to.ensures) round)
+    (subst (λ (n : ℕ). Rounds (tests_in g.F.Filter.meaning start) old writer reader
+    (answer_of old m from n c.from_vec-replies.result) new) (sym c.unwrap_or-to.ensures) round)
 
 pub returns-clause-matched : goal.returns-clause-matched
 returns-clause-matched g c =
@@ -43,4 +53,5 @@ returns-clause-matched g c =
     let writer : Endpoint = c.args.writer in
     let reader : Endpoint = c.args.reader in
     let known = c.in-Some.ensures in
-    subst (λ (w : Endpoint). AreMatched old w reader) known.0 (subst (λ (r : Endpoint). AreMatched old m.writer r) known.1 (are_matched old m known.2))
+    subst (λ (w : Endpoint). AreMatched old w reader) known.0
+    (subst (λ (r : Endpoint). AreMatched old m.writer r) known.1 (are_matched old m known.2))

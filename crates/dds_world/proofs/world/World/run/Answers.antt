@@ -12,11 +12,21 @@ loop-event-preserved g c =
     let first = c.args.self.now in
     let tests = tests_in g.F.Filter.meaning first in
     let i = c.loop-event.invariant in
-    let items : c.push.new.self.items ≡ c.loop-event.replies.items ++ c.step-reply.result ∷ [] = grind (arith, common_steps) in
-    let runs : Runs tests (kept_of g.L.Listener.notices g.L.Listener.capacity first) (c.loop-event.yielded ++ c.in-Some.event ∷ []) (c.loop-event.replies.items ++ c.step-reply.result ∷ []) (kept_of g.L.Listener.notices g.L.Listener.capacity c.step-reply.new.self) =
-    runs_more (kept_of g.L.Listener.notices g.L.Listener.capacity first) (kept_of g.L.Listener.notices g.L.Listener.capacity c.loop-event.self) (kept_of g.L.Listener.notices g.L.Listener.capacity c.step-reply.new.self) c.loop-event.yielded c.loop-event.replies.items c.in-Some.event c.step-reply.result i.0
-    (same_rules g.F.Filter.meaning g.L.Listener.notices g.L.Listener.capacity first c.loop-event.self c.step-reply.new.self c.in-Some.event c.step-reply.result i.1 c.step-reply.ensures.rules) c.step-reply.ensures.sends in (
-      subst (λ (rs : List Reply). Runs tests (kept_of g.L.Listener.notices g.L.Listener.capacity first) (c.loop-event.yielded ++ c.in-Some.event ∷ []) rs (kept_of g.L.Listener.notices g.L.Listener.capacity c.step-reply.new.self)) (sym items) runs,
+    let items : c.push.new.self.items ≡ c.loop-event.replies.items ++ c.step-reply.result ∷ [] =
+    grind (arith, common_steps) in
+    let runs : Runs tests (kept_of g.L.Listener.notices g.L.Listener.capacity first)
+    (c.loop-event.yielded ++ c.in-Some.event ∷ []) (c.loop-event.replies.items ++ c.step-reply.result ∷ [])
+    (kept_of g.L.Listener.notices g.L.Listener.capacity c.step-reply.new.self) =
+    runs_more (kept_of g.L.Listener.notices g.L.Listener.capacity first)
+    (kept_of g.L.Listener.notices g.L.Listener.capacity c.loop-event.self)
+    (kept_of g.L.Listener.notices g.L.Listener.capacity c.step-reply.new.self) c.loop-event.yielded
+    c.loop-event.replies.items c.in-Some.event c.step-reply.result i.0
+    (same_rules g.F.Filter.meaning g.L.Listener.notices g.L.Listener.capacity first c.loop-event.self
+    c.step-reply.new.self c.in-Some.event c.step-reply.result i.1 c.step-reply.ensures.rules)
+    c.step-reply.ensures.sends in (
+      subst (λ (rs : List Reply). Runs tests (kept_of g.L.Listener.notices g.L.Listener.capacity first)
+          (c.loop-event.yielded ++ c.in-Some.event ∷ []) rs
+          (kept_of g.L.Listener.notices g.L.Listener.capacity c.step-reply.new.self)) (sym items) runs,
       c.step-reply.ensures.filters ∙ i.1,
       grind (arith, common_steps),
       grind (arith, common_steps),

@@ -6,6 +6,8 @@ use Rattle.dds_world.proofs.world.World.run.Given as goal
 
 abbrev pub invariant-loop-event : goal.invariant-loop-event
 invariant-loop-event g l =
-    Runs (tests_in g.F.Filter.meaning l.initial.self) (kept_of g.L.Listener.notices g.L.Listener.capacity l.initial.self) l.yielded l.replies.items (kept_of g.L.Listener.notices g.L.Listener.capacity l.self)
+    Runs (tests_in g.F.Filter.meaning l.initial.self)
+    (kept_of g.L.Listener.notices g.L.Listener.capacity l.initial.self) l.yielded l.replies.items
+    (kept_of g.L.Listener.notices g.L.Listener.capacity l.self)
     × (filters_of l.self ≡ filters_of l.initial.self)
     × (vec_len l.replies ≡ length l.yielded) × (length l.fn.events.items ≤ vec_capacity l.replies)

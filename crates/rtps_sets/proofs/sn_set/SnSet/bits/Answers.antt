@@ -4,7 +4,11 @@ use Rattle.rtps_sets.proofs.MemberLaws.{has_last, has_none_past}
 use Rattle.rtps_sets.proofs.sn_set.SnSet.bits.Goals as goal
 
 pub returns-clause-last : goal.returns-clause-last
-returns-clause-last c = has_last c.args.self.now c.span_of.result (c.span_of.ensures.bits ∙ ap (λ (s : NumberSet). span s.members) c.self.view_is)
+returns-clause-last c =
+    has_last c.args.self.now c.span_of.result
+    (c.span_of.ensures.bits ∙ ap (λ (s : NumberSet). span s.members) c.self.view_is)
 
 pub returns-clause-past : goal.returns-clause-past
-returns-clause-past c = λ n. has_none_past c.args.self.now c.span_of.result n (c.span_of.ensures.bits ∙ ap (λ (s : NumberSet). span s.members) c.self.view_is)
+returns-clause-past c =
+    λ n. has_none_past c.args.self.now c.span_of.result n
+    (c.span_of.ensures.bits ∙ ap (λ (s : NumberSet). span s.members) c.self.view_is)

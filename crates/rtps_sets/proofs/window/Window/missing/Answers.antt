@@ -15,37 +15,63 @@ loop-number-preserved c =
         base = ap (λ (s : NumberSet). s.base) w.set-is ∙ (w.insert.ensures.base ∙ c.loop-number.invariant.base);
         members = λ n.
             let fresh : is_none (mark_in c.self.inside.marked.items c.loop-number.number) ≡ true = search rules in
-            ap (λ (s : NumberSet). has_number s n) w.set-is ∙ (w.insert.ensures.member n ∙ (ap (λ (k : ℕ). has_number c.loop-number.set n || (n == k)) w.new-then-is_none.ensures.number ∙ (ap (λ (b : Bool). b || (n == c.loop-number.number)) (c.loop-number.invariant.members n) ∙ one_taken c.self.inside.place c.loop-number.number n c.self.inside.marked.items (search rules) fresh)));
+            ap (λ (s : NumberSet). has_number s n) w.set-is
+            ∙ (w.insert.ensures.member n
+            ∙ (ap (λ (k : ℕ). has_number c.loop-number.set n || (n == k)) w.new-then-is_none.ensures.number
+            ∙ (ap (λ (b : Bool). b || (n == c.loop-number.number)) (c.loop-number.invariant.members n)
+            ∙ one_taken c.self.inside.place c.loop-number.number n c.self.inside.marked.items
+            (search rules) fresh)));
       }
       | else-is_none w ↦ record {
         none = λ lt. absurd (omega arith);
         base = ap (λ (s : NumberSet). s.base) w.set-is ∙ c.loop-number.invariant.base;
         members = λ n.
             let known : is_none (mark_in c.self.inside.marked.items c.loop-number.number) ≡ false = search rules in
-            ap (λ (s : NumberSet). has_number s n) w.set-is ∙ (c.loop-number.invariant.members n ∙ one_left c.self.inside.place c.loop-number.number n c.self.inside.marked.items known);
+            ap (λ (s : NumberSet). has_number s n) w.set-is
+            ∙ (c.loop-number.invariant.members n
+            ∙ one_left c.self.inside.place c.loop-number.number n c.self.inside.marked.items known);
       }
     ]
 
 pub returns-clause-members : goal.returns-clause-members
 returns-clause-members c = λ n.
     c.loop-number.invariant.members n
-    ∙ rw (← c.self.view_is) (looked_at c.self.inside.place c.args.bound c.loop-number.number n _ (λ from. ends_at c.self.inside.place c.args.bound c.min-last.result c.loop-number.number n
-    (omega (arith, c.min-last.ensures, c.number.ensures.number)) (omega (arith, c.min-last.ensures, c.saturating_add.ensures))
-    (λ a b. omega (arith, c.min-last.ensures, c.number.ensures.number, c.saturating_add.ensures)) (λ a. ⊎_elim (λ lt. absurd (omega (arith, c.loop-number.invariant.none lt))) (λ ge. absurd (omega (arith, c.loop-number.auto.number-end ge))) (cases_lt c.min-last.result c.self.inside.place)) (λ a. omega arith)))
+    ∙ rw (← c.self.view_is) (looked_at c.self.inside.place c.args.bound c.loop-number.number n _
+    (λ from. ends_at c.self.inside.place c.args.bound c.min-last.result c.loop-number.number n
+    (omega (arith, c.min-last.ensures, c.number.ensures.number))
+    (omega (arith, c.min-last.ensures, c.saturating_add.ensures))
+    (λ a b. omega (arith, c.min-last.ensures, c.number.ensures.number, c.saturating_add.ensures))
+    (λ a. ⊎_elim (λ lt. absurd (omega (arith, c.loop-number.invariant.none lt)))
+    (λ ge. absurd (omega (arith, c.loop-number.auto.number-end ge)))
+    (cases_lt c.min-last.result c.self.inside.place)) (λ a. omega arith)))
 
 pub returns-after-is_none-clause-members : goal.returns-after-is_none-clause-members
 returns-after-is_none-clause-members c =
     elim c.if-is_none.branch [
       | then-is_none w ↦ λ n.
           let fresh : is_none (mark_in c.self.inside.marked.items c.loop-number.number) ≡ true = search rules in
-          ap (λ (s : NumberSet). has_number s n) w.set-is ∙ (w.insert.ensures.member n ∙ (ap (λ (k : ℕ). has_number c.loop-number.set n || (n == k)) w.new-then-is_none.ensures.number ∙ (ap (λ (b : Bool). b || (n == c.loop-number.number)) (c.loop-number.invariant.members n) ∙ (one_taken c.self.inside.place c.loop-number.number n c.self.inside.marked.items (search rules) fresh ∙ end c n))))
+          ap (λ (s : NumberSet). has_number s n) w.set-is
+          ∙ (w.insert.ensures.member n
+          ∙ (ap (λ (k : ℕ). has_number c.loop-number.set n || (n == k)) w.new-then-is_none.ensures.number
+          ∙ (ap (λ (b : Bool). b || (n == c.loop-number.number)) (c.loop-number.invariant.members n)
+          ∙ (one_taken c.self.inside.place c.loop-number.number n c.self.inside.marked.items (search rules) fresh
+          ∙ end c n))))
       | else-is_none w ↦ λ n.
           let known : is_none (mark_in c.self.inside.marked.items c.loop-number.number) ≡ false = search rules in
-          ap (λ (s : NumberSet). has_number s n) w.set-is ∙ (c.loop-number.invariant.members n ∙ (one_left c.self.inside.place c.loop-number.number n c.self.inside.marked.items known ∙ end c n))
+          ap (λ (s : NumberSet). has_number s n) w.set-is
+          ∙ (c.loop-number.invariant.members n
+          ∙ (one_left c.self.inside.place c.loop-number.number n c.self.inside.marked.items known ∙ end c n))
     ]
   where
-    end : (c : goal.Else-number-last) (n : ℕ) → ((nat_le c.self.inside.place n && nat_lt n (c.loop-number.number + 1)) && is_none (mark_in c.self.inside.marked.items n)) ≡ (is_in_window (window_place c.args.self.now) n && (nat_le n c.args.bound && is_none (mark_of c.args.self.now n)))
+    end : (c : goal.Else-number-last) (n : ℕ)
+        → ((nat_le c.self.inside.place n && nat_lt n (c.loop-number.number + 1)) && is_none
+        (mark_in c.self.inside.marked.items n))
+        ≡ (is_in_window (window_place c.args.self.now) n && (nat_le n c.args.bound && is_none
+        (mark_of c.args.self.now n)))
     end c n =
-        rw (← c.self.view_is) (looked_at c.self.inside.place c.args.bound (c.loop-number.number + 1) n _ (λ from. ends_at c.self.inside.place c.args.bound c.min-last.result (c.loop-number.number + 1) n
-        (omega (arith, c.min-last.ensures, c.number.ensures.number)) (omega (arith, c.min-last.ensures, c.saturating_add.ensures))
-        (λ a b. omega (arith, c.min-last.ensures, c.number.ensures.number, c.saturating_add.ensures)) (λ a. omega arith) (λ a. omega arith)))
+        rw (← c.self.view_is) (looked_at c.self.inside.place c.args.bound (c.loop-number.number + 1) n _
+        (λ from. ends_at c.self.inside.place c.args.bound c.min-last.result (c.loop-number.number + 1) n
+        (omega (arith, c.min-last.ensures, c.number.ensures.number))
+        (omega (arith, c.min-last.ensures, c.saturating_add.ensures))
+        (λ a b. omega (arith, c.min-last.ensures, c.number.ensures.number, c.saturating_add.ensures)) (λ a. omega arith)
+        (λ a. omega arith)))

@@ -8,5 +8,6 @@ abbrev pub invariant-loop-number : goal.invariant-loop-number
 invariant-loop-number l = record {
   none : l.last < l.self-inside.place → l.number ≡ l.self-inside.place;
   base : l.set.base ≡ l.self-inside.place;
-  members : (n : ℕ) → has_number l.set n ≡ ((nat_le l.self-inside.place n && nat_lt n l.number) && is_none (mark_in l.self-inside.marked.items n));
+  members : (n : ℕ) → has_number l.set n
+      ≡ ((nat_le l.self-inside.place n && nat_lt n l.number) && is_none (mark_in l.self-inside.marked.items n));
 }

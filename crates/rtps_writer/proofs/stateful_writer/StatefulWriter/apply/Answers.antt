@@ -21,6 +21,7 @@ returns-clause-acknowledged c = λ s given.
     let h = history_at _ c.args.self.now s c.self.view_is given in
     let moved = c.acked.ensures.stands (history_of s) h in
     c.if_later.ensures
-    ∙ (ap (λ (n : ℕ). if_later n c.acknowledged-after.result) (c.acknowledged-before.ensures.acknowledged (history_of s) h)
+    ∙ (ap (λ (n : ℕ). if_later n c.acknowledged-after.result)
+    (c.acknowledged-before.ensures.acknowledged (history_of s) h)
     ∙ ap (λ (n : ℕ). if_later (acknowledged_by s c.args.reader) n)
     (c.acknowledged-after.ensures.acknowledged (acknowledge (history_of s) c.args.reader c.args.base) moved))

@@ -8,7 +8,8 @@ pub returns : goal.returns
 returns c = record {
   behind = λ s given.
       let h = history_at _ c.args.self.now s c.self.view_is given in
-      ap (λ (n : ℕ). nat_le n c.number-2.result) (c.number.ensures.number ∙ c.acknowledged.ensures.acknowledged (history_of s) h)
+      ap (λ (n : ℕ). nat_le n c.number-2.result)
+      (c.number.ensures.number ∙ c.acknowledged.ensures.acknowledged (history_of s) h)
       ∙ ap (λ (n : ℕ). nat_le (acknowledged_by s c.args.reader) n)
       (c.number-2.ensures.number ∙ c.last.ensures.last (history_of s) h);
 }

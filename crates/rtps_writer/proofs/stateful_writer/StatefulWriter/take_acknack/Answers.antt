@@ -22,7 +22,8 @@ returns-then-applies-clause-acknowledged c = λ s given.
 pub returns-then-applies-clause-answers : goal.returns-then-applies-clause-answers
 returns-then-applies-clause-answers c = λ s given.
     answers-applied s c.args.reader c.args.base c.args.set.now _ _
-    (sym (c.applies.ensures s given) ∙ c.if-applies.true) (c.answer.ensures _ (c.apply-acknowledged.ensures.stands s given))
+    (sym (c.applies.ensures s given) ∙ c.if-applies.true)
+    (c.answer.ensures _ (c.apply-acknowledged.ensures.stands s given))
     ∙ ap (λ (z : ℤ). acknack_answers s c.args.reader c.args.base c.args.set.now z)
     (to_z-of_z w32 c.args.count c.ranges.count)
 

@@ -9,12 +9,14 @@ use Rattle.rtps_writer.proofs.stateful_writer.StatefulWriter.write.Goals as goal
 pub returns-in-Some-clause-refused : goal.returns-in-Some-clause-refused
 returns-in-Some-clause-refused c = λ s given.
     let h = history_at _ c.args.self.now s c.self.view_is given in
-    subst (λ (o : Option Code). Refuses o c.in-Some.code) (sym c.in-Some.is ∙ c.refusal.ensures.refusal (history_of s) h) refl
+    subst (λ (o : Option Code). Refuses o c.in-Some.code)
+    (sym c.in-Some.is ∙ c.refusal.ensures.refusal (history_of s) h) refl
 
 pub returns-then-is_err-clause-refused : goal.returns-then-is_err-clause-refused
 returns-then-is_err-clause-refused c = λ s given.
     let h = history_at _ c.args.self.now s c.self.view_is given in
-    subst (λ (o : Option Code). Refuses o Memory) (sym c.in_default.is ∙ c.refusal.ensures.refusal (history_of s) h) refl
+    subst (λ (o : Option Code). Refuses o Memory)
+    (sym c.in_default.is ∙ c.refusal.ensures.refusal (history_of s) h) refl
 
 pub returns-in-Ok-clause-ok : goal.returns-in-Ok-clause-ok
 returns-in-Ok-clause-ok c = λ s given.
