@@ -27,12 +27,12 @@ use Rattle.dds_model.specs.declared.reply.Report.{Report}
 use Rattle.dds_model.specs.Part.{ReaderProxy, same_endpoint, own_writer, writer_changes}
 use Rattle.dds_model.specs.Claims.{Receiver, receiver_of, after_submessage, StandsAt, IsWriter, IsToReader, IsToWriter}
 use Rattle.dds_model.specs.Receipt.{prefix_of}
-use Rattle.dds_model.specs.Protocol.{Due, Known, State, InTurn, Goes, Idles, TakesHeartbeat, TakesAckNack, ReaderTakes, WriterTakes, Takes, FollowsMessage, TakesPacket, acknacks_due, answer_message, with_answered}
+use Rattle.dds_model.specs.Protocol.{Due, Known, State, InTurn, Goes, Idles, TakesHeartbeat, TakesAckNack, ReaderTakes, WriterTakes, Takes, FollowsMessage, TakesPacket, acknack_message, acknacks_due, answer_message, with_answered}
 use Rattle.dds_model.specs.Backed.{reader_at}
 use Rattle.dds_model.specs.Fresh.{HasHeartbeat, HasAckNack}
 use Rattle.dds_model.proofs.Composed.{is_alone}
 use Rattle.dds_model.proofs.CountsWritten.{plain_beats, plain_asks, plain_answers, one_ask, one_ask_beats, each_of}
-use Rattle.dds_model.proofs.DuesAcknacks.{answer_names}
+use Rattle.dds_model.proofs.DuesAcknacks.{ask_body, answer_names}
 use Rattle.dds_model.proofs.Framing.{pair_or_not}
 use Rattle.dds_model.proofs.Learning.{Learns, goes_learns, heartbeat_learns}
 use Rattle.dds_model.proofs.Tables.{same_is}
@@ -198,25 +198,10 @@ ask_counted c at reader_id writer_id w r is t last final (Some x) a new here due
     })
   where
     body : AckNackBody
-    body =
-        record {
-          reader_id = is.entity;
-          writer_id = writer_id;
-          reader_sn_state = x.missing;
-          count = x.count;
-          final_flag = x.is_final;
-        }
+    body = ask_body is.entity writer_id x
 
     the : Due
-    the =
-        record {
-          to = w.peer;
-          message = record {
-            prefix = c.own;
-            submessages = InfoDst at.source_guid_prefix
-                ∷ AckNack body ∷ [];
-          };
-        }
+    the = record { to = w.peer; message = acknack_message c.own at.source_guid_prefix is.entity writer_id x }
 
 heartbeat_counts : (c : Counting) (at : Receiver) (h : HeartbeatBody) → IsUsed c at (Heartbeat h)
     → (old : State) (w : Endpoint) (r : ℕ)

@@ -34,6 +34,18 @@ first_of : (a b : Bool) → (a || b) ≡ true → b ≡ false → a ≡ true
 first_of true b h none = refl
 first_of false b h none = cc
 
+-- the ACKNACK of a reader, as it is written
+abbrev pub ask_body : EntityId → EntityId → AckNackDue → AckNackBody
+ask_body reader writer x =
+    record {
+      reader_id = reader;
+      writer_id = writer;
+      reader_sn_state = x.missing;
+      count = x.count;
+      final_flag =
+          x.is_final;
+    }
+
 -- an ACKNACK that is due to a submessage of a writer, whose base is the reader's place in the writer's list
 pub record Asking : Type 0 where
   pub config : Config
@@ -51,13 +63,7 @@ pub record Asking : Type 0 where
 
 -- as it is written
 abbrev acknack : Asking → AckNackBody
-acknack x = record {
-  reader_id = x.is.entity;
-  writer_id = x.writer_id;
-  reader_sn_state = x.due.missing;
-  count = x.due.count;
-  final_flag = x.due.is_final;
-}
+acknack x = ask_body x.is.entity x.writer_id x.due
 
 -- an ACKNACK names the writer and the reader that the submessage named which it answers, and no others
 pub answer_names : (config : Config) → check_refusal config.peers ≡ None → (own : GuidPrefix) (from : Receiver)

@@ -29,11 +29,11 @@ use Rattle.dds_model.specs.World.{WorldState, peer_at}
 use Rattle.dds_model.specs.Backed.{reader_at}
 use Rattle.dds_model.specs.CatchUp.{Standing, TakesAnswers}
 use Rattle.dds_model.specs.Repair.{Delivers, DeliversAll}
-use Rattle.dds_model.proofs.DuesAcknacks.{answer_names}
+use Rattle.dds_model.proofs.DuesAcknacks.{ask_body, answer_names}
 use Rattle.dds_model.proofs.DuesUnkept.{row_index}
 use Rattle.dds_model.proofs.Framing.{number_or_not}
 use Rattle.dds_model.proofs.PairAsked.{Asking, Took, has_writer}
-use Rattle.dds_model.proofs.PairHeard.{Pairing, writer_prefix, reader_prefix, writer_id, reader_host, writer_host, there, back, for_itself, topic_is, to_reader, reader_ends, ask_body, delivered_takes, delivered_others}
+use Rattle.dds_model.proofs.PairHeard.{Pairing, writer_prefix, reader_prefix, writer_id, reader_host, writer_host, there, back, for_itself, topic_is, to_reader, reader_ends, delivered_takes, delivered_others}
 use Rattle.dds_model.proofs.PairMessages.{HasChange, Answered, answers_packet}
 use Rattle.dds_model.proofs.PairReader.{standing_of, Seat}
 use Rattle.dds_model.specs.declared.event.WorldEvent.{WorldEvent}

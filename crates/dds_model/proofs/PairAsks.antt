@@ -16,21 +16,38 @@ use Rattle.dds_model.specs.Machine.{AllTests, writer_at}
 use Rattle.dds_model.specs.Protocol.{Due, acknacks_due, writer_entity}
 use Rattle.dds_model.specs.World.{WorldState, machine_of, Sound}
 use Rattle.dds_model.specs.Bounds.{IsBounded}
-use Rattle.dds_model.specs.Fresh.{HasUsedCounts, acknacks_used_at}
+use Rattle.dds_model.specs.Fresh.{HasAckNack, HasUsedCounts, acknacks_used_at}
 use Rattle.dds_model.specs.Repair.{BeginsRound, IsPair, StandsAt, HasAskOf}
 use Rattle.dds_model.proofs.CountsWritten.{contains_map}
 use Rattle.dds_model.proofs.Dues.{message_to}
+use Rattle.dds_model.proofs.DuesAcknacks.{ask_body}
 use Rattle.dds_model.proofs.PairAnswered.{asking, post, all_sent, due_writable}
 use Rattle.dds_model.proofs.PairBegun.{Begun, the_begun, writer_is, pairing, body, hears, heard_of, the_last, acknacks, packet, place_heard}
-use Rattle.dds_model.proofs.PairHeard.{writer_prefix, reader_prefix, reader_entities, back, ask_body}
+use Rattle.dds_model.proofs.PairHeard.{writer_prefix, reader_prefix, reader_entities, back}
 
 -- that of the reader
-abbrev ask_due : (c : Begun) → AckNackDue → Due
+abbrev pub ask_due : (c : Begun) → AckNackDue → Due
 ask_due c x = record {
   to = c.writer.peer;
   message =
       message_to (reader_prefix (pairing c)) (writer_prefix (pairing c))
       (AckNack (ask_body (hears c).is.entity (body c).writer_id x) ∷ []);
+}
+
+-- where that can be written, it has the ACKNACK of the reader to the writer
+pub is_ask : (c : Begun) (x : AckNackDue) → IsWritable (ask_due c x).message
+    → HasAckNack c.config (spelling_of (ask_due c x).message) c.writer c.reader x.count
+is_ask c x writable = record {
+  message = (ask_due c x).message;
+  offset = length (spelling_of (ask_due c x).message);
+  is_read = message_again (ask_due c x).message writable;
+  own = writer_prefix (pairing c);
+  index = 1;
+  at = back (pairing c);
+  acknack = ask_body (hears c).is.entity (body c).writer_id x;
+  stands = (refl, refl);
+  is_to = (asking (pairing c) (body c).reader_id (hears c).is x).is_to;
+  same_count = refl;
 }
 
 -- it is among the packets that are sent, where none is lost
@@ -41,18 +58,7 @@ ask_is_sent c none x is = record {
   among = posted;
   to = refl;
   count = x.count;
-  has = record {
-    message = (ask_due c x).message;
-    offset = length (spelling_of (ask_due c x).message);
-    is_read = message_again (ask_due c x).message writable;
-    own = writer_prefix (pairing c);
-    index = 1;
-    at = back (pairing c);
-    acknack = ask_body (hears c).is.entity (body c).writer_id x;
-    stands = (refl, refl);
-    is_to = (asking (pairing c) (body c).reader_id (hears c).is x).is_to;
-    same_count = refl;
-  };
+  has = is_ask c x writable;
 }
   where
     own : Contains (packet c).due (ask_due c x)
@@ -90,7 +96,7 @@ pub asks_found : (c : Begun) → the_last c < 2 ^ 62 → acknacks_used_at c.old 
     → c.begins.lost_asks ≡ 0
     → (p : Packet) × Contains c.begins.hears.step.packets p × (p.to ≡ c.writer.peer)
     × Has p.bytes (sought.AckNack c.pair.reader_entity (writer_entity c.config c.writer.peer c.writer.number))
-unfolding ask_is_sent
+unfolding ask_is_sent is_ask
 asks_found c few left none =
     let found = answered_by c few left (hears c).answer refl (hears c).answers in
     let sent = ask_is_sent c none found.0 found.1 in

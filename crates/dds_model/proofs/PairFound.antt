@@ -12,7 +12,7 @@ use Rattle.rtps_wire.specs.declared.message.Message.{Message}
 use Rattle.rtps_wire.specs.declared.seek.Sought.{Sought}
 use Rattle.rtps_wire.specs.declared.seek.Sought.TheVariants as sought
 use Rattle.rtps_wire.specs.declared.submessage.Submessage.{Submessage}
-use Rattle.rtps_wire.specs.declared.submessage.Submessage.TheVariants.{Heartbeat, AckNack}
+use Rattle.rtps_wire.specs.declared.submessage.Submessage.TheVariants.{Heartbeat}
 use Rattle.rtps_wire.specs.Messages.{IsWritable, spelling_of}
 use Rattle.rtps_wire.specs.Sought.{HasSought, Has}
 use Rattle.rtps_wire.proofs.SpellingLaws.{message_again}
@@ -33,14 +33,14 @@ use Rattle.dds_model.specs.Fresh.{HasHeartbeat, HasAckNack}
 use Rattle.dds_model.specs.Rules.{RuledStep}
 use Rattle.dds_model.proofs.Composed.{is_alone, later_in}
 use Rattle.dds_model.proofs.CountsWritten.{read_again, one_sought}
-use Rattle.dds_model.proofs.Dues.{addressed, message_to}
+use Rattle.dds_model.proofs.Dues.{addressed}
 use Rattle.dds_model.proofs.DuesHeartbeats.{of_all}
 use Rattle.dds_model.proofs.DuesMatched.{own_name, same_end}
 use Rattle.dds_model.proofs.FreshCounts.{IsWrittenOf, sent_written}
 use Rattle.dds_model.proofs.OwnGuids.{one_reader}
-use Rattle.dds_model.proofs.PairAnswered.{asking}
+use Rattle.dds_model.proofs.PairAsks.{ask_due, is_ask}
 use Rattle.dds_model.proofs.PairBegun.{noted_tick, Begun, pairing, body, hears, packet}
-use Rattle.dds_model.proofs.PairHeard.{writer_prefix, reader_prefix, reader_host, back, ask_body}
+use Rattle.dds_model.proofs.PairHeard.{writer_prefix, reader_prefix, reader_host}
 use Rattle.dds_model.proofs.PairTicked.{beat_of, beat_message}
 use Rattle.dds_model.proofs.PairTurns.{OfOther}
 
@@ -167,39 +167,19 @@ ask_found_among c ask among has = ⊎_elim (λ o. own o) (λ o. absurd (not_othe
         c.pair.is_reader in
         o.other (ap (λ (e : Endpoint). e.number) one)
 
-    the : AckNackDue → Message
-    the x =
-        message_to (reader_prefix (pairing c)) (writer_prefix (pairing c))
-        (AckNack (ask_body (hears c).is.entity (body c).writer_id x) ∷ [])
-
-    is_ask : (x : AckNackDue) → IsWritable (the x) → HasAckNack c.config (spelling_of (the x)) c.writer c.reader x.count
-    is_ask x writable = record {
-      message = the x;
-      offset = length (spelling_of (the x));
-      is_read = message_again (the x) writable;
-      own = writer_prefix (pairing c);
-      index = 1;
-      at = back (pairing c);
-      acknack = ask_body (hears c).is.entity (body c).writer_id x;
-      stands = (refl, refl);
-      is_to = (asking (pairing c) (body c).reader_id (hears c).is x).is_to;
-      same_count = refl;
-    }
-
     by : (a : Option AckNackDue)
         → Contains (acknacks_due (reader_prefix (pairing c)) (writer_prefix (pairing c)) c.writer.peer
         (hears c).is.entity (body c).writer_id a) d.due
         → (count : ℤ) × HasAckNack c.config ask.bytes c.writer c.reader count
     by None among = let lt = among.1 in absurd (omega (arith, lt))
     by (Some x) among =
-        let due : Due = record { to = c.writer.peer; message = the x } in
-        let one : due ≡ d.due = is_alone due d.due among in
-        let message : the x ≡ d.due.message = ap (λ (y : Due). y.message) one in
-        let bytes : ask.bytes ≡ spelling_of (the x) =
+        let due : Due = ask_due c x in
+        let message : due.message ≡ d.due.message = ap (λ (y : Due). y.message) (is_alone due d.due among) in
+        let bytes : ask.bytes ≡ spelling_of due.message =
         ap (λ (q : Packet). q.bytes) d.is ∙ ap (λ (m : Message). spelling_of m) (sym message) in (
           x.count,
           subst (λ (b : List ℕ). HasAckNack c.config b c.writer c.reader x.count) (sym bytes)
-              (is_ask x (subst (λ (m : Message). IsWritable m) (sym message) d.writable)),
+              (is_ask c x (subst (λ (m : Message). IsWritable m) (sym message) d.writable)),
         )
 
     own : Contains (packet c).due d.due → (count : ℤ) × HasAckNack c.config ask.bytes c.writer c.reader count

@@ -12,7 +12,6 @@ use Rattle.dds_base.specs.Checked.{check_refusal, same_prefix}
 use Rattle.dds_base.specs.Places.{Match}
 use Rattle.rtps_reader.specs.declared.step.AckNackDue.{AckNackDue}
 use Rattle.rtps_reader.specs.Tracked.{is_later}
-use Rattle.rtps_wire.specs.declared.acknack.AckNack.{AckNack as AckNackBody}
 use Rattle.rtps_wire.specs.declared.heartbeat.Heartbeat.{Heartbeat as HeartbeatBody}
 use Rattle.rtps_wire.specs.declared.message.Message.{Message}
 use Rattle.rtps_wire.specs.declared.submessage.Submessage.TheVariants.{AckNack, Heartbeat}
@@ -38,6 +37,7 @@ use Rattle.dds_model.specs.Rules.{RuledStep}
 use Rattle.dds_model.proofs.Bounded.{steps_bounded}
 use Rattle.dds_model.proofs.Composed.{composes, is_alone}
 use Rattle.dds_model.proofs.Dues.{addressed, message_to}
+use Rattle.dds_model.proofs.DuesAcknacks.{ask_body}
 use Rattle.dds_model.proofs.DuesMatched.{same_end}
 use Rattle.dds_model.proofs.FreshCounts.{IsWrittenOf, steps_stays}
 use Rattle.dds_model.proofs.OwnGuids.{prefix-Decides}
@@ -149,17 +149,6 @@ reader_entities config p q d e r x y =
     sym x.same_entity ∙ (ap (λ (z : ReaderConfig). z.entity) (reader_ends config p q d e r x y) ∙ y.same_entity)
 
 -- ---- the HEARTBEAT is heard
-
--- the ACKNACK of a reader, as it is written
-abbrev pub ask_body : EntityId → EntityId → AckNackDue → AckNackBody
-ask_body reader writer x =
-    record {
-      reader_id = reader;
-      writer_id = writer;
-      reader_sn_state = x.missing;
-      count = x.count;
-      final_flag = x.is_final;
-    }
 
 abbrev pub ask_message : Pairing → EntityId → AckNackDue → Message
 ask_message p entity x = message_to (reader_prefix p) (writer_prefix p) (AckNack (ask_body entity (writer_id p) x) ∷ [])

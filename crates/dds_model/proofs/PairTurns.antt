@@ -1,5 +1,5 @@
 -- The readers of a peer take a submessage up in turn: what one of them does, the others leave as it is.
-use Rattle.std.proofs.Common.{◌≡◌, ◌⊎◌, ℕ, ℤ, zero, suc, ◌+◌, ◌<◌, ◌≤◌, Bool, true, false, List, [], ◌∷◌, Option, Some, None, Contains, length}
+use Rattle.std.proofs.Common.{◌≡◌, ◌⊎◌, ℕ, ℤ, zero, suc, ◌+◌, ◌<◌, ◌≤◌, Bool, true, false, List, [], Option, Some, None, Contains, length}
 use Rattle.std.proofs.Common.{refl, subst, ap, sym, ◌∙◌, inl, inr, ⊎_elim, arith}
 use Rattle.std.proofs.lemmas.Bool.{cases_lt}
 use Rattle.std.proofs.lemmas.List.Elements.{Contains-append_cases, Contains-append_left, Contains-append_right}
@@ -23,12 +23,12 @@ use Rattle.dds_model.specs.declared.endpoint.Endpoint.{Endpoint}
 use Rattle.dds_model.specs.declared.reply.Move.{Move}
 use Rattle.dds_model.specs.Part.{WriterProxy, own_proxies, own_reader, with_heard}
 use Rattle.dds_model.specs.Claims.{Receiver, IsReader, IsToReader}
-use Rattle.dds_model.specs.Protocol.{Due, State, InTurn, Goes, Asserting, TakesHeartbeat, Idles, ReaderTakes, acknacks_due, with_tracked}
+use Rattle.dds_model.specs.Protocol.{Due, State, InTurn, Goes, Asserting, TakesHeartbeat, Idles, ReaderTakes, acknack_message, acknacks_due, with_tracked}
 use Rattle.dds_model.specs.Backed.{reader_at}
 use Rattle.dds_model.specs.Fresh.{HasAckNack}
 use Rattle.dds_model.proofs.Composed.{is_alone}
 use Rattle.dds_model.proofs.CountsWritten.{one_ask, one_sought}
-use Rattle.dds_model.proofs.DuesAcknacks.{answer_names}
+use Rattle.dds_model.proofs.DuesAcknacks.{ask_body, answer_names}
 use Rattle.dds_model.proofs.Framing.{Frames, frames_at, frames_known, has_handle, number_or_not}
 use Rattle.dds_model.proofs.Learning.{goes_learns}
 use Rattle.dds_model.proofs.Ruled.{goes_frames}
@@ -177,25 +177,10 @@ due_asks c at reader_id writer_id w k is (Some x) due among =
     })
   where
     body : AckNackBody
-    body =
-        record {
-          reader_id = is.entity;
-          writer_id = writer_id;
-          reader_sn_state = x.missing;
-          count = x.count;
-          final_flag = x.is_final;
-        }
+    body = ask_body is.entity writer_id x
 
     the : Due
-    the =
-        record {
-          to = w.peer;
-          message = record {
-            prefix = c.own;
-            submessages = InfoDst at.source_guid_prefix
-                ∷ AckNack body ∷ [];
-          };
-        }
+    the = record { to = w.peer; message = acknack_message c.own at.source_guid_prefix is.entity writer_id x }
 
 pub reader_asks : (c : Host) (at : Receiver) (s : Submessage) (k : ℕ) (old : State) (moves : List Move)
     (dues : List Due) (new : State)
