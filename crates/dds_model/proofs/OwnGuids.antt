@@ -367,29 +367,31 @@ one_peer peers good prefix a b p q at_a at_b of_p of_q =
     let there : slice_get peers (b - 1) ≡ Some p = subst (λ (n : ℕ). slice_get peers n ≡ Some p) places at_a.1 in
     (number_of a b at_a.0 at_b.0 places, same_Some p q (sym there ∙ at_b.1))
 
--- an entity that stands once among these ends is that of one of them
-one_end : {E : Type 0} (entity_of : E → EntityId) (ends : List E) (entity : EntityId) (a b : ℕ) (x y : E)
-    → count_by (λ e. same_entity (entity_of e) entity) ends ≤ 1
-    → IsNumbered ends a x → IsNumbered ends b y → entity_of x ≡ entity → entity_of y ≡ entity → a ≡ b
-one_end {E} entity_of ends entity a b x y once at_a at_b of_x of_y =
+-- an entity that stands once among these ends of each peer is, with its prefix, that of one of them
+one_end : {E : Type 0} (entity_of : E → EntityId) (ends_of : PeerConfig → List E) (peers : List PeerConfig)
+    → IsChecked peers → (prefix : GuidPrefix) (entity : EntityId) (a b : Endpoint) (p q : PeerConfig) (x y : E)
+    → ((i : ℕ) (o : PeerConfig) → slice_get peers i ≡ Some o
+    → count_by (λ e. same_entity (entity_of e) entity) (ends_of o) ≤ 1)
+    → IsNumbered peers a.peer p → IsNumbered peers b.peer q → p.prefix ≡ prefix → q.prefix ≡ prefix
+    → IsNumbered (ends_of p) a.number x → IsNumbered (ends_of q) b.number y → entity_of x ≡ entity
+    → entity_of y ≡ entity → a ≡ b
+one_end {E} entity_of ends_of peers good prefix entity a b p q x y once at_p at_q of_p of_q at_x at_y of_x of_y =
+    let peer = one_peer peers good prefix a.peer b.peer p q at_p at_q of_p of_q in
+    let within : IsNumbered (ends_of q) a.number x =
+    subst (λ (o : PeerConfig). IsNumbered (ends_of o) a.number x) peer.1 at_x in
     let is_entity : E → Bool = λ e. same_entity (entity_of e) entity in
-    let places : a - 1 ≡ b - 1 =
-    one_place is_entity ends (a - 1) (b - 1) x y once at_a.1 at_b.1 ((entity-Decides (entity_of x) entity).1 of_x)
-    ((entity-Decides (entity_of y) entity).1 of_y) in
-    number_of a b at_a.0 at_b.0 places
+    let places : a.number - 1 ≡ b.number - 1 =
+    one_place is_entity (ends_of q) (a.number - 1) (b.number - 1) x y (once (b.peer - 1) q at_q.1) within.1 at_y.1
+    ((entity-Decides (entity_of x) entity).1 of_x) ((entity-Decides (entity_of y) entity).1 of_y) in
+    same_endpoints a b peer.0 (number_of a.number b.number within.0 at_y.0 places)
 
 pub one_writer : (config : Config) (prefix : GuidPrefix) (entity : EntityId) (a b : Endpoint)
     → check_refusal config.peers ≡ None → IsWriter config prefix entity a → IsWriter config prefix entity b → a ≡ b
 one_writer config prefix entity a b fits x y =
     let good = checked config.peers fits in
-    let peer =
-    one_peer config.peers good prefix a.peer b.peer x.peer y.peer x.at_peer y.at_peer x.same_prefix y.same_prefix in
-    let within : IsNumbered y.peer.writers a.number x.end =
-    subst (λ (p : PeerConfig). IsNumbered p.writers a.number x.end) peer.1 x.at_writer in
-    let once = entity_once config.peers good (b.peer - 1) y.peer y.at_peer.1 entity in
-    same_endpoints a b peer.0
-    (one_end (λ (w : WriterConfig). w.entity) y.peer.writers entity a.number b.number x.end y.end once within
-    y.at_writer x.same_entity y.same_entity)
+    one_end (λ (w : WriterConfig). w.entity) (λ p. p.writers) config.peers good prefix entity a b x.peer y.peer x.end
+    y.end (λ i p at. entity_once config.peers good i p at entity) x.at_peer y.at_peer x.same_prefix y.same_prefix
+    x.at_writer y.at_writer x.same_entity y.same_entity
 
 -- an entity is that of one reader of a peer at most
 reader_once : (peers : List PeerConfig) → IsChecked peers → (i : ℕ) (p : PeerConfig) → slice_get peers i ≡ Some p
@@ -403,14 +405,9 @@ pub one_reader : (config : Config) (prefix : GuidPrefix) (entity : EntityId) (a 
     → check_refusal config.peers ≡ None → IsReader config prefix entity a → IsReader config prefix entity b → a ≡ b
 one_reader config prefix entity a b fits x y =
     let good = checked config.peers fits in
-    let peer =
-    one_peer config.peers good prefix a.peer b.peer x.peer y.peer x.at_peer y.at_peer x.same_prefix y.same_prefix in
-    let within : IsNumbered y.peer.readers a.number x.end =
-    subst (λ (p : PeerConfig). IsNumbered p.readers a.number x.end) peer.1 x.at_reader in
-    let once = reader_once config.peers good (b.peer - 1) y.peer y.at_peer.1 entity in
-    same_endpoints a b peer.0
-    (one_end (λ (r : ReaderConfig). r.entity) y.peer.readers entity a.number b.number x.end y.end once within
-    y.at_reader x.same_entity y.same_entity)
+    one_end (λ (r : ReaderConfig). r.entity) (λ p. p.readers) config.peers good prefix entity a b x.peer y.peer x.end
+    y.end (λ i p at. reader_once config.peers good i p at entity) x.at_peer y.at_peer x.same_prefix y.same_prefix
+    x.at_reader y.at_reader x.same_entity y.same_entity
 
 -- no reader has the entity id that names all readers
 pub not_every_reader : (config : Config) (prefix : GuidPrefix) (entity : EntityId) (a : Endpoint)
