@@ -13,7 +13,7 @@ use Rattle.rtps_wire.specs.declared.acknack.AckNack.{AckNack as AckNackBody}
 use Rattle.rtps_wire.specs.declared.heartbeat.Heartbeat.{Heartbeat as HeartbeatBody}
 use Rattle.rtps_wire.specs.declared.message.Message.{Message}
 use Rattle.rtps_wire.specs.declared.submessage.Submessage.{Submessage}
-use Rattle.rtps_wire.specs.declared.submessage.Submessage.TheVariants.{Pad, InfoDst, InfoTs, Data, Heartbeat, AckNack, Gap, Other}
+use Rattle.rtps_wire.specs.declared.submessage.Submessage.TheVariants.{Heartbeat, AckNack}
 use Rattle.rtps_wire.specs.Messages.{ReadsMessage, HasSubmessage}
 use Rattle.dds_model.specs.declared.endpoint.Endpoint.{Endpoint}
 use Rattle.dds_model.specs.declared.reply.Move.{Move}
@@ -90,27 +90,9 @@ pub taken : (c : Coming) (s : Submessage) → c.submessage ≡ s
 taken c (AckNack a) is old made dues new b h =
     by_writers c (AckNack a) is (λ r x. tt) (λ w r n change told. told) old made new
     (writers_taken c a is old (numbers_from 1 (length old.part.rtps.writers)) old made dues new b h)
-taken c (Data d) is old made dues new b h =
-    by_readers c (Data d) is tt old made dues new (λ w r p n m. has_reader old.part r n w m.at) b
-    (readers_taken c (Data d) is tt 1 (length old.part.rtps.readers) old made dues new b h)
-taken c (Gap d) is old made dues new b h =
-    by_readers c (Gap d) is tt old made dues new (λ w r p n m. has_reader old.part r n w m.at) b
-    (readers_taken c (Gap d) is tt 1 (length old.part.rtps.readers) old made dues new b h)
-taken c (Heartbeat d) is old made dues new b h =
-    by_readers c (Heartbeat d) is tt old made dues new (λ w r p n m. has_reader old.part r n w m.at) b
-    (readers_taken c (Heartbeat d) is tt 1 (length old.part.rtps.readers) old made dues new b h)
-taken c (InfoDst d) is old made dues new b h =
-    by_readers c (InfoDst d) is tt old made dues new (λ w r p n m. has_reader old.part r n w m.at) b
-    (readers_taken c (InfoDst d) is tt 1 (length old.part.rtps.readers) old made dues new b h)
-taken c (InfoTs d) is old made dues new b h =
-    by_readers c (InfoTs d) is tt old made dues new (λ w r p n m. has_reader old.part r n w m.at) b
-    (readers_taken c (InfoTs d) is tt 1 (length old.part.rtps.readers) old made dues new b h)
-taken c (Other d) is old made dues new b h =
-    by_readers c (Other d) is tt old made dues new (λ w r p n m. has_reader old.part r n w m.at) b
-    (readers_taken c (Other d) is tt 1 (length old.part.rtps.readers) old made dues new b h)
-taken c Pad is old made dues new b h =
-    by_readers c Pad is tt old made dues new (λ w r p n m. has_reader old.part r n w m.at) b
-    (readers_taken c Pad is tt 1 (length old.part.rtps.readers) old made dues new b h)
+taken c s is old made dues new b h =
+    by_readers c s is tt old made dues new (λ w r p n m. has_reader old.part r n w m.at) b
+    (readers_taken c s is tt 1 (length old.part.rtps.readers) old made dues new b h)
 
 -- ---- the submessages of a packet
 
