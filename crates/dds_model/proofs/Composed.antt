@@ -31,8 +31,8 @@ use Rattle.dds_model.specs.Calls.{CallStep, TickStep}
 use Rattle.dds_model.specs.Watching.{Tests}
 use Rattle.dds_model.specs.Claims.{Receiver, after_submessage, receiver_of, Claim, ChangeIs, MayPass, PlaceReached, Asserts, Claims, Claimed}
 use Rattle.dds_model.specs.Peer.{Peer, Delivery, PeerStep, EventStep, no_peer, claimed, packets_of, IsTrueAt}
-use Rattle.dds_model.specs.Machine.{Machine, AllTests, part_at, writer_at, place_at, grounds_of, AtPeer, Step}
-use Rattle.dds_model.specs.World.{WorldState, peer_at, machine_of, PeerSteps, WorldStep, Holds, Sound}
+use Rattle.dds_model.specs.Machine.{Machine, AllTests, part_at, writer_at, place_at, grounds_of, AtPeer, Step, IsRefused}
+use Rattle.dds_model.specs.World.{WorldState, peer_at, machine_of, PeerSteps, IsRefusedIn, WorldStep, Holds, Sound}
 use Rattle.dds_model.proofs.Tables.{numbered-cases, numbered-map, numbered-same, map-with_numbered, length-with_numbered, acknowledged-cases, no_less_same, no_less_on, below_on}
 use Rattle.dds_model.proofs.Growth.{Grows, IsMove-grows, AreMoves-grows, DeliveryStep-grows, CallStep-grows, CallStep-readers, TickStep-acknowledged, TickStep-grows, MachineGrows, with_part, with_part-grows, Holds-grows}
 
@@ -529,33 +529,32 @@ not_refused config old peer number reply (inr (inl over)) packet least is there 
 not_refused config old peer number reply (inr (inr none)) packet least is there =
     absurd (none (peer_number old peer there))
 
+-- what the world refuses, the machine refuses, and the world is as sound as it was
+refused : (config : Config) (old new : WorldState) (reply : Reply) → Sound config old → IsRefusedIn old reply new
+    → IsRefused (machine_of old) reply (machine_of new) × Sound config new
+refused config old new reply sound h =
+    ((h.is_refused, ap machine_of h.after), subst (λ (w : WorldState). Sound config w) (sym h.after) sound)
+
 pub composes : (config : Config) (tests : AllTests) (old new : WorldState) (ev : WorldEvent) (reply : Reply)
     → Sound config old → WorldStep config tests old ev reply new → Composed config tests old ev reply new
 composes config tests old new (world.Call peer call) reply sound (inl h) =
     composed config tests old new peer (event.Call call) (world.Call peer call) reply sound tt h (λ m at. inl at)
     (λ t. tt)
-composes config tests old new (world.Call peer call) reply sound (inr h) = (
-  inr (no_part_number old peer h.0, (h.1.is_refused, ap machine_of h.1.after)),
-  tt,
-  subst
-      (λ (w : WorldState). Sound config w) (sym h.1.after) sound,
-)
+composes config tests old new (world.Call peer call) reply sound (inr h) =
+    let r = refused config old new reply sound h.1 in (inr (no_part_number old peer h.0, r.0), tt, r.1)
 composes config tests old new (world.Tick peer now) reply sound (inl h) =
     composed config tests old new peer (event.Tick now) (world.Tick peer now) reply sound tt h (λ m at. inl at)
     (λ t. tt)
-composes config tests old new (world.Tick peer now) reply sound (inr h) = (
-  inr (no_part_number old peer h.0, (h.1.is_refused, ap machine_of h.1.after)),
-  tt,
-  subst
-      (λ (w : WorldState). Sound config w) (sym h.1.after) sound,
-)
+composes config tests old new (world.Tick peer now) reply sound (inr h) =
+    let r = refused config old new reply sound h.1 in (inr (no_part_number old peer h.0, r.0), tt, r.1)
 composes config tests old new (world.Deliver peer number) reply sound (inl h) =
     composed_delivery config tests old new peer number h.0 reply sound h.1 h.2 h.3
-composes config tests old new (world.Deliver peer number) reply sound (inr h) = (
-  inr (
-    ⊎_elim (λ z. inl z) (λ o. ⊎_elim (λ s. inr (inl s)) (λ p. inr (inr (no_part_number old peer p))) o) h.0,
-    (h.1.is_refused, ap machine_of h.1.after),
-  ),
-  not_refused config old peer number reply h.0,
-  subst (λ (w : WorldState). Sound config w) (sym h.1.after) sound,
-)
+composes config tests old new (world.Deliver peer number) reply sound (inr h) =
+    let r = refused config old new reply sound h.1 in (
+      inr (
+        ⊎_elim (λ z. inl z) (λ o. ⊎_elim (λ s. inr (inl s)) (λ p. inr (inr (no_part_number old peer p))) o) h.0,
+        r.0,
+      ),
+      not_refused config old peer number reply h.0,
+      r.1,
+    )
