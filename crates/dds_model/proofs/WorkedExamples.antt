@@ -72,10 +72,10 @@ change-dispose_unregister = refl
 -- ---- GAP
 
 -- to r1, gapStart 2, the empty set from 3 on
-abbrev gap_2 : GapBody
+abbrev pub gap_2 : GapBody
 gap_2 = record { reader_id = r1_id; writer_id = w1_id; gap_start = 2; gap_list = empty_from 3 }
 
-gap-names_2 : Says network prefix_2 to_2 (Gap gap_2) (MayPass w1 r1 2)
+pub gap-names_2 : Says network prefix_2 to_2 (Gap gap_2) (MayPass w1 r1 2)
 gap-names_2 = (to_r1 r1_id 0 (inl refl), omega arith, inl (omega arith, omega arith))
 
 -- it names no number below gapStart, nor the set's base
@@ -178,7 +178,7 @@ heartbeat-asserts_nothing own at count h = let e = h.1 in absurd cc
 -- ---- ACKNACK
 
 -- of a reader of peer 2, base 2, the set with 2: it has what is below 2, and misses 2
-abbrev acknack_2 : EntityId → AckNackBody
+abbrev pub acknack_2 : EntityId → AckNackBody
 acknack_2 reader_id =
     record {
       reader_id = reader_id;
@@ -192,7 +192,7 @@ acknack_2 reader_id =
       final_flag = false;
     }
 
-acknack-reached_2 : Says network prefix_1 to_1 (AckNack (acknack_2 r1_id)) (PlaceReached w1 r1 2)
+pub acknack-reached_2 : Says network prefix_1 to_1 (AckNack (acknack_2 r1_id)) (PlaceReached w1 r1 2)
 acknack-reached_2 = (from_r1 r1_id (inl refl), refl)
 
 acknack-not_1 : (own : GuidPrefix) (at : Receiver)

@@ -1,13 +1,10 @@
 -- What three packets claim, from their bytes on: one with a GAP, one with an ACKNACK and one with a HEARTBEAT that asserts
 -- its writer, of which the reader hears once. Each begins with an INFO_DST.
-use Rattle.std.proofs.Common.{◌≡◌, ℕ, ◌+◌, ◌^◌, length, sym, true, false, Some, None, List, [], ◌∷◌, ◌++◌, replicate, refl, inl, inr, arith, codes}
+use Rattle.std.proofs.Common.{◌≡◌, ℕ, ◌+◌, ◌^◌, length, sym, true, Some, None, List, [], ◌∷◌, ◌++◌, refl, inl, inr, arith, codes}
 use Rattle.std.proofs.lemmas.Int.{ints}
 use Rattle.std.proofs.lemmas.List.{append-nil, length-append}
 use Rattle.std.specs.Prelude.{pos}
 use Rattle.dds_base.specs.declared.guid.GuidPrefix.{GuidPrefix}
-use Rattle.rtps_sets.specs.NumberSet.{empty_from}
-use Rattle.rtps_wire.specs.declared.acknack.AckNack.{AckNack as AckNackBody}
-use Rattle.rtps_wire.specs.declared.gap.Gap.{Gap as GapBody}
 use Rattle.rtps_wire.specs.declared.heartbeat.Heartbeat.{Heartbeat as HeartbeatBody}
 use Rattle.rtps_wire.specs.declared.message.Message.{Message}
 use Rattle.rtps_wire.specs.declared.submessage.Submessage.{Submessage}
@@ -20,7 +17,8 @@ use Rattle.dds_model.specs.declared.reply.Move.TheVariants.{Heard}
 use Rattle.dds_model.specs.Claims.{Claim, MayPass, PlaceReached, Asserts, Claims, Receiver, Says, StandsAt}
 use Rattle.dds_model.specs.Claims.{every_reader, receiver_of}
 use Rattle.dds_model.specs.Peer.{Delivery, IsApplied, IsNewest}
-use Rattle.dds_model.proofs.WorkedReceivers.{prefix_1, prefix_2, w1_id, r1_id, w1, r1, to_2, to_1, network, to_r1, from_r1}
+use Rattle.dds_model.proofs.WorkedReceivers.{prefix_1, prefix_2, w1_id, r1_id, w1, r1, to_2, to_1, network, to_r1}
+use Rattle.dds_model.proofs.WorkedExamples.{gap_2, gap-names_2, acknack_2, acknack-reached_2}
 
 -- an INFO_DST and a submessage with 28 octets of body, from one peer to the other
 abbrev packet : GuidPrefix → GuidPrefix → ℕ → ℕ → List ℕ → List ℕ
@@ -87,10 +85,7 @@ abbrev gap_body : List ℕ
 gap_body =
     0 ∷ 0 ∷ 1 ∷ 7 ∷ 0 ∷ 0 ∷ 1 ∷ 2 ∷ 0 ∷ 0 ∷ 0 ∷ 0 ∷ 2 ∷ 0 ∷ 0 ∷ 0 ∷ 0 ∷ 0 ∷ 0 ∷ 0 ∷ 3 ∷ 0 ∷ 0 ∷ 0 ∷ 0 ∷ 0 ∷ 0 ∷ 0 ∷ []
 
-abbrev gap : GapBody
-gap = record { reader_id = r1_id; writer_id = w1_id; gap_start = 2; gap_list = empty_from 3 }
-
-gap-known : IsKnownKind 0x08 1 gap_body (Gap gap)
+gap-known : IsKnownKind 0x08 1 gap_body (Gap gap_2)
 unfolding set_of bits_below
 gap-known = record {
   kind = refl;
@@ -109,16 +104,16 @@ gap-known = record {
   valid = record { reader = refl; writer = refl; first = omega arith; small = omega arith };
 }
 
-gap-read : ReadsMessage (packet prefix_1 prefix_2 0x08 1 gap_body) (message prefix_1 prefix_2 (Gap gap)) 68
+gap-read : ReadsMessage (packet prefix_1 prefix_2 0x08 1 gap_body) (message prefix_1 prefix_2 (Gap gap_2)) 68
 gap-read =
     packet-read prefix_1 prefix_2 0x08 1 gap_body
-    (Gap gap) refl refl refl (record { len = 28; small = omega arith; text = refl; extent = refl }) gap-known
+    (Gap gap_2) refl refl refl (record { len = 28; small = omega arith; text = refl; extent = refl }) gap-known
 
 -- so the packet lets r1 pass 2
 gap-claims : Claims network (packet prefix_1 prefix_2 0x08 1 gap_body) (MayPass w1 r1 2)
 gap-claims =
-    packet-claims prefix_1 prefix_2 prefix_2 0x08 1 gap_body (Gap gap) to_2 (MayPass w1 r1 2) gap-read (refl, refl)
-    (to_r1 r1_id 0 (inl refl), omega arith, inl (omega arith, omega arith))
+    packet-claims prefix_1 prefix_2 prefix_2 0x08 1 gap_body (Gap gap_2) to_2 (MayPass w1 r1 2) gap-read (refl, refl)
+    gap-names_2
 
 -- ---- the ACKNACK of base 2 and the set with 2
 
@@ -127,21 +122,7 @@ acknack_body =
     0 ∷ 0 ∷ 1 ∷ 7 ∷ 0 ∷ 0 ∷ 1 ∷ 2 ∷ 0 ∷ 0 ∷ 0 ∷ 0 ∷ 2 ∷ 0 ∷ 0 ∷ 0 ∷ 1 ∷ 0 ∷ 0 ∷ 0 ∷ 0 ∷ 0 ∷ 0 ∷ 0x80 ∷ 1 ∷ 0 ∷ 0 ∷ 0
     ∷ []
 
-abbrev acknack : AckNackBody
-acknack =
-    record {
-      reader_id = r1_id;
-      writer_id = w1_id;
-      reader_sn_state = record {
-        base = 2;
-        members = true
-            ∷ replicate 255 false;
-      };
-      count = pos 1;
-      final_flag = false;
-    }
-
-acknack-known : IsKnownKind 0x06 1 acknack_body (AckNack acknack)
+acknack-known : IsKnownKind 0x06 1 acknack_body (AckNack (acknack_2 r1_id))
 unfolding set_of bits_below
 acknack-known = record {
   kind = refl;
@@ -170,17 +151,17 @@ acknack-known = record {
 }
 
 acknack-read : ReadsMessage (packet prefix_2 prefix_1 0x06 1 acknack_body)
-    (message prefix_2 prefix_1 (AckNack acknack)) 68
+    (message prefix_2 prefix_1 (AckNack (acknack_2 r1_id))) 68
 acknack-read =
     packet-read prefix_2 prefix_1 0x06 1 acknack_body
-    (AckNack acknack) refl refl refl (record { len = 28; small = omega arith; text = refl; extent = refl })
+    (AckNack (acknack_2 r1_id)) refl refl refl (record { len = 28; small = omega arith; text = refl; extent = refl })
     acknack-known
 
 -- so r1 has reached 2
 acknack-claims : Claims network (packet prefix_2 prefix_1 0x06 1 acknack_body) (PlaceReached w1 r1 2)
 acknack-claims =
-    packet-claims prefix_2 prefix_1 prefix_1 0x06 1 acknack_body (AckNack acknack) to_1 (PlaceReached w1 r1 2)
-    acknack-read (refl, refl) (from_r1 r1_id (inl refl), refl)
+    packet-claims prefix_2 prefix_1 prefix_1 0x06 1 acknack_body (AckNack (acknack_2 r1_id)) to_1 (PlaceReached w1 r1 2)
+    acknack-read (refl, refl) acknack-reached_2
 
 -- ---- the first HEARTBEAT of a writer without changes, with the flags F and L
 
