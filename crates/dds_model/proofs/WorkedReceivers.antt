@@ -14,7 +14,7 @@ use Rattle.dds_base.specs.declared.qos.OwnershipQos.TheVariants.{Shared}
 use Rattle.rtps_wire.specs.declared.data.Data.{Data as DataBody}
 use Rattle.rtps_wire.specs.declared.submessage.Submessage.TheVariants.{Pad, InfoDst, InfoTs, Data}
 use Rattle.dds_model.specs.declared.endpoint.Endpoint.{Endpoint}
-use Rattle.dds_model.specs.Claims.{IsWriter, IsReader, Receiver, every_peer, receiver_of, is_for, after_submessage, StandsAt, every_reader, Names, IsToReader, IsToWriter}
+use Rattle.dds_model.specs.Claims.{IsNumbered, IsWriter, IsReader, Receiver, every_peer, receiver_of, is_for, after_submessage, StandsAt, every_reader, Names, IsToReader, IsToWriter}
 
 abbrev pub prefix_1 : GuidPrefix
 prefix_1 = record { 0 = replicate 11 0 ++ 1 ∷ [] }
@@ -166,27 +166,25 @@ w1_named =
       same_entity = refl;
     }
 
-abbrev pub r1_named : IsReader network prefix_2 r1_id r1
-r1_named =
+-- a reader of peer 2, by its number there
+abbrev reader_named : (entity : EntityId) (number topic : ℕ)
+    → IsNumbered peer_2.readers number (reader entity topic)
+    → IsReader network prefix_2 entity (record { peer = 2; number = number })
+reader_named entity number topic at =
     record {
       peer = peer_2;
       at_peer = (omega arith, refl);
       same_prefix = refl;
-      end = reader r1_id 0;
-      at_reader = (omega arith, refl);
+      end = reader entity topic;
+      at_reader = at;
       same_entity = refl;
     }
 
+abbrev pub r1_named : IsReader network prefix_2 r1_id r1
+r1_named = reader_named r1_id 1 0 (omega arith, refl)
+
 abbrev pub r3_named : IsReader network prefix_2 r3_id r3
-r3_named =
-    record {
-      peer = peer_2;
-      at_peer = (omega arith, refl);
-      same_prefix = refl;
-      end = reader r3_id 0;
-      at_reader = (omega arith, refl);
-      same_entity = refl;
-    }
+r3_named = reader_named r3_id 3 0 (omega arith, refl)
 
 -- the readerId of r1, and that of zeros, name r1
 pub to_r1 : (reader_id : EntityId) (timestamp : ℕ) → Names reader_id r1_id
