@@ -221,8 +221,8 @@ refused_at refused = record { moves = []; refused = refused }
 
 -- another bound for what was applied of this packet
 rebacked : (p : Packet) (old new : Option ℕ) (s : State)
-    → ((w : Endpoint) (r : ℕ) (count : ℤ) → HasNumber s.part.rtps.readers r → IsAppliedAt p new w r count
-    → IsAppliedAt p old w r count ⊎ (is_later (s.known.tracked w r).count count ≡ false))
+    → ((w : Endpoint) (r : ℕ) (count : ℤ) → HasNumber s.part.rtps.readers r → (a : IsAppliedAt p new w r count)
+    → IsBefore a.index old ⊎ (is_later (s.known.tracked w r).count count ≡ false))
     → Backed p old s → Backed p new s
 rebacked p old new s f b = record {
   place = b.place;
@@ -231,12 +231,24 @@ rebacked p old new s f b = record {
       newest_by p (refused_at new) w r (s.known.tracked w r).count
       (λ n a. ⊎_elim (λ o. b.newest w r has (record { packet = p.bytes; report = refused_at old }) n
       (first_in (record { packet = p.bytes; report = refused_at old }) p.before)
-      (applied_as p (refused_at old) w r n o)) (λ e. e) (f w r n has a))
+      (applied_as p (refused_at old) w r n (bounded w r n a o))) (λ e. e) (f w r n has a))
       (λ e n a k. b.newest w r has e n (later_in (record { packet = p.bytes; report = refused_at old }) p.before e a) k)
       d count among h;
   heard = b.heard;
 }
   where
+    bounded : (w : Endpoint) (r : ℕ) (count : ℤ) (a : IsAppliedAt p new w r count) → IsBefore a.index old
+        → IsAppliedAt p old w r count
+    bounded w r count a before = record {
+      index = a.index;
+      before = before;
+      at = a.at;
+      heartbeat = a.heartbeat;
+      stands = a.stands;
+      is_to = a.is_to;
+      same_count = a.same_count;
+    }
+
     first_in : (x : Delivery) (xs : List Delivery) → Contains (x ∷ xs) x
     first_in x xs = (0, omega arith, refl)
 
@@ -290,15 +302,7 @@ pub next_backed : (p : Packet) (index : ℕ) (at : Receiver) (s : Submessage) (s
 next_backed p index at s ss rest stands new b past =
     rebacked p (Some index) (Some (index + 1)) new
     (λ w r count has a. ⊎_elim
-    (λ l. inl (record {
-      index = a.index;
-      before = l;
-      at = a.at;
-      heartbeat = a.heartbeat;
-      stands = a.stands;
-      is_to = a.is_to;
-      same_count = a.same_count;
-    }))
+    (λ l. inl l)
     (λ e.
     let here : (a.at ≡ at) × (Heartbeat a.heartbeat ≡ s) =
     rest.only 0 a.at (Heartbeat a.heartbeat)
@@ -326,15 +330,7 @@ pub all_of : (p : Packet) (index : ℕ) (at : Receiver) → IsRest p index at []
 all_of p index at rest s b =
     rebacked p (Some index) None s
     (λ w r count has a. ⊎_elim
-    (λ l. inl (record {
-      index = a.index;
-      before = l;
-      at = a.at;
-      heartbeat = a.heartbeat;
-      stands = a.stands;
-      is_to = a.is_to;
-      same_count = a.same_count;
-    }))
+    (λ l. inl l)
     (λ g. absurd (rest.only g.0 a.at (Heartbeat a.heartbeat)
     (subst (λ (n : ℕ). Stands p n a.at (Heartbeat a.heartbeat)) g.1 a.stands))) (before_or_from a.index index)) b
   where
