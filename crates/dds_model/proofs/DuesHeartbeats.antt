@@ -38,17 +38,21 @@ pub record Beating : Type 0 where
   pub number : ℕ
   pub own : OwnName config peer part number
 
--- the HEARTBEAT of that writer, with these flags
-abbrev pub beat : Beating → (final liveliness : Bool) → HeartbeatBody
-beat b final liveliness = record {
+-- the next HEARTBEAT of the peer's writer of this number, with these flags
+abbrev pub beat_body : Config → ℕ → Part → ℕ → (final liveliness : Bool) → HeartbeatBody
+beat_body config peer part number final liveliness = record {
   reader_id = every_reader;
-  writer_id = writer_entity b.config b.peer b.number;
-  first_sn = first_kept (history_of (own_writer b.part b.number));
-  last_sn = length (writer_changes (own_writer b.part b.number));
-  count = pos (heartbeats_used (own_writer b.part b.number) + 1);
+  writer_id = writer_entity config peer number;
+  first_sn = first_kept (history_of (own_writer part number));
+  last_sn = length (writer_changes (own_writer part number));
+  count = pos (heartbeats_used (own_writer part number) + 1);
   final_flag = final;
   liveliness_flag = liveliness;
 }
+
+-- that of such a writer
+abbrev pub beat : Beating → (final liveliness : Bool) → HeartbeatBody
+beat b final liveliness = beat_body b.config b.peer b.part b.number final liveliness
 
 -- it names the writer, and claims what that one does not keep
 pub first_says : (b : Beating) (final liveliness : Bool) (far to : GuidPrefix) (v r : Endpoint) (n : ℕ)

@@ -10,9 +10,7 @@ use Rattle.dds_base.specs.declared.config.Config.{Config}
 use Rattle.dds_base.specs.declared.guid.EntityId.{EntityId}
 use Rattle.dds_base.specs.declared.guid.GuidPrefix.{GuidPrefix}
 use Rattle.dds_base.specs.Checked.{check_refusal}
-use Rattle.dds_base.specs.Kept.{first_kept}
 use Rattle.dds_base.specs.Written.{Written, Registered, Changed, Asserted, LookedAt, Ticked, counts_of}
-use Rattle.rtps_wire.specs.declared.heartbeat.Heartbeat.{Heartbeat as HeartbeatBody}
 use Rattle.rtps_wire.specs.declared.submessage.Submessage.{Submessage}
 use Rattle.rtps_wire.specs.Messages.{IsWritable, spelling_of}
 use Rattle.dds_model.specs.declared.call.Call.{Call}
@@ -27,7 +25,7 @@ use Rattle.dds_model.specs.declared.reply.Report.{Report}
 use Rattle.dds_model.specs.declared.reply.Reply.{Reply}
 use Rattle.dds_model.specs.declared.reply.Reply.TheVariants.{Done, Reported}
 use Rattle.dds_model.specs.Numbered.{HasNumber}
-use Rattle.dds_model.specs.Part.{Part, Writer, no_writer, own_writer, writer_changes, history_of, has_readers, is_behind, peers_of, heartbeats_used}
+use Rattle.dds_model.specs.Part.{Part, Writer, no_writer, own_writer, writer_changes, has_readers, is_behind, peers_of, heartbeats_used}
 use Rattle.dds_model.specs.Moves.{Grounds}
 use Rattle.dds_model.specs.Calls.{Effect, nothing, writes, effect, effect_of, with_written, ticked, after_tick, TickStep}
 use Rattle.dds_model.specs.Watching.{Tests}
@@ -45,7 +43,7 @@ use Rattle.dds_model.proofs.CountsTaken.{Counting, Counts, packet_counts}
 use Rattle.dds_model.proofs.CountsWritten.{plain_beats, plain_asks, plain_data, one_beat, one_beat_asks, each_of}
 use Rattle.dds_model.proofs.DuesAssertions.{OfEachTold, told_each, asserted_writer}
 use Rattle.dds_model.proofs.DuesGrowth.{Gains, gains_same, gains_on, AreMoves-gains, is_part_kept}
-use Rattle.dds_model.proofs.DuesHeartbeats.{of_all}
+use Rattle.dds_model.proofs.DuesHeartbeats.{beat_body, of_all}
 use Rattle.dds_model.proofs.DuesMatched.{own_name}
 use Rattle.dds_model.proofs.DuesPackets.{IsOfDue, sent_is_due}
 use Rattle.dds_model.proofs.DuesParts.{call_part, tick_part}
@@ -346,19 +344,7 @@ silent_beat config peer after due h = record {
   ask = h.ask;
 }
 
--- the next HEARTBEAT of the peer's writer, with these flags
-beat_body : Config → ℕ → Part → ℕ → (final liveliness : Bool) → HeartbeatBody
-beat_body config peer part number final liveliness = record {
-  reader_id = every_reader;
-  writer_id = writer_entity config peer number;
-  first_sn = first_kept (history_of (own_writer part number));
-  last_sn = length (writer_changes (own_writer part number));
-  count = pos (heartbeats_used (own_writer part number) + 1);
-  final_flag = final;
-  liveliness_flag = liveliness;
-}
-
--- it is such a one where one count more is used afterwards
+-- the next HEARTBEAT of the peer's writer is such a one where one count more is used afterwards
 next_beat : (config : Config) (peer : ℕ) (part after : Part) (number to : ℕ) (final liveliness : Bool)
     → check_refusal config.peers ≡ None → IsPartOf config peer part → HasNumber part.rtps.writers number
     → heartbeats_used (own_writer after number) ≡ heartbeats_used (own_writer part number) + 1
@@ -368,7 +354,6 @@ next_beat : (config : Config) (peer : ℕ) (part after : Part) (number to : ℕ)
       message = heartbeat_with final liveliness (prefix_of config peer) (prefix_of config to)
           (writer_entity config peer number) (own_writer part number);
     })
-unfolding beat_body
 next_beat config peer part after number to final liveliness checked of there more = record {
   beat = λ w count writable has.
       let me : Endpoint = record { peer = peer; number = number } in

@@ -6,7 +6,6 @@ use Rattle.std.proofs.lemmas.Int.{ints}
 use Rattle.std.proofs.lemmas.List.Elements.{All-contains}
 use Rattle.dds_base.specs.declared.config.Config.{Config}
 use Rattle.dds_base.specs.Checked.{check_refusal}
-use Rattle.dds_base.specs.Kept.{first_kept}
 use Rattle.rtps_reader.specs.Tracked.{is_later}
 use Rattle.rtps_wire.specs.declared.heartbeat.Heartbeat.{Heartbeat as HeartbeatBody}
 use Rattle.rtps_wire.specs.declared.message.Message.{Message}
@@ -18,9 +17,8 @@ use Rattle.dds_model.specs.declared.event.Packet.{Packet}
 use Rattle.dds_model.specs.declared.event.WorldEvent.TheVariants as world
 use Rattle.dds_model.specs.declared.reply.Reply.{Reply}
 use Rattle.dds_model.specs.declared.reply.Reply.TheVariants.{Done}
-use Rattle.dds_model.specs.Part.{Part, own_writer, writer_changes, history_of, heartbeats_used}
+use Rattle.dds_model.specs.Part.{Part, own_writer, writer_changes}
 use Rattle.dds_model.specs.Calls.{TickStep}
-use Rattle.dds_model.specs.Claims.{every_reader}
 use Rattle.dds_model.specs.Receipt.{prefix_of}
 use Rattle.dds_model.specs.Dues.{IsPartOf}
 use Rattle.dds_model.specs.Machine.{AllTests}
@@ -32,7 +30,7 @@ use Rattle.dds_model.specs.Fresh.{HasHeartbeat}
 use Rattle.dds_model.specs.Rules.{RuledStep}
 use Rattle.dds_model.proofs.CountsWritten.{one_beat}
 use Rattle.dds_model.proofs.Dues.{message_to}
-use Rattle.dds_model.proofs.DuesHeartbeats.{of_all}
+use Rattle.dds_model.proofs.DuesHeartbeats.{beat_body, of_all}
 use Rattle.dds_model.proofs.DuesMatched.{own_name}
 use Rattle.dds_model.proofs.DuesParts.{tick_changes}
 use Rattle.dds_model.proofs.FreshCounts.{IsWrittenOf, sent_written, known_of}
@@ -52,15 +50,7 @@ new_count (Some last) n used = by (int_lt last (pos (n + 1))) refl
 
 -- the HEARTBEAT of the peer's writer of this number
 abbrev pub beat_of : Config → ℕ → Part → ℕ → HeartbeatBody
-beat_of config peer part number = record {
-  reader_id = every_reader;
-  writer_id = writer_entity config peer number;
-  first_sn = first_kept (history_of (own_writer part number));
-  last_sn = length (writer_changes (own_writer part number));
-  count = pos (heartbeats_used (own_writer part number) + 1);
-  final_flag = false;
-  liveliness_flag = false;
-}
+beat_of config peer part number = beat_body config peer part number false false
 
 abbrev pub beat_message : Config → ℕ → Part → ℕ → ℕ → Message
 beat_message config peer part number to =
