@@ -27,7 +27,7 @@ use Rattle.dds_model.specs.Moves.{Grounds, match_of, position_at, AreMoves}
 use Rattle.dds_model.specs.Claims.{Receiver, receiver_of, after_submessage, IsNumbered, IsWriter, IsReader, IsToReader}
 use Rattle.dds_model.specs.Machine.{grounds_of}
 use Rattle.dds_model.specs.Receipt.{GoesOver, HasNoRoom, MovesOver, TakesUp}
-use Rattle.dds_model.proofs.WorkedReceivers.{prefix_1, prefix_2, w1_id, r1_id, writer, reader, w1, r1, to_2, some_is}
+use Rattle.dds_model.proofs.WorkedReceivers.{prefix_1, prefix_2, w1_id, r1_id, writer, reader, w1, r1, to_2, w1_named, reader_named, some_is}
 use Rattle.dds_model.proofs.WorkedExamples.{key}
 use Rattle.dds_model.proofs.WorkedMoves.{peer_1, peer_2, pair, writing, part_2, machine, write_of, came, came_1, comes_next}
 
@@ -141,25 +141,10 @@ reader-is_1 prefix entity r two h =
 
 to_r1 : IsToReader (pair KeepAll) prefix_2 to_2 r1_id w1_id w1 r1
 to_r1 = record {
-  from =
-      record {
-        peer = peer_1 KeepAll;
-        at_peer = (omega arith, refl);
-        same_prefix = refl;
-        end = writer KeepAll;
-        at_writer = (omega arith, refl);
-        same_entity = refl;
-      };
+  from = w1_named;
   is_for = refl;
   entity = r1_id;
-  to = record {
-    peer = peer_2;
-    at_peer = (omega arith, refl);
-    same_prefix = refl;
-    end = reader r1_id 0;
-    at_reader = (omega arith, refl);
-    same_entity = refl;
-  };
+  to = reader_named r1_id 1 0 (omega arith, refl);
   named = inl refl;
   matched = refl;
 }

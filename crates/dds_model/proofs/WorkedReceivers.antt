@@ -1,6 +1,6 @@
 -- Whom the parts of a message are for, when what follows was made, and whom a submessage speaks to, computed at a network of
 -- two peers: peer 1 has a writer w1, peer 2 readers r1, r2 and r3, of which r2 is of another topic.
-use Rattle.std.proofs.Common.{◌≡◌, ℕ, ◌-◌, ◌^◌, true, false, Some, None, [], ◌∷◌, ◌++◌, replicate, refl, sym, ◌∙◌, ap, subst, inr, ⊎_elim, arith, slice_get}
+use Rattle.std.proofs.Common.{◌≡◌, ℕ, ◌-◌, ◌^◌, true, false, Some, None, [], ◌∷◌, ◌++◌, replicate, refl, sym, ◌∙◌, ap, subst, inr, ⊎_elim, arith, slice_get, List}
 use Rattle.std.specs.Prelude.{pos, negsuc, slice_index}
 use Rattle.dds_base.specs.declared.config.Config.{Config}
 use Rattle.dds_base.specs.declared.config.PeerConfig.{PeerConfig}
@@ -62,11 +62,18 @@ reader entity topic =
 abbrev pub peer_1 : PeerConfig
 peer_1 = record { prefix = prefix_1; writers = writer KeepAll ∷ []; readers = [] }
 
+-- peer 2 with these readers, and the network in which it has them
+abbrev peer_with : List ReaderConfig → PeerConfig
+peer_with readers = record { prefix = prefix_2; writers = []; readers = readers }
+
+abbrev pub network_with : List ReaderConfig → Config
+network_with readers = record { peers = peer_1 ∷ peer_with readers ∷ [] }
+
 abbrev pub peer_2 : PeerConfig
-peer_2 = record { prefix = prefix_2; writers = []; readers = reader r1_id 0 ∷ reader r2_id 1 ∷ reader r3_id 0 ∷ [] }
+peer_2 = peer_with (reader r1_id 0 ∷ reader r2_id 1 ∷ reader r3_id 0 ∷ [])
 
 abbrev pub network : Config
-network = record { peers = peer_1 ∷ peer_2 ∷ [] }
+network = network_with peer_2.readers
 
 abbrev pub w1 : Endpoint
 w1 = record { peer = 1; number = 1 }
@@ -155,7 +162,7 @@ stands-not_past_the_end d at h = h
 
 -- ---- whom a submessage speaks to, and for whom
 
-abbrev pub w1_named : IsWriter network prefix_1 w1_id w1
+abbrev pub w1_named : {readers : List ReaderConfig} → IsWriter (network_with readers) prefix_1 w1_id w1
 w1_named =
     record {
       peer = peer_1;
@@ -167,12 +174,12 @@ w1_named =
     }
 
 -- a reader of peer 2, by its number there
-abbrev reader_named : (entity : EntityId) (number topic : ℕ)
-    → IsNumbered peer_2.readers number (reader entity topic)
-    → IsReader network prefix_2 entity (record { peer = 2; number = number })
-reader_named entity number topic at =
+abbrev pub reader_named : {readers : List ReaderConfig} (entity : EntityId) (number topic : ℕ)
+    → IsNumbered readers number (reader entity topic)
+    → IsReader (network_with readers) prefix_2 entity (record { peer = 2; number = number })
+reader_named {readers} entity number topic at =
     record {
-      peer = peer_2;
+      peer = peer_with readers;
       at_peer = (omega arith, refl);
       same_prefix = refl;
       end = reader entity topic;
@@ -180,10 +187,10 @@ reader_named entity number topic at =
       same_entity = refl;
     }
 
-abbrev pub r1_named : IsReader network prefix_2 r1_id r1
+abbrev r1_named : IsReader network prefix_2 r1_id r1
 r1_named = reader_named r1_id 1 0 (omega arith, refl)
 
-abbrev pub r3_named : IsReader network prefix_2 r3_id r3
+abbrev r3_named : IsReader network prefix_2 r3_id r3
 r3_named = reader_named r3_id 3 0 (omega arith, refl)
 
 -- the readerId of r1, and that of zeros, name r1
