@@ -45,7 +45,7 @@ backed_on config peer packets deliveries v k old new f b h = record {
       (h.place p (subst (λ (n : ℕ). place_of (own_proxies new.part n) v ≡ Some p) same.1
       (subst (λ (x : Endpoint). place_of (own_proxies new.part r) x ≡ Some p) same.0 e)))))
       (λ apart. ap (λ (t : Tracked). t.place) (f.tracked w r apart)
-      ∙ b.place w r p (place_before w r apart (number_or_not r k) ∙ e))
+      ∙ b.place w r p (before (λ xs. place_of xs w) w r (f.places w) apart (number_or_not r k) ∙ e))
       (pair_or_not w r v k);
   claimed = λ w r.
       ⊎_elim (λ same. subst (λ (x : Endpoint). IsClaimed config peer packets x r (new.known.tracked x r)) (sym same.0)
@@ -70,23 +70,17 @@ backed_on config peer packets deliveries v k old new f b h = record {
       (h.heard count (subst (λ (n : ℕ). heard_of (own_proxies new.part n) v ≡ Some (Some count)) same.1
       (subst (λ (x : Endpoint). heard_of (own_proxies new.part r) x ≡ Some (Some count)) same.0 e)))))
       (λ apart. ap (λ (t : Tracked). is_later t.count count) (f.tracked w r apart)
-      ∙ b.heard w r count (heard_before w r apart (number_or_not r k) ∙ e))
+      ∙ b.heard w r count (before (λ xs. heard_of xs w) w r (f.heard w) apart (number_or_not r k) ∙ e))
       (pair_or_not w r v k);
 }
   where
-    place_before : (w : Endpoint) (r : ℕ) → ((w ≡ v) × (r ≡ k) → ⊥) → (r ≡ k) ⊎ (r ≡ k → ⊥)
-        → place_of (own_proxies old.part r) w ≡ place_of (own_proxies new.part r) w
-    place_before w r apart (inl e) =
-        subst (λ (n : ℕ). place_of (own_proxies old.part n) w ≡ place_of (own_proxies new.part n) w) (sym e)
-        (sym (f.places w (λ same. apart (same, e))))
-    place_before w r apart (inr n) = ap (λ (xs : List WriterProxy). place_of xs w) (sym (f.proxies r n))
-
-    heard_before : (w : Endpoint) (r : ℕ) → ((w ≡ v) × (r ≡ k) → ⊥) → (r ≡ k) ⊎ (r ≡ k → ⊥)
-        → heard_of (own_proxies old.part r) w ≡ heard_of (own_proxies new.part r) w
-    heard_before w r apart (inl e) =
-        subst (λ (n : ℕ). heard_of (own_proxies old.part n) w ≡ heard_of (own_proxies new.part n) w) (sym e)
-        (sym (f.heard w (λ same. apart (same, e))))
-    heard_before w r apart (inr n) = ap (λ (xs : List WriterProxy). heard_of xs w) (sym (f.proxies r n))
+    before : {X : Type 0} (of : List WriterProxy → X) (w : Endpoint) (r : ℕ)
+        → ((w ≡ v → ⊥) → of (own_proxies new.part k) ≡ of (own_proxies old.part k)) → ((w ≡ v) × (r ≡ k) → ⊥)
+        → (r ≡ k) ⊎ (r ≡ k → ⊥) → of (own_proxies old.part r) ≡ of (own_proxies new.part r)
+    before of w r same apart (inl e) =
+        subst (λ (n : ℕ). of (own_proxies old.part n) ≡ of (own_proxies new.part n)) (sym e)
+        (sym (same (λ is. apart (is, e))))
+    before of w r same apart (inr n) = ap of (sym (f.proxies r n))
 
 -- ---- the place goes on
 
