@@ -16,6 +16,7 @@ use Rattle.dds_base.specs.declared.config_fault.ConfigRule.TheVariants.{PeerCoun
 use Rattle.dds_base.specs.declared.config_fault.ConfigPlace.{ConfigPlace}
 use Rattle.dds_base.specs.declared.config_fault.ConfigPlace.TheVariants.{Whole, Peer, Writer, Reader}
 use Rattle.dds_base.specs.declared.config_fault.ConfigFault.{ConfigFault}
+use Rattle.dds_base.specs.Instance.{or_else}
 use Rattle.dds_base.specs.Matched.{matched_writers_of}
 use Rattle.dds_base.specs.Checked.{same_prefix, unknown_prefix, has_kind, prefix_count, entity_count, has_no_depth, is_maximum, is_bad_lease, exceeds_limit, differ, is_longer}
 
@@ -63,11 +64,6 @@ whole_rules peers = (PeerCount, (length peers == 0) || nat_lt 16 (length peers))
 abbrev pub fault_at : ConfigPlace → Option ConfigRule → Option ConfigFault
 fault_at place None = None
 fault_at place (Some rule) = Some (record { place = place; rule = rule })
-
--- the first fault, or, where there is none, the later one
-abbrev pub or_else : Option ConfigFault → Option ConfigFault → Option ConfigFault
-or_else None later = later
-or_else (Some fault) later = Some fault
 
 -- the first fault that is told of these elements, which count on from this number
 abbrev pub first_at : {X : Type 0} → (ℕ → X → Option ConfigFault) → ℕ → List X → Option ConfigFault

@@ -14,6 +14,7 @@ pub mod Presence
 pub mod Liveliness
 pub mod Access
 pub mod Matched
+pub mod Number
 pub mod Checked
 pub mod Faults
 pub mod FaultAt

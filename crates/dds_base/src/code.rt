@@ -24,9 +24,10 @@ pub enum Code {
     /// UNSUPPORTED, 2: an operation or a policy that is optional in the standard and absent. No call answers it.
     Unsupported,
     /// BAD_PARAMETER, 3: a parameter that no call takes, or that names nothing. `Config::check` answers it for what is
-    /// invalid by itself, each call of a peer for a writer or reader that the peer lacks, a write for a value above
-    /// `MAX_VALUE` octets, an access for a `max` that is neither -1 nor positive; the calls about conditions and WaitSets for
-    /// one that is not there, a tick for a moment that goes back, a network for a packet that was not sent.
+    /// invalid by itself, each call of a peer for a writer, a reader or an entity that the peer lacks, a write for a value
+    /// above `MAX_VALUE` octets, an access for a `max` that is neither -1 nor positive or an instance that is unknown, a look
+    /// at a key for a handle that names none; the calls about conditions and WaitSets for one that is not there or was deleted,
+    /// a recorder for room outside its bounds, a tick for a moment that goes back, a network for a packet that was not sent.
     BadParameter,
     /// PRECONDITION_NOT_MET, 4: a call that may not come yet. An unregister answers it for an instance that is not
     /// registered at its writer, and calls about conditions and WaitSets as `Call` says.
@@ -41,7 +42,8 @@ pub enum Code {
     /// INCONSISTENT_POLICY, 8: policies that contradict one another. `Config::check` answers it for those of one writer
     /// or reader, or of a matched pair.
     InconsistentPolicy,
-    /// ALREADY_DELETED, 9: an entity that is gone. No call answers it, since none is ever deleted.
+    /// ALREADY_DELETED, 9: an entity that is gone. No call answers it: entities are never deleted, and a condition or a
+    /// WaitSet that was deleted is as one that was not made.
     AlreadyDeleted,
     /// TIMEOUT, 10: a call that would have to wait. What makes a change answers it where its writer may not keep one more
     /// (max_blocking_time is 0), and a look at a WaitSet in which nothing is true, once its deadline has come.
@@ -52,9 +54,10 @@ pub enum Code {
     IllegalOperation,
     /// MEMORY, 100, of this project: no memory was found for a growth. Whatever allocates answers it.
     Memory,
-    /// LINK, 101, of this project: a socket failed.
+    /// LINK, 101, of this project: a socket failed. No call answers it.
     Link,
-    /// MISMATCH, 103, of this project: what a thread recorded of its calls differs from what the peer recorded.
+    /// MISMATCH, 103, of this project: what a thread recorded of its calls differs from what the peer recorded. No call
+    /// answers it.
     Mismatch,
 }
 

@@ -12,7 +12,7 @@ use std::fmt;
 ///
 /// DDS 1.4, 2.2.3 (supported QoS), where a rule is one of a policy; the counts and the bound of a lease are limits of
 /// this project.
-#[derive(Clone, Copy)]
+#[derive(Clone, Copy, Debug, PartialEq, Eq)]
 pub enum ConfigRule {
     /// There are 1 to 16 peers.
     PeerCount,
@@ -78,7 +78,7 @@ impl ConfigRule {
 /// Where a rule is broken. Peers count from 1, and so do the writers and the readers of each.
 ///
 /// Printed it is `the configuration`, `peer 1`, `writer 2 of peer 1` or `reader 2 of peer 1`.
-#[derive(Clone, Copy)]
+#[derive(Clone, Copy, Debug, PartialEq, Eq)]
 pub enum ConfigPlace {
     /// In the configuration as a whole.
     Whole,
@@ -93,7 +93,7 @@ pub enum ConfigPlace {
 /// Why a configuration is refused: a rule that it breaks, and where.
 ///
 /// Printed it is a sentence: `writer 2 of peer 1: its lease is 0 or too long`.
-#[derive(Clone, Copy)]
+#[derive(Clone, Copy, Debug, PartialEq, Eq)]
 pub struct ConfigFault {
     /// What breaks the rule.
     pub place: ConfigPlace,

@@ -11,15 +11,15 @@ use Rattle.dds_conditions.specs.declared.condition.Cond.{Cond}
 use Rattle.dds_conditions.specs.declared.condition.Cond.TheVariants.{Status, Made}
 
 -- two entities are one
-abbrev pub same_entity : Entity → Entity → Bool
-same_entity Participant Participant = true
-same_entity (Writer w) (Writer v) = w == v
-same_entity (Reader r) (Reader s) = r == s
-same_entity _ _ = false
+abbrev pub are_one_entity : Entity → Entity → Bool
+are_one_entity Participant Participant = true
+are_one_entity (Writer w) (Writer v) = w == v
+are_one_entity (Reader r) (Reader s) = r == s
+are_one_entity _ _ = false
 
 -- two conditions are one
 abbrev pub same_condition : Cond → Cond → Bool
-same_condition (Status a) (Status b) = same_entity a b
+same_condition (Status a) (Status b) = are_one_entity a b
 same_condition (Made n) (Made m) = n == m
 same_condition _ _ = false
 

@@ -8,6 +8,7 @@ use Rattle.dds_base.specs.declared.code.Code.TheVariants.{BadParameter, OutOfRes
 use Rattle.dds_base.specs.declared.entity.Entity.{Entity}
 use Rattle.dds_base.specs.declared.key.Key.{Key}
 use Rattle.dds_base.specs.declared.entity.Entity.TheVariants.{Participant, Writer, Reader}
+use Rattle.dds_base.specs.Number.{is_number}
 use Rattle.dds_notices.specs.declared.mask.StatusMask.{StatusMask}
 use Rattle.dds_conditions.specs.declared.condition.Cond.{Cond}
 use Rattle.dds_conditions.specs.declared.condition.Cond.TheVariants.{Status, Made}
@@ -54,10 +55,6 @@ with_made xs n x = set xs (n - 1) x
 -- numbers are given from 1 to 2^32 - 1, each once
 abbrev pub number_refusal : {X : Type 0} → List X → Option Code
 number_refusal xs = if nat_le (2 ^ 32 - 1) (length xs) then Some OutOfResources else None
-
--- there is something of this number among so many
-abbrev pub is_number : ℕ → ℕ → Bool
-is_number n count = nat_lt 0 n && nat_le n count
 
 -- BAD_PARAMETER where there is none
 abbrev pub unless_there : Bool → Option Code

@@ -12,7 +12,8 @@ ghost use Rattle.dds_base.specs.Refusal.{Refuses};
 ghost use Rattle.dds_conditions.specs.declared.condition.Cond.{Cond as CondOf};
 ghost use Rattle.dds_conditions.specs.declared.condition.Condition.TheVariants.{Guard as IsGuard};
 ghost use Rattle.dds_conditions.specs.Attached.{active_of, is_attached};
-ghost use Rattle.dds_conditions.specs.Watched.{attach_refusal, conditions_in, conditions_of, detaching_refusal, enabled_of, filter_refusal, free_refusal, guard_refusal, has_filter, is_number, is_timed_out, knows, knows_entity, every_status, made, number_refusal, opened, unless_there, use_refusal, with_attached, with_condition, with_condition_at, with_deadline, with_detached, with_enabled, with_filter, with_made, with_wait_set, with_wait_set_at, without, without_condition};
+ghost use Rattle.dds_base.specs.Number.{is_number};
+ghost use Rattle.dds_conditions.specs.Watched.{attach_refusal, conditions_in, conditions_of, detaching_refusal, enabled_of, filter_refusal, free_refusal, guard_refusal, has_filter, is_timed_out, knows, knows_entity, every_status, made, number_refusal, opened, unless_there, use_refusal, with_attached, with_condition, with_condition_at, with_deadline, with_detached, with_enabled, with_filter, with_made, with_wait_set, with_wait_set_at, without, without_condition};
 
 use crate::condition::{Cond, Condition};
 use crate::wait_set::WaitSet;
@@ -104,7 +105,8 @@ impl Watch {
         }
     }
 
-    /// Whether there is such a condition.
+    /// Whether there is such a condition: the status condition of an entity that the peer has, or one that was made and not
+    /// deleted.
     pub fn knows(&self, condition: Cond) -> bool
         ensures known { result ≡ knows self.now condition }
     {
@@ -114,7 +116,7 @@ impl Watch {
         }
     }
 
-    /// Whether there is such an entity.
+    /// Whether the peer has this entity: the participant always, a writer or a reader of a number from 1 to how many there are.
     pub fn knows_entity(&self, entity: Entity) -> bool
         ensures known { result ≡ knows_entity self.now entity }
     {
@@ -248,7 +250,7 @@ impl Watch {
         Ok(number)
     }
 
-    /// Whether there is a filter of this number.
+    /// Whether a filter of this number was added: they count from 1, and none is ever taken away.
     pub fn has_filter(&self, number: u32) -> bool
         ensures has { result ≡ has_filter self.now number }
     {

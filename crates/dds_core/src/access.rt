@@ -9,10 +9,9 @@ ghost use Rattle.dds_core.specs.Accesses.{access_call};
 ghost use Rattle.dds_core.specs.Standing.{Steps};
 ghost use Rattle.dds_core.specs.Sending.{SendsNothing};
 
-use crate::calls::index_of;
 use crate::output::{answered, reply_to_access};
 use crate::peer::Peer;
-use dds_base::{Code, Handle, Key, Selection};
+use dds_base::{Code, Handle, Key, Selection, index_of};
 use dds_cache::{AccessKind, Everything};
 use dds_model::{Output, Reply};
 

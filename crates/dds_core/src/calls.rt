@@ -2,7 +2,7 @@
 //!
 //! DDS 1.4, 2.2.2.4 (DataWriter).
 
-ghost use Rattle.std.specs.Prelude.{◌≡◌, ◌&&◌, ◌+◌, ◌^◌, ◌<◌, ◌≤◌, false, length, nat_lt, nat_le, true, [], MatchOption};
+ghost use Rattle.std.specs.Prelude.{◌≡◌, ◌+◌, ◌^◌, ◌<◌, ◌≤◌, length, true, []};
 ghost use Rattle.dds_model.specs.declared.reply.Reply.TheVariants.{Done, Refused};
 ghost use Rattle.dds_model.specs.declared.call.Call.TheVariants as call;
 ghost use Rattle.dds_model.specs.declared.event.Event.TheVariants as event;
@@ -13,22 +13,10 @@ ghost use Rattle.dds_core.specs.Sending.{Sends, SendsNothing, AnnouncesAll, AreM
 use crate::output::answered;
 use crate::peer::Peer;
 use crate::sending::Announced;
-use dds_base::{Change, ChangeKind, Code, Key, MAX_VALUE, Octets, Sequence, Sn};
+use dds_base::{Change, ChangeKind, Code, Key, MAX_VALUE, Octets, Sequence, Sn, index_of};
 use dds_cache::AccessKind;
 use dds_conditions::Filters;
 use dds_model::{Call, Output, Reply};
-
-/// The index of a writer or a reader of this number, counted from 1, among so many.
-pub fn index_of(number: u8, count: usize) -> Option<usize>
-    ensures { MatchOption result ((nat_lt 0 number && nat_le number count) ≡ false)
-        (λ index. (number ≡ index + 1) × (index < count)) }
-{
-    if number == 0 || count < usize::from(number) {
-        None
-    } else {
-        Some(usize::from(number) - 1)
-    }
-}
 
 impl Peer {
     pub(crate) fn call<T: Filters>(&mut self, filters: &T, call: Call) -> Output

@@ -8,11 +8,10 @@ ghost use Rattle.dds_base.specs.Refusal.{Refuses};
 ghost use Rattle.dds_core.specs.Opening.{core_refusal, opening_peer, OpenWriters, OpenReaders, OpensCore};
 ghost use Rattle.dds_core.specs.Standing.{StandsFor};
 
-use crate::calls::index_of;
 use crate::peer::Peer;
 use crate::reader_end::ReaderEnd;
 use crate::writer_end::WriterEnd;
-use dds_base::{Code, Config, Moment, PeerConfig, ReaderConfig, WriterConfig};
+use dds_base::{Code, Config, Moment, PeerConfig, ReaderConfig, WriterConfig, index_of};
 use dds_conditions::Watch;
 use std::alloc::{AllocError, Global};
 

@@ -12,10 +12,9 @@ ghost use Rattle.dds_core.specs.declared.matching.WriterName.{WriterName as Writ
 ghost use Rattle.dds_core.specs.Pairs.{IsPair};
 ghost use Rattle.dds_core.specs.Standing.{StandsFor, IsFirstReader, IsFirstRow};
 
-use crate::calls::index_of;
 use crate::matching::{ReaderName, WriterName};
 use crate::peer::Peer;
-use dds_base::{EntityId, Moment, Sn};
+use dds_base::{EntityId, Moment, Sn, index_of};
 use dds_model::Endpoint;
 
 /// A writer and a reader that it is matched with, by their entity ids.

@@ -15,11 +15,10 @@ ghost use Rattle.dds_core.specs.Sending.{SendsNothing};
 ghost use Rattle.dds_core.specs.Watching.{AreActive, AsksBy, Tells, TellsActive, TellsStatuses, TellsTrigger, TellsValue, asked_of, conditions_reply, done_reply, made_reply};
 
 use crate::by_filter::ByFilter;
-use crate::calls::index_of;
 use crate::output::{answered, reply_to_access};
 use crate::peer::Peer;
 use bitflags::Flags;
-use dds_base::{Code, Entity, Masks, Moment, Scope, Selection, Sequence};
+use dds_base::{Code, Entity, Masks, Moment, Scope, Selection, Sequence, index_of};
 use dds_cache::AccessKind;
 use dds_conditions::{Cond, Condition, Filters};
 use dds_model::{Output, Reply};

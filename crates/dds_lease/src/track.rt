@@ -23,13 +23,7 @@ pub struct LeaseTrack {
 pub fn is_over(track: &LeaseTrack, now: Moment) -> bool
     ensures { result ≡ is_over_at now track.now }
 {
-    match (track.lease, track.since) {
-        (Some(lease), Some(since)) => match now.units().checked_sub(since.units()) {
-            Some(passed) => lease <= passed,
-            None => false,
-        },
-        _ => false,
-    }
+    dds_base::is_over(track.lease, track.since, now)
 }
 
 /// Those of writers of which nothing was heard.

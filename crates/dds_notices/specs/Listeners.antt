@@ -7,6 +7,7 @@ use Rattle.dds_base.specs.declared.code.Code.{Code}
 use Rattle.dds_base.specs.declared.code.Code.TheVariants.{BadParameter, PreconditionNotMet}
 use Rattle.dds_base.specs.declared.entity.Entity.{Entity}
 use Rattle.dds_base.specs.declared.entity.Entity.TheVariants.{Participant, Writer, Reader}
+use Rattle.dds_base.specs.Number.{is_number}
 use Rattle.dds_notices.specs.declared.mask.StatusMask.{StatusMask}
 use Rattle.dds_notices.specs.declared.notice.Notice.{Notice}
 use Rattle.dds_notices.specs.declared.notice.Status.{Status}
@@ -20,10 +21,6 @@ pub record ByEntity (X : Type 0) : Type 0 where
   pub participant : Option X
   pub writers : List (Option X)
   pub readers : List (Option X)
-
--- there is something of this number among so many
-abbrev pub is_number : ℕ → ℕ → Bool
-is_number n count = nat_lt 0 n && nat_le n count
 
 -- there is such an entity
 abbrev pub has_entity : {X : Type 0} → ByEntity X → Entity → Bool

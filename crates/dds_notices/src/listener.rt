@@ -27,7 +27,7 @@ pub trait Listener: Drop {
     fn room(&self) -> usize
         ensures capacity { result ≡ capacity self.now };
 
-    /// Whether it keeps none.
+    /// Whether it keeps no notices, as one that is to be set must.
     fn is_fresh(&self) -> bool
         ensures fresh { IsTrue result ↔ (notices self.now ≡ []) };
 
@@ -35,7 +35,10 @@ pub trait Listener: Drop {
     fn held(&self, at: usize) -> Option<Notice>
         ensures notice { result ≡ slice_get (notices self.now) at };
 
-    /// It is told of a status.
+    /// It is told of a status: it keeps the notice, and lets the oldest one go where it has no room for one more. It takes no
+    /// memory and can't refuse.
+    ///
+    /// DDS 1.4, 2.2.4.2 (listeners: on_data_available and kin).
     fn on_notice(&mut self, notice: &Notice)
         // It keeps the last ones of what it kept, and of this.
         ensures notices { notices self.new

@@ -11,32 +11,32 @@ use Rattle.rtps_sets.specs.declared.window.Mark.{Mark}
 use Rattle.rtps_sets.specs.declared.window.Mark.TheVariants as mark
 use Rattle.rtps_reader.specs.Tracked.{is_named}
 use Rattle.rtps_reader.specs.declared.writer_proxy.Source.{Source}
-use Rattle.rtps_reader.specs.Proxy.{change_at, mark_named, stamped}
+use Rattle.rtps_reader.specs.Proxy.{held_change, mark_named, stamped}
 
 -- without one arrival the changes of the other numbers are found as before
-change_at-parts : (xs : List Arrival) (at : ℕ) (a : Arrival) (n : ℕ) → at < length xs → a ≡ get_or xs at a
-    → n ≢ a.number → change_at (take at xs ++ drop (suc at) xs) n ≡ change_at xs n
-change_at-parts [] at a n lt is ne = absurd (omega (arith, lt))
-change_at-parts (x ∷ xs) zero a n lt is ne = skip (x.number == n)
+held_change-parts : (xs : List Arrival) (at : ℕ) (a : Arrival) (n : ℕ) → at < length xs → a ≡ get_or xs at a
+    → n ≢ a.number → held_change (take at xs ++ drop (suc at) xs) n ≡ held_change xs n
+held_change-parts [] at a n lt is ne = absurd (omega (arith, lt))
+held_change-parts (x ∷ xs) zero a n lt is ne = skip (x.number == n)
     (let e : a.number ≡ x.number = ap (λ (y : Arrival). y.number) is in grind (arith, nat_tests))
   where
-    skip : (b : Bool) → b ≡ false → change_at xs n ≡ cond b (Some x.change) (change_at xs n)
+    skip : (b : Bool) → b ≡ false → held_change xs n ≡ cond b (Some x.change) (held_change xs n)
     skip b e = rw e refl
-change_at-parts (x ∷ xs) (suc at) a n lt is ne =
-    ap (λ (o : Option Change). cond (x.number == n) (Some x.change) o) (change_at-parts xs at a n (omega arith) is ne)
+held_change-parts (x ∷ xs) (suc at) a n lt is ne =
+    ap (λ (o : Option Change). cond (x.number == n) (Some x.change) o) (held_change-parts xs at a n (omega arith) is ne)
 
-pub change_at-remove : (xs : List Arrival) (at : ℕ) (a : Arrival) (n : ℕ) → at < length xs → a ≡ get_or xs at a
-    → n ≢ a.number → change_at (remove xs at) n ≡ change_at xs n
-change_at-remove xs at a n lt is ne = change_at-parts xs at a n lt is ne
+pub held_change-remove : (xs : List Arrival) (at : ℕ) (a : Arrival) (n : ℕ) → at < length xs → a ≡ get_or xs at a
+    → n ≢ a.number → held_change (remove xs at) n ≡ held_change xs n
+held_change-remove xs at a n lt is ne = held_change-parts xs at a n lt is ne
 
 -- the changes are found as before where one arrival is stamped
-pub change_at-set : (xs : List Arrival) (at : ℕ) (a : Arrival) (source : Source) (n : ℕ) → at < length xs
-    → a ≡ get_or xs at a → change_at (set xs at (stamped source a)) n ≡ change_at xs n
-change_at-set [] at a source n lt is = absurd (omega (arith, lt))
-change_at-set (x ∷ xs) zero a source n lt is = ap
-    (λ (y : Arrival). cond (y.number == n) (Some y.change) (change_at xs n)) is
-change_at-set (x ∷ xs) (suc at) a source n lt is = ap (λ (o : Option Change). cond (x.number == n) (Some x.change) o)
-    (change_at-set xs at a source n (omega arith) is)
+pub held_change-set : (xs : List Arrival) (at : ℕ) (a : Arrival) (source : Source) (n : ℕ) → at < length xs
+    → a ≡ get_or xs at a → held_change (set xs at (stamped source a)) n ≡ held_change xs n
+held_change-set [] at a source n lt is = absurd (omega (arith, lt))
+held_change-set (x ∷ xs) zero a source n lt is = ap
+    (λ (y : Arrival). cond (y.number == n) (Some y.change) (held_change xs n)) is
+held_change-set (x ∷ xs) (suc at) a source n lt is = ap (λ (o : Option Change). cond (x.number == n) (Some x.change) o)
+    (held_change-set xs at a source n (omega arith) is)
 
 and_false : (b : Bool) → (b && false) ≡ false
 and_false true = refl

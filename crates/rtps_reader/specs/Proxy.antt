@@ -26,9 +26,9 @@ abbrev pub match_of : ReaderQos → Source → Match
 match_of qos source = record { qos = qos; publication = source.publication; moment = source.moment }
 
 -- the change among these that is held for a number, the newest
-abbrev pub change_at : List Arrival → ℕ → Option Change
-change_at [] n = None
-change_at (a ∷ rest) n = if a.number == n then Some a.change else change_at rest n
+abbrev pub held_change : List Arrival → ℕ → Option Change
+held_change [] n = None
+held_change (a ∷ rest) n = if a.number == n then Some a.change else held_change rest n
 
 -- an arrival as it comes from this writer now
 abbrev pub stamped : Source → Arrival → Arrival
@@ -45,7 +45,7 @@ slot_from (Some mark.Held) None = Missing
 abbrev pub tracked : WriterProxy → Tracked
 tracked p = record {
   place = window_place p.window;
-  slot = λ n. slot_from (mark_of p.window n) (change_at p.held.items n);
+  slot = λ n. slot_from (mark_of p.window n) (held_change p.held.items n);
   first = p.first;
   count = p.count;
   acknacks = p.acknacks;
@@ -53,7 +53,7 @@ tracked p = record {
 
 -- a number that is marked as held has its change, the place is a number, and none is so great that a sum overflows
 pub record IsSound (p : WriterProxy) : Type 0 where
-  pub kept : (n : ℕ) → mark_of p.window n ≡ Some mark.Held → is_some (change_at p.held.items n) ≡ true
+  pub kept : (n : ℕ) → mark_of p.window n ≡ Some mark.Held → is_some (held_change p.held.items n) ≡ true
   pub from : 1 ≤ window_place p.window
   pub unmarked : (n : ℕ) → 2 ^ 62 + 256 ≤ n → mark_of p.window n ≡ None
   pub place_is_small : window_place p.window ≤ 2 ^ 62 + 256

@@ -14,7 +14,7 @@ ghost use Rattle.rtps_sets.specs.Window.{mark_of, window_place, room_of, can_mar
 ghost use Rattle.rtps_sets.specs.declared.window.Mark.TheVariants as mark;
 ghost use Rattle.rtps_reader.specs.Tracked.{Tracked, Held, fresh, is_named, is_passable, is_later, with_data, with_gap, with_heartbeat, SameTracked};
 ghost use Rattle.rtps_reader.specs.Advance.{ArePassable, PassesOver, HandsOn, Moves, run_of, passed_from};
-ghost use Rattle.rtps_reader.specs.Proxy.{match_of, change_at, stamped, tracked, mark_named, IsSound, CanMove, IsProxyReady, ProxyKeepsRest};
+ghost use Rattle.rtps_reader.specs.Proxy.{match_of, held_change, stamped, tracked, mark_named, IsSound, CanMove, IsProxyReady, ProxyKeepsRest};
 ghost use Rattle.rtps_reader.specs.Answer.{AnswersHeartbeat, HeartbeatMoves, IsIdle, IsSayable, answered, heard_after};
 
 use crate::sink::Sink;
@@ -108,10 +108,10 @@ fn position_of(held: &[Arrival], number: Sn) -> Option<usize>
     ensures within { IfSome result (λ at. at < length held.now) }
     ensures found { IfSome result
         (λ at. (d : Arrival)
-        → change_at held.now number ≡ Some (slice_index_or held.now at d).change) }
+        → held_change held.now number ≡ Some (slice_index_or held.now at d).change) }
     ensures number { IfSome result
         (λ at. (d : Arrival) → (slice_index_or held.now at d).number ≡ number) }
-    ensures none { IfNone result (change_at held.now number ≡ None) }
+    ensures none { IfNone result (held_change held.now number ≡ None) }
 {
     for (at, arrival) in held.iter().enumerate() {
         if arrival.number == number {
@@ -124,7 +124,7 @@ fn position_of(held: &[Arrival], number: Sn) -> Option<usize>
 /// Notes from which writer a held change comes, and when.
 fn stamp(held: &mut Vec<Arrival>, at: usize, source: &Source)
     requires within { at < vec_len held.old }
-    ensures changes { (n : ℕ) → change_at held.new.items n ≡ change_at held.old.items n }
+    ensures changes { (n : ℕ) → held_change held.new.items n ≡ held_change held.old.items n }
     ensures arrival { (d : Arrival)
         → slice_index_or held.new.items at d
         ≡ stamped source.now (slice_index_or held.old.items at d) }
@@ -141,7 +141,7 @@ fn take_out(held: &mut Vec<Arrival>, at: usize) -> Arrival
     requires within { at < vec_len held.old }
     ensures taken { (d : Arrival) → result ≡ slice_index_or held.old.items at d }
     ensures others { (n : ℕ) → n ≢ result.number
-        → change_at held.new.items n ≡ change_at held.old.items n }
+        → held_change held.new.items n ≡ held_change held.old.items n }
     ensures len { vec_len held.new + 1 ≡ vec_len held.old }
     ensures capacity { vec_capacity held.new ≡ vec_capacity held.old }
 {

@@ -19,11 +19,13 @@ use rtps_sets::SnSet;
 pub enum Answer {
     /// The change of this number, which is kept.
     Data(Sn),
-    /// The numbers from the first to the last are irrelevant: none is kept.
+    /// The numbers from the first to the last, both of them too, are irrelevant: none is kept.
     Gap { first: Sn, last: Sn },
 }
 
-/// What came of an ACKNACK.
+/// What a writer makes of an ACKNACK that it takes: what the reader has acknowledged with it, and what it is answered.
+///
+/// RTPS 2.5, 8.4.9 (ReaderProxy: acked_changes_set, requested_changes_set).
 #[derive(Debug, Drop)]
 pub struct Answered {
     /// The number below which the reader has acknowledged all, where that is greater than before.

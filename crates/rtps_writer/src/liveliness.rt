@@ -4,10 +4,10 @@
 
 ghost use Rattle.std.specs.Prelude.{◌≡◌, ℕ, List, [], ◌∷◌, Option, Bool, nat_lt};
 ghost use Rattle.dds_base.specs.declared.change.Change.{Change};
-ghost use Rattle.dds_base.specs.Written.{Written, Registered, Changed, Asserted, LookedAt, Ticked, is_over, liveliness_lost_status};
+ghost use Rattle.dds_base.specs.Written.{Written, Registered, Changed, Asserted, LookedAt, Ticked, liveliness_lost_status};
 ghost use Rattle.rtps_writer.specs.Liveliness.{IsLiveliness};
 
-use dds_base::{LivelinessLostStatus, Moment};
+use dds_base::{LivelinessLostStatus, Moment, is_over};
 
 /// What is kept of a writer's liveliness.
 #[derive(Clone, Copy)]
@@ -20,19 +20,6 @@ pub struct Liveliness {
     pub losses: u64,
     /// How often it was when the application looked at it last.
     pub losses_seen: u64,
-}
-
-/// Whether a lease that was asserted last at this moment is over.
-fn is_over(lease: Option<u64>, since: Option<Moment>, now: Moment) -> bool
-    ensures { result ≡ is_over lease since now }
-{
-    match (lease, since) {
-        (Some(lease), Some(since)) => match now.units().checked_sub(since.units()) {
-            Some(passed) => lease <= passed,
-            None => false,
-        },
-        _ => false,
-    }
 }
 
 impl Liveliness {

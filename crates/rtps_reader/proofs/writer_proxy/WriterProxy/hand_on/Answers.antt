@@ -7,7 +7,7 @@ use Rattle.dds_base.specs.Presence.{has_room}
 use Rattle.dds_base.specs.Places.{coming}
 use Rattle.rtps_sets.specs.Window.{mark_of, window_place}
 use Rattle.rtps_sets.specs.declared.window.Mark.TheVariants as mark
-use Rattle.rtps_reader.specs.Proxy.{match_of, change_at, stamped}
+use Rattle.rtps_reader.specs.Proxy.{match_of, held_change, stamped}
 use Rattle.rtps_reader.proofs.MoveLaws.{comes_now}
 use Rattle.rtps_reader.proofs.writer_proxy.WriterProxy.hand_on.Goals as goal
 
@@ -20,9 +20,9 @@ returns-clause-handed g c came_on =
     ∙ c.stamp.ensures.arrival arrival in
     let number : x.number ≡ place = ap (λ (xs : List Arrival). (slice_index_or xs c.in-Some.at arrival).number)
     (sym c.deref.ensures.value) ∙ (c.in-Some.ensures.number arrival ∙ c.place-place.ensures.place) in
-    let found : change_at c.args.self.now.held.items place ≡ Some x.change =
-    ap (λ (n : ℕ). change_at c.args.self.now.held.items n) (sym c.place-place.ensures.place)
-    ∙ (ap (λ (xs : List Arrival). change_at xs c.place-place.result) (sym c.deref.ensures.value)
+    let found : held_change c.args.self.now.held.items place ≡ Some x.change =
+    ap (λ (n : ℕ). held_change c.args.self.now.held.items n) (sym c.place-place.ensures.place)
+    ∙ (ap (λ (xs : List Arrival). held_change xs c.place-place.result) (sym c.deref.ensures.value)
     ∙ (c.in-Some.ensures.found arrival
     ∙ ap (λ (xs : List Arrival). Some (slice_index_or xs c.in-Some.at arrival).change) c.deref.ensures.value))
     in
