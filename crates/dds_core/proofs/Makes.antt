@@ -1,8 +1,8 @@
 -- A change of one of the peer's writers is made and announced, or refused.
-use Rattle.std.proofs.Common.{◌≡◌, ℕ, zero, suc, ◌+◌, ◌-◌, ◌<◌, true, List, [], ◌∷◌, ◌++◌, Some, None, map, set, length, slice_get, refl, ap, sym, ◌∙◌, subst, arith, get_or-set_same}
+use Rattle.std.proofs.Common.{◌≡◌, ℕ, zero, suc, ◌+◌, ◌-◌, ◌<◌, true, List, [], ◌∷◌, ◌++◌, Some, None, map, set, length, slice_get, refl, ap, sym, ◌∙◌, subst, arith, get_or, get_or-set_same}
 use Rattle.std.specs.Prelude.{nat_lt, if◌then◌else◌, Option, ℤ}
 use Rattle.std.proofs.lemmas.Bool.Decides.{nat_tests}
-use Rattle.std.proofs.lemmas.Option.{same_Some}
+use Rattle.std.proofs.lemmas.Option.{same_Some, slice_get-get_or}
 use Rattle.dds_base.specs.declared.change.Change.{Change}
 use Rattle.dds_base.specs.declared.change.ChangeKind.{ChangeKind}
 use Rattle.dds_base.specs.declared.code.Code.{Code}
@@ -39,6 +39,13 @@ use Rattle.dds_core.proofs.Tellable.{tellable_entered}
 use Rattle.dds_core.proofs.Lists.{get-map, map-get, get-within}
 use Rattle.dds_core.proofs.Replies.{kept_there}
 use Rattle.dds_core.proofs.Sent.{IsOnly, IsThere, IsMatched, sends_change, sent_true}
+
+-- the writer of this index, as the peer that is open has it
+pub writer_at : {inside kept : PeerKept} {i : ℕ} {k : WriterKept} → inside ≡ kept → i < length kept.writers
+    → k ≡ get_or inside.writers i k → slice_get inside.writers i ≡ Some k
+writer_at {inside} {i = i} {k} view within is =
+    slice_get-get_or inside.writers i k (subst (λ (x : PeerKept). i < length x.writers) (sym view) within)
+    ∙ ap (λ (x : WriterKept). Some x) (sym is)
 
 -- the last change of a list
 slice_get-last : {X : Type 0} (xs : List X) (x : X) → slice_get (xs ++ x ∷ []) (length xs) ≡ Some x

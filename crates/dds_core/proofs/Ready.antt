@@ -2,9 +2,11 @@
 use Rattle.std.proofs.Common.{◌≡◌, ◌⊎◌, ℕ, zero, suc, ◌+◌, ◌<◌, ◌≤◌, List, [], ◌∷◌, ◌++◌, Option, Some, set, drop, map, length, slice_get, get_or, refl, ap, sym, ◌∙◌, subst, arith, inl, inr, ⊎_elim, length-set}
 use Rattle.std.proofs.lemmas.Option.{same_Some, slice_get-get_or}
 use Rattle.dds_base.specs.declared.guid.GuidPrefix.{GuidPrefix}
+use Rattle.dds_base.specs.declared.happening.Happening.{Happening}
+use Rattle.dds_cache.specs.Standing.{qos_of}
 use Rattle.dds_base.specs.declared.guid.EntityId.{EntityId}
 use Rattle.rtps_reader.specs.Tracked.{Tracked}
-use Rattle.rtps_reader.specs.Reader.{Tracks}
+use Rattle.rtps_reader.specs.Reader.{Proxies, Tracks, AllStay}
 use Rattle.rtps_reader.specs.declared.step.HeartbeatSeen.{HeartbeatSeen}
 use Rattle.rtps_wire.specs.declared.submessage.Submessage.{Submessage}
 use Rattle.rtps_wire.specs.declared.submessage.Submessage.TheVariants.{Data, Heartbeat, Gap}
@@ -21,6 +23,7 @@ use Rattle.dds_core.specs.declared.reader_end.Told.TheVariants as told
 use Rattle.dds_core.specs.Kept.{ReaderKept, PeerKept, ReaderIdentity, Identity, reader_identity, writer_identity, IsPeerOf}
 use Rattle.dds_core.specs.Receiving.{IsReadyFor, IsReadyWith, AreReady, IsAlike, AreAlike, CanTake, AllCanTake, TookAt, TakesTold, SameReader, TakesSome, TakesAll, ReadersTake, moves_of, IsBounded, IsToldBounded, IsToldBy, StandsAsWell}
 use Rattle.dds_core.specs.Standing.{IsFirstRow, ReaderStands}
+use Rattle.dds_core.specs.Stored.{StoreKept, Holds}
 use Rattle.dds_core.proofs.Identities.{same_identity}
 use Rattle.dds_core.proofs.Lists.{get-within, left_at, left_more, drop_set}
 use Rattle.dds_core.proofs.Rows.{writers_of}
@@ -49,6 +52,15 @@ last-cases (a ∷ xs) x (suc j) y at =
 
 pub alike_self : (k : ReaderKept) → IsAlike k k
 alike_self k = record { entity = refl; writers = refl; reader = λ i t h. h; qos = refl; seen = refl; holds = λ h s. s }
+
+-- the reader that is open has more memory in what it knows and in what it holds
+pub alike_as : {inside old : ReaderKept} {reader : Proxies} {store : StoreKept} → inside ≡ old
+    → AllStay inside.reader reader → qos_of store.cache ≡ qos_of inside.store.cache
+    → ((h : List Happening) → Holds inside.store h → Holds store h)
+    → IsAlike old (record inside { reader = reader; store = store })
+alike_as {inside} {reader = reader} {store} view same qos holds =
+    subst (λ (k : ReaderKept). IsAlike k (record inside { reader = reader; store = store })) view
+    (record { entity = refl; writers = refl; reader = same; qos = qos; seen = refl; holds = holds })
 
 pub all_alike_self : (ks : List ReaderKept) → AreAlike ks ks
 all_alike_self ks =

@@ -27,6 +27,7 @@ use Rattle.dds_model.specs.Peer.{Peer, state_of as network_of}
 use Rattle.dds_model.specs.Protocol.{Due, State, Known, WriterTakes, AreGrouped, TakesAckNack as TakesByRules, acknowledging, answer_message, is_taken_up, with_answered}
 use Rattle.dds_model.proofs.Framing.{with_same}
 use Rattle.dds_model.proofs.InOrder.{same_self}
+use Rattle.dds_core.specs.declared.answering.Answering.{Answering}
 use Rattle.dds_core.specs.declared.matching.ReaderName.{ReaderName}
 use Rattle.dds_core.specs.declared.sending.Announced.{Announced}
 use Rattle.dds_core.specs.Answering.{IsFrom, RowTook, SendsAnswers, TookAckNack, acknowledged_moves, answer_due}
@@ -55,52 +56,99 @@ pub record IsReaderNamed (config : Config) (topic : ℕ) (name : ReaderName) : T
   pub same_entity : end.entity ≡ name.guid.entity
   pub same_topic : end.topic ≡ topic
 
-reader_named : (config : Config) (topic k : ℕ) (name : ReaderName) → slice_get (reader_names topic config.peers) k ≡ Some name → IsReaderNamed config topic name
+reader_named : (config : Config) (topic k : ℕ) (name : ReaderName)
+    → slice_get (reader_names topic config.peers) k ≡ Some name → IsReaderNamed config topic name
 reader_named config topic k name at =
-    let f = is_told config.peers (λ (p : PeerConfig). p.readers) (λ (r : ReaderConfig). r.topic) reader_name topic k name at in
-    subst (λ (x : ReaderName). IsReaderNamed config topic x) f.told (record { peer = f.peer; at_peer = f.at_peer; same_prefix = refl; end = f.end; at_reader = f.at_end; same_entity = refl; same_topic = f.same_topic })
+    let f =
+    is_told config.peers (λ (p : PeerConfig). p.readers) (λ (r : ReaderConfig). r.topic) reader_name topic k name at
+    in
+    subst (λ (x : ReaderName). IsReaderNamed config topic x) f.told
+    (record {
+      peer = f.peer;
+      at_peer = f.at_peer;
+      same_prefix = refl;
+      end = f.end;
+      at_reader = f.at_end;
+      same_entity = refl;
+      same_topic = f.same_topic;
+    })
 
 -- what the configuration says of a writer of the peer, and of the readers that it knows
 pub record IsOwn (config : Config) (kept : PeerKept) (number i : ℕ) (k : WriterKept) : Type 0 where
   pub own : IsOwnWriter config kept number i k
   pub all : k.readers ≡ reader_names own.end.topic config.peers
-  pub named : (row : ℕ) (name : ReaderName) → slice_get k.readers row ≡ Some name → IsReaderNamed config own.end.topic name
+  pub named : (row : ℕ) (name : ReaderName) → slice_get k.readers row ≡ Some name
+      → IsReaderNamed config own.end.topic name
 
-pub own_is : (config : Config) (peer : Peer) (kept : PeerKept) → StandsFor kept config peer → (i : ℕ) (k : WriterKept) → slice_get kept.writers i ≡ Some k → IsOwn config kept peer.number i k
+pub own_is : (config : Config) (peer : Peer) (kept : PeerKept) → StandsFor kept config peer → (i : ℕ) (k : WriterKept)
+    → slice_get kept.writers i ≡ Some k → IsOwn config kept peer.number i k
 own_is config peer kept s i k at =
     let own : IsOwnWriter config kept peer.number i k = own_writer_is config peer.number kept s.is_peer i k at in
     let all : k.readers ≡ reader_names own.end.topic config.peers = ap (λ (x : WriterIdentity). x.readers) own.is in
-    record { own = own; all = all; named = λ row name there. reader_named config own.end.topic row name (subst (λ (ns : List ReaderName). slice_get ns row ≡ Some name) all there) }
+    record {
+      own = own;
+      all = all;
+      named = λ row name there. reader_named config own.end.topic row name
+          (subst (λ (ns : List ReaderName). slice_get ns row ≡ Some name) all there);
+    }
 
 abbrev pub own_end : Peer → ℕ → Endpoint
 own_end peer i = record { peer = peer.number; number = suc i }
 
-abbrev pub to_writer : (config : Config) (peer : Peer) (kept : PeerKept) (i : ℕ) (k : WriterKept) (o : IsOwn config kept peer.number i k) (at : Receiver) (a : AckNackBody) (name : ReaderName) → IsReaderNamed config o.own.end.topic name
-    → IsFrom kept.prefix k.entity at a name → IsToWriter config kept.prefix at a.reader_id a.writer_id (own_end peer i) name.reader
+abbrev pub to_writer : (config : Config) (peer : Peer) (kept : PeerKept) (i : ℕ) (k : WriterKept)
+    (o : IsOwn config kept peer.number i k) (at : Receiver) (a : AckNackBody) (name : ReaderName)
+    → IsReaderNamed config o.own.end.topic name
+    → IsFrom kept.prefix k.entity at a name
+    → IsToWriter config kept.prefix at a.reader_id a.writer_id (own_end peer i) name.reader
 to_writer config peer kept i k o at a name n f = record {
   entity = name.guid.entity;
-  from = record { peer = n.peer; at_peer = n.at_peer; same_prefix = n.same_prefix ∙ f.source; end = n.end; at_reader = n.at_reader; same_entity = n.same_entity };
+  from =
+      record {
+        peer = n.peer;
+        at_peer = n.at_peer;
+        same_prefix = n.same_prefix
+            ∙ f.source;
+        end = n.end;
+        at_reader = n.at_reader;
+        same_entity = n.same_entity;
+      };
   named = f.named;
   is_for = f.is_for;
-  to = record { peer = o.own.from.peer; at_peer = o.own.from.at_peer; same_prefix = o.own.from.same_prefix; end = o.own.from.end; at_writer = o.own.from.at_writer; same_entity = o.own.from.same_entity ∙ sym f.writer };
+  to = record {
+    peer = o.own.from.peer;
+    at_peer = o.own.from.at_peer;
+    same_prefix = o.own.from.same_prefix;
+    end =
+        o.own.from.end;
+    at_writer = o.own.from.at_writer;
+    same_entity = o.own.from.same_entity ∙ sym f.writer;
+  };
   matched = o.own.same_topic ∙ sym n.same_topic;
 }
 
 -- two names of one writer are one
-pub one_entity : (config : Config) (prefix other : GuidPrefix) (a b : EntityId) (e : Endpoint) → IsWriter config prefix a e → IsWriter config other b e → a ≡ b
+pub one_entity : (config : Config) (prefix other : GuidPrefix) (a b : EntityId) (e : Endpoint)
+    → IsWriter config prefix a e → IsWriter config other b e → a ≡ b
 one_entity config prefix other a b e x y =
     let peers : x.peer ≡ y.peer = same_Some x.peer y.peer (sym x.at_peer.1 ∙ y.at_peer.1) in
-    let there : slice_get y.peer.writers (e.number - 1) ≡ Some x.end = subst (λ (p : PeerConfig). slice_get p.writers (e.number - 1) ≡ Some x.end) peers x.at_writer.1 in
+    let there : slice_get y.peer.writers (e.number - 1) ≡ Some x.end =
+    subst (λ (p : PeerConfig). slice_get p.writers (e.number - 1) ≡ Some x.end) peers x.at_writer.1 in
     let ends : x.end ≡ y.end = same_Some x.end y.end (sym there ∙ y.at_writer.1) in
     sym x.same_entity ∙ (ap (λ (w : WriterConfig). w.entity) ends ∙ y.same_entity)
 
-pub from_reader : (config : Config) (peer : Peer) (kept : PeerKept) (i : ℕ) (k : WriterKept) (o : IsOwn config kept peer.number i k) (at : Receiver) (a : AckNackBody) (name : ReaderName) → IsReaderNamed config o.own.end.topic name
-    → IsToWriter config kept.prefix at a.reader_id a.writer_id (own_end peer i) name.reader → IsFrom kept.prefix k.entity at a name
+pub from_reader : (config : Config) (peer : Peer) (kept : PeerKept) (i : ℕ) (k : WriterKept)
+    (o : IsOwn config kept peer.number i k) (at : Receiver) (a : AckNackBody) (name : ReaderName)
+    → IsReaderNamed config o.own.end.topic name
+    → IsToWriter config kept.prefix at a.reader_id a.writer_id (own_end peer i) name.reader
+    → IsFrom kept.prefix k.entity at a name
 from_reader config peer kept i k o at a name n to =
     let peers : to.from.peer ≡ n.peer = same_Some to.from.peer n.peer (sym to.from.at_peer.1 ∙ n.at_peer.1) in
-    let there : slice_get n.peer.readers (name.reader.number - 1) ≡ Some to.from.end = subst (λ (p : PeerConfig). slice_get p.readers (name.reader.number - 1) ≡ Some to.from.end) peers to.from.at_reader.1 in
+    let there : slice_get n.peer.readers (name.reader.number - 1) ≡ Some to.from.end =
+    subst (λ (p : PeerConfig). slice_get p.readers (name.reader.number - 1)
+    ≡ Some to.from.end) peers to.from.at_reader.1 in
     let ends : to.from.end ≡ n.end = same_Some to.from.end n.end (sym there ∙ n.at_reader.1) in
-    let entity : to.entity ≡ name.guid.entity = sym to.from.same_entity ∙ (ap (λ (r : ReaderConfig). r.entity) ends ∙ n.same_entity) in
+    let entity : to.entity ≡ name.guid.entity =
+    sym to.from.same_entity ∙ (ap (λ (r : ReaderConfig). r.entity) ends ∙ n.same_entity) in
     record {
       named = subst (λ (x : EntityId). Names a.reader_id x) entity to.named;
       is_for = to.is_for;
@@ -110,33 +158,50 @@ from_reader config peer kept i k o at a name n to =
 
 -- ---- the peer, with another writer
 
-writer_stands_on : (k : WriterKept) (w : Writer) (old new : Endpoint → Option ℤ) → ((r : Endpoint) → new r ≡ old r) → WriterStands k w old → WriterStands k w new
+writer_stands_on : (k : WriterKept) (w : Writer) (old new : Endpoint → Option ℤ) → ((r : Endpoint) → new r ≡ old r)
+    → WriterStands k w old → WriterStands k w new
 writer_stands_on k w old new same s = record {
   autodispose = s.autodispose;
   readers = s.readers;
-  writer = subst (λ (cs : List (Option ℤ)). RtpsStandsFor k.writer (record (state_of w old) { counts = cs })) (sym (counts w.readers)) s.writer;
+  writer =
+      subst (λ (cs : List (Option ℤ)). RtpsStandsFor k.writer (record (state_of w old) { counts = cs }))
+      (sym (counts w.readers)) s.writer;
   begun = s.begun;
 }
   where
-    counts : (rows : List ReaderProxy) → map (λ (p : ReaderProxy). new p.reader) rows ≡ map (λ (p : ReaderProxy). old p.reader) rows
+    counts : (rows : List ReaderProxy) → map (λ (p : ReaderProxy). new p.reader) rows
+        ≡ map (λ (p : ReaderProxy). old p.reader) rows
     counts [] = refl
-    counts (p ∷ ps) = ap (λ (o : Option ℤ). o ∷ map (λ (q : ReaderProxy). new q.reader) ps) (same p.reader) ∙ ap (λ (os : List (Option ℤ)). old p.reader ∷ os) (counts ps)
+    counts (p ∷ ps) =
+        ap (λ (o : Option ℤ). o ∷ map (λ (q : ReaderProxy). new q.reader) ps) (same p.reader)
+        ∙ ap (λ (os : List (Option ℤ)). old p.reader ∷ os) (counts ps)
 
 -- own writer n has become another one, and what is known of its readers has changed
-pub writer_put : (config : Config) (peer : Peer) (kept : PeerKept) → StandsFor kept config peer → (i : ℕ) (k k' : WriterKept) → slice_get kept.writers i ≡ Some k → writer_identity k' ≡ writer_identity k → (w : Writer) (answered : ℕ → Endpoint → Option ℤ)
-    → WriterStands k' w (answered (suc i)) → ((j : ℕ) → (j ≡ i → ⊥) → (r : Endpoint) → answered (suc j) r ≡ peer.known.answered (suc j) r) → AreTellable (at_writer peer.part (suc i) w)
-    → StandsFor (with_writer kept i k') config (with_state peer (record { part = at_writer peer.part (suc i) w; known = record peer.known { answered = answered } }))
+pub writer_put : (config : Config) (peer : Peer) (kept : PeerKept) → StandsFor kept config peer
+    → (i : ℕ) (k k' : WriterKept) → slice_get kept.writers i ≡ Some k → writer_identity k' ≡ writer_identity k
+    → (w : Writer) (answered : ℕ → Endpoint → Option ℤ)
+    → WriterStands k' w (answered (suc i))
+    → ((j : ℕ) → (j ≡ i → ⊥) → (r : Endpoint) → answered (suc j) r ≡ peer.known.answered (suc j) r)
+    → AreTellable (at_writer peer.part (suc i) w)
+    → StandsFor (with_writer kept i k') config
+    (with_state peer
+    (record { part = at_writer peer.part (suc i) w; known = record peer.known { answered = answered } }))
 writer_put config peer kept s i k k' at same w answered stands others tellable =
     let ws : List Writer = peer.part.rtps.writers in
     record {
-      is_peer = subst (λ (x : Identity). IsPeerOf config peer.number x) (sym (same_with_writer kept i k k' at same)) s.is_peer;
+      is_peer =
+          subst (λ (x : Identity). IsPeerOf config peer.number x)
+          (sym (same_with_writer kept i k k' at same)) s.is_peer;
       moment = s.moment;
       early = s.early;
       watch = s.watch;
       writers = record {
         count = length-set ws i w ∙ (s.writers.count ∙ sym (length-set kept.writers i k'));
-        each = each_set_at (λ (j : ℕ) (x : WriterKept) (y : Writer) (z : Writer). WriterStands x y (answered (suc j))) kept.writers ws ws i k' w no_writer w no_writer s.writers.count s.writers.count
-            (λ j x apart there. writer_stands_on x (get_or ws j no_writer) (peer.known.answered (suc j)) (answered (suc j)) (others j apart) (s.writers.each j x there)) stands;
+        each =
+            each_set_at (λ (j : ℕ) (x : WriterKept) (y : Writer) (z : Writer). WriterStands x y (answered (suc j)))
+            kept.writers ws ws i k' w no_writer w no_writer s.writers.count s.writers.count
+            (λ j x apart there. writer_stands_on x (get_or ws j no_writer) (peer.known.answered (suc j))
+            (answered (suc j)) (others j apart) (s.writers.each j x there)) stands;
       };
       readers = record { rows = s.readers.rows; count = s.readers.count; each = s.readers.each };
       tellable = tellable;
@@ -145,7 +210,9 @@ writer_put config peer kept s i k k' at same w answered stands others tellable =
 -- ---- one row
 
 -- what the writer of this index did, by the rules, and what was sent
-pub record RowAnswered (config : Config) (own : GuidPrefix) (at : Receiver) (a : AckNackBody) (writer : ℕ) (reader : Endpoint) (peer : Peer) (made : List Move) (sent : Announced) (new : PeerKept) (gone : Announced) : Type 0 where
+pub record RowAnswered (config : Config) (own : GuidPrefix) (at : Receiver) (a : AckNackBody) (writer : ℕ)
+    (reader : Endpoint) (peer : Peer) (made : List Move) (sent : Announced) (new : PeerKept)
+    (gone : Announced) : Type 0 where
   pub state : State
   pub dues : List Due
   pub takes : WriterTakes config own peer.number at a writer reader (network_of peer) made dues state
@@ -183,121 +250,213 @@ row_is : (c : Row) → IsOwn c.config c.kept c.peer.number c.i c.k → IsRow c
 row_is c o =
     let rows : List ReaderProxy = (writer_of c).readers in
     let there : slice_get (map (λ (p : ReaderProxy). p.reader) rows) c.row ≡ Some c.name.reader =
-    ap (λ (es : List Endpoint). slice_get es c.row) (stood c).readers ∙ map-get (λ (n : ReaderName). n.reader) c.k.readers c.row c.name c.at_name in
+    ap (λ (es : List Endpoint). slice_get es c.row) (stood c).readers
+    ∙ map-get (λ (n : ReaderName). n.reader) c.k.readers c.row c.name c.at_name in
     let f = get-map (λ (p : ReaderProxy). p.reader) rows c.row c.name.reader there in
-    let once : Once (λ (n : ReaderName). n.reader) c.k.readers = subst (λ (ns : List ReaderName). Once (λ (n : ReaderName). n.reader) ns) (sym o.all) (named_once o.own.end.topic c.config.peers) in
+    let once : Once (λ (n : ReaderName). n.reader) c.k.readers =
+    subst (λ (ns : List ReaderName). Once (λ (n : ReaderName). n.reader) ns) (sym o.all)
+    (named_once o.own.end.topic c.config.peers) in
     record {
       proxy = f.0;
       only = only_row rows c.name.reader c.row f.0 f.1 f.2 (λ j q at_q of_q.
           let named : slice_get (map (λ (n : ReaderName). n.reader) c.k.readers) j ≡ Some q.reader =
-          ap (λ (es : List Endpoint). slice_get es j) (sym (stood c).readers) ∙ map-get (λ (p : ReaderProxy). p.reader) rows j q at_q in
+          ap (λ (es : List Endpoint). slice_get es j) (sym (stood c).readers)
+          ∙ map-get (λ (p : ReaderProxy). p.reader) rows j q at_q in
           let g = get-map (λ (n : ReaderName). n.reader) c.k.readers j q.reader named in
           once j c.row g.0 c.name g.1 c.at_name (g.2 ∙ of_q));
     }
 
+-- what is at hand where a row was answered
+record Turn : Type 0 where
+  c : Row
+  own : IsOwn c.config c.kept c.peer.number c.i c.k
+  at : Receiver
+  a : AckNackBody
+  moves : List Move
+  sent : Announced
+  new : PeerKept
+  after : List Move
+  gone : Announced
+  t : RowTook c.kept c.i c.row a c.k c.name moves sent new after gone
+
+abbrev base_of : Turn → ℕ
+base_of turn = turn.a.reader_sn_state.base
+
+-- the writer before the ACKNACK, as RTPS sees it
+abbrev before : Turn → WriterState
+before turn = state_of (writer_of turn.c) (answered_of turn.c)
+
+abbrev is_taken : Turn → Bool
+is_taken turn = is_applied (before turn) turn.c.row (base_of turn) turn.a.count
+
+row_of : (turn : Turn) → IsRow turn.c
+row_of turn = row_is turn.c turn.own
+
+abbrev answering_of : Turn → Answering
+answering_of turn = record { own = turn.c.kept.prefix; entity = turn.c.k.entity; reader = turn.c.name }
+
+abbrev took : (turn : Turn)
+    → TookAckNack turn.c.k turn.c.kept.prefix turn.c.row turn.a turn.sent turn.t.writer turn.t.acknowledged turn.gone
+    (before turn)
+took turn = turn.t.answers (before turn) (stood turn.c).writer
+
+abbrev sends : (turn : Turn) → SendsAnswers (answering_of turn) (changes_of (writer_of turn.c).written)
+    (acknack_answers (before turn) turn.c.row (base_of turn) turn.a.reader_sn_state turn.a.count) turn.sent turn.gone
+sends turn = (took turn).sends turn.c.name turn.c.at_name
+
+-- the peer goes on as this one, by the rules
+abbrev GoesOn : Turn → PeerKept → Type 0
+GoesOn turn new =
+    RowAnswered turn.c.config turn.c.kept.prefix turn.at turn.a (suc turn.c.i) turn.c.name.reader turn.c.peer
+    (acknowledged_moves (turn.c.i + 1) turn.c.name.reader turn.t.acknowledged) turn.sent new turn.gone
+
+abbrev with_next : Turn → PeerKept
+with_next turn = with_writer turn.c.kept turn.c.i turn.t.writer
+
 -- an ACKNACK that is taken
-row_applied : (c : Row) (o : IsOwn c.config c.kept c.peer.number c.i c.k) (at : Receiver) (a : AckNackBody) → IsFrom c.kept.prefix c.k.entity at a c.name → (moves : List Move) (sent : Announced) (new : PeerKept) (after : List Move) (gone : Announced)
-    → (t : RowTook c.kept c.i c.row a c.k c.name moves sent new after gone) → is_applied (state_of (writer_of c) (answered_of c)) c.row a.reader_sn_state.base a.count ≡ true
-    → RowAnswered c.config c.kept.prefix at a (suc c.i) c.name.reader c.peer (acknowledged_moves (c.i + 1) c.name.reader t.acknowledged) sent (with_writer c.kept c.i t.writer) gone
-row_applied c o at a from moves sent new after gone t is = record {
+row_applied : (turn : Turn) → IsFrom turn.c.kept.prefix turn.c.k.entity turn.at turn.a turn.c.name
+    → is_taken turn ≡ true → GoesOn turn (with_next turn)
+row_applied turn from is = record {
   state = state;
   dues = dues;
   takes = inl (to, taken, takes);
-  stands = writer_put c.config c.peer c.kept c.stands c.i c.k t.writer c.at_k t.same there known.answered stands others (tellable_put c.peer.part (suc c.i) there c.stands.tellable refl);
-  adds = subst (λ (ds : List Due). AddsTo ds sent gone) (same_dues sends.groups) sends.adds;
+  stands =
+      writer_put turn.c.config turn.c.peer turn.c.kept turn.c.stands turn.c.i turn.c.k turn.t.writer turn.c.at_k
+      turn.t.same there known.answered stands others
+      (tellable_put turn.c.peer.part (suc turn.c.i) there turn.c.stands.tellable refl);
+  adds = subst (λ (ds : List Due). AddsTo ds turn.sent turn.gone) (same_dues (sends turn).groups) (sends turn).adds;
 }
   where
-    base : ℕ
-    base = a.reader_sn_state.base
-
-    w : Writer
-    w = writer_of c
-
-    r : IsRow c
-    r = row_is c o
-
-    s : WriterState
-    s = state_of w (answered_of c)
-
-    to : IsToWriter c.config c.kept.prefix at a.reader_id a.writer_id (own_end c.peer c.i) c.name.reader
-    to = to_writer c.config c.peer c.kept c.i c.k o at a c.name (o.named c.row c.name c.at_name) from
-
-    took : TookAckNack c.k c.kept.prefix c.row a sent t.writer t.acknowledged gone s
-    took = t.answers s (stood c).writer
-
-    sends : SendsAnswers (record { own = c.kept.prefix; entity = c.k.entity; reader = c.name }) (changes_of w.written) (acknack_answers s c.row base a.reader_sn_state a.count) sent gone
-    sends = took.sends c.name c.at_name
+    to : IsToWriter turn.c.config turn.c.kept.prefix turn.at turn.a.reader_id turn.a.writer_id
+        (own_end turn.c.peer turn.c.i) turn.c.name.reader
+    to = to_writer turn.c.config turn.c.peer turn.c.kept turn.c.i turn.c.k turn.own turn.at turn.a turn.c.name
+        (turn.own.named turn.c.row turn.c.name turn.c.at_name) from
 
     there : Writer
-    there = acknowledging w c.name.reader (max r.proxy.acknowledged base)
+    there = acknowledging (writer_of turn.c) turn.c.name.reader (max (row_of turn).proxy.acknowledged (base_of turn))
 
     known : Known
-    known = with_answered c.peer.known (suc c.i) c.name.reader a.count
+    known = with_answered turn.c.peer.known (suc turn.c.i) turn.c.name.reader turn.a.count
 
     state : State
-    state = record { part = at_writer c.peer.part (suc c.i) there; known = known }
+    state = record { part = at_writer turn.c.peer.part (suc turn.c.i) there; known = known }
 
     dues : List Due
-    dues = map (λ (group : List Answer). due_to c.name.reader.peer (answer_message c.kept.prefix at.source_guid_prefix c.name.guid.entity a.writer_id (writer_changes there) group)) sends.groups
+    dues =
+        map (λ (group : List Answer). due_to turn.c.name.reader.peer
+        (answer_message turn.c.kept.prefix turn.at.source_guid_prefix turn.c.name.guid.entity turn.a.writer_id
+        (writer_changes there) group)) (sends turn).groups
 
-    same_dues : (groups : List (List Answer)) → map (answer_due (record { own = c.kept.prefix; entity = c.k.entity; reader = c.name }) (changes_of w.written)) groups
-        ≡ map (λ (group : List Answer). due_to c.name.reader.peer (answer_message c.kept.prefix at.source_guid_prefix c.name.guid.entity a.writer_id (writer_changes there) group)) groups
+    same_dues : (groups : List (List Answer))
+        → map (answer_due (answering_of turn) (changes_of (writer_of turn.c).written)) groups
+        ≡ map (λ (group : List Answer). due_to turn.c.name.reader.peer
+        (answer_message turn.c.kept.prefix turn.at.source_guid_prefix turn.c.name.guid.entity turn.a.writer_id
+        (writer_changes there) group)) groups
     same_dues groups =
-        ap (λ (p : GuidPrefix). map (λ (group : List Answer). due_to c.name.reader.peer (answer_message c.kept.prefix p c.name.guid.entity c.k.entity (changes_of w.written) group)) groups) from.source
-        ∙ ap (λ (e : EntityId). map (λ (group : List Answer). due_to c.name.reader.peer (answer_message c.kept.prefix at.source_guid_prefix c.name.guid.entity e (changes_of w.written) group)) groups) (sym from.writer)
+        ap (λ (p : GuidPrefix). map
+        (λ (group : List Answer). due_to turn.c.name.reader.peer
+        (answer_message turn.c.kept.prefix p turn.c.name.guid.entity turn.c.k.entity
+        (changes_of (writer_of turn.c).written) group)) groups) from.source
+        ∙ ap (λ (e : EntityId). map
+        (λ (group : List Answer). due_to turn.c.name.reader.peer
+        (answer_message turn.c.kept.prefix turn.at.source_guid_prefix turn.c.name.guid.entity e
+        (changes_of (writer_of turn.c).written) group)) groups) (sym from.writer)
 
-    counted : IsCounted (answered_of c) (known.answered (suc c.i)) c.name.reader a.count
+    counted : IsCounted (answered_of turn.c) (known.answered (suc turn.c.i)) turn.c.name.reader turn.a.count
     counted = record {
-      here = ap (λ (b : Bool). cond (b && same_endpoint c.name.reader c.name.reader) (Some a.count) (answered_of c c.name.reader)) (eq-eqb (suc c.i) (suc c.i) refl)
-          ∙ ap (λ (b : Bool). cond b (Some a.count) (answered_of c c.name.reader)) (same_self c.name.reader);
-      others = λ e apart. ap (λ (b : Bool). cond (b && same_endpoint e c.name.reader) (Some a.count) (answered_of c e)) (eq-eqb (suc c.i) (suc c.i) refl)
-          ∙ ap (λ (b : Bool). cond b (Some a.count) (answered_of c e)) (not_same e c.name.reader apart);
+      here =
+          ap (λ (b : Bool). cond (b && same_endpoint turn.c.name.reader turn.c.name.reader) (Some turn.a.count)
+          (answered_of turn.c turn.c.name.reader)) (eq-eqb (suc turn.c.i) (suc turn.c.i) refl)
+          ∙ ap (λ (b : Bool). cond b (Some turn.a.count) (answered_of turn.c turn.c.name.reader))
+          (same_self turn.c.name.reader);
+      others =
+          λ e apart. ap (λ (b : Bool). cond (b && same_endpoint e turn.c.name.reader) (Some turn.a.count)
+          (answered_of turn.c e)) (eq-eqb (suc turn.c.i) (suc turn.c.i) refl)
+          ∙ ap (λ (b : Bool). cond b (Some turn.a.count) (answered_of turn.c e)) (not_same e turn.c.name.reader apart);
     }
 
-    others : (j : ℕ) → (j ≡ c.i → ⊥) → (e : Endpoint) → known.answered (suc j) e ≡ c.peer.known.answered (suc j) e
-    others j apart e = ap (λ (b : Bool). cond (b && same_endpoint e c.name.reader) (Some a.count) (c.peer.known.answered (suc j) e)) (other (suc j == suc c.i) refl)
+    others : (j : ℕ) → (j ≡ turn.c.i → ⊥) → (e : Endpoint) → known.answered (suc j) e
+        ≡ turn.c.peer.known.answered (suc j) e
+    others j apart e =
+        ap (λ (b : Bool). cond (b && same_endpoint e turn.c.name.reader) (Some turn.a.count)
+        (turn.c.peer.known.answered (suc j) e)) (other (suc j == suc turn.c.i) refl)
       where
-        other : (b : Bool) → (suc j == suc c.i) ≡ b → (suc j == suc c.i) ≡ false
-        other true e = let same = eqb-true (suc j) (suc c.i) e in absurd (apart (omega (arith, same)))
+        other : (b : Bool) → (suc j == suc turn.c.i) ≡ b → (suc j == suc turn.c.i) ≡ false
+        other true e = let same = eqb-true (suc j) (suc turn.c.i) e in absurd (apart (omega (arith, same)))
         other false e = e
 
-    state_is : state_of there (known.answered (suc c.i)) ≡ applied s c.row base a.count
-    state_is = state_applied w (answered_of c) (known.answered (suc c.i)) c.name.reader c.row r.proxy base a.count r.only counted
+    state_is : state_of there (known.answered (suc turn.c.i))
+        ≡ applied (before turn) turn.c.row (base_of turn) turn.a.count
+    state_is =
+        state_applied (writer_of turn.c) (answered_of turn.c)
+        (known.answered (suc turn.c.i)) turn.c.name.reader turn.c.row (row_of turn).proxy (base_of turn) turn.a.count
+        (row_of turn).only counted
 
-    after_is : after_acknack s c.row base a.count ≡ applied s c.row base a.count
-    after_is = ap (λ (b : Bool). if b then applied s c.row base a.count else s) is
+    after_is : after_acknack (before turn) turn.c.row (base_of turn) turn.a.count
+        ≡ applied (before turn) turn.c.row (base_of turn) turn.a.count
+    after_is =
+        ap (λ (b : Bool). if b then applied (before turn) turn.c.row (base_of turn) turn.a.count else (before turn)) is
 
-    stands : WriterStands t.writer there (known.answered (suc c.i))
+    stands : WriterStands turn.t.writer there (known.answered (suc turn.c.i))
     stands = record {
-      autodispose = (stood c).autodispose ∙ ap (λ (x : WriterIdentity). x.autodispose) (sym t.same);
-      readers = readers_same w.readers c.name.reader (max r.proxy.acknowledged base) ∙ ((stood c).readers ∙ ap (λ (x : WriterIdentity). map (λ (n : ReaderName). n.reader) x.readers) (sym t.same));
-      writer = subst (λ (x : WriterState). RtpsStandsFor t.writer.writer x) (after_is ∙ sym state_is) took.stands;
-      begun = still_begun w.readers c.name.reader (max r.proxy.acknowledged base) most (stood c).begun;
+      autodispose = (stood turn.c).autodispose ∙ ap (λ (x : WriterIdentity). x.autodispose) (sym turn.t.same);
+      readers =
+          readers_same (writer_of turn.c).readers turn.c.name.reader
+          (max (row_of turn).proxy.acknowledged (base_of turn))
+          ∙ ((stood turn.c).readers ∙ ap (λ (x : WriterIdentity). map (λ (n : ReaderName). n.reader) x.readers)
+          (sym turn.t.same));
+      writer =
+          subst (λ (x : WriterState). RtpsStandsFor turn.t.writer.writer x) (after_is ∙ sym state_is)
+          (took turn).stands;
+      begun =
+          still_begun (writer_of turn.c).readers turn.c.name.reader
+          (max (row_of turn).proxy.acknowledged (base_of turn)) most (stood turn.c).begun;
     }
       where
-        most : 1 ≤ max r.proxy.acknowledged base
-        most = low_of w.readers c.name.reader c.row r.proxy base r.only (stood c).begun
+        most : 1 ≤ max (row_of turn).proxy.acknowledged (base_of turn)
+        most =
+            low_of (writer_of turn.c).readers turn.c.name.reader turn.c.row (row_of turn).proxy (base_of turn)
+            (row_of turn).only (stood turn.c).begun
 
-    taken : is_taken_up (network_of c.peer) (suc c.i) c.name.reader a ≡ true
-    taken = sym (applied_is w (answered_of c) c.name.reader c.row r.proxy base a.count r.only) ∙ is
+    taken : is_taken_up (network_of turn.c.peer) (suc turn.c.i) turn.c.name.reader turn.a ≡ true
+    taken =
+        sym (applied_is (writer_of turn.c) (answered_of turn.c) turn.c.name.reader turn.c.row (row_of turn).proxy
+        (base_of turn) turn.a.count (row_of turn).only) ∙ is
 
-    answers_are : acknack_answers s c.row base a.reader_sn_state a.count ≡ answers_to (is_kept (history_of there)) (requested a.reader_sn_state (max r.proxy.acknowledged base) (length (writer_changes there)))
+    answers_are : acknack_answers (before turn) turn.c.row (base_of turn) turn.a.reader_sn_state turn.a.count
+        ≡ answers_to (is_kept (history_of there))
+        (requested turn.a.reader_sn_state (max (row_of turn).proxy.acknowledged (base_of turn))
+        (length (writer_changes there)))
     answers_are =
-        ap (λ (b : Bool). if b then answers_after (applied s c.row base a.count) c.row a.reader_sn_state else []) is
-        ∙ (ap (λ (x : WriterState). answers_after x c.row a.reader_sn_state) (sym state_is)
-        ∙ ap (λ (n : ℕ). answers_to (is_kept (history_of there)) (requested a.reader_sn_state n (length (writer_changes there))))
-        (ap (λ (x : WriterState). acknowledged_by x c.row) state_is ∙ acknowledged_then w (answered_of c) c.name.reader c.row r.proxy base a.count r.only))
+        ap (λ (b : Bool). if b then answers_after
+        (applied (before turn) turn.c.row (base_of turn) turn.a.count) turn.c.row turn.a.reader_sn_state else []) is
+        ∙ (ap (λ (x : WriterState). answers_after x turn.c.row turn.a.reader_sn_state) (sym state_is)
+        ∙ ap (λ (n : ℕ). answers_to (is_kept (history_of there))
+        (requested turn.a.reader_sn_state n (length (writer_changes there))))
+        (ap (λ (x : WriterState). acknowledged_by x turn.c.row) state_is
+        ∙ acknowledged_then (writer_of turn.c) (answered_of turn.c) turn.c.name.reader turn.c.row
+        (row_of turn).proxy (base_of turn) turn.a.count (row_of turn).only))
 
-    takes : TakesByRules c.kept.prefix at (network_of c.peer) (suc c.i) c.name.reader c.name.guid.entity a (acknowledged_moves (c.i + 1) c.name.reader t.acknowledged) dues state
+    takes : TakesByRules turn.c.kept.prefix turn.at (network_of turn.c.peer)
+        (suc turn.c.i) turn.c.name.reader turn.c.name.guid.entity turn.a
+        (acknowledged_moves (turn.c.i + 1) turn.c.name.reader turn.t.acknowledged) dues state
     takes = record {
-      acknowledged = r.proxy.acknowledged;
-      matched = acknowledged_is w.readers c.name.reader c.row r.proxy r.only;
-      moves_are = ap (λ (o : Option ℕ). acknowledged_moves (c.i + 1) c.name.reader o) (took.acknowledged_is ∙ ap (λ (x : WriterState). newly_acknowledged s x c.row) after_is)
-          ∙ (moves_then w (answered_of c) c.name.reader c.row r.proxy base a.count (c.i + 1) r.only ∙ ap (λ (n : ℕ). if nat_lt r.proxy.acknowledged base then Acknowledged n c.name.reader base ∷ [] else []) (next c.i));
+      acknowledged = (row_of turn).proxy.acknowledged;
+      matched =
+          acknowledged_is (writer_of turn.c).readers turn.c.name.reader turn.c.row (row_of turn).proxy
+          (row_of turn).only;
+      moves_are =
+          ap (λ (o : Option ℕ). acknowledged_moves (turn.c.i + 1) turn.c.name.reader o)
+          ((took turn).acknowledged_is
+          ∙ ap (λ (x : WriterState). newly_acknowledged (before turn) x turn.c.row) after_is)
+          ∙ (moves_then (writer_of turn.c) (answered_of turn.c) turn.c.name.reader turn.c.row (row_of turn).proxy
+          (base_of turn) turn.a.count (turn.c.i + 1) (row_of turn).only
+          ∙ ap (λ (n : ℕ). if nat_lt (row_of turn).proxy.acknowledged
+          (base_of turn) then Acknowledged n turn.c.name.reader (base_of turn) ∷ [] else []) (next turn.c.i));
       there = there;
       there_is = refl;
-      groups = sends.groups;
-      grouped = subst (λ (xs : List Answer). AreGrouped xs sends.groups) answers_are sends.grouped;
+      groups = (sends turn).groups;
+      grouped = subst (λ (xs : List Answer). AreGrouped xs (sends turn).groups) answers_are (sends turn).grouped;
       dues_are = refl;
       after = refl;
     }
@@ -306,77 +465,107 @@ row_applied c o at a from moves sent new after gone t is = record {
         next n = omega arith
 
 -- one that is not
-row_ignored : (c : Row) (o : IsOwn c.config c.kept c.peer.number c.i c.k) (at : Receiver) (a : AckNackBody) (moves : List Move) (sent : Announced) (new : PeerKept) (after : List Move) (gone : Announced)
-    → (t : RowTook c.kept c.i c.row a c.k c.name moves sent new after gone) → is_applied (state_of (writer_of c) (answered_of c)) c.row a.reader_sn_state.base a.count ≡ false
-    → RowAnswered c.config c.kept.prefix at a (suc c.i) c.name.reader c.peer (acknowledged_moves (c.i + 1) c.name.reader t.acknowledged) sent (with_writer c.kept c.i t.writer) gone
-row_ignored c o at a moves sent new after gone t is = record {
-  state = network_of c.peer;
+row_ignored : (turn : Turn) → is_taken turn ≡ false → GoesOn turn (with_next turn)
+row_ignored turn is = record {
+  state = network_of turn.c.peer;
   dues = [];
-  takes = inr ((λ to. sym (applied_is w (answered_of c) c.name.reader c.row r.proxy base a.count r.only) ∙ is), (no_move, refl, refl));
-  stands = subst (λ (p : Part). StandsFor (with_writer c.kept c.i t.writer) c.config (record c.peer { part = p })) part_is
-      (writer_put c.config c.peer c.kept c.stands c.i c.k t.writer c.at_k t.same w c.peer.known.answered stands (λ j apart e. refl) (tellable_put c.peer.part (suc c.i) w c.stands.tellable refl));
-  adds = subst (λ (ds : List Due). AddsTo ds sent gone) (ap (λ (gs : List (List Answer)). map (answer_due (record { own = c.kept.prefix; entity = c.k.entity; reader = c.name }) (changes_of w.written)) gs) (no_groups sends.groups grouped)) sends.adds;
+  takes =
+      inr (
+        (λ to. sym (applied_is (writer_of turn.c) (answered_of turn.c) turn.c.name.reader turn.c.row
+            (row_of turn).proxy (base_of turn) turn.a.count (row_of turn).only) ∙ is),
+        (no_move, refl, refl),
+      );
+  stands =
+      subst (λ (p : Part). StandsFor (with_writer turn.c.kept turn.c.i turn.t.writer) turn.c.config
+      (record turn.c.peer { part = p })) part_is
+      (writer_put turn.c.config turn.c.peer turn.c.kept turn.c.stands turn.c.i turn.c.k turn.t.writer turn.c.at_k
+      turn.t.same (writer_of turn.c) turn.c.peer.known.answered stands (λ j apart e. refl)
+      (tellable_put turn.c.peer.part (suc turn.c.i) (writer_of turn.c) turn.c.stands.tellable refl));
+  adds =
+      subst (λ (ds : List Due). AddsTo ds turn.sent turn.gone)
+      (ap (λ (gs : List (List Answer)). map (answer_due (answering_of turn) (changes_of (writer_of turn.c).written)) gs)
+      (no_groups (sends turn).groups grouped)) (sends turn).adds;
 }
   where
-    base : ℕ
-    base = a.reader_sn_state.base
-
-    w : Writer
-    w = writer_of c
-
-    r : IsRow c
-    r = row_is c o
-
-    s : WriterState
-    s = state_of w (answered_of c)
-
-    took : TookAckNack c.k c.kept.prefix c.row a sent t.writer t.acknowledged gone s
-    took = t.answers s (stood c).writer
-
-    sends : SendsAnswers (record { own = c.kept.prefix; entity = c.k.entity; reader = c.name }) (changes_of w.written) (acknack_answers s c.row base a.reader_sn_state a.count) sent gone
-    sends = took.sends c.name c.at_name
-
-    grouped : AreGrouped [] sends.groups
-    grouped = subst (λ (xs : List Answer). AreGrouped xs sends.groups) (ap (λ (b : Bool). if b then answers_after (applied s c.row base a.count) c.row a.reader_sn_state else []) is) sends.grouped
+    grouped : AreGrouped [] (sends turn).groups
+    grouped =
+        subst (λ (xs : List Answer). AreGrouped xs (sends turn).groups)
+        (ap (λ (b : Bool). if b then answers_after
+        (applied (before turn) turn.c.row (base_of turn) turn.a.count) turn.c.row turn.a.reader_sn_state else []) is)
+        (sends turn).grouped
 
     no_groups : (groups : List (List Answer)) → AreGrouped [] groups → groups ≡ []
     no_groups [] g = refl
-    no_groups (group ∷ groups) g = let some = g.2 in let size = ap (λ (xs : List Answer). length xs) g.1 in let all = length-append group g.0 in absurd (omega (arith, some, size, all))
+    no_groups (group ∷ groups) g =
+        let some = g.2 in let size = ap (λ (xs : List Answer). length xs) g.1 in let all = length-append group g.0 in
+        absurd (omega (arith, some, size, all))
 
-    after_is : after_acknack s c.row base a.count ≡ s
-    after_is = ap (λ (b : Bool). if b then applied s c.row base a.count else s) is
+    after_is : after_acknack (before turn) turn.c.row (base_of turn) turn.a.count ≡ (before turn)
+    after_is =
+        ap (λ (b : Bool). if b then applied (before turn) turn.c.row (base_of turn) turn.a.count else (before turn)) is
 
-    part_is : at_writer c.peer.part (suc c.i) w ≡ c.peer.part
-    part_is = ap (λ (ws : List Writer). record c.peer.part { rtps = record c.peer.part.rtps { writers = ws } }) (with_same c.peer.part.rtps.writers (suc c.i) no_writer)
+    part_is : at_writer turn.c.peer.part (suc turn.c.i) (writer_of turn.c) ≡ turn.c.peer.part
+    part_is =
+        ap (λ (ws : List Writer). record turn.c.peer.part { rtps = record turn.c.peer.part.rtps { writers = ws } })
+        (with_same turn.c.peer.part.rtps.writers (suc turn.c.i) no_writer)
 
-    no_move : acknowledged_moves (c.i + 1) c.name.reader t.acknowledged ≡ []
+    no_move : acknowledged_moves (turn.c.i + 1) turn.c.name.reader turn.t.acknowledged ≡ []
     no_move =
-        ap (λ (o : Option ℕ). acknowledged_moves (c.i + 1) c.name.reader o) (took.acknowledged_is ∙ (ap (λ (x : WriterState). newly_acknowledged s x c.row) after_is ∙ still (acknowledged_by s c.row)))
+        ap (λ (o : Option ℕ). acknowledged_moves (turn.c.i + 1) turn.c.name.reader o)
+        ((took turn).acknowledged_is
+        ∙ (ap (λ (x : WriterState). newly_acknowledged (before turn) x turn.c.row) after_is
+        ∙ still (acknowledged_by (before turn) turn.c.row)))
       where
         still : (n : ℕ) → (if nat_lt n n then Some n else None) ≡ None
-        still n = let less : nat_lt n n ≡ false = grind (arith, nat_tests) in ap (λ (b : Bool). if b then Some n else None) less
+        still n =
+            let less : nat_lt n n
+            ≡ false = grind (arith, nat_tests) in ap (λ (b : Bool). if b then Some n else None) less
 
-    stands : WriterStands t.writer w (c.peer.known.answered (suc c.i))
+    stands : WriterStands turn.t.writer (writer_of turn.c) (turn.c.peer.known.answered (suc turn.c.i))
     stands = record {
-      autodispose = (stood c).autodispose ∙ ap (λ (x : WriterIdentity). x.autodispose) (sym t.same);
-      readers = (stood c).readers ∙ ap (λ (x : WriterIdentity). map (λ (n : ReaderName). n.reader) x.readers) (sym t.same);
-      writer = subst (λ (x : WriterState). RtpsStandsFor t.writer.writer x) after_is took.stands;
-      begun = (stood c).begun;
+      autodispose = (stood turn.c).autodispose ∙ ap (λ (x : WriterIdentity). x.autodispose) (sym turn.t.same);
+      readers =
+          (stood turn.c).readers ∙ ap (λ (x : WriterIdentity). map (λ (n : ReaderName). n.reader) x.readers)
+          (sym turn.t.same);
+      writer = subst (λ (x : WriterState). RtpsStandsFor turn.t.writer.writer x) after_is (took turn).stands;
+      begun = (stood turn.c).begun;
     }
 
-pub row_answered : (c : Row) (o : IsOwn c.config c.kept c.peer.number c.i c.k) (at : Receiver) (a : AckNackBody) → IsFrom c.kept.prefix c.k.entity at a c.name → (moves : List Move) (sent : Announced) (new : PeerKept) (after : List Move) (gone : Announced)
+pub row_answered : (c : Row) (o : IsOwn c.config c.kept c.peer.number c.i c.k) (at : Receiver) (a : AckNackBody)
+    → IsFrom c.kept.prefix c.k.entity at a c.name
+    → (moves : List Move) (sent : Announced) (new : PeerKept) (after : List Move) (gone : Announced)
     → (t : RowTook c.kept c.i c.row a c.k c.name moves sent new after gone)
-    → RowAnswered c.config c.kept.prefix at a (suc c.i) c.name.reader c.peer (acknowledged_moves (c.i + 1) c.name.reader t.acknowledged) sent new gone
-row_answered c o at a from moves sent new after gone t =
-    subst (λ (x : PeerKept). RowAnswered c.config c.kept.prefix at a (suc c.i) c.name.reader c.peer (acknowledged_moves (c.i + 1) c.name.reader t.acknowledged) sent x gone) (sym t.new_is)
-    (by (is_applied (state_of (writer_of c) (answered_of c)) c.row a.reader_sn_state.base a.count) refl)
+    → RowAnswered c.config c.kept.prefix at a (suc c.i) c.name.reader c.peer
+    (acknowledged_moves (c.i + 1) c.name.reader t.acknowledged) sent new gone
+row_answered c o at a from moves sent new after gone t = subst (GoesOn turn) (sym t.new_is) (by (is_taken turn) refl)
   where
-    by : (b : Bool) → is_applied (state_of (writer_of c) (answered_of c)) c.row a.reader_sn_state.base a.count ≡ b
-        → RowAnswered c.config c.kept.prefix at a (suc c.i) c.name.reader c.peer (acknowledged_moves (c.i + 1) c.name.reader t.acknowledged) sent (with_writer c.kept c.i t.writer) gone
-    by true is = row_applied c o at a from moves sent new after gone t is
-    by false is = row_ignored c o at a moves sent new after gone t is
+    turn : Turn
+    turn =
+        record {
+          c = c;
+          own = o;
+          at = at;
+          a = a;
+          moves = moves;
+          sent = sent;
+          new = new;
+          after = after;
+          gone = gone;
+          t =
+              t;
+        }
+
+    by : (b : Bool) → is_taken turn ≡ b → GoesOn turn (with_next turn)
+    by true is = row_applied turn from is
+    by false is = row_ignored turn is
 
 -- a reader that the ACKNACK is not from has nothing to be answered
-pub row_idle : (c : Row) (o : IsOwn c.config c.kept c.peer.number c.i c.k) (at : Receiver) (a : AckNackBody) → (IsFrom c.kept.prefix c.k.entity at a c.name → ⊥) → (state : State)
+pub row_idle : (c : Row) (o : IsOwn c.config c.kept c.peer.number c.i c.k) (at : Receiver) (a : AckNackBody)
+    → (IsFrom c.kept.prefix c.k.entity at a c.name → ⊥) → (state : State)
     → WriterTakes c.config c.kept.prefix c.peer.number at a (suc c.i) c.name.reader state [] [] state
-row_idle c o at a not state = inr ((λ to. absurd (not (from_reader c.config c.peer c.kept c.i c.k o at a c.name (o.named c.row c.name c.at_name) to))), (refl, refl, refl))
+row_idle c o at a not state =
+    inr (
+      (λ to. absurd (not (from_reader c.config c.peer c.kept c.i c.k o at a c.name
+          (o.named c.row c.name c.at_name) to))),
+      (refl, refl, refl),
+    )

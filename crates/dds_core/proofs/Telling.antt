@@ -40,21 +40,20 @@ told_as old new ready said moment step is answer others =
       others = others;
     }
 
-pub change_told : (old new : ReaderKept) (ready : Ready) (moment : ℕ) (result : Result Step Code) (step : Step)
-    (number : ℕ) (change : Change) → ready.told ≡ told.Change number change → result ≡ Ok step
-    → IfOk result (λ s. Answer old new ready (told.Change number change) moment s)
-    → OthersStay ready.row old.reader new.reader → TakesTold old ready moment step new
-change_told old new ready moment result step number change is ok answer others =
-    told_as old new ready (told.Change number change) moment step is
-    (done_as result step (λ s. Answer old new ready (told.Change number change) moment s) ok answer) others
+-- what the reader that is open was told is what the reader was told
+told_of : {inside old new : ReaderKept} {ready : Ready} {moment : ℕ} {step : Step} → inside ≡ old
+    → TakesTold inside ready moment step new → TakesTold old ready moment step new
+told_of {new = new} {ready} {moment} {step} is h = subst (λ (k : ReaderKept). TakesTold k ready moment step new) is h
 
-pub gap_told : (old new : ReaderKept) (ready : Ready) (moment : ℕ) (result : Result Step Code) (step : Step) (start : ℕ)
-    (list : NumberSet) → ready.told ≡ told.Gap start list → result ≡ Ok step
-    → IfOk result (λ s. Answer old new ready (told.Gap start list) moment s)
-    → OthersStay ready.row old.reader new.reader → TakesTold old ready moment step new
-gap_told old new ready moment result step start list is ok answer others =
-    told_as old new ready (told.Gap start list) moment step is
-    (done_as result step (λ s. Answer old new ready (told.Gap start list) moment s) ok answer) others
+-- a change or a GAP
+pub answer_told : {inside old new : ReaderKept} → inside ≡ old → (ready : Ready) (moment : ℕ) (result : Result Step Code)
+    (step : Step) (said : Told) → ready.told ≡ said → result ≡ Ok step
+    → IfOk result (λ s. Answer inside new ready said moment s) → OthersStay ready.row inside.reader new.reader
+    → TakesTold old ready moment step new
+answer_told {inside} {new = new} view ready moment result step said is ok answer others =
+    told_of view
+    (told_as inside new ready said moment step is
+    (done_as result step (λ s. Answer inside new ready said moment s) ok answer) others)
 
 -- an accepted HEARTBEAT, and any other
 abbrev Accepted : ReaderKept → ReaderKept → Ready → HeartbeatSeen → ℕ → Step → Type 0
@@ -70,20 +69,22 @@ Repeated old new ready seen result =
     → is_later t.count seen.count ≡ false
     → IsOk result × IfOk result (λ s. IsIdle t.place s × Tracks new.reader ready.row t × Holds new.store h)
 
-pub heartbeat_told : (old new : ReaderKept) (ready : Ready) (moment : ℕ) (result : Result Step Code) (step : Step)
-    (seen : HeartbeatSeen) → ready.told ≡ told.Heartbeat seen → result ≡ Ok step
-    → IfOk result (λ s. Accepted old new ready seen moment s) → Repeated old new ready seen result
-    → OthersStay ready.row old.reader new.reader → TakesTold old ready moment step new
-heartbeat_told old new ready moment result step seen is ok accepted repeated others =
-    told_as old new ready (told.Heartbeat seen) moment step is
-    (λ t h knows holds. by t h knows holds (is_later t.count seen.count) refl) others
+pub heartbeat_told : {inside old new : ReaderKept} → inside ≡ old → (ready : Ready) (moment : ℕ)
+    (result : Result Step Code) (step : Step) (seen : HeartbeatSeen) → ready.told ≡ told.Heartbeat seen
+    → result ≡ Ok step → IfOk result (λ s. Accepted inside new ready seen moment s)
+    → Repeated inside new ready seen result → OthersStay ready.row inside.reader new.reader
+    → TakesTold old ready moment step new
+heartbeat_told {inside} {new = new} view ready moment result step seen is ok accepted repeated others =
+    told_of view
+    (told_as inside new ready (told.Heartbeat seen) moment step is
+    (λ t h knows holds. by t h knows holds (is_later t.count seen.count) refl) others)
   where
-    by : (t : Tracked) (h : List Happening) → Tracks old.reader ready.row t → Holds old.store h → (b : Bool)
+    by : (t : Tracked) (h : List Happening) → Tracks inside.reader ready.row t → Holds inside.store h → (b : Bool)
         → is_later t.count seen.count ≡ b
-        → TellsSo (match_at (qos_of old.store.cache) ready.row moment) (told.Heartbeat seen) t h step
+        → TellsSo (match_at (qos_of inside.store.cache) ready.row moment) (told.Heartbeat seen) t h step
         (Tracks new.reader ready.row) (λ xs. Holds new.store xs)
     by t h knows holds true e =
-        inl (e, done_as result step (λ s. Accepted old new ready seen moment s) ok accepted t h knows holds e)
+        inl (e, done_as result step (λ s. Accepted inside new ready seen moment s) ok accepted t h knows holds e)
     by t h knows holds false e =
         let done = done_as result step (λ s. IsIdle t.place s × Tracks new.reader ready.row t × Holds new.store h) ok
         (repeated t h knows holds e).1 in inr (e, done.0, done.1, done.2)

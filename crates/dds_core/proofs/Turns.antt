@@ -115,6 +115,12 @@ no_answer : (c : Telling) (own : GuidPrefix) (at : Receiver) (entity writer_id :
 no_answer c own at entity writer_id step none =
     ap (λ (o : Option AckNackDue). acknacks_due own at.source_guid_prefix c.writer.peer entity writer_id o) none
 
+-- the reader moves on from what it then knows
+abbrev MovesTo : Telling → ReaderKept → Step → Tracked → Type 0
+MovesTo c k' step t =
+    MovesOn (match_at (qos_of c.k.store.cache) c.row c.kept.moment) t (reader_of c).happened step
+    (Tracks k'.reader c.row) (λ h. Holds k'.store h)
+
 -- what is ready for a reader is told
 told_so : (c : Telling) (own : GuidPrefix) (at : Receiver) (s : Submessage) (said : Told) (k' : ReaderKept) (from : ℕ)
     (step : Step) (reader_id writer_id : EntityId) → NamedBy s reader_id writer_id → IsToldBy at s said
@@ -125,34 +131,22 @@ told_so : (c : Telling) (own : GuidPrefix) (at : Receiver) (s : Submessage) (sai
     → ReaderTook c.config own at s (suc c.i) c.peer (moves_of c.writer (c.i + 1) from step)
     (answer_to c own at to.entity writer_id step) (with_reader c.kept c.i k')
 told_so c own at (Data d) (told.Change number change) k' from step reader_id writer_id by is to same others place m =
-    let t : Tracked = with_data d.writer_sn (change_in d.content at.timestamp) (known_of c) in
-    let n : MovesOn (match_at (qos_of c.k.store.cache) c.row c.kept.moment) t (reader_of c).happened step
-    (Tracks k'.reader c.row) (λ h. Holds k'.store h) =
-    subst (λ x. MovesOn (match_at (qos_of c.k.store.cache) c.row c.kept.moment) (with_data d.writer_sn x (known_of c))
-    (reader_of c).happened step (Tracks k'.reader c.row) (λ h. Holds k'.store h)) is.1
-    (subst (λ x. MovesOn (match_at (qos_of c.k.store.cache) c.row c.kept.moment) (with_data x change (known_of c))
-    (reader_of c).happened step (Tracks k'.reader c.row) (λ h. Holds k'.store h)) is.0 m) in
-    let r = moves_on c k' t from step same others place n in
-    let to_it : IsToReader c.config own at d.reader_id d.writer_id c.writer
-    (record { peer = c.peer.number; number = suc c.i }) = named_as c own at reader_id writer_id d.reader_id
-    d.writer_id by.0 by.1 to in
+    let n : MovesTo c k' step (with_data d.writer_sn (change_in d.content at.timestamp) (known_of c)) =
+    subst (λ x. MovesTo c k' step (with_data d.writer_sn x (known_of c))) is.1
+    (subst (λ x. MovesTo c k' step (with_data x change (known_of c))) is.0 m) in
+    let r = moves_on c k' _ from step same others place n in
+    let to_it = named_as c own at reader_id writer_id d.reader_id d.writer_id by.0 by.1 to in
     record {
       state = after_step c step n.new n.after;
       takes = inl (c.writer, to_it, (r.0, no_answer c own at to.entity writer_id step m.acknack));
       stands = r.1;
     }
 told_so c own at (Gap g) (told.Gap start list) k' from step reader_id writer_id by is to same others place m =
-    let t : Tracked = with_gap g.gap_start g.gap_list (known_of c) in
-    let n : MovesOn (match_at (qos_of c.k.store.cache) c.row c.kept.moment) t (reader_of c).happened step
-    (Tracks k'.reader c.row) (λ h. Holds k'.store h) =
-    subst (λ x. MovesOn (match_at (qos_of c.k.store.cache) c.row c.kept.moment) (with_gap g.gap_start x (known_of c))
-    (reader_of c).happened step (Tracks k'.reader c.row) (λ h. Holds k'.store h)) is.1
-    (subst (λ x. MovesOn (match_at (qos_of c.k.store.cache) c.row c.kept.moment) (with_gap x list (known_of c))
-    (reader_of c).happened step (Tracks k'.reader c.row) (λ h. Holds k'.store h)) is.0 m) in
-    let r = moves_on c k' t from step same others place n in
-    let to_it : IsToReader c.config own at g.reader_id g.writer_id c.writer
-    (record { peer = c.peer.number; number = suc c.i }) = named_as c own at reader_id writer_id g.reader_id
-    g.writer_id by.0 by.1 to in
+    let n : MovesTo c k' step (with_gap g.gap_start g.gap_list (known_of c)) =
+    subst (λ x. MovesTo c k' step (with_gap g.gap_start x (known_of c))) is.1
+    (subst (λ x. MovesTo c k' step (with_gap x list (known_of c))) is.0 m) in
+    let r = moves_on c k' _ from step same others place n in
+    let to_it = named_as c own at reader_id writer_id g.reader_id g.writer_id by.0 by.1 to in
     record {
       state = after_step c step n.new n.after;
       takes = inl (c.writer, to_it, (r.0, no_answer c own at to.entity writer_id step m.acknack));
@@ -160,9 +154,7 @@ told_so c own at (Gap g) (told.Gap start list) k' from step reader_id writer_id 
     }
 told_so c own at (Heartbeat h) (told.Heartbeat seen) k' from step reader_id writer_id by is to same others place
     (inl m) =
-    let to_it : IsToReader c.config own at h.reader_id h.writer_id c.writer
-    (record { peer = c.peer.number; number = suc c.i }) = named_as c own at reader_id writer_id h.reader_id
-    h.writer_id by.0 by.1 to in
+    let to_it = named_as c own at reader_id writer_id h.reader_id h.writer_id by.0 by.1 to in
     let later : is_later (known_of c).count h.count ≡ true =
     subst (λ (x : HeartbeatSeen). is_later (known_of c).count x.count ≡ true) is m.0 in
     let r = heartbeat_on c own at to.entity k' h seen from step is same others place later m.1 in
@@ -175,9 +167,7 @@ told_so c own at (Heartbeat h) (told.Heartbeat seen) k' from step reader_id writ
     record { state = r.0; takes = inl (c.writer, to_it, inl takes); stands = r.2 }
 told_so c own at (Heartbeat h) (told.Heartbeat seen) k' from step reader_id writer_id by is to same others place
     (inr m) =
-    let to_it : IsToReader c.config own at h.reader_id h.writer_id c.writer
-    (record { peer = c.peer.number; number = suc c.i }) = named_as c own at reader_id writer_id h.reader_id
-    h.writer_id by.0 by.1 to in
+    let to_it = named_as c own at reader_id writer_id h.reader_id h.writer_id by.0 by.1 to in
     let repeated : is_later (known_of c).count h.count ≡ false =
     subst (λ (x : HeartbeatSeen). is_later (known_of c).count x.count ≡ false) is m.0 in
     record {

@@ -2,8 +2,9 @@
 -- with memory for all that it does, before the first of them is told; so it is taken up by all of them or by none.
 --
 -- RTPS 2.5, 8.3.4 (the message receiver), 8.4.12 (the behaviour of a reliable StatefulReader).
-use Rattle.std.specs.Prelude.{◌≡◌, ◌⊎◌, ◌+◌, ◌^◌, ◌<◌, ◌≤◌, true, false, Bool, ℕ, List, [], ◌∷◌, ◌++◌, drop, set, length, slice_get, nat_lt, if◌then◌else◌, Option, Some, None, Result, Ok, Err}
+use Rattle.std.specs.Prelude.{◌≡◌, ◌⊎◌, ◌+◌, ◌^◌, ◌<◌, ◌≤◌, true, false, Bool, ℕ, List, [], ◌∷◌, ◌++◌, drop, set, length, slice_get, nat_lt, if◌then◌else◌, Option, Some, None, Result, Ok, Err, OnErr, IfErr}
 use Rattle.dds_base.specs.declared.code.Code.{Code}
+use Rattle.dds_base.specs.declared.code.Code.TheVariants.{Memory}
 use Rattle.dds_base.specs.declared.config.Config.{Config}
 use Rattle.dds_base.specs.declared.guid.EntityId.{EntityId}
 use Rattle.dds_base.specs.declared.guid.Guid.{Guid}
@@ -48,6 +49,7 @@ use Rattle.dds_core.specs.declared.reader_end.Told.TheVariants as told
 use Rattle.dds_core.specs.declared.receiver.MessageReceiver.{MessageReceiver}
 use Rattle.dds_core.specs.declared.sending.Announced.{Announced}
 use Rattle.dds_core.specs.Beating.{AddsTo}
+use Rattle.dds_core.specs.Sending.{AreMessages}
 use Rattle.dds_core.specs.Kept.{ReaderKept, PeerKept}
 use Rattle.dds_core.specs.Stored.{Holds}
 use Rattle.dds_core.specs.Standing.{ReaderStands, StandsFor}
@@ -303,6 +305,20 @@ pub record TakesOneMore (old : PeerKept) (at : Receiver) (submessage : Submessag
 -- the new values stand for what the old ones stood for
 abbrev pub StandsAsWell : PeerKept → PeerKept → Type 0
 StandsAsWell old new = (config : Config) (peer : Peer) → StandsFor old config peer → StandsFor new config peer
+
+-- what is so of any submessage that is taken up, and how it may be refused: at most so many more packets find no memory
+pub record KeepsPeer (more : ℕ) (old : PeerKept) (moves : List Move) (sent : Announced) (new : PeerKept)
+    (after : List Move) (gone : Announced) (answer : Result (Unit {0}) Code) : Type 0 where
+  -- the prefix stays
+  pub prefix : new.prefix ≡ old.prefix
+  -- so many more packets found no memory, or fewer
+  pub few : gone.unsent ≤ sent.unsent + more
+  -- what is sent are messages
+  pub messages : AreMessages sent.packets.items → AreMessages gone.packets.items
+  -- a refusal leaves all that the peer stands for, moves nothing and sends nothing
+  pub err : OnErr answer (StandsAsWell old new × (after ≡ moves) × (gone ≡ sent))
+  -- it is refused for want of memory alone
+  pub memory : IfErr answer (λ code. code ≡ Memory)
 
 -- for each state that the old values stand for, the message's submessages are taken up with this report, and what is then
 -- due is sent

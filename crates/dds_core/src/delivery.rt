@@ -3,12 +3,12 @@
 //! RTPS 2.5, 8.3.4 (the message receiver), 8.4.12 (the behaviour of a reliable StatefulReader). What the peer's writers do
 //! with an ACKNACK is in `requests`.
 
-ghost use Rattle.std.specs.Prelude.{◌≡◌, ◌++◌, ◌+◌, ◌*◌, ◌^◌, ◌<◌, ◌≤◌, [], length, vec_len, vec_capacity, IfOk, IfErr, OnOk, OnErr};
+ghost use Rattle.std.specs.Prelude.{◌≡◌, ◌++◌, ◌+◌, ◌*◌, ◌^◌, ◌<◌, ◌≤◌, [], length, vec_len, vec_capacity, IfOk, IfErr, OnOk};
 ghost use Rattle.dds_base.specs.declared.code.Code.TheVariants.{Memory};
 ghost use Rattle.dds_model.specs.declared.event.Event.TheVariants as event;
 ghost use Rattle.dds_core.specs.Standing.{SoundSteps};
 ghost use Rattle.dds_core.specs.Sending.{AreMessages};
-ghost use Rattle.dds_core.specs.Receiving.{receiver_at, IsBounded, AreBounded, AreReady, AreAlike, moves_of, CanTakeAt, TakesAt, AllCanTake, TakesAll, TellsReaders, TakesOneMore, TakesMessage, StandsAsWell, ReceivesPacket};
+ghost use Rattle.dds_core.specs.Receiving.{receiver_at, IsBounded, AreBounded, AreReady, AreAlike, moves_of, CanTakeAt, TakesAt, AllCanTake, TakesAll, TellsReaders, TakesOneMore, KeepsPeer, TakesMessage, StandsAsWell, ReceivesPacket};
 
 use crate::acknack::send_acknack;
 use crate::output::unmoved;
@@ -147,17 +147,12 @@ impl Peer {
     ) -> Result<(), Code>
         requires bounded { IsBounded submessage.now }
         requires low { sent.old.unsent < 2 ^ 60 }
-        ensures ok { OnOk result
+        ensures takes { OnOk result
             (TellsReaders self.old
             (receiver_at receiver.now) submessage.now moves.old.items sent.old self.new
             moves.new.items sent.new) }
-        ensures err { OnErr result
-            (StandsAsWell self.old self.new × (moves.new.items ≡ moves.old.items)
-            × (sent.new ≡ sent.old)) }
-        ensures memory { IfErr result (λ code. code ≡ Memory) }
-        ensures prefix { self.new.prefix ≡ self.old.prefix }
-        ensures few { sent.new.unsent ≤ sent.old.unsent + 16 }
-        ensures messages { AreMessages sent.old.packets.items → AreMessages sent.new.packets.items }
+        ensures keeps { KeepsPeer 16 self.old moves.old.items sent.old self.new moves.new.items
+            sent.new result }
     {
         let ready = self.make_ready(receiver, submessage)?;
         moves.reserve(2 * ready.len())?;
@@ -175,17 +170,12 @@ impl Peer {
     ) -> Result<(), Code>
         requires bounded { IsBounded submessage.now }
         requires low { sent.old.unsent < 2 ^ 59 }
-        ensures ok { OnOk result
+        ensures takes { OnOk result
             (TakesOneMore self.old
             (receiver_at receiver.now) submessage.now moves.old.items sent.old self.new
             moves.new.items sent.new) }
-        ensures err { OnErr result
-            (StandsAsWell self.old self.new × (moves.new.items ≡ moves.old.items)
-            × (sent.new ≡ sent.old)) }
-        ensures memory { IfErr result (λ code. code ≡ Memory) }
-        ensures prefix { self.new.prefix ≡ self.old.prefix }
-        ensures few { sent.new.unsent ≤ sent.old.unsent + 2 ^ 16 }
-        ensures messages { AreMessages sent.old.packets.items → AreMessages sent.new.packets.items }
+        ensures keeps { KeepsPeer (2 ^ 16) self.old moves.old.items sent.old self.new
+            moves.new.items sent.new result }
     {
         match submessage {
             Submessage::AckNack(body) => self.take_acknack(moves, sent, receiver, body),

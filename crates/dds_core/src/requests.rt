@@ -2,12 +2,11 @@
 //!
 //! RTPS 2.5, 8.4.9 (the behaviour of a reliable StatefulWriter).
 
-ghost use Rattle.std.specs.Prelude.{◌≡◌, ◌+◌, ◌^◌, ◌<◌, ◌≤◌, ℕ, Some, length, slice_get, vec_len, vec_capacity, IfSome, IfNone, IfErr, IsTrue, ◌↔◌, OnOk, OnErr};
-ghost use Rattle.dds_base.specs.declared.code.Code.TheVariants.{Memory};
+ghost use Rattle.std.specs.Prelude.{◌≡◌, ◌+◌, ◌^◌, ◌<◌, ◌≤◌, ℕ, Some, length, slice_get, vec_len, vec_capacity, IfSome, IfNone, IsTrue, ◌↔◌, OnOk};
 ghost use Rattle.rtps_wire.specs.declared.submessage.Submessage.TheVariants as submessage;
 ghost use Rattle.dds_core.specs.Answering.{HasRoom, HaveRoom, IsWriterOf, TakesRow, TakesAllRows};
 ghost use Rattle.dds_core.specs.Kept.{WriterKept};
-ghost use Rattle.dds_core.specs.Receiving.{receiver_at, TakesOneMore, StandsAsWell};
+ghost use Rattle.dds_core.specs.Receiving.{receiver_at, TakesOneMore, KeepsPeer};
 ghost use Rattle.dds_core.specs.Sending.{AreMessages};
 
 use crate::answering::Room;
@@ -117,17 +116,12 @@ impl Peer {
     ) -> Result<(), Code>
         requires base { 1 ≤ body.now.reader_sn_state.base }
         requires low { sent.old.unsent < 2 ^ 59 }
-        ensures ok { OnOk result
+        ensures takes { OnOk result
             (TakesOneMore self.old (receiver_at receiver.now)
             (submessage.AckNack body.now) moves.old.items sent.old self.new moves.new.items
             sent.new) }
-        ensures err { OnErr result
-            (StandsAsWell self.old self.new × (moves.new.items ≡ moves.old.items)
-            × (sent.new ≡ sent.old)) }
-        ensures memory { IfErr result (λ code. code ≡ Memory) }
-        ensures prefix { self.new.prefix ≡ self.old.prefix }
-        ensures few { sent.new.unsent ≤ sent.old.unsent + 2 ^ 16 }
-        ensures messages { AreMessages sent.old.packets.items → AreMessages sent.new.packets.items }
+        ensures keeps { KeepsPeer (2 ^ 16) self.old moves.old.items sent.old self.new
+            moves.new.items sent.new result }
     {
         let Some(index) = self.writer_of(&body.writer_id) else {
             return Ok(());

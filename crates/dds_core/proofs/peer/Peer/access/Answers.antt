@@ -7,7 +7,7 @@ returns-clause-step c = λ config peer given.
     let within : c.in-Some.index < length c.self.inside.readers.items = search rules in
     let done = c.access-samples in
     accessed_at c.in-Some.index c.index_mut.result.now done.new.self config peer c.self.view_is given
-    (is_access c.args.kind peer.part c.args.reader c.args.selection) c.in-Some.ensures.0 within
+    (is_access c.args.kind peer.part c.args.reader c.args.selection) c.in-Some.ensures.index.0 within
     c.index_mut.ensures.value
     done.ensures.same done.result done.ensures.answer done.ensures.after _ _ c.answered.ensures
     c.reply_to_access.ensures

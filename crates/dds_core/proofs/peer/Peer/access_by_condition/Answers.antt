@@ -11,7 +11,7 @@ returns-clause-step g c = λ config peer given.
     accessed_at c.in-Some.index c.index_mut.result.now done.new.self config peer c.self.view_is given
     (is_access_by c.args.kind (g.T.Filters.meaning c.args.filters.now) peer.part c.args.reader c.args.scope
     c.args.condition
-    c.in-Ok.asked (c.in-Ok.ensures config peer given)) c.in-Some.ensures.0 within c.index_mut.ensures.value
+    c.in-Ok.asked (c.in-Ok.ensures config peer given)) c.in-Some.ensures.index.0 within c.index_mut.ensures.value
     done.ensures.same done.result done.ensures.answer done.ensures.after _ _ c.answered.ensures
     c.reply_to_access.ensures
 

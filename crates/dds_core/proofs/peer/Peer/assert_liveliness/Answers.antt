@@ -23,7 +23,7 @@ returns-in-Ok-clause-step c = λ config peer given.
     let at : slice_get c.self.inside.writers.items i ≡ Some c.index_mut.result.now =
     slice_get-get_or c.self.inside.writers.items i _ within
     ∙ ap (λ (x : WriterKept). Some x) (sym c.index_mut.ensures.value) in
-    asserts_at _ c.args.writer i c.index_mut.result.now c.assert.new.self config peer s c.in-Some.ensures.0 at within
+    asserts_at _ c.args.writer i c.index_mut.result.now c.assert.new.self config peer s c.in-Some.ensures.index.0 at within
     c.in-Ok.ensures.ok _ _ (told c)
 
 pub returns-in-Ok-clause-sends : goal.returns-in-Ok-clause-sends
@@ -34,7 +34,7 @@ returns-in-Ok-clause-sends c = λ config peer given.
     let at : slice_get c.self.inside.writers.items i ≡ Some c.index_mut.result.now =
     slice_get-get_or c.self.inside.writers.items i _ within
     ∙ ap (λ (x : WriterKept). Some x) (sym c.index_mut.ensures.value) in
-    asserts_sends _ c.args.writer i c.index_mut.result.now config peer s c.in-Some.ensures.0 at _ _ (told c)
+    asserts_sends _ c.args.writer i c.index_mut.result.now config peer s c.in-Some.ensures.index.0 at _ _ (told c)
 
 pub returns-in-Err-clause-step : goal.returns-in-Err-clause-step
 returns-in-Err-clause-step c = λ config peer given.
@@ -46,4 +46,4 @@ returns-in-Err-clause-step c = λ config peer given.
     ∙ ap (λ (x : WriterKept). Some x) (sym c.index_mut.ensures.value) in
     follows_as _ config peer _ _ _ c.refused-in-Err.ensures
     (refuses_at _ c.args.writer i c.index_mut.result.now c.assert.new.self c.in-Err.code config peer s
-    c.in-Some.ensures.0 at within c.in-Err.ensures.refused c.in-Err.ensures.err)
+    c.in-Some.ensures.index.0 at within c.in-Err.ensures.refused c.in-Err.ensures.err)

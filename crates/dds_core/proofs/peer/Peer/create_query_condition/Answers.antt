@@ -19,7 +19,7 @@ returns-clause-step c = λ config peer given.
     let s = still_stands c.self.view_is given in
     let within : c.in-Some._reader < length c.self.inside.readers.items = search rules in
     let known : has_element peer.part.dds.readers c.args.reader ≡ true =
-    known_end peer.part.dds.readers c.args.reader c.in-Some._reader _ c.in-Some.ensures.0 within s.readers.count in
+    known_end peer.part.dds.readers c.args.reader c.in-Some._reader _ c.in-Some.ensures.index.0 within s.readers.count in
     let here : has_filter c.self.inside.watch c.args.filter ≡ true = search rules in
     let there : has_filter peer.part.dds.watch c.args.filter ≡ true =
     ap (λ (w : Watched). has_filter w c.args.filter) s.watch ∙ here in

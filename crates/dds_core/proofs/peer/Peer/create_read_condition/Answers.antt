@@ -19,7 +19,7 @@ returns-clause-step c = λ config peer given.
     let s = still_stands c.self.view_is given in
     let within : c.in-Some._index < length c.self.inside.readers.items = search rules in
     let known : has_element peer.part.dds.readers c.args.reader ≡ true =
-    known_end peer.part.dds.readers c.args.reader c.in-Some._index _ c.in-Some.ensures.0 within s.readers.count in
+    known_end peer.part.dds.readers c.args.reader c.in-Some._index _ c.in-Some.ensures.index.0 within s.readers.count in
     follows_as _ config peer _ _ _ c.answered.ensures
     (given_in_memory (λ n. Created n) made_reply (λ n. refl) (λ code. refl) (λ w. number_refusal w.conditions)
     (λ w. length w.conditions + 1) (λ w. with_condition w (Samples c.args.reader c.args.masks None)) _

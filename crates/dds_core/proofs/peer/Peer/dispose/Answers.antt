@@ -12,7 +12,7 @@ returns-clause-step c = λ config peer s.
     subst (λ (v : List ℕ). Makes c.args.self.now c.in-Some.index kind.Dispose c.args.key v c.make.result
     c.make.new.self) (c.from_vec-none.ensures.octets ∙ c.new.ensures.items) c.make.ensures.makes in
     let makes =
-    dispose_at c.args.self.now c.args.writer c.in-Some.index c.args.key config peer s c.in-Some.ensures.0
+    dispose_at c.args.self.now c.args.writer c.in-Some.index c.args.key config peer s c.in-Some.ensures.index.0
     (search rules) in
     made_steps c.args.self.now c.make.new.self config peer s
     (call.Dispose c.args.writer c.args.key) _ _ c.make.result makes (made config peer s)
@@ -23,7 +23,7 @@ returns-clause-sends c = λ config peer s.
     subst (λ (v : List ℕ). Makes c.args.self.now c.in-Some.index kind.Dispose c.args.key v c.make.result
     c.make.new.self) (c.from_vec-none.ensures.octets ∙ c.new.ensures.items) c.make.ensures.makes in
     let makes =
-    dispose_at c.args.self.now c.args.writer c.in-Some.index c.args.key config peer s c.in-Some.ensures.0
+    dispose_at c.args.self.now c.args.writer c.in-Some.index c.args.key config peer s c.in-Some.ensures.index.0
     (search rules) in
     made_sends c.make.new.self config peer (call.Dispose c.args.writer c.args.key) _ _ c.make.result makes
     (made config peer s)

@@ -20,7 +20,7 @@ returns-in-Some-key_value-clause-step c = λ config peer given.
     (event.Call (call.GetKeyValue c.args.reader c.args.instance)) c.answered.result) c.self.view_is
     (follows_as _ config peer _ _ _ c.answered.ensures
     (key_told _ config peer c.args.reader i c.index.result.now c.args.instance c.in-Some-key_value.key s
-    c.in-Some.ensures.0 within at c.in-Some-key_value.ensures))
+    c.in-Some.ensures.index.0 within at c.in-Some-key_value.ensures))
 
 pub returns-in-None-clause-step : goal.returns-in-None-clause-step
 returns-in-None-clause-step c = λ config peer given.
@@ -33,5 +33,5 @@ returns-in-None-clause-step c = λ config peer given.
     subst (λ (k : PeerKept). Follows k config peer
     (event.Call (call.GetKeyValue c.args.reader c.args.instance)) c.refused-in-None.result) c.self.view_is
     (follows_as _ config peer _ _ _ c.refused-in-None.ensures
-    (key_not_told _ config peer c.args.reader i c.index.result.now c.args.instance s c.in-Some.ensures.0 within at
+    (key_not_told _ config peer c.args.reader i c.index.result.now c.args.instance s c.in-Some.ensures.index.0 within at
     c.in-None.ensures))

@@ -11,6 +11,6 @@ returns-clause-step c = λ config peer given.
     (looked_at_liveliness _ c.args.reader c.in-Some.index c.index_mut.result.now
     c.get_liveliness_changed-status.new.self
     c.get_liveliness_changed-status.result c.get_liveliness_changed-status.new.self.seen config peer
-    (still_stands c.self.view_is given) c.in-Some.ensures.0 within
+    (still_stands c.self.view_is given) c.in-Some.ensures.index.0 within
     (slice_get_read _ _ _ _ refl within c.index_mut.ensures.value) c.get_liveliness_changed-status.ensures.status
     c.get_liveliness_changed-status.ensures.seen)

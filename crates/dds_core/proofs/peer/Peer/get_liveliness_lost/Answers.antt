@@ -15,5 +15,5 @@ returns-clause-step c = λ config peer given.
     ∙ ap (λ (x : WriterKept). Some x) (sym c.index_mut.ensures.value) in
     follows_as _ config peer _ _ _ c.answered.ensures
     (looks_at _ c.args.writer i c.index_mut.result.now c.get_liveliness_lost-status.new.self
-    c.get_liveliness_lost-status.result config peer s c.in-Some.ensures.0 at within
+    c.get_liveliness_lost-status.result config peer s c.in-Some.ensures.index.0 at within
     c.get_liveliness_lost-status.ensures.status c.get_liveliness_lost-status.ensures.enters)

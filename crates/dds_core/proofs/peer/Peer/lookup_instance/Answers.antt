@@ -20,4 +20,4 @@ returns-clause-step c = λ config peer given.
     (event.Call (call.LookupInstance c.args.reader c.args.key)) c.answered.result) c.self.view_is
     (follows_as _ config peer _ _ _ c.answered.ensures
     (handle_told _ config peer c.args.reader i c.index.result.now c.args.key c.lookup-handle.result s
-    c.in-Some.ensures.0 within at c.lookup-handle.ensures))
+    c.in-Some.ensures.index.0 within at c.lookup-handle.ensures))

@@ -10,7 +10,7 @@ pub returns-in_default-row_among : goal.returns-in_default-row_among
 returns-in_default-row_among c = record {
   pair = λ config peer given.
       let within : c.in-Some.index < length c.self.inside.writers.items = search rules in
-      not_among _ c.in-Some.index c.args.writer c.index-end.result.now c.args.reader c.in-Some.ensures.0
+      not_among _ c.in-Some.index c.args.writer c.index-end.result.now c.args.reader c.in-Some.ensures.index.0
       (slice_get_read _ _ _ _ refl within c.index-end.ensures)
       (λ j n there. c.in_default-row_among.ensures j n
       (subst (λ (ns : List ReaderName). slice_get ns j ≡ Some n) (sym c.readers.ensures) there))
@@ -39,7 +39,7 @@ returns c = record {
       ∙ same_Some (get_or k.readers row no_name) first.name
       (sym (slice_get-get_or k.readers row no_name first.within) ∙ first.at) in
       let pair =
-      is_among _ c.in-Some.index c.args.writer k c.args.reader row c.is_behind.result c.last.result c.in-Some.ensures.0
+      is_among _ c.in-Some.index c.args.writer k c.args.reader row c.is_behind.result c.last.result c.in-Some.ensures.index.0
       (slice_get_read _ _ _ _ refl within c.index-end.ensures) first c.is_behind.ensures.behind c.last.ensures
       config peer (still_stands c.self.view_is given) in
       (pair.0, c.entity.ensures ∙ pair.1, ap (λ (n : ReaderName). n.guid.entity) name ∙ pair.2, pair.3, pair.4);

@@ -15,4 +15,4 @@ returns-in-Ok-clause-step c = λ config peer given.
     ∙ ap (λ (x : WriterKept). Some x) (sym c.index_mut.ensures.value) in
     follows_as _ config peer _ _ _ c.answered.ensures
     (register_at _ c.args.writer i c.index_mut.result.now c.register.new.self c.args.key config peer s
-    c.in-Some.ensures.0 at within c.in-Ok.ensures.ok)
+    c.in-Some.ensures.index.0 at within c.in-Ok.ensures.ok)

@@ -19,7 +19,7 @@ returns-in-Some c = λ config peer given.
     in
     c.status_changes.ensures (own_writer peer.part (suc i)) (peer.known.answered (suc i))
     (s.writers.each i c.index.result.now at)
-    ∙ (ap (λ (n : ℕ). writer_statuses (own_writer peer.part n)) (number_is c.in-Writer.number i c.in-Some.ensures.0)
+    ∙ (ap (λ (n : ℕ). writer_statuses (own_writer peer.part n)) (number_is c.in-Writer.number i c.in-Some.ensures.index.0)
     ∙ ap (λ (e : Entity). status_changes peer.part e) (sym c.in-Writer.is))
 
 pub returns-in-Some-index_of : goal.returns-in-Some-index_of
@@ -32,5 +32,5 @@ returns-in-Some-index_of c = λ config peer given.
     ∙ ap (λ (x : ReaderKept). Some x) (sym c.index-in-Some-index_of.ensures) in
     c.status_changes-in-Some-index_of.ensures _ _ _ (s.readers.each i c.index-in-Some-index_of.result.now at)
     ∙ (ap (λ (n : ℕ). reader_statuses (own_reader peer.part n))
-    (number_is c.in-Reader.number i c.in-Some-index_of.ensures.0)
+    (number_is c.in-Reader.number i c.in-Some-index_of.ensures.index.0)
     ∙ ap (λ (e : Entity). status_changes peer.part e) (sym c.in-Reader.is))

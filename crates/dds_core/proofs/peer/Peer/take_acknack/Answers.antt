@@ -10,8 +10,10 @@ use Rattle.dds_core.proofs.Lists.{get-within}
 use Rattle.dds_core.proofs.Requesting.{have_room, no_writer_takes, writer_takes}
 use Rattle.dds_core.proofs.peer.Peer.take_acknack.Goals as goal
 
-pub returns-in_default-clause-ok : goal.returns-in_default-clause-ok
-returns-in_default-clause-ok c = no_writer_takes c.args.self.now c.args.body.now (receiver_at c.args.receiver.now) c.args.moves.now.items c.args.sent.now c.in_default.ensures.none
+pub returns-in_default-clause-takes : goal.returns-in_default-clause-takes
+returns-in_default-clause-takes c =
+    no_writer_takes c.args.self.now c.args.body.now
+    (receiver_at c.args.receiver.now) c.args.moves.now.items c.args.sent.now c.in_default.ensures.none
 
 pub index-requires : goal.index-requires
 index-requires c =
@@ -21,27 +23,54 @@ index-requires c =
     omega (arith, lt, same)
 
 -- the writer that was found is the one that is looked at
-is_found : {kept inside : PeerKept} {now : WriterKept} (i : ℕ) (k d : WriterKept) → inside ≡ kept → slice_get kept.writers i ≡ Some k → now ≡ get_or inside.writers i d → now ≡ k
-is_found {kept} {inside} {now} i k d view at is = is ∙ get_or_from_slice_get inside.writers i k d (subst (λ (x : PeerKept). slice_get x.writers i ≡ Some k) (sym view) at)
+is_found : {kept inside : PeerKept} {now : WriterKept} (i : ℕ) (k d : WriterKept) → inside ≡ kept
+    → slice_get kept.writers i ≡ Some k → now ≡ get_or inside.writers i d → now ≡ k
+is_found {kept} {inside} {now} i k d view at is =
+    is ∙ get_or_from_slice_get inside.writers i k d
+    (subst (λ (x : PeerKept). slice_get x.writers i ≡ Some k) (sym view) at)
 
 pub answer_rows-requires-clause-within : goal.answer_rows-requires-clause-within
 answer_rows-requires-clause-within c =
-    let found = c.in-Some.ensures.found in (found.writer, found.at, c.in_ok-rooms.ensures.rooms.count ∙ ap (λ (k : WriterKept). length k.readers) (is_found c.in-Some.index found.writer _ c.self.view_is found.at c.index.ensures))
+    let found =
+    c.in-Some.ensures.found in (
+      found.writer,
+      found.at,
+      c.in_ok-rooms.ensures.rooms.count
+          ∙ ap (λ (k : WriterKept). length k.readers)
+          (is_found c.in-Some.index found.writer _ c.self.view_is found.at c.index.ensures),
+    )
 
 pub answer_rows-requires-clause-rooms : goal.answer_rows-requires-clause-rooms
-answer_rows-requires-clause-rooms c = have_room _ _ (receiver_at c.args.receiver.now) c.args.body.now _ c.in_ok-rooms.rooms.items c.in_ok-rooms.ensures.rooms
+answer_rows-requires-clause-rooms c =
+    have_room _ _ (receiver_at c.args.receiver.now) c.args.body.now _ c.in_ok-rooms.rooms.items
+    c.in_ok-rooms.ensures.rooms
 
-pub returns-clause-ok : goal.returns-clause-ok
-returns-clause-ok c =
+pub returns-clause-takes : goal.returns-clause-takes
+returns-clause-takes c =
     let found = c.in-Some.ensures.found in
     let at = receiver_at c.args.receiver.now in
     let is = is_found c.in-Some.index found.writer _ c.self.view_is found.at c.index.ensures in
-    let are : AreRooms c.args.self.now.prefix found.writer.entity at c.args.body.now found.writer.readers c.in_ok-rooms.rooms.items =
-    subst (λ (p : GuidPrefix). AreRooms p found.writer.entity at c.args.body.now found.writer.readers c.in_ok-rooms.rooms.items) (ap (λ (k : PeerKept). k.prefix) c.self.view_is)
-    (subst (λ (k : WriterKept). AreRooms c.self.inside.prefix k.entity at c.args.body.now k.readers c.in_ok-rooms.rooms.items) is c.in_ok-rooms.ensures.rooms) in
-    subst (λ (ms : List Move). TakesOneMore c.args.self.now at (AckNack c.args.body.now) ms c.args.sent.now c.answer_rows.new.self c.answer_rows.new.moves.items c.answer_rows.new.sent) c.in_ok-reserve.ensures.items
-    (writer_takes c.args.self.now c.answer_rows.new.self c.in-Some.index c.args.body.now found.writer c.in_ok-rooms.rooms.items at c.reserve.new.self.items c.answer_rows.new.moves.items c.args.sent.now c.answer_rows.new.sent found.at found.is are
+    let are : AreRooms c.args.self.now.prefix found.writer.entity at c.args.body.now found.writer.readers
+    c.in_ok-rooms.rooms.items =
+    subst (λ (p : GuidPrefix). AreRooms p found.writer.entity at c.args.body.now found.writer.readers
+    c.in_ok-rooms.rooms.items) (ap (λ (k : PeerKept). k.prefix) c.self.view_is)
+    (subst (λ (k : WriterKept). AreRooms c.self.inside.prefix k.entity at c.args.body.now k.readers
+    c.in_ok-rooms.rooms.items) is c.in_ok-rooms.ensures.rooms) in
+    subst (λ (ms : List Move). TakesOneMore c.args.self.now at
+    (AckNack c.args.body.now) ms c.args.sent.now c.answer_rows.new.self c.answer_rows.new.moves.items
+    c.answer_rows.new.sent) c.in_ok-reserve.ensures.items
+    (writer_takes c.args.self.now c.answer_rows.new.self c.in-Some.index c.args.body.now found.writer
+    c.in_ok-rooms.rooms.items at c.reserve.new.self.items c.answer_rows.new.moves.items c.args.sent.now
+    c.answer_rows.new.sent found.at found.is are
     (c.answer_rows.ensures.takes found.writer found.at))
 
-pub returns-clause-prefix : goal.returns-clause-prefix
-returns-clause-prefix c = let found = c.in-Some.ensures.found in (c.answer_rows.ensures.takes found.writer found.at).prefix
+pub returns-clause-keeps : goal.returns-clause-keeps
+returns-clause-keeps c =
+    let found = c.in-Some.ensures.found in
+    record {
+      prefix = (c.answer_rows.ensures.takes found.writer found.at).prefix;
+      few = c.answer_rows.ensures.few;
+      messages = c.answer_rows.ensures.messages;
+      err = tt;
+      memory = tt;
+    }

@@ -14,7 +14,10 @@ use Rattle.dds_core.proofs.peer.Peer.take_message.Goals as goal
 
 pub loop-index-init : goal.loop-index-init
 loop-index-init c = record {
-  taken = takes_none c.args.self.now c.args.message.now (receiver_at c.receiver_for-receiver.result) c.new-moves.result.items c.args.sent.now c.receiver_for-receiver.ensures c.new-moves.ensures.items c.requires.none c.requires.zero;
+  taken =
+      takes_none c.args.self.now c.args.message.now
+      (receiver_at c.receiver_for-receiver.result) c.new-moves.result.items c.args.sent.now
+      c.receiver_for-receiver.ensures c.new-moves.ensures.items c.requires.none c.requires.zero;
   few = let none = c.requires.zero in omega (arith, none);
   messages = no_messages c.args.sent.now.packets.items c.requires.none;
   same = refl;
@@ -29,10 +32,17 @@ returns-in-Err-clause-takes c =
     let within : i < length c.args.message.now.submessages = omega arith in
     let here = drop_at c.args.message.now.submessages i c.submessage-item.result within in
     let report : Report = record { moves = c.from_vec.result; refused = Some i } in
-    let same_moves : c.from_vec.result ≡ c.loop-index.moves.items = c.from_vec.ensures.elements ∙ c.in-Err.ensures.err.1 in
-    let taken : TakesTo c.args.self.now c.args.message.now i (receiver_at c.loop-index.receiver) c.from_vec.result c.loop-index.self c.loop-index.sent =
-    subst (λ (ms : List Move). TakesTo c.args.self.now c.args.message.now i (receiver_at c.loop-index.receiver) ms c.loop-index.self c.loop-index.sent) (sym same_moves) c.loop-index.invariant.taken in
-    takes_some c.args.self.now c.loop-index.self c.take_submessage.new.self c.args.message.now i (receiver_at c.loop-index.receiver) (get_or c.args.message.now.submessages i c.submessage-item.result) report c.loop-index.sent c.take_submessage.new.sent taken c.in-Err.ensures.err.0 c.in-Err.ensures.err.2 here refl
+    let same_moves : c.from_vec.result ≡ c.loop-index.moves.items =
+    c.from_vec.ensures.elements ∙ c.in-Err.ensures.keeps.err.1 in
+    let taken : TakesTo c.args.self.now c.args.message.now i
+    (receiver_at c.loop-index.receiver) c.from_vec.result c.loop-index.self c.loop-index.sent =
+    subst (λ (ms : List Move). TakesTo c.args.self.now c.args.message.now i
+    (receiver_at c.loop-index.receiver) ms c.loop-index.self c.loop-index.sent)
+    (sym same_moves) c.loop-index.invariant.taken in
+    takes_some c.args.self.now c.loop-index.self c.take_submessage.new.self c.args.message.now i
+    (receiver_at c.loop-index.receiver)
+    (get_or c.args.message.now.submessages i c.submessage-item.result) report c.loop-index.sent
+    c.take_submessage.new.sent taken c.in-Err.ensures.keeps.err.0 c.in-Err.ensures.keeps.err.2 here refl
 
 pub loop-index-preserved : goal.loop-index-preserved
 loop-index-preserved c =
@@ -40,20 +50,35 @@ loop-index-preserved c =
     let whole = c.loop-index.invariant.whole in
     let count = ap (λ (ss : List Submessage). length ss) whole in
     let within : i < length c.args.message.now.submessages = omega arith in
-    let item : get_or c.args.message.now.submessages i c.submessage-item.result ≡ c.submessage-item.result = ap (λ (ss : List Submessage). get_or ss i c.submessage-item.result) (sym whole) ∙ sym c.submessage-item.is in
-    let here : drop i c.args.message.now.submessages ≡ c.submessage-item.result ∷ drop (i + 1) c.args.message.now.submessages =
-    drop_at c.args.message.now.submessages i c.submessage-item.result within ∙ ap (λ (s : Submessage). s ∷ drop (i + 1) c.args.message.now.submessages) item in
-    let prefix : c.take_submessage.new.self.prefix ≡ c.args.self.now.prefix = c.take_submessage.ensures.prefix ∙ c.loop-index.invariant.same in
-    let own : c.self-in-loop-index.inside.prefix ≡ c.args.self.now.prefix = ap (λ (k : PeerKept). k.prefix) c.self-in-loop-index.view_is ∙ prefix in
-    let at : receiver_at c.receiver_after-receiver.result ≡ after_submessage c.args.self.now.prefix (receiver_at c.loop-index.receiver) c.submessage-item.result =
-    c.receiver_after-receiver.ensures ∙ ap (λ (p : GuidPrefix). after_submessage p (receiver_at c.loop-index.receiver) c.submessage-item.result) own in
-    let taken = takes_more c.args.self.now c.loop-index.self c.take_submessage.new.self c.args.message.now i (receiver_at c.loop-index.receiver) c.submessage-item.result c.loop-index.moves.items c.take_submessage.new.moves.items c.loop-index.sent c.take_submessage.new.sent c.loop-index.invariant.taken here c.loop-index.invariant.same c.in-Ok.ensures.ok in
+    let item : get_or c.args.message.now.submessages i c.submessage-item.result ≡ c.submessage-item.result =
+    ap (λ (ss : List Submessage). get_or ss i c.submessage-item.result) (sym whole) ∙ sym c.submessage-item.is in
+    let here : drop i c.args.message.now.submessages
+    ≡ c.submessage-item.result ∷ drop (i + 1) c.args.message.now.submessages =
+    drop_at c.args.message.now.submessages i c.submessage-item.result within
+    ∙ ap (λ (s : Submessage). s ∷ drop (i + 1) c.args.message.now.submessages) item in
+    let prefix : c.take_submessage.new.self.prefix ≡ c.args.self.now.prefix =
+    c.take_submessage.ensures.keeps.prefix ∙ c.loop-index.invariant.same in
+    let own : c.self-in-loop-index.inside.prefix ≡ c.args.self.now.prefix =
+    ap (λ (k : PeerKept). k.prefix) c.self-in-loop-index.view_is ∙ prefix in
+    let at : receiver_at c.receiver_after-receiver.result
+    ≡ after_submessage c.args.self.now.prefix (receiver_at c.loop-index.receiver) c.submessage-item.result =
+    c.receiver_after-receiver.ensures
+    ∙ ap (λ (p : GuidPrefix). after_submessage p (receiver_at c.loop-index.receiver) c.submessage-item.result) own
+    in
+    let taken =
+    takes_more c.args.self.now c.loop-index.self c.take_submessage.new.self c.args.message.now i
+    (receiver_at c.loop-index.receiver) c.submessage-item.result c.loop-index.moves.items
+    c.take_submessage.new.moves.items c.loop-index.sent c.take_submessage.new.sent c.loop-index.invariant.taken here
+    c.loop-index.invariant.same c.in-Ok.ensures.takes in
     let few = c.loop-index.invariant.few in
-    let more = c.take_submessage.ensures.few in
+    let more = c.take_submessage.ensures.keeps.few in
     record {
-      taken = subst (λ (r : Receiver). TakesTo c.args.self.now c.args.message.now (i + 1) r c.take_submessage.new.moves.items c.take_submessage.new.self c.take_submessage.new.sent) (sym at) taken;
+      taken =
+          subst (λ (r : Receiver). TakesTo c.args.self.now c.args.message.now
+          (i + 1) r c.take_submessage.new.moves.items c.take_submessage.new.self c.take_submessage.new.sent)
+          (sym at) taken;
       few = omega (arith, few, more);
-      messages = c.take_submessage.ensures.messages c.loop-index.invariant.messages;
+      messages = c.take_submessage.ensures.keeps.messages c.loop-index.invariant.messages;
       same = prefix;
       whole = whole;
     }
@@ -64,10 +89,16 @@ returns-clause-takes c =
     let count = ap (λ (ss : List Submessage). length ss) whole in
     let end : c.loop-index.index ≡ length c.args.message.now.submessages = omega arith in
     let report : Report = record { moves = c.from_vec-2.result; refused = None } in
-    let taken : TakesTo c.args.self.now c.args.message.now (length c.args.message.now.submessages) (receiver_at c.loop-index.receiver) c.from_vec-2.result c.loop-index.self c.loop-index.sent =
-    subst (λ (n : ℕ). TakesTo c.args.self.now c.args.message.now n (receiver_at c.loop-index.receiver) c.from_vec-2.result c.loop-index.self c.loop-index.sent) end
-    (subst (λ (ms : List Move). TakesTo c.args.self.now c.args.message.now c.loop-index.index (receiver_at c.loop-index.receiver) ms c.loop-index.self c.loop-index.sent) (sym c.from_vec-2.ensures.elements) c.loop-index.invariant.taken) in
-    takes_all c.args.self.now c.loop-index.self c.args.message.now (receiver_at c.loop-index.receiver) report c.loop-index.sent taken (drop_all c.args.message.now.submessages) refl
+    let taken : TakesTo c.args.self.now c.args.message.now (length c.args.message.now.submessages)
+    (receiver_at c.loop-index.receiver) c.from_vec-2.result c.loop-index.self c.loop-index.sent =
+    subst (λ (n : ℕ). TakesTo c.args.self.now c.args.message.now n
+    (receiver_at c.loop-index.receiver) c.from_vec-2.result c.loop-index.self c.loop-index.sent) end
+    (subst (λ (ms : List Move). TakesTo c.args.self.now c.args.message.now c.loop-index.index
+    (receiver_at c.loop-index.receiver) ms c.loop-index.self c.loop-index.sent)
+    (sym c.from_vec-2.ensures.elements) c.loop-index.invariant.taken) in
+    takes_all c.args.self.now c.loop-index.self c.args.message.now
+    (receiver_at c.loop-index.receiver) report c.loop-index.sent taken
+    (drop_all c.args.message.now.submessages) refl
 
 pub take_submessage-requires-clause-bounded : goal.take_submessage-requires-clause-bounded
 take_submessage-requires-clause-bounded c =
@@ -77,4 +108,5 @@ take_submessage-requires-clause-bounded c =
     let within : i < length c.args.message.now.submessages = omega arith in
     c.requires.bounded i c.submessage-item.result
     (slice_get-get_or c.args.message.now.submessages i c.submessage-item.result within
-    ∙ ap (λ (s : Submessage). Some s) (ap (λ (ss : List Submessage). get_or ss i c.submessage-item.result) (sym whole) ∙ sym c.submessage-item.is))
+    ∙ ap (λ (s : Submessage). Some s) (ap (λ (ss : List Submessage). get_or ss i c.submessage-item.result) (sym whole)
+    ∙ sym c.submessage-item.is))

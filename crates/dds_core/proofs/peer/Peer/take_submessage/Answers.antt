@@ -5,11 +5,19 @@ use Rattle.dds_core.proofs.peer.Peer.take_submessage.Goals as goal
 
 pub returns-in_default : goal.returns-in_default
 returns-in_default c = record {
-  ok = readers_take_if c.tell_readers.result c.args.self.now c.tell_readers.new.self (receiver_at c.args.receiver.now) c.args.submessage.now c.args.moves.now.items c.tell_readers.new.moves.items c.args.sent.now c.tell_readers.new.sent (λ a is. c.in_default.not-AckNack a is)
-      c.tell_readers.ensures.ok;
-  err = c.tell_readers.ensures.err;
-  memory = c.tell_readers.ensures.memory;
-  prefix = c.tell_readers.ensures.prefix;
-  few = let few = c.tell_readers.ensures.few in omega (arith, few);
-  messages = c.tell_readers.ensures.messages;
+  takes =
+      readers_take_if c.tell_readers.result c.args.self.now c.tell_readers.new.self
+      (receiver_at c.args.receiver.now) c.args.submessage.now c.args.moves.now.items c.tell_readers.new.moves.items
+      c.args.sent.now c.tell_readers.new.sent (λ a is. c.in_default.not-AckNack a is)
+      c.tell_readers.ensures.takes;
+  keeps =
+      let k = c.tell_readers.ensures.keeps in
+      let few = k.few in
+      record {
+        prefix = k.prefix;
+        few = omega (arith, few);
+        messages = k.messages;
+        err = k.err;
+        memory = k.memory;
+      };
 }

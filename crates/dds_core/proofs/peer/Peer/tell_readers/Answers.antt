@@ -7,13 +7,19 @@ use Rattle.dds_core.proofs.peer.Peer.tell_readers.Goals as goal
 
 pub take_all-requires-clause-can : goal.take_all-requires-clause-can
 take_all-requires-clause-can c =
-    all_can c.args.self.now.prefix (receiver_at c.args.receiver.now) c.args.submessage.now c.make_ready.new.self.readers c.in_ok-ready.ready.items c.requires.bounded c.in_ok-ready.ensures.ready
+    all_can c.args.self.now.prefix (receiver_at c.args.receiver.now) c.args.submessage.now c.make_ready.new.self.readers
+    c.in_ok-ready.ready.items c.requires.bounded c.in_ok-ready.ensures.ready
 
 pub take_all-requires-clause-count : goal.take_all-requires-clause-count
 take_all-requires-clause-count c = c.in_ok-ready.ensures.ready.count
 
-pub returns-clause-ok : goal.returns-clause-ok
-returns-clause-ok c =
-    subst (λ (ms : List Move). TellsReaders c.args.self.now (receiver_at c.args.receiver.now) c.args.submessage.now ms c.args.sent.now c.take_all.new.self c.take_all.new.moves.items c.take_all.new.sent) c.in_ok-reserve.ensures.items
-    (tells_readers c.args.self.now c.make_ready.new.self c.take_all.new.self (receiver_at c.args.receiver.now) c.args.submessage.now c.in_ok-ready.ready.items c.reserve.new.self.items c.take_all.new.moves.items c.args.sent.now c.take_all.new.sent
-    c.in_ok-ready.ensures.stands c.in_ok-ready.ensures.prefix c.in_ok-ready.ensures.ready c.take_all.ensures.takes c.in_ok-ready.ensures.count)
+pub returns-clause-takes : goal.returns-clause-takes
+returns-clause-takes c =
+    subst (λ (ms : List Move). TellsReaders c.args.self.now
+    (receiver_at c.args.receiver.now) c.args.submessage.now ms c.args.sent.now c.take_all.new.self
+    c.take_all.new.moves.items c.take_all.new.sent) c.in_ok-reserve.ensures.items
+    (tells_readers c.args.self.now c.make_ready.new.self c.take_all.new.self
+    (receiver_at c.args.receiver.now) c.args.submessage.now c.in_ok-ready.ready.items c.reserve.new.self.items
+    c.take_all.new.moves.items c.args.sent.now c.take_all.new.sent
+    c.in_ok-ready.ensures.stands c.in_ok-ready.ensures.prefix c.in_ok-ready.ensures.ready c.take_all.ensures.takes
+    c.in_ok-ready.ensures.count)

@@ -36,7 +36,7 @@ unregisters c =
     let makes =
     λ (config : Config) (peer : Peer)
     (s : StandsFor c.args.self.now config peer). unregister_at c.args.self.now c.args.writer i c.index.result.now
-    c.args.key c.unregister_kind-kind.result config peer s c.in-Some.ensures.0 within at
+    c.args.key c.unregister_kind-kind.result config peer s c.in-Some.ensures.index.0 within at
     (λ w answered stands. sym (c.is_registered.ensures w answered stands) ∙ c.if-not-is_registered.false)
     (λ w answered stands. c.unregister_kind-kind.ensures w answered
     (subst (λ (k : WriterKept). WriterStands k w answered) (sym one) stands)) in (
@@ -57,7 +57,7 @@ returns-then-not-is_registered-clause-step c = λ config peer s.
     let at : slice_get c.args.self.now.writers i ≡ Some c.index.result.now =
     subst (λ (k : PeerKept). slice_get k.writers i ≡ Some c.index.result.now) c.self.view_is there in
     follows_as _ config peer _ _ _ c.refused-then-not-is_registered.ensures
-    (unregistered_at c.args.self.now c.args.writer i c.index.result.now c.args.key config peer s c.in-Some.ensures.0
+    (unregistered_at c.args.self.now c.args.writer i c.index.result.now c.args.key config peer s c.in-Some.ensures.index.0
     within at (λ w answered stands. sym (c.is_registered.ensures w answered stands) ∙ c.if-not-is_registered.true))
 
 pub returns-clause-step : goal.returns-clause-step

@@ -24,5 +24,5 @@ returns-in-Some g c = λ config peer given.
     in
     c.has_match.ensures _ _ _ (s.readers.each i c.index.result.now at)
     ∙ (ap (λ (n : ℕ). has_match (own_reader peer.part n).qos (own_reader peer.part n).happened c.in-Some-Samples.masks
-    (test_of tests c.in-Some-Samples.filter)) (number_is c.in-Some-Samples.reader i c.in-Some.ensures.0)
+    (test_of tests c.in-Some-Samples.filter)) (number_is c.in-Some-Samples.reader i c.in-Some.ensures.index.0)
     ∙ ap (λ (x : Option Condition). condition_value tests peer.part x) whole)

@@ -6,7 +6,7 @@ use Rattle.dds_core.proofs.peer.Peer.write.Goals as goal
 pub returns-clause-step : goal.returns-clause-step
 returns-clause-step c = λ config peer s.
     let makes =
-    write_at c.args.self.now c.args.writer c.in-Some.index c.args.key c.args.value config peer s c.in-Some.ensures.0
+    write_at c.args.self.now c.args.writer c.in-Some.index c.args.key c.args.value config peer s c.in-Some.ensures.index.0
     (search rules) (search rules) in
     made_steps c.args.self.now c.make.new.self config peer s
     (call.Write c.args.writer c.args.key c.args.value) _ _ c.make.result makes (c.make.ensures.makes config peer s)
@@ -14,7 +14,7 @@ returns-clause-step c = λ config peer s.
 pub returns-clause-sends : goal.returns-clause-sends
 returns-clause-sends c = λ config peer s.
     let makes =
-    write_at c.args.self.now c.args.writer c.in-Some.index c.args.key c.args.value config peer s c.in-Some.ensures.0
+    write_at c.args.self.now c.args.writer c.in-Some.index c.args.key c.args.value config peer s c.in-Some.ensures.index.0
     (search rules) (search rules) in
     made_sends c.make.new.self config peer (call.Write c.args.writer c.args.key c.args.value) _ _ c.make.result makes
     (c.make.ensures.makes config peer s)
