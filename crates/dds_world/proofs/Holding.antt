@@ -22,6 +22,7 @@ use Rattle.dds_model.specs.declared.event.Output.{Output}
 use Rattle.dds_model.specs.declared.reply.Reply.{Reply}
 use Rattle.dds_model.specs.declared.reply.Reply.TheVariants.{Refused, Reported}
 use Rattle.dds_model.specs.Filters.{peer_with_filter}
+use Rattle.dds_model.specs.Machine.{AllTests}
 use Rattle.dds_model.specs.Noticing.{peer_at_end, peer_with_place}
 use Rattle.dds_model.specs.Peer.{Peer, no_peer}
 use Rattle.dds_model.specs.Watching.{Tests}
@@ -35,12 +36,8 @@ use Rattle.dds_core.specs.Standing.{IsSound}
 use Rattle.dds_core.proofs.Lists.{map-get, map-set_same}
 use Rattle.dds_core.proofs.Results.{err_as, ok_as}
 use Rattle.dds_world.specs.Acting.{Counts, IsCopy, IsQuiet, StepsAt}
-use Rattle.dds_world.specs.Holding.{ActsIn, Adds, Held, RefusesFilter, RefusesListener, Sets, StepsIn, filters_of, kept_of, recordings, tests_by, tests_in}
-use Rattle.dds_world.specs.declared.round.Matched.{Matched}
-use Rattle.dds_world.specs.declared.round.RoundReply.{RoundReply}
-use Rattle.dds_world.specs.Repairing.{Acknowledging, Beating}
-use Rattle.dds_world.specs.Round.{AreSteps, IsStep}
-use Rattle.dds_world.specs.WorldStanding.{KeepsRules, Posts, StandsFor}
+use Rattle.dds_world.specs.Holding.{ActsIn, Adds, Held, IsOfPeer, RefusesFilter, RefusesListener, Sets, StepsIn, filters_of, kept_of, recordings, tests_by, tests_in}
+use Rattle.dds_world.specs.WorldStanding.{Posts, StandsFor}
 use Rattle.dds_world.proofs.Recorded.{are_told, stand_for}
 use Rattle.dds_world.proofs.Replaced.{peer_stands, with_peer}
 use Rattle.dds_world.proofs.Ruled.{called, delivered, not_delivered, ticked}
@@ -48,17 +45,21 @@ use Rattle.dds_world.proofs.Sends.{called_sends, delivered_sends, quiet_delivery
 use Rattle.dds_world.proofs.WorldSteps.{unknown_call, unknown_delivery, unknown_packet, unknown_tick}
 
 -- the peer of an index, among those that are kept
-pub core_kept : {F L : Type 0} (notices : L → List Notice) (capacity : L → ℕ) (inside held : Held F L) (i count : ℕ) (core : CoreKept F L) → inside ≡ held → core ≡ get_or inside.cores i core
-    → count ≡ length held.cores → i < count → slice_get (kept_of notices capacity held).peers i ≡ Some core.filtered.peer
+pub core_kept : {F L : Type 0} (notices : L → List Notice) (capacity : L → ℕ) (inside held : Held F L) (i count : ℕ)
+    (core : CoreKept F L) → inside ≡ held → core ≡ get_or inside.cores i core
+    → count ≡ length held.cores → i < count → slice_get (kept_of notices capacity held).peers i
+    ≡ Some core.filtered.peer
 core_kept {F} {L} notices capacity inside held i count core same here counted low =
     let f : CoreKept F L → PeerKept = λ c. c.filtered.peer in
     let mapped = length-map held.cores f in
     let within : i < length (map f held.cores) = omega (arith, counted, mapped, low) in
     slice_get-get_or (map f held.cores) i core.filtered.peer within
-    ∙ ap (λ (p : PeerKept). Some p) (numbered-map f held.cores (suc i) core ∙ ap f (ap (λ (h : Held F L). get_or h.cores i core) (sym same) ∙ sym here))
+    ∙ ap (λ (p : PeerKept). Some p) (numbered-map f held.cores (suc i) core
+    ∙ ap f (ap (λ (h : Held F L). get_or h.cores i core) (sym same) ∙ sym here))
 
 -- a value that is seen of each peer, at an index
-seen_at : {F L X : Type 0} (f : CoreKept F L → X) (cores : List (CoreKept F L)) (i : ℕ) (core : CoreKept F L) (d : X) → i < length cores → core ≡ get_or cores i core
+seen_at : {F L X : Type 0} (f : CoreKept F L → X) (cores : List (CoreKept F L)) (i : ℕ) (core : CoreKept F L) (d : X)
+    → i < length cores → core ≡ get_or cores i core
     → get_or (map f cores) i d ≡ f core
 seen_at f [] i core d low here = absurd (omega (arith, low))
 seen_at f (c ∷ cs) zero core d low here = ap f (sym here)
@@ -66,25 +67,33 @@ seen_at f (c ∷ cs) (suc i) core d low here = seen_at f cs i core d (omega (ari
 
 module _ {F L : Type 0} (notices : L → List Notice) (capacity : L → ℕ) where
   -- a state of the network is one of its peer
-  core_stands : (held : Held F L) (i : ℕ) (core : CoreKept F L) (config : Config) (network : WorldState) → i < length held.cores → core ≡ get_or held.cores i core
-      → StandsFor (kept_of notices capacity held) config network → CoreStands notices capacity core config (get_or network.peers i no_peer)
+  core_stands : (held : Held F L) (i : ℕ) (core : CoreKept F L) (config : Config) (network : WorldState)
+      → i < length held.cores → core ≡ get_or held.cores i core
+      → StandsFor (kept_of notices capacity held) config network
+      → CoreStands notices capacity core config (get_or network.peers i no_peer)
   core_stands held i core config network low here s =
-      let at : slice_get held.cores i ≡ Some core = slice_get-get_or held.cores i core low ∙ ap (λ (c : CoreKept F L). Some c) (sym here) in
+      let at : slice_get held.cores i ≡ Some core =
+      slice_get-get_or held.cores i core low ∙ ap (λ (c : CoreKept F L). Some c) (sym here) in
       record {
         stands = record {
           stands = s.each i core.filtered.peer (map-get (λ (c : CoreKept F L). c.filtered.peer) held.cores i core at);
-          filters = s.filters i ∙ seen_at (λ (c : CoreKept F L). length c.filtered.filters) held.cores i core 0 low here;
+          filters =
+              s.filters i ∙ seen_at (λ (c : CoreKept F L). length c.filtered.filters) held.cores i core 0 low here;
         };
         listeners = stand_for notices capacity core.listeners (get_or network.peers i no_peer).part.dds.listeners
-            (s.listeners i (recordings notices capacity core.listeners) (map-get (λ (c : CoreKept F L). recordings notices capacity c.listeners) held.cores i core at));
+            (s.listeners i (recordings notices capacity core.listeners)
+            (map-get (λ (c : CoreKept F L). recordings notices capacity c.listeners) held.cores i core at));
       }
 
   -- ---- an event of a peer
 
   -- its step, by what is kept of it
-  core_steps : (tests : Tests) (core : CoreKept F L) (ev : Event) (output : Output) (after : CoreKept F L) (count : ℕ) → count ≡ length core.filtered.filters
+  core_steps : (tests : Tests) (core : CoreKept F L) (ev : Event) (output : Output) (after : CoreKept F L) (count : ℕ)
+      → count ≡ length core.filtered.filters
       → CoreSteps notices capacity tests core ev output after
-      → StepsAt tests core.filtered.peer count (recordings notices capacity core.listeners) ev output after.filtered.peer (recordings notices capacity after.listeners)
+      → StepsAt tests core.filtered.peer count
+      (recordings notices capacity core.listeners) ev output after.filtered.peer
+      (recordings notices capacity after.listeners)
   core_steps tests core ev output after count counted h config peer s filters told sound =
       let before : CoreStands notices capacity core config peer = record {
         stands = record { stands = s; filters = filters ∙ counted };
@@ -101,19 +110,25 @@ module _ {F L : Type 0} (notices : L → List Notice) (capacity : L → ℕ) whe
       )
 
   -- it is one of the network
-  pub acts_in : (meaning : F → Key → List ℕ → Bool) (old : Held F L) (i : ℕ) (ev : Event) (core after : CoreKept F L) (output : Output) (reply : Reply) (new : Held F L)
-      → i < length old.cores → core ≡ get_or old.cores i core → CoreSteps notices capacity (tests_of meaning core.filtered.filters) core ev output after
-      → CoreSends core.filtered.peer ev output → AreMessages output.packets → reply ≡ output.reply → new.cores ≡ set old.cores i after → Posts old.sent output.packets new.sent
-      → Counts (kept_of notices capacity old) output (kept_of notices capacity new) → IsQuiet (kept_of notices capacity old) output (kept_of notices capacity new)
+  pub acts_in : (meaning : F → Key → List ℕ → Bool) (old : Held F L) (i : ℕ) (ev : Event) (core after : CoreKept F L)
+      (output : Output) (reply : Reply) (new : Held F L)
+      → i < length old.cores → core ≡ get_or old.cores i core
+      → CoreSteps notices capacity (tests_of meaning core.filtered.filters) core ev output after
+      → CoreSends core.filtered.peer ev output → AreMessages output.packets → reply ≡ output.reply
+      → new.cores ≡ set old.cores i after → Posts old.sent output.packets new.sent
+      → Counts (kept_of notices capacity old) output (kept_of notices capacity new)
+      → IsQuiet (kept_of notices capacity old) output (kept_of notices capacity new)
       → ActsIn meaning notices capacity old i ev reply new
   acts_in meaning old i ev core after output reply new low here steps sends messages replies cores posts counts quiet =
       let f : CoreKept F L → PeerKept = λ c. c.filtered.peer in
       let g : CoreKept F L → ℕ = λ c. length c.filtered.filters in
       let h : CoreKept F L → List F = λ c. c.filtered.filters in
       let k : CoreKept F L → Slotted Recording = λ c. recordings notices capacity c.listeners in
-      let at : slice_get old.cores i ≡ Some core = slice_get-get_or old.cores i core low ∙ ap (λ (c : CoreKept F L). Some c) (sym here) in
+      let at : slice_get old.cores i ≡ Some core =
+      slice_get-get_or old.cores i core low ∙ ap (λ (c : CoreKept F L). Some c) (sym here) in
       let own : CoreSteps notices capacity (tests_in meaning old (suc i)) core ev output after =
-      subst (λ (fs : List F). CoreSteps notices capacity (tests_of meaning fs) core ev output after) (sym (seen_at h old.cores i core [] low here)) steps in
+      subst (λ (fs : List F). CoreSteps notices capacity (tests_of meaning fs) core ev output after)
+      (sym (seen_at h old.cores i core [] low here)) steps in
       record {
         acts = record {
           acts = record {
@@ -124,11 +139,15 @@ module _ {F L : Type 0} (notices : L → List Notice) (capacity : L → ℕ) whe
             slots_at = map-get k old.cores i core at;
             after = after.filtered.peer;
             left = k after;
-            steps = core_steps (tests_in meaning old (suc i)) core ev output after (get_or (map g old.cores) i 0) (seen_at g old.cores i core 0 low here) own;
+            steps =
+                core_steps (tests_in meaning old (suc i)) core ev output after (get_or (map g old.cores) i 0)
+                (seen_at g old.cores i core 0 low here) own;
             messages = messages;
             replies = replies;
             peers = ap (λ (cs : List (CoreKept F L)). map f cs) cores ∙ map-set f old.cores i after;
-            filters = ap (λ (cs : List (CoreKept F L)). map g cs) cores ∙ map-set_same g old.cores i core after at (ap (λ (fs : List F). length fs) steps.filters);
+            filters =
+                ap (λ (cs : List (CoreKept F L)). map g cs) cores
+                ∙ map-set_same g old.cores i core after at (ap (λ (fs : List F). length fs) steps.filters);
             listeners = ap (λ (cs : List (CoreKept F L)). map k cs) cores ∙ map-set k old.cores i after;
             posts = posts;
           };
@@ -136,27 +155,35 @@ module _ {F L : Type 0} (notices : L → List Notice) (capacity : L → ℕ) whe
           counts = counts;
           quiet = quiet;
         };
-        filters = ap (λ (cs : List (CoreKept F L)). map h cs) cores ∙ map-set_same h old.cores i core after at steps.filters;
+        filters =
+            ap (λ (cs : List (CoreKept F L)). map h cs) cores ∙ map-set_same h old.cores i core after at steps.filters;
       }
 
   -- ---- another filter, or another listener, at a peer
 
   -- a value at each index of a list of counts, of which one is another
-  count_set : (cores : List (CoreKept F L)) (peers : List Peer) (i : ℕ) (after : CoreKept F L) (p : Peer) → length peers ≡ length cores → p.part.dds.watch.filters ≡ length after.filtered.filters
-      → ((j : ℕ) → (get_or peers j no_peer).part.dds.watch.filters ≡ get_or (map (λ (c : CoreKept F L). length c.filtered.filters) cores) j 0)
-      → (j : ℕ) → (get_or (set peers i p) j no_peer).part.dds.watch.filters ≡ get_or (map (λ (c : CoreKept F L). length c.filtered.filters) (set cores i after)) j 0
+  count_set : (cores : List (CoreKept F L)) (peers : List Peer) (i : ℕ) (after : CoreKept F L) (p : Peer)
+      → length peers ≡ length cores → p.part.dds.watch.filters ≡ length after.filtered.filters
+      → ((j : ℕ) → (get_or peers j no_peer).part.dds.watch.filters
+      ≡ get_or (map (λ (c : CoreKept F L). length c.filtered.filters) cores) j 0)
+      → (j : ℕ) → (get_or (set peers i p) j no_peer).part.dds.watch.filters
+      ≡ get_or (map (λ (c : CoreKept F L). length c.filtered.filters) (set cores i after)) j 0
   count_set [] [] i after p count is each j = each j
   count_set [] (q ∷ qs) i after p count is each j = absurd (omega (arith, count))
   count_set (c ∷ cs) [] i after p count is each j = absurd (omega (arith, count))
   count_set (c ∷ cs) (q ∷ qs) zero after p count is each zero = is
   count_set (c ∷ cs) (q ∷ qs) zero after p count is each (suc j) = each (suc j)
   count_set (c ∷ cs) (q ∷ qs) (suc i) after p count is each zero = each zero
-  count_set (c ∷ cs) (q ∷ qs) (suc i) after p count is each (suc j) = count_set cs qs i after p (omega (arith, count)) is (λ k. each (suc k)) j
+  count_set (c ∷ cs) (q ∷ qs) (suc i) after p count is each (suc j) =
+      count_set cs qs i after p (omega (arith, count)) is (λ k. each (suc k)) j
 
   -- the network stands for the state with that peer, which is alike
-  stands_with : (old : Held F L) (i : ℕ) (after : CoreKept F L) (new : Held F L) (config : Config) (network : WorldState) (p : Peer) → new ≡ record old { cores = set old.cores i after }
-      → StandsFor (kept_of notices capacity old) config network → CoreStands notices capacity after config p → IsSound config p
-      → SameBeside network (with_peer network i p network.sent) → StandsFor (kept_of notices capacity new) config (with_peer network i p network.sent)
+  stands_with : (old : Held F L) (i : ℕ) (after : CoreKept F L) (new : Held F L) (config : Config)
+      (network : WorldState) (p : Peer) → new ≡ record old { cores = set old.cores i after }
+      → StandsFor (kept_of notices capacity old) config network → CoreStands notices capacity after config p
+      → IsSound config p
+      → SameBeside network (with_peer network i p network.sent)
+      → StandsFor (kept_of notices capacity new) config (with_peer network i p network.sent)
   stands_with old i after new config network p same s stands known beside =
       let f : CoreKept F L → PeerKept = λ c. c.filtered.peer in
       let g : CoreKept F L → ℕ = λ c. length c.filtered.filters in
@@ -166,10 +193,12 @@ module _ {F L : Type 0} (notices : L → List Notice) (capacity : L → ℕ) whe
       let unsent = ap (λ (x : Held F L). x.unsent) same in
       let counted : length network.peers ≡ length old.cores = s.count ∙ length-map old.cores f in
       let few = s.few in
-      peer_stands (kept_of notices capacity old) (kept_of notices capacity new) config network i after.filtered.peer (k after) p network.sent s
+      peer_stands (kept_of notices capacity old) (kept_of notices capacity new) config network i after.filtered.peer
+      (k after) p network.sent s
       (ap (λ (cs : List (CoreKept F L)). map f cs) cores ∙ map-set f old.cores i after)
       (ap (λ (cs : List (CoreKept F L)). map k cs) cores ∙ map-set k old.cores i after)
-      (λ j. count_set old.cores network.peers i after p counted stands.stands.filters s.filters j ∙ ap (λ (cs : List (CoreKept F L)). get_or (map g cs) j 0) (sym cores))
+      (λ j. count_set old.cores network.peers i after p counted stands.stands.filters s.filters j
+      ∙ ap (λ (cs : List (CoreKept F L)). get_or (map g cs) j 0) (sym cores))
       stands.stands.stands (are_told notices capacity after.listeners p.part.dds.listeners stands.listeners) known
       (s.sent ∙ sym sent) (subst (λ ps. AreMessages ps) (sym sent) s.messages) (omega (arith, few, unsent))
       (sound_beside config network (with_peer network i p network.sent) beside s.sound)
@@ -177,8 +206,10 @@ module _ {F L : Type 0} (notices : L → List Notice) (capacity : L → ℕ) whe
       (bounded_beside network (with_peer network i p network.sent) beside s.bounded)
 
   -- a filter more
-  adds_at : (old : Held F L) (i peer : ℕ) (filter : F) (number : ℕ) (core after : CoreKept F L) (new : Held F L) → peer ≡ i + 1 → i < length old.cores → core ≡ get_or old.cores i core
-      → new ≡ record old { cores = set old.cores i after } → CoreAdds notices capacity core filter number after → Adds notices capacity old peer filter number new
+  adds_at : (old : Held F L) (i peer : ℕ) (filter : F) (number : ℕ) (core after : CoreKept F L) (new : Held F L)
+      → peer ≡ i + 1 → i < length old.cores → core ≡ get_or old.cores i core
+      → new ≡ record old { cores = set old.cores i after } → CoreAdds notices capacity core filter number after
+      → Adds notices capacity old peer filter number new
   adds_at old i peer filter number core after new is low here same a =
       let h : CoreKept F L → List F = λ c. c.filtered.filters in
       let next : suc i ≡ peer = omega (arith, is) in
@@ -186,53 +217,75 @@ module _ {F L : Type 0} (notices : L → List Notice) (capacity : L → ℕ) whe
       let here_is : Adds notices capacity old (suc i) filter number new = record {
         within = (omega arith, omega (arith, low));
         filters = ap (λ (x : Held F L). map h x.cores) same
-            ∙ (map-set h old.cores i after ∙ ap (λ (fs : List F). set (filters_of old) i fs) (a.filters ∙ ap (λ (fs : List F). fs ++ filter ∷ []) (sym own)));
+            ∙ (map-set h old.cores i after ∙ ap (λ (fs : List F). set (filters_of old) i fs)
+            (a.filters ∙ ap (λ (fs : List F). fs ++ filter ∷ []) (sym own)));
         adds = λ config network s.
             let r = a.adds config (get_or network.peers i no_peer) (core_stands old i core config network low here s) in
-            let known = r.3 (s.known i core.filtered.peer (core_kept notices capacity old old i (length old.cores) core refl here refl low)) in (
+            let known =
+            r.3 (s.known i core.filtered.peer
+            (core_kept notices capacity old old i (length old.cores) core refl here refl low)) in (
               r.0,
               r.1 ∙ ap (λ (fs : List F). length fs + 1) (sym own),
-              stands_with old i after new config network (peer_with_filter (get_or network.peers i no_peer)) same s r.2 known (filter_beside network (suc i)),
+              stands_with old i after new config network
+                  (peer_with_filter (get_or network.peers i no_peer)) same s r.2 known (filter_beside network (suc i)),
             );
       } in
       subst (λ (n : ℕ). Adds notices capacity old n filter number new) next here_is
 
   -- no filter more
-  refused_at : (old : Held F L) (i peer : ℕ) (core : CoreKept F L) (code : Code) → peer ≡ i + 1 → i < length old.cores → core ≡ get_or old.cores i core
+  refused_at : (old : Held F L) (i peer : ℕ) (core : CoreKept F L) (code : Code) → peer ≡ i + 1 → i < length old.cores
+      → core ≡ get_or old.cores i core
       → CoreRefuses notices capacity core code → RefusesFilter notices capacity old peer code
   refused_at old i peer core code is low here refused =
       let next : suc i ≡ peer = omega (arith, is) in
       subst (λ (n : ℕ). RefusesFilter notices capacity old n code) next
-      (inr ((omega arith, omega (arith, low)), λ config network s. refused config (get_or network.peers i no_peer) (core_stands old i core config network low here s)))
+      (inr (
+        (omega arith, omega (arith, low)),
+        λ config network s. refused config (get_or network.peers i no_peer)
+            (core_stands old i core config network low here s),
+      ))
 
   -- another listener, or none
-  sets_at : (old : Held F L) (i peer : ℕ) (entity : Entity) (mask : StatusMask) (listener handed : Option L) (core after : CoreKept F L) (new : Held F L) → peer ≡ i + 1 → i < length old.cores
-      → core ≡ get_or old.cores i core → new ≡ record old { cores = set old.cores i after } → CoreSets notices capacity core entity mask listener handed after
+  sets_at : (old : Held F L) (i peer : ℕ) (entity : Entity) (mask : StatusMask) (listener handed : Option L)
+      (core after : CoreKept F L) (new : Held F L) → peer ≡ i + 1 → i < length old.cores
+      → core ≡ get_or old.cores i core → new ≡ record old { cores = set old.cores i after }
+      → CoreSets notices capacity core entity mask listener handed after
       → Sets notices capacity old peer entity mask listener handed new
   sets_at old i peer entity mask listener handed core after new is low here same a =
       let h : CoreKept F L → List F = λ c. c.filtered.filters in
       let next : suc i ≡ peer = omega (arith, is) in
-      let at : slice_get old.cores i ≡ Some core = slice_get-get_or old.cores i core low ∙ ap (λ (c : CoreKept F L). Some c) (sym here) in
+      let at : slice_get old.cores i ≡ Some core =
+      slice_get-get_or old.cores i core low ∙ ap (λ (c : CoreKept F L). Some c) (sym here) in
       let here_is : Sets notices capacity old (suc i) entity mask listener handed new = record {
         within = (omega arith, omega (arith, low));
         filters = ap (λ (x : Held F L). map h x.cores) same ∙ map-set_same h old.cores i core after at a.filters;
         sets = λ config network s.
             let place = listener_place capacity mask listener in
             let r = a.sets config (get_or network.peers i no_peer) (core_stands old i core config network low here s) in
-            let known = r.3 (s.known i core.filtered.peer (core_kept notices capacity old old i (length old.cores) core refl here refl low)) in (
+            let known =
+            r.3 (s.known i core.filtered.peer
+            (core_kept notices capacity old old i (length old.cores) core refl here refl low)) in (
               r.0,
               r.1,
-              stands_with old i after new config network (peer_with_place (get_or network.peers i no_peer) entity place) same s r.2 known (place_beside network (suc i) entity place),
+              stands_with old i after new config network
+                  (peer_with_place (get_or network.peers i no_peer) entity place) same s r.2 known
+                  (place_beside network (suc i) entity place),
             );
       } in
       subst (λ (n : ℕ). Sets notices capacity old n entity mask listener handed new) next here_is
 
-  unset_at : (old : Held F L) (i peer : ℕ) (entity : Entity) (listener : Option L) (core : CoreKept F L) (code : Code) → peer ≡ i + 1 → i < length old.cores → core ≡ get_or old.cores i core
-      → CoreRefusesListener notices capacity core entity listener code → RefusesListener notices capacity old peer entity listener code
+  unset_at : (old : Held F L) (i peer : ℕ) (entity : Entity) (listener : Option L) (core : CoreKept F L) (code : Code)
+      → peer ≡ i + 1 → i < length old.cores → core ≡ get_or old.cores i core
+      → CoreRefusesListener notices capacity core entity listener code
+      → RefusesListener notices capacity old peer entity listener code
   unset_at old i peer entity listener core code is low here refused =
       let next : suc i ≡ peer = omega (arith, is) in
       subst (λ (n : ℕ). RefusesListener notices capacity old n entity listener code) next
-      (inr ((omega arith, omega (arith, low)), λ config network s. refused config (get_or network.peers i no_peer) (core_stands old i core config network low here s)))
+      (inr (
+        (omega arith, omega (arith, low)),
+        λ config network s. refused config (get_or network.peers i no_peer)
+            (core_stands old i core config network low here s),
+      ))
 
   -- an index below the number of peers is one of those that are kept
   below_count : (old now : Held F L) (i count : ℕ) → old ≡ now → i < count → count ≡ length now.cores
@@ -283,43 +336,112 @@ module _ {F L : Type 0} (notices : L → List Notice) (capacity : L → ℕ) whe
 
 -- ---- events as steps
 
-pub called_in : {F L : Type 0} (meaning : F → Key → List ℕ → Bool) (notices : L → List Notice) (capacity : L → ℕ) (old new : Held F L) (i peer : ℕ) (call : Call) (reply : Reply) → peer ≡ i + 1 → ActsIn meaning notices capacity old i (event.Call call) reply new
-    → StepsIn meaning notices capacity old (world.Call peer call) reply new
-called_in meaning notices capacity old new i peer call reply is a = record { steps = called (kept_of notices capacity old) (kept_of notices capacity new) i peer call reply is a.acts; filters = a.filters; sends = called_sends (kept_of notices capacity old) (kept_of notices capacity new) i peer call reply is a.acts }
+pub happened_in : {F L : Type 0} (meaning : F → Key → List ℕ → Bool) (notices : L → List Notice) (capacity : L → ℕ)
+    (old new : Held F L) (i peer : ℕ) (ev : Event) (given : WorldEvent) (reply : Reply) → peer ≡ i + 1
+    → IsOfPeer given peer ev
+    → ActsIn meaning notices capacity old i ev reply new → StepsIn meaning notices capacity old given reply new
+happened_in meaning notices capacity old new i peer ev (world.Call number call) reply is of a =
+    let own = subst (λ (e : Event). ActsIn meaning notices capacity old i e reply new) (sym of.1) a in
+    record {
+      steps = called (kept_of notices capacity old) (kept_of notices capacity new) i number call reply
+          (of.0 ∙ is) own.acts;
+      filters = own.filters;
+      sends = called_sends (kept_of notices capacity old)
+          (kept_of notices capacity new) i number call reply (of.0 ∙ is) own.acts;
+    }
+happened_in meaning notices capacity old new i peer ev (world.Tick number now) reply is of a =
+    let own = subst (λ (e : Event). ActsIn meaning notices capacity old i e reply new) (sym of.1) a in
+    record {
+      steps = ticked (kept_of notices capacity old) (kept_of notices capacity new) i number now reply
+          (of.0 ∙ is) own.acts;
+      filters = own.filters;
+      sends = ticked_sends (kept_of notices capacity old)
+          (kept_of notices capacity new) i number now reply (of.0 ∙ is) own.acts;
+    }
+happened_in meaning notices capacity old new i peer ev (world.Deliver number packet) reply is of a = absurd of
 
-pub ticked_in : {F L : Type 0} (meaning : F → Key → List ℕ → Bool) (notices : L → List Notice) (capacity : L → ℕ) (old new : Held F L) (i peer now : ℕ) (reply : Reply) → peer ≡ i + 1 → ActsIn meaning notices capacity old i (event.Tick now) reply new
-    → StepsIn meaning notices capacity old (world.Tick peer now) reply new
-ticked_in meaning notices capacity old new i peer now reply is a = record { steps = ticked (kept_of notices capacity old) (kept_of notices capacity new) i peer now reply is a.acts; filters = a.filters; sends = ticked_sends (kept_of notices capacity old) (kept_of notices capacity new) i peer now reply is a.acts }
-
-pub delivered_in : {F L : Type 0} (meaning : F → Key → List ℕ → Bool) (notices : L → List Notice) (capacity : L → ℕ) (old new : Held F L) (i j : ℕ) (bytes : List ℕ) (reply : Reply) → IsCopy old.sent j bytes → ActsIn meaning notices capacity old i (event.Deliver bytes) reply new
+pub delivered_in : {F L : Type 0} (meaning : F → Key → List ℕ → Bool) (notices : L → List Notice) (capacity : L → ℕ)
+    (old new : Held F L) (i j : ℕ) (bytes : List ℕ) (reply : Reply) → IsCopy old.sent j bytes
+    → ActsIn meaning notices capacity old i (event.Deliver bytes) reply new
     → StepsIn meaning notices capacity old (world.Deliver (i + 1) (j + 1)) reply new
-delivered_in meaning notices capacity old new i j bytes reply copy a = record { steps = delivered (kept_of notices capacity old) (kept_of notices capacity new) i j bytes reply copy a.acts; filters = a.filters; sends = delivered_sends (kept_of notices capacity old) (kept_of notices capacity new) i (i + 1) (j + 1) bytes reply a.acts }
+delivered_in meaning notices capacity old new i j bytes reply copy a =
+    record {
+      steps = delivered (kept_of notices capacity old)
+          (kept_of notices capacity new) i j bytes reply copy a.acts;
+      filters = a.filters;
+      sends = delivered_sends
+          (kept_of notices capacity old) (kept_of notices capacity new) i (i + 1) (j + 1) bytes reply a.acts;
+    }
+
+-- no peer has the number
+outside : {F L : Type 0} (notices : L → List Notice) (capacity : L → ℕ) (old : Held F L) (peer count number : ℕ)
+    → count ≡ length old.cores → (nat_lt 0 peer && nat_le peer count) ≡ false → number ≡ peer
+    → (nat_lt 0 number && nat_le number (length (kept_of notices capacity old).peers)) ≡ false
+outside {F} {L} notices capacity old peer count number is none same =
+    subst (λ (n : ℕ). (nat_lt 0 n && nat_le n (length (kept_of notices capacity old).peers)) ≡ false) (sym same)
+    (subst (λ (n : ℕ). (nat_lt 0 peer && nat_le peer n) ≡ false)
+    (is ∙ sym (length-map old.cores (λ (c : CoreKept F L). c.filtered.peer))) none)
 
 -- what is refused, and what finds no memory
-pub no_call_in : {F L : Type 0} (meaning : F → Key → List ℕ → Bool) (notices : L → List Notice) (capacity : L → ℕ) (old : Held F L) (peer count : ℕ) (call : Call) → count ≡ length old.cores → (nat_lt 0 peer && nat_le peer count) ≡ false
-    → StepsIn meaning notices capacity old (world.Call peer call) (Refused BadParameter) old
-no_call_in {F} {L} meaning notices capacity old peer count call is none =
-    record { steps = unknown_call (kept_of notices capacity old) peer call (subst (λ (n : ℕ). (nat_lt 0 peer && nat_le peer n) ≡ false) (is ∙ sym (length-map old.cores (λ (c : CoreKept F L). c.filtered.peer))) none); filters = refl; sends = refused_call_sends (kept_of notices capacity old) peer call }
+pub no_peer_in : {F L : Type 0} (meaning : F → Key → List ℕ → Bool) (notices : L → List Notice) (capacity : L → ℕ)
+    (old : Held F L) (peer count : ℕ) (ev : Event) (given : WorldEvent) → count ≡ length old.cores
+    → (nat_lt 0 peer && nat_le peer count) ≡ false
+    → IsOfPeer given peer ev → StepsIn meaning notices capacity old given (Refused BadParameter) old
+no_peer_in meaning notices capacity old peer count ev (world.Call number call) is none of =
+    record {
+      steps = unknown_call (kept_of notices capacity old) number call
+          (outside notices capacity old peer count number is none of.0);
+      filters = refl;
+      sends = refused_call_sends
+          (kept_of notices capacity old) number call;
+    }
+no_peer_in meaning notices capacity old peer count ev (world.Tick number now) is none of =
+    record {
+      steps = unknown_tick (kept_of notices capacity old) number now
+          (outside notices capacity old peer count number is none of.0);
+      filters = refl;
+      sends = refused_tick_sends
+          (kept_of notices capacity old) number now;
+    }
+no_peer_in meaning notices capacity old peer count ev (world.Deliver number packet) is none of = absurd of
 
-pub no_tick_in : {F L : Type 0} (meaning : F → Key → List ℕ → Bool) (notices : L → List Notice) (capacity : L → ℕ) (old : Held F L) (peer count now : ℕ) → count ≡ length old.cores → (nat_lt 0 peer && nat_le peer count) ≡ false
-    → StepsIn meaning notices capacity old (world.Tick peer now) (Refused BadParameter) old
-no_tick_in {F} {L} meaning notices capacity old peer count now is none =
-    record { steps = unknown_tick (kept_of notices capacity old) peer now (subst (λ (n : ℕ). (nat_lt 0 peer && nat_le peer n) ≡ false) (is ∙ sym (length-map old.cores (λ (c : CoreKept F L). c.filtered.peer))) none); filters = refl; sends = refused_tick_sends (kept_of notices capacity old) peer now }
-
-pub no_delivery_in : {F L : Type 0} (meaning : F → Key → List ℕ → Bool) (notices : L → List Notice) (capacity : L → ℕ) (old : Held F L) (peer count number : ℕ) → count ≡ length old.cores → (nat_lt 0 peer && nat_le peer count) ≡ false
+pub no_delivery_in : {F L : Type 0} (meaning : F → Key → List ℕ → Bool) (notices : L → List Notice) (capacity : L → ℕ)
+    (old : Held F L) (peer count number : ℕ) → count ≡ length old.cores → (nat_lt 0 peer && nat_le peer count) ≡ false
     → StepsIn meaning notices capacity old (world.Deliver peer number) (Refused BadParameter) old
-no_delivery_in {F} {L} meaning notices capacity old peer count number is none =
-    record { steps = unknown_delivery (kept_of notices capacity old) peer number (subst (λ (n : ℕ). (nat_lt 0 peer && nat_le peer n) ≡ false) (is ∙ sym (length-map old.cores (λ (c : CoreKept F L). c.filtered.peer))) none); filters = refl; sends = quiet_delivery_sends (kept_of notices capacity old) peer number (Refused BadParameter) }
+no_delivery_in meaning notices capacity old peer count number is none =
+    record {
+      steps = unknown_delivery (kept_of notices capacity old) peer number
+          (outside notices capacity old peer count peer is none refl);
+      filters = refl;
+      sends = quiet_delivery_sends
+          (kept_of notices capacity old) peer number (Refused BadParameter);
+    }
 
-pub no_packet_in : {F L : Type 0} (meaning : F → Key → List ℕ → Bool) (notices : L → List Notice) (capacity : L → ℕ) (old : Held F L) (peer count number : ℕ) → count ≡ length old.sent → (nat_lt 0 number && nat_le number count) ≡ false
+pub no_packet_in : {F L : Type 0} (meaning : F → Key → List ℕ → Bool) (notices : L → List Notice) (capacity : L → ℕ)
+    (old : Held F L) (peer count number : ℕ) → count ≡ length old.sent
+    → (nat_lt 0 number && nat_le number count) ≡ false
     → StepsIn meaning notices capacity old (world.Deliver peer number) (Refused BadParameter) old
 no_packet_in meaning notices capacity old peer count number is none =
-    record { steps = unknown_packet (kept_of notices capacity old) peer number (subst (λ (n : ℕ). (nat_lt 0 number && nat_le number n) ≡ false) is none); filters = refl; sends = quiet_delivery_sends (kept_of notices capacity old) peer number (Refused BadParameter) }
+    record {
+      steps = unknown_packet (kept_of notices capacity old) peer number
+          (subst (λ (n : ℕ). (nat_lt 0 number && nat_le number n) ≡ false) is none);
+      filters = refl;
+      sends =
+          quiet_delivery_sends (kept_of notices capacity old) peer number (Refused BadParameter);
+    }
 
-pub not_delivered_in : {F L : Type 0} (meaning : F → Key → List ℕ → Bool) (notices : L → List Notice) (capacity : L → ℕ) (old : Held F L) (i j : ℕ) → i < length old.cores → j < length old.sent
-    → StepsIn meaning notices capacity old (world.Deliver (i + 1) (j + 1)) (Reported (record { moves = []; refused = Some 0 })) old
+pub not_delivered_in : {F L : Type 0} (meaning : F → Key → List ℕ → Bool) (notices : L → List Notice) (capacity : L → ℕ)
+    (old : Held F L) (i j : ℕ) → i < length old.cores → j < length old.sent
+    → StepsIn meaning notices capacity old (world.Deliver (i + 1) (j + 1))
+    (Reported (record { moves = []; refused = Some 0 })) old
 not_delivered_in {F} {L} meaning notices capacity old i j low high =
-    record { steps = not_delivered (kept_of notices capacity old) i j (subst (λ (n : ℕ). i < n) (sym (length-map old.cores (λ (c : CoreKept F L). c.filtered.peer))) low) high; filters = refl; sends = quiet_delivery_sends (kept_of notices capacity old) (i + 1) (j + 1) (Reported (record { moves = []; refused = Some 0 })) }
+    record {
+      steps = not_delivered (kept_of notices capacity old) i j
+          (subst (λ (n : ℕ). i < n) (sym (length-map old.cores (λ (c : CoreKept F L). c.filtered.peer))) low) high;
+      filters = refl;
+      sends = quiet_delivery_sends (kept_of notices capacity old) (i + 1) (j + 1)
+          (Reported (record { moves = []; refused = Some 0 }));
+    }
 
 -- a step at an event is one at the event that was given
 pub steps_as : {F L : Type 0} {meaning : F → Key → List ℕ → Bool} {notices : L → List Notice} {capacity : L → ℕ}
@@ -328,26 +450,7 @@ pub steps_as : {F L : Type 0} {meaning : F → Key → List ℕ → Bool} {notic
 steps_as {meaning = meaning} {notices} {capacity} {old} {new} {reply = reply} is steps =
     subst (λ (e : WorldEvent). StepsIn meaning notices capacity old e reply new) (sym is) steps
 
--- ---- what is said of the filters that there were before, where none was added
-
-pub same_rules : {F L : Type 0} (meaning : F → Key → List ℕ → Bool) (notices : L → List Notice) (capacity : L → ℕ) (first old new : Held F L) (ev : WorldEvent) (reply : Reply) → filters_of old ≡ filters_of first
-    → KeepsRules (tests_in meaning old) (kept_of notices capacity old) ev reply (kept_of notices capacity new) → KeepsRules (tests_in meaning first) (kept_of notices capacity old) ev reply (kept_of notices capacity new)
-same_rules {F} {L} meaning notices capacity first old new ev reply same h = subst (λ (fs : List (List F)). KeepsRules (tests_by meaning fs) (kept_of notices capacity old) ev reply (kept_of notices capacity new)) same h
-
-pub same_step : {F L : Type 0} (meaning : F → Key → List ℕ → Bool) (notices : L → List Notice) (capacity : L → ℕ) (first old new : Held F L) (ev : WorldEvent) (reply : RoundReply) → filters_of old ≡ filters_of first
-    → IsStep (tests_in meaning old) (kept_of notices capacity old) ev reply (kept_of notices capacity new) → IsStep (tests_in meaning first) (kept_of notices capacity old) ev reply (kept_of notices capacity new)
-same_step {F} {L} meaning notices capacity first old new ev reply same h = subst (λ (fs : List (List F)). IsStep (tests_by meaning fs) (kept_of notices capacity old) ev reply (kept_of notices capacity new)) same h
-
-pub same_steps : {F L : Type 0} (meaning : F → Key → List ℕ → Bool) (notices : L → List Notice) (capacity : L → ℕ) (first old new : Held F L) (events : List WorldEvent) (replies : List RoundReply) → filters_of old ≡ filters_of first
-    → AreSteps (tests_in meaning old) (kept_of notices capacity old) events replies (kept_of notices capacity new) → AreSteps (tests_in meaning first) (kept_of notices capacity old) events replies (kept_of notices capacity new)
-same_steps {F} {L} meaning notices capacity first old new events replies same h = subst (λ (fs : List (List F)). AreSteps (tests_by meaning fs) (kept_of notices capacity old) events replies (kept_of notices capacity new)) same h
-
-pub same_acks : {F L : Type 0} (meaning : F → Key → List ℕ → Bool) (notices : L → List Notice) (capacity : L → ℕ) (first old new : Held F L) (m : Matched) (from : ℕ) (events : List WorldEvent) (replies : List RoundReply) → filters_of old ≡ filters_of first
-    → Acknowledging (tests_in meaning old) m from (kept_of notices capacity old) events replies (kept_of notices capacity new) → Acknowledging (tests_in meaning first) m from (kept_of notices capacity old) events replies (kept_of notices capacity new)
-same_acks {F} {L} meaning notices capacity first old new m from events replies same h =
-    subst (λ (fs : List (List F)). Acknowledging (tests_by meaning fs) m from (kept_of notices capacity old) events replies (kept_of notices capacity new)) same h
-
-pub same_beats : {F L : Type 0} (meaning : F → Key → List ℕ → Bool) (notices : L → List Notice) (capacity : L → ℕ) (first old new : Held F L) (m : Matched) (from : ℕ) (events : List WorldEvent) (replies : List RoundReply) → filters_of old ≡ filters_of first
-    → Beating (tests_in meaning old) m from (kept_of notices capacity old) events replies (kept_of notices capacity new) → Beating (tests_in meaning first) m from (kept_of notices capacity old) events replies (kept_of notices capacity new)
-same_beats {F} {L} meaning notices capacity first old new m from events replies same h =
-    subst (λ (fs : List (List F)). Beating (tests_by meaning fs) m from (kept_of notices capacity old) events replies (kept_of notices capacity new)) same h
+-- what is said by the filters that there are is said by those that there were before, where none was added
+pub same_tests : {F L : Type 0} (meaning : F → Key → List ℕ → Bool) (first old : Held F L) (P : AllTests → Type 0)
+    → filters_of old ≡ filters_of first → P (tests_in meaning old) → P (tests_in meaning first)
+same_tests {F} meaning first old P same h = subst (λ (fs : List (List F)). P (tests_by meaning fs)) same h

@@ -15,8 +15,10 @@ use Rattle.dds_notices.specs.declared.notice.Notice.{Notice}
 use Rattle.dds_notices.specs.Listeners.{HandedBack, Slot, Slotted, at_entity, listener_refusal, listener_place}
 use Rattle.dds_notices.specs.Notices.{Recording}
 use Rattle.dds_model.specs.declared.event.Event.{Event}
+use Rattle.dds_model.specs.declared.event.Event.TheVariants.{Call, Tick}
 use Rattle.dds_model.specs.declared.event.Packet.{Packet}
 use Rattle.dds_model.specs.declared.event.WorldEvent.{WorldEvent}
+use Rattle.dds_model.specs.declared.event.WorldEvent.TheVariants as world
 use Rattle.dds_model.specs.declared.reply.Reply.{Reply}
 use Rattle.dds_model.specs.Filters.{world_with_filter}
 use Rattle.dds_model.specs.Machine.{AllTests}
@@ -123,6 +125,12 @@ RefusesListener notices capacity held peer entity listener code =
     → listener_refusal notices (peer_at network peer).part.dds.listeners entity listener ≡ Some code))
 
 -- ---- inner functions alone cite what follows
+
+-- the network's event is this one of the peer of this number; a packet comes by its own number instead
+abbrev pub IsOfPeer : WorldEvent → ℕ → Event → Type 0
+IsOfPeer (world.Call number call) peer event = (number ≡ peer) × (Call call ≡ event)
+IsOfPeer (world.Tick number now) peer event = (number ≡ peer) × (Tick now ≡ event)
+IsOfPeer (world.Deliver number packet) peer event = ⊥
 
 -- an event of the peer of this index, which adds no filter
 pub record ActsIn {F L : Type 0} (meaning : F → Key → List ℕ → Bool) (notices : L → List Notice) (capacity : L → ℕ)

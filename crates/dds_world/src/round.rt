@@ -8,8 +8,8 @@ ghost use Rattle.dds_world.specs.Round.{answers_at, AreMatched, AreSteps, HasNon
 ghost use Rattle.dds_world.specs.Holding.{filters_of, kept_of, tests_in};
 ghost use Rattle.dds_world.specs.Repairing.{Acknowledging, Adds, Beating, IsKnown, NotMatched};
 
-use crate::world::{World, index_of};
-use dds_base::{Code, Moment, Sequence, Sn};
+use crate::world::World;
+use dds_base::{Code, Moment, Sequence, Sn, index_of};
 use dds_conditions::Filter;
 use dds_core::Pair;
 use dds_model::{Endpoint, Packet, Reply, WorldEvent};

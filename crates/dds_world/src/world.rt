@@ -18,12 +18,12 @@ ghost use Rattle.dds_core.specs.Opening.{opening_peer};
 ghost use Rattle.dds_core.specs.Listening.{StandsFor as CoreStandsFor};
 ghost use Rattle.dds_world.specs.WorldStanding.{traffic, Announces, KeepsRules, MovesOn, Posts, Runs, StandsFor, Steps};
 ghost use Rattle.dds_world.specs.Acting.{Counts, IsCopy, IsQuiet, OpensFirst};
-ghost use Rattle.dds_world.specs.Holding.{ActsIn, Adds, RefusesFilter, RefusesListener, Sets, StepsIn, filters_of, kept_of, tests_in};
+ghost use Rattle.dds_world.specs.Holding.{ActsIn, Adds, IsOfPeer, RefusesFilter, RefusesListener, Sets, StepsIn, filters_of, kept_of, tests_in};
 
-use dds_base::{Code, Config, Entity, Moment, Octets, Sequence, Sn};
+use dds_base::{Code, Config, Entity, Octets, Sequence, Sn, index_of};
 use dds_conditions::Filter;
 use dds_core::Core;
-use dds_model::{Call, Endpoint, Event, Output, Packet, Reply, Report, WorldEvent};
+use dds_model::{Endpoint, Event, Output, Packet, Reply, Report, WorldEvent};
 use dds_notices::{Listener, StatusMask};
 use std::alloc::{AllocError, Global};
 use std::marker::Model;
@@ -63,18 +63,6 @@ fn post(sent: &mut Vec<Packet>, packets: Sequence<Packet>) -> u64
         let _ = sent.push(packet);
     }
     (total - (sent.len() - before)) as u64
-}
-
-/// The index of a peer of this number, counted from 1, among so many.
-pub fn index_of(number: u8, count: usize) -> Option<usize>
-    ensures { MatchOption result ((nat_lt 0 number && nat_le number count) ≡ false)
-        (λ index. (number ≡ index + 1) × (index < count)) }
-{
-    if number == 0 || count < usize::from(number) {
-        None
-    } else {
-        Some(usize::from(number) - 1)
-    }
 }
 
 /// The index of a packet of this number, counted from 1, among so many.
@@ -286,28 +274,19 @@ impl<F: Filter, L: Listener> World<F, L> {
         ensures { StepsIn F.meaning L.notices L.capacity self.old event result self.new }
     {
         match event {
-            WorldEvent::Call { peer, call } => self.call(peer, call),
-            WorldEvent::Tick { peer, now } => self.tick(peer, now),
+            WorldEvent::Call { peer, call } => self.happen_to(peer, Event::Call(call)),
+            WorldEvent::Tick { peer, now } => self.happen_to(peer, Event::Tick(now)),
             WorldEvent::Deliver { peer, packet } => self.deliver(peer, packet),
         }
     }
 
-    fn call(&mut self, peer: u8, call: Call) -> Reply
-        ensures { StepsIn F.meaning L.notices L.capacity self.old
-            (event.Call peer call) result self.new }
+    /// A call at the peer of this number, or its time that goes on.
+    fn happen_to(&mut self, peer: u8, event: Event) -> Reply
+        ensures { (given : WorldEvent) → IsOfPeer given peer event
+            → StepsIn F.meaning L.notices L.capacity self.old given result self.new }
     {
         match index_of(peer, self.count()) {
-            Some(index) => self.happen_at(index, Event::Call(call)),
-            None => Reply::Refused(Code::BadParameter),
-        }
-    }
-
-    fn tick(&mut self, peer: u8, now: Moment) -> Reply
-        ensures { StepsIn F.meaning L.notices L.capacity self.old
-            (event.Tick peer now) result self.new }
-    {
-        match index_of(peer, self.count()) {
-            Some(index) => self.happen_at(index, Event::Tick(now)),
+            Some(index) => self.happen_at(index, event),
             None => Reply::Refused(Code::BadParameter),
         }
     }

@@ -4,8 +4,8 @@ use Rattle.dds_model.specs.declared.event.WorldEvent.{WorldEvent}
 use Rattle.dds_model.specs.declared.event.WorldEvent.TheVariants as world
 use Rattle.dds_world.specs.declared.round.RoundReply.{RoundReply}
 use Rattle.dds_world.specs.Holding.{kept_of}
-use Rattle.dds_world.specs.Round.{answers_at}
-use Rattle.dds_world.proofs.Holding.{same_steps}
+use Rattle.dds_world.specs.Round.{AreSteps, answers_at}
+use Rattle.dds_world.proofs.Holding.{same_tests}
 use Rattle.dds_world.proofs.world.World.deliver_acknack.Goals as goal
 
 pub returns-clause-adds : goal.returns-clause-adds
@@ -30,8 +30,10 @@ returns-clause-adds g c =
         refl,
         (
           counted,
-          same_steps g.F.Filter.meaning g.L.Listener.notices g.L.Listener.capacity c.args.self.now mid
-              c.deliver_answers.new.self later d.0 c.add_step.ensures.filters d.2,
+          same_tests g.F.Filter.meaning c.args.self.now mid
+              (λ tests. AreSteps tests (kept_of g.L.Listener.notices g.L.Listener.capacity mid) later d.0
+              (kept_of g.L.Listener.notices g.L.Listener.capacity c.deliver_answers.new.self))
+              c.add_step.ensures.filters d.2,
         ),
       ),
     )

@@ -3,8 +3,8 @@ use Rattle.dds_base.specs.Kept.{numbers_from}
 use Rattle.dds_model.specs.declared.event.WorldEvent.TheVariants as world
 use Rattle.dds_world.specs.declared.round.RoundReply.{RoundReply}
 use Rattle.dds_world.specs.Holding.{kept_of, tests_in}
-use Rattle.dds_world.specs.Round.{AreSteps}
-use Rattle.dds_world.proofs.Holding.{same_step}
+use Rattle.dds_world.specs.Round.{AreSteps, IsStep}
+use Rattle.dds_world.proofs.Holding.{same_tests}
 use Rattle.dds_world.proofs.Rounds.{answered_more}
 use Rattle.dds_world.proofs.world.World.deliver_answers.Goals as goal
 
@@ -23,8 +23,10 @@ loop-index-preserved g c =
       answered_more (kept_of g.L.Listener.notices g.L.Listener.capacity first) c.args.peer c.args.from
           c.loop-index.index _ _ i.0 (kept_of g.L.Listener.notices g.L.Listener.capacity c.loop-index.self) a.0
           (kept_of g.L.Listener.notices g.L.Listener.capacity c.add_step.new.self) refl refl i.2
-          (same_step g.F.Filter.meaning g.L.Listener.notices g.L.Listener.capacity first c.loop-index.self
-          c.add_step.new.self _ a.0 i.5 a.2),
+          (same_tests g.F.Filter.meaning first c.loop-index.self
+          (λ tests. IsStep tests (kept_of g.L.Listener.notices g.L.Listener.capacity c.loop-index.self)
+          (world.Deliver c.args.peer (c.args.from + c.loop-index.index + 1)) a.0
+          (kept_of g.L.Listener.notices g.L.Listener.capacity c.add_step.new.self)) i.5 a.2),
       omega (arith, more, total, so_far),
       omega (arith, room, kept),
       c.add_step.ensures.filters ∙ i.5,

@@ -4,29 +4,28 @@ use Rattle.dds_model.specs.declared.event.WorldEvent.TheVariants as world
 use Rattle.dds_world.specs.declared.round.RoundReply.{RoundReply}
 use Rattle.dds_world.specs.Holding.{kept_of, tests_in}
 use Rattle.dds_world.specs.Repairing.{Acknowledging}
-use Rattle.dds_world.proofs.Holding.{same_acks}
+use Rattle.dds_world.proofs.Holding.{same_tests}
 use Rattle.dds_world.proofs.world.World.deliver_heartbeat.Goals as goal
 
 pub returns-clause-adds : goal.returns-clause-adds
 returns-clause-adds g c =
     let a = c.add_step.ensures.step in
     let d = c.deliver_acknack.ensures.adds in
-    let mid = c.add_step.new.self in
-    let new = c.deliver_acknack.new.self in
+    let mid = kept_of g.L.Listener.notices g.L.Listener.capacity c.add_step.new.self in
+    let new = kept_of g.L.Listener.notices g.L.Listener.capacity c.deliver_acknack.new.self in
     let next =
-    subst (λ (n : ℕ). Acknowledging (tests_in g.F.Filter.meaning mid) c.args.m.now n
-    (kept_of g.L.Listener.notices g.L.Listener.capacity mid) d.0 d.1
-    (kept_of g.L.Listener.notices g.L.Listener.capacity new)) c.sent-sent.ensures.sent d.3 in
+    same_tests g.F.Filter.meaning c.args.self.now c.add_step.new.self
+    (λ tests. Acknowledging tests c.args.m.now c.sent-sent.result mid d.0 d.1 new) c.add_step.ensures.filters d.3 in
     let later =
-    same_acks g.F.Filter.meaning g.L.Listener.notices g.L.Listener.capacity c.args.self.now mid new c.args.m.now _
-    d.0 d.1 c.add_step.ensures.filters next in (
+    subst (λ (n : ℕ). Acknowledging (tests_in g.F.Filter.meaning c.args.self.now) c.args.m.now n mid d.0 d.1 new)
+    c.sent-sent.ensures.sent next in (
       world.Deliver c.args.m.now.reader.peer c.in-Some.packet ∷ d.0,
       a.0 ∷ d.1,
       d.2 ∙ (ap (λ (rs : List RoundReply). rs ++ d.1) a.1 ∙ append_assoc c.args.replies.now.items (a.0 ∷ []) d.1),
       inr (
         c.in-Some.packet,
         a.0,
-        kept_of g.L.Listener.notices g.L.Listener.capacity mid,
+        mid,
         d.0,
         d.1,
         c.in-Some.ensures,

@@ -11,11 +11,11 @@ returns-in-Some-pair g c =
     let core : CoreKept g.row.F.Denot g.row.L.Denot = c.index-core.result.now in
     let at =
     core_kept g.L.Listener.notices g.L.Listener.capacity _ c.args.self.now i c.count.result core c.self.view_is
-    c.index-core.ensures c.count.ensures c.in-Some.ensures.1 in (
+    c.index-core.ensures c.count.ensures c.in-Some.ensures.index.1 in (
       refl,
       refl,
       pair_matched (kept_of g.L.Listener.notices g.L.Listener.capacity c.args.self.now) i core.filtered.peer
-          c.args.writer c.args.reader c.in-Some-pair.pair c.moment.result c.in-Some.ensures.0 at
+          c.args.writer c.args.reader c.in-Some-pair.pair c.moment.result c.in-Some.ensures.index.0 at
           c.in-Some-pair.ensures.pair c.moment.ensures.moment,
     )
 
@@ -25,6 +25,6 @@ returns-in-None g c =
     let core : CoreKept g.row.F.Denot g.row.L.Denot = c.index-core.result.now in
     let at =
     core_kept g.L.Listener.notices g.L.Listener.capacity _ c.args.self.now i c.count.result core c.self.view_is
-    c.index-core.ensures c.count.ensures c.in-Some.ensures.1 in
+    c.index-core.ensures c.count.ensures c.in-Some.ensures.index.1 in
     no_pair_matched (kept_of g.L.Listener.notices g.L.Listener.capacity c.args.self.now) i core.filtered.peer
-    c.args.writer c.args.reader c.in-Some.ensures.0 at c.in-None.ensures.pair
+    c.args.writer c.args.reader c.in-Some.ensures.index.0 at c.in-None.ensures.pair

@@ -10,8 +10,8 @@ returns g c =
     let core : CoreKept g.row.F.Denot g.row.L.Denot = c.index.result.now in
     let at =
     core_kept g.L.Listener.notices g.L.Listener.capacity _ c.args.self.now i c.count.result core c.self.view_is
-    c.index.ensures c.count.ensures c.in-Some.ensures.1 in
+    c.index.ensures c.count.ensures c.in-Some.ensures.index.1 in
     record {
       place = place_kept (kept_of g.L.Listener.notices g.L.Listener.capacity c.args.self.now) i
-          core.filtered.peer c.args.reader c.args.writer c.place.result c.in-Some.ensures.0 at c.place.ensures.place;
+          core.filtered.peer c.args.reader c.args.writer c.place.result c.in-Some.ensures.index.0 at c.place.ensures.place;
     }

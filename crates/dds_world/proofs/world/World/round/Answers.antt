@@ -5,7 +5,7 @@ use Rattle.dds_world.specs.Holding.{kept_of, tests_in}
 use Rattle.dds_world.specs.Repairing.{Beating}
 use Rattle.dds_world.specs.Round.{AreMatched, Rounds}
 use Rattle.dds_world.proofs.CatchingUp.{answer_of, rounds_are}
-use Rattle.dds_world.proofs.Holding.{same_beats}
+use Rattle.dds_world.proofs.Holding.{same_tests}
 use Rattle.dds_world.proofs.Rounds.{are_matched}
 use Rattle.dds_world.proofs.world.World.round.Goals as goal
 
@@ -29,11 +29,11 @@ returns-clause-round g c =
     let all : c.from_vec-replies.result ≡ a.0 ∷ d.1 =
     c.from_vec-replies.ensures.elements ∙ (d.2 ∙ ap (λ (rs : List RoundReply). rs ++ d.1) first) in
     let sent =
-    subst (λ (n : ℕ). Beating (tests_in g.F.Filter.meaning mid) m n
-    (kept_of g.L.Listener.notices g.L.Listener.capacity mid) d.0 d.1 new) c.sent-sent.ensures.sent d.3 in
+    same_tests g.F.Filter.meaning start mid (λ tests. Beating tests m c.sent-sent.result
+    (kept_of g.L.Listener.notices g.L.Listener.capacity mid) d.0 d.1 new) c.add_step.ensures.filters d.3 in
     let beats =
-    same_beats g.F.Filter.meaning g.L.Listener.notices g.L.Listener.capacity start mid last m _ d.0 d.1
-    c.add_step.ensures.filters sent in
+    subst (λ (n : ℕ). Beating (tests_in g.F.Filter.meaning start) m n
+    (kept_of g.L.Listener.notices g.L.Listener.capacity mid) d.0 d.1 new) c.sent-sent.ensures.sent sent in
     let round =
     rounds_are old writer reader m a.0
     (kept_of g.L.Listener.notices g.L.Listener.capacity mid) d.1 c.from_vec-replies.result new d.0 from

@@ -2,8 +2,8 @@ use Rattle.std.proofs.Common.{◌≡◌, List, [], ◌∷◌, ◌++◌, sym, sub
 use Rattle.std.proofs.lemmas.Grind.{common_steps}
 use Rattle.dds_model.specs.declared.reply.Reply.{Reply}
 use Rattle.dds_world.specs.Holding.{kept_of, tests_in}
-use Rattle.dds_world.specs.WorldStanding.{Runs}
-use Rattle.dds_world.proofs.Holding.{same_rules}
+use Rattle.dds_world.specs.WorldStanding.{KeepsRules, Runs}
+use Rattle.dds_world.proofs.Holding.{same_tests}
 use Rattle.dds_world.proofs.RunSteps.{runs_more}
 use Rattle.dds_world.proofs.world.World.run.Goals as goal
 
@@ -21,8 +21,10 @@ loop-event-preserved g c =
     (kept_of g.L.Listener.notices g.L.Listener.capacity c.loop-event.self)
     (kept_of g.L.Listener.notices g.L.Listener.capacity c.step-reply.new.self) c.loop-event.yielded
     c.loop-event.replies.items c.in-Some.event c.step-reply.result i.0
-    (same_rules g.F.Filter.meaning g.L.Listener.notices g.L.Listener.capacity first c.loop-event.self
-    c.step-reply.new.self c.in-Some.event c.step-reply.result i.1 c.step-reply.ensures.rules)
+    (same_tests g.F.Filter.meaning first c.loop-event.self
+    (λ ts. KeepsRules ts (kept_of g.L.Listener.notices g.L.Listener.capacity c.loop-event.self) c.in-Some.event
+    c.step-reply.result (kept_of g.L.Listener.notices g.L.Listener.capacity c.step-reply.new.self)) i.1
+    c.step-reply.ensures.rules)
     c.step-reply.ensures.sends in (
       subst (λ (rs : List Reply). Runs tests (kept_of g.L.Listener.notices g.L.Listener.capacity first)
           (c.loop-event.yielded ++ c.in-Some.event ∷ []) rs
