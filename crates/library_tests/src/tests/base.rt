@@ -5,14 +5,14 @@ mod tables;
 
 use crate::tests::rows::{Subject, expect_rows, octets_of, push_hex};
 use bitflags::Flags;
-use config::push_check;
+use config::{push_check, push_fault};
 use dds_base::{
     ChangeKind, Code, Datum, Handle, InstanceStateMask, Key, MAX_VALUE, Masks, Moment,
     SampleStateMask, Sn, ViewStateMask, decode_datum, decode_datum_key, decode_key, encode_datum,
     encode_key,
 };
 use std::alloc::Global;
-use tables::{CONFIGS, DATA, NAMES};
+use tables::{CONFIGS, DATA, FAULTS, NAMES};
 
 /// Appends whether what is written is what was read.
 fn push_form(text: &mut String, written: &[u8], octets: &[u8]) {
@@ -162,6 +162,7 @@ impl Subject for Base {
         match name {
             "decode" => push_forms(alloc, text, &octets_of(alloc, operands)),
             "check" => push_check(alloc, text, operands),
+            "fault" => push_fault(alloc, text, operands),
             "codes" => push_codes(text),
             "kinds" => push_kinds(text),
             "samples" => push_samples(text),
@@ -179,4 +180,5 @@ fn base_answers(rt: HostRuntime) {
     expect_rows(&rt, alloc, &mut Base, DATA);
     expect_rows(&rt, alloc, &mut Base, NAMES);
     expect_rows(&rt, alloc, &mut Base, CONFIGS);
+    expect_rows(&rt, alloc, &mut Base, FAULTS);
 }

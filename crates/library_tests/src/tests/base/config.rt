@@ -180,6 +180,20 @@ fn config_of(alloc: Global, draft: Draft) -> Config {
     }
 }
 
+/// Appends the fault of a configuration, and its code.
+pub fn push_fault(alloc: Global, text: &mut String, words: &str) {
+    let config = config_of(alloc, draft_of(alloc, words));
+    match config.fault() {
+        Some(fault) => {
+            let code = fault.code();
+            let _ = write!(text, "{fault}, {code}");
+        }
+        None => {
+            let _ = text.push_str("none");
+        }
+    }
+}
+
 /// Appends the answer to a configuration.
 pub fn push_check(alloc: Global, text: &mut String, words: &str) {
     let config = config_of(alloc, draft_of(alloc, words));
