@@ -1,10 +1,12 @@
--- What contracts see of a reader's cache: what happened as it stands for it, and what an access answers and leaves.
--- Nobody looks into `StandsFor`: what it has to say is in the clauses of each call.
+-- What contracts see of a reader's cache: what happened as it stands for it, how room is made and an entry taken up,
+-- and what an access answers and leaves. Nobody looks into `StandsFor`: what it has to say is in the clauses of each
+-- call.
 --
 -- DDS 1.4, 2.2.2.5 (read, take), 2.2.3 (HISTORY, RESOURCE_LIMITS); RTPS 2.5, 8.2 (HistoryCache of a reader).
-use Rattle.std.specs.Prelude.{Bool, ◌≡◌, ◌≢◌, ℕ, ◌<◌, ◌-◌, ◌^◌, min, List, [], ◌∷◌, length, filter, All, false, Option, None, Result, Ok, Err}
+use Rattle.std.specs.Prelude.{Bool, ◌≡◌, ◌≢◌, ℕ, ◌<◌, ◌≤◌, ◌+◌, ◌-◌, ◌^◌, min, List, [], ◌∷◌, length, filter, All, false, Option, None}
+use Rattle.std.specs.Prelude.{Result, Ok, Err, IsOk, OnOk, OnErr, IfErr}
 use Rattle.dds_base.specs.declared.code.Code.{Code}
-use Rattle.dds_base.specs.declared.code.Code.TheVariants.{NoData}
+use Rattle.dds_base.specs.declared.code.Code.TheVariants.{Memory, NoData}
 use Rattle.dds_base.specs.declared.happening.SamplePosition.{SamplePosition}
 use Rattle.dds_base.specs.declared.happening.Happening.{Happening}
 use Rattle.dds_base.specs.declared.happening.Happening.TheVariants.{Read as HasRead, Took}
@@ -59,6 +61,37 @@ pub record StandsFor (stored : Stored) (h : List Happening) : Type 0 where
   pub untaken : (i : Key) (j : ℕ) → length h < j → is_taken (sample_at i j) h ≡ false
   pub arrivals_are : stored.arrivals ≡ min (arrivals h) (2 ^ 31 - 1)
   pub data_is : stored.data_at ≡ data_available_at stored.qos h
+
+-- how room is made for so many more, or refused, by how many of their kind find memory
+pub record MakesRoom (spare : Stored → ℕ) (additional : ℕ) (old new : Stored) (answer : Result (Unit {0}) Code)
+    : Type 0 where
+  -- nothing happens
+  pub same : (h : List Happening) → StandsFor old h → StandsFor new h
+  -- the policies stay
+  pub qos : qos_of new ≡ qos_of old
+  -- there is room for so many
+  pub room : OnOk answer (additional ≤ spare new)
+  -- there is no less room than before
+  pub more : spare old ≤ spare new
+  -- where there is room enough it succeeds
+  pub succeeds : additional ≤ spare old → IsOk answer
+  -- a refusal leaves the cache as it was
+  pub err : OnErr answer (new ≡ old)
+  -- it is refused for want of memory alone
+  pub memory : IfErr answer (λ e. e ≡ Memory)
+
+-- how an entry more is taken up, or refused, by how many of its kind find memory
+pub record TakesEntry (spare : Stored → ℕ) (old new : Stored) (answer : Result (Unit {0}) Code) : Type 0 where
+  -- the policies stay
+  pub qos : qos_of new ≡ qos_of old
+  -- where there is room it is taken up
+  pub reserved : 1 ≤ spare old → IsOk answer
+  -- it takes the room of one at most
+  pub room : spare old ≤ spare new + 1
+  -- a refusal leaves the cache as it was
+  pub err : OnErr answer (new ≡ old)
+  -- it is refused for want of memory alone
+  pub memory : IfErr answer (λ e. e ≡ Memory)
 
 -- what happened where an access returned these samples
 abbrev pub entry_of : AccessKind → List SamplePosition → Happening

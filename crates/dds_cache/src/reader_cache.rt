@@ -16,7 +16,7 @@ ghost use Rattle.dds_instances.specs.Known.{IsReturnable};
 ghost use Rattle.dds_cache.specs.Kept.{HaveSame};
 ghost use Rattle.dds_cache.specs.Picking.{IsAccess};
 ghost use Rattle.dds_cache.specs.Standing.{deaths_of, qos_of, room_of, StandsFor, entry_of};
-ghost use Rattle.dds_cache.specs.Standing.{AccessAnswers, AfterAccess};
+ghost use Rattle.dds_cache.specs.Standing.{AccessAnswers, AfterAccess, MakesRoom, TakesEntry};
 
 use crate::access::is_any_match;
 use crate::access_kind::AccessKind;
@@ -101,20 +101,9 @@ impl ReaderCache {
     ///
     /// `Memory` where a growth was refused; the cache is then as it was.
     pub fn reserve(&mut self, additional: usize) -> Result<(), Code>
-        // Nothing happens.
-        ensures same { (h : List Happening) → StandsFor self.old h → StandsFor self.new h }
-        // The policies stay.
-        ensures qos { qos_of self.new ≡ qos_of self.old }
-        // There is room for so many entries.
-        ensures room { OnOk result (additional ≤ room_of self.new) }
-        // There is no less room than before.
-        ensures more { room_of self.old ≤ room_of self.new }
-        // Where there is room enough it succeeds.
-        ensures succeeds { additional ≤ room_of self.old → IsOk result }
-        // A refusal leaves the cache as it was.
-        ensures err { OnErr result (self.new ≡ self.old) }
-        // It is refused for want of memory alone.
-        ensures memory { IfErr result (λ e. e ≡ Memory) }
+        // Nothing happens, and the policies stay. There is room for so many entries, and no less than before; where
+        // there is enough it succeeds, and it is refused for want of memory alone, and then changes nothing.
+        ensures makes { MakesRoom room_of additional self.old self.new result }
     {
         if additional <= self.room {
             return Ok(());
@@ -137,22 +126,11 @@ impl ReaderCache {
     ///
     /// DDS 1.4, 2.2.3 (LIVELINESS).
     pub fn reserve_deaths(&mut self, count: usize) -> Result<(), Code>
-        // Nothing happens.
-        ensures same { (h : List Happening) → StandsFor self.old h → StandsFor self.new h }
-        // The policies stay.
-        ensures qos { qos_of self.new ≡ qos_of self.old }
+        // Nothing happens, and the policies stay. There is room for so many deaths, and no less than before; where
+        // there is enough it succeeds, and it is refused for want of memory alone, and then changes nothing.
+        ensures makes { MakesRoom deaths_of count self.old self.new result }
         // There is no less room for entries than before.
         ensures room { room_of self.old ≤ room_of self.new }
-        // There is room for so many deaths.
-        ensures deaths { OnOk result (count ≤ deaths_of self.new) }
-        // There is no less room for deaths than before.
-        ensures more { deaths_of self.old ≤ deaths_of self.new }
-        // Where there is room enough it succeeds.
-        ensures succeeds { count ≤ deaths_of self.old → IsOk result }
-        // A refusal leaves the cache as it was.
-        ensures err { OnErr result (self.new ≡ self.old) }
-        // It is refused for want of memory alone.
-        ensures memory { IfErr result (λ e. e ≡ Memory) }
     {
         if count <= self.deaths {
             return Ok(());
@@ -239,11 +217,7 @@ impl ReaderCache {
         ensures heard { OnOk result
             ((h : List Happening) (w moment : ℕ) → StandsFor self.old h
             → StandsFor self.new (Heard w moment ∷ h)) }
-        ensures qos { qos_of self.new ≡ qos_of self.old }
-        ensures reserved { 1 ≤ room_of self.old → IsOk result }
-        ensures room { room_of self.old ≤ room_of self.new + 1 }
-        ensures err { OnErr result (self.new ≡ self.old) }
-        ensures memory { IfErr result (λ e. e ≡ Memory) }
+        ensures entry { TakesEntry room_of self.old self.new result }
     {
         self.instances.skip()?;
         self.room = self.room.saturating_sub(1);
@@ -265,16 +239,9 @@ impl ReaderCache {
         // The change came, and nothing else happened.
         ensures ok { OnOk result ((h : List Happening) → StandsFor self.old h
             → StandsFor self.new (Came arrival ∷ h)) }
-        // The policies stay.
-        ensures qos { qos_of self.new ≡ qos_of self.old }
-        // Where there is room it comes.
-        ensures reserved { 1 ≤ room_of self.old → IsOk result }
-        // It takes the room of one entry at most.
-        ensures room { room_of self.old ≤ room_of self.new + 1 }
-        // A refusal leaves the cache as it was.
-        ensures err { OnErr result (self.new ≡ self.old) }
-        // It is refused for want of memory alone.
-        ensures memory { IfErr result (λ e. e ≡ Memory) }
+        // It is an entry as each is: the policies stay, where there is room it is taken up, it takes the room of one at
+        // most, and it is refused for want of memory alone, and then changes nothing.
+        ensures entry { TakesEntry room_of self.old self.new result }
     {
         self.reserve(1)?;
         self.take_up(arrival);
@@ -296,16 +263,9 @@ impl ReaderCache {
         ensures ok { OnOk result
             ((h : List Happening) → StandsFor self.old h
             → StandsFor self.new (Passed writer first last ∷ h)) }
-        // The policies stay.
-        ensures qos { qos_of self.new ≡ qos_of self.old }
-        // Where there is room it is taken up.
-        ensures reserved { 1 ≤ room_of self.old → IsOk result }
-        // It takes the room of one entry at most.
-        ensures room { room_of self.old ≤ room_of self.new + 1 }
-        // A refusal leaves the cache as it was.
-        ensures err { OnErr result (self.new ≡ self.old) }
-        // It is refused for want of memory alone.
-        ensures memory { IfErr result (λ e. e ≡ Memory) }
+        // It is an entry as each is: the policies stay, where there is room it is taken up, it takes the room of one at
+        // most, and it is refused for want of memory alone, and then changes nothing.
+        ensures entry { TakesEntry room_of self.old self.new result }
     {
         let _ = (writer, first, last);
         self.skip()?;
@@ -326,16 +286,9 @@ impl ReaderCache {
         ensures ok { OnOk result
             ((h : List Happening) → StandsFor self.old h
             → StandsFor self.new (Heard writer moment ∷ h)) }
-        // The policies stay.
-        ensures qos { qos_of self.new ≡ qos_of self.old }
-        // Where there is room it is taken up.
-        ensures reserved { 1 ≤ room_of self.old → IsOk result }
-        // It takes the room of one entry at most.
-        ensures room { room_of self.old ≤ room_of self.new + 1 }
-        // A refusal leaves the cache as it was.
-        ensures err { OnErr result (self.new ≡ self.old) }
-        // It is refused for want of memory alone.
-        ensures memory { IfErr result (λ e. e ≡ Memory) }
+        // It is an entry as each is: the policies stay, where there is room it is taken up, it takes the room of one at
+        // most, and it is refused for want of memory alone, and then changes nothing.
+        ensures entry { TakesEntry room_of self.old self.new result }
     {
         let _ = (writer, moment);
         self.skip()?;
@@ -356,18 +309,12 @@ impl ReaderCache {
         ensures ok { OnOk result
             ((h : List Happening) → StandsFor self.old h
             → StandsFor self.new (Died writer moment ∷ h)) }
-        // The policies stay.
-        ensures qos { qos_of self.new ≡ qos_of self.old }
-        // Where there is room for a death it is taken up.
-        ensures reserved { 1 ≤ deaths_of self.old → IsOk result }
-        // It takes the room of one death at most.
-        ensures deaths { deaths_of self.old ≤ deaths_of self.new + 1 }
+        // It is an entry as each is, by the room for deaths: the policies stay, where there is room for a death it is
+        // taken up, it takes the room of one at most, and it is refused for want of memory alone, and then changes
+        // nothing.
+        ensures entry { TakesEntry deaths_of self.old self.new result }
         // It takes the room of one entry at most.
         ensures room { room_of self.old ≤ room_of self.new + 1 }
-        // A refusal leaves the cache as it was.
-        ensures err { OnErr result (self.new ≡ self.old) }
-        // It is refused for want of memory alone.
-        ensures memory { IfErr result (λ e. e ≡ Memory) }
     {
         self.reserve_deaths(1)?;
         self.bury(writer, moment);
@@ -432,10 +379,7 @@ impl ReaderCache {
         ensures ok { OnOk result ((h : List Happening) → StandsFor self.old h
             → All (IsReturnable (qos_of self.old) h) access.now.positions.items
             → StandsFor self.new (entry_of kind access.now.positions.items ∷ h)) }
-        ensures qos { qos_of self.new ≡ qos_of self.old }
-        ensures room { room_of self.old ≤ room_of self.new + 1 }
-        ensures err { OnErr result (self.new ≡ self.old) }
-        ensures memory { IfErr result (λ e. e ≡ Memory) }
+        ensures entry { TakesEntry room_of self.old self.new result }
     {
         self.instances.returned(&access.positions)?;
         settle(kind, &mut self.samples, &access.returned);

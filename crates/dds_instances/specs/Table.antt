@@ -1,10 +1,13 @@
--- When what is kept of the instances stands for what happened. Public contracts name the counts of it, and look no further
--- into it.
+-- When what is kept of the instances stands for what happened, and how an entry more is taken up. Public contracts name
+-- the counts of it, and look no further into it.
 --
 -- DDS 1.4, 2.2.2.5 (SampleInfo: instance_handle, instance_state, view_state, the two generation counts).
-use Rattle.std.specs.Prelude.{◌≡◌, ◌≢◌, ℕ, zero, suc, slice_get, ◌<◌, List, [], length, map, count_by, All, Bool, false, Option, None, slice_index_or}
+use Rattle.std.specs.Prelude.{◌≡◌, ◌≢◌, ℕ, zero, suc, slice_get, ◌+◌, ◌<◌, ◌≤◌, List, [], length, map, count_by, All, Bool, false, Option, None, slice_index_or}
+use Rattle.std.specs.Prelude.{Result, IsOk, OnErr, IfErr}
 use Rattle.std.specs.List.{list_any}
 use Rattle.std.specs.Option.{option_and_then}
+use Rattle.dds_base.specs.declared.code.Code.{Code}
+use Rattle.dds_base.specs.declared.code.Code.TheVariants.{Memory}
 use Rattle.dds_base.specs.declared.key.Key.{Key}
 use Rattle.dds_base.specs.declared.happening.Happening.{Happening}
 use Rattle.dds_base.specs.declared.qos.ReaderQos.{ReaderQos}
@@ -39,6 +42,17 @@ alive_of table = table.alive
 -- of how many instances the newest entry left a marker
 abbrev pub marked_of : Table → ℕ
 marked_of table = count_by (λ (t : InstanceTrack). is_at t.last_marker table.happened) table.tracks
+
+-- how an entry more is taken up, or refused
+pub record TakesEntry (old new : Table) (answer : Result (Unit {0}) Code) : Type 0 where
+  -- where there is room it is taken up
+  pub reserved : 1 ≤ room_of old → IsOk answer
+  -- it takes the room of one entry at most
+  pub room : room_of old ≤ room_of new + 1
+  -- a refusal leaves the instances as they were
+  pub err : OnErr answer (new ≡ old)
+  -- it is refused for want of memory alone
+  pub memory : IfErr answer (λ e. e ≡ Memory)
 
 -- the instance of a track
 abbrev pub key_of : InstanceTrack → Key

@@ -74,7 +74,7 @@ impl Instances {
     ghost use Rattle.dds_instances.specs.Known.{IsKnown, IsReturnable};
     ghost use Rattle.dds_base.specs.Access.{handle_of, instance_of};
     ghost use Rattle.dds_base.specs.Instance.{instance_state_of, view_state_of, disposed_generations, no_writers_generations, known_instances};
-    ghost use Rattle.dds_instances.specs.Table.{Stands, alive_of, happened_of, has_marked, marked_of, room_of};
+    ghost use Rattle.dds_instances.specs.Table.{Stands, TakesEntry, alive_of, happened_of, has_marked, marked_of, room_of};
 
     /// Of a reader at which nothing has happened.
     pub fn open(alloc: Global, qos: &ReaderQos) -> Self
@@ -157,14 +157,9 @@ impl Instances {
         ensures ok { OnOk result
             ((h : List Happening) → Stands qos.now self.old h
             → Stands qos.now self.new (Came arrival.now ∷ h)) }
-        // Where there is room it comes.
-        ensures reserved { 1 ≤ room_of self.old → IsOk result }
-        // It takes the room of one entry at most.
-        ensures room { room_of self.old ≤ room_of self.new + 1 }
-        // A refusal leaves it as it was.
-        ensures err { OnErr result (self.new ≡ self.old) }
-        // It is refused for want of memory alone.
-        ensures memory { IfErr result (λ e. e ≡ Memory) }
+        // It is an entry as each is: where there is room it is taken up, it takes the room of one at most, and it is
+        // refused for want of memory alone, and then changes nothing.
+        ensures entry { TakesEntry self.old self.new result }
     {
         self.reserve(1)?;
         self.change(qos, arrival);
@@ -187,16 +182,11 @@ impl Instances {
         ensures happened { OnOk result (happened_of self.new ≡ happened_of self.old + 1) }
         // It leaves a marker of no more instances than those that were alive and are not any more.
         ensures marked { OnOk result (alive_of self.new + marked_of self.new ≤ alive_of self.old) }
-        // Where there is room it is taken up.
-        ensures reserved { 1 ≤ room_of self.old → IsOk result }
         // It is taken up before 2^64 - 1 entries were.
         ensures counted { happened_of self.old + 1 < 2 ^ 64 → IsOk result }
-        // It takes the room of one entry at most.
-        ensures room { room_of self.old ≤ room_of self.new + 1 }
-        // A refusal leaves it as it was.
-        ensures err { OnErr result (self.new ≡ self.old) }
-        // It is refused for want of memory alone.
-        ensures memory { IfErr result (λ e. e ≡ Memory) }
+        // It is an entry as each is: where there is room it is taken up, it takes the room of one at most, and it is
+        // refused for want of memory alone, and then changes nothing.
+        ensures entry { TakesEntry self.old self.new result }
     {
         let room = room_after(self.happened, self.room)?;
         let position = self.happened + 1;
@@ -225,14 +215,9 @@ impl Instances {
         ensures looked { OnOk result
             ((q : ReaderQos) (h : List Happening) (kind : StatusKind) → Stands q self.old h
             → Stands q self.new (Looked kind ∷ h)) }
-        // Where there is room it is taken up.
-        ensures reserved { 1 ≤ room_of self.old → IsOk result }
-        // It takes the room of one entry at most.
-        ensures room { room_of self.old ≤ room_of self.new + 1 }
-        // A refusal leaves it as it was.
-        ensures err { OnErr result (self.new ≡ self.old) }
-        // It is refused for want of memory alone.
-        ensures memory { IfErr result (λ e. e ≡ Memory) }
+        // It is an entry as each is: where there is room it is taken up, it takes the room of one at most, and it is
+        // refused for want of memory alone, and then changes nothing.
+        ensures entry { TakesEntry self.old self.new result }
     {
         self.room = room_after(self.happened, self.room)?;
         self.happened += 1;
@@ -257,14 +242,9 @@ impl Instances {
             ((q : ReaderQos) (h : List Happening) → Stands q self.old h
             → All (IsReturnable q h) samples.now
             → Stands q self.new (Took samples.now ∷ h)) }
-        // Where there is room it is taken up.
-        ensures reserved { 1 ≤ room_of self.old → IsOk result }
-        // It takes the room of one entry at most.
-        ensures room { room_of self.old ≤ room_of self.new + 1 }
-        // A refusal leaves it as it was.
-        ensures err { OnErr result (self.new ≡ self.old) }
-        // It is refused for want of memory alone.
-        ensures memory { IfErr result (λ e. e ≡ Memory) }
+        // It is an entry as each is: where there is room it is taken up, it takes the room of one at most, and it is
+        // refused for want of memory alone, and then changes nothing.
+        ensures entry { TakesEntry self.old self.new result }
     {
         self.room = room_after(self.happened, self.room)?;
         self.happened += 1;
