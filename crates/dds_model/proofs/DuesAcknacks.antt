@@ -42,8 +42,7 @@ ask_body reader writer x =
       writer_id = writer;
       reader_sn_state = x.missing;
       count = x.count;
-      final_flag =
-          x.is_final;
+      final_flag = x.is_final;
     }
 
 -- an ACKNACK that is due to a submessage of a writer, whose base is the reader's place in the writer's list

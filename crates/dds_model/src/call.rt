@@ -109,7 +109,8 @@ pub enum Call {
         masks: Masks,
     },
     /// Makes a query condition: its trigger value is true while a present sample of the reader meets the masks and passes the
-    /// filter of this number (DDS 1.4, 2.2.2.5, create_querycondition). `OutOfResources` where 2^32 - 1 conditions were made.
+    /// filter of this number (DDS 1.4, 2.2.2.5, create_querycondition). `BadParameter` for a filter that was not added,
+    /// `OutOfResources` where 2^32 - 1 conditions were made.
     CreateQueryCondition {
         reader: u8,
         masks: Masks,

@@ -18,7 +18,7 @@ pub struct Packet {
     pub bytes: Octets,
 }
 
-/// What happens to one peer.
+/// What happens to one peer: `Core::step` of `dds_core` takes it, and its reply is that of the machine.
 #[derive(Debug, Drop, PartialEq, Eq)]
 pub enum Event {
     /// A call of the application; `Call` says what answers it.

@@ -80,7 +80,8 @@ pub enum Reply {
     StatusChanges(StatusMask),
     /// What a delivered packet did.
     Reported(Report),
-    /// A refusal, with its cause. Nothing changed, but that `NoData` is entered as the access that it is.
+    /// A refusal, with its cause. Nothing changed, but that `NoData` is entered as the access that it is, and that `Timeout` of
+    /// a look at a WaitSet ends the wait.
     Refused(Code),
 }
 

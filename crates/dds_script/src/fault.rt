@@ -34,7 +34,7 @@ impl From<AllocError> for Fault {
 }
 
 impl Fault {
-    /// That of an input that failed so.
+    /// The fault of an input whose reading failed with this error: `Memory` for want of it, `InputFailed` for all else.
     pub fn of_input(error: io::Error) -> Self {
         if error.kind() == ErrorKind::OutOfMemory {
             Fault::Memory

@@ -11,6 +11,7 @@ use std::alloc::Global;
 /// The listener that an entity is to have.
 #[derive(Clone, Copy)]
 pub struct ListenerLine {
+    /// Whose listener it is.
     pub entity: Entity,
     /// The statuses that the listener is told of.
     pub mask: StatusMask,

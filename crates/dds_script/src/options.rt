@@ -6,13 +6,21 @@ use dds_base::{EntityId, HistoryQos, OwnershipQos, ReaderConfig, WriterConfig};
 /// What the options of a writer or a reader say.
 #[derive(Clone, Copy)]
 pub struct Options {
+    /// `shared` or `exclusive`.
     pub ownership: OwnershipQos,
+    /// `all`, or `last` with a depth.
     pub history: HistoryQos,
+    /// `samples`: positive, or -1 for no limit.
     pub max_samples: i32,
+    /// `instances`, of a reader: positive, or -1 for no limit.
     pub max_instances: i32,
+    /// `strength`, of a writer.
     pub strength: i32,
+    /// `lease`, in units of 2^-32 second; none never ends.
     pub lease: Option<u64>,
+    /// `autodispose`, of a writer.
     pub autodispose: bool,
+    /// `topic`: writers and readers of one number match.
     pub topic: u32,
 }
 

@@ -16,8 +16,9 @@ use std::io::Write;
 /// What was sent, and what was not, in one event.
 #[derive(Clone, Copy)]
 pub struct Traffic {
-    /// How many packets had been sent before it, and how many after it.
+    /// How many packets had been sent before it.
     pub before: u64,
+    /// How many had been sent after it.
     pub after: u64,
     /// How many found no memory in it.
     pub unsent: u64,

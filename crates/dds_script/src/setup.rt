@@ -8,8 +8,11 @@ use std::mem;
 /// A peer, or a writer or a reader of the last peer, by its name.
 #[derive(Clone, Copy)]
 pub enum SetupLine {
+    /// A peer, of which more lines may name writers and readers.
     Peer(GuidPrefix),
+    /// A writer of the last peer.
     Writer(EntityId, Options),
+    /// A reader of the last peer.
     Reader(EntityId, Options),
 }
 
