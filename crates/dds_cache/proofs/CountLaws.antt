@@ -29,36 +29,49 @@ use Rattle.dds_cache.proofs.FindingLaws.{filter-flat_map, known-distinct, passes
 abbrev of_key : List SamplePosition → Key → List SamplePosition
 of_key ss i = filter (λ (s : SamplePosition). same_key i s.key) ss
 
-not-there : (ks : List Key) (i : Key) (s : SamplePosition) → same_key i s.key ≡ true → AllByRecursion (λ y. same_key i y ≡ false) ks → list_any (λ k. same_key k s.key) ks ≡ false
+not-there : (ks : List Key) (i : Key) (s : SamplePosition) → same_key i s.key ≡ true
+    → AllByRecursion (λ y. same_key i y ≡ false) ks → list_any (λ k. same_key k s.key) ks ≡ false
 not-there [] i s same apart = refl
 not-there (k ∷ ks) i s same apart =
-    ap (λ (b : Bool). b || list_any (λ y. same_key y s.key) ks) (same_key-comm k s.key ∙ (ap (λ (x : Key). same_key x k) (sym (key-same i s.key same)) ∙ apart.0))
+    ap (λ (b : Bool). b || list_any (λ y. same_key y s.key) ks)
+    (same_key-comm k s.key ∙ (ap (λ (x : Key). same_key x k) (sym (key-same i s.key same)) ∙ apart.0))
     ∙ not-there ks i s same apart.1
 
 -- a sample of none of the instances is in no group
-group-none : (ks : List Key) (s : SamplePosition) (ss : List SamplePosition) → list_any (λ k. same_key k s.key) ks ≡ false → flat_map (of_key (s ∷ ss)) ks ≡ flat_map (of_key ss) ks
+group-none : (ks : List Key) (s : SamplePosition) (ss : List SamplePosition)
+    → list_any (λ k. same_key k s.key) ks ≡ false → flat_map (of_key (s ∷ ss)) ks ≡ flat_map (of_key ss) ks
 group-none [] s ss none = refl
 group-none (k ∷ ks) s ss none =
     let parts = or-parts (same_key k s.key) (list_any (λ x. same_key x s.key) ks) none in
     flat_map-cons (of_key (s ∷ ss)) k ks
     ∙ (ap (λ (b : Bool). cond b (s ∷ of_key ss k) (of_key ss k) ++ flat_map (of_key (s ∷ ss)) ks) parts.0
-    ∙ (ap (λ (xs : List SamplePosition). of_key ss k ++ xs) (group-none ks s ss parts.1) ∙ sym (flat_map-cons (of_key ss) k ks)))
+    ∙ (ap (λ (xs : List SamplePosition). of_key ss k ++ xs) (group-none ks s ss parts.1)
+    ∙ sym (flat_map-cons (of_key ss) k ks)))
   where
     or-parts : (a b : Bool) → (a || b) ≡ false → (a ≡ false) × (b ≡ false)
     or-parts true b e = absurd cc
     or-parts false b e = (refl, e)
 
 -- a sample of one of the instances is in one group
-group-one : (ks : List Key) (s : SamplePosition) (ss : List SamplePosition) → IsDistinct same_key ks → list_any (λ k. same_key k s.key) ks ≡ true → length (flat_map (of_key (s ∷ ss)) ks) ≡ suc (length (flat_map (of_key ss) ks))
+group-one : (ks : List Key) (s : SamplePosition) (ss : List SamplePosition) → IsDistinct same_key ks
+    → list_any (λ k. same_key k s.key) ks ≡ true → length (flat_map (of_key (s ∷ ss)) ks)
+    ≡ suc (length (flat_map (of_key ss) ks))
 group-one [] s ss distinct there = absurd (let clash : false ≡ true = there in cc)
 group-one (k ∷ ks) s ss distinct there =
     ap length (flat_map-cons (of_key (s ∷ ss)) k ks)
     ∙ (⊎_elim
     (λ same. ap (λ (b : Bool). length (cond b (s ∷ of_key ss k) (of_key ss k) ++ flat_map (of_key (s ∷ ss)) ks)) same
-    ∙ ap (λ (xs : List SamplePosition). suc (length (of_key ss k ++ xs))) (group-none ks s ss (not-there ks k s same (IsDistinct-head same_key k ks distinct))))
-    (λ other. let rest : length (flat_map (of_key (s ∷ ss)) ks) ≡ suc (length (flat_map (of_key ss) ks)) = group-one ks s ss (IsDistinct-tail same_key k ks distinct) (sym (ap (λ (b : Bool). b || list_any (λ x. same_key x s.key) ks) other) ∙ there) in
-    let first : length (of_key ss k ++ flat_map (of_key (s ∷ ss)) ks) ≡ length (of_key ss k) + length (flat_map (of_key (s ∷ ss)) ks) = length-append (of_key ss k) (flat_map (of_key (s ∷ ss)) ks) in
-    let second : length (of_key ss k ++ flat_map (of_key ss) ks) ≡ length (of_key ss k) + length (flat_map (of_key ss) ks) = length-append (of_key ss k) (flat_map (of_key ss) ks) in
+    ∙ ap (λ (xs : List SamplePosition). suc (length (of_key ss k ++ xs)))
+    (group-none ks s ss (not-there ks k s same (IsDistinct-head same_key k ks distinct))))
+    (λ other. let rest : length (flat_map (of_key (s ∷ ss)) ks)
+    ≡ suc (length (flat_map (of_key ss) ks)) = group-one ks s ss (IsDistinct-tail same_key k ks distinct)
+    (sym (ap (λ (b : Bool). b || list_any (λ x. same_key x s.key) ks) other) ∙ there) in
+    let first : length (of_key ss k ++ flat_map (of_key (s ∷ ss)) ks)
+    ≡ length (of_key ss k) + length (flat_map (of_key (s ∷ ss)) ks) = length-append (of_key ss k)
+    (flat_map (of_key (s ∷ ss)) ks) in
+    let second : length (of_key ss k ++ flat_map (of_key ss) ks)
+    ≡ length (of_key ss k) + length (flat_map (of_key ss) ks) = length-append (of_key ss k)
+    (flat_map (of_key ss) ks) in
     ap (λ (b : Bool). length (cond b (s ∷ of_key ss k) (of_key ss k) ++ flat_map (of_key (s ∷ ss)) ks)) other
     ∙ omega (arith, first, second, rest))
     (cases_Bool (same_key k s.key))
@@ -69,37 +82,51 @@ no-groups [] = refl
 no-groups (k ∷ ks) = flat_map-cons (of_key []) k ks ∙ no-groups ks
 
 -- samples of distinct instances are as many as their groups have
-pub groups-count : (ks : List Key) (ss : List SamplePosition) → IsDistinct same_key ks → All (λ (s : SamplePosition). list_any (λ k. same_key k s.key) ks ≡ true) ss → length (flat_map (of_key ss) ks) ≡ length ss
+pub groups-count : (ks : List Key) (ss : List SamplePosition) → IsDistinct same_key ks
+    → All (λ (s : SamplePosition). list_any (λ k. same_key k s.key) ks ≡ true) ss
+    → length (flat_map (of_key ss) ks) ≡ length ss
 groups-count ks [] distinct all = ap length (no-groups ks)
 groups-count ks (s ∷ ss) distinct all =
     group-one ks s ss distinct (All-head (λ (x : SamplePosition). list_any (λ k. same_key k x.key) ks ≡ true) s ss all)
-    ∙ ap suc (groups-count ks ss distinct (All-tail (λ (x : SamplePosition). list_any (λ k. same_key k x.key) ks ≡ true) s ss all))
+    ∙ ap suc (groups-count ks ss distinct
+    (All-tail (λ (x : SamplePosition). list_any (λ k. same_key k x.key) ks ≡ true) s ss all))
 
 -- those that pass a test, as samples
-passing-all : (P : SamplePosition → Type 0) (test : Kept → Bool) (ks : List Kept) → All (λ (k : Kept). P k.sample) ks → All P (map sample_of (filter test ks))
+passing-all : (P : SamplePosition → Type 0) (test : Kept → Bool) (ks : List Kept) → All (λ (k : Kept). P k.sample) ks
+    → All P (map sample_of (filter test ks))
 passing-all P test [] all = λ k d within. absurd (omega (arith, within))
-passing-all P test (k ∷ ks) all = one (test k) k (map sample_of (filter test ks)) (filter test ks) refl (All-head (λ (x : Kept). P x.sample) k ks all) (passing-all P test ks (All-tail (λ (x : Kept). P x.sample) k ks all))
+passing-all P test (k ∷ ks) all =
+    one (test k) k (map sample_of (filter test ks)) (filter test ks) refl (All-head (λ (x : Kept). P x.sample) k ks all)
+    (passing-all P test ks (All-tail (λ (x : Kept). P x.sample) k ks all))
   where
-    one : (b : Bool) (k : Kept) (ss : List SamplePosition) (xs : List Kept) → map sample_of xs ≡ ss → P k.sample → All P (map sample_of xs) → All P (map sample_of (cond b (k ∷ xs) xs))
+    one : (b : Bool) (k : Kept) (ss : List SamplePosition) (xs : List Kept) → map sample_of xs ≡ ss → P k.sample
+        → All P (map sample_of xs) → All P (map sample_of (cond b (k ∷ xs) xs))
     one true k ss xs is first rest = All-cons P k.sample (map sample_of xs) first rest
     one false k ss xs is first rest = rest
 
 -- the present samples that pass a test are as many as among those kept
-pub present-count : (q : ReaderQos) (h : List Happening) (test : SamplePosition → Bool) (ks : List Kept) → All (λ (k : Kept). list_any (λ i. same_key i k.sample.key) (known_instances q h) ≡ true) ks → ((i : Key) → filter (is_present q h i) (up_to (length h)) ≡ positions_in q h i ks) → count_by test (present_samples q h) ≡ count_by (passes q h test) ks
+pub present-count : (q : ReaderQos) (h : List Happening) (test : SamplePosition → Bool) (ks : List Kept)
+    → All (λ (k : Kept). list_any (λ i. same_key i k.sample.key) (known_instances q h) ≡ true) ks
+    → ((i : Key) → filter (is_present q h i) (up_to (length h)) ≡ positions_in q h i ks)
+    → count_by test (present_samples q h) ≡ count_by (passes q h test) ks
 present-count q h test ks known present =
     let known_is : List Key = known_instances q h in
     let ss : List SamplePosition = map sample_of (filter (passes q h test) ks) in
     sym (length-filter test (present_samples q h))
     ∙ (ap length (filter-flat_map test (present_of q h) known_is)
-    ∙ (ap length (flat_map-same (λ i. filter test (present_of q h i)) (of_key ss) known_is (λ i. ap (λ (ps : List ℕ). filter test (map (sample_at i) ps)) (present i) ∙ sym (wanted-of q h test i ks)))
-    ∙ (groups-count known_is ss (known-distinct q h) (passing-all (λ (s : SamplePosition). list_any (λ i. same_key i s.key) known_is ≡ true) (passes q h test) ks known)
+    ∙ (ap length (flat_map-same (λ i. filter test (present_of q h i)) (of_key ss) known_is
+    (λ i. ap (λ (ps : List ℕ). filter test (map (sample_at i) ps)) (present i) ∙ sym (wanted-of q h test i ks)))
+    ∙ (groups-count known_is ss (known-distinct q h)
+    (passing-all (λ (s : SamplePosition). list_any (λ i. same_key i s.key) known_is ≡ true)
+    (passes q h test) ks known)
     ∙ (length-map (filter (passes q h test) ks) sample_of ∙ length-filter (passes q h test) ks))))
 
 -- some passes exactly where those that pass are at least one
 any-count : {X : Type 0} (p : X → Bool) (xs : List X) → list_any p xs ≡ nat_lt 0 (count_by p xs)
 any-count p [] = refl
 any-count p (x ∷ xs) =
-    one (p x) (list_any p xs) (count_by p xs) (any-count p xs) ∙ ap (λ (n : ℕ). nat_lt 0 n) (sym (sum_by-cons (λ y. cond (p y) 1 0) x xs))
+    one (p x) (list_any p xs) (count_by p xs) (any-count p xs)
+    ∙ ap (λ (n : ℕ). nat_lt 0 n) (sym (sum_by-cons (λ y. cond (p y) 1 0) x xs))
   where
     nothing-more : (n : ℕ) → n ≡ 0 + n
     nothing-more n = omega arith
@@ -114,10 +141,15 @@ pub present-any : (q : ReaderQos) (h : List Happening) (test : SamplePosition �
     → list_any test (present_samples q h) ≡ list_any (passes q h test) ks
 present-any q h test ks kept present =
     any-count test (present_samples q h)
-    ∙ (ap (λ (n : ℕ). nat_lt 0 n) (present-count q h test ks (All-weaker (IsKept q h) (λ (k : Kept). list_any (λ i. same_key i k.sample.key) (known_instances q h) ≡ true) (λ k is. is.is_known) ks kept) present)
+    ∙ (ap (λ (n : ℕ). nat_lt 0 n)
+    (present-count q h test ks
+    (All-weaker (IsKept q h) (λ (k : Kept). list_any (λ i. same_key i k.sample.key) (known_instances q h) ≡ true)
+    (λ k is. is.is_known) ks kept) present)
     ∙ sym (any-count (passes q h test) ks))
 
 -- some of them meets the masks and passes the test exactly where one of those kept does
-pub matched-any : (q : ReaderQos) (table : Table) (h : List Happening) (masks : Masks) (test : Key → List ℕ → Bool) (ks : List Kept) → Holds q table ks h
+pub matched-any : (q : ReaderQos) (table : Table) (h : List Happening) (masks : Masks) (test : Key → List ℕ → Bool)
+    (ks : List Kept) → Holds q table ks h
     → list_any (is_wanted q h masks test) ks ≡ has_match q h masks test
-matched-any q table h masks test ks holds = sym (present-any q h (is_asked_for q h masks test) ks holds.each holds.present)
+matched-any q table h masks test ks holds =
+    sym (present-any q h (is_asked_for q h masks test) ks holds.each holds.present)

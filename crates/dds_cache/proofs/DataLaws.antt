@@ -26,7 +26,10 @@ pub brings-added : (q : ReaderQos) (e : Happening) (h : List Happening) (old new
 brings-added q e h old new past adds kept present =
     let g : List Happening = e ∷ h in
     let test : SamplePosition → Bool = λ (s : SamplePosition). s.position == length g in
-    let none : list_any (passes q g test) old ≡ false = list_any_none (passes q g test) old (All-weaker (λ (k : Kept). position_of k ≤ length h) (λ (k : Kept). passes q g test k ≡ false) (λ k before. older q e h k before) old past) in
+    let none : list_any (passes q g test) old ≡ false =
+    list_any_none (passes q g test) old
+    (All-weaker (λ (k : Kept). position_of k ≤ length h) (λ (k : Kept). passes q g test k ≡ false)
+    (λ k before. older q e h k before) old past) in
     present-any q g test new kept present
     ∙ (ap (λ (ks : List Kept). list_any (passes q g test) ks) adds.are
     ∙ (list_any-append (passes q g test) old adds.added
@@ -38,14 +41,20 @@ brings-added q e h old new past adds kept present =
     and-false true = refl
     and-false false = refl
 
-    older : (q : ReaderQos) (e : Happening) (h : List Happening) (k : Kept) → position_of k ≤ length h → (is_present q (e ∷ h) k.sample.key k.sample.position && (k.sample.position == length (e ∷ h))) ≡ false
+    older : (q : ReaderQos) (e : Happening) (h : List Happening) (k : Kept) → position_of k ≤ length h
+        → (is_present q (e ∷ h) k.sample.key k.sample.position && (k.sample.position == length (e ∷ h))) ≡ false
     older q e h k before =
-        ap (λ (b : Bool). is_present q (e ∷ h) k.sample.key k.sample.position && b) (unequal k.sample.position (length (e ∷ h)) (λ same. omega (arith, same, before)))
+        ap (λ (b : Bool). is_present q (e ∷ h) k.sample.key k.sample.position && b)
+        (unequal k.sample.position (length (e ∷ h)) (λ same. omega (arith, same, before)))
         ∙ and-false (is_present q (e ∷ h) k.sample.key k.sample.position)
 
-    some : (q : ReaderQos) (e : Happening) (h : List Happening) (old added : List Kept) → All (IsNewAt q (e ∷ h) (length h + 1)) added
-        → list_any (passes q (e ∷ h) (λ (s : SamplePosition). s.position == length (e ∷ h))) added ≡ nat_lt (length old) (length (old ++ added))
-    some q e h old [] all = let none : List Kept = [] in let whole = length-append old none in sym (le-ltb (length old) (length (old ++ [])) (omega (arith, whole)))
+    some : (q : ReaderQos) (e : Happening) (h : List Happening) (old added : List Kept)
+        → All (IsNewAt q (e ∷ h) (length h + 1)) added
+        → list_any (passes q (e ∷ h) (λ (s : SamplePosition). s.position == length (e ∷ h))) added
+        ≡ nat_lt (length old) (length (old ++ added))
+    some q e h old [] all =
+        let none : List Kept = [] in let whole = length-append old none in
+        sym (le-ltb (length old) (length (old ++ [])) (omega (arith, whole)))
     some q e h old (k ∷ ks) all =
         let first : IsNewAt q (e ∷ h) (length h + 1) k = All-head (IsNewAt q (e ∷ h) (length h + 1)) k ks all in
         let at : k.sample.position ≡ length (e ∷ h) = omega (arith, first.0) in

@@ -37,8 +37,14 @@ use Rattle.dds_cache.proofs.FindingLaws.{known-distinct}
 -- ---- the sample of one instance
 
 -- what is kept of a death, by what is known of the instance then
-pub newest-died : (q : ReaderQos) (w moment : ℕ) (h : List Happening) (known_is : KnownInstance) (k : Kept) → IsKnown q (Died w moment ∷ h) known_is → known_is.key ≡ k.sample.key → k.valid_data ≡ false → k.number ≡ known_is.accepted_writes → k.disposed_generation_count ≡ known_is.disposed_generations → k.no_writers_generation_count ≡ known_is.no_writers_generations → k.source_timestamp ≡ moment → k.publication_handle ≡ w → k.value ≡ [] → k.is_read ≡ false → k.handle ≡ handle_of q (Died w moment ∷ h) k.sample.key → IsNewest q (Died w moment ∷ h) k
-newest-died q w moment h known_is k is_known same valid number disposed no_writers timestamp publication value unread handle =
+pub newest-died : (q : ReaderQos) (w moment : ℕ) (h : List Happening) (known_is : KnownInstance) (k : Kept)
+    → IsKnown q (Died w moment ∷ h) known_is → known_is.key ≡ k.sample.key → k.valid_data ≡ false
+    → k.number ≡ known_is.accepted_writes → k.disposed_generation_count ≡ known_is.disposed_generations
+    → k.no_writers_generation_count ≡ known_is.no_writers_generations → k.source_timestamp ≡ moment
+    → k.publication_handle ≡ w → k.value ≡ [] → k.is_read ≡ false
+    → k.handle ≡ handle_of q (Died w moment ∷ h) k.sample.key → IsNewest q (Died w moment ∷ h) k
+newest-died q w moment h known_is k is_known same valid number disposed no_writers timestamp publication value unread
+    handle =
     let g : List Happening = Died w moment ∷ h in
     record {
       handle_is = handle;
@@ -59,23 +65,29 @@ or-none true = refl
 or-none false = refl
 
 -- of one instance, where the entry left a sample of it
-pub adds-of-one : (q : ReaderQos) (g : List Happening) (n : ℕ) (x : Key) (ks : List Kept) (k : Kept) → IsKeptAt q g x n k → AddsOf q g n (x ∷ []) ks (ks ++ k ∷ [])
+pub adds-of-one : (q : ReaderQos) (g : List Happening) (n : ℕ) (x : Key) (ks : List Kept) (k : Kept)
+    → IsKeptAt q g x n k → AddsOf q g n (x ∷ []) ks (ks ++ k ∷ [])
 adds-of-one q g n x ks k at = record {
   added = k ∷ [];
   are = refl;
   each = All-cons (IsKept q g) k [] at.kept (All-nil (IsKept q g));
-  present = λ i. ap (λ (b : Bool). cond (b && is_present q g i n) (n ∷ []) []) (or-none (same_key x i)) ∙ sym (one-position q g x i n k at.sample_is);
+  present =
+      λ i. ap (λ (b : Bool). cond (b && is_present q g i n) (n ∷ []) []) (or-none (same_key x i))
+      ∙ sym (one-position q g x i n k at.sample_is);
   new_are = All-cons (IsNewAt q g n) k [] (new-at q g x n k at) (All-nil (IsNewAt q g n));
 }
 
 -- and where it left none
-pub adds-of-nothing : (q : ReaderQos) (g : List Happening) (n : ℕ) (x : Key) (ks : List Kept) → is_present q g x n ≡ false → AddsOf q g n (x ∷ []) ks ks
+pub adds-of-nothing : (q : ReaderQos) (g : List Happening) (n : ℕ) (x : Key) (ks : List Kept)
+    → is_present q g x n ≡ false → AddsOf q g n (x ∷ []) ks ks
 adds-of-nothing q g n x ks absent = record {
   added = [];
   are = sym (append-nil ks);
   each = All-nil (IsKept q g);
   present = λ i. ap (λ (b : Bool). cond (b && is_present q g i n) (n ∷ []) []) (or-none (same_key x i)) ∙ ⊎_elim
-      (λ same. ap (λ (b : Bool). cond (b && is_present q g i n) (n ∷ []) []) same ∙ ap (λ (b : Bool). cond b (n ∷ []) []) (ap (λ (y : Key). is_present q g y n) (sym (key-same x i same)) ∙ absent))
+      (λ same. ap (λ (b : Bool). cond (b && is_present q g i n) (n ∷ []) []) same
+      ∙ ap (λ (b : Bool). cond b (n ∷ []) []) (ap (λ (y : Key). is_present q g y n) (sym (key-same x i same))
+      ∙ absent))
       (λ other. ap (λ (b : Bool). cond (b && is_present q g i n) (n ∷ []) []) other)
       (cases_Bool (same_key x i));
   new_are = All-nil (IsNewAt q g n);
@@ -83,42 +95,57 @@ adds-of-nothing q g n x ks absent = record {
 
 -- ---- one instance after another
 
-apart-later : (k x : Key) (ks : List Key) (at : ℕ) → AllByRecursion (λ y. same_key x y ≡ false) ks → slice_get ks at ≡ Some k → same_key x k ≡ false
+apart-later : (k x : Key) (ks : List Key) (at : ℕ) → AllByRecursion (λ y. same_key x y ≡ false) ks
+    → slice_get ks at ≡ Some k → same_key x k ≡ false
 apart-later k x [] at apart there = absurd cc
 apart-later k x (y ∷ ks) zero apart there = let same : y ≡ k = cc in ap (λ (z : Key). same_key x z) (sym same) ∙ apart.0
 apart-later k x (y ∷ ks) (suc at) apart there = apart-later k x ks at apart.1 there
 
 -- a key of distinct ones is not among those before it
-before-apart : (ks : List Key) (at : ℕ) (k : Key) → IsDistinct same_key ks → slice_get ks at ≡ Some k → list_any (λ x. same_key x k) (take at ks) ≡ false
+before-apart : (ks : List Key) (at : ℕ) (k : Key) → IsDistinct same_key ks → slice_get ks at ≡ Some k
+    → list_any (λ x. same_key x k) (take at ks) ≡ false
 before-apart [] at k distinct there = absurd cc
 before-apart (x ∷ ks) zero k distinct there = refl
 before-apart (x ∷ ks) (suc at) k distinct there =
-    ap (λ (b : Bool). b || list_any (λ y. same_key y k) (take at ks)) (apart-later k x ks at (IsDistinct-head same_key x ks distinct) there)
+    ap (λ (b : Bool). b || list_any (λ y. same_key y k) (take at ks))
+    (apart-later k x ks at (IsDistinct-head same_key x ks distinct) there)
     ∙ before-apart ks at k (IsDistinct-tail same_key x ks distinct) there
 
-both-table : (a s p : Bool) (n : ℕ) → (s ≡ true → a ≡ false) → cond ((a || (s || false)) && p) (n ∷ []) [] ≡ cond (a && p) (n ∷ []) [] ++ cond ((s || false) && p) (n ∷ []) []
+both-table : (a s p : Bool) (n : ℕ) → (s ≡ true → a ≡ false)
+    → cond ((a || (s || false)) && p) (n ∷ []) [] ≡ cond (a && p) (n ∷ []) [] ++ cond ((s || false) && p) (n ∷ []) []
 both-table true true p n apart = absurd (let clash : true ≡ false = apart refl in cc)
 both-table true false true n apart = refl
 both-table true false false n apart = refl
 both-table false s p n apart = refl
 
 take-step : (ks : List Key) (at : ℕ) (k : Key) → slice_get ks at ≡ Some k → take (at + 1) ks ≡ take at ks ++ k ∷ []
-take-step ks at k there = take_more ks at k (slice_get_within ks at k there) ∙ ap (λ (x : Key). take at ks ++ x ∷ []) (get_or_from_slice_get ks at k k there)
+take-step ks at k there =
+    take_more ks at k (slice_get_within ks at k there)
+    ∙ ap (λ (x : Key). take at ks ++ x ∷ []) (get_or_from_slice_get ks at k k there)
 
 -- one more instance
-pub adds-of-more : (q : ReaderQos) (g : List Happening) (n at : ℕ) (x : Key) (a b c : List Kept) → slice_get (known_instances q g) at ≡ Some x → AddsOf q g n (take at (known_instances q g)) a b → AddsOf q g n (x ∷ []) b c → AddsOf q g n (take (at + 1) (known_instances q g)) a c
+pub adds-of-more : (q : ReaderQos) (g : List Happening) (n at : ℕ) (x : Key) (a b c : List Kept)
+    → slice_get (known_instances q g) at ≡ Some x → AddsOf q g n (take at (known_instances q g)) a b
+    → AddsOf q g n (x ∷ []) b c → AddsOf q g n (take (at + 1) (known_instances q g)) a c
 adds-of-more q g n at x a b c there first second =
     let before : List Key = take at (known_instances q g) in
-    let apart : (i : Key) → same_key x i ≡ true → list_any (λ k. same_key k i) before ≡ false = λ i same. ap (λ (y : Key). list_any (λ k. same_key k y) before) (sym (key-same x i same)) ∙ before-apart (known_instances q g) at x (known-distinct q g) there in
+    let apart : (i : Key) → same_key x i ≡ true → list_any (λ k. same_key k i) before ≡ false =
+    λ i same. ap (λ (y : Key). list_any (λ k. same_key k y) before) (sym (key-same x i same))
+    ∙ before-apart (known_instances q g) at x (known-distinct q g) there in
     record {
       added = first.added ++ second.added;
-      are = second.are ∙ (ap (λ (ks : List Kept). ks ++ second.added) first.are ∙ append_assoc a first.added second.added);
+      are =
+          second.are ∙ (ap (λ (ks : List Kept). ks ++ second.added) first.are
+          ∙ append_assoc a first.added second.added);
       each = All-append (IsKept q g) first.added second.added first.each second.each;
       present = λ i.
-          ap (λ (is : List Key). cond (list_any (λ k. same_key k i) is && is_present q g i n) (n ∷ []) []) (take-step (known_instances q g) at x there)
-          ∙ (ap (λ (b : Bool). cond (b && is_present q g i n) (n ∷ []) []) (list_any-append (λ k. same_key k i) before (x ∷ []))
+          ap (λ (is : List Key). cond (list_any (λ k. same_key k i) is && is_present q g i n) (n ∷ []) [])
+          (take-step (known_instances q g) at x there)
+          ∙ (ap (λ (b : Bool). cond (b && is_present q g i n) (n ∷ []) [])
+          (list_any-append (λ k. same_key k i) before (x ∷ []))
           ∙ (both-table (list_any (λ k. same_key k i) before) (same_key x i) (is_present q g i n) n (apart i)
-          ∙ (ap (λ (ps : List ℕ). ps ++ cond ((same_key x i || false) && is_present q g i n) (n ∷ []) []) (first.present i)
+          ∙ (ap (λ (ps : List ℕ). ps ++ cond ((same_key x i || false) && is_present q g i n) (n ∷ []) [])
+          (first.present i)
           ∙ (ap (λ (ps : List ℕ). positions_in q g i first.added ++ ps) (second.present i)
           ∙ sym (here-append q g i first.added second.added)))));
       new_are = All-append (IsNewAt q g n) first.added second.added first.new_are second.new_are;
@@ -129,7 +156,9 @@ none-from None e = refl
 none-from (Some k) e = absurd cc
 
 -- the samples of all known instances are all that a death leaves
-pub adds-died : (q : ReaderQos) (e : Happening) (h : List Happening) (count : ℕ) (old new : List Kept) → count ≡ length (known_instances q (e ∷ h)) → AddsOf q (e ∷ h) (length h + 1) (take count (known_instances q (e ∷ h))) old new → Adds q e h old new
+pub adds-died : (q : ReaderQos) (e : Happening) (h : List Happening) (count : ℕ) (old new : List Kept)
+    → count ≡ length (known_instances q (e ∷ h))
+    → AddsOf q (e ∷ h) (length h + 1) (take count (known_instances q (e ∷ h))) old new → Adds q e h old new
 adds-died q e h count old new all adds =
     let g : List Happening = e ∷ h in
     let n : ℕ = length h + 1 in
@@ -139,10 +168,14 @@ adds-died q e h count old new all adds =
       each = adds.each;
       present = λ i. (⊎_elim
           (λ there. sym (ap (λ (b : Bool). cond (b && is_present q g i n) (n ∷ []) []) there))
-          (λ unknown. let state : instance_state_of q i g ≡ None = ap (λ (l : Option ChangeKind). state_after l (is_nobody (registered_writers q i g))) (none-from (last_accepted q i g) (sym (known q g i) ∙ unknown)) in
-          ap (λ (b : Bool). cond b (n ∷ []) []) (unknown-absent q e h i state) ∙ sym (ap (λ (b : Bool). cond (b && is_present q g i n) (n ∷ []) []) unknown))
+          (λ unknown. let state : instance_state_of q i g
+          ≡ None = ap (λ (l : Option ChangeKind). state_after l (is_nobody (registered_writers q i g)))
+          (none-from (last_accepted q i g) (sym (known q g i) ∙ unknown)) in
+          ap (λ (b : Bool). cond b (n ∷ []) []) (unknown-absent q e h i state)
+          ∙ sym (ap (λ (b : Bool). cond (b && is_present q g i n) (n ∷ []) []) unknown))
           (cases_Bool (list_any (λ k. same_key k i) (known_instances q g)))
-          ∙ (ap (λ (is : List Key). cond (list_any (λ k. same_key k i) is && is_present q g i n) (n ∷ []) []) (sym (ap (λ (m : ℕ). take m (known_instances q g)) all ∙ take_whole (known_instances q g)))
+          ∙ (ap (λ (is : List Key). cond (list_any (λ k. same_key k i) is && is_present q g i n) (n ∷ []) [])
+          (sym (ap (λ (m : ℕ). take m (known_instances q g)) all ∙ take_whole (known_instances q g)))
           ∙ adds.present i));
       new_are = adds.new_are;
     }
@@ -183,4 +216,5 @@ marked-more table at w is =
 
 -- of some of them it left no more than of all
 pub marked-some : (table : Table) (n : ℕ) → marked_among table n ≤ marked_of table
-marked-some table n = sum_by-take-le (λ (t : InstanceTrack). cond (is_at t.last_marker table.happened) 1 0) table.tracks n
+marked-some table n =
+    sum_by-take-le (λ (t : InstanceTrack). cond (is_at t.last_marker table.happened) 1 0) table.tracks n

@@ -28,7 +28,8 @@ pub as_of-older : (e : Happening) (h : List Happening) (j : ℕ) → j ≤ lengt
 as_of-older e h j older = ap (λ (b : Bool). if b then as_of j h else e ∷ h) (le-leb j (length h) older)
 
 pub as_of-newest : (e : Happening) (h : List Happening) → as_of (length h + 1) (e ∷ h) ≡ e ∷ h
-as_of-newest e h = ap (λ (b : Bool). if b then as_of (length h + 1) h else e ∷ h) (lt-leb (length h + 1) (length h) (omega arith))
+as_of-newest e h =
+    ap (λ (b : Bool). if b then as_of (length h + 1) h else e ∷ h) (lt-leb (length h + 1) (length h) (omega arith))
 
 -- a count that never falls was no greater as of a position
 pub count-grew : (count : List Happening → ℕ) → ((e : Happening) (h : List Happening) → count h ≤ count (e ∷ h))
@@ -49,20 +50,28 @@ count-grew count grows j (e ∷ h) =
 -- a history that keeps a write keeps it where fewer follow
 keeps-fewer : (history : HistoryQos) (m n : ℕ) → m ≤ n → keeps history n ≡ true → keeps history m ≡ true
 keeps-fewer KeepAll m n fewer is = refl
-keeps-fewer (KeepLast depth) m n fewer is = let within : n < depth = ltb-true n depth is in lt-ltb m depth (omega (arith, fewer, within))
+keeps-fewer (KeepLast depth) m n fewer is =
+    let within : n < depth = ltb-true n depth is in lt-ltb m depth (omega (arith, fewer, within))
 
 -- the last marker is in the past
 marker-past : (q : ReaderQos) (i : Key) (h : List Happening) (j : ℕ) → is_at (last_marker q i h) j ≡ true → j ≤ length h
 marker-past q i [] j is = absurd (let clash : false ≡ true = is in cc)
 marker-past q i (e ∷ h) j is =
     ⊎_elim
-    (λ marked. let at : (length h + 1) ≡ j = eqb-true (length h + 1) j (sym (ap (λ (b : Bool). is_at (if b then Some (length h + 1) else last_marker q i h) j) marked) ∙ is) in omega (arith, at))
-    (λ unmarked. let before : j ≤ length h = marker-past q i h j (sym (ap (λ (b : Bool). is_at (if b then Some (length h + 1) else last_marker q i h) j) unmarked) ∙ is) in omega (arith, before))
+    (λ marked. let at : (length h + 1) ≡ j = eqb-true (length h + 1) j
+    (sym (ap (λ (b : Bool). is_at (if b then Some (length h + 1) else last_marker q i h) j) marked)
+    ∙ is) in omega (arith, at))
+    (λ unmarked. let before : j ≤ length h = marker-past q i h j
+    (sym (ap (λ (b : Bool). is_at (if b then Some (length h + 1) else last_marker q i h) j) unmarked)
+    ∙ is) in omega (arith, before))
     (cases_Bool (marks q i h e))
 
 -- it is not what comes next
 pub marker-future : (q : ReaderQos) (i : Key) (h : List Happening) → is_at (last_marker q i h) (length h + 1) ≡ false
-marker-future q i h = ⊎_elim (λ there. absurd (let past : length h + 1 ≤ length h = marker-past q i h (length h + 1) there in omega (arith, past))) (λ none. none) (cases_Bool (is_at (last_marker q i h) (length h + 1)))
+marker-future q i h =
+    ⊎_elim (λ there. absurd (let past : length h + 1
+    ≤ length h = marker-past q i h (length h + 1) there in omega (arith, past))) (λ none. none)
+    (cases_Bool (is_at (last_marker q i h) (length h + 1)))
 
 not-or : (a b : Bool) → not (a || b) ≡ true → b ≡ false
 not-or true b e = absurd (let clash : false ≡ true = e in cc)
@@ -70,19 +79,29 @@ not-or false true e = absurd (let clash : false ≡ true = e in cc)
 not-or false false e = refl
 
 -- what is present of the past was so before: no entry brings a sample back
-pub present-before : (q : ReaderQos) (e : Happening) (h : List Happening) (i : Key) (j : ℕ) → j ≤ length h → is_present q (e ∷ h) i j ≡ true → is_present q h i j ≡ true
+pub present-before : (q : ReaderQos) (e : Happening) (h : List Happening) (i : Key) (j : ℕ) → j ≤ length h
+    → is_present q (e ∷ h) i j ≡ true → is_present q h i j ≡ true
 present-before q e h i j older is =
-    let parts = and_parts (not (is_taken (sample_at i j) (e ∷ h))) (is_kept_write q (e ∷ h) i j || is_at (last_marker q i (e ∷ h)) j) is in
-    let untaken : is_taken (sample_at i j) h ≡ false = not-or (list_any (same_sample (sample_at i j)) (taken_by e)) (is_taken (sample_at i j) h) parts.0 in
+    let parts =
+    and_parts (not (is_taken (sample_at i j) (e ∷ h)))
+    (is_kept_write q (e ∷ h) i j || is_at (last_marker q i (e ∷ h)) j) is in
+    let untaken : is_taken (sample_at i j) h ≡ false =
+    not-or (list_any (same_sample (sample_at i j)) (taken_by e)) (is_taken (sample_at i j) h) parts.0 in
     let past : as_of j (e ∷ h) ≡ as_of j h = as_of-older e h j older in
     let more : accepted_writes q i h ≤ accepted_writes q i (e ∷ h) = omega arith in
     ap (λ (b : Bool). not b && (is_kept_write q h i j || is_at (last_marker q i h) j)) untaken
     ∙ ⊎_elim
-    (λ kept. let both = and_parts (ends_with_write q i (as_of j (e ∷ h))) (keeps q.history (later_writes q (e ∷ h) i j)) kept in
-    let write : ends_with_write q i (as_of j h) ≡ true = ap (λ (g : List Happening). ends_with_write q i g) (sym past) ∙ both.0 in
-    let later : keeps q.history (accepted_writes q i (e ∷ h) - accepted_writes q i (as_of j h)) ≡ true = ap (λ (g : List Happening). keeps q.history (accepted_writes q i (e ∷ h) - accepted_writes q i g)) (sym past) ∙ both.1 in
+    (λ kept. let both = and_parts (ends_with_write q i (as_of j (e ∷ h)))
+    (keeps q.history (later_writes q (e ∷ h) i j)) kept in
+    let write : ends_with_write q i (as_of j h) ≡ true =
+    ap (λ (g : List Happening). ends_with_write q i g) (sym past) ∙ both.0 in
+    let later : keeps q.history (accepted_writes q i (e ∷ h) - accepted_writes q i (as_of j h)) ≡ true =
+    ap (λ (g : List Happening). keeps q.history (accepted_writes q i (e ∷ h) - accepted_writes q i g)) (sym past)
+    ∙ both.1 in
     ap (λ (b : Bool). (b && keeps q.history (later_writes q h i j)) || is_at (last_marker q i h) j) write
-    ∙ ap (λ (b : Bool). b || is_at (last_marker q i h) j) (keeps-fewer q.history (later_writes q h i j) (accepted_writes q i (e ∷ h) - accepted_writes q i (as_of j h)) (omega (arith, more)) later))
+    ∙ ap (λ (b : Bool). b || is_at (last_marker q i h) j)
+    (keeps-fewer q.history (later_writes q h i j) (accepted_writes q i (e ∷ h) - accepted_writes q i (as_of j h))
+    (omega (arith, more)) later))
     (λ at. or-right (is_kept_write q h i j) (is_at (last_marker q i h) j) (marker-before q e h i j older at))
     (or_cases (is_kept_write q (e ∷ h) i j) (is_at (last_marker q i (e ∷ h)) j) parts.1)
   where
@@ -90,21 +109,30 @@ present-before q e h i j older is =
     or-right true b is = refl
     or-right false b is = is
 
-    marker-before : (q : ReaderQos) (e : Happening) (h : List Happening) (i : Key) (j : ℕ) → j ≤ length h → is_at (last_marker q i (e ∷ h)) j ≡ true → is_at (last_marker q i h) j ≡ true
+    marker-before : (q : ReaderQos) (e : Happening) (h : List Happening) (i : Key) (j : ℕ) → j ≤ length h
+        → is_at (last_marker q i (e ∷ h)) j ≡ true → is_at (last_marker q i h) j ≡ true
     marker-before q e h i j older is =
         ⊎_elim
-        (λ marked. let at : (length h + 1) ≡ j = eqb-true (length h + 1) j (sym (ap (λ (b : Bool). is_at (if b then Some (length h + 1) else last_marker q i h) j) marked) ∙ is) in absurd (omega (arith, at, older)))
-        (λ unmarked. sym (ap (λ (b : Bool). is_at (if b then Some (length h + 1) else last_marker q i h) j) unmarked) ∙ is)
+        (λ marked. let at : (length h + 1) ≡ j = eqb-true (length h + 1) j
+        (sym (ap (λ (b : Bool). is_at (if b then Some (length h + 1) else last_marker q i h) j) marked)
+        ∙ is) in absurd (omega (arith, at, older)))
+        (λ unmarked. sym (ap (λ (b : Bool). is_at (if b then Some (length h + 1) else last_marker q i h) j) unmarked)
+        ∙ is)
         (cases_Bool (marks q i h e))
 
 -- an entry that is no write of i and marks nothing leaves no sample of it
-pub newest-absent : (q : ReaderQos) (e : Happening) (h : List Happening) (i : Key) → is_write (accepted_kind q i h e) ≡ false → marks q i h e ≡ false → is_present q (e ∷ h) i (length h + 1) ≡ false
+pub newest-absent : (q : ReaderQos) (e : Happening) (h : List Happening) (i : Key)
+    → is_write (accepted_kind q i h e) ≡ false → marks q i h e ≡ false → is_present q (e ∷ h) i (length h + 1) ≡ false
 newest-absent q e h i written marked =
     let n : ℕ = length h + 1 in
-    let kept : is_kept_write q (e ∷ h) i n ≡ false = ap (λ (g : List Happening). ends_with_write q i g && keeps q.history (later_writes q (e ∷ h) i n)) (as_of-newest e h) ∙ ap (λ (b : Bool). b && keeps q.history (later_writes q (e ∷ h) i n)) written in
-    let at : is_at (last_marker q i (e ∷ h)) n ≡ false = ap (λ (b : Bool). is_at (if b then Some n else last_marker q i h) n) marked ∙ marker-future q i h in
+    let kept : is_kept_write q (e ∷ h) i n ≡ false =
+    ap (λ (g : List Happening). ends_with_write q i g && keeps q.history (later_writes q (e ∷ h) i n))
+    (as_of-newest e h) ∙ ap (λ (b : Bool). b && keeps q.history (later_writes q (e ∷ h) i n)) written in
+    let at : is_at (last_marker q i (e ∷ h)) n ≡ false =
+    ap (λ (b : Bool). is_at (if b then Some n else last_marker q i h) n) marked ∙ marker-future q i h in
     ap (λ (b : Bool). not (is_taken (sample_at i n) (e ∷ h)) && (b || is_at (last_marker q i (e ∷ h)) n)) kept
-    ∙ (ap (λ (b : Bool). not (is_taken (sample_at i n) (e ∷ h)) && b) at ∙ and-false (not (is_taken (sample_at i n) (e ∷ h))))
+    ∙ (ap (λ (b : Bool). not (is_taken (sample_at i n) (e ∷ h)) && b) at
+    ∙ and-false (not (is_taken (sample_at i n) (e ∷ h))))
   where
     and-false : (b : Bool) → (b && false) ≡ false
     and-false true = refl
@@ -113,14 +141,19 @@ newest-absent q e h i written marked =
 -- ---- lists that are narrowed
 
 -- a test that passes less can be tried after one that passes more
-pub filter-narrow : {X : Type 0} (more less : X → Bool) (xs : List X) → All (λ x. less x ≡ true → more x ≡ true) xs → filter less (filter more xs) ≡ filter less xs
+pub filter-narrow : {X : Type 0} (more less : X → Bool) (xs : List X) → All (λ x. less x ≡ true → more x ≡ true) xs
+    → filter less (filter more xs) ≡ filter less xs
 filter-narrow more less [] all = refl
 filter-narrow {X = X} more less (x ∷ xs) all =
-    let rest : filter less (filter more xs) ≡ filter less xs = filter-narrow more less xs (All-tail (λ (y : X). less y ≡ true → more y ≡ true) x xs all) in
+    let rest : filter less (filter more xs) ≡ filter less xs =
+    filter-narrow more less xs (All-tail (λ (y : X). less y ≡ true → more y ≡ true) x xs all) in
     ⊎_elim
-    (λ passes. ap (λ (b : Bool). filter less (cond b (x ∷ filter more xs) (filter more xs))) passes ∙ ap (λ (ys : List X). cond (less x) (x ∷ ys) ys) rest)
-    (λ fails. let none : less x ≡ false = not-less (less x) (more x) (All-head (λ (y : X). less y ≡ true → more y ≡ true) x xs all) fails in
-    ap (λ (b : Bool). filter less (cond b (x ∷ filter more xs) (filter more xs))) fails ∙ (rest ∙ sym (ap (λ (b : Bool). cond b (x ∷ filter less xs) (filter less xs)) none)))
+    (λ passes. ap (λ (b : Bool). filter less (cond b (x ∷ filter more xs) (filter more xs))) passes
+    ∙ ap (λ (ys : List X). cond (less x) (x ∷ ys) ys) rest)
+    (λ fails. let none : less x ≡ false = not-less (less x) (more x)
+    (All-head (λ (y : X). less y ≡ true → more y ≡ true) x xs all) fails in
+    ap (λ (b : Bool). filter less (cond b (x ∷ filter more xs) (filter more xs))) fails
+    ∙ (rest ∙ sym (ap (λ (b : Bool). cond b (x ∷ filter less xs) (filter less xs)) none)))
     (cases_Bool (more x))
   where
     not-less : (l m : Bool) → (l ≡ true → m ≡ true) → m ≡ false → l ≡ false
@@ -130,45 +163,75 @@ filter-narrow {X = X} more less (x ∷ xs) all =
 -- the positions up to n are not above it
 up_to-below : (n m : ℕ) → n ≤ m → All (λ (j : ℕ). j ≤ m) (up_to n)
 up_to-below zero m within = All-nil (λ (j : ℕ). j ≤ m)
-up_to-below (suc n) m within = All-push (λ (j : ℕ). j ≤ m) (up_to n) (suc n) (up_to-below n m (omega (arith, within))) within
+up_to-below (suc n) m within =
+    All-push (λ (j : ℕ). j ≤ m) (up_to n) (suc n) (up_to-below n m (omega (arith, within))) within
 
 -- ---- one more entry
 
-pub here-append : (q : ReaderQos) (h : List Happening) (i : Key) (ks ns : List Kept) → positions_in q h i (ks ++ ns) ≡ positions_in q h i ks ++ positions_in q h i ns
-here-append q h i ks ns = ap (λ (xs : List Kept). map position_of xs) (filter-append (is_here q h i) ks ns) ∙ map-append position_of (filter (is_here q h i) ks) (filter (is_here q h i) ns)
+pub here-append : (q : ReaderQos) (h : List Happening) (i : Key) (ks ns : List Kept)
+    → positions_in q h i (ks ++ ns) ≡ positions_in q h i ks ++ positions_in q h i ns
+here-append q h i ks ns =
+    ap (λ (xs : List Kept). map position_of xs) (filter-append (is_here q h i) ks ns)
+    ∙ map-append position_of (filter (is_here q h i) ks) (filter (is_here q h i) ns)
 
 -- the kept samples of i that pass a test, by the test of their positions
-narrow-kept : (o : Kept → Bool) (more less : ℕ → Bool) (ks : List Kept) → All (λ (k : Kept). less (position_of k) ≡ true → more (position_of k) ≡ true) ks → filter less (map position_of (filter (λ k. o k && more (position_of k)) ks)) ≡ map position_of (filter (λ k. o k && less (position_of k)) ks)
+narrow-kept : (o : Kept → Bool) (more less : ℕ → Bool) (ks : List Kept)
+    → All (λ (k : Kept). less (position_of k) ≡ true → more (position_of k) ≡ true) ks
+    → filter less (map position_of (filter (λ k. o k && more (position_of k)) ks))
+    ≡ map position_of (filter (λ k. o k && less (position_of k)) ks)
 narrow-kept o more less [] all = refl
 narrow-kept o more less (k ∷ ks) all =
-    narrow-one (o k) (more (position_of k)) (less (position_of k)) (position_of k) k (filter (λ x. o x && more (position_of x)) ks) (filter (λ x. o x && less (position_of x)) ks) less refl (All-head (λ (x : Kept). less (position_of x) ≡ true → more (position_of x) ≡ true) k ks all) (narrow-kept o more less ks (All-tail (λ (x : Kept). less (position_of x) ≡ true → more (position_of x) ≡ true) k ks all))
+    narrow-one (o k) (more (position_of k)) (less (position_of k)) (position_of k) k
+    (filter (λ x. o x && more (position_of x)) ks)
+    (filter (λ x. o x && less (position_of x)) ks) less
+    refl (All-head (λ (x : Kept). less (position_of x) ≡ true → more (position_of x) ≡ true) k ks all)
+    (narrow-kept o more less ks
+    (All-tail (λ (x : Kept). less (position_of x) ≡ true → more (position_of x) ≡ true) k ks all))
   where
-    cond-map : (l : Bool) (k : Kept) (ys : List Kept) → cond l (position_of k ∷ map position_of ys) (map position_of ys) ≡ map position_of (cond l (k ∷ ys) ys)
+    cond-map : (l : Bool) (k : Kept) (ys : List Kept) → cond l (position_of k ∷ map position_of ys) (map position_of ys)
+        ≡ map position_of (cond l (k ∷ ys) ys)
     cond-map true k ys = refl
     cond-map false k ys = refl
 
-    narrow-one : (b m l : Bool) (j : ℕ) (k : Kept) (xs ys : List Kept) (less : ℕ → Bool) → less (position_of k) ≡ l → (l ≡ true → m ≡ true) → filter less (map position_of xs) ≡ map position_of ys → filter less (map position_of (cond (b && m) (k ∷ xs) xs)) ≡ map position_of (cond (b && l) (k ∷ ys) ys)
+    narrow-one : (b m l : Bool) (j : ℕ) (k : Kept) (xs ys : List Kept) (less : ℕ → Bool) → less (position_of k) ≡ l
+        → (l ≡ true → m ≡ true) → filter less (map position_of xs) ≡ map position_of ys
+        → filter less (map position_of (cond (b && m) (k ∷ xs) xs)) ≡ map position_of (cond (b && l) (k ∷ ys) ys)
     narrow-one false m l j k xs ys less is up rest = rest
-    narrow-one true true l j k xs ys less is up rest = ap (λ (b : Bool). cond b (position_of k ∷ filter less (map position_of xs)) (filter less (map position_of xs))) is ∙ (ap (λ (ps : List ℕ). cond l (position_of k ∷ ps) ps) rest ∙ cond-map l k ys)
+    narrow-one true true l j k xs ys less is up rest =
+        ap (λ (b : Bool). cond b (position_of k ∷ filter less (map position_of xs)) (filter less (map position_of xs)))
+        is ∙ (ap (λ (ps : List ℕ). cond l (position_of k ∷ ps) ps) rest ∙ cond-map l k ys)
     narrow-one true false true j k xs ys less is up rest = absurd (let clash : false ≡ true = up refl in cc)
     narrow-one true false false j k xs ys less is up rest = rest
 
 -- after one more entry the present samples of i are those that still are, and those that the entry left
-pub present-next : (q : ReaderQos) (e : Happening) (h : List Happening) (i : Key) (ks ns : List Kept) → All (λ (k : Kept). position_of k ≤ length h) ks → filter (is_present q h i) (up_to (length h)) ≡ positions_in q h i ks → filter (is_present q (e ∷ h) i) ((length h + 1) ∷ []) ≡ positions_in q (e ∷ h) i ns → filter (is_present q (e ∷ h) i) (up_to (length (e ∷ h))) ≡ positions_in q (e ∷ h) i (ks ++ ns)
+pub present-next : (q : ReaderQos) (e : Happening) (h : List Happening) (i : Key) (ks ns : List Kept)
+    → All (λ (k : Kept). position_of k ≤ length h) ks → filter (is_present q h i) (up_to (length h))
+    ≡ positions_in q h i ks → filter (is_present q (e ∷ h) i) ((length h + 1) ∷ []) ≡ positions_in q (e ∷ h) i ns
+    → filter (is_present q (e ∷ h) i) (up_to (length (e ∷ h))) ≡ positions_in q (e ∷ h) i (ks ++ ns)
 present-next q e h i ks ns past before new =
     let more : ℕ → Bool = is_present q h i in
     let less : ℕ → Bool = is_present q (e ∷ h) i in
     let up : (j : ℕ) → j ≤ length h → less j ≡ true → more j ≡ true = λ j. present-before q e h i j in
-    let last : filter less (suc (length h) ∷ []) ≡ positions_in q (e ∷ h) i ns = ap (λ (n : ℕ). filter less (n ∷ [])) (sym (add-one (length h))) ∙ new in
+    let last : filter less (suc (length h) ∷ []) ≡ positions_in q (e ∷ h) i ns =
+    ap (λ (n : ℕ). filter less (n ∷ [])) (sym (add-one (length h))) ∙ new in
     filter-append less (up_to (length h)) (suc (length h) ∷ [])
-    ∙ (ap (λ (ps : List ℕ). ps ++ filter less (suc (length h) ∷ [])) (sym (filter-narrow more less (up_to (length h)) (All-weaker (λ (j : ℕ). j ≤ length h) (λ (j : ℕ). less j ≡ true → more j ≡ true) up (up_to (length h)) (up_to-below (length h) (length h) (omega arith)))))
+    ∙ (ap (λ (ps : List ℕ). ps ++ filter less (suc (length h) ∷ []))
+    (sym (filter-narrow more less (up_to (length h))
+    (All-weaker (λ (j : ℕ). j ≤ length h) (λ (j : ℕ). less j ≡ true → more j ≡ true) up (up_to (length h))
+    (up_to-below (length h) (length h) (omega arith)))))
     ∙ (ap (λ (ps : List ℕ). filter less ps ++ filter less (suc (length h) ∷ [])) before
-    ∙ (ap (λ (ps : List ℕ). ps ++ filter less (suc (length h) ∷ [])) (narrow-kept (λ k. same_key k.sample.key i) more less ks (All-weaker (λ (k : Kept). position_of k ≤ length h) (λ (k : Kept). less (position_of k) ≡ true → more (position_of k) ≡ true) (λ k. up (position_of k)) ks past))
+    ∙ (ap (λ (ps : List ℕ). ps ++ filter less (suc (length h) ∷ []))
+    (narrow-kept (λ k. same_key k.sample.key i) more less ks
+    (All-weaker (λ (k : Kept). position_of k ≤ length h) (λ (k : Kept). less (position_of k) ≡ true
+    → more (position_of k) ≡ true) (λ k. up (position_of k)) ks past))
     ∙ (ap (λ (ps : List ℕ). positions_in q (e ∷ h) i ks ++ ps) last ∙ sym (here-append q (e ∷ h) i ks ns)))))
 
 -- kept samples of which none is present can be let go
-pub present-dropped : (q : ReaderQos) (h : List Happening) (i : Key) (keep : Kept → Bool) (ks : List Kept) → All (λ (k : Kept). is_here q h i k ≡ true → keep k ≡ true) ks → positions_in q h i (filter keep ks) ≡ positions_in q h i ks
-present-dropped q h i keep ks all = ap (λ (xs : List Kept). map position_of xs) (filter-narrow keep (is_here q h i) ks all)
+pub present-dropped : (q : ReaderQos) (h : List Happening) (i : Key) (keep : Kept → Bool) (ks : List Kept)
+    → All (λ (k : Kept). is_here q h i k ≡ true → keep k ≡ true) ks
+    → positions_in q h i (filter keep ks) ≡ positions_in q h i ks
+present-dropped q h i keep ks all =
+    ap (λ (xs : List Kept). map position_of xs) (filter-narrow keep (is_here q h i) ks all)
 
 -- ---- what the newest entry leaves
 
@@ -179,25 +242,39 @@ unmarked (Some NotAliveDisposed) = refl
 unmarked (Some NotAliveNoWriters) = refl
 
 -- an entry that changes no state of i leaves no sample of it
-pub quiet-absent : (q : ReaderQos) (e : Happening) (h : List Happening) (i : Key) → accepted_kind q i h e ≡ None → instance_state_of q i (e ∷ h) ≡ instance_state_of q i h → is_present q (e ∷ h) i (length h + 1) ≡ false
-quiet-absent q e h i none same = newest-absent q e h i (ap (λ (k : Option ChangeKind). is_write k) none) (ap (λ (s : Option InstanceState). becomes_not_alive (instance_state_of q i h) s) same ∙ unmarked (instance_state_of q i h))
+pub quiet-absent : (q : ReaderQos) (e : Happening) (h : List Happening) (i : Key) → accepted_kind q i h e ≡ None
+    → instance_state_of q i (e ∷ h) ≡ instance_state_of q i h → is_present q (e ∷ h) i (length h + 1) ≡ false
+quiet-absent q e h i none same =
+    newest-absent q e h i (ap (λ (k : Option ChangeKind). is_write k) none)
+    (ap (λ (s : Option InstanceState). becomes_not_alive (instance_state_of q i h) s) same
+    ∙ unmarked (instance_state_of q i h))
 
 filter-same : (f g : ℕ → Bool) (ws : List ℕ) → ((w : ℕ) → f w ≡ g w) → filter f ws ≡ filter g ws
 filter-same f g [] same = refl
-filter-same f g (w ∷ ws) same = ap (λ (b : Bool). cond b (w ∷ filter f ws) (filter f ws)) (same w) ∙ ap (λ (xs : List ℕ). cond (g w) (w ∷ xs) xs) (filter-same f g ws same)
+filter-same f g (w ∷ ws) same =
+    ap (λ (b : Bool). cond b (w ∷ filter f ws) (filter f ws)) (same w)
+    ∙ ap (λ (xs : List ℕ). cond (g w) (w ∷ xs) xs) (filter-same f g ws same)
 
 -- a change of another instance leaves the state of i as it was
-state-other : (q : ReaderQos) (a : Arrival) (h : List Happening) (i : Key) → same_key a.change.key i ≡ false → instance_state_of q i (Came a ∷ h) ≡ instance_state_of q i h
+state-other : (q : ReaderQos) (a : Arrival) (h : List Happening) (i : Key) → same_key a.change.key i ≡ false
+    → instance_state_of q i (Came a ∷ h) ≡ instance_state_of q i h
 state-other q a h i other =
-    ap (λ (k : Option ChangeKind). state_after (or_else k (last_accepted q i h)) (is_nobody (registered_writers q i (Came a ∷ h)))) (accepted-other q i h a other)
-    ∙ ap (λ (ws : List ℕ). state_after (last_accepted q i h) (is_nobody ws)) (filter-same (λ w. is_registered i w (Came a ∷ h)) (λ w. is_registered i w h) (publication_handles q) (λ w. registered-other i w h a other))
+    ap (λ (k : Option ChangeKind). state_after (or_else k (last_accepted q i h))
+    (is_nobody (registered_writers q i (Came a ∷ h)))) (accepted-other q i h a other)
+    ∙ ap (λ (ws : List ℕ). state_after (last_accepted q i h) (is_nobody ws))
+    (filter-same (λ w. is_registered i w (Came a ∷ h)) (λ w. is_registered i w h) (publication_handles q)
+    (λ w. registered-other i w h a other))
 
 -- it leaves no marker of i
-pub unmarked-other : (q : ReaderQos) (a : Arrival) (h : List Happening) (i : Key) → same_key a.change.key i ≡ false → marks q i h (Came a) ≡ false
-unmarked-other q a h i other = ap (λ (s : Option InstanceState). becomes_not_alive (instance_state_of q i h) s) (state-other q a h i other) ∙ unmarked (instance_state_of q i h)
+pub unmarked-other : (q : ReaderQos) (a : Arrival) (h : List Happening) (i : Key) → same_key a.change.key i ≡ false
+    → marks q i h (Came a) ≡ false
+unmarked-other q a h i other =
+    ap (λ (s : Option InstanceState). becomes_not_alive (instance_state_of q i h) s) (state-other q a h i other)
+    ∙ unmarked (instance_state_of q i h)
 
 -- it leaves no sample of i
-pub other-absent : (q : ReaderQos) (a : Arrival) (h : List Happening) (i : Key) → same_key a.change.key i ≡ false → is_present q (Came a ∷ h) i (length h + 1) ≡ false
+pub other-absent : (q : ReaderQos) (a : Arrival) (h : List Happening) (i : Key) → same_key a.change.key i ≡ false
+    → is_present q (Came a ∷ h) i (length h + 1) ≡ false
 other-absent q a h i other = quiet-absent q (Came a) h i (accepted-other q i h a other) (state-other q a h i other)
 
 unstated : (last : Option ChangeKind) (nobody : Bool) → state_after last nobody ≡ None → last ≡ None
@@ -212,8 +289,11 @@ or_else-none None b e = (refl, e)
 or_else-none (Some x) b e = absurd cc
 
 -- of an instance that is still unknown the entry leaves no sample
-pub unknown-absent : (q : ReaderQos) (e : Happening) (h : List Happening) (i : Key) → instance_state_of q i (e ∷ h) ≡ None → is_present q (e ∷ h) i (length h + 1) ≡ false
+pub unknown-absent : (q : ReaderQos) (e : Happening) (h : List Happening) (i : Key)
+    → instance_state_of q i (e ∷ h) ≡ None → is_present q (e ∷ h) i (length h + 1) ≡ false
 unknown-absent q e h i none =
-    let last : last_accepted q i (e ∷ h) ≡ None = unstated (last_accepted q i (e ∷ h)) (is_nobody (registered_writers q i (e ∷ h))) none in
+    let last : last_accepted q i (e ∷ h) ≡ None =
+    unstated (last_accepted q i (e ∷ h)) (is_nobody (registered_writers q i (e ∷ h))) none in
     let parts = or_else-none (accepted_kind q i h e) (last_accepted q i h) last in
-    quiet-absent q e h i parts.0 (none ∙ sym (ap (λ (k : Option ChangeKind). state_after k (is_nobody (registered_writers q i h))) parts.1))
+    quiet-absent q e h i parts.0
+    (none ∙ sym (ap (λ (k : Option ChangeKind). state_after k (is_nobody (registered_writers q i h))) parts.1))

@@ -36,11 +36,15 @@ use Rattle.dds_cache.proofs.CountLaws.{present-count}
 -- ---- what is kept, after a change
 
 -- the last marker at an older position
-marker-older : (q : ReaderQos) (e : Happening) (h : List Happening) (i : Key) (j : ℕ) → j ≤ length h → is_at (last_marker q i (e ∷ h)) j ≡ (not (marks q i h e) && is_at (last_marker q i h) j)
+marker-older : (q : ReaderQos) (e : Happening) (h : List Happening) (i : Key) (j : ℕ) → j ≤ length h
+    → is_at (last_marker q i (e ∷ h)) j ≡ (not (marks q i h e) && is_at (last_marker q i h) j)
 marker-older q e h i j older =
     ⊎_elim
-    (λ marked. ap (λ (b : Bool). is_at (if b then Some (length h + 1) else last_marker q i h) j) marked ∙ (unequal (length h + 1) j (λ same. omega (arith, same, older)) ∙ sym (ap (λ (b : Bool). not b && is_at (last_marker q i h) j) marked)))
-    (λ unmarked. ap (λ (b : Bool). is_at (if b then Some (length h + 1) else last_marker q i h) j) unmarked ∙ sym (ap (λ (b : Bool). not b && is_at (last_marker q i h) j) unmarked))
+    (λ marked. ap (λ (b : Bool). is_at (if b then Some (length h + 1) else last_marker q i h) j) marked
+    ∙ (unequal (length h + 1) j (λ same. omega (arith, same, older))
+    ∙ sym (ap (λ (b : Bool). not b && is_at (last_marker q i h) j) marked)))
+    (λ unmarked. ap (λ (b : Bool). is_at (if b then Some (length h + 1) else last_marker q i h) j) unmarked
+    ∙ sym (ap (λ (b : Bool). not b && is_at (last_marker q i h) j) unmarked))
     (cases_Bool (marks q i h e))
 
 write-table : (v k m : Bool) → (v && (k || m)) ≡ (((v && k) || m) && v)
@@ -51,39 +55,62 @@ write-table false k true = refl
 write-table false k false = refl
 
 -- a kept sample is a present write after an entry that is no access
-write-next : (q : ReaderQos) (a : Arrival) (h : List Happening) (known : KnownInstance) (k : Kept) → IsKnown q h known → known.key ≡ k.sample.key → IsKept q h k → is_write_after q known (is_write (accepted_kind q k.sample.key h (Came a))) (marks q k.sample.key h (Came a)) k ≡ is_present_write q (Came a ∷ h) k
+write-next : (q : ReaderQos) (a : Arrival) (h : List Happening) (known : KnownInstance) (k : Kept) → IsKnown q h known
+    → known.key ≡ k.sample.key → IsKept q h k
+    → is_write_after q known (is_write (accepted_kind q k.sample.key h (Came a))) (marks q k.sample.key h (Came a)) k
+    ≡ is_present_write q (Came a ∷ h) k
 write-next q a h known k is_known key kept =
     let e : Happening = Came a in
     let i : Key = k.sample.key in
     let j : ℕ = k.sample.position in
     let w : Bool = is_write (accepted_kind q i h e) in
     let m : Bool = marks q i h e in
-    let writes : known.accepted_writes ≡ accepted_writes q i h = is_known.writes_are ∙ ap (λ (x : Key). accepted_writes q x h) key in
+    let writes : known.accepted_writes ≡ accepted_writes q i h =
+    is_known.writes_are ∙ ap (λ (x : Key). accepted_writes q x h) key in
     let marker : known.last_marker ≡ last_marker q i h = is_known.marker_is ∙ ap (λ (x : Key). last_marker q x h) key in
     let past : as_of j (e ∷ h) ≡ as_of j h = as_of-older e h j kept.in_past in
     let grew : accepted_writes q i (as_of j h) ≤ accepted_writes q i h =
     count-grew (λ g. accepted_writes q i g) (λ e g. omega arith) j h in
     let number : k.number ≡ accepted_writes q i (as_of j h) = kept.is_of.number_is in
-    let later : (known.accepted_writes - k.number) + one_if w ≡ accepted_writes q i (e ∷ h) - accepted_writes q i (as_of j h) = ap (λ (n : ℕ). (n - k.number) + one_if w) writes ∙ (let sum : (accepted_writes q i h - k.number) + one_if w ≡ (accepted_writes q i h + one_if w) - accepted_writes q i (as_of j h) = omega (arith, number, grew) in sum) in
-    let at : (not m && is_at known.last_marker j) ≡ is_at (last_marker q i (e ∷ h)) j = ap (λ (x : Option ℕ). not m && is_at x j) marker ∙ sym (marker-older q e h i j kept.in_past) in
+    let later : (known.accepted_writes - k.number) + one_if w
+    ≡ accepted_writes q i (e ∷ h) - accepted_writes q i
+    (as_of j h) = ap (λ (n : ℕ). (n - k.number) + one_if w) writes
+    ∙ (let sum : (accepted_writes q i h - k.number) + one_if w
+    ≡ (accepted_writes q i h + one_if w) - accepted_writes q i (as_of j h) = omega (arith, number, grew) in sum) in
+    let at : (not m && is_at known.last_marker j) ≡ is_at (last_marker q i (e ∷ h)) j =
+    ap (λ (x : Option ℕ). not m && is_at x j) marker ∙ sym (marker-older q e h i j kept.in_past) in
     let valid : k.valid_data ≡ ends_with_write q i (as_of j h) = kept.is_of.valid_is in
     ap (λ (n : ℕ). k.valid_data && (keeps q.history n || (not m && is_at known.last_marker j))) later
-    ∙ (ap (λ (b : Bool). k.valid_data && (keeps q.history (accepted_writes q i (e ∷ h) - accepted_writes q i (as_of j h)) || b)) at
-    ∙ (ap (λ (b : Bool). b && (keeps q.history (accepted_writes q i (e ∷ h) - accepted_writes q i (as_of j h)) || is_at (last_marker q i (e ∷ h)) j)) valid
-    ∙ (write-table (ends_with_write q i (as_of j h)) (keeps q.history (accepted_writes q i (e ∷ h) - accepted_writes q i (as_of j h))) (is_at (last_marker q i (e ∷ h)) j)
-    ∙ (ap (λ (g : List Happening). ((ends_with_write q i g && keeps q.history (accepted_writes q i (e ∷ h) - accepted_writes q i g)) || is_at (last_marker q i (e ∷ h)) j) && ends_with_write q i g) (sym past)
-    ∙ sym (ap (λ (b : Bool). (not b && (is_kept_write q (e ∷ h) i j || is_at (last_marker q i (e ∷ h)) j)) && ends_with_write q i (as_of j (e ∷ h))) kept.untaken)))))
+    ∙ (ap (λ (b : Bool). k.valid_data && (keeps q.history
+    (accepted_writes q i (e ∷ h) - accepted_writes q i (as_of j h)) || b)) at
+    ∙ (ap (λ (b : Bool). b && (keeps q.history (accepted_writes q i (e ∷ h) - accepted_writes q i (as_of j h)) || is_at
+    (last_marker q i (e ∷ h)) j)) valid
+    ∙ (write-table (ends_with_write q i (as_of j h))
+    (keeps q.history (accepted_writes q i (e ∷ h) - accepted_writes q i (as_of j h)))
+    (is_at (last_marker q i (e ∷ h)) j)
+    ∙ (ap (λ (g : List Happening).
+    ((ends_with_write q i g && keeps q.history (accepted_writes q i (e ∷ h) - accepted_writes q i g)) || is_at
+    (last_marker q i (e ∷ h)) j) && ends_with_write q i g) (sym past)
+    ∙ sym (ap (λ (b : Bool). (not b && (is_kept_write q (e ∷ h) i j || is_at (last_marker q i (e ∷ h)) j))
+    && ends_with_write q i (as_of j (e ∷ h))) kept.untaken)))))
 
 -- the same, by whether the change is of its instance
-pub write-after : (q : ReaderQos) (a : Arrival) (h : List Happening) (known : KnownInstance) (k : Kept) (w m : Bool) → w ≡ ends_with_write q a.change.key (Came a ∷ h) → m ≡ marks q a.change.key h (Came a) → IsKnown q h known → known.key ≡ k.sample.key → IsKept q h k → is_write_after q known (same_key k.sample.key a.change.key && w) (same_key k.sample.key a.change.key && m) k ≡ is_present_write q (Came a ∷ h) k
+pub write-after : (q : ReaderQos) (a : Arrival) (h : List Happening) (known : KnownInstance) (k : Kept) (w m : Bool)
+    → w ≡ ends_with_write q a.change.key (Came a ∷ h) → m ≡ marks q a.change.key h (Came a) → IsKnown q h known
+    → known.key ≡ k.sample.key → IsKept q h k
+    → is_write_after q known (same_key k.sample.key a.change.key && w) (same_key k.sample.key a.change.key && m) k
+    ≡ is_present_write q (Came a ∷ h) k
 write-after q a h known k w m written marked is_known key kept =
     let i : Key = k.sample.key in
     let own_write : (same_key i a.change.key && w) ≡ is_write (accepted_kind q i h (Came a)) = ⊎_elim
-    (λ same. ap (λ (b : Bool). b && w) same ∙ (written ∙ ap (λ (x : Key). is_write (accepted_kind q x h (Came a))) (sym (key-same i a.change.key same))))
-    (λ other. ap (λ (b : Bool). b && w) other ∙ sym (ap (λ (x : Option ChangeKind). is_write x) (accepted-other q i h a (flipped i a.change.key other))))
+    (λ same. ap (λ (b : Bool). b && w) same
+    ∙ (written ∙ ap (λ (x : Key). is_write (accepted_kind q x h (Came a))) (sym (key-same i a.change.key same))))
+    (λ other. ap (λ (b : Bool). b && w) other
+    ∙ sym (ap (λ (x : Option ChangeKind). is_write x) (accepted-other q i h a (flipped i a.change.key other))))
     (cases_Bool (same_key i a.change.key)) in
     let own_mark : (same_key i a.change.key && m) ≡ marks q i h (Came a) = ⊎_elim
-    (λ same. ap (λ (b : Bool). b && m) same ∙ (marked ∙ ap (λ (x : Key). marks q x h (Came a)) (sym (key-same i a.change.key same))))
+    (λ same. ap (λ (b : Bool). b && m) same
+    ∙ (marked ∙ ap (λ (x : Key). marks q x h (Came a)) (sym (key-same i a.change.key same))))
     (λ other. ap (λ (b : Bool). b && m) other ∙ sym (unmarked-other q a h i (flipped i a.change.key other)))
     (cases_Bool (same_key i a.change.key)) in
     ap (λ (b : Bool). is_write_after q known b (same_key i a.change.key && m) k) own_write
@@ -110,12 +137,24 @@ newest q e h i = record {
   value = newest_value q i (e ∷ h);
 }
 
-newest-kept : (q : ReaderQos) (a : Arrival) (h : List Happening) → IsFresh h a.change.key → list_any (λ k. same_key k a.change.key) (known_instances q (Came a ∷ h)) ≡ true → is_present q (Came a ∷ h) a.change.key (length h + 1) ≡ true → IsKeptAt q (Came a ∷ h) a.change.key (length h + 1) (newest q (Came a) h a.change.key)
+newest-kept : (q : ReaderQos) (a : Arrival) (h : List Happening) → IsFresh h a.change.key
+    → list_any (λ k. same_key k a.change.key) (known_instances q (Came a ∷ h)) ≡ true
+    → is_present q (Came a ∷ h) a.change.key (length h + 1) ≡ true
+    → IsKeptAt q (Came a ∷ h) a.change.key (length h + 1) (newest q (Came a) h a.change.key)
 unfolding newest
 newest-kept q a h fresh known present =
     let k : Kept = newest q (Came a) h a.change.key in
     let g : List Happening = Came a ∷ h in
-    let now : IsOf q g k = record { valid_is = refl; number_is = refl; disposed_is = refl; no_writers_is = refl; timestamp_is = refl; publication_is = refl; value_is = refl } in
+    let now : IsOf q g k =
+    record {
+      valid_is = refl;
+      number_is = refl;
+      disposed_is = refl;
+      no_writers_is = refl;
+      timestamp_is = refl;
+      publication_is = refl;
+      value_is = refl;
+    } in
     record {
       sample_is = refl;
       kept = record {
@@ -131,58 +170,96 @@ newest-kept q a h fresh known present =
 
 -- whether the change leaves a present write
 abbrev pub leaves_write : ReaderQos → Arrival → List Happening → Bool
-leaves_write q a h = is_present q (Came a ∷ h) a.change.key (length h + 1) && ends_with_write q a.change.key (Came a ∷ h)
+leaves_write q a h =
+    is_present q (Came a ∷ h) a.change.key (length h + 1) && ends_with_write q a.change.key (Came a ∷ h)
 
 count-one : (p : Kept → Bool) (k : Kept) → count_by p (k ∷ []) ≡ one_if (p k)
-count-one p k = sum_by-cons (λ x. cond (p x) 1 0) k [] ∙ (let none : cond (p k) 1 0 + 0 ≡ one_if (p k) = omega arith in none)
+count-one p k =
+    sum_by-cons (λ x. cond (p x) 1 0) k [] ∙ (let none : cond (p k) 1 0 + 0 ≡ one_if (p k) = omega arith in none)
 
 -- the present writes after a change, among what is then kept
-added-count : (q : ReaderQos) (a : Arrival) (h : List Happening) (ks ns : List Kept) → All (IsKept q h) ks → ((i : Key) → filter (is_present q h i) (up_to (length h)) ≡ positions_in q h i ks) → (adds : Adds q (Came a) h ks ns) → present_writes q (Came a ∷ h) ≡ count_by (is_present_write q (Came a ∷ h)) ns
+added-count : (q : ReaderQos) (a : Arrival) (h : List Happening) (ks ns : List Kept) → All (IsKept q h) ks
+    → ((i : Key) → filter (is_present q h i) (up_to (length h)) ≡ positions_in q h i ks)
+    → (adds : Adds q (Came a) h ks ns) → present_writes q (Came a ∷ h) ≡ count_by (is_present_write q (Came a ∷ h)) ns
 added-count q a h ks ns each present adds =
     let g : List Happening = Came a ∷ h in
-    let all : All (IsKept q g) (ks ++ adds.added) = All-append (IsKept q g) ks adds.added (All-weaker (IsKept q h) (IsKept q g) (λ k kept. kept-quiet q (Came a) h k refl refl kept) ks each) adds.each in
-    present-count q g (λ (s : SamplePosition). ends_with_write q s.key (as_of s.position g)) (ks ++ adds.added) (All-weaker (IsKept q g) (λ (k : Kept). list_any (λ i. same_key i k.sample.key) (known_instances q g) ≡ true) (λ k kept. kept.is_known) (ks ++ adds.added) all)
-    (λ i. present-next q (Came a) h i ks adds.added (All-weaker (IsKept q h) (λ (k : Kept). position_of k ≤ length h) (λ k kept. kept.in_past) ks each) (present i) (adds.present i))
+    let all : All (IsKept q g) (ks ++ adds.added) =
+    All-append (IsKept q g) ks adds.added
+    (All-weaker (IsKept q h) (IsKept q g) (λ k kept. kept-quiet q (Came a) h k refl refl kept) ks each) adds.each in
+    present-count q g (λ (s : SamplePosition). ends_with_write q s.key (as_of s.position g)) (ks ++ adds.added)
+    (All-weaker (IsKept q g) (λ (k : Kept). list_any (λ i. same_key i k.sample.key) (known_instances q g) ≡ true)
+    (λ k kept. kept.is_known) (ks ++ adds.added) all)
+    (λ i. present-next q (Came a) h i ks adds.added
+    (All-weaker (IsKept q h) (λ (k : Kept). position_of k ≤ length h) (λ k kept. kept.in_past) ks each) (present i)
+    (adds.present i))
     ∙ ap (λ (xs : List Kept). count_by (is_present_write q g) xs) (sym adds.are)
 
 -- the present writes after a change are those kept that still are, and its own
-pub writes-after : (q : ReaderQos) (a : Arrival) (h : List Happening) (ks : List Kept) → All (IsKept q h) ks → ((i : Key) → filter (is_present q h i) (up_to (length h)) ≡ positions_in q h i ks) → IsFresh h a.change.key → list_any (λ k. same_key k a.change.key) (known_instances q (Came a ∷ h)) ≡ true → present_writes q (Came a ∷ h) ≡ count_by (is_present_write q (Came a ∷ h)) ks + one_if (leaves_write q a h)
+pub writes-after : (q : ReaderQos) (a : Arrival) (h : List Happening) (ks : List Kept) → All (IsKept q h) ks
+    → ((i : Key) → filter (is_present q h i) (up_to (length h)) ≡ positions_in q h i ks) → IsFresh h a.change.key
+    → list_any (λ k. same_key k a.change.key) (known_instances q (Came a ∷ h)) ≡ true
+    → present_writes q (Came a ∷ h) ≡ count_by (is_present_write q (Came a ∷ h)) ks + one_if (leaves_write q a h)
 writes-after q a h ks each present fresh known =
     ⊎_elim
     (λ there. let k : Kept = newest q (Came a) h a.change.key in
     let at : IsKeptAt q (Came a ∷ h) a.change.key (length h + 1) k = newest-kept q a h fresh known there in
     added-count q a h ks (ks ++ k ∷ []) each present (adds-one q a h ks k at)
-    ∙ (sum_by-append (λ x. cond (is_present_write q (Came a ∷ h) x) 1 0) ks (k ∷ []) ∙ ap (λ (n : ℕ). count_by (is_present_write q (Came a ∷ h)) ks + n) (count-one (is_present_write q (Came a ∷ h)) k ∙ own q a h k at.sample_is)))
+    ∙ (sum_by-append (λ x. cond (is_present_write q (Came a ∷ h) x) 1 0) ks (k ∷ [])
+    ∙ ap (λ (n : ℕ). count_by (is_present_write q (Came a ∷ h)) ks + n)
+    (count-one (is_present_write q (Came a ∷ h)) k ∙ own q a h k at.sample_is)))
     (λ gone. added-count q a h ks ks each present (adds-nothing q a h ks gone)
-    ∙ ((let same : count_by (is_present_write q (Came a ∷ h)) ks ≡ count_by (is_present_write q (Came a ∷ h)) ks + 0 = omega arith in same) ∙ ap (λ (b : Bool). count_by (is_present_write q (Came a ∷ h)) ks + one_if (b && ends_with_write q a.change.key (Came a ∷ h))) (sym gone)))
+    ∙ ((let same : count_by (is_present_write q (Came a ∷ h)) ks
+    ≡ count_by (is_present_write q (Came a ∷ h)) ks + 0 = omega arith in same)
+    ∙ ap (λ (b : Bool). count_by (is_present_write q (Came a ∷ h)) ks + one_if
+    (b && ends_with_write q a.change.key (Came a ∷ h))) (sym gone)))
     (cases_Bool (is_present q (Came a ∷ h) a.change.key (length h + 1)))
   where
-    own : (q : ReaderQos) (a : Arrival) (h : List Happening) (k : Kept) → k.sample ≡ sample_at a.change.key (length h + 1) → one_if (is_present_write q (Came a ∷ h) k) ≡ one_if (leaves_write q a h)
+    own : (q : ReaderQos) (a : Arrival) (h : List Happening) (k : Kept)
+        → k.sample ≡ sample_at a.change.key (length h + 1) → one_if (is_present_write q (Came a ∷ h) k)
+        ≡ one_if (leaves_write q a h)
     own q a h k sample =
-        ap (λ (s : SamplePosition). one_if (is_present q (Came a ∷ h) s.key s.position && ends_with_write q s.key (as_of s.position (Came a ∷ h)))) sample
-        ∙ ap (λ (g : List Happening). one_if (is_present q (Came a ∷ h) a.change.key (length h + 1) && ends_with_write q a.change.key g)) (as_of-newest (Came a) h)
+        ap (λ (s : SamplePosition). one_if
+        (is_present q (Came a ∷ h) s.key s.position && ends_with_write q s.key (as_of s.position (Came a ∷ h))))
+        sample
+        ∙ ap (λ (g : List Happening). one_if
+        (is_present q (Came a ∷ h) a.change.key (length h + 1) && ends_with_write q a.change.key g))
+        (as_of-newest (Came a) h)
 
 -- a write is present where the history keeps it, or where it is a marker
-pub leaves-write : (q : ReaderQos) (a : Arrival) (h : List Happening) (w m : Bool) → w ≡ ends_with_write q a.change.key (Came a ∷ h) → m ≡ marks q a.change.key h (Came a) → IsFresh h a.change.key → (w && (keeps q.history 0 || m)) ≡ leaves_write q a h
+pub leaves-write : (q : ReaderQos) (a : Arrival) (h : List Happening) (w m : Bool)
+    → w ≡ ends_with_write q a.change.key (Came a ∷ h) → m ≡ marks q a.change.key h (Came a) → IsFresh h a.change.key
+    → (w && (keeps q.history 0 || m)) ≡ leaves_write q a h
 leaves-write q a h w m written marked fresh =
     let i : Key = a.change.key in
     let n : ℕ = length h + 1 in
     let g : List Happening = Came a ∷ h in
     let marker : m ≡ is_at (last_marker q i g) n = marked ∙ marker-newest q (Came a) h i in
-    let later : later_writes q g i n ≡ 0 = ap (λ (x : List Happening). accepted_writes q i g - accepted_writes q i x) (as_of-newest (Came a) h) ∙ (let none : accepted_writes q i g - accepted_writes q i g ≡ 0 = omega arith in none) in
+    let later : later_writes q g i n ≡ 0 =
+    ap (λ (x : List Happening). accepted_writes q i g - accepted_writes q i x) (as_of-newest (Came a) h)
+    ∙ (let none : accepted_writes q i g - accepted_writes q i g ≡ 0 = omega arith in none) in
     ap (λ (b : Bool). b && (keeps q.history 0 || m)) written
     ∙ (ap (λ (b : Bool). ends_with_write q i g && (keeps q.history 0 || b)) marker
     ∙ (write-table (ends_with_write q i g) (keeps q.history 0) (is_at (last_marker q i g) n)
-    ∙ (ap (λ (x : ℕ). ((ends_with_write q i g && keeps q.history x) || is_at (last_marker q i g) n) && ends_with_write q i g) (sym later)
-    ∙ (ap (λ (x : List Happening). ((ends_with_write q i x && keeps q.history (later_writes q g i n)) || is_at (last_marker q i g) n) && ends_with_write q i g) (sym (as_of-newest (Came a) h))
-    ∙ sym (ap (λ (b : Bool). (not b && (is_kept_write q g i n || is_at (last_marker q i g) n)) && ends_with_write q i g) fresh.untaken)))))
+    ∙ (ap (λ (x : ℕ). ((ends_with_write q i g && keeps q.history x) || is_at (last_marker q i g) n) && ends_with_write q
+    i g) (sym later)
+    ∙ (ap (λ (x : List Happening).
+    ((ends_with_write q i x && keeps q.history (later_writes q g i n)) || is_at (last_marker q i g) n)
+    && ends_with_write q i g) (sym (as_of-newest (Came a) h))
+    ∙ sym (ap (λ (b : Bool). (not b && (is_kept_write q g i n || is_at (last_marker q i g) n)) && ends_with_write q i g)
+    fresh.untaken)))))
   where
     eqb-refl : (n : ℕ) → true ≡ (n == n)
     eqb-refl n = grind (arith, nat_tests)
 
-    marker-newest : (q : ReaderQos) (e : Happening) (h : List Happening) (i : Key) → marks q i h e ≡ is_at (last_marker q i (e ∷ h)) (length h + 1)
+    marker-newest : (q : ReaderQos) (e : Happening) (h : List Happening) (i : Key)
+        → marks q i h e ≡ is_at (last_marker q i (e ∷ h)) (length h + 1)
     marker-newest q e h i =
         ⊎_elim
-        (λ marked. marked ∙ (eqb-refl (length h + 1) ∙ sym (ap (λ (b : Bool). is_at (if b then Some (length h + 1) else last_marker q i h) (length h + 1)) marked)))
-        (λ unmarked. unmarked ∙ (sym (marker-future q i h) ∙ sym (ap (λ (b : Bool). is_at (if b then Some (length h + 1) else last_marker q i h) (length h + 1)) unmarked)))
+        (λ marked. marked ∙ (eqb-refl (length h + 1)
+        ∙ sym (ap (λ (b : Bool). is_at (if b then Some (length h + 1) else last_marker q i h) (length h + 1))
+        marked)))
+        (λ unmarked. unmarked
+        ∙ (sym (marker-future q i h)
+        ∙ sym (ap (λ (b : Bool). is_at (if b then Some (length h + 1) else last_marker q i h) (length h + 1))
+        unmarked)))
         (cases_Bool (marks q i h e))

@@ -27,60 +27,85 @@ use Rattle.dds_instances.proofs.KnownLaws.{unknown}
 use Rattle.dds_instances.proofs.StandingLaws.{first-accepted}
 
 -- of an instance that is kept, by the accepted kind and whether anybody is registered then
-pub marks-tracked : (q : ReaderQos) (h : List Happening) (a : Arrival) (t : InstanceTrack) (kind : Option ChangeKind) (left : Bool) → Tracks q a.change.key h t → kind ≡ accepted_kind q a.change.key h (Came a) → left ≡ not (is_nobody (registered_writers q a.change.key (Came a ∷ h))) → becomes_not_alive (state_of_track t) (state_after (or_else kind t.last_accepted) (not left)) ≡ marks q a.change.key h (Came a)
+pub marks-tracked : (q : ReaderQos) (h : List Happening) (a : Arrival) (t : InstanceTrack) (kind : Option ChangeKind)
+    (left : Bool) → Tracks q a.change.key h t → kind ≡ accepted_kind q a.change.key h (Came a)
+    → left ≡ not (is_nobody (registered_writers q a.change.key (Came a ∷ h)))
+    → becomes_not_alive (state_of_track t) (state_after (or_else kind t.last_accepted) (not left))
+    ≡ marks q a.change.key h (Came a)
 marks-tracked q h a t kind left tracks kind_is left_is =
     let i : Key = a.change.key in
-    ap (λ (s : Option InstanceState). becomes_not_alive s (state_after (or_else kind t.last_accepted) (not left))) (state-tracked q i h t tracks)
-    ∙ (ap (λ (k : Option ChangeKind). becomes_not_alive (instance_state_of q i h) (state_after (or_else k t.last_accepted) (not left))) kind_is
-    ∙ (ap (λ (l : Option ChangeKind). becomes_not_alive (instance_state_of q i h) (state_after (or_else (accepted_kind q i h (Came a)) l) (not left))) tracks.last_is
-    ∙ ap (λ (b : Bool). becomes_not_alive (instance_state_of q i h) (state_after (last_accepted q i (Came a ∷ h)) b)) (sym (not-not _ _ left_is))))
+    ap (λ (s : Option InstanceState). becomes_not_alive s (state_after (or_else kind t.last_accepted) (not left)))
+    (state-tracked q i h t tracks)
+    ∙ (ap (λ (k : Option ChangeKind). becomes_not_alive (instance_state_of q i h)
+    (state_after (or_else k t.last_accepted) (not left))) kind_is
+    ∙ (ap (λ (l : Option ChangeKind). becomes_not_alive (instance_state_of q i h)
+    (state_after (or_else (accepted_kind q i h (Came a)) l) (not left))) tracks.last_is
+    ∙ ap (λ (b : Bool). becomes_not_alive (instance_state_of q i h) (state_after (last_accepted q i (Came a ∷ h)) b))
+    (sym (not-not _ _ left_is))))
 
 -- ---- of an instance that is unknown
 
-nobody-but : (p : ℕ → Bool) (w k : ℕ) (xs : List MatchedWriter) → ((v : ℕ) → p v ≡ (w == v)) → is_nobody (filter p (numbered_from k xs)) ≡ not (nat_le k w && nat_lt w (k + length xs))
+nobody-but : (p : ℕ → Bool) (w k : ℕ) (xs : List MatchedWriter) → ((v : ℕ) → p v ≡ (w == v))
+    → is_nobody (filter p (numbered_from k xs)) ≡ not (nat_le k w && nat_lt w (k + length xs))
 nobody-but p w k [] is = none k w
   where
     none : (k w : ℕ) → true ≡ not (nat_le k w && nat_lt w (k + 0))
     none k w = grind (arith, nat_tests)
 nobody-but p w k (x ∷ xs) is =
     ⊎_elim
-    (λ same. ap (λ (b : Bool). is_nobody (cond b (k ∷ filter p (numbered_from (k + 1) xs)) (filter p (numbered_from (k + 1) xs)))) (is k ∙ same) ∙ here k w (length xs) (eqb-true w k same))
-    (λ other. ap (λ (b : Bool). is_nobody (cond b (k ∷ filter p (numbered_from (k + 1) xs)) (filter p (numbered_from (k + 1) xs)))) (is k ∙ other) ∙ (nobody-but p w (k + 1) xs is ∙ later k w (length xs) (eqb-false w k other)))
+    (λ same. ap (λ (b : Bool). is_nobody
+    (cond b (k ∷ filter p (numbered_from (k + 1) xs)) (filter p (numbered_from (k + 1) xs)))) (is k ∙ same)
+    ∙ here k w (length xs) (eqb-true w k same))
+    (λ other. ap (λ (b : Bool). is_nobody
+    (cond b (k ∷ filter p (numbered_from (k + 1) xs)) (filter p (numbered_from (k + 1) xs)))) (is k ∙ other)
+    ∙ (nobody-but p w (k + 1) xs is ∙ later k w (length xs) (eqb-false w k other)))
     (cases_Bool (w == k))
   where
     here : (k w n : ℕ) → w ≡ k → false ≡ not (nat_le k w && nat_lt w (k + suc n))
     here k w n e = grind (arith, nat_tests)
 
-    later : (k w n : ℕ) → (w ≡ k → ⊥) → not (nat_le (k + 1) w && nat_lt w (k + 1 + n)) ≡ not (nat_le k w && nat_lt w (k + suc n))
+    later : (k w n : ℕ) → (w ≡ k → ⊥) → not (nat_le (k + 1) w && nat_lt w (k + 1 + n))
+        ≡ not (nat_le k w && nat_lt w (k + suc n))
     later k w n differ = grind (arith, nat_tests)
 
 within-is : (w n : ℕ) → not (nat_le 1 w && nat_lt w (1 + n)) ≡ not (nat_lt 0 w && nat_le w n)
 within-is w n = grind (arith, nat_tests)
 
-registered-one : (s x u d r : Bool) → s ≡ true → u ≡ false → d ≡ true → r ≡ false → (not ((s && x) && u) && (((s && x) && d) || r)) ≡ x
+registered-one : (s x u d r : Bool) → s ≡ true → u ≡ false → d ≡ true → r ≡ false
+    → (not ((s && x) && u) && (((s && x) && d) || r)) ≡ x
 registered-one s true u d r s_is u_is d_is r_is = cc
 registered-one s false u d r s_is u_is d_is r_is = cc
 
 -- after a write of an instance of which nobody was registered its writer is, if it is matched
-nobody-written : (q : ReaderQos) (h : List Happening) (a : Arrival) → ((w : ℕ) → is_registered a.change.key w h ≡ false) → a.change.kind ≡ Write → is_nobody (registered_writers q a.change.key (Came a ∷ h)) ≡ not (nat_lt 0 a.writer && nat_le a.writer (length q.writers))
+nobody-written : (q : ReaderQos) (h : List Happening) (a : Arrival) → ((w : ℕ) → is_registered a.change.key w h ≡ false)
+    → a.change.kind ≡ Write → is_nobody (registered_writers q a.change.key (Came a ∷ h))
+    ≡ not (nat_lt 0 a.writer && nat_le a.writer (length q.writers))
 nobody-written q h a none kind =
-    nobody-but (λ v. is_registered a.change.key v (Came a ∷ h)) a.writer 1 q.writers (λ v. registered-one (same_key a.change.key a.change.key) (a.writer == v) (is_unregister a.change.kind) (is_write_or_dispose a.change.kind) (is_registered a.change.key v h) (same_key-refl a.change.key) (ap is_unregister kind) (ap is_write_or_dispose kind) (none v))
+    nobody-but (λ v. is_registered a.change.key v (Came a ∷ h)) a.writer 1 q.writers
+    (λ v. registered-one (same_key a.change.key a.change.key) (a.writer == v) (is_unregister a.change.kind)
+    (is_write_or_dispose a.change.kind) (is_registered a.change.key v h) (same_key-refl a.change.key)
+    (ap is_unregister kind) (ap is_write_or_dispose kind) (none v))
     ∙ within-is a.writer (length q.writers)
 
 ends : (n : Bool) → n ≡ becomes_not_alive None (Some (if n then NotAliveNoWriters else Alive))
 ends true = refl
 ends false = refl
 
-first-table : (kind : ChangeKind) (writers w : ℕ) (n : Bool) → (kind ≡ Write → n ≡ not (nat_lt 0 w && nat_le w writers)) → is_born_dead writers w kind ≡ becomes_not_alive None (state_after (or_else (if is_write_or_dispose kind then Some kind else None) None) n)
+first-table : (kind : ChangeKind) (writers w : ℕ) (n : Bool) → (kind ≡ Write → n ≡ not (nat_lt 0 w && nat_le w writers))
+    → is_born_dead writers w kind ≡ becomes_not_alive None
+    (state_after (or_else (if is_write_or_dispose kind then Some kind else None) None) n)
 first-table Write writers w n is = sym (is refl) ∙ ends n
 first-table Dispose writers w n is = refl
 first-table Unregister writers w n is = refl
 first-table DisposeUnregister writers w n is = refl
 
-pub marks-first : (q : ReaderQos) (h : List Happening) (a : Arrival) → last_accepted q a.change.key h ≡ None → is_born_dead (length q.writers) a.writer a.change.kind ≡ marks q a.change.key h (Came a)
+pub marks-first : (q : ReaderQos) (h : List Happening) (a : Arrival) → last_accepted q a.change.key h ≡ None
+    → is_born_dead (length q.writers) a.writer a.change.kind ≡ marks q a.change.key h (Came a)
 marks-first q h a last =
     let i : Key = a.change.key in
     let n : Bool = is_nobody (registered_writers q i (Came a ∷ h)) in
     first-table a.change.kind (length q.writers) a.writer n (nobody-written q h a (unknown q i h last).registered)
-    ∙ (ap (λ (k : Option ChangeKind). becomes_not_alive None (state_after (or_else k None) n)) (sym (first-accepted q h a last))
-    ∙ ap (λ (l : Option ChangeKind). becomes_not_alive (state_after l (is_nobody (registered_writers q i h))) (state_after (or_else (accepted_kind q i h (Came a)) l) n)) (sym last))
+    ∙ (ap (λ (k : Option ChangeKind). becomes_not_alive None (state_after (or_else k None) n))
+    (sym (first-accepted q h a last))
+    ∙ ap (λ (l : Option ChangeKind). becomes_not_alive (state_after l (is_nobody (registered_writers q i h)))
+    (state_after (or_else (accepted_kind q i h (Came a)) l) n)) (sym last))

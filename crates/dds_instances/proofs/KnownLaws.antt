@@ -32,7 +32,8 @@ any-one : (b : Bool) (k i : Key) → list_any (λ x. same_key x i) (cond b (k �
 any-one true k i = or-none (same_key k i)
 any-one false k i = refl
 
-known-table : (new last : Option ChangeKind) → (is_some last || ((not (is_some last) && is_some new) && true)) ≡ is_some (or_else new last)
+known-table : (new last : Option ChangeKind) → (is_some last || ((not (is_some last) && is_some new) && true))
+    ≡ is_some (or_else new last)
 known-table None None = refl
 known-table None (Some l) = refl
 known-table (Some k) None = refl
@@ -43,19 +44,28 @@ other-table true x = refl
 other-table false true = refl
 other-table false false = refl
 
-quiet : (q : ReaderQos) (h : List Happening) (i : Key) → list_any (λ k. same_key k i) (known_instances q h) ≡ is_some (last_accepted q i h) → list_any (λ k. same_key k i) (known_instances q h ++ []) ≡ is_some (last_accepted q i h)
+quiet : (q : ReaderQos) (h : List Happening) (i : Key) → list_any (λ k. same_key k i) (known_instances q h)
+    ≡ is_some (last_accepted q i h) → list_any (λ k. same_key k i) (known_instances q h ++ [])
+    ≡ is_some (last_accepted q i h)
 quiet q h i before = list_any-append (λ k. same_key k i) (known_instances q h) [] ∙ (or-none _ ∙ before)
 
-pub known : (q : ReaderQos) (h : List Happening) (i : Key) → list_any (λ k. same_key k i) (known_instances q h) ≡ is_some (last_accepted q i h)
+pub known : (q : ReaderQos) (h : List Happening) (i : Key)
+    → list_any (λ k. same_key k i) (known_instances q h) ≡ is_some (last_accepted q i h)
 known q [] i = refl
 known q (Came a ∷ h) i =
     list_any-append (λ k. same_key k i) (known_instances q h) (introduced_by q h (Came a))
     ∙ (ap (λ (b : Bool). b || list_any (λ k. same_key k i) (introduced_by q h (Came a))) (known q h i)
-    ∙ (ap (λ (b : Bool). is_some (last_accepted q i h) || b) (any-one (introduces q a.change.key h (Came a)) a.change.key i)
+    ∙ (ap (λ (b : Bool). is_some (last_accepted q i h) || b)
+    (any-one (introduces q a.change.key h (Came a)) a.change.key i)
     ∙ ⊎_elim
     (λ e. let is : a.change.key ≡ i = key-same a.change.key i e in
-    ap (λ (b : Bool). is_some (last_accepted q i h) || (introduces q a.change.key h (Came a) && b)) e ∙ subst (λ (k : Key). (is_some (last_accepted q i h) || (introduces q k h (Came a) && true)) ≡ is_some (or_else (accepted_kind q i h (Came a)) (last_accepted q i h))) (sym is) (known-table (accepted_kind q i h (Came a)) (last_accepted q i h)))
-    (λ e. ap (λ (b : Bool). is_some (last_accepted q i h) || (introduces q a.change.key h (Came a) && b)) e ∙ (other-table (is_some (last_accepted q i h)) (introduces q a.change.key h (Came a)) ∙ sym (ap (λ (k : Option ChangeKind). is_some (or_else k (last_accepted q i h))) (accepted-other q i h a e))))
+    ap (λ (b : Bool). is_some (last_accepted q i h) || (introduces q a.change.key h (Came a) && b)) e
+    ∙ subst (λ (k : Key). (is_some (last_accepted q i h) || (introduces q k h (Came a) && true))
+    ≡ is_some (or_else (accepted_kind q i h (Came a)) (last_accepted q i h))) (sym is)
+    (known-table (accepted_kind q i h (Came a)) (last_accepted q i h)))
+    (λ e. ap (λ (b : Bool). is_some (last_accepted q i h) || (introduces q a.change.key h (Came a) && b)) e
+    ∙ (other-table (is_some (last_accepted q i h)) (introduces q a.change.key h (Came a))
+    ∙ sym (ap (λ (k : Option ChangeKind). is_some (or_else k (last_accepted q i h))) (accepted-other q i h a e))))
     (cases_Bool (same_key a.change.key i))))
 known q (Passed w first last ∷ h) i = quiet q h i (known q h i)
 known q (Heard w m ∷ h) i = quiet q h i (known q h i)
@@ -93,17 +103,25 @@ and-true true false = refl
 and-true false b = refl
 
 -- where nobody is registered, no writer is
-nobody-filtered : (i : Key) (h : List Happening) (ws : List ℕ) → ((w : ℕ) → is_registered i w h ≡ false) → filter (λ w. is_registered i w h) ws ≡ []
+nobody-filtered : (i : Key) (h : List Happening) (ws : List ℕ) → ((w : ℕ) → is_registered i w h ≡ false)
+    → filter (λ w. is_registered i w h) ws ≡ []
 nobody-filtered i h [] none = refl
 nobody-filtered i h (w ∷ ws) none =
-    ap (λ (b : Bool). cond b (w ∷ filter (λ v. is_registered i v h) ws) (filter (λ v. is_registered i v h) ws)) (none w) ∙ nobody-filtered i h ws none
+    ap (λ (b : Bool). cond b (w ∷ filter (λ v. is_registered i v h) ws) (filter (λ v. is_registered i v h) ws)) (none w)
+    ∙ nobody-filtered i h ws none
 
 -- a change that is not accepted where nobody is registered is no write or dispose of the instance
-pub rejected : (q : ReaderQos) (i : Key) (h : List Happening) (a : Arrival) → ((w : ℕ) → is_registered i w h ≡ false) → accepted_kind q i h (Came a) ≡ (if same_key a.change.key i && is_write_or_dispose a.change.kind then Some a.change.kind else None)
+pub rejected : (q : ReaderQos) (i : Key) (h : List Happening) (a : Arrival) → ((w : ℕ) → is_registered i w h ≡ false)
+    → accepted_kind q i h (Came a)
+    ≡ (if same_key a.change.key i && is_write_or_dispose a.change.kind then Some a.change.kind else None)
 rejected q i h a none =
-    ap (λ (ws : List ℕ). if same_key a.change.key i && (is_write_or_dispose a.change.kind && admits q.ownership (outranks_all q ws a.writer)) then Some a.change.kind else None) (nobody-filtered i h (publication_handles q) none)
-    ∙ (ap (λ (b : Bool). if same_key a.change.key i && (is_write_or_dispose a.change.kind && b) then Some a.change.kind else None) (admits-all q.ownership)
-    ∙ ap (λ (b : Bool). if b then Some a.change.kind else None) (and-true (same_key a.change.key i) (is_write_or_dispose a.change.kind)))
+    ap (λ (ws : List ℕ). if same_key a.change.key i && (is_write_or_dispose a.change.kind && admits q.ownership
+    (outranks_all q ws a.writer)) then Some a.change.kind else None)
+    (nobody-filtered i h (publication_handles q) none)
+    ∙ (ap (λ (b : Bool). if same_key a.change.key i && (is_write_or_dispose a.change.kind && b) then Some a.change.kind
+    else None) (admits-all q.ownership)
+    ∙ ap (λ (b : Bool). if b then Some a.change.kind else None)
+    (and-true (same_key a.change.key i) (is_write_or_dispose a.change.kind)))
 
 no-registration : (s w d u : Bool) → (s && d) ≡ false → (not ((s && w) && u) && (((s && w) && d) || false)) ≡ false
 no-registration true true true u e = absurd cc
@@ -112,35 +130,63 @@ no-registration true true false false e = refl
 no-registration true false d u e = refl
 no-registration false w d u e = refl
 
-unregistered-still : (q : ReaderQos) (i : Key) (h : List Happening) (e : Happening) → ((w : ℕ) → is_registered i w h ≡ false) → accepted_kind q i h e ≡ None → (w : ℕ) → is_registered i w (e ∷ h) ≡ false
+unregistered-still : (q : ReaderQos) (i : Key) (h : List Happening) (e : Happening)
+    → ((w : ℕ) → is_registered i w h ≡ false) → accepted_kind q i h e ≡ None → (w : ℕ)
+    → is_registered i w (e ∷ h) ≡ false
 unregistered-still q i h (Came a) none refused w =
-    ap (λ (b : Bool). not ((same_key a.change.key i && (a.writer == w)) && is_unregister a.change.kind) && (((same_key a.change.key i && (a.writer == w)) && is_write_or_dispose a.change.kind) || b)) (none w)
-    ∙ no-registration (same_key a.change.key i) (a.writer == w) (is_write_or_dispose a.change.kind) (is_unregister a.change.kind) (some-if (same_key a.change.key i && is_write_or_dispose a.change.kind) a.change.kind (sym (rejected q i h a none) ∙ refused))
+    ap (λ (b : Bool). not ((same_key a.change.key i && (a.writer == w)) && is_unregister a.change.kind)
+    && (((same_key a.change.key i && (a.writer == w)) && is_write_or_dispose a.change.kind) || b)) (none w)
+    ∙ no-registration (same_key a.change.key i) (a.writer == w) (is_write_or_dispose a.change.kind)
+    (is_unregister a.change.kind)
+    (some-if (same_key a.change.key i && is_write_or_dispose a.change.kind) a.change.kind
+    (sym (rejected q i h a none) ∙ refused))
 unregistered-still q i h (Passed v first last) none refused w = none w
 unregistered-still q i h (Heard v m) none refused w = none w
-unregistered-still q i h (Died v m) none refused w = ap (λ (b : Bool). not (v == w) && b) (none w) ∙ (let off : (b : Bool) → (b && false) ≡ false = λ b. elim b as (λ x. (x && false) ≡ false) [ true ↦ refl | false ↦ refl ] in off (not (v == w)))
+unregistered-still q i h (Died v m) none refused w =
+    ap (λ (b : Bool). not (v == w) && b) (none w)
+    ∙ (let off : (b : Bool) → (b && false) ≡ false = λ b. elim b as (λ x. (x && false) ≡ false)
+    [ true ↦ refl | false ↦ refl ] in off (not (v == w)))
 unregistered-still q i h (Read s) none refused w = none w
 unregistered-still q i h (Took s) none refused w = none w
 unregistered-still q i h (Looked k) none refused w = none w
 
 pub unknown : (q : ReaderQos) (i : Key) (h : List Happening) → last_accepted q i h ≡ None → IsUnknown q i h
-unknown q i [] e = record { registered = λ w. refl; disposed = refl; no_writers = refl; rebirth = refl; marker = refl; writes = refl }
+unknown q i [] e =
+    record { registered = λ w. refl; disposed = refl; no_writers = refl; rebirth = refl; marker = refl; writes = refl }
 unknown q i (e ∷ h) last =
     let parts = or_else-none (accepted_kind q i h e) (last_accepted q i h) last in
     let before : IsUnknown q i h = unknown q i h parts.1 in
-    let state : instance_state_of q i h ≡ None = ap (λ (k : Option ChangeKind). state_after k (is_nobody (registered_writers q i h))) parts.1 in
-    let after : instance_state_of q i (e ∷ h) ≡ None = ap (λ (k : Option ChangeKind). state_after k (is_nobody (registered_writers q i (e ∷ h)))) last in
+    let state : instance_state_of q i h ≡ None =
+    ap (λ (k : Option ChangeKind). state_after k (is_nobody (registered_writers q i h))) parts.1 in
+    let after : instance_state_of q i (e ∷ h) ≡ None =
+    ap (λ (k : Option ChangeKind). state_after k (is_nobody (registered_writers q i (e ∷ h)))) last in
     record {
       registered = unregistered-still q i h e before.registered parts.0;
-      disposed = ap (λ (k : Option ChangeKind). disposed_generations q i h + (if is_write k && is_disposed (instance_state_of q i h) then 1 else 0)) parts.0 ∙ (let more : disposed_generations q i h + 0 ≡ 0 = omega (arith, before.disposed) in more);
-      no_writers = ap (λ (k : Option ChangeKind). no_writers_generations q i h + (if is_write k && is_without_writers (instance_state_of q i h) then 1 else 0)) parts.0 ∙ (let more : no_writers_generations q i h + 0 ≡ 0 = omega (arith, before.no_writers) in more);
-      rebirth = ap (λ (k : Option ChangeKind). if (is_write k && is_disposed (instance_state_of q i h)) || (is_write k && is_without_writers (instance_state_of q i h)) then length h + 1 else latest_rebirth q i h) parts.0 ∙ before.rebirth;
-      marker = ap (λ (s : Option InstanceState). if becomes_not_alive s (instance_state_of q i (e ∷ h)) then Some (length h + 1) else last_marker q i h) state ∙ (ap (λ (s : Option InstanceState). if becomes_not_alive None s then Some (length h + 1) else last_marker q i h) after ∙ before.marker);
-      writes = ap (λ (k : Option ChangeKind). accepted_writes q i h + (if is_write k then 1 else 0)) parts.0 ∙ (let more : accepted_writes q i h + 0 ≡ 0 = omega (arith, before.writes) in more);
+      disposed =
+          ap (λ (k : Option ChangeKind). disposed_generations q i h
+          + (if is_write k && is_disposed (instance_state_of q i h) then 1 else 0)) parts.0
+          ∙ (let more : disposed_generations q i h + 0 ≡ 0 = omega (arith, before.disposed) in more);
+      no_writers =
+          ap (λ (k : Option ChangeKind). no_writers_generations q i h
+          + (if is_write k && is_without_writers (instance_state_of q i h) then 1 else 0)) parts.0
+          ∙ (let more : no_writers_generations q i h + 0 ≡ 0 = omega (arith, before.no_writers) in more);
+      rebirth =
+          ap (λ (k : Option ChangeKind). if (is_write k && is_disposed (instance_state_of q i h))
+          || (is_write k && is_without_writers (instance_state_of q i h)) then length h + 1 else latest_rebirth q i h)
+          parts.0 ∙ before.rebirth;
+      marker =
+          ap (λ (s : Option InstanceState). if becomes_not_alive s (instance_state_of q i (e ∷ h)) then Some
+          (length h + 1) else last_marker q i h) state
+          ∙ (ap (λ (s : Option InstanceState). if becomes_not_alive None s then Some
+          (length h + 1) else last_marker q i h) after ∙ before.marker);
+      writes =
+          ap (λ (k : Option ChangeKind). accepted_writes q i h + (if is_write k then 1 else 0)) parts.0
+          ∙ (let more : accepted_writes q i h + 0 ≡ 0 = omega (arith, before.writes) in more);
     }
 
 -- a fresh track has followed an unknown instance
-pub tracks-fresh : (q : ReaderQos) (i : Key) (h : List Happening) (kept : Kept) → StandsFor kept q i [] → last_accepted q i h ≡ None → list_any (accesses i 0) h ≡ false → Tracks q i h (fresh i kept)
+pub tracks-fresh : (q : ReaderQos) (i : Key) (h : List Happening) (kept : Kept) → StandsFor kept q i []
+    → last_accepted q i h ≡ None → list_any (accesses i 0) h ≡ false → Tracks q i h (fresh i kept)
 tracks-fresh q i h kept blank last unseen =
     let none : IsUnknown q i h = unknown q i h last in
     record {

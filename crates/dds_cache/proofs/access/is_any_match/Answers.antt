@@ -14,9 +14,14 @@ returns-then-is_match g c = record {
       let ks : List Kept = c.args.samples.now in
       let k : Kept = c.kept-item.result in
       let test : Kept → Bool = is_wanted c.args.qos.now h c.args.masks (g.T.Test.meaning c.args.test.now) in
-      let kept : IsKept c.args.qos.now h k = subst (λ (x : Kept). IsKept c.args.qos.now h x) (sym c.kept-item.is) (holds.each c.loop-kept.kept-index k c.loop-kept-test.true) in
-      let passes : test (get_or ks c.loop-kept.kept-index k) ≡ true = ap test (sym c.kept-item.is) ∙ (sym (c.is_match.ensures.wanted h holds.instances kept) ∙ c.if-is_match.true) in
-      sym (list_any_at test ks c.loop-kept.kept-index k c.loop-kept-test.true passes) ∙ matched-any c.args.qos.now c.args.instances.now h c.args.masks (g.T.Test.meaning c.args.test.now) ks holds;
+      let kept : IsKept c.args.qos.now h k =
+      subst (λ (x : Kept). IsKept c.args.qos.now h x) (sym c.kept-item.is)
+      (holds.each c.loop-kept.kept-index k c.loop-kept-test.true) in
+      let passes : test (get_or ks c.loop-kept.kept-index k) ≡ true =
+      ap test (sym c.kept-item.is) ∙ (sym (c.is_match.ensures.wanted h holds.instances kept) ∙ c.if-is_match.true)
+      in
+      sym (list_any_at test ks c.loop-kept.kept-index k c.loop-kept-test.true passes)
+      ∙ matched-any c.args.qos.now c.args.instances.now h c.args.masks (g.T.Test.meaning c.args.test.now) ks holds;
 }
 
 pub loop-kept-preserved : goal.loop-kept-preserved
@@ -24,8 +29,11 @@ loop-kept-preserved g c = λ h stands each.
     let ks : List Kept = c.args.samples.now in
     let k : Kept = c.kept-item.result in
     let test : Kept → Bool = is_wanted c.args.qos.now h c.args.masks (g.T.Test.meaning c.args.test.now) in
-    let kept : IsKept c.args.qos.now h k = subst (λ (x : Kept). IsKept c.args.qos.now h x) (sym c.kept-item.is) (each c.loop-kept.kept-index k c.loop-kept-test.true) in
-    let fails : test (get_or ks c.loop-kept.kept-index k) ≡ false = ap test (sym c.kept-item.is) ∙ (sym (c.is_match.ensures.wanted h stands kept) ∙ c.if-is_match.false) in
+    let kept : IsKept c.args.qos.now h k =
+    subst (λ (x : Kept). IsKept c.args.qos.now h x) (sym c.kept-item.is)
+    (each c.loop-kept.kept-index k c.loop-kept-test.true) in
+    let fails : test (get_or ks c.loop-kept.kept-index k) ≡ false =
+    ap test (sym c.kept-item.is) ∙ (sym (c.is_match.ensures.wanted h stands kept) ∙ c.if-is_match.false) in
     list_any_more test ks c.loop-kept.kept-index k c.loop-kept-test.true
     ∙ (ap (λ (b : Bool). b || test (get_or ks c.loop-kept.kept-index k)) (c.loop-kept.invariant h stands each) ∙ fails)
 

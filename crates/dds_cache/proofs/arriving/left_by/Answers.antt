@@ -45,13 +45,16 @@ left c h stands valid fresh =
     let sample = ap (λ n. sample_at key n) at in
     let known = c.in-Some.ensures.known q g stands in
     let key_is = c.in-Some.ensures.key q g stands in
-    let newest = newest-came q c.args.arrival h c.in-Some.known (left_of c) known key_is refl valid refl refl refl refl refl
+    let newest =
+    newest-came q c.args.arrival h c.in-Some.known (left_of c) known key_is refl valid refl refl refl refl refl
     c.value_of.ensures refl (c.handle.ensures.handle q g stands) in
     record {
       sample = sample;
       known = known;
       key = key_is;
-      kept = kept-newest q (Came c.args.arrival) h key c.in-Some.known (left_of c) refl refl fresh sample known key_is newest;
+      kept =
+          kept-newest q (Came c.args.arrival) h key c.in-Some.known
+          (left_of c) refl refl fresh sample known key_is newest;
     }
 
 pub returns-in-None-clause-left : goal.returns-in-None-clause-left
@@ -66,7 +69,8 @@ returns-then-is_live-clause-left c = λ h stands valid fresh.
     record {
       sample_is = is.sample;
       kept = is.kept;
-      present = live-at c.args.qos.now (Came c.args.arrival ∷ h) c.args.arrival.change.key (length h + 1) c.in-Some.known
+      present =
+          live-at c.args.qos.now (Came c.args.arrival ∷ h) c.args.arrival.change.key (length h + 1) c.in-Some.known
           (left_of at) true is.known is.key is.sample is.kept (sym c.is_live.ensures ∙ c.if-is_live.true);
     }
 

@@ -7,5 +7,8 @@ use Rattle.dds_cache.proofs.collection.collect.Goals as goal
 
 pub fill-requires : goal.fill-requires
 fill-requires c = record {
-  small = subst (λ (ps : List Picked). All (λ (p : Picked). own_generations p < 2 ^ 64) ps) (sym (c.deref.ensures.value ∙ c.in_ok-picked.ensures)) (described-small (length c.args.samples.now) c.args.found.now c.requires);
+  small =
+      subst (λ (ps : List Picked). All (λ (p : Picked). own_generations p < 2 ^ 64) ps)
+      (sym (c.deref.ensures.value ∙ c.in_ok-picked.ensures))
+      (described-small (length c.args.samples.now) c.args.found.now c.requires);
 }

@@ -25,12 +25,20 @@ loop-at-preserved c = record {
       let within : c.loop-at.at < length ks = omega (arith, c.loop-at-test.true, counted) in
       let x : Key = get_or ks c.loop-at.at (record { 0 = [] }) in
       let there : slice_get ks c.loop-at.at ≡ Some x = slice_get-get_or ks c.loop-at.at (record { 0 = [] }) within in
-      let named : instance_of q g c.new-handle.result ≡ Some x = ap (λ (n : ℕ). instance_of q g n) (c.new-handle.ensures.number ∙ (let next : c.loop-at.at + 1 ≡ suc c.loop-at.at = omega arith in next)) ∙ there in
-      adds-of-more q g (length h + 1) c.loop-at.at x c.args.samples.now.items c.loop-at.samples.items c.add_marker.new.samples.items there (c.loop-at.invariant.added q h stands counted fresh) (c.add_marker.ensures.samples q h x stands named (fresh x));
+      let named : instance_of q g c.new-handle.result ≡ Some x =
+      ap (λ (n : ℕ). instance_of q g n) (c.new-handle.ensures.number
+      ∙ (let next : c.loop-at.at + 1 ≡ suc c.loop-at.at = omega arith in next)) ∙ there in
+      adds-of-more q g (length h + 1) c.loop-at.at x c.args.samples.now.items c.loop-at.samples.items
+      c.add_marker.new.samples.items there (c.loop-at.invariant.added q h stands counted fresh)
+      (c.add_marker.ensures.samples q h x stands named (fresh x));
 }
 
 pub returns-clause-samples : goal.returns-clause-samples
-returns-clause-samples c = λ q h stands counted fresh. adds-died q (Died c.args.writer c.args.moment) h c.loop-at.at c.args.samples.now.items c.loop-at.samples.items (omega (arith, counted, c.loop-at-test.false, c.loop-at.auto.at-end)) (c.loop-at.invariant.added q h stands counted fresh)
+returns-clause-samples c =
+    λ q h stands counted fresh. adds-died q
+    (Died c.args.writer c.args.moment) h c.loop-at.at c.args.samples.now.items c.loop-at.samples.items
+    (omega (arith, counted, c.loop-at-test.false, c.loop-at.auto.at-end))
+    (c.loop-at.invariant.added q h stands counted fresh)
 
 -- there is room for it, if it left one
 pub add_marker-requires : goal.add_marker-requires

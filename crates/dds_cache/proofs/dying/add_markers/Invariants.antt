@@ -19,5 +19,8 @@ invariant-loop-at l = record {
   len : vec_len l.samples ≤ vec_len l.fn.samples + marked_among l.instances l.at;
   capacity : vec_capacity l.fn.samples ≤ vec_capacity l.samples;
   small : All IsSmall l.fn.samples.items → All IsSmall l.samples.items;
-  added : (q : ReaderQos) (h : List Happening) → Stands q l.instances (Died l.writer l.moment ∷ h) → l.count ≡ length (known_instances q (Died l.writer l.moment ∷ h)) → ((i : Key) → IsFresh h i) → AddsOf q (Died l.writer l.moment ∷ h) (length h + 1) (take l.at (known_instances q (Died l.writer l.moment ∷ h))) l.fn.samples.items l.samples.items;
+  added : (q : ReaderQos) (h : List Happening) → Stands q l.instances (Died l.writer l.moment ∷ h)
+      → l.count ≡ length (known_instances q (Died l.writer l.moment ∷ h)) → ((i : Key) → IsFresh h i)
+      → AddsOf q (Died l.writer l.moment ∷ h) (length h + 1)
+      (take l.at (known_instances q (Died l.writer l.moment ∷ h))) l.fn.samples.items l.samples.items;
 }

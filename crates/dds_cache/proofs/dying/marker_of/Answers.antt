@@ -13,12 +13,31 @@ use Rattle.dds_cache.proofs.dying.marker_of.Goals as goal
 pub returns-clause-left : goal.returns-clause-left
 returns-clause-left c = λ q h i stands there fresh.
     let g : List Happening = Died c.args.writer c.args.moment ∷ h in
-    let k : Kept = record { sample = record { key = c.in_ok-known.known.key; position = c.happened-position.result }; handle = c.handle.result; number = c.in_ok-known.known.accepted_writes; is_read = false; valid_data = false; disposed_generation_count = c.in_ok-known.known.disposed_generations; no_writers_generation_count = c.in_ok-known.known.no_writers_generations; source_timestamp = c.args.moment; publication_handle = c.args.writer; value = c.from_vec.result } in
-    let at : c.happened-position.result ≡ length h + 1 = c.happened-position.ensures.happened q g stands ∙ (let more : length g ≡ length h + 1 = omega arith in more) in
+    let k : Kept = record {
+      sample = record { key = c.in_ok-known.known.key; position = c.happened-position.result };
+      handle = c.handle.result;
+      number = c.in_ok-known.known.accepted_writes;
+      is_read = false;
+      valid_data = false;
+      disposed_generation_count = c.in_ok-known.known.disposed_generations;
+      no_writers_generation_count =
+          c.in_ok-known.known.no_writers_generations;
+      source_timestamp = c.args.moment;
+      publication_handle =
+          c.args.writer;
+      value = c.from_vec.result;
+    } in
+    let at : c.happened-position.result ≡ length h + 1 =
+    c.happened-position.ensures.happened q g stands ∙ (let more : length g ≡ length h + 1 = omega arith in more) in
     let key : c.in_ok-known.known.key ≡ i = some-same _ _ (c.in_ok-known.ensures.key q g stands ∙ there) in
-    let sample : k.sample ≡ sample_at i (length h + 1) = ap (λ (n : ℕ). sample_at c.in_ok-known.known.key n) at ∙ ap (λ (x : Key). sample_at x (length h + 1)) key in
+    let sample : k.sample ≡ sample_at i (length h + 1) =
+    ap (λ (n : ℕ). sample_at c.in_ok-known.known.key n) at ∙ ap (λ (x : Key). sample_at x (length h + 1)) key in
     let known : IsKnown q g c.in_ok-known.known = c.in_ok-known.ensures.known q g stands in
-    let kept : IsKept q g k = kept-newest q (Died c.args.writer c.args.moment) h i c.in_ok-known.known k refl refl fresh sample known key (newest-died q c.args.writer c.args.moment h c.in_ok-known.known k known refl refl refl refl refl refl refl (c.from_vec.ensures.octets ∙ c.new.ensures.items) refl (c.handle.ensures.handle q g stands)) in
+    let kept : IsKept q g k =
+    kept-newest q (Died c.args.writer c.args.moment) h i c.in_ok-known.known k refl refl fresh sample known key
+    (newest-died q c.args.writer c.args.moment h c.in_ok-known.known k known
+    refl refl refl refl refl refl refl (c.from_vec.ensures.octets
+    ∙ c.new.ensures.items) refl (c.handle.ensures.handle q g stands)) in
     let live : is_live q c.in_ok-known.known k ≡ true = sym c.is_position.ensures ∙ c.if-not-is_position.false in
     record {
       sample_is = sample;

@@ -5,4 +5,6 @@ use Rattle.dds_cache.specs.Kept.{is_among}
 use Rattle.dds_cache.proofs.returned.remove_all.Goals as goal
 
 pub returns-clause-items : goal.returns-clause-items
-returns-clause-items c = filter_same _ (λ (k : Kept). not (is_among c.args.returned.now.keys k)) _ (λ x b f' k. search rules) _ _ c.retain.ensures.filtered
+returns-clause-items c =
+    filter_same _ (λ (k : Kept). not (is_among c.args.returned.now.keys k)) _
+    (λ x b f' k. search rules) _ _ c.retain.ensures.filtered

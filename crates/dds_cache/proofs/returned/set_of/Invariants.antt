@@ -6,4 +6,6 @@ use Rattle.dds_base.specs.Happening.{same_sample}
 use Rattle.dds_cache.proofs.returned.set_of.Given as goal
 
 abbrev pub invariant-loop-sample : goal.invariant-loop-sample
-invariant-loop-sample l = (s : SamplePosition) → list_any (same_sample s) l.set.keys ≡ list_any (same_sample s) (take l.sample-index l.samples)
+invariant-loop-sample l =
+    (s : SamplePosition) → list_any (same_sample s) l.set.keys
+    ≡ list_any (same_sample s) (take l.sample-index l.samples)

@@ -18,11 +18,19 @@ loop-at-preserved c =
       ];
       counted = λ h stands written marked all.
           let test : Kept → Bool = is_present_write c.args.qos.now (Came c.args.arrival.now ∷ h) in
-          let kept : IsKept c.args.qos.now h k = subst (λ (x : Kept). IsKept c.args.qos.now h x) (sym c.index-samples-at.is) (all c.loop-at.at k c.loop-at-test.true) in
-          let is : test (get_or ks c.loop-at.at k) ≡ c.is_write_then.result = ap test (sym c.index-samples-at.is) ∙ sym (c.is_write_then.ensures h stands written marked kept) in
+          let kept : IsKept c.args.qos.now h k =
+          subst (λ (x : Kept). IsKept c.args.qos.now h x) (sym c.index-samples-at.is)
+          (all c.loop-at.at k c.loop-at-test.true) in
+          let is : test (get_or ks c.loop-at.at k) ≡ c.is_write_then.result =
+          ap test (sym c.index-samples-at.is) ∙ sym (c.is_write_then.ensures h stands written marked kept) in
           let so_far = c.loop-at.invariant.counted h stands written marked all in
           elim c.if-is_write_then.branch [
-            | then-is_write_then w ↦ w.count-is ∙ (ap (λ (n : ℕ). n + 1) so_far ∙ sym (count_by_more_yes test ks c.loop-at.at k c.loop-at-test.true (is ∙ w.if-is_write_then.true)))
-            | else-is_write_then w ↦ w.count-is ∙ (so_far ∙ sym (count_by_more_no test ks c.loop-at.at k c.loop-at-test.true (is ∙ w.if-is_write_then.false)))
+            | then-is_write_then w ↦
+                w.count-is ∙ (ap (λ (n : ℕ). n + 1) so_far
+                ∙ sym (count_by_more_yes test ks c.loop-at.at k c.loop-at-test.true (is ∙ w.if-is_write_then.true)))
+            | else-is_write_then w ↦
+                w.count-is
+                ∙ (so_far ∙ sym (count_by_more_no test ks c.loop-at.at k c.loop-at-test.true
+                (is ∙ w.if-is_write_then.false)))
           ];
     }

@@ -12,6 +12,7 @@ invariant-loop-at l = record {
   vec_len : vec_len l.tracks ≡ vec_len l.fn.tracks;
   capacity : vec_capacity l.tracks ≡ vec_capacity l.fn.tracks;
   keys : map key_of l.tracks.items ≡ map key_of l.fn.tracks.items;
-  done : (k : ℕ) (d : InstanceTrack) → k < l.at → Buries l.position l.writer (get_or l.fn.tracks.items k d) (get_or l.tracks.items k d);
+  done : (k : ℕ) (d : InstanceTrack) → k < l.at
+      → Buries l.position l.writer (get_or l.fn.tracks.items k d) (get_or l.tracks.items k d);
   left : (k : ℕ) (d : InstanceTrack) → l.at ≤ k → get_or l.tracks.items k d ≡ get_or l.fn.tracks.items k d;
 }

@@ -11,17 +11,30 @@ returns-clause-fits c =
     let ts : List InstanceTrack = c.args.tracks.now.items in
     let t : InstanceTrack = c.index_mut.result.now in
     let inside : c.args.at < length ts = omega (arith, c.requires.place.within, length-map ts key_of) in
-    let before : Fits c.args.position t = subst (λ (y : InstanceTrack). Fits c.args.position y) (sym c.index_mut.ensures.value) (c.requires.fits c.args.at t inside) in
-    fits-set c.args.position ts c.args.at c.change.new.self c.requires.fits (fits-advanced _ c.args.position t c.change.new.self before c.change.ensures.advances)
+    let before : Fits c.args.position t =
+    subst (λ (y : InstanceTrack). Fits c.args.position y) (sym c.index_mut.ensures.value)
+    (c.requires.fits c.args.at t inside) in
+    fits-set c.args.position ts c.args.at c.change.new.self c.requires.fits
+    (fits-advanced _ c.args.position t c.change.new.self before c.change.ensures.advances)
 
 pub returns-clause-keys : goal.returns-clause-keys
 returns-clause-keys c =
     let ts : List InstanceTrack = c.args.tracks.now.items in
     let t : InstanceTrack = c.index_mut.result.now in
     let inside : c.args.at < length ts = omega (arith, c.requires.place.within, length-map ts key_of) in
-    keys-set ts c.args.at c.change.new.self inside (c.change.ensures.advances.key ∙ ap (λ (y : InstanceTrack). y.key) (c.index_mut.ensures.value ∙ get_or_default ts c.args.at t c.change.new.self inside))
+    keys-set ts c.args.at c.change.new.self inside
+    (c.change.ensures.advances.key ∙ ap (λ (y : InstanceTrack). y.key)
+    (c.index_mut.ensures.value ∙ get_or_default ts c.args.at t c.change.new.self inside))
 
 pub returns-clause-follows : goal.returns-clause-follows
-returns-clause-follows c = λ h len lawful follows. follows-known c.args.qos.now h c.args.arrival.now c.args.tracks.now.items c.args.at c.args.position c.index_mut.result.now c.change.new.self c.change.result len c.requires.place c.index_mut.ensures.value
-    (record { advances = c.change.ensures.advances; accepted = c.change.ensures.accepted; came = c.change.ensures.came })
+returns-clause-follows c =
+    λ h len lawful follows. follows-known c.args.qos.now h c.args.arrival.now c.args.tracks.now.items c.args.at
+    c.args.position c.index_mut.result.now c.change.new.self c.change.result len c.requires.place
+    c.index_mut.ensures.value
+    (record {
+      advances = c.change.ensures.advances;
+      accepted = c.change.ensures.accepted;
+      came =
+          c.change.ensures.came;
+    })
     lawful follows

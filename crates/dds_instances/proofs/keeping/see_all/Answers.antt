@@ -11,8 +11,15 @@ loop-sample-preserved c = record {
   keys = c.see_sample.ensures.keys ∙ c.loop-sample.invariant.keys;
   len = c.see_sample.ensures.len ∙ c.loop-sample.invariant.len;
   capacity = c.see_sample.ensures.capacity ∙ c.loop-sample.invariant.capacity;
-  sees = λ q h each. let s = c.see_sample.ensures.sees q h (take c.loop-sample.sample-index c.args.samples.now) (c.loop-sample.invariant.sees q h each) in subst (λ (ss : List SamplePosition). Each q (Read ss ∷ h) c.see_sample.new.tracks.items) (sym (take_more c.args.samples.now c.loop-sample.sample-index _ c.loop-sample-test.true)) s;
+  sees =
+      λ q h each. let s = c.see_sample.ensures.sees q h (take c.loop-sample.sample-index c.args.samples.now)
+      (c.loop-sample.invariant.sees q h each) in subst
+      (λ (ss : List SamplePosition). Each q (Read ss ∷ h) c.see_sample.new.tracks.items)
+      (sym (take_more c.args.samples.now c.loop-sample.sample-index _ c.loop-sample-test.true)) s;
 }
 
 pub returns-clause-sees : goal.returns-clause-sees
-returns-clause-sees c = λ q h each. subst (λ (ss : List SamplePosition). Each q (Read ss ∷ h) c.loop-sample.tracks.items) (take_all c.loop-sample.sample-index c.args.samples.now c.loop-sample-test.false) (c.loop-sample.invariant.sees q h each)
+returns-clause-sees c =
+    λ q h each. subst (λ (ss : List SamplePosition). Each q (Read ss ∷ h) c.loop-sample.tracks.items)
+    (take_all c.loop-sample.sample-index c.args.samples.now c.loop-sample-test.false)
+    (c.loop-sample.invariant.sees q h each)

@@ -15,5 +15,6 @@ invariant-loop-sample l = record {
   keys : map key_of l.tracks.items ≡ map key_of l.fn.tracks.items;
   len : vec_len l.tracks ≡ vec_len l.fn.tracks;
   capacity : vec_capacity l.tracks ≡ vec_capacity l.fn.tracks;
-  sees : (q : ReaderQos) (h : List Happening) → Each q (Read [] ∷ h) l.fn.tracks.items → Each q (Read (take l.sample-index l.samples) ∷ h) l.tracks.items;
+  sees : (q : ReaderQos) (h : List Happening) → Each q (Read [] ∷ h) l.fn.tracks.items
+      → Each q (Read (take l.sample-index l.samples) ∷ h) l.tracks.items;
 }

@@ -11,23 +11,33 @@ use Rattle.dds_instances.proofs.keeping.see_sample.Goals as goal
 pub returns-in-Some-clause-fits : goal.returns-in-Some-clause-fits
 returns-in-Some-clause-fits c = λ n fits.
     let ts : List InstanceTrack = c.args.tracks.now.items in
-    let place : IsPlaceOf (map key_of ts) c.args.sample.key c.in-Some.at = subst (λ (ks : List Key). IsPlaceOf ks c.args.sample.key c.in-Some.at) c.requires.indexed c.in-Some.ensures in
-    fits-saw n ts c.in-Some.at c.args.sample.position c.index_mut.result.now c.see.new.self (omega (arith, place.within, length-map ts key_of)) c.index_mut.ensures.value c.see.ensures fits
+    let place : IsPlaceOf (map key_of ts) c.args.sample.key c.in-Some.at =
+    subst (λ (ks : List Key). IsPlaceOf ks c.args.sample.key c.in-Some.at) c.requires.indexed c.in-Some.ensures in
+    fits-saw n ts c.in-Some.at c.args.sample.position c.index_mut.result.now c.see.new.self
+    (omega (arith, place.within, length-map ts key_of)) c.index_mut.ensures.value c.see.ensures fits
 
 pub returns-in-Some-clause-keys : goal.returns-in-Some-clause-keys
 returns-in-Some-clause-keys c =
     let ts : List InstanceTrack = c.args.tracks.now.items in
-    let place : IsPlaceOf (map key_of ts) c.args.sample.key c.in-Some.at = subst (λ (ks : List Key). IsPlaceOf ks c.args.sample.key c.in-Some.at) c.requires.indexed c.in-Some.ensures in
+    let place : IsPlaceOf (map key_of ts) c.args.sample.key c.in-Some.at =
+    subst (λ (ks : List Key). IsPlaceOf ks c.args.sample.key c.in-Some.at) c.requires.indexed c.in-Some.ensures in
     let inside : c.in-Some.at < length ts = omega (arith, place.within, length-map ts key_of) in
-    keys-set ts c.in-Some.at c.see.new.self inside (ap (λ (y : InstanceTrack). y.key) (c.see.ensures) ∙ ap (λ (y : InstanceTrack). y.key) (c.index_mut.ensures.value ∙ get_or_default ts c.in-Some.at c.index_mut.result.now c.see.new.self inside))
+    keys-set ts c.in-Some.at c.see.new.self inside
+    (ap (λ (y : InstanceTrack). y.key) (c.see.ensures)
+    ∙ ap (λ (y : InstanceTrack). y.key) (c.index_mut.ensures.value
+    ∙ get_or_default ts c.in-Some.at c.index_mut.result.now c.see.new.self inside))
 
 pub returns-in-Some-clause-sees : goal.returns-in-Some-clause-sees
 returns-in-Some-clause-sees c = λ q h samples each.
     let ts : List InstanceTrack = c.args.tracks.now.items in
-    let place : IsPlaceOf (map key_of ts) c.args.sample.key c.in-Some.at = subst (λ (ks : List Key). IsPlaceOf ks c.args.sample.key c.in-Some.at) c.requires.indexed c.in-Some.ensures in
-    each-saw q h samples c.args.sample ts c.in-Some.at c.index_mut.result.now c.see.new.self place c.index_mut.ensures.value c.see.ensures each
+    let place : IsPlaceOf (map key_of ts) c.args.sample.key c.in-Some.at =
+    subst (λ (ks : List Key). IsPlaceOf ks c.args.sample.key c.in-Some.at) c.requires.indexed c.in-Some.ensures in
+    each-saw q h samples c.args.sample ts c.in-Some.at c.index_mut.result.now c.see.new.self place
+    c.index_mut.ensures.value c.see.ensures each
 
 pub returns-in_default-clause-sees : goal.returns-in_default-clause-sees
 returns-in_default-clause-sees c = λ q h samples each.
-    let absent : list_any (same_key c.args.sample.key) (map key_of c.args.tracks.now.items) ≡ false = ap (λ (ks : List Key). list_any (same_key c.args.sample.key) ks) (sym c.requires.indexed) ∙ c.in_default.ensures in
+    let absent : list_any (same_key c.args.sample.key) (map key_of c.args.tracks.now.items) ≡ false =
+    ap (λ (ks : List Key). list_any (same_key c.args.sample.key) ks) (sym c.requires.indexed) ∙ c.in_default.ensures
+    in
     each-passed q h samples c.args.sample c.args.tracks.now.items absent each

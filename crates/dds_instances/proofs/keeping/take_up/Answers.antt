@@ -18,5 +18,8 @@ returns-then-is_write_or_dispose-clause-follows c = λ h len blanks lawful follo
 
 pub returns-else-is_write_or_dispose-clause-follows : goal.returns-else-is_write_or_dispose-clause-follows
 returns-else-is_write_or_dispose-clause-follows c = λ h len blanks lawful follows.
-    let absent : list_any (same_key c.args.arrival.now.change.key) (map key_of c.args.tracks.now.items) ≡ false = ap (λ (ks : List Key). list_any (same_key c.args.arrival.now.change.key) ks) (sym c.requires.indexed) ∙ c.in-None.ensures in
-    follows-nothing c.args.qos.now h c.args.arrival.now c.args.tracks.now.items absent (sym c.is_write_or_dispose.ensures.kind ∙ c.if-is_write_or_dispose.false) follows
+    let absent : list_any (same_key c.args.arrival.now.change.key) (map key_of c.args.tracks.now.items) ≡ false =
+    ap (λ (ks : List Key). list_any (same_key c.args.arrival.now.change.key) ks) (sym c.requires.indexed)
+    ∙ c.in-None.ensures in
+    follows-nothing c.args.qos.now h c.args.arrival.now c.args.tracks.now.items absent
+    (sym c.is_write_or_dispose.ensures.kind ∙ c.if-is_write_or_dispose.false) follows

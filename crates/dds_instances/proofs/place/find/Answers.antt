@@ -7,9 +7,12 @@ use Rattle.dds_instances.specs.Table.{IsPlaceOf}
 use Rattle.dds_instances.proofs.PlaceLaws.{place-of}
 use Rattle.dds_instances.proofs.place.find.Goals as goal
 
-place : (ks : List Key) (i : Key) (r : Option ℕ) → IsDistinct same_key ks → r ≡ position (same_key i) ks → is_some r ≡ list_any (same_key i) ks → MatchOption r (list_any (same_key i) ks ≡ false) (IsPlaceOf ks i)
+place : (ks : List Key) (i : Key) (r : Option ℕ) → IsDistinct same_key ks → r ≡ position (same_key i) ks
+    → is_some r ≡ list_any (same_key i) ks → MatchOption r (list_any (same_key i) ks ≡ false) (IsPlaceOf ks i)
 place ks i None distinct is there = sym there
 place ks i (Some at) distinct is there = place-of ks i at distinct (sym is)
 
 pub returns : goal.returns
-returns c = place c.args.index.now.keys c.args.key c.get_index_of.result c.len.ensures.unique c.get_index_of.ensures.index c.get_index_of.ensures.found
+returns c =
+    place c.args.index.now.keys c.args.key c.get_index_of.result c.len.ensures.unique c.get_index_of.ensures.index
+    c.get_index_of.ensures.found

@@ -19,7 +19,8 @@ pub returns-clause-stands : goal.returns-clause-stands
 returns-clause-stands c = λ h stands.
     let q : ReaderQos = c.self.inside.qos in
     let g : List Happening = Died c.args.writer c.args.moment ∷ h in
-    let old : StandsFor (stored_of c.self.inside) h = subst (λ (t : Stored). StandsFor t h) (sym c.self.view_is) stands in
+    let old : StandsFor (stored_of c.self.inside) h =
+    subst (λ (t : Stored). StandsFor t h) (sym c.self.view_is) stands in
     let died : Stands q c.died.new.self g =
     subst (λ (r : Result (Unit {0}) Code). OnOk r ((r' : ReaderQos) (l : List Happening) (moment : ℕ)
     → Stands r' c.self.inside.instances l → Stands r' c.died.new.self (Died c.args.writer moment ∷ l)))
@@ -29,7 +30,8 @@ returns-clause-stands c = λ h stands.
     ∙ ap (λ (ks : List Key). length ks) (sym (append-nil (known_instances q h))) in
     let adds : Adds q (Died c.args.writer c.args.moment) h c.self.inside.samples.items c.add_markers.new.samples.items =
     c.add_markers.ensures.samples q h died count (λ i. fresh (stored_of c.self.inside) h i old) in
-    let at : c.happened-newest.result ≡ length h + 1 = c.happened-newest.ensures.happened q g died ∙ (let more : length g ≡ length h + 1 = omega arith in more) in
+    let at : c.happened-newest.result ≡ length h + 1 =
+    c.happened-newest.ensures.happened q g died ∙ (let more : length g ≡ length h + 1 = omega arith in more) in
     let noted = c.data_after-self-inside.ensures.newest ∙ noted-by _ _ _ _ _ _ c.self.inside.data_at
     (c.len-before.ensures ∙ c.self.inside.samples.ok.0) (c.len.ensures ∙ c.add_markers.new.samples.ok.0) at in
     stands-added q (Died c.args.writer c.args.moment) h (stored_of c.self.inside) _ refl refl refl refl

@@ -10,8 +10,21 @@ use Rattle.dds_cache.proofs.reader_cache.ReaderCache.enter.Goals as goal
 
 pub invariant_of-self-2 : goal.invariant_of-self-2
 invariant_of-self-2 c = record {
-  instances = omega (arith, c.self.invariant.instances, c.in_ok-returned.ensures.entry.room, c.saturating_sub-self-inside.ensures);
-  samples = omega (arith, c.self.invariant.samples, c.settle.ensures.len, c.settle.ensures.capacity, c.saturating_sub-self-inside.ensures);
+  instances =
+      omega (
+        arith,
+        c.self.invariant.instances,
+        c.in_ok-returned.ensures.entry.room,
+        c.saturating_sub-self-inside.ensures,
+      );
+  samples =
+      omega (
+        arith,
+        c.self.invariant.samples,
+        c.settle.ensures.len,
+        c.settle.ensures.capacity,
+        c.saturating_sub-self-inside.ensures,
+      );
   counted = λ some. absurd (omega (arith, some));
   places = λ some. absurd (omega (arith, some));
   small = subst (λ (ks : List Kept). All IsSmall ks) (sym c.settle.ensures.items)

@@ -10,8 +10,11 @@ use Rattle.dds_cache.proofs.reader_cache.ReaderCache.has_match.Goals as goal
 pub returns : goal.returns
 returns g c = record {
   matched = λ h stands.
-      let s : StandsFor (stored_of c.self.inside) h = subst (λ (t : Stored). StandsFor t h) (sym c.self.view_is) stands in
+      let s : StandsFor (stored_of c.self.inside) h =
+      subst (λ (t : Stored). StandsFor t h) (sym c.self.view_is) stands in
       let same : c.self.inside.samples.items ≡ c.deref.result.now = sym c.deref.ensures.value in
-      c.is_any_match.ensures.matched h (subst (λ (ks : List Kept). Holds c.self.inside.qos c.self.inside.instances ks h) same (holds (stored_of c.self.inside) h s))
+      c.is_any_match.ensures.matched h
+      (subst (λ (ks : List Kept). Holds c.self.inside.qos c.self.inside.instances ks h) same
+      (holds (stored_of c.self.inside) h s))
       ∙ ap (λ (t : Stored). has_match (qos_of t) h c.args.masks (g.T.Test.meaning c.args.test.now)) c.self.view_is;
 }

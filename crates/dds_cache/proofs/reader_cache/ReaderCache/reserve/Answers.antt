@@ -8,8 +8,10 @@ pub returns : goal.returns
 returns c = record {
   makes = record {
     same = λ h stands.
-        let old : StandsFor (stored_of c.self.inside) h = subst (λ (t : Stored). StandsFor t h) (sym c.self.view_is) stands in
-        stands-still h (stored_of c.self.inside) _ refl c.in_ok-reserve.ensures.items refl refl (λ q s. c.in_ok-reserve-2.ensures.same q h s) old;
+        let old : StandsFor (stored_of c.self.inside) h =
+        subst (λ (t : Stored). StandsFor t h) (sym c.self.view_is) stands in
+        stands-still h (stored_of c.self.inside) _ refl c.in_ok-reserve.ensures.items
+        refl refl (λ q s. c.in_ok-reserve-2.ensures.same q h s) old;
     qos = search rules;
     room = search rules;
     more = search rules;

@@ -6,7 +6,22 @@ use Rattle.dds_instances.proofs.StandingLaws.{follows-of, accepts-first}
 use Rattle.dds_instances.proofs.instances.Instances.accepts.Goals as goal
 
 pub returns-in-Some : goal.returns-in-Some
-returns-in-Some c = record { accepts = λ h stands. c.is_some.ensures ∙ (ap (λ (k : Option ChangeKind). is_some k) (c.accepted.ensures.accepted h ((c.in-Some.ensures.kept c.args.qos.now h (follows-of c.args.qos.now h c.args.self.now c.deref.result.now (c.deref.ensures.value ∙ ap (λ (t : Table). t.tracks) c.self.view_is) stands)).0).owners_are)) }
+returns-in-Some c =
+    record {
+      accepts = λ h stands. c.is_some.ensures
+          ∙ (ap (λ (k : Option ChangeKind). is_some k)
+          (c.accepted.ensures.accepted h
+          ((c.in-Some.ensures.kept c.args.qos.now h
+          (follows-of c.args.qos.now h c.args.self.now c.deref.result.now
+          (c.deref.ensures.value ∙ ap (λ (t : Table). t.tracks) c.self.view_is) stands)).0).owners_are));
+    }
 
 pub returns-in-None : goal.returns-in-None
-returns-in-None c = record { accepts = λ h stands. c.is_write_or_dispose.ensures.kind ∙ accepts-first c.args.qos.now h c.args.arrival.now (c.in-None.ensures.kept c.args.qos.now h (follows-of c.args.qos.now h c.args.self.now c.deref.result.now (c.deref.ensures.value ∙ ap (λ (t : Table). t.tracks) c.self.view_is) stands)) }
+returns-in-None c =
+    record {
+      accepts = λ h stands. c.is_write_or_dispose.ensures.kind
+          ∙ accepts-first c.args.qos.now h c.args.arrival.now
+          (c.in-None.ensures.kept c.args.qos.now h
+          (follows-of c.args.qos.now h c.args.self.now c.deref.result.now
+          (c.deref.ensures.value ∙ ap (λ (t : Table). t.tracks) c.self.view_is) stands));
+    }

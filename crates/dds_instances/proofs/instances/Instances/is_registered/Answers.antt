@@ -5,7 +5,20 @@ use Rattle.dds_instances.proofs.KnownLaws.{unknown}
 use Rattle.dds_instances.proofs.instances.Instances.is_registered.Goals as goal
 
 pub returns-in-Some : goal.returns-in-Some
-returns-in-Some c = record { registered = λ q h stands matched. c.is_registered.ensures.matched q c.args.key h ((c.in-Some.ensures.kept q h (follows-of q h c.args.self.now c.deref.result.now (c.deref.ensures.value ∙ ap (λ (t : Table). t.tracks) c.self.view_is) stands)).0).owners_are matched }
+returns-in-Some c =
+    record {
+      registered = λ q h stands matched. c.is_registered.ensures.matched q c.args.key h
+          ((c.in-Some.ensures.kept q h
+          (follows-of q h c.args.self.now c.deref.result.now
+          (c.deref.ensures.value ∙ ap (λ (t : Table). t.tracks) c.self.view_is) stands)).0).owners_are matched;
+    }
 
 pub returns-in-None : goal.returns-in-None
-returns-in-None c = record { registered = λ q h stands matched. sym ((unknown q c.args.key h (c.in-None.ensures.kept q h (follows-of q h c.args.self.now c.deref.result.now (c.deref.ensures.value ∙ ap (λ (t : Table). t.tracks) c.self.view_is) stands))).registered c.args.writer) }
+returns-in-None c =
+    record {
+      registered = λ q h stands matched.
+          sym ((unknown q c.args.key h
+          (c.in-None.ensures.kept q h
+          (follows-of q h c.args.self.now c.deref.result.now
+          (c.deref.ensures.value ∙ ap (λ (t : Table). t.tracks) c.self.view_is) stands))).registered c.args.writer);
+    }
