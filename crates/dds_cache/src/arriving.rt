@@ -104,6 +104,7 @@ pub fn add_left(
 {
     if let Some(kept) = left_by(alloc, instances, qos, arrival, is_write) {
         if samples.push(kept).is_err() {
+            // Room was reserved.
             unreachable!();
         }
     }

@@ -82,6 +82,7 @@ fn add_marker(
 {
     if let Some(kept) = marker_of(alloc, instances, handle, writer, moment) {
         if samples.push(kept).is_err() {
+            // Room was reserved.
             unreachable!();
         }
     }

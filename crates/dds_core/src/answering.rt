@@ -113,6 +113,7 @@ fn push_data<'a>(
         answering.reader.guid.entity.as_slice(),
         answering.entity.as_slice(),
     );
+    // This shows the prover how many octets there are.
     let _key = change.key.as_slice();
     let content = DataContent::of_change(change);
     submessages.push(Submessage::InfoTs(Some(change.source_timestamp.units())))?;

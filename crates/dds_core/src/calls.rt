@@ -183,6 +183,7 @@ impl Peer {
             value,
             source_timestamp: self.moment,
         };
+        // This shows the prover how many octets there are.
         let _key = key.as_slice();
         match self.writers[index].append(change) {
             Ok(number) => self.announced(index, number),

@@ -119,6 +119,7 @@ impl<F: Filter> FilteredPeer<F> {
         }
         match self.peer.add_filter() {
             Ok(number) => Ok(number),
+            // A number is left: next_filter gave it.
             Err(_) => unreachable!(),
         }
     }

@@ -293,6 +293,7 @@ fn done(step: Result<Step, Code>) -> Step
 {
     match step {
         Ok(step) => step,
+        // Memory was made for it.
         Err(_) => unreachable!(),
     }
 }

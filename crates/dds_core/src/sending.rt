@@ -135,6 +135,7 @@ pub fn announce(
     let mut packets = Vec::new(alloc);
     if let Ok(mut message) = message(alloc, sender, number, content) {
         for destination in destinations {
+            // This shows the prover how many octets there are.
             let _prefix = destination.prefix.as_slice();
             message = addressed(message, destination.prefix);
             push_packet(alloc, &mut packets, &message, destination.peer);

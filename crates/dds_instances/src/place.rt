@@ -33,6 +33,7 @@ pub fn put_last(index: &mut IndexSet<Key>, tracks: &mut Vec<InstanceTrack>, trac
     ensures capacity { vec_capacity tracks.old ≤ vec_capacity tracks.new }
 {
     if index.insert(track.key).is_err() || tracks.push(track).is_err() {
+        // Room was reserved.
         unreachable!();
     }
 }

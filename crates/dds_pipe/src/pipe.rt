@@ -17,13 +17,22 @@ const MAX_LINE: u64 = 131_080;
 /// A peer whose filters and listeners are those that lines ask for.
 type Core = CoreOf<Prefix, Recorder>;
 
-/// The peer: its configuration while it is being named, and then the peer itself, if it was opened.
+/// How far a session has come.
+#[derive(Drop)]
+enum Stage {
+    /// Peers, writers and readers are being named.
+    Naming(Setup),
+    /// The peer was refused: no line is taken any more.
+    Refused,
+    /// The peer is there.
+    Open(Core),
+}
+
+/// What lines are said to.
 #[derive(Drop)]
 struct Session {
     alloc: Global,
-    setup: Setup,
-    is_open: bool,
-    core: Option<Core>,
+    stage: Stage,
 }
 
 fn packet_line(alloc: Global, packet: &Packet) -> Result<String, AllocError> {
@@ -79,16 +88,18 @@ impl Session {
     fn new(alloc: Global) -> Self {
         Session {
             alloc,
-            setup: Setup::new(alloc),
-            is_open: false,
-            core: None,
+            stage: Stage::Naming(Setup::new(alloc)),
         }
     }
 
     /// Takes up a line of the configuration, which may not follow the opening, nor name a writer or a reader before any
     /// peer.
     fn set_up(&mut self, part: SetupLine, line: u64) -> Result<(), Fault> {
-        if !self.is_open && self.setup.take(part)? {
+        let is_taken = match &mut self.stage {
+            Stage::Naming(setup) => setup.take(part)?,
+            _ => false,
+        };
+        if is_taken {
             Ok(())
         } else {
             Err(Fault::NotACommand { line })
@@ -97,31 +108,29 @@ impl Session {
 
     /// Opens the peer of a number, once.
     fn open(&mut self, peer: u8, line: u64) -> Result<Reply, Fault> {
-        if self.is_open {
+        let Stage::Naming(setup) = &mut self.stage else {
             return Err(Fault::NotACommand { line });
-        }
-        self.is_open = true;
-        let config = self.setup.config()?;
-        match Core::open(self.alloc, &config, peer) {
-            Ok(core) => {
-                self.core = Some(core);
-                Ok(Reply::Done)
-            }
-            Err(code) => Ok(Reply::Refused(code)),
-        }
+        };
+        let config = setup.config()?;
+        let (stage, reply) = match Core::open(self.alloc, &config, peer) {
+            Ok(core) => (Stage::Open(core), Reply::Done),
+            Err(code) => (Stage::Refused, Reply::Refused(code)),
+        };
+        self.stage = stage;
+        Ok(reply)
     }
 
     /// An event at the peer, which needs to be open.
     fn step(&mut self, event: Event, line: u64) -> Result<Output, Fault> {
-        match &mut self.core {
-            Some(core) => Ok(core.step(event)),
-            None => Err(Fault::NotACommand { line }),
+        match &mut self.stage {
+            Stage::Open(core) => Ok(core.step(event)),
+            _ => Err(Fault::NotACommand { line }),
         }
     }
 
     /// A filter more at the peer, which needs to be open.
     fn add_filter(&mut self, octets: Octets, line: u64) -> Result<Reply, Fault> {
-        let Some(core) = &mut self.core else {
+        let Stage::Open(core) = &mut self.stage else {
             return Err(Fault::NotACommand { line });
         };
         match core.add_filter(Prefix::new(octets)) {
@@ -133,7 +142,7 @@ impl Session {
     /// Sets the listener that an entity of the peer is to have, or takes the one away that it has. The peer needs to be
     /// open. Gives the line that is printed.
     fn set_listener(&mut self, asked: ListenerLine, line: u64) -> Result<String, Fault> {
-        let Some(core) = &mut self.core else {
+        let Stage::Open(core) = &mut self.stage else {
             return Err(Fault::NotACommand { line });
         };
         let set = set_listener(self.alloc, core, asked);

@@ -203,6 +203,7 @@ impl<F: Filter, L: Listener> World<F, L> {
             unsent,
         };
         if replies.push(reply).is_err() {
+            // The list was made with room for each reply.
             unreachable!();
         }
     }

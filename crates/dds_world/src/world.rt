@@ -197,6 +197,7 @@ impl<F: Filter, L: Listener> World<F, L> {
         for event in events {
             let reply = self.step(event);
             if replies.push(reply).is_err() {
+                // The list was made with room for each reply.
                 unreachable!();
             }
         }

@@ -81,6 +81,7 @@ fn mark_if(window: &mut Window, number: u64, named: bool)
     ensures room { room_of window.old ≤ room_of window.new + 1 }
 {
     if named && window.mark(Sn::new(number), Mark::Irrelevant).is_err() {
+        // Room was reserved.
         unreachable!();
     }
 }
@@ -167,9 +168,11 @@ fn note_run<S: Sink>(sink: &mut S, source: &Source, from: u64, to: u64, runs: &m
     let first = Sn::new(from);
     let last = Sn::new(to - 1);
     if runs.push(PassedRun { first, last }).is_err() {
+        // Room was reserved.
         unreachable!();
     }
     if sink.pass(source.publication, first, last).is_err() {
+        // Room was reserved.
         unreachable!();
     }
 }
@@ -184,6 +187,7 @@ fn hear_if<S: Sink>(sink: &mut S, source: &Source, liveliness: bool)
     ensures spare { S.spare sink.old ≤ S.spare sink.new + 1 }
 {
     if liveliness && sink.hear(source.publication, source.moment).is_err() {
+        // Room was reserved.
         unreachable!();
     }
 }
@@ -323,6 +327,7 @@ impl WriterProxy {
         }
         let arrival = take_out(&mut self.held, at);
         if sink.come(arrival).is_err() {
+            // Room was reserved.
             unreachable!();
         }
         self.window.pass(Sn::new(place.number() + 1));
@@ -366,9 +371,11 @@ impl WriterProxy {
         ensures runs { self.new.runs ≡ self.old.runs }
     {
         let Ok(is_new) = self.window.mark(arrival.number, Mark::Held) else {
+            // Room was reserved.
             unreachable!();
         };
         if is_new && self.held.insert(0, arrival).is_err() {
+            // Room was reserved.
             unreachable!();
         }
     }

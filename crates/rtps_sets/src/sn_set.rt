@@ -54,6 +54,7 @@ impl SnSet {
         ensures places { length self.now.members ≡ 256 }
     {
         let members: &[bool] = &self.members;
+        // This shows the prover how many flags there are.
         let _places = members.len();
         Sn::new(self.base)
     }

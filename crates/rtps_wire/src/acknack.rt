@@ -69,6 +69,7 @@ pub fn put_acknack(out: &mut Vec<u8>, a: &AckNack) -> Result<(), Code>
 pub fn is_acknack(a: &AckNack) -> bool
     ensures { IsTrue result ↔ IsAckNack a.now }
 {
+    // These show the prover how many octets the names have.
     let _count = a.count;
     let _reader = a.reader_id.as_slice();
     let _writer = a.writer_id.as_slice();

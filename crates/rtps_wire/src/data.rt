@@ -248,6 +248,7 @@ pub fn is_content(content: &DataContent) -> bool
         DataContent::Dispose(key)
         | DataContent::Unregister(key)
         | DataContent::DisposeUnregister(key) => {
+            // This shows the prover how many octets there are.
             let _octets = key.as_slice();
             true
         }
@@ -258,6 +259,7 @@ pub fn is_content(content: &DataContent) -> bool
 pub fn is_data(d: &Data) -> bool
     ensures { IsTrue result ↔ IsData d.now }
 {
+    // These show the prover how many octets the names have.
     let _reader = d.reader_id.as_slice();
     let _writer = d.writer_id.as_slice();
     let sn = d.writer_sn.number();

@@ -67,6 +67,7 @@ pub fn put_gap(out: &mut Vec<u8>, g: &Gap) -> Result<(), Code>
 pub fn is_gap(g: &Gap) -> bool
     ensures { IsTrue result ↔ IsGap g.now }
 {
+    // These show the prover how many octets the names have.
     let _reader = g.reader_id.as_slice();
     let _writer = g.writer_id.as_slice();
     let start = g.gap_start.number();

@@ -74,6 +74,7 @@ pub fn put_heartbeat(out: &mut Vec<u8>, h: &Heartbeat) -> Result<(), Code>
 pub fn is_heartbeat(h: &Heartbeat) -> bool
     ensures { IsTrue result ↔ IsHeartbeat h.now }
 {
+    // These show the prover how many octets the names have.
     let _count = h.count;
     let _reader = h.reader_id.as_slice();
     let _writer = h.writer_id.as_slice();

@@ -146,11 +146,13 @@ fn is_spellable(submessage: &Submessage) -> bool
 {
     match submessage {
         Submessage::InfoDst(prefix) => {
+            // This shows the prover how many octets there are.
             let _octets = prefix.as_slice();
             true
         }
         Submessage::Pad | Submessage::InfoTs(None) => true,
         Submessage::InfoTs(Some(moment)) => {
+            // This shows the prover the range of the moment.
             let _moment = *moment;
             true
         }
@@ -177,6 +179,7 @@ fn spelling_len(submessage: &Submessage) -> usize
 pub fn is_writable(message: &Message) -> bool
     ensures writable { IsTrue result ↔ IsWritable message.now }
 {
+    // This shows the prover how many octets there are.
     let _prefix = message.prefix.as_slice();
     let mut len = LEN_HEADER;
     for submessage in message.submessages.as_slice() {

@@ -53,6 +53,7 @@ fn put_first(answers: &mut Vec<Answer>, answer: Answer)
     ensures capacity { vec_capacity answers.old ≤ vec_capacity answers.new }
 {
     if answers.insert(0, answer).is_err() {
+        // There is room for one more.
         unreachable!();
     }
 }

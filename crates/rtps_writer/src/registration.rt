@@ -27,6 +27,7 @@ pub fn register(keys: &mut Vec<Key>, key: Key)
         return;
     }
     if keys.push(key).is_err() {
+        // Room was reserved.
         unreachable!();
     }
 }
