@@ -9,7 +9,8 @@ use Rattle.dds_base.specs.declared.entity.Entity.TheVariants as entity
 use Rattle.dds_conditions.specs.Watched.{Watched}
 use Rattle.dds_notices.specs.declared.mask.StatusMask.{StatusMask}
 use Rattle.dds_notices.specs.declared.notice.Notice.{Notice}
-use Rattle.dds_notices.specs.Listeners.{Places, Sets as SlotsSet, Slotted, StandsFor as SlotsStandFor, has_entity, is_any, is_fresh, is_number, listener_refusal, nobody}
+use Rattle.dds_base.specs.Number.{is_number}
+use Rattle.dds_notices.specs.Listeners.{Places, Sets as SlotsSet, Slotted, StandsFor as SlotsStandFor, has_entity, is_any, is_fresh, listener_refusal, nobody}
 use Rattle.dds_notices.proofs.ListenerLaws.{nobody_stands, nobody_takes}
 use Rattle.dds_model.specs.declared.event.Event.{Event}
 use Rattle.dds_model.specs.declared.event.Output.{Output}
