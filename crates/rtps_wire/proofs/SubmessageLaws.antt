@@ -10,6 +10,7 @@ use Rattle.dds_base.specs.declared.guid.EntityId.{EntityId}
 use Rattle.dds_base.specs.declared.guid.GuidPrefix.{GuidPrefix}
 use Rattle.dds_base.specs.Fields.{number_at, both, ◌>>=◌}
 use Rattle.dds_base.proofs.FieldLaws.{AreOctets, cond_is, guard_some, some_is, field_u32, field_both}
+use Rattle.rtps_sets.specs.NumberSet.{NumberSet}
 use Rattle.rtps_wire.specs.declared.acknack.AckNack.{AckNack}
 use Rattle.rtps_wire.specs.declared.gap.Gap.{Gap}
 use Rattle.rtps_wire.specs.declared.heartbeat.Heartbeat.{Heartbeat}
@@ -82,35 +83,30 @@ abbrev heartbeat_fields : Endianness → List ℕ → Option (((((EntityId × En
 heartbeat_fields order =
     both (both (both (both entity_id_at entity_id_at) (sn_at order)) (sn_at order)) (count_at order)
 
+-- what a body says, by its fields
+abbrev heartbeat_said : ℕ → (((EntityId × EntityId) × ℕ) × ℕ) × ℤ → Heartbeat
+heartbeat_said flags fields = record {
+  reader_id = fields.0.0.0.0;
+  writer_id = fields.0.0.0.1;
+  first_sn = fields.0.0.1;
+  last_sn = fields.0.1;
+  count = fields.1;
+  final_flag = has_flag flags 2;
+  liveliness_flag = has_flag flags 4;
+}
+
 heartbeat_found : (flags : ℕ) (body : List ℕ) (h : Heartbeat) → AreOctets body → heartbeat_at flags body ≡ Some h
     → IsKnownKind 7 flags body (submessages.Heartbeat h)
 unfolding heartbeat_at
 heartbeat_found flags body s octets e =
     let order = order_of flags in
     option_and_then_some (λ x. cond (ltb x.0.0.0.1 1 || ltb (x.0.0.1 + 1) x.0.0.0.1) None
-    (Some (record {
-      reader_id = x.0.0.0.0.0;
-      writer_id = x.0.0.0.0.1;
-      first_sn = x.0.0.0.1;
-      last_sn = x.0.0.1;
-      count = x.0.1;
-      final_flag = has_flag flags 2;
-      liveliness_flag = has_flag flags 4;
-    })))
+    (Some (heartbeat_said flags x.0)))
     (heartbeat_fields (order_of flags) body) s e (λ x q r.
     let t =
     (field_both (field_both (field_both (field_both field_entity_id field_entity_id) (field_sn order))
     (field_sn order)) (field_count order)).takes body x.0 x.1 octets q in
-    let h : Heartbeat =
-    record {
-      reader_id = x.0.0.0.0.0;
-      writer_id = x.0.0.0.0.1;
-      first_sn = x.0.0.0.1;
-      last_sn = x.0.0.1;
-      count = x.0.1;
-      final_flag = has_flag flags 2;
-      liveliness_flag = has_flag flags 4;
-    } in
+    let h : Heartbeat = heartbeat_said flags x.0 in
     let g = guard_some (ltb h.first_sn 1 || ltb (h.last_sn + 1) h.first_sn) (Some h) s r in
     let n = neither (ltb h.first_sn 1) (ltb (h.last_sn + 1) h.first_sn) g.0 in
     subst (λ (y : Heartbeat). IsKnownKind 7 flags body (submessages.Heartbeat y)) (some_is h s g.1) (record {
@@ -137,16 +133,7 @@ heartbeat_only flags h body rest valid final live e =
     let order = order_of flags in
     let early : ltb h.first_sn 1 ≡ false = le-ltb _ _ valid.first in
     let late : ltb (h.last_sn + 1) h.first_sn ≡ false = le-ltb _ _ valid.not_past in
-    let made : (a b : Bool) → Heartbeat =
-    λ a b. record {
-      reader_id = h.reader_id;
-      writer_id = h.writer_id;
-      first_sn = h.first_sn;
-      last_sn = h.last_sn;
-      count = h.count;
-      final_flag = a;
-      liveliness_flag = b;
-    } in
+    let made : (a b : Bool) → Heartbeat = λ a b. record h { final_flag = a; liveliness_flag = b } in
     ap (heartbeat_at flags) e
     ∙ rw (
       (field_both (field_both (field_both (field_both field_entity_id field_entity_id) (field_sn (order_of flags)))
@@ -160,52 +147,33 @@ heartbeat_only flags h body rest valid final live e =
 
 -- ---- ACKNACK and GAP
 
+-- what a body says, by its fields
+abbrev acknack_said : ℕ → EntityId × EntityId → NumberSet → ℤ → AckNack
+acknack_said flags ids set count =
+    record {
+      reader_id = ids.0;
+      writer_id = ids.1;
+      reader_sn_state = set;
+      count = count;
+      final_flag = has_flag flags 2;
+    }
+
 acknack_found : (flags : ℕ) (body : List ℕ) (s : AckNack) → AreOctets body → acknack_at flags body ≡ Some s
     → IsKnownKind 6 flags body (submessages.AckNack s)
 unfolding acknack_at
 acknack_found flags body s octets e =
     let order = order_of flags in
-    option_and_then_some (λ ids. set_at (order_of flags) ids.1 >>= λ set. count_at (order_of flags) set.1 >>= λ n. Some
-    (record {
-      reader_id = ids.0.0;
-      writer_id = ids.0.1;
-      reader_sn_state = set.0;
-      count = n.0;
-      final_flag = has_flag
-          flags 2;
-    })) (both entity_id_at entity_id_at body) s e (λ ids q1 e1.
+    option_and_then_some (λ ids. set_at (order_of flags) ids.1 >>= λ set. count_at (order_of flags) set.1 >>= λ n.
+    Some (acknack_said flags ids.0 set.0 n.0)) (both entity_id_at entity_id_at body) s e (λ ids q1 e1.
     let t0 = (field_both field_entity_id field_entity_id).takes body ids.0 ids.1 octets q1 in
-    option_and_then_some (λ set. count_at (order_of flags) set.1 >>= λ n. Some
-    (record {
-      reader_id = ids.0.0;
-      writer_id = ids.0.1;
-      reader_sn_state = set.0;
-      count = n.0;
-      final_flag = has_flag
-          flags 2;
-    })) (set_at (order_of flags) ids.1) s e1 (λ set q2 e2.
+    option_and_then_some (λ set. count_at (order_of flags) set.1 >>= λ n.
+    Some (acknack_said flags ids.0 set.0 n.0)) (set_at (order_of flags) ids.1) s e1 (λ set q2 e2.
     let t1 = set_found order ids.1 set t0.0.octets q2 in
     option_and_then_some
-    (λ n. Some
-    (record {
-      reader_id = ids.0.0;
-      writer_id = ids.0.1;
-      reader_sn_state = set.0;
-      count = n.0;
-      final_flag = has_flag
-          flags 2;
-    })) (count_at (order_of flags) set.1) s e2 (λ n q3 e3.
+    (λ n. Some (acknack_said flags ids.0 set.0 n.0)) (count_at (order_of flags) set.1) s e2 (λ n q3 e3.
     let t2 = (field_count order).takes set.1 n.0 n.1 t1.octets q3 in
-    let a : AckNack =
-    record {
-      reader_id = ids.0.0;
-      writer_id = ids.0.1;
-      reader_sn_state = set.0;
-      count = n.0;
-      final_flag = has_flag
-          flags 2;
-    } in
-    subst (λ (y : AckNack). IsKnownKind 6 flags body (submessages.AckNack y)) (some_is a s e3) (record {
+    subst (λ (y : AckNack). IsKnownKind 6 flags body (submessages.AckNack y))
+    (some_is (acknack_said flags ids.0 set.0 n.0) s e3) (record {
       kind = refl;
       flags_are = refl;
       body_is =
@@ -234,14 +202,7 @@ acknack_only flags a body k =
       set_only (order_of flags) x.from_set a.reader_sn_state x.from_count x.set,
       last,
     )
-    (ap (λ (b : Bool). Some
-    (record {
-      reader_id = a.reader_id;
-      writer_id = a.writer_id;
-      reader_sn_state = a.reader_sn_state;
-      count = a.count;
-      final_flag = b;
-    })) k.flags_are)
+    (ap (λ (b : Bool). Some (record a { final_flag = b })) k.flags_are)
 
 gap_found : (flags : ℕ) (body : List ℕ) (s : Gap) → AreOctets body → gap_at flags body ≡ Some s
     → IsKnownKind 8 flags body (submessages.Gap s)
