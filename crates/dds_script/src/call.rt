@@ -99,40 +99,30 @@ fn lookup(words: &[&str]) -> Option<Call> {
     Some(Call::LookupInstance { reader, key })
 }
 
-/// A look at SAMPLE_LOST of a reader.
-fn sample_lost(words: &[&str]) -> Option<Call> {
+/// A call that names a reader, and no more: a look at one of its statuses.
+fn reader_call(operation: &str, words: &[&str]) -> Option<Call> {
     let [reader] = words else {
         return None;
     };
     let reader = reader_number(reader)?;
-    Some(Call::GetSampleLost { reader })
+    match operation {
+        "lost" => Some(Call::GetSampleLost { reader }),
+        "changed" => Some(Call::GetLivelinessChanged { reader }),
+        _ => None,
+    }
 }
 
-/// A look at LIVELINESS_CHANGED of a reader.
-fn liveliness_changed(words: &[&str]) -> Option<Call> {
-    let [reader] = words else {
-        return None;
-    };
-    let reader = reader_number(reader)?;
-    Some(Call::GetLivelinessChanged { reader })
-}
-
-/// A look at LIVELINESS_LOST of a writer.
-fn liveliness_lost(words: &[&str]) -> Option<Call> {
+/// A call that names a writer, and no more: a look at its status, or an assertion of its liveliness.
+fn writer_call(operation: &str, words: &[&str]) -> Option<Call> {
     let [writer] = words else {
         return None;
     };
     let writer = writer_number(writer)?;
-    Some(Call::GetLivelinessLost { writer })
-}
-
-/// An assertion of a writer's liveliness.
-fn assertion(words: &[&str]) -> Option<Call> {
-    let [writer] = words else {
-        return None;
-    };
-    let writer = writer_number(writer)?;
-    Some(Call::AssertLiveliness { writer })
+    match operation {
+        "livelost" => Some(Call::GetLivelinessLost { writer }),
+        "assert" => Some(Call::AssertLiveliness { writer }),
+        _ => None,
+    }
 }
 
 /// A writer and an instance.
@@ -167,10 +157,14 @@ fn write(alloc: Global, words: &[&str]) -> Result<Option<Call>, AllocError> {
     }
 }
 
-/// An access of a reader, or a call that names a writer and an instance.
+/// A call that names a writer, a reader or an instance, or an access of a reader.
 fn other_call(operation: &str, words: &[&str]) -> Option<Call> {
     match operation {
         "register" | "dispose" | "unregister" => instance_call(operation, words),
+        "lost" | "changed" => reader_call(operation, words),
+        "livelost" | "assert" => writer_call(operation, words),
+        "key" => key_value(words),
+        "lookup" => lookup(words),
         _ => access(operation, words),
     }
 }
@@ -183,12 +177,6 @@ fn other_call(operation: &str, words: &[&str]) -> Option<Call> {
 pub fn call_of(alloc: Global, words: &[&str]) -> Result<Option<Call>, AllocError> {
     match words {
         ["write", operands @ ..] => write(alloc, operands),
-        ["assert", operands @ ..] => Ok(assertion(operands)),
-        ["lost", operands @ ..] => Ok(sample_lost(operands)),
-        ["changed", operands @ ..] => Ok(liveliness_changed(operands)),
-        ["livelost", operands @ ..] => Ok(liveliness_lost(operands)),
-        ["key", operands @ ..] => Ok(key_value(operands)),
-        ["lookup", operands @ ..] => Ok(lookup(operands)),
         [operation, operands @ ..] => Ok(other_call(operation, operands).or(watching_call(words))),
         [] => Ok(None),
     }

@@ -79,12 +79,13 @@ impl TranscriptLine {
         self.push(format_args!("handle {number}"));
     }
 
+    /// A total, and how much of it is new.
+    fn push_total(&mut self, word: &str, total: u64, change: u64) {
+        self.push(format_args!("{word} {total} {change}"));
+    }
+
     pub(crate) fn push_sample_lost(&mut self, status: SampleLostStatus) {
-        let SampleLostStatus {
-            total_count,
-            total_count_change,
-        } = status;
-        self.push(format_args!("lost {total_count} {total_count_change}"));
+        self.push_total("lost", status.total_count, status.total_count_change);
     }
 
     pub(crate) fn push_liveliness_changed(&mut self, status: LivelinessChangedStatus) {
@@ -102,11 +103,7 @@ impl TranscriptLine {
     }
 
     pub(crate) fn push_liveliness_lost(&mut self, status: LivelinessLostStatus) {
-        let LivelinessLostStatus {
-            total_count,
-            total_count_change,
-        } = status;
-        self.push(format_args!("livelost {total_count} {total_count_change}"));
+        self.push_total("livelost", status.total_count, status.total_count_change);
     }
 
     /// The participant, a writer or a reader, as `p`, `w2` and `r2`.
