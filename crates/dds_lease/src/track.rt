@@ -16,6 +16,7 @@ pub struct LeaseTrack {
     pub lease: Option<u64>,
     /// The moment of its last assertion, `None` while it is not alive.
     pub since: Option<Moment>,
+    /// Whether it died once, be it alive again or not.
     pub has_died: bool,
 }
 
