@@ -20,14 +20,14 @@ use Rattle.rtps_wire.specs.declared.submessage.Submessage.{Submessage}
 use Rattle.rtps_wire.specs.declared.submessage.Submessage.TheVariants.{InfoDst, InfoTs, Data}
 use Rattle.rtps_wire.specs.Content.{change_in}
 use Rattle.rtps_wire.specs.Messages.{ReadsMessage, HasSubmessage, spelling_of}
-use Rattle.rtps_wire.proofs.MessageLaws.{message_one}
 use Rattle.rtps_wire.proofs.SpellingLaws.{message_again}
 use Rattle.dds_model.specs.declared.endpoint.Endpoint.{Endpoint}
 use Rattle.dds_model.specs.declared.event.Packet.{Packet}
 use Rattle.dds_model.specs.declared.event.Output.{Output}
 use Rattle.dds_model.specs.Part.{Part, ReaderProxy, own_writer, writer_changes}
-use Rattle.dds_model.specs.Claims.{Claim, ChangeIs, MayPass, PlaceReached, Asserts, Receiver, receiver_of, every_peer, every_reader, is_for, stamp_of, after_submessage, StandsAt, IsWriter, IsReader, IsToReader, Says, Claims}
+use Rattle.dds_model.specs.Claims.{Claim, ChangeIs, MayPass, PlaceReached, Asserts, Receiver, receiver_of, every_peer, every_reader, is_for, stamp_of, after_submessage, StandsAt, StandsIn, IsWriter, IsReader, IsToReader, Says, Claims}
 use Rattle.dds_model.specs.Peer.{IsTrueAt}
+use Rattle.dds_model.proofs.Dues.{stands_in, told}
 use Rattle.dds_model.specs.Protocol.{AreSent, changes_due}
 use Rattle.dds_core.specs.declared.matching.Destination.{Destination}
 use Rattle.dds_core.specs.declared.sending.Sender.{Sender}
@@ -135,14 +135,9 @@ announcement_true : (config : Config) (sender : Sender) (to : Destination) (own 
     → Claims config packet.bytes claim → IsTrueAt own.peer part claim
 announcement_true config sender to own part number content packet claim only early there is h =
     let m : Message = announcement sender to number content in
-    let written : ReadsMessage (spelling_of m) m (length (spelling_of m)) = message_again m is.writable in
-    let read : ReadsMessage (spelling_of m) h.message h.offset =
-    subst (λ (b : List ℕ). ReadsMessage b h.message h.offset) is.bytes h.is_read in
-    let same : h.message ≡ m =
-    (message_one (spelling_of m) h.message m h.offset (length (spelling_of m)) read written).0 in
-    message_says config sender to own part h.own h.index h.at h.submessage number content claim only early there
-    (subst (λ (x : Message). StandsAt h.own (receiver_of x.prefix) x.submessages h.index h.at h.submessage) same
-    h.stands) h.says
+    let t = told config m claim is.writable (subst (λ (b : List ℕ). Claims config b claim) is.bytes h) in
+    message_says config sender to own part t.own t.index t.at t.submessage number content claim only early there
+    t.stands t.says
 
 -- ---- what is claimed
 
@@ -195,16 +190,12 @@ announces config sender to own reader topic number content packet from there of 
       matched = from.same_topic ∙ sym of.same_topic;
     } in
     record {
-      message = m;
-      offset = length (spelling_of m);
-      is_read =
-          subst (λ (b : List ℕ). ReadsMessage b m (length (spelling_of m))) (sym is.bytes)
-          (message_again m is.writable);
       own = prefix;
-      index = 2;
       at = at;
       submessage = data_of sender number content;
-      stands = (sym after, refl);
+      there =
+          subst (λ (b : List ℕ). StandsIn b prefix at (data_of sender number content)) (sym is.bytes)
+          (stands_in m prefix 2 at (data_of sender number content) is.writable (sym after, refl));
       says = (speaks, refl, ap (λ (t : ℕ). change_in content t) (sym (early_is sender.moment early)));
     }
 

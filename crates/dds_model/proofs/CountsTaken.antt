@@ -25,9 +25,9 @@ use Rattle.dds_model.specs.declared.endpoint.Endpoint.{Endpoint}
 use Rattle.dds_model.specs.declared.reply.Move.{Move}
 use Rattle.dds_model.specs.declared.reply.Report.{Report}
 use Rattle.dds_model.specs.Part.{ReaderProxy, same_endpoint, own_writer, writer_changes}
-use Rattle.dds_model.specs.Claims.{Receiver, receiver_of, after_submessage, StandsAt, IsWriter, IsToReader, IsToWriter}
+use Rattle.dds_model.specs.Claims.{Receiver, receiver_of, after_submessage, StandsAt, StandsIn, IsWriter, IsToReader, IsToWriter}
 use Rattle.dds_model.specs.Receipt.{prefix_of}
-use Rattle.dds_model.specs.Protocol.{Due, Known, State, InTurn, Goes, Idles, TakesHeartbeat, TakesAckNack, ReaderTakes, WriterTakes, Takes, FollowsMessage, TakesPacket, acknack_message, acknacks_due, answer_message, with_answered}
+use Rattle.dds_model.specs.Protocol.{Due, acknack_message, acknacks_due, answer_message, Known, State, InTurn, Goes, Idles, TakesHeartbeat, TakesAckNack, ReaderTakes, WriterTakes, Takes, FollowsMessage, TakesPacket, with_answered}
 use Rattle.dds_model.specs.Backed.{reader_at}
 use Rattle.dds_model.specs.Fresh.{HasHeartbeat, HasAckNack}
 use Rattle.dds_model.proofs.Composed.{is_alone}
@@ -377,36 +377,29 @@ packet_counts c bytes name beats asks old report dues new (inl h) =
     (receiver_of h.message.prefix) h.message.submessages old report.moves report.refused dues new)
     (sym name) h.follows)
   where
+    there : (index : ℕ) (at : Receiver) (s : Submessage)
+        → StandsAt c.own (receiver_of h.message.prefix) h.message.submessages index at s → StandsIn bytes c.own at s
+    there index at s stands =
+        record { message = h.message; offset = h.offset; is_read = h.is_read; index = index; stands = stands }
+
     used_at : (index : ℕ) (at : Receiver) (s : Submessage)
         → StandsAt c.own (receiver_of h.message.prefix) h.message.submessages index at s → IsUsed c at s
-    used_at index at (Heartbeat b) stands =
-        λ w from. beats w b.count
-        (record {
-          message = h.message;
-          offset = h.offset;
-          is_read = h.is_read;
-          own = c.own;
-          index = index;
-          at = at;
-          heartbeat = b;
-          stands = stands;
-          from = from;
-          same_count = refl;
-        })
-    used_at index at (AckNack a) stands =
-        λ w r to. asks w r a.count
-        (record {
-          message = h.message;
-          offset = h.offset;
-          is_read = h.is_read;
-          own = c.own;
-          index = index;
-          at = at;
-          acknack = a;
-          stands = stands;
-          is_to = to;
-          same_count = refl;
-        })
+    used_at index at (Heartbeat b) stands = λ w from. beats w b.count (record {
+      own = c.own;
+      at = at;
+      heartbeat = b;
+      there = there index at (Heartbeat b) stands;
+      from = from;
+      same_count = refl;
+    })
+    used_at index at (AckNack a) stands = λ w r to. asks w r a.count (record {
+      own = c.own;
+      at = at;
+      acknack = a;
+      there = there index at (AckNack a) stands;
+      is_to = to;
+      same_count = refl;
+    })
     used_at index at (Data d) stands = tt
     used_at index at (Gap g) stands = tt
     used_at index at Pad stands = tt

@@ -1,6 +1,6 @@
 -- Which counts of HEARTBEATs and of ACKNACKs stand in a written message.
 use Rattle.std.proofs.Common.{◌≡◌, ℕ, ℤ, zero, suc, List, [], ◌∷◌, ◌++◌, Option, Some, None, subst, ap, sym, ◌∙◌}
-use Rattle.std.proofs.Common.{Contains, length, map, flat_map, refl, ⊎_elim, arith}
+use Rattle.std.proofs.Common.{Contains, map, flat_map, refl, ⊎_elim, arith}
 use Rattle.std.specs.List.{AllByRecursion}
 use Rattle.dds_base.specs.declared.change.Change.{Change}
 use Rattle.dds_base.specs.declared.config.Config.{Config}
@@ -13,25 +13,16 @@ use Rattle.rtps_wire.specs.declared.message.Message.{Message}
 use Rattle.rtps_wire.specs.declared.submessage.Submessage.{Submessage}
 use Rattle.rtps_wire.specs.declared.submessage.Submessage.TheVariants.{InfoDst, Heartbeat, AckNack}
 use Rattle.rtps_wire.specs.declared.seek.Sought.{Sought}
-use Rattle.rtps_wire.specs.Messages.{IsWritable, ReadsMessage, spelling_of}
+use Rattle.rtps_wire.specs.Messages.{IsWritable, spelling_of}
 use Rattle.rtps_wire.specs.Sought.{IsSought, HasSought}
-use Rattle.rtps_wire.proofs.MessageLaws.{message_one}
-use Rattle.rtps_wire.proofs.SpellingLaws.{message_again}
 use Rattle.rtps_writer.specs.declared.answer.Answer.{Answer}
 use Rattle.rtps_writer.specs.declared.answer.Answer.TheVariants.{Data as AnswersData, Gap as AnswersGap}
 use Rattle.dds_model.specs.declared.endpoint.Endpoint.{Endpoint}
-use Rattle.dds_model.specs.Claims.{Receiver, receiver_of, after_submessage, StandsAt, IsWriter, IsToWriter}
+use Rattle.dds_model.specs.Claims.{Receiver, receiver_of, after_submessage, StandsAt, StandsIn, IsWriter, IsToWriter}
 use Rattle.dds_model.specs.Protocol.{Due, data_of, submessages_of}
 use Rattle.dds_model.specs.Fresh.{HasHeartbeat, HasAckNack}
 use Rattle.dds_model.proofs.Composed.{front_or_rest, later_in}
-use Rattle.dds_model.proofs.Dues.{addressed, message_to}
-
--- the one message that a written form is read as
-pub read_again : (message other : Message) (offset : ℕ) → IsWritable message
-    → ReadsMessage (spelling_of message) other offset → other ≡ message
-read_again message other offset writable h =
-    (message_one (spelling_of message) other message offset (length (spelling_of message)) h
-    (message_again message writable)).0
+use Rattle.dds_model.proofs.Dues.{addressed, message_to, stands_again}
 
 -- what is so of all submessages is so of each that stands there
 pub stands_all : (P : Submessage → Type 0) (own : GuidPrefix) (from : Receiver) (ss : List Submessage) (index : ℕ)
@@ -47,21 +38,22 @@ IsPlain (Heartbeat h) = ⊥
 IsPlain (AckNack a) = ⊥
 IsPlain other = Unit {0}
 
+-- of a message without one neither is found
+plain_at : (message : Message) (own : GuidPrefix) (at : Receiver) (s : Submessage) → IsWritable message
+    → AllByRecursion IsPlain message.submessages → StandsIn (spelling_of message) own at s → IsPlain s
+plain_at message own at s writable plain there =
+    stands_all IsPlain own (receiver_of message.prefix) message.submessages there.index at s plain
+    (stands_again message own at s writable there)
+
 pub plain_beats : (config : Config) (message : Message) (w : Endpoint) (count : ℤ) → IsWritable message
     → AllByRecursion IsPlain message.submessages → HasHeartbeat config (spelling_of message) w count → ⊥
 plain_beats config message w count writable plain h =
-    let same = read_again message h.message h.offset writable h.is_read in
-    stands_all IsPlain h.own (receiver_of message.prefix) message.submessages h.index h.at (Heartbeat h.heartbeat) plain
-    (subst (λ (m : Message). StandsAt h.own (receiver_of m.prefix) m.submessages h.index h.at (Heartbeat h.heartbeat))
-    same h.stands)
+    plain_at message h.own h.at (Heartbeat h.heartbeat) writable plain h.there
 
 pub plain_asks : (config : Config) (message : Message) (w r : Endpoint) (count : ℤ) → IsWritable message
     → AllByRecursion IsPlain message.submessages → HasAckNack config (spelling_of message) w r count → ⊥
 plain_asks config message w r count writable plain h =
-    let same = read_again message h.message h.offset writable h.is_read in
-    stands_all IsPlain h.own (receiver_of message.prefix) message.submessages h.index h.at (AckNack h.acknack) plain
-    (subst (λ (m : Message). StandsAt h.own (receiver_of m.prefix) m.submessages h.index h.at (AckNack h.acknack)) same
-    h.stands)
+    plain_at message h.own h.at (AckNack h.acknack) writable plain h.there
 
 -- ---- answers, and changes that are announced
 
@@ -98,15 +90,11 @@ alone own to x far (suc zero) at s h other = h
 alone own to x far (suc (suc index)) at s h other = absurd h
 
 -- so it is once the message was written and is read again
-read_alone : (own to : GuidPrefix) (x : Submessage) (read : Message) (offset : ℕ) (far : GuidPrefix) (index : ℕ)
-    (at : Receiver) (s : Submessage) → IsWritable (message_to own to (x ∷ []))
-    → ReadsMessage (spelling_of (message_to own to (x ∷ []))) read offset
-    → StandsAt far (receiver_of read.prefix) read.submessages index at s
+read_alone : (own to : GuidPrefix) (x : Submessage) (far : GuidPrefix) (at : Receiver) (s : Submessage)
+    → IsWritable (message_to own to (x ∷ [])) → StandsIn (spelling_of (message_to own to (x ∷ []))) far at s
     → (s ≡ InfoDst to → ⊥) → (at ≡ addressed own to) × (s ≡ x)
-read_alone own to x read offset far index at s writable reads stands other =
-    let same = read_again (message_to own to (x ∷ [])) read offset writable reads in
-    alone own to x far index at s
-    (subst (λ (m : Message). StandsAt far (receiver_of m.prefix) m.submessages index at s) same stands) other
+read_alone own to x far at s writable there other =
+    alone own to x far there.index at s (stands_again (message_to own to (x ∷ [])) far at s writable there) other
 
 no_beat : (h : HeartbeatBody) (to : GuidPrefix) → Heartbeat h ≡ InfoDst to → ⊥
 no_beat h to e = cc
@@ -130,8 +118,7 @@ pub one_beat : (config : Config) (own to : GuidPrefix) (body : HeartbeatBody) (w
 unfolding beat_of
 one_beat config own to body w count writable h =
     let here =
-    read_alone own to (Heartbeat body) h.message h.offset h.own h.index h.at (Heartbeat h.heartbeat) writable h.is_read
-    h.stands (no_beat h.heartbeat to) in
+    read_alone own to (Heartbeat body) h.own h.at (Heartbeat h.heartbeat) writable h.there (no_beat h.heartbeat to) in
     let is : h.heartbeat ≡ body = ap (λ (s : Submessage). beat_of body s) here.1 in (
       subst (λ (b : HeartbeatBody). IsWriter config own b.writer_id w) is
           (subst (λ (x : Receiver). IsWriter config x.source_guid_prefix h.heartbeat.writer_id w) here.0 h.from),
@@ -143,8 +130,7 @@ pub one_beat_asks : (config : Config) (own to : GuidPrefix) (body : HeartbeatBod
     → HasAckNack config (spelling_of (message_to own to (Heartbeat body ∷ []))) w r count → ⊥
 one_beat_asks config own to body w r count writable h =
     let here =
-    read_alone own to (Heartbeat body) h.message h.offset h.own h.index h.at (AckNack h.acknack) writable h.is_read
-    h.stands (no_ask h.acknack to) in
+    read_alone own to (Heartbeat body) h.own h.at (AckNack h.acknack) writable h.there (no_ask h.acknack to) in
     let e = here.1 in absurd cc
 
 -- an ACKNACK alone
@@ -156,8 +142,7 @@ pub one_ask : (config : Config) (own to : GuidPrefix) (body : AckNackBody) (w r 
 unfolding ask_of
 one_ask config own to body w r count writable h =
     let here =
-    read_alone own to (AckNack body) h.message h.offset h.own h.index h.at (AckNack h.acknack) writable h.is_read
-    h.stands (no_ask h.acknack to) in
+    read_alone own to (AckNack body) h.own h.at (AckNack h.acknack) writable h.there (no_ask h.acknack to) in
     let is : h.acknack ≡ body = ap (λ (s : Submessage). ask_of body s) here.1 in (
       h.own,
       subst (λ (b : AckNackBody). IsToWriter config h.own (addressed own to) b.reader_id b.writer_id w r) is
@@ -182,8 +167,7 @@ pub one_ask_beats : (config : Config) (own to : GuidPrefix) (body : AckNackBody)
     → HasHeartbeat config (spelling_of (message_to own to (AckNack body ∷ []))) w count → ⊥
 one_ask_beats config own to body w count writable h =
     let here =
-    read_alone own to (AckNack body) h.message h.offset h.own h.index h.at (Heartbeat h.heartbeat) writable h.is_read
-    h.stands (no_beat h.heartbeat to) in
+    read_alone own to (AckNack body) h.own h.at (Heartbeat h.heartbeat) writable h.there (no_beat h.heartbeat to) in
     let e = here.1 in absurd cc
 
 -- ---- lists of messages

@@ -5,10 +5,10 @@ use Rattle.dds_base.specs.declared.guid.GuidPrefix.{GuidPrefix}
 use Rattle.rtps_wire.specs.declared.message.Message.{Message}
 use Rattle.rtps_wire.specs.declared.submessage.Submessage.{Submessage}
 use Rattle.rtps_wire.specs.declared.submessage.Submessage.TheVariants.{InfoDst, InfoTs}
-use Rattle.rtps_wire.specs.Messages.{IsWritable, spelling_of}
+use Rattle.rtps_wire.specs.Messages.{IsWritable, ReadsMessage, spelling_of}
 use Rattle.rtps_wire.proofs.MessageLaws.{message_one}
 use Rattle.rtps_wire.proofs.SpellingLaws.{message_again}
-use Rattle.dds_model.specs.Claims.{Receiver, receiver_of, StandsAt, Says, Claim, ChangeIs, MayPass, PlaceReached}
+use Rattle.dds_model.specs.Claims.{Receiver, receiver_of, StandsAt, StandsIn, Says, Claim, ChangeIs, MayPass, PlaceReached}
 use Rattle.dds_model.specs.Claims.{Asserts, Claims}
 
 -- a submessage of the message says it
@@ -20,22 +20,44 @@ pub record Told (config : Config) (message : Message) (claim : Claim) : Type 0 w
   pub stands : StandsAt own (receiver_of message.prefix) message.submessages index at submessage
   pub says : Says config own at submessage claim
 
+-- a message that was written is read as itself
+pub read_again : (message other : Message) (offset : ℕ) → IsWritable message
+    → ReadsMessage (spelling_of message) other offset → other ≡ message
+read_again message other offset writable h =
+    (message_one (spelling_of message) other message offset (length (spelling_of message)) h
+    (message_again message writable)).0
+
+-- what stands in the octets of a message that was written stands in it
+pub stands_again : (message : Message) (own : GuidPrefix) (at : Receiver) (s : Submessage) → IsWritable message
+    → (there : StandsIn (spelling_of message) own at s)
+    → StandsAt own (receiver_of message.prefix) message.submessages there.index at s
+stands_again message own at s writable there =
+    subst (λ (m : Message). StandsAt own (receiver_of m.prefix) m.submessages there.index at s)
+    (read_again message there.message there.offset writable there.is_read) there.stands
+
+-- and the other way round
+unfoldable pub stands_in : (message : Message) (own : GuidPrefix) (index : ℕ) (at : Receiver) (s : Submessage)
+    → IsWritable message → StandsAt own (receiver_of message.prefix) message.submessages index at s
+    → StandsIn (spelling_of message) own at s
+stands_in message own index at s writable stands = record {
+  message = message;
+  offset = length (spelling_of message);
+  is_read = message_again message writable;
+  index = index;
+  stands = stands;
+}
+
 -- what a message was written as claims only what its submessages say
 pub told : (config : Config) (message : Message) (claim : Claim) → IsWritable message
     → Claims config (spelling_of message) claim → Told config message claim
-told config message claim writable h =
-    let same : h.message ≡ message =
-    (message_one (spelling_of message) h.message message h.offset (length (spelling_of message)) h.is_read
-    (message_again message writable)).0 in
-    record {
-      own = h.own;
-      index = h.index;
-      at = h.at;
-      submessage = h.submessage;
-      stands = subst (λ (m : Message). StandsAt h.own
-          (receiver_of m.prefix) m.submessages h.index h.at h.submessage) same h.stands;
-      says = h.says;
-    }
+told config message claim writable h = record {
+  own = h.own;
+  index = h.there.index;
+  at = h.at;
+  submessage = h.submessage;
+  stands = stands_again message h.own h.at h.submessage writable h.there;
+  says = h.says;
+}
 
 -- an INFO_DST claims nothing
 pub dst_says : (config : Config) (own : GuidPrefix) (at : Receiver) (prefix : GuidPrefix) (claim : Claim)

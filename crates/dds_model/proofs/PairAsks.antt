@@ -8,7 +8,6 @@ use Rattle.rtps_wire.specs.declared.submessage.Submessage.TheVariants.{AckNack}
 use Rattle.rtps_wire.specs.declared.seek.Sought.TheVariants as sought
 use Rattle.rtps_wire.specs.Messages.{IsWritable, spelling_of}
 use Rattle.rtps_wire.specs.Sought.{Has}
-use Rattle.rtps_wire.proofs.SpellingLaws.{message_again}
 use Rattle.dds_model.specs.declared.endpoint.Endpoint.{Endpoint}
 use Rattle.dds_model.specs.declared.event.Packet.{Packet}
 use Rattle.dds_model.specs.Part.{Writer, writer_changes}
@@ -19,7 +18,7 @@ use Rattle.dds_model.specs.Bounds.{IsBounded}
 use Rattle.dds_model.specs.Fresh.{HasAckNack, HasUsedCounts, acknacks_used_at}
 use Rattle.dds_model.specs.Repair.{BeginsRound, IsPair, StandsAt, HasAskOf}
 use Rattle.dds_model.proofs.CountsWritten.{contains_map}
-use Rattle.dds_model.proofs.Dues.{message_to}
+use Rattle.dds_model.proofs.Dues.{message_to, stands_in}
 use Rattle.dds_model.proofs.DuesAcknacks.{ask_body}
 use Rattle.dds_model.proofs.PairAnswered.{asking, post, all_sent, due_writable}
 use Rattle.dds_model.proofs.PairBegun.{Begun, the_begun, writer_is, pairing, body, hears, heard_of, the_last, acknacks, packet, place_heard}
@@ -38,14 +37,12 @@ ask_due c x = record {
 pub is_ask : (c : Begun) (x : AckNackDue) → IsWritable (ask_due c x).message
     → HasAckNack c.config (spelling_of (ask_due c x).message) c.writer c.reader x.count
 is_ask c x writable = record {
-  message = (ask_due c x).message;
-  offset = length (spelling_of (ask_due c x).message);
-  is_read = message_again (ask_due c x).message writable;
   own = writer_prefix (pairing c);
-  index = 1;
   at = back (pairing c);
   acknack = ask_body (hears c).is.entity (body c).writer_id x;
-  stands = (refl, refl);
+  there =
+      stands_in (ask_due c x).message (writer_prefix (pairing c)) 1 (back (pairing c))
+      (AckNack (ask_body (hears c).is.entity (body c).writer_id x)) writable (refl, refl);
   is_to = (asking (pairing c) (body c).reader_id (hears c).is x).is_to;
   same_count = refl;
 }
@@ -96,7 +93,7 @@ pub asks_found : (c : Begun) → the_last c < 2 ^ 62 → acknacks_used_at c.old 
     → c.begins.lost_asks ≡ 0
     → (p : Packet) × Contains c.begins.hears.step.packets p × (p.to ≡ c.writer.peer)
     × Has p.bytes (sought.AckNack c.pair.reader_entity (writer_entity c.config c.writer.peer c.writer.number))
-unfolding ask_is_sent is_ask
+unfolding ask_is_sent is_ask stands_in
 asks_found c few left none =
     let found = answered_by c few left (hears c).answer refl (hears c).answers in
     let sent = ask_is_sent c none found.0 found.1 in
@@ -105,9 +102,9 @@ asks_found c few left none =
     (hears c).is.entity c.pair.reader_entity c.reader (hears c).is.to c.pair.is_reader in
     let has : Has sent.packet.bytes
     (sought.AckNack c.pair.reader_entity (writer_entity c.config c.writer.peer c.writer.number)) = record {
-      message = sent.has.message;
-      offset = sent.has.offset;
-      is_read = sent.has.is_read;
+      message = sent.has.there.message;
+      offset = sent.has.there.offset;
+      is_read = sent.has.there.is_read;
       has = (AckNack (ask_body (hears c).is.entity (body c).writer_id found.0), (1, omega arith, refl), (entity, refl));
     } in
     (sent.packet, sent.among, sent.to, has)

@@ -9,8 +9,8 @@ use Rattle.std.proofs.lemmas.List.Elements.{Contains-append_left, Contains-appen
 use Rattle.std.proofs.lemmas.Option.{same_Some}
 use Rattle.dds_base.specs.declared.config.Config.{Config}
 use Rattle.dds_base.specs.Checked.{check_refusal}
-use Rattle.rtps_wire.specs.Messages.{IsWritable, spelling_of}
-use Rattle.rtps_wire.proofs.SpellingLaws.{message_again}
+use Rattle.rtps_wire.specs.declared.submessage.Submessage.TheVariants.{Heartbeat}
+use Rattle.rtps_wire.specs.Messages.{IsWritable}
 use Rattle.dds_model.specs.declared.endpoint.Endpoint.{Endpoint}
 use Rattle.dds_model.specs.declared.event.Packet.{Packet}
 use Rattle.dds_model.specs.declared.event.WorldEvent.TheVariants as world
@@ -27,7 +27,7 @@ use Rattle.dds_model.specs.Repair.{HasBeatTo}
 use Rattle.dds_model.specs.Rules.{RuledStep}
 use Rattle.dds_model.proofs.Composed.{later_in, parts_at}
 use Rattle.dds_model.proofs.CountsWritten.{contains_map}
-use Rattle.dds_model.proofs.Dues.{addressed}
+use Rattle.dds_model.proofs.Dues.{addressed, stands_in}
 use Rattle.dds_model.proofs.DuesHeartbeats.{heartbeat_due}
 use Rattle.dds_model.proofs.DuesMatched.{own_name}
 use Rattle.dds_model.proofs.PairAnswered.{post, all_sent, due_writable}
@@ -145,14 +145,13 @@ beats_are_sent config tests writer reader acknowledged now old new checked used 
   to = refl;
   count = (beat_of config writer.peer part writer.number).count;
   has = record {
-    message = beat_message config writer.peer part writer.number reader.peer;
-    offset = length (spelling_of (beat_message config writer.peer part writer.number reader.peer));
-    is_read = message_again (beat_message config writer.peer part writer.number reader.peer) writable;
     own = prefix_of config reader.peer;
-    index = 1;
     at = addressed (prefix_of config writer.peer) (prefix_of config reader.peer);
     heartbeat = beat_of config writer.peer part writer.number;
-    stands = (refl, refl);
+    there =
+        stands_in (beat_message config writer.peer part writer.number reader.peer) (prefix_of config reader.peer) 1
+        (addressed (prefix_of config writer.peer) (prefix_of config reader.peer))
+        (Heartbeat (beat_of config writer.peer part writer.number)) writable (refl, refl);
     from = (own_name config writer.peer part of writer.number here).name;
     same_count = refl;
   };

@@ -1,5 +1,5 @@
 -- The HEARTBEAT and the ACKNACK of a round, as they are looked for among the packets that were sent.
-use Rattle.std.proofs.Common.{◌≡◌, ℕ, zero, suc, ℤ, List, [], ◌∷◌, Option, Some, None, Contains, length}
+use Rattle.std.proofs.Common.{◌≡◌, ℕ, zero, suc, ℤ, List, [], ◌∷◌, Option, Some, None, Contains}
 use Rattle.std.proofs.Common.{refl, subst, ap, sym, ◌∙◌, ⊎_elim, arith}
 use Rattle.std.specs.List.{All}
 use Rattle.std.proofs.lemmas.List.Elements.{All-contains}
@@ -15,7 +15,6 @@ use Rattle.rtps_wire.specs.declared.submessage.Submessage.{Submessage}
 use Rattle.rtps_wire.specs.declared.submessage.Submessage.TheVariants.{Heartbeat}
 use Rattle.rtps_wire.specs.Messages.{IsWritable, spelling_of}
 use Rattle.rtps_wire.specs.Sought.{HasSought, Has}
-use Rattle.rtps_wire.proofs.SpellingLaws.{message_again}
 use Rattle.dds_model.specs.declared.endpoint.Endpoint.{Endpoint}
 use Rattle.dds_model.specs.declared.event.Packet.{Packet}
 use Rattle.dds_model.specs.declared.event.WorldEvent.TheVariants as world
@@ -32,8 +31,8 @@ use Rattle.dds_model.specs.Backed.{reader_at}
 use Rattle.dds_model.specs.Fresh.{HasHeartbeat, HasAckNack}
 use Rattle.dds_model.specs.Rules.{RuledStep}
 use Rattle.dds_model.proofs.Composed.{is_alone, later_in}
-use Rattle.dds_model.proofs.CountsWritten.{read_again, one_sought}
-use Rattle.dds_model.proofs.Dues.{addressed}
+use Rattle.dds_model.proofs.CountsWritten.{one_sought}
+use Rattle.dds_model.proofs.Dues.{addressed, read_again, stands_in}
 use Rattle.dds_model.proofs.DuesHeartbeats.{of_all}
 use Rattle.dds_model.proofs.DuesMatched.{own_name, same_end}
 use Rattle.dds_model.proofs.FreshCounts.{IsWrittenOf, sent_written}
@@ -66,20 +65,18 @@ beats_found config part writer of here =
     of_all config writer.peer part (IsFoundBeat config writer)
     (λ number to there left behind. record {
       found = λ writable has.
-          let message = beat_message config writer.peer part number to in
           let same : writer_entity config writer.peer number ≡ writer_entity config writer.peer writer.number =
           one_sought (sought.Heartbeat (writer_entity config writer.peer writer.number)) (prefix_of config to)
           (Heartbeat (beat_of config writer.peer part number)) (λ none. none) has in (
             (beat_of config writer.peer part number).count,
             record {
-              message = message;
-              offset = length (spelling_of message);
-              is_read = message_again message writable;
               own = prefix_of config to;
-              index = 1;
               at = addressed (prefix_of config writer.peer) (prefix_of config to);
               heartbeat = beat_of config writer.peer part number;
-              stands = (refl, refl);
+              there =
+                  stands_in (beat_message config writer.peer part number to) (prefix_of config to) 1
+                  (addressed (prefix_of config writer.peer) (prefix_of config to))
+                  (Heartbeat (beat_of config writer.peer part number)) writable (refl, refl);
               from =
                   subst (λ (i : EntityId). IsWriter config (prefix_of config writer.peer) i writer) (sym same)
                   (own_name config writer.peer part of writer.number here).name;
@@ -119,13 +116,13 @@ pub beat_sought : (config : Config) (writer : Endpoint) (bytes : List ℕ) (coun
     (entity : EntityId) → IsWriter config prefix entity writer → HasHeartbeat config bytes writer count
     → Has bytes (sought.Heartbeat entity)
 beat_sought config writer bytes count prefix entity name h = record {
-  message = h.message;
-  offset = h.offset;
-  is_read = h.is_read;
+  message = h.there.message;
+  offset = h.there.offset;
+  is_read = h.there.is_read;
   has = (
     Heartbeat h.heartbeat,
-    stands_among h.own (receiver_of h.message.prefix) h.message.submessages h.index h.at
-        (Heartbeat h.heartbeat) h.stands,
+    stands_among h.own (receiver_of h.there.message.prefix) h.there.message.submessages h.there.index h.at
+        (Heartbeat h.heartbeat) h.there.stands,
     sym h.from.same_entity
         ∙ (ap (λ (w : WriterConfig). w.entity)
         (same_end config h.at.source_guid_prefix prefix h.heartbeat.writer_id entity writer writer h.from name refl)

@@ -13,7 +13,7 @@ use Rattle.dds_model.specs.declared.reply.Report.{Report}
 use Rattle.dds_model.specs.Claims.{Receiver, receiver_of, after_submessage}
 use Rattle.dds_model.specs.Receipt.{prefix_of}
 use Rattle.dds_model.specs.Protocol.{Due, State, InTurn, Idles, ReaderTakes, Takes, FollowsMessage, TakesPacket}
-use Rattle.dds_model.proofs.CountsWritten.{read_again}
+use Rattle.dds_model.proofs.Dues.{read_again}
 use Rattle.dds_model.proofs.Tables.{append_nothing}
 
 -- the packet is that message, all of which is taken up

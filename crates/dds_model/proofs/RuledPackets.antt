@@ -21,7 +21,7 @@ use Rattle.dds_model.specs.declared.reply.Report.{Report}
 use Rattle.dds_model.specs.Numbered.{numbered, HasNumber}
 use Rattle.dds_model.specs.Part.{Part, own_proxies, place_of, heard_of}
 use Rattle.dds_model.specs.Moves.{IsMatchedAt, AreMoves}
-use Rattle.dds_model.specs.Claims.{Receiver, receiver_of, after_submessage, StandsAt, IsReader, IsToReader, ChangeIs, Says}
+use Rattle.dds_model.specs.Claims.{Receiver, receiver_of, after_submessage, StandsAt, StandsIn, IsReader, IsToReader, ChangeIs, Says}
 use Rattle.dds_model.specs.Receipt.{prefix_of, MovesOver, TakesUp, IsNotTaken, Receives}
 use Rattle.dds_model.specs.Peer.{Delivery, IsApplied, IsBefore, claimed, packets_of}
 use Rattle.dds_model.specs.Protocol.{Due, Known, State, InTurn, ReaderTakes, Takes, FollowsMessage, TakesPacket}
@@ -113,6 +113,12 @@ own p = prefix_of p.config p.peer
 abbrev pub Stands : Packet → ℕ → Receiver → Submessage → Type 0
 Stands p index at s = StandsAt (own p) (receiver_of p.message.prefix) p.message.submessages index at s
 
+-- what stands in the message stands in its bytes
+abbrev pub stands_here : (p : Packet) (index : ℕ) (at : Receiver) (s : Submessage) → Stands p index at s
+    → StandsIn p.bytes (own p) at s
+stands_here p index at s stands =
+    record { message = p.message; offset = p.offset; is_read = p.is_read; index = index; stands = stands }
+
 -- these are the submessages from this index on
 pub record IsRest (p : Packet) (index : ℕ) (at : Receiver) (ss : List Submessage) : Type 0 where
   pub stand : (k : ℕ) (later : Receiver) (s : Submessage) → StandsAt (own p) at ss k later s
@@ -164,18 +170,18 @@ applied_at : (p : Packet) (report : Report) (w : Endpoint) (r : ℕ) (count : �
     → IsAppliedAt p report.refused w r count
 applied_at p report w r count h =
     let prefix : h.own ≡ own p = own_is p h.own h.is_to.entity r h.is_to.to in
-    let message : h.message ≡ p.message =
-    (message_one p.bytes h.message p.message h.offset p.offset h.is_read p.is_read).0 in
+    let message : h.there.message ≡ p.message =
+    (message_one p.bytes h.there.message p.message h.there.offset p.offset h.there.is_read p.is_read).0 in
     record {
-      index = h.index;
+      index = h.there.index;
       before = h.before;
       at = h.at;
       heartbeat = h.heartbeat;
       stands =
-          subst (λ (x : GuidPrefix). StandsAt x (receiver_of p.message.prefix) p.message.submessages h.index h.at
+          subst (λ (x : GuidPrefix). StandsAt x (receiver_of p.message.prefix) p.message.submessages h.there.index h.at
           (Heartbeat h.heartbeat)) prefix
-          (subst (λ (m : Message). StandsAt h.own (receiver_of m.prefix) m.submessages h.index h.at
-          (Heartbeat h.heartbeat)) message h.stands);
+          (subst (λ (m : Message). StandsAt h.own (receiver_of m.prefix) m.submessages h.there.index h.at
+          (Heartbeat h.heartbeat)) message h.there.stands);
       is_to =
           subst (λ (x : GuidPrefix). IsToReader p.config x h.at h.heartbeat.reader_id h.heartbeat.writer_id w
           (reader_at p.peer r)) prefix h.is_to;
@@ -185,15 +191,11 @@ applied_at p report w r count h =
 applied_as : (p : Packet) (report : Report) (w : Endpoint) (r : ℕ) (count : ℤ) → IsAppliedAt p report.refused w r count
     → IsApplied p.config (record { packet = p.bytes; report = report }) w (reader_at p.peer r) count
 applied_as p report w r count h = record {
-  message = p.message;
-  offset = p.offset;
-  is_read = p.is_read;
   own = own p;
-  index = h.index;
-  before = h.before;
   at = h.at;
   heartbeat = h.heartbeat;
-  stands = h.stands;
+  there = stands_here p h.index h.at (Heartbeat h.heartbeat) h.stands;
+  before = h.before;
   is_to = h.is_to;
   same_count = h.same_count;
 }
@@ -280,17 +282,7 @@ coming_at p index at s stands = record {
     packet = p.bytes;
     among = (0, omega arith, refl);
     claims =
-        record {
-          message = p.message;
-          offset = p.offset;
-          is_read = p.is_read;
-          own = own p;
-          index = index;
-          at = at;
-          submessage = s;
-          stands = stands;
-          says = says;
-        };
+        record { own = own p; at = at; submessage = s; there = stands_here p index at s stands; says = says };
   };
 }
 
@@ -415,9 +407,9 @@ pub tells_nothing : (config : Config) (peer : ℕ) (before : List Delivery) (byt
     (report : Report) → IsNotTaken bytes old report new → (w : Endpoint) (r : ℕ) (count : ℤ)
     → IsApplied config (record { packet = bytes; report = report }) w (reader_at peer r) count → ⊥
 tells_nothing config peer before bytes old new report n w r count h =
-    ⊎_elim (λ none. none.1 h.message h.offset h.is_read)
-    (λ (some : (report.refused ≡ Some 0) × HasSubmessage bytes). let low : IsBefore h.index (Some 0) = subst
-    (λ (o : Option ℕ). IsBefore h.index o) some.0 h.before in absurd (omega (arith, low))) n.cause
+    ⊎_elim (λ none. none.1 h.there.message h.there.offset h.there.is_read)
+    (λ (some : (report.refused ≡ Some 0) × HasSubmessage bytes). let low : IsBefore h.there.index (Some 0) = subst
+    (λ (o : Option ℕ). IsBefore h.there.index o) some.0 h.before in absurd (omega (arith, low))) n.cause
 
 -- what is known is backed, as it was
 pub unread_backed : (config : Config) (peer : ℕ) (before : List Delivery) (bytes : List ℕ) (old new : State)

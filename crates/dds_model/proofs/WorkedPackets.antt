@@ -68,14 +68,11 @@ packet-claims : (from to own : GuidPrefix) (id flags : ℕ) (body : List ℕ) (s
     → StandsAt own (receiver_of from) (InfoDst to ∷ submessage ∷ []) 1 at submessage
     → Says network own at submessage claim → Claims network (packet from to id flags body) claim
 packet-claims from to own id flags body submessage at claim reads stands says = record {
-  message = message from to submessage;
-  offset = 68;
-  is_read = reads;
   own = own;
-  index = 1;
   at = at;
   submessage = submessage;
-  stands = stands;
+  there =
+      record { message = message from to submessage; offset = 68; is_read = reads; index = 1; stands = stands };
   says = says;
 }
 
@@ -218,15 +215,17 @@ delivery = record { packet = heartbeat_packet; report = record { moves = Heard w
 
 heartbeat-applied : IsApplied network delivery w1 r1 (pos 1)
 heartbeat-applied = record {
-  message = message prefix_1 prefix_2 (Heartbeat heartbeat);
-  offset = 68;
-  is_read = heartbeat-read;
   own = prefix_2;
-  index = 1;
-  before = tt;
   at = to_2;
   heartbeat = heartbeat;
-  stands = (refl, refl);
+  there = record {
+    message = message prefix_1 prefix_2 (Heartbeat heartbeat);
+    offset = 68;
+    is_read = heartbeat-read;
+    index = 1;
+    stands = (refl, refl);
+  };
+  before = tt;
   is_to = to_r1 every_reader 0 (inr refl);
   same_count = refl;
 }

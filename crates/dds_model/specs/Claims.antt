@@ -138,16 +138,20 @@ Says config own at (AckNack a) (PlaceReached writer reader base) =
     IsToWriter config own at a.reader_id a.writer_id writer reader × (base ≡ a.reader_sn_state.base)
 Says config own at submessage claim = ⊥
 
--- a packet's claims, by its bytes
-pub record Claims (config : Config) (bytes : List ℕ) (claim : Claim) : Type 0 where
+-- the submessage stands in the message that these bytes are, and the receiver is so when it comes to it
+pub record StandsIn (bytes : List ℕ) (own : GuidPrefix) (at : Receiver) (submessage : Submessage) : Type 0 where
   pub message : Message
   pub offset : ℕ
   pub is_read : ReadsMessage bytes message offset
-  pub own : GuidPrefix
   pub index : ℕ
+  pub stands : StandsAt own (receiver_of message.prefix) message.submessages index at submessage
+
+-- a packet's claims, by its bytes
+pub record Claims (config : Config) (bytes : List ℕ) (claim : Claim) : Type 0 where
+  pub own : GuidPrefix
   pub at : Receiver
   pub submessage : Submessage
-  pub stands : StandsAt own (receiver_of message.prefix) message.submessages index at submessage
+  pub there : StandsIn bytes own at submessage
   pub says : Says config own at submessage claim
 
 -- one of these packets claims it

@@ -8,9 +8,7 @@ use Rattle.dds_base.specs.declared.guid.GuidPrefix.{GuidPrefix}
 use Rattle.dds_base.specs.Checked.{check_refusal}
 use Rattle.rtps_wire.specs.declared.acknack.AckNack.{AckNack as AckNackBody}
 use Rattle.rtps_wire.specs.declared.heartbeat.Heartbeat.{Heartbeat as HeartbeatBody}
-use Rattle.rtps_wire.specs.declared.message.Message.{Message}
 use Rattle.rtps_wire.specs.declared.submessage.Submessage.TheVariants.{Heartbeat, AckNack}
-use Rattle.rtps_wire.specs.Messages.{ReadsMessage}
 use Rattle.rtps_reader.specs.Tracked.{Tracked}
 use Rattle.dds_model.specs.declared.endpoint.Endpoint.{Endpoint}
 use Rattle.dds_model.specs.declared.event.Packet.{Packet}
@@ -18,7 +16,7 @@ use Rattle.dds_model.specs.declared.event.WorldEvent.{WorldEvent}
 use Rattle.dds_model.specs.declared.reply.Reply.{Reply}
 use Rattle.dds_model.specs.Numbered.{HasNumber}
 use Rattle.dds_model.specs.Part.{heartbeats_used}
-use Rattle.dds_model.specs.Claims.{Receiver, receiver_of, StandsAt, IsWriter, IsToWriter}
+use Rattle.dds_model.specs.Claims.{Receiver, StandsIn, IsWriter, IsToWriter}
 use Rattle.dds_model.specs.Dues.{IsPartOf}
 use Rattle.dds_model.specs.Machine.{AllTests, writer_at}
 use Rattle.dds_model.specs.World.{WorldState, peer_at, machine_of}
@@ -27,27 +25,19 @@ use Rattle.dds_model.specs.Rules.{RuledStep}
 
 -- a HEARTBEAT of the writer with this count stands in the packet
 pub record HasHeartbeat (config : Config) (bytes : List ℕ) (writer : Endpoint) (count : ℤ) : Type 0 where
-  pub message : Message
-  pub offset : ℕ
-  pub is_read : ReadsMessage bytes message offset
   pub own : GuidPrefix
-  pub index : ℕ
   pub at : Receiver
   pub heartbeat : HeartbeatBody
-  pub stands : StandsAt own (receiver_of message.prefix) message.submessages index at (Heartbeat heartbeat)
+  pub there : StandsIn bytes own at (Heartbeat heartbeat)
   pub from : IsWriter config at.source_guid_prefix heartbeat.writer_id writer
   pub same_count : heartbeat.count ≡ count
 
 -- an ACKNACK of the reader to the writer with this count stands in the packet
 pub record HasAckNack (config : Config) (bytes : List ℕ) (writer reader : Endpoint) (count : ℤ) : Type 0 where
-  pub message : Message
-  pub offset : ℕ
-  pub is_read : ReadsMessage bytes message offset
   pub own : GuidPrefix
-  pub index : ℕ
   pub at : Receiver
   pub acknack : AckNackBody
-  pub stands : StandsAt own (receiver_of message.prefix) message.submessages index at (AckNack acknack)
+  pub there : StandsIn bytes own at (AckNack acknack)
   pub is_to : IsToWriter config own at acknack.reader_id acknack.writer_id writer reader
   pub same_count : acknack.count ≡ count
 

@@ -8,9 +8,7 @@ use Rattle.dds_base.specs.declared.config.Config.{Config}
 use Rattle.dds_base.specs.declared.guid.GuidPrefix.{GuidPrefix}
 use Rattle.dds_base.specs.Kept.{change_at, is_dropped}
 use Rattle.rtps_wire.specs.declared.heartbeat.Heartbeat.{Heartbeat as HeartbeatBody}
-use Rattle.rtps_wire.specs.declared.message.Message.{Message}
 use Rattle.rtps_wire.specs.declared.submessage.Submessage.TheVariants.{Heartbeat}
-use Rattle.rtps_wire.specs.Messages.{ReadsMessage}
 use Rattle.dds_model.specs.declared.endpoint.Endpoint.{Endpoint}
 use Rattle.dds_model.specs.declared.event.Event.{Event}
 use Rattle.dds_model.specs.declared.event.Event.TheVariants as event
@@ -21,9 +19,9 @@ use Rattle.dds_model.specs.declared.reply.Reply.TheVariants.{Reported}
 use Rattle.dds_model.specs.declared.reply.Report.{Report}
 use Rattle.dds_model.specs.Part.{Part, no_part, own_writer, own_proxies, acknowledged_of, place_of, writer_changes, history_of, is_assertion, IsBelow, IsAtMost}
 use Rattle.dds_model.specs.Moves.{Grounds}
-use Rattle.dds_model.specs.Calls.{CallStep, TickStep}
+use Rattle.dds_model.specs.Calls.{TickStep, CallStep}
 use Rattle.dds_model.specs.Watching.{Tests}
-use Rattle.dds_model.specs.Claims.{Receiver, receiver_of, StandsAt, IsToReader, Claim, ChangeIs, MayPass, PlaceReached, Asserts, Claims, Claimed}
+use Rattle.dds_model.specs.Claims.{Receiver, StandsIn, IsToReader, Claim, ChangeIs, MayPass, PlaceReached, Asserts, Claims, Claimed}
 use Rattle.dds_model.specs.Receipt.{Receives}
 use Rattle.dds_model.specs.Protocol.{Known, State, knows_nothing}
 
@@ -58,15 +56,11 @@ IsBefore index (Some refused) = index < refused
 
 -- a HEARTBEAT of this count from the writer was applied at the reader: it stands in the packet, before what found no memory
 pub record IsApplied (config : Config) (delivery : Delivery) (writer reader : Endpoint) (count : ℤ) : Type 0 where
-  pub message : Message
-  pub offset : ℕ
-  pub is_read : ReadsMessage delivery.packet message offset
   pub own : GuidPrefix
-  pub index : ℕ
-  pub before : IsBefore index delivery.report.refused
   pub at : Receiver
   pub heartbeat : HeartbeatBody
-  pub stands : StandsAt own (receiver_of message.prefix) message.submessages index at (Heartbeat heartbeat)
+  pub there : StandsIn delivery.packet own at (Heartbeat heartbeat)
+  pub before : IsBefore there.index delivery.report.refused
   pub is_to : IsToReader config own at heartbeat.reader_id heartbeat.writer_id writer reader
   pub same_count : heartbeat.count ≡ count
 
