@@ -1,14 +1,14 @@
 -- What the application of a peer watches: the conditions that it made, its WaitSets, and the statuses that are enabled.
 --
 -- DDS 1.4, 2.2.2.1 (Condition, GuardCondition, StatusCondition, WaitSet), 2.2.2.5 (ReadCondition).
-use Rattle.std.specs.Prelude.{ℕ, ◌+◌, ◌-◌, ◌^◌, List, [], ◌∷◌, ◌++◌, get_or, set, map, replicate, length, nat_le, nat_lt, ◌==◌, ◌&&◌, Bool, true, false, Option, None, Some, is_some, if◌then◌else◌}
+use Rattle.std.specs.Prelude.{ℕ, ◌+◌, ◌-◌, ◌^◌, List, [], ◌∷◌, ◌++◌, get_or, set, map, replicate, length, nat_le, ◌&&◌, Bool, true, false, Option, None, Some, is_some, if◌then◌else◌}
 use Rattle.std.specs.Option.{option_map}
 use Rattle.dds_base.specs.declared.code.Code.{Code}
 use Rattle.dds_base.specs.declared.code.Code.TheVariants.{BadParameter, OutOfResources, PreconditionNotMet}
 use Rattle.dds_base.specs.declared.entity.Entity.{Entity}
 use Rattle.dds_base.specs.declared.key.Key.{Key}
 use Rattle.dds_base.specs.declared.entity.Entity.TheVariants.{Participant, Writer, Reader}
-use Rattle.dds_base.specs.Number.{is_number}
+use Rattle.dds_base.specs.Number.{at_number, is_number}
 use Rattle.dds_notices.specs.declared.mask.StatusMask.{StatusMask}
 use Rattle.dds_conditions.specs.declared.condition.Cond.{Cond}
 use Rattle.dds_conditions.specs.declared.condition.Cond.TheVariants.{Status, Made}
@@ -43,10 +43,6 @@ opened writers readers = record {
 }
 
 -- ---- by number, from 1
-
--- what was made with this number, if it was not deleted
-abbrev pub made : {X : Type 0} → List (Option X) → ℕ → Option X
-made xs n = if n == 0 then None else get_or xs (n - 1) None
 
 -- another one in the place of that of this number
 abbrev pub with_made : {X : Type 0} → List (Option X) → ℕ → Option X → List (Option X)
@@ -126,7 +122,7 @@ with_enabled w (Reader n) mask = record w { readers = set w.readers (n - 1) mask
 -- there is such a condition; each entity has a status condition
 abbrev pub knows : Watched → Cond → Bool
 knows w (Status entity) = knows_entity w entity
-knows w (Made n) = is_some (made w.conditions n)
+knows w (Made n) = is_some (at_number w.conditions n)
 
 -- ---- WaitSets
 
@@ -159,30 +155,30 @@ conditions_in (Some s) = s.conditions
 
 -- the conditions of the WaitSet of this number
 abbrev pub conditions_of : Watched → ℕ → List Cond
-conditions_of w n = conditions_in (made w.wait_sets n)
+conditions_of w n = conditions_in (at_number w.wait_sets n)
 
 -- why a condition can't be attached: no such WaitSet, or no such condition
 abbrev pub attach_refusal : Watched → ℕ → Cond → Option Code
-attach_refusal w n c = unless_there (is_some (made w.wait_sets n) && knows w c)
+attach_refusal w n c = unless_there (is_some (at_number w.wait_sets n) && knows w c)
 
 -- a WaitSet to which a condition was attached (attach_condition)
 abbrev pub with_attached : Watched → ℕ → Cond → Watched
 with_attached w n c = with_wait_set_at w n
-    (option_map (λ (s : Waiting). record s { conditions = attached c s.conditions }) (made w.wait_sets n))
+    (option_map (λ (s : Waiting). record s { conditions = attached c s.conditions }) (at_number w.wait_sets n))
 
 -- why a condition can't be detached: no such WaitSet, no such condition, or it is not attached
 abbrev pub detaching_refusal : Watched → ℕ → Cond → Option Code
 detaching_refusal w n c =
-    if is_some (made w.wait_sets n) && knows w c then detach_refusal c (conditions_of w n) else Some BadParameter
+    if is_some (at_number w.wait_sets n) && knows w c then detach_refusal c (conditions_of w n) else Some BadParameter
 
 -- a WaitSet from which a condition was detached (detach_condition)
 abbrev pub with_detached : Watched → ℕ → Cond → Watched
-with_detached w n c = with_wait_set_at w n (without c (made w.wait_sets n))
+with_detached w n c = with_wait_set_at w n (without c (at_number w.wait_sets n))
 
 -- a WaitSet in which somebody waits up to this moment, or nobody
 abbrev pub with_deadline : Watched → ℕ → Option ℕ → Watched
 with_deadline w n deadline =
-    with_wait_set_at w n (option_map (λ (s : Waiting). record s { deadline = deadline }) (made w.wait_sets n))
+    with_wait_set_at w n (option_map (λ (s : Waiting). record s { deadline = deadline }) (at_number w.wait_sets n))
 
 -- the moment has come, or there is none
 abbrev pub has_come : Option ℕ → ℕ → Bool

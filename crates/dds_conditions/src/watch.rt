@@ -12,8 +12,8 @@ ghost use Rattle.dds_base.specs.Refusal.{Refuses};
 ghost use Rattle.dds_conditions.specs.declared.condition.Cond.{Cond as CondOf};
 ghost use Rattle.dds_conditions.specs.declared.condition.Condition.TheVariants.{Guard as IsGuard};
 ghost use Rattle.dds_conditions.specs.Attached.{active_of, is_attached};
-ghost use Rattle.dds_base.specs.Number.{is_number};
-ghost use Rattle.dds_conditions.specs.Watched.{attach_refusal, conditions_in, conditions_of, detaching_refusal, enabled_of, filter_refusal, free_refusal, guard_refusal, has_filter, is_timed_out, knows, knows_entity, every_status, made, number_refusal, opened, unless_there, use_refusal, with_attached, with_condition, with_condition_at, with_deadline, with_detached, with_enabled, with_filter, with_made, with_wait_set, with_wait_set_at, without, without_condition};
+ghost use Rattle.dds_base.specs.Number.{at_number, is_number};
+ghost use Rattle.dds_conditions.specs.Watched.{attach_refusal, conditions_in, conditions_of, detaching_refusal, enabled_of, filter_refusal, free_refusal, guard_refusal, has_filter, is_timed_out, knows, knows_entity, every_status, number_refusal, opened, unless_there, use_refusal, with_attached, with_condition, with_condition_at, with_deadline, with_detached, with_enabled, with_filter, with_made, with_wait_set, with_wait_set_at, without, without_condition};
 
 use crate::condition::{Cond, Condition};
 use crate::wait_set::WaitSet;
@@ -94,7 +94,7 @@ impl Watch {
     /// The condition of this number, if there is one.
     pub fn condition(&self, number: u32) -> Option<Condition>
         // It was made with this number, and was not deleted.
-        ensures made { result ≡ made self.now.conditions number }
+        ensures made { result ≡ at_number self.now.conditions number }
     {
         if number == 0 {
             return None;
@@ -165,10 +165,10 @@ impl Watch {
         ensures ok { OnOk result (self.new
             ≡ with_condition_at self.old number (Some (IsGuard value))) }
         // There is such a condition, and it is a guard.
-        ensures taken { OnOk result (guard_refusal (made self.old.conditions number) ≡ None) }
+        ensures taken { OnOk result (guard_refusal (at_number self.old.conditions number) ≡ None) }
         // A refusal is for its cause.
         ensures refused { IfErr result
-            (λ code. guard_refusal (made self.old.conditions number) ≡ Some code) }
+            (λ code. guard_refusal (at_number self.old.conditions number) ≡ Some code) }
         // A refusal changes nothing.
         ensures err { OnErr result (self.new ≡ self.old) }
     {
@@ -192,11 +192,11 @@ impl Watch {
         // It is gone, and attached nowhere.
         ensures ok { OnOk result (self.new ≡ without_condition self.old number) }
         // There is such a condition.
-        ensures taken { OnOk result (unless_there (is_some (made self.old.conditions number))
+        ensures taken { OnOk result (unless_there (is_some (at_number self.old.conditions number))
             ≡ None) }
         // A refusal is for its cause.
         ensures refused { IfErr result
-            (λ code. unless_there (is_some (made self.old.conditions number)) ≡ Some code) }
+            (λ code. unless_there (is_some (at_number self.old.conditions number)) ≡ Some code) }
         // A refusal changes nothing.
         ensures err { OnErr result (self.new ≡ self.old) }
     {
@@ -297,10 +297,10 @@ impl Watch {
         // It is gone, and the others are as before.
         ensures ok { OnOk result (self.new ≡ with_wait_set_at self.old number None) }
         // There is such a WaitSet, and nobody waited in it.
-        ensures taken { OnOk result (free_refusal (made self.old.wait_sets number) ≡ None) }
+        ensures taken { OnOk result (free_refusal (at_number self.old.wait_sets number) ≡ None) }
         // A refusal is for its cause.
         ensures refused { IfErr result
-            (λ code. free_refusal (made self.old.wait_sets number) ≡ Some code) }
+            (λ code. free_refusal (at_number self.old.wait_sets number) ≡ Some code) }
         // A refusal changes nothing.
         ensures err { OnErr result (self.new ≡ self.old) }
     {
@@ -384,11 +384,11 @@ impl Watch {
         // They are those that are attached to it.
         ensures ok { IfOk result (λ conditions. conditions ≡ conditions_of self.now number) }
         // There is such a WaitSet.
-        ensures taken { OnOk result (unless_there (is_some (made self.now.wait_sets number))
+        ensures taken { OnOk result (unless_there (is_some (at_number self.now.wait_sets number))
             ≡ None) }
         // A refusal is for its cause, or for want of memory.
         ensures refused { IfErr result
-            (λ code. Refuses (unless_there (is_some (made self.now.wait_sets number))) code) }
+            (λ code. Refuses (unless_there (is_some (at_number self.now.wait_sets number))) code) }
     {
         let waiting = self.wait_set(number).ok_or(Code::BadParameter)?;
         let conditions = Vec::from_slice(self.alloc, waiting.conditions.conditions())?;
@@ -397,7 +397,7 @@ impl Watch {
 
     /// The WaitSet of this number, if there is one.
     fn wait_set(&self, number: u32) -> Option<&Waiting>
-        ensures { option_copied result ≡ made self.now.wait_sets number }
+        ensures { option_copied result ≡ at_number self.now.wait_sets number }
     {
         if number == 0 {
             return None;
@@ -420,10 +420,10 @@ impl Watch {
         // Somebody waits in it up to the moment, and nothing else changes.
         ensures ok { OnOk result (self.new ≡ with_deadline self.old number (Some deadline)) }
         // There is such a WaitSet, and nobody waited in it.
-        ensures taken { OnOk result (free_refusal (made self.old.wait_sets number) ≡ None) }
+        ensures taken { OnOk result (free_refusal (at_number self.old.wait_sets number) ≡ None) }
         // A refusal is for its cause.
         ensures refused { IfErr result
-            (λ code. free_refusal (made self.old.wait_sets number) ≡ Some code) }
+            (λ code. free_refusal (at_number self.old.wait_sets number) ≡ Some code) }
         // A refusal changes nothing.
         ensures err { OnErr result (self.new ≡ self.old) }
     {
@@ -448,10 +448,10 @@ impl Watch {
         // Nobody waits in it, and nothing else changes.
         ensures ok { OnOk result (self.new ≡ with_deadline self.old number None) }
         // There is such a WaitSet, and somebody waited in it.
-        ensures taken { OnOk result (use_refusal (made self.old.wait_sets number) ≡ None) }
+        ensures taken { OnOk result (use_refusal (at_number self.old.wait_sets number) ≡ None) }
         // A refusal is for its cause.
         ensures refused { IfErr result
-            (λ code. use_refusal (made self.old.wait_sets number) ≡ Some code) }
+            (λ code. use_refusal (at_number self.old.wait_sets number) ≡ Some code) }
         // A refusal changes nothing.
         ensures err { OnErr result (self.new ≡ self.old) }
     {
@@ -476,12 +476,12 @@ impl Watch {
         // The wait is over exactly from this moment on.
         ensures ok { IfOk result
             (λ moment. (now : ℕ)
-            → is_timed_out (made self.now.wait_sets number) now ≡ nat_le moment now) }
+            → is_timed_out (at_number self.now.wait_sets number) now ≡ nat_le moment now) }
         // There is such a WaitSet, and somebody waits in it.
-        ensures taken { OnOk result (use_refusal (made self.now.wait_sets number) ≡ None) }
+        ensures taken { OnOk result (use_refusal (at_number self.now.wait_sets number) ≡ None) }
         // A refusal is for its cause.
         ensures refused { IfErr result
-            (λ code. use_refusal (made self.now.wait_sets number) ≡ Some code) }
+            (λ code. use_refusal (at_number self.now.wait_sets number) ≡ Some code) }
     {
         let waiting = self.wait_set(number).ok_or(Code::BadParameter)?;
         waiting.deadline.ok_or(Code::PreconditionNotMet)

@@ -10,9 +10,10 @@ use Rattle.dds_base.specs.declared.happening.Happening.TheVariants.{Read as HasR
 use Rattle.dds_base.specs.declared.happening.SamplePosition.{SamplePosition}
 use Rattle.dds_base.specs.declared.selection.Scope.{Scope}
 use Rattle.dds_base.specs.declared.selection.Selection.{Selection}
+use Rattle.dds_base.specs.Number.{at_number}
 use Rattle.dds_conditions.specs.declared.condition.Cond.{Cond}
 use Rattle.dds_conditions.specs.Attached.{active_of}
-use Rattle.dds_conditions.specs.Watched.{Watched, conditions_of, is_timed_out, made, use_refusal, with_deadline}
+use Rattle.dds_conditions.specs.Watched.{Watched, conditions_of, is_timed_out, use_refusal, with_deadline}
 use Rattle.dds_model.specs.declared.call.Call.TheVariants as call
 use Rattle.dds_model.specs.declared.event.Event.TheVariants as event
 use Rattle.dds_model.specs.declared.reply.Reply.{Reply}
@@ -77,7 +78,7 @@ some_active trigger (c ∷ cs) is nil =
 
 -- the refusal of the WaitSet, where the part is that of a state that stands
 abbrev used_by : Watched → ℕ → Option Code
-used_by w wait_set = use_refusal (made w.wait_sets wait_set)
+used_by w wait_set = use_refusal (at_number w.wait_sets wait_set)
 
 look_goes_on : (active : List Cond) (timed_out : Bool) (part : Part) (wait_set : ℕ) → active ≡ [] → timed_out ≡ false
     → used_by part.dds.watch wait_set ≡ None
@@ -124,21 +125,21 @@ look_is_refused (c ∷ cs) timed_out part wait_set code some =
 pub waits_on : {tests : Tests} (kept : PeerKept) (config : Config) (peer : Peer) → StandsFor kept config peer
     → (wait_set : ℕ)
     → false ≡ list_any (trigger_value tests peer.part) (conditions_of peer.part.dds.watch wait_set)
-    → is_timed_out (made kept.watch.wait_sets wait_set) kept.moment ≡ false → used_by kept.watch wait_set ≡ None
+    → is_timed_out (at_number kept.watch.wait_sets wait_set) kept.moment ≡ false → used_by kept.watch wait_set ≡ None
     → FollowsBy tests kept config peer (event.Call (call.WaitLook wait_set)) (silent Waiting)
 waits_on {tests} kept config peer s wait_set none early used =
     unchanging_call kept config peer s (call.WaitLook wait_set) Waiting refl
     (look_goes_on _ _ peer.part wait_set
     (none_active (trigger_value tests peer.part) (conditions_of peer.part.dds.watch wait_set) (sym none))
-    (ap (λ (w : Watched). is_timed_out (made w.wait_sets wait_set) peer.part.dds.moment) s.watch
-    ∙ (ap (λ (m : ℕ). is_timed_out (made kept.watch.wait_sets wait_set) m) s.moment ∙ early))
+    (ap (λ (w : Watched). is_timed_out (at_number w.wait_sets wait_set) peer.part.dds.moment) s.watch
+    ∙ (ap (λ (m : ℕ). is_timed_out (at_number kept.watch.wait_sets wait_set) m) s.moment ∙ early))
     (ap (λ (w : Watched). used_by w wait_set) s.watch ∙ used))
 
 -- it ends at its deadline
 pub times_out : {tests : Tests} (kept : PeerKept) (new : Watched) (config : Config) (peer : Peer)
     → StandsFor kept config peer → (wait_set : ℕ)
     → false ≡ list_any (trigger_value tests peer.part) (conditions_of peer.part.dds.watch wait_set)
-    → is_timed_out (made kept.watch.wait_sets wait_set) kept.moment ≡ true → used_by kept.watch wait_set ≡ None
+    → is_timed_out (at_number kept.watch.wait_sets wait_set) kept.moment ≡ true → used_by kept.watch wait_set ≡ None
     → new ≡ with_deadline kept.watch wait_set None
     → FollowsBy tests (record kept { watch = new }) config peer (event.Call (call.WaitLook wait_set))
     (silent (Refused Timeout))
@@ -146,8 +147,8 @@ times_out {tests} kept new config peer s wait_set none late used ended =
     watched_call kept new config peer s (call.WaitLook wait_set) (Refused Timeout) refl
     (look_times_out _ _ peer.part wait_set new
     (none_active (trigger_value tests peer.part) (conditions_of peer.part.dds.watch wait_set) (sym none))
-    (ap (λ (w : Watched). is_timed_out (made w.wait_sets wait_set) peer.part.dds.moment) s.watch
-    ∙ (ap (λ (m : ℕ). is_timed_out (made kept.watch.wait_sets wait_set) m) s.moment ∙ late))
+    (ap (λ (w : Watched). is_timed_out (at_number w.wait_sets wait_set) peer.part.dds.moment) s.watch
+    ∙ (ap (λ (m : ℕ). is_timed_out (at_number kept.watch.wait_sets wait_set) m) s.moment ∙ late))
     (ap (λ (w : Watched). used_by w wait_set) s.watch ∙ used)
     (ended ∙ ap (λ (w : Watched). with_deadline w wait_set None) (sym s.watch)))
 

@@ -9,13 +9,14 @@ use Rattle.dds_base.specs.declared.config.Config.{Config}
 use Rattle.dds_base.specs.declared.entity.Entity.{Entity}
 use Rattle.dds_base.specs.declared.selection.Scope.{Scope}
 use Rattle.dds_base.specs.Selection.{selection_in}
+use Rattle.dds_base.specs.Number.{at_number}
 use Rattle.dds_notices.specs.declared.mask.StatusMask.{StatusMask}
 use Rattle.dds_conditions.specs.declared.condition.Cond.{Cond}
 use Rattle.dds_conditions.specs.declared.condition.Condition.{Condition}
 use Rattle.dds_conditions.specs.declared.condition.Condition.TheVariants.{Guard, Samples}
 use Rattle.std.specs.List.{list_any}
 use Rattle.dds_conditions.specs.Attached.{active_of}
-use Rattle.dds_conditions.specs.Watched.{conditions_of, made}
+use Rattle.dds_conditions.specs.Watched.{conditions_of}
 use Rattle.dds_model.specs.declared.reply.Reply.{Reply}
 use Rattle.dds_model.specs.declared.reply.Reply.TheVariants.{Done, Created, Conditions, Refused}
 use Rattle.dds_model.specs.Peer.{Peer}
@@ -71,7 +72,7 @@ abbrev pub AsksBy : PeerKept → ℕ → Scope → ℕ → Result Asked Code →
 AsksBy kept reader scope condition (Ok asked) =
     Tells kept (λ part. (condition_refusal part reader scope condition ≡ None)
     × (asked.selection ≡ condition_selection part scope condition)
-    × (asked.filter ≡ filter_of (made part.dds.watch.conditions condition)))
+    × (asked.filter ≡ filter_of (at_number part.dds.watch.conditions condition)))
 AsksBy kept reader scope condition (Err code) =
     Tells kept (λ part. condition_refusal part reader scope condition ≡ Some code)
 

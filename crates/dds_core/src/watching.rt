@@ -6,7 +6,8 @@ ghost use Rattle.std.specs.Prelude.{◌≡◌, ◌+◌, true, None, Some, IfOk, 
 ghost use Rattle.dds_base.specs.declared.code.Code.TheVariants.{Memory};
 ghost use Rattle.dds_base.specs.Checked.{is_maximum};
 ghost use Rattle.dds_base.specs.Selection.{max_in};
-ghost use Rattle.dds_conditions.specs.Watched.{filter_refusal, made, use_refusal, with_filter};
+ghost use Rattle.dds_base.specs.Number.{at_number};
+ghost use Rattle.dds_conditions.specs.Watched.{filter_refusal, use_refusal, with_filter};
 ghost use Rattle.dds_model.specs.declared.call.Call.TheVariants as call;
 ghost use Rattle.dds_model.specs.declared.event.Event.TheVariants as event;
 ghost use Rattle.dds_core.specs.Accesses.{condition_call};
@@ -381,7 +382,7 @@ impl Peer {
 
     /// The true conditions of a WaitSet, of which there is one: the wait is over.
     fn end_active<T: Filters>(&mut self, filters: &T, wait_set: u32) -> Output
-        requires used { use_refusal (made self.old.watch.wait_sets wait_set) ≡ None }
+        requires used { use_refusal (at_number self.old.watch.wait_sets wait_set) ≡ None }
         requires active { TellsActive (T.meaning filters.now) self.old wait_set true }
         ensures step { StepsBy (T.meaning filters.now) self.old
             (event.Call (call.WaitLook wait_set)) result self.new }

@@ -21,8 +21,8 @@ use Rattle.dds_base.specs.Liveliness.{after_deaths, alive_count, dead_at, liveli
 use Rattle.dds_base.specs.Refusal.{Refuses}
 use Rattle.dds_base.specs.Selection.{picked_by, selection_refusal}
 use Rattle.dds_base.specs.Statuses.{lost_count, sample_lost_status}
-use Rattle.dds_base.specs.StatusFlags.{turned_at}
 use Rattle.dds_base.specs.Written.{Written, Registered, Changed, Asserted, LookedAt, Ticked, is_key_registered, liveliness_lost_status}
+use Rattle.dds_base.specs.Number.{at_number}
 use Rattle.dds_model.specs.declared.call.Call.{Call}
 use Rattle.dds_model.specs.declared.call.Call.TheVariants.{Register, Write, Dispose, Unregister, AssertLiveliness, Read, Take, GetKeyValue, LookupInstance, GetSampleLost, GetLivelinessChanged, GetLivelinessLost, ReadByCondition, TakeByCondition, CreateReadCondition, CreateQueryCondition, CreateGuardCondition, SetTriggerValue, DeleteCondition, GetTriggerValue, CreateWaitSet, DeleteWaitSet, AttachCondition, DetachCondition, GetConditions, WaitBegin, WaitLook, WaitEnd, SetEnabledStatuses, GetStatusChanges}
 use Rattle.dds_model.specs.declared.reply.Reply.{Reply}
@@ -30,7 +30,7 @@ use Rattle.dds_model.specs.declared.reply.Reply.TheVariants.{Done, Samples, KeyV
 use Rattle.dds_conditions.specs.declared.condition.Cond.{Cond}
 use Rattle.dds_conditions.specs.declared.condition.Condition.TheVariants.{Guard, Samples as OfSamples}
 use Rattle.dds_conditions.specs.Attached.{active_of, is_attached}
-use Rattle.dds_conditions.specs.Watched.{Watched, attach_refusal, conditions_of, detaching_refusal, free_refusal, guard_refusal, is_timed_out, knows, knows_entity, made, number_refusal, unless_there, use_refusal, with_attached, with_condition, with_condition_at, with_deadline, with_detached, with_enabled, with_wait_set, with_wait_set_at, without_condition}
+use Rattle.dds_conditions.specs.Watched.{Watched, attach_refusal, conditions_of, detaching_refusal, free_refusal, guard_refusal, is_timed_out, knows, knows_entity, number_refusal, unless_there, use_refusal, with_attached, with_condition, with_condition_at, with_deadline, with_detached, with_enabled, with_wait_set, with_wait_set_at, without_condition}
 use Rattle.dds_model.specs.Numbered.{has_element, numbered, with_numbered}
 use Rattle.dds_model.specs.Watching.{Test, Tests, condition_refusal, condition_selection, condition_test, query_condition_refusal, read_condition_refusal, status_changes, trigger_value}
 use Rattle.dds_model.specs.Part.{Part, Rtps, Dds, Seen, Reader, Writer, no_writer, own_writer, own_reader, heartbeats_used, history_of, is_behind}
@@ -122,7 +122,7 @@ abbrev pub seen_liveliness : Reader → Seen
 seen_liveliness r = record r.seen {
   alive = alive_count r.qos r.happened;
   not_alive = not_alive_count r.qos r.happened;
-  turned = turned_at r.happened;
+  entries_at_turn = length r.happened;
 }
 
 -- a peer's reader, after one more thing happened there
@@ -199,12 +199,12 @@ IsAnsweredInMemory needs refusal answer after old reply dds =
 -- ends it too, once its deadline has come; before that, the wait goes on.
 abbrev pub AnswersLook : List Cond → Bool → Part → ℕ → Reply → Dds → Type 0
 AnswersLook [] true old wait_set reply dds =
-    IsAnswered (use_refusal (made old.dds.watch.wait_sets wait_set)) (Refused Timeout)
+    IsAnswered (use_refusal (at_number old.dds.watch.wait_sets wait_set)) (Refused Timeout)
     (with_deadline old.dds.watch wait_set None) old reply dds
 AnswersLook [] false old wait_set reply dds =
-    IsAnswered (use_refusal (made old.dds.watch.wait_sets wait_set)) Waiting old.dds.watch old reply dds
+    IsAnswered (use_refusal (at_number old.dds.watch.wait_sets wait_set)) Waiting old.dds.watch old reply dds
 AnswersLook (c ∷ cs) timed_out old wait_set reply dds =
-    IsAnsweredInMemory true (use_refusal (made old.dds.watch.wait_sets wait_set)) (Active (c ∷ cs))
+    IsAnsweredInMemory true (use_refusal (at_number old.dds.watch.wait_sets wait_set)) (Active (c ∷ cs))
     (with_deadline old.dds.watch wait_set None) old reply dds
 
 -- An access by a condition: the first cause refuses it, or it is the access by the condition's masks and test.
@@ -279,10 +279,10 @@ Answers tests old CreateGuardCondition reply dds =
     IsAnsweredInMemory true (number_refusal old.dds.watch.conditions) (Created (length old.dds.watch.conditions + 1))
     (with_condition old.dds.watch (Guard false)) old reply dds
 Answers tests old (SetTriggerValue condition value) reply dds =
-    IsAnswered (guard_refusal (made old.dds.watch.conditions condition)) Done
+    IsAnswered (guard_refusal (at_number old.dds.watch.conditions condition)) Done
     (with_condition_at old.dds.watch condition (Some (Guard value))) old reply dds
 Answers tests old (DeleteCondition condition) reply dds =
-    IsAnswered (unless_there (is_some (made old.dds.watch.conditions condition))) Done
+    IsAnswered (unless_there (is_some (at_number old.dds.watch.conditions condition))) Done
     (without_condition old.dds.watch condition) old reply dds
 Answers tests old (GetTriggerValue condition) reply dds =
     IsAnswered (unless_there (knows old.dds.watch condition))
@@ -291,7 +291,7 @@ Answers tests old CreateWaitSet reply dds =
     IsAnsweredInMemory true (number_refusal old.dds.watch.wait_sets) (Created (length old.dds.watch.wait_sets + 1))
     (with_wait_set old.dds.watch) old reply dds
 Answers tests old (DeleteWaitSet wait_set) reply dds =
-    IsAnswered (free_refusal (made old.dds.watch.wait_sets wait_set)) Done
+    IsAnswered (free_refusal (at_number old.dds.watch.wait_sets wait_set)) Done
     (with_wait_set_at old.dds.watch wait_set None) old reply dds
 Answers tests old (AttachCondition wait_set condition) reply dds =
     IsAnsweredInMemory (not (is_attached condition (conditions_of old.dds.watch wait_set)))
@@ -301,16 +301,16 @@ Answers tests old (DetachCondition wait_set condition) reply dds =
     IsAnswered (detaching_refusal old.dds.watch wait_set condition) Done
     (with_detached old.dds.watch wait_set condition) old reply dds
 Answers tests old (GetConditions wait_set) reply dds =
-    IsAnsweredInMemory true (unless_there (is_some (made old.dds.watch.wait_sets wait_set)))
+    IsAnsweredInMemory true (unless_there (is_some (at_number old.dds.watch.wait_sets wait_set)))
     (Conditions (conditions_of old.dds.watch wait_set)) old.dds.watch old reply dds
 Answers tests old (WaitBegin wait_set deadline) reply dds =
-    IsAnswered (free_refusal (made old.dds.watch.wait_sets wait_set)) Done
+    IsAnswered (free_refusal (at_number old.dds.watch.wait_sets wait_set)) Done
     (with_deadline old.dds.watch wait_set (Some deadline)) old reply dds
 Answers tests old (WaitLook wait_set) reply dds =
     AnswersLook (active_of (trigger_value tests old) (conditions_of old.dds.watch wait_set))
-    (is_timed_out (made old.dds.watch.wait_sets wait_set) old.dds.moment) old wait_set reply dds
+    (is_timed_out (at_number old.dds.watch.wait_sets wait_set) old.dds.moment) old wait_set reply dds
 Answers tests old (WaitEnd wait_set) reply dds =
-    IsAnswered (use_refusal (made old.dds.watch.wait_sets wait_set)) Done
+    IsAnswered (use_refusal (at_number old.dds.watch.wait_sets wait_set)) Done
     (with_deadline old.dds.watch wait_set None) old reply dds
 Answers tests old (SetEnabledStatuses entity mask) reply dds =
     IsAnswered (unless_there (knows_entity old.dds.watch entity)) Done

@@ -15,14 +15,15 @@ use Rattle.dds_base.specs.Access.{has_match, no_filter}
 use Rattle.dds_base.specs.Checked.{is_maximum}
 use Rattle.dds_base.specs.Selection.{max_in, selection_in}
 use Rattle.dds_base.specs.Statuses.{lost_count}
-use Rattle.dds_base.specs.StatusFlags.{data_available_at, turned_at}
+use Rattle.dds_base.specs.StatusFlags.{data_available_at, is_after, turned_at}
 use Rattle.dds_base.specs.Written.{liveliness_lost_status}
+use Rattle.dds_base.specs.Number.{at_number}
 use Rattle.dds_notices.specs.declared.mask.StatusMask.{StatusMask}
 use Rattle.dds_conditions.specs.declared.condition.Cond.{Cond}
 use Rattle.dds_conditions.specs.declared.condition.Cond.TheVariants.{Status, Made}
 use Rattle.dds_conditions.specs.declared.condition.Condition.{Condition}
 use Rattle.dds_conditions.specs.declared.condition.Condition.TheVariants.{Samples, Guard}
-use Rattle.dds_conditions.specs.Watched.{enabled_of, has_filter, knows_entity, made, number_refusal}
+use Rattle.dds_conditions.specs.Watched.{enabled_of, has_filter, knows_entity, number_refusal}
 use Rattle.dds_model.specs.Numbered.{has_element}
 use Rattle.dds_model.specs.Part.{Part, Reader, Writer, own_reader, own_writer}
 
@@ -34,11 +35,11 @@ is_lost_flagged r = nat_lt r.seen.lost (lost_count r.happened)
 
 -- a sample came since the last read or take, and no listener was told of it
 abbrev pub is_data_flagged : Reader → Bool
-is_data_flagged r = nat_lt r.seen.brought (data_available_at r.qos r.happened)
+is_data_flagged r = is_after r.seen.entries_at_data (data_available_at r.qos r.happened)
 
 -- a writer became alive, or not alive, since LIVELINESS_CHANGED was looked at
 abbrev pub is_turn_flagged : Reader → Bool
-is_turn_flagged r = nat_lt r.seen.turned (turned_at r.happened)
+is_turn_flagged r = is_after r.seen.entries_at_turn (turned_at r.happened)
 
 -- the writer's liveliness was lost since LIVELINESS_LOST was looked at
 abbrev pub is_loss_flagged : Writer → Bool
@@ -97,7 +98,7 @@ abbrev pub trigger_value : Tests → Part → Cond → Bool
 trigger_value tests part (Status entity) =
     knows_entity part.dds.watch entity
     && meet (enabled_of part.dds.watch entity (record { 0 = 0 })) (status_changes part entity)
-trigger_value tests part (Made number) = condition_value tests part (made part.dds.watch.conditions number)
+trigger_value tests part (Made number) = condition_value tests part (at_number part.dds.watch.conditions number)
 
 -- ---- accesses by a condition
 
@@ -121,9 +122,9 @@ is_condition_of reader _ = false
 abbrev pub condition_refusal : Part → ℕ → Scope → ℕ → Option Code
 condition_refusal part reader scope condition =
     if not (has_element part.dds.readers reader)
-    || (not (is_some (made part.dds.watch.conditions condition)) || not (is_maximum (max_in scope)))
+    || (not (is_some (at_number part.dds.watch.conditions condition)) || not (is_maximum (max_in scope)))
     then Some BadParameter
-    else (if not (is_condition_of reader (made part.dds.watch.conditions condition)) then Some PreconditionNotMet
+    else (if not (is_condition_of reader (at_number part.dds.watch.conditions condition)) then Some PreconditionNotMet
     else None)
 
 -- the masks of a read condition
@@ -138,8 +139,8 @@ filter_of _ = None
 
 -- what an access by a condition asks for
 abbrev pub condition_selection : Part → Scope → ℕ → Selection
-condition_selection part scope condition = selection_in scope (masks_of (made part.dds.watch.conditions condition))
+condition_selection part scope condition = selection_in scope (masks_of (at_number part.dds.watch.conditions condition))
 
 -- the test that it asks samples to pass
 abbrev pub condition_test : Tests → Part → ℕ → Test
-condition_test tests part condition = test_of tests (filter_of (made part.dds.watch.conditions condition))
+condition_test tests part condition = test_of tests (filter_of (at_number part.dds.watch.conditions condition))

@@ -6,8 +6,8 @@ use Rattle.dds_base.specs.declared.entity.Entity.{Entity}
 use Rattle.dds_base.specs.declared.entity.Entity.TheVariants.{Participant, Writer, Reader}
 use Rattle.dds_notices.specs.declared.notice.Notice.{Notice}
 use Rattle.dds_notices.specs.declared.notice.Status.{Status}
-use Rattle.dds_base.specs.Number.{is_number}
-use Rattle.dds_notices.specs.Listeners.{ByEntity, NobodyTakes, Place, Places, Slot, Slotted, StandsAt, StandsFor, at_entity, at_number, has_entity, is_any, nobody, taker_of, with_entity}
+use Rattle.dds_base.specs.Number.{at_number, is_number}
+use Rattle.dds_notices.specs.Listeners.{ByEntity, NobodyTakes, Place, Places, Slot, Slotted, StandsAt, StandsFor, at_entity, has_entity, is_any, nobody, taker_of, with_entity}
 
 -- there are the same entities afterwards
 pub with_entity-has_entity : {X : Type 0} (all : ByEntity X) (entity other : Entity) (x : Option X)

@@ -10,8 +10,8 @@ use Rattle.dds_notices.specs.declared.notice.Notice.{Notice}
 use Rattle.dds_notices.specs.declared.notice.Status.{Status}
 use Rattle.dds_notices.specs.Notices.{keep_last}
 use Rattle.dds_notices.specs.Slotted.{ToldAt, listener_of}
-use Rattle.dds_base.specs.Number.{is_number}
-use Rattle.dds_notices.specs.Listeners.{HandedBack, Place, Places, Sets, Slot, Slotted, StandsAt, StandsFor, at_entity, at_number, has_entity, is_empty, is_fresh, listener_place, slot_of, taker_of, takes, with_entity, with_notice}
+use Rattle.dds_base.specs.Number.{at_number, is_number}
+use Rattle.dds_notices.specs.Listeners.{HandedBack, Place, Places, Sets, Slot, Slotted, StandsAt, StandsFor, at_entity, has_entity, is_empty, is_fresh, listener_place, slot_of, taker_of, takes, with_entity, with_notice}
 
 -- ---- by number
 

@@ -1,13 +1,13 @@
 -- The listeners of a peer's entities: of which statuses each is told, and what it was told.
 --
 -- DDS 1.4, 2.2.2.1 (Entity, set_listener), 2.2.4.2 (listeners: the one of the entity, or else of what contains it).
-use Rattle.std.specs.Prelude.{◌≡◌, ℕ, ◌-◌, Bool, true, false, ◌==◌, ◌&&◌, ◌||◌, not, nat_lt, nat_le, List, [], ◌∷◌, ◌++◌, length, get_or, set, replicate, Option, None, Some, is_some, if◌then◌else◌}
+use Rattle.std.specs.Prelude.{◌≡◌, ℕ, ◌-◌, Bool, true, false, ◌||◌, not, List, [], ◌∷◌, ◌++◌, length, set, replicate, Option, None, Some, is_some, if◌then◌else◌}
 use Rattle.std.specs.List.{list_any}
 use Rattle.dds_base.specs.declared.code.Code.{Code}
 use Rattle.dds_base.specs.declared.code.Code.TheVariants.{BadParameter, PreconditionNotMet}
 use Rattle.dds_base.specs.declared.entity.Entity.{Entity}
 use Rattle.dds_base.specs.declared.entity.Entity.TheVariants.{Participant, Writer, Reader}
-use Rattle.dds_base.specs.Number.{is_number}
+use Rattle.dds_base.specs.Number.{at_number, is_number}
 use Rattle.dds_notices.specs.declared.mask.StatusMask.{StatusMask}
 use Rattle.dds_notices.specs.declared.notice.Notice.{Notice}
 use Rattle.dds_notices.specs.declared.notice.Status.{Status}
@@ -27,10 +27,6 @@ abbrev pub has_entity : {X : Type 0} → ByEntity X → Entity → Bool
 has_entity all Participant = true
 has_entity all (Writer n) = is_number n (length all.writers)
 has_entity all (Reader n) = is_number n (length all.readers)
-
--- what stands with this number, from 1
-abbrev pub at_number : {X : Type 0} → List (Option X) → ℕ → Option X
-at_number xs n = if n == 0 then None else get_or xs (n - 1) None
 
 -- what stands at an entity
 abbrev pub at_entity : {X : Type 0} → ByEntity X → Entity → Option X

@@ -6,8 +6,8 @@
 ghost use Rattle.std.specs.Prelude.{◌≡◌, ◌-◌, true, Option, set, replicate, length, is_some, None, Some, IfOk, IfErr, OnErr};
 ghost use Rattle.std.specs.List.{list_any};
 ghost use Rattle.std.specs.Option.{option_copied};
-ghost use Rattle.dds_base.specs.Number.{is_number};
-ghost use Rattle.dds_notices.specs.Listeners.{Place, Places, Sets, StandsAt, StandsFor, after_notice, at_entity, at_number, has_entity, is_any, listener_refusal, nobody, taker_of, with_entity, with_notice};
+ghost use Rattle.dds_base.specs.Number.{at_number, is_number};
+ghost use Rattle.dds_notices.specs.Listeners.{Place, Places, Sets, StandsAt, StandsFor, after_notice, at_entity, has_entity, is_any, listener_refusal, nobody, taker_of, with_entity, with_notice};
 ghost use Rattle.dds_notices.specs.Slotted.{ToldAt};
 
 use crate::listener::Listener;

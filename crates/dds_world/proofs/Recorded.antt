@@ -3,8 +3,9 @@ use Rattle.std.proofs.Common.{◌≡◌, ℕ, suc, ◌-◌, ◌==◌, Bool, true
 use Rattle.std.proofs.lemmas.List.{length-map}
 use Rattle.dds_base.specs.declared.entity.Entity.{Entity}
 use Rattle.dds_base.specs.declared.entity.Entity.TheVariants.{Participant, Writer, Reader}
+use Rattle.dds_base.specs.Number.{at_number}
 use Rattle.dds_notices.specs.declared.notice.Notice.{Notice}
-use Rattle.dds_notices.specs.Listeners.{Place, Places, Slot, Slotted, StandsAt, StandsFor as SlotsStandFor, at_entity, at_number}
+use Rattle.dds_notices.specs.Listeners.{Place, Places, Slot, Slotted, StandsAt, StandsFor as SlotsStandFor, at_entity}
 use Rattle.dds_notices.specs.Notices.{Recording}
 use Rattle.dds_model.proofs.Tables.{numbered-map}
 use Rattle.dds_world.specs.Holding.{recorded, recordings}

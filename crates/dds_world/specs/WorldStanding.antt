@@ -1,7 +1,7 @@
 -- What a network stands for, and what its steps and runs promise.
 --
 -- The network is this project's own; its peers behave by RTPS 2.5, 8.4, and their listeners by DDS 1.4, 2.2.4.2.
-use Rattle.std.specs.Prelude.{◌≡◌, ◌≢◌, ◌⊎◌, ℕ, ◌+◌, ◌-◌, ◌^◌, ◌≤◌, min, List, [], ◌∷◌, ◌++◌, length, get_or, slice_get, Some, Contains, AllPairs}
+use Rattle.std.specs.Prelude.{◌≡◌, ◌≢◌, ◌⊎◌, ℕ, suc, ◌+◌, ◌-◌, ◌^◌, ◌≤◌, min, List, [], ◌∷◌, ◌++◌, length, get_or, slice_get, Some, Contains, AllPairs}
 use Rattle.dds_base.specs.declared.config.Config.{Config}
 use Rattle.dds_notices.specs.Listeners.{Places, Slotted, StandsFor as SlotsStandFor}
 use Rattle.dds_notices.specs.Notices.{Recording}
@@ -15,8 +15,7 @@ use Rattle.dds_model.specs.Bounds.{IsBounded}
 use Rattle.dds_model.specs.Fresh.{HasUsedCounts}
 use Rattle.dds_model.specs.Rules.{RuledStep, RuledRun}
 use Rattle.dds_model.specs.Runs.{Traffic, Sends, Run}
-use Rattle.dds_model.specs.Peer.{no_peer}
-use Rattle.dds_model.specs.World.{WorldState, WorldStep, machine_of, Sound}
+use Rattle.dds_model.specs.World.{WorldState, WorldStep, machine_of, peer_at, Sound}
 use Rattle.dds_core.specs.Kept.{PeerKept}
 use Rattle.dds_core.specs.Sending.{AreMessages}
 use Rattle.dds_core.specs.Standing.{StandsFor as CoreStandsFor, IsSound}
@@ -41,12 +40,12 @@ AreTold kept places = SlotsStandFor (λ (r : Recording). r.notices) (λ (r : Rec
 pub record StandsFor (kept : WorldKept) (config : Config) (network : WorldState) : Type 0 where
   pub count : length network.peers ≡ length kept.peers
   pub each : (i : ℕ) (k : PeerKept) → slice_get kept.peers i ≡ Some k
-      → CoreStandsFor k config (get_or network.peers i no_peer)
-  pub known : (i : ℕ) (k : PeerKept) → slice_get kept.peers i ≡ Some k → IsSound config (get_or network.peers i no_peer)
-  pub filters : (i : ℕ) → (get_or network.peers i no_peer).part.dds.watch.filters ≡ get_or kept.filters i 0
+      → CoreStandsFor k config (peer_at network (suc i))
+  pub known : (i : ℕ) (k : PeerKept) → slice_get kept.peers i ≡ Some k → IsSound config (peer_at network (suc i))
+  pub filters : (i : ℕ) → (peer_at network (suc i)).part.dds.watch.filters ≡ get_or kept.filters i 0
   pub listened : length network.peers ≡ length kept.listeners
   pub listeners : (i : ℕ) (k : Slotted Recording) → slice_get kept.listeners i ≡ Some k
-      → AreTold k (get_or network.peers i no_peer).part.dds.listeners
+      → AreTold k (peer_at network (suc i)).part.dds.listeners
   pub sent : network.sent ≡ kept.sent
   pub sound : Sound config network
   pub messages : AreMessages kept.sent

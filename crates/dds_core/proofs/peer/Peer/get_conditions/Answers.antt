@@ -5,7 +5,8 @@ use Rattle.dds_core.specs.Kept.{PeerKept}
 use Rattle.dds_core.specs.Standing.{StandsFor}
 use Rattle.dds_core.proofs.CallSteps.{Follows, follows_as}
 use Rattle.std.specs.Prelude.{is_some}
-use Rattle.dds_conditions.specs.Watched.{conditions_of, made, unless_there}
+use Rattle.dds_base.specs.Number.{at_number}
+use Rattle.dds_conditions.specs.Watched.{conditions_of, unless_there}
 use Rattle.dds_model.specs.declared.reply.Reply.TheVariants.{Conditions}
 use Rattle.dds_core.specs.Watching.{conditions_reply}
 use Rattle.dds_core.proofs.Watched.{given_in_memory, on_err, on_ok}
@@ -18,7 +19,7 @@ returns-clause-step c = λ config peer given.
     c.self.view_is
     (follows_as _ config peer _ _ _ c.answered.ensures
     (given_in_memory (λ cs. Conditions cs) conditions_reply (λ cs. refl) (λ code. refl)
-    (λ w. unless_there (is_some (made w.wait_sets c.args.wait_set)))
+    (λ w. unless_there (is_some (at_number w.wait_sets c.args.wait_set)))
     (λ w. conditions_of w c.args.wait_set)
     (λ w. w) _ _ c.conditions-conditions.result c.reply_to_conditions.result config peer s
     (call.GetConditions c.args.wait_set) (λ dds h. h) refl c.reply_to_conditions.ensures

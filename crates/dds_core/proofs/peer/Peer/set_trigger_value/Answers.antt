@@ -1,9 +1,10 @@
 use Rattle.std.proofs.Common.{Some, refl, sym, subst}
+use Rattle.dds_base.specs.Number.{at_number}
 use Rattle.dds_model.specs.declared.call.Call.TheVariants as call
 use Rattle.dds_core.specs.Kept.{PeerKept}
 use Rattle.dds_core.specs.Standing.{StandsFor}
 use Rattle.dds_core.proofs.CallSteps.{follows_as}
-use Rattle.dds_conditions.specs.Watched.{guard_refusal, made, with_condition_at}
+use Rattle.dds_conditions.specs.Watched.{guard_refusal, with_condition_at}
 use Rattle.dds_conditions.specs.declared.condition.Condition.TheVariants.{Guard}
 use Rattle.dds_core.proofs.Watched.{done_call}
 use Rattle.dds_core.proofs.peer.Peer.set_trigger_value.Goals as goal
@@ -12,7 +13,7 @@ pub returns-clause-step : goal.returns-clause-step
 returns-clause-step c = λ config peer given.
     let s = subst (λ (k : PeerKept). StandsFor k config peer) (sym c.self.view_is) given in
     follows_as _ config peer _ _ _ c.answered.ensures
-    (done_call (λ w. guard_refusal (made w.conditions c.args.condition))
+    (done_call (λ w. guard_refusal (at_number w.conditions c.args.condition))
     (λ w. with_condition_at w c.args.condition (Some (Guard c.args.value))) _
     c.set_guard-done.new.self c.set_guard-done.result c.reply_to.result config peer s
     (call.SetTriggerValue c.args.condition c.args.value) (λ dds h. h) refl c.reply_to.ensures

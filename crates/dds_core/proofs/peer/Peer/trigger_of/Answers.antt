@@ -1,9 +1,10 @@
 use Rattle.std.proofs.Common.{◌≡◌, Bool, true, false, ◌&&◌, Option, refl, sym, ◌∙◌, ap}
+use Rattle.dds_base.specs.Number.{at_number}
 use Rattle.dds_core.specs.Kept.{PeerKept}
 use Rattle.dds_notices.specs.declared.mask.StatusMask.{StatusMask}
 use Rattle.dds_conditions.specs.declared.condition.Cond.{Cond}
 use Rattle.dds_conditions.specs.declared.condition.Condition.{Condition}
-use Rattle.dds_conditions.specs.Watched.{Watched, enabled_of, knows_entity, made}
+use Rattle.dds_conditions.specs.Watched.{Watched, enabled_of, knows_entity}
 use Rattle.dds_model.specs.Watching.{meet, status_changes, trigger_value, condition_value}
 use Rattle.dds_core.proofs.peer.Peer.trigger_of.Goals as goal
 
@@ -48,5 +49,5 @@ returns-in-Made g c = λ config peer given.
     ap (λ (k : PeerKept). k.watch) c.self.view_is ∙ sym given.watch in
     c.value_of.ensures config peer given
     ∙ (ap (λ (x : Option Condition). condition_value tests peer.part x)
-    (c.condition.ensures.made ∙ ap (λ (w : Watched). made w.conditions c.in-Made.number) here)
+    (c.condition.ensures.made ∙ ap (λ (w : Watched). at_number w.conditions c.in-Made.number) here)
     ∙ ap (λ (x : Cond). trigger_value tests peer.part x) (sym c.in-Made.is))
