@@ -39,21 +39,20 @@ came w n k v =
       moment = 0;
     })
 
-abbrev writer_a : MatchedWriter
-writer_a =
+-- a writer of strength 5 without a lease, of this entity id
+abbrev writer_of : ℕ → MatchedWriter
+writer_of n =
     record {
-      guid = record { prefix = record { 0 = 1 ∷ [] }; entity = record { 0 = 2 ∷ [] } };
+      guid = record { prefix = record { 0 = 1 ∷ [] }; entity = record { 0 = n ∷ [] } };
       strength = pos 5;
       lease = None;
     }
 
+abbrev writer_a : MatchedWriter
+writer_a = writer_of 2
+
 abbrev writer_b : MatchedWriter
-writer_b =
-    record {
-      guid = record { prefix = record { 0 = 1 ∷ [] }; entity = record { 0 = 3 ∷ [] } };
-      strength = pos 5;
-      lease = None;
-    }
+writer_b = writer_of 3
 
 abbrev shared : ReaderQos
 shared =

@@ -3,7 +3,7 @@
 --
 -- DDS 1.4, 2.2.2.3 (a Topic is what publications and subscriptions have in common); RTPS 2.5, 8.4 (matched_writers,
 -- matched_readers).
-use Rattle.std.specs.Prelude.{ℕ, ◌+◌, ◌==◌, Bool, cond, List, [], ◌∷◌, ◌++◌}
+use Rattle.std.specs.Prelude.{ℕ, ◌+◌, ◌==◌, Bool, if◌then◌else◌, List, [], ◌∷◌, ◌++◌}
 use Rattle.dds_base.specs.declared.config.PeerConfig.{PeerConfig}
 use Rattle.dds_base.specs.declared.config.WriterConfig.{WriterConfig}
 use Rattle.dds_base.specs.declared.config.ReaderConfig.{ReaderConfig}
@@ -16,8 +16,8 @@ same_topic a b = a == b
 abbrev pub of_ends_in : {E X : Type 0} → (E → ℕ) → (ℕ → E → X) → ℕ → ℕ → List E → List X
 of_ends_in topic_of tell topic number [] = []
 of_ends_in topic_of tell topic number (e ∷ es) =
-    cond (same_topic (topic_of e) topic) (tell number e ∷ of_ends_in topic_of tell topic (number + 1) es)
-    (of_ends_in topic_of tell topic (number + 1) es)
+    if same_topic (topic_of e) topic then tell number e ∷ of_ends_in topic_of tell topic (number + 1) es
+    else of_ends_in topic_of tell topic (number + 1) es
 
 -- the same of each end of the topic at these peers, by its peer's number, its peer and its number there: by peer, then by end
 abbrev pub of_matched_ends : {E X : Type 0} → (PeerConfig → List E) → (E → ℕ) → (ℕ → PeerConfig → ℕ → E → X) → ℕ → ℕ

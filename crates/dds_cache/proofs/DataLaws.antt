@@ -1,5 +1,5 @@
 -- Whether the newest entry has brought a sample, by how many samples are kept before and after it.
-use Rattle.std.proofs.Common.{◌≡◌, ℕ, ◌+◌, ◌≤◌, List, [], ◌∷◌, ◌++◌, length, filter, Bool, true, false, ◌==◌, ◌&&◌, ◌||◌, sym, ap, ◌∙◌, refl, arith}
+use Rattle.std.proofs.Common.{◌≡◌, ℕ, ◌+◌, ◌≤◌, List, [], ◌∷◌, ◌++◌, length, filter, Option, Some, Bool, true, false, ◌==◌, ◌&&◌, ◌||◌, sym, ap, ◌∙◌, refl, arith}
 use Rattle.std.specs.Prelude.{if◌then◌else◌, nat_lt}
 use Rattle.std.specs.List.{list_any, All}
 use Rattle.std.proofs.lemmas.Bool.{lt-ltb, le-ltb, eq-eqb}
@@ -67,13 +67,13 @@ brings-added q e h old new past adds kept present =
         ∙ sym (lt-ltb (length old) (length (old ++ k ∷ ks)) (omega (arith, whole))))))
 
 -- an entry that adds none leaves what was known
-pub none-noted : (n now before : ℕ) → before ≡ (if nat_lt n n then now else before)
+pub none-noted : (n : ℕ) (now before : Option ℕ) → before ≡ (if nat_lt n n then now else before)
 none-noted n now before = sym (ap (λ (b : Bool). if b then now else before) (le-ltb n n (omega arith)))
 
 -- what is known by numbers that are the same
-pub noted-by : (a b c x y z now : ℕ) → a ≡ x → b ≡ y → c ≡ z
-    → (if nat_lt a b then c else now) ≡ (if nat_lt x y then z else now)
+pub noted-by : (a b c x y z : ℕ) (now : Option ℕ) → a ≡ x → b ≡ y → c ≡ z
+    → (if nat_lt a b then Some c else now) ≡ (if nat_lt x y then Some z else now)
 noted-by a b c x y z now first second third =
-    ap (λ (n : ℕ). if nat_lt n b then c else now) first
-    ∙ (ap (λ (n : ℕ). if nat_lt x n then c else now) second
-    ∙ ap (λ (n : ℕ). if nat_lt x y then n else now) third)
+    ap (λ (n : ℕ). if nat_lt n b then Some c else now) first
+    ∙ (ap (λ (n : ℕ). if nat_lt x n then Some c else now) second
+    ∙ ap (λ (n : ℕ). if nat_lt x y then Some n else now) third)

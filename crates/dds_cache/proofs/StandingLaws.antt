@@ -1,5 +1,5 @@
 -- A cache stands for one entry more.
-use Rattle.std.proofs.Common.{◌≡◌, ℕ, ◌+◌, ◌-◌, ◌^◌, min, ◌≤◌, ◌<◌, List, [], ◌∷◌, ◌++◌, length, map, filter, Bool, true, false, ◌&&◌, ◌||◌, sym, ap, ◌∙◌, refl, subst, cond, arith, ⊎_elim, ◌⊎◌, not, get_or}
+use Rattle.std.proofs.Common.{◌≡◌, Option, Some, None, ℕ, ◌+◌, ◌-◌, ◌^◌, min, ◌≤◌, ◌<◌, List, [], ◌∷◌, ◌++◌, length, map, filter, Bool, true, false, ◌&&◌, ◌||◌, sym, ap, ◌∙◌, refl, subst, cond, arith, ⊎_elim, ◌⊎◌, not, get_or}
 use Rattle.std.specs.Prelude.{if◌then◌else◌, nat_lt}
 use Rattle.std.specs.List.{list_any, All}
 use Rattle.std.proofs.lemmas.Bool.{cases_Bool, and_parts}
@@ -50,8 +50,8 @@ counts-more n m is = omega (arith, is)
 -- the samples that an entry leaves are added
 pub stands-added : (q : ReaderQos) (e : Happening) (h : List Happening) (old new : Stored) → old.qos ≡ q → new.qos ≡ q
     → taken_by e ≡ [] → read_by e ≡ [] → new.arrivals ≡ min (arrivals (e ∷ h)) (2 ^ 31 - 1)
-    → data_available_at q (e ∷ h) ≡ (if brings_sample q (e ∷ h) then length h + 1 else data_available_at q h)
-    → new.data_at ≡ (if nat_lt (length old.samples) (length new.samples) then length h + 1 else old.data_at)
+    → data_available_at q (e ∷ h) ≡ (if brings_sample q (e ∷ h) then Some (length h + 1) else data_available_at q h)
+    → new.data_at ≡ (if nat_lt (length old.samples) (length new.samples) then Some (length h + 1) else old.data_at)
     → Stands q new.instances (e ∷ h) → Adds q e h old.samples new.samples → StandsFor old h → StandsFor new (e ∷ h)
 stands-added q e h old new old_qos new_qos taken read counted raised noted instances adds stands =
     let each : All (IsKept q h) old.samples =
@@ -76,8 +76,8 @@ stands-added q e h old new old_qos new_qos taken read counted raised noted insta
     subst (λ (r : ReaderQos). old.data_at ≡ data_available_at r h) old_qos stands.data_is in
     let is : new.data_at ≡ data_available_at q (e ∷ h) =
     noted
-    ∙ (ap (λ (n : ℕ). if nat_lt (length old.samples) (length new.samples) then length h + 1 else n) before
-    ∙ (ap (λ (b : Bool). if b then length h + 1 else data_available_at q h) (sym brings) ∙ sym raised)) in
+    ∙ (ap (λ (n : Option ℕ). if nat_lt (length old.samples) (length new.samples) then Some (length h + 1) else n) before
+    ∙ (ap (λ (b : Bool). if b then Some (length h + 1) else data_available_at q h) (sym brings) ∙ sym raised)) in
     record {
       instances = subst (λ (r : ReaderQos). Stands r new.instances (e ∷ h)) (sym new_qos) instances;
       each = subst (λ (r : ReaderQos). All (IsKept r (e ∷ h)) new.samples) (sym new_qos) all;
@@ -209,7 +209,7 @@ none-later h i j (s ∷ ss) later past =
 
 -- the samples that a read returned are marked
 pub stands-read : (q : ReaderQos) (ss : List SamplePosition) (h : List Happening) (old new : Stored) → old.qos ≡ q
-    → new.qos ≡ q → new.arrivals ≡ old.arrivals → new.data_at ≡ 0
+    → new.qos ≡ q → new.arrivals ≡ old.arrivals → new.data_at ≡ None
     → All (λ (s : SamplePosition). s.position ≤ length h) ss → Stands q new.instances (Read ss ∷ h)
     → new.samples ≡ map (marked ss) old.samples → StandsFor old h → StandsFor new (Read ss ∷ h)
 stands-read q ss h old new old_qos new_qos counted lowered past instances samples stands =
@@ -284,7 +284,7 @@ here-untaken q ss h i k here =
 
 -- the samples that a take returned are gone
 pub stands-took : (q : ReaderQos) (ss : List SamplePosition) (h : List Happening) (old new : Stored) → old.qos ≡ q
-    → new.qos ≡ q → new.arrivals ≡ old.arrivals → new.data_at ≡ 0
+    → new.qos ≡ q → new.arrivals ≡ old.arrivals → new.data_at ≡ None
     → All (λ (s : SamplePosition). s.position ≤ length h) ss → Stands q new.instances (Took ss ∷ h)
     → new.samples ≡ filter (λ k. not (is_among ss k)) old.samples → StandsFor old h → StandsFor new (Took ss ∷ h)
 stands-took q ss h old new old_qos new_qos counted lowered past instances samples stands =
@@ -469,7 +469,7 @@ small-settled Taking = λ ss. All-filter (λ (k : Kept). not (is_among ss k)) Is
 -- a cache stands for one access more, by its kind
 pub stands-entered : (kind : AccessKind) (q : ReaderQos) (ss : List SamplePosition) (h : List Happening)
     (old new : Stored)
-    → old.qos ≡ q → new.qos ≡ q → new.arrivals ≡ old.arrivals → new.data_at ≡ 0
+    → old.qos ≡ q → new.qos ≡ q → new.arrivals ≡ old.arrivals → new.data_at ≡ None
     → All (λ (s : SamplePosition). s.position ≤ length h) ss → Stands q new.instances (entry_of kind ss ∷ h)
     → new.samples ≡ settled kind ss old.samples → StandsFor old h → StandsFor new (entry_of kind ss ∷ h)
 stands-entered Reading = stands-read

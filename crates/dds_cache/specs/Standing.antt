@@ -35,7 +35,7 @@ pub record Stored : Type 0 where
   pub arrivals : ℕ
   pub room : ℕ
   pub deaths : ℕ
-  pub data_at : ℕ
+  pub data_at : Option ℕ
 
 -- the policies and the matched writers that it was opened with
 abbrev pub qos_of : Stored → ReaderQos

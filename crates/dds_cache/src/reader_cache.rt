@@ -2,7 +2,7 @@
 //!
 //! DDS 1.4, 2.2.2.5 (read, take, SampleInfo); RTPS 2.5, 8.2 (HistoryCache of a reader).
 
-ghost use Rattle.std.specs.Prelude.{◌≡◌, ◌==◌, ℕ, ◌+◌, ◌≤◌, ◌∷◌, [], if◌then◌else◌, nat_lt, List, length, All, IsOk, OnOk, OnErr, IfOk, IfErr};
+ghost use Rattle.std.specs.Prelude.{◌≡◌, ◌==◌, ℕ, ◌+◌, ◌≤◌, ◌∷◌, [], if◌then◌else◌, nat_lt, List, Some, length, All, IsOk, OnOk, OnErr, IfOk, IfErr};
 ghost use Rattle.dds_base.specs.declared.happening.Happening.{Happening};
 ghost use Rattle.dds_base.specs.declared.happening.Happening.TheVariants.{Came, Passed, Heard, Died};
 ghost use Rattle.dds_base.specs.declared.code.Code.TheVariants.{Memory, NoData};
@@ -56,8 +56,8 @@ pub struct ReaderCache {
     room: usize,
     /// For how many deaths there is memory, where nothing comes between.
     deaths: usize,
-    /// The position of the newest entry that brought a sample, if no read or take has followed it; 0 for none.
-    data_at: u64,
+    /// The position of the newest entry that brought a sample, if there is one and no read or take has followed it.
+    data_at: Option<u64>,
 }
 
 impl Model for ReaderCache {
@@ -90,7 +90,7 @@ impl ReaderCache {
             sweep_at: next_sweep(0),
             room: 0,
             deaths: 0,
-            data_at: 0,
+            data_at: None,
         }
     }
 
@@ -385,7 +385,7 @@ impl ReaderCache {
         settle(kind, &mut self.samples, &access.returned);
         self.room = self.room.saturating_sub(1);
         self.deaths = 0;
-        self.data_at = 0;
+        self.data_at = None;
         Ok(())
     }
 
@@ -446,11 +446,11 @@ impl ReaderCache {
         self.instances.handle(key)
     }
 
-    /// The position of the newest entry that brought a sample, if no read or take has followed it; 0 for none, where
-    /// DATA_AVAILABLE is not raised. It needs no memory.
+    /// The position of the newest entry that brought a sample, if there is one and no read or take has followed it; where
+    /// there is none, DATA_AVAILABLE is not raised. It needs no memory.
     ///
     /// DDS 1.4, 2.2.4.1 (DATA_AVAILABLE), 2.2.4.2.2 (changes in read communication statuses).
-    pub fn data_at(&self) -> u64
+    pub fn data_at(&self) -> Option<u64>
         // It is so by the definitions: a write that was accepted brings one, and an entry that ends an instance.
         ensures position { (h : List Happening) → StandsFor self.now h
             → result ≡ data_available_at (qos_of self.now) h }
@@ -469,10 +469,14 @@ impl ReaderCache {
 
 /// The position of the newest entry that brought a sample, by what it was before an entry, how many samples were kept
 /// before and after it, and its position.
-fn data_after(data_at: u64, before: usize, after: usize, position: u64) -> u64
-    ensures newest { result ≡ (if nat_lt before after then position else data_at) }
+fn data_after(data_at: Option<u64>, before: usize, after: usize, position: u64) -> Option<u64>
+    ensures newest { result ≡ (if nat_lt before after then Some position else data_at) }
 {
-    if before < after { position } else { data_at }
+    if before < after {
+        Some(position)
+    } else {
+        data_at
+    }
 }
 
 /// The samples of an access, or that there is none.

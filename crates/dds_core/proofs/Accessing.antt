@@ -18,6 +18,7 @@ use Rattle.dds_base.specs.Refusal.{Refuses}
 use Rattle.dds_base.specs.Selection.{picked_by, selection_refusal}
 use Rattle.dds_base.specs.StatusFlags.{turned_at}
 use Rattle.dds_base.specs.Statuses.{lost_count}
+use Rattle.dds_base.specs.Number.{at_number}
 use Rattle.dds_cache.specs.declared.access_kind.AccessKind.{AccessKind}
 use Rattle.dds_cache.specs.declared.access_kind.AccessKind.TheVariants.{Read as Reading, Take as Taking}
 use Rattle.dds_cache.specs.Standing.{Stored, qos_of, StandsFor as CacheStandsFor, entry_of, AccessAnswers, AfterAccess, picked, refusal}
@@ -26,9 +27,9 @@ use Rattle.dds_model.specs.declared.event.Event.TheVariants as event
 use Rattle.dds_model.specs.declared.event.Output.{Output}
 use Rattle.dds_model.specs.declared.reply.Reply.{Reply}
 use Rattle.dds_model.specs.declared.reply.Reply.TheVariants.{Samples, Refused}
-use Rattle.dds_model.specs.Calls.{Answers as CallAnswers, AnswersAccess, AnswersByCondition, CallStep, Effect, nothing, effect, effect_of, access_refusal, picked_at, with_happening}
+use Rattle.dds_model.specs.Calls.{access_refusal, Answers as CallAnswers, AnswersAccess, AnswersByCondition, CallStep, Effect, nothing, effect, effect_of, picked_at, with_happening}
 use Rattle.dds_model.specs.Numbered.{has_element}
-use Rattle.dds_conditions.specs.Watched.{made, no_filters}
+use Rattle.dds_conditions.specs.Watched.{no_filters}
 use Rattle.dds_model.specs.Part.{Part, Dds, Reader, WriterProxy, own_reader, own_proxies, Seen}
 use Rattle.dds_model.specs.Peer.{Peer}
 use Rattle.dds_model.specs.Watching.{Test, Tests, condition_refusal, condition_selection, filter_of, test_of}
@@ -98,7 +99,7 @@ abbrev IsAsked : Part → ℕ → Scope → ℕ → Asked → Type 0
 IsAsked part reader scope condition asked =
     (condition_refusal part reader scope condition ≡ None)
     × (asked.selection ≡ condition_selection part scope condition)
-    × (asked.filter ≡ filter_of (made part.dds.watch.conditions condition))
+    × (asked.filter ≡ filter_of (at_number part.dds.watch.conditions condition))
 
 pub is_access_by : (kind : AccessKind) (tests : Tests) (part : Part) (reader : ℕ) (scope : Scope) (condition : ℕ)
     (asked : Asked)
@@ -185,7 +186,7 @@ kept_same k k' same cache =
     (store_as k'.store.lost k.store.lost k'.store.turned k.store.turned k'.store.leases k.store.leases k'.store.cache
     k.store.cache same.lost same.turned same.leases cache) same.seen
   where
-    store_as : (i j t u : ℕ) (l m : Leased) (c d : Stored) → i ≡ j → t ≡ u → l ≡ m → c ≡ d
+    store_as : (i j : ℕ) (t u : Option ℕ) (l m : Leased) (c d : Stored) → i ≡ j → t ≡ u → l ≡ m → c ≡ d
         → ◌≡◌ {A = StoreKept} (record { lost = i; turned = t; leases = l; cache = c })
         (record { lost = j; turned = u; leases = m; cache = d })
     store_as i j t u l m c d e f g h = cc

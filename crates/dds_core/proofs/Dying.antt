@@ -78,16 +78,16 @@ overdue_alive None since now is = absurd cc
 -- and turns by its death
 turned_by_death : (q : ReaderQos) (now after w : ℕ) (h : List Happening)
     → Some w ≡ find (λ v. nat_lt after v) (dead_at q now h)
-    → length (Died w now ∷ h) ≡ turned_at (Died w now ∷ h)
+    → Some (length (Died w now ∷ h)) ≡ turned_at (Died w now ∷ h)
 turned_by_death q now after w h first =
     turns (list_any (is_death_of w) h) (is_alive w h)
     (overdue_alive (lease_of (writer_of q.writers w)) (alive_since w h) now
     (found_in (is_overdue q now h) (λ v. nat_lt after v) w (publication_handles q) first))
   where
-    turns : (died alive : Bool) → alive ≡ true → suc (length h)
-        ≡ (if not (died && not alive) then length h + 1 else turned_at h)
-    turns true true is = omega arith
-    turns false true is = omega arith
+    turns : (died alive : Bool) → alive ≡ true
+        → Some (suc (length h)) ≡ (if not (died && not alive) then Some (length h + 1) else turned_at h)
+    turns true true is = ap Some (omega arith)
+    turns false true is = ap Some (omega arith)
     turns died false is = absurd cc
 
 -- one more has
@@ -95,7 +95,7 @@ pub next_died : (q : ReaderQos) (now after w : ℕ) (store new : StoreKept) (end
     → (l : LeadsTo q now after store end) → LeasesStandFor new.leases q (Died w now ∷ l.happened)
     → after_deaths_above q now after l.happened ≡ after_deaths_above q now w (Died w now ∷ l.happened)
     → CacheStandsFor new.cache (Died w now ∷ l.happened) → qos_of new.cache ≡ q → new.lost ≡ store.lost
-    → Some w ≡ find (λ v. nat_lt after v) (dead_at q now l.happened) → new.turned ≡ length (Died w now ∷ l.happened)
+    → Some w ≡ find (λ v. nat_lt after v) (dead_at q now l.happened) → new.turned ≡ Some (length (Died w now ∷ l.happened))
     → LeadsTo q now w new end
 next_died q now after w store new end l leases turn cache same lost first turned = record {
   happened = Died w now ∷ l.happened;

@@ -7,14 +7,13 @@ use Rattle.dds_base.specs.declared.qos.ReaderQos.{ReaderQos}
 use Rattle.dds_base.specs.declared.status.LivelinessChangedStatus.{LivelinessChangedStatus}
 use Rattle.dds_base.specs.declared.status.SampleLostStatus.{SampleLostStatus}
 use Rattle.dds_base.specs.Liveliness.{alive_count, not_alive_count, liveliness_changed_status}
-use Rattle.dds_base.specs.StatusFlags.{turned_at}
 use Rattle.dds_base.specs.Statuses.{lost_count, sample_lost_status}
 use Rattle.dds_model.specs.declared.call.Call.{Call}
 use Rattle.dds_model.specs.declared.call.Call.TheVariants as call
 use Rattle.dds_model.specs.declared.event.Event.TheVariants as event
 use Rattle.dds_model.specs.declared.reply.Reply.{Reply}
 use Rattle.dds_model.specs.declared.reply.Reply.TheVariants.{SampleLost, LivelinessChanged}
-use Rattle.dds_model.specs.Calls.{Answers, look_refusal, after_look, effect, effect_of, nothing, seen_lost, seen_liveliness}
+use Rattle.dds_model.specs.Calls.{look_refusal, Answers, after_look, effect, effect_of, nothing, seen_lost, seen_liveliness}
 use Rattle.dds_conditions.specs.Watched.{no_filters}
 use Rattle.dds_model.specs.Part.{Reader, Seen, own_reader}
 use Rattle.dds_model.specs.Peer.{Peer}
@@ -107,13 +106,12 @@ looked_at_liveliness kept reader i k k' status seen config peer s is lt at tells
     ∙ ap (λ (x : Seen). liveliness_changed_status r.qos r.happened x.alive x.not_alive) (sym rs.seen_is)) in
     let same : seen ≡ seen_liveliness r =
     told.1 ∙ (ap (λ (q : ReaderQos). record k.seen
-    { alive = alive_count q r.happened; not_alive = not_alive_count q r.happened; turned = turned_at r.happened })
+    { alive = alive_count q r.happened; not_alive = not_alive_count q r.happened; entries_at_turn = length r.happened })
     (sym rs.qos_is)
     ∙ ap (λ (x : Seen). record x {
       alive = alive_count r.qos r.happened;
       not_alive = not_alive_count r.qos r.happened;
-      turned = turned_at
-          r.happened;
+      entries_at_turn = length r.happened;
     }) (sym rs.seen_is)) in
     let look : Follows (with_reader kept i (record k { seen = seen_liveliness r })) config peer
     (event.Call (call.GetLivelinessChanged (suc i))) (silent (LivelinessChanged status)) =

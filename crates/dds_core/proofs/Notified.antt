@@ -14,7 +14,6 @@ use Rattle.dds_base.specs.declared.status.LivelinessLostStatus.{LivelinessLostSt
 use Rattle.dds_base.specs.declared.status.SampleLostStatus.{SampleLostStatus}
 use Rattle.dds_base.specs.Liveliness.{alive_count, not_alive_count}
 use Rattle.dds_base.specs.Statuses.{lost_count}
-use Rattle.dds_base.specs.StatusFlags.{data_available_at, turned_at}
 use Rattle.dds_base.specs.Written.{LookedAt, liveliness_lost_status}
 use Rattle.dds_cache.specs.Standing.{qos_of}
 use Rattle.dds_notices.specs.declared.notice.Notice.{Notice}
@@ -348,15 +347,14 @@ sees_lost k k' status x v is tells after =
     ∙ ap (λ (y : Seen). record y { lost = lost_count r.happened }) (sym seen)))
 
 pub sees_data : (k k' : ReaderKept) (status : Status) (at : ℕ) → status ≡ DataAvailable
-    → ((h : List Happening) → Holds k.store h → at ≡ data_available_at (qos_of k.store.cache) h)
-    → k' ≡ record k { seen = record k.seen { brought = at } } → SeesStatus k status k'
+    → ((h : List Happening) → Holds k.store h → at ≡ length h)
+    → k' ≡ record k { seen = record k.seen { entries_at_data = at } } → SeesStatus k status k'
 sees_data k k' status at is tells after =
     subst (λ (y : Status). SeesStatus k y k') (sym is)
-    (sees_so k k' DataAvailable (record k.seen { brought = at }) after
+    (sees_so k k' DataAvailable (record k.seen { entries_at_data = at }) after
     (λ r holds qos seen.
-    ap (λ (n : ℕ). record k.seen { brought = n }) (tells r.happened holds)
-    ∙ (ap (λ (q : ReaderQos). record k.seen { brought = data_available_at q r.happened }) (sym qos)
-    ∙ ap (λ (y : Seen). record y { brought = data_available_at r.qos r.happened }) (sym seen))))
+    ap (λ (n : ℕ). record k.seen { entries_at_data = n }) (tells r.happened holds)
+    ∙ ap (λ (y : Seen). record y { entries_at_data = length r.happened }) (sym seen)))
 
 pub sees_turn : (k k' : ReaderKept) (status : Status) (x v : LivelinessChangedStatus) (now : Seen)
     → status ≡ LivelinessChanged x → TellsLiveliness k v now
@@ -367,11 +365,10 @@ sees_turn k k' status x v now is tells after =
     (λ r holds qos seen.
     (tells r.happened holds).1
     ∙ (ap (λ (q : ReaderQos). record k.seen
-    { alive = alive_count q r.happened; not_alive = not_alive_count q r.happened; turned = turned_at r.happened })
+    { alive = alive_count q r.happened; not_alive = not_alive_count q r.happened; entries_at_turn = length r.happened })
     (sym qos)
     ∙ ap (λ (y : Seen). record y {
       alive = alive_count r.qos r.happened;
       not_alive = not_alive_count r.qos r.happened;
-      turned = turned_at
-          r.happened;
+      entries_at_turn = length r.happened;
     }) (sym seen))))

@@ -2,7 +2,7 @@
 -- reader knows its writers.
 --
 -- RTPS 2.5, 8.4.7 (ReaderProxy), 8.4.10 (WriterProxy).
-use Rattle.std.specs.Prelude.{ℕ, ◌+◌, Bool, cond, List, [], ◌∷◌}
+use Rattle.std.specs.Prelude.{ℕ, ◌+◌, Bool, if◌then◌else◌, List, [], ◌∷◌}
 use Rattle.std.specs.List.{list_any}
 use Rattle.dds_base.specs.declared.config.PeerConfig.{PeerConfig}
 use Rattle.dds_base.specs.declared.config.ReaderConfig.{ReaderConfig}
@@ -21,8 +21,9 @@ has_reader topic rs = list_any (λ (r : ReaderConfig). same_topic r.topic topic)
 abbrev pub destinations : ℕ → ℕ → List PeerConfig → List Destination
 destinations topic peer [] = []
 destinations topic peer (p ∷ ps) =
-    cond (has_reader topic p.readers) (record { peer = peer; prefix = p.prefix } ∷ destinations topic (peer + 1) ps)
-    (destinations topic (peer + 1) ps)
+    if has_reader topic p.readers
+    then (record { peer = peer; prefix = p.prefix }) ∷ destinations topic (peer + 1) ps
+    else destinations topic (peer + 1) ps
 
 -- the name of a reader
 abbrev pub reader_name : ℕ → PeerConfig → ℕ → ReaderConfig → ReaderName

@@ -19,7 +19,6 @@ use Rattle.dds_base.specs.Access.{has_match}
 use Rattle.dds_base.specs.Kept.{numbers_from}
 use Rattle.dds_base.specs.Places.{Match}
 use Rattle.dds_base.specs.Liveliness.{alive_count, not_alive_count, liveliness_changed_status}
-use Rattle.dds_base.specs.StatusFlags.{turned_at}
 use Rattle.dds_base.specs.Statuses.{sample_lost_status}
 use Rattle.dds_cache.specs.Standing.{qos_of, room_of}
 use Rattle.rtps_reader.specs.declared.step.Step.{Step}
@@ -396,7 +395,7 @@ TellsLiveliness kept status seen = (h : List Happening) → Holds kept.store h
     × (seen ≡ record kept.seen {
       alive = alive_count (qos_of kept.store.cache) h;
       not_alive = not_alive_count (qos_of kept.store.cache) h;
-      turned = turned_at h;
+      entries_at_turn = length h;
     })
 
 -- whether the statuses of a reader are flagged, as it is kept

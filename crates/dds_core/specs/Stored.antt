@@ -3,7 +3,7 @@
 --
 -- RTPS 2.5, 8.2 (HistoryCache of a reader); DDS 1.4, 2.2.3 (LIVELINESS), 2.2.4.1 (SAMPLE_LOST,
 -- LIVELINESS_CHANGED).
-use Rattle.std.specs.Prelude.{◌≡◌, ℕ, ◌+◌, ◌-◌, ◌^◌, min, List}
+use Rattle.std.specs.Prelude.{◌≡◌, ℕ, ◌+◌, ◌-◌, ◌^◌, min, List, Option}
 use Rattle.dds_base.specs.declared.happening.Happening.{Happening}
 use Rattle.dds_base.specs.Statuses.{lost_count}
 use Rattle.dds_base.specs.StatusFlags.{turned_at}
@@ -11,10 +11,10 @@ use Rattle.dds_cache.specs.Standing.{Stored, StandsFor as CacheStandsFor, qos_of
 use Rattle.dds_lease.specs.Standing.{Kept as Leased, StandsFor as LeasesStandFor}
 
 -- how many changes were passed over, up to a bound, the position of the newest entry that changed how many writers are alive
--- or not alive, the leases of the matched writers, and the cache
+-- or not alive, if there is one, the leases of the matched writers, and the cache
 pub record StoreKept : Type 0 where
   pub lost : ℕ
-  pub turned : ℕ
+  pub turned : Option ℕ
   pub leases : Leased
   pub cache : Stored
 

@@ -6,7 +6,6 @@ ghost use Rattle.std.specs.Prelude.{◌≡◌, ◌↔◌, ◌<◌, ◌≤◌, �
 ghost use Rattle.dds_base.specs.Access.{instance_of, handle_of};
 ghost use Rattle.dds_base.specs.Checked.{check_refusal};
 ghost use Rattle.dds_base.specs.Liveliness.{liveliness_changed_status};
-ghost use Rattle.dds_base.specs.StatusFlags.{data_available_at};
 ghost use Rattle.dds_base.specs.declared.code.Code.TheVariants.{Memory};
 ghost use Rattle.dds_base.specs.declared.happening.Happening.{Happening};
 ghost use Rattle.rtps_wire.specs.declared.submessage.Submessage.TheVariants as submessage;
@@ -16,7 +15,7 @@ ghost use Rattle.dds_core.specs.Expiring.{Expires, HasRoomForDeaths, IsDeadly};
 ghost use Rattle.dds_core.specs.Kept.{reader_identity};
 ghost use Rattle.dds_core.specs.Noticing.{MarksReader, RaisesSo, SeesStatus};
 ghost use Rattle.dds_core.specs.Opening.{OpensReader};
-ghost use Rattle.dds_core.specs.Receiving.{receiver_at, IsFirstName, IsNamedFor, NamedBy, NamesNobody, IsToldBy, HasMemory, IsReadyFor, IsAlike, CanTake, TakesTold, SameReader, TakesOnly, TellsFlags, TellsLost, TellsLiveliness, TellsMatch, IsPlaceAt};
+ghost use Rattle.dds_core.specs.Receiving.{receiver_at, IsFirstName, IsNamedFor, NamedBy, NamesNobody, IsToldBy, HasMemory, IsReadyFor, IsAlike, CanTake, TakesTold, SameReader, IsPlaceAt, TakesOnly, TellsFlags, TellsLost, TellsLiveliness, TellsMatch};
 ghost use Rattle.dds_core.specs.Stored.{Holds};
 ghost use Rattle.dds_cache.specs.Standing.{qos_of, AccessAnswers, AfterAccess};
 ghost use Rattle.dds_model.specs.Claims.{is_for, Names};
@@ -26,7 +25,7 @@ use crate::limits::limit_of;
 use crate::marks::ReaderMark;
 use crate::matching::{MatchedWriters, WriterName, matched_writers};
 use crate::receiver::{MessageReceiver, is_for};
-use crate::seen::Seen;
+use crate::seen::{Seen, is_after};
 use crate::status_bits::{DATA_AVAILABLE, LIVELINESS_CHANGED, SAMPLE_LOST, bit_if};
 use crate::store::Store;
 use bitflags::Flags;
@@ -491,7 +490,7 @@ impl ReaderEnd {
         let leases = self.store.leases();
         self.seen.alive = leases.alive_count() as u16;
         self.seen.not_alive = leases.not_alive_count() as u16;
-        self.seen.turned = self.store.turned();
+        self.seen.entries_at_turn = self.store.happened();
         status
     }
 
@@ -524,7 +523,7 @@ impl ReaderEnd {
     pub fn data_raised(&self, mark: &ReaderMark) -> Option<Status>
         ensures { RaisesSo data_raised self.now mark.now result }
     {
-        if mark.happened < self.store.data_at() {
+        if is_after(mark.happened, self.store.data_at()) {
             Some(Status::DataAvailable)
         } else {
             None
@@ -537,7 +536,7 @@ impl ReaderEnd {
     pub fn turn_raised(&self, mark: &ReaderMark) -> Option<Status>
         ensures { RaisesSo turn_raised self.now mark.now result }
     {
-        if mark.happened < self.store.turned() {
+        if is_after(mark.happened, self.store.turned()) {
             Some(Status::LivelinessChanged(self.liveliness_changed()))
         } else {
             None
@@ -549,11 +548,13 @@ impl ReaderEnd {
     /// DDS 1.4, 2.2.4.2.2 (changes in read communication statuses).
     fn see_data(&mut self)
         ensures seen { self.new
-            ≡ record self.old { seen = record self.old.seen { brought = self.new.seen.brought } } }
+            ≡ record self.old {
+              seen = record self.old.seen { entries_at_data = self.new.seen.entries_at_data };
+            } }
         ensures at { (h : List Happening) → Holds self.old.store h
-            → self.new.seen.brought ≡ data_available_at (qos_of self.old.store.cache) h }
+            → self.new.seen.entries_at_data ≡ length h }
     {
-        self.seen.brought = self.store.data_at();
+        self.seen.entries_at_data = self.store.happened();
     }
 
     /// The status was looked at: it is no longer flagged, and its changes count from now on.
@@ -582,9 +583,11 @@ impl ReaderEnd {
         ensures { TellsFlags self.now result }
     {
         let lost = bit_if(self.seen.lost < self.store.lost(), SAMPLE_LOST);
-        let data = bit_if(self.seen.brought < self.store.data_at(), DATA_AVAILABLE);
-        let turned = bit_if(self.seen.turned < self.store.turned(), LIVELINESS_CHANGED);
-        StatusMask::from_bits_retain(lost + (data + turned))
+        let came = is_after(self.seen.entries_at_data, self.store.data_at());
+        let turned = is_after(self.seen.entries_at_turn, self.store.turned());
+        StatusMask::from_bits_retain(
+            lost + (bit_if(came, DATA_AVAILABLE) + bit_if(turned, LIVELINESS_CHANGED)),
+        )
     }
 
     /// Whether some present sample meets the masks and passes the test.

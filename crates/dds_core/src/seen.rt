@@ -2,18 +2,24 @@
 //!
 //! DDS 1.4, 2.2.4.1 (communication statuses: each tells its change against the last look).
 
+ghost use Rattle.std.specs.Prelude.{◌≡◌};
+ghost use Rattle.dds_base.specs.StatusFlags.{is_after};
+
 use std::marker::Model;
 
-/// What a reader's statuses said when each was looked at last, by a call or as a listener was told: the total of
-/// SAMPLE_LOST; by DATA_AVAILABLE where the newest entry stood that had brought a sample; and by LIVELINESS_CHANGED how many
-/// matched writers were alive and not alive, at most 256 each, and where the newest entry stood that had changed that.
+/// What a reader's statuses said when each was looked at last, by a call or as a listener was told.
 #[derive(Clone, Copy)]
 pub struct Seen {
+    /// The total of SAMPLE_LOST.
     pub lost: u64,
-    pub brought: u64,
+    /// How many entries there were as DATA_AVAILABLE was looked at.
+    pub entries_at_data: u64,
+    /// How many matched writers were alive as LIVELINESS_CHANGED was looked at: at most 256.
     pub alive: u16,
+    /// How many had died and were not alive then: at most 256.
     pub not_alive: u16,
-    pub turned: u64,
+    /// How many entries there were then.
+    pub entries_at_turn: u64,
 }
 
 impl Model for Seen {
@@ -21,18 +27,28 @@ impl Model for Seen {
 
     ghost Value = { SeenOf };
 
-    ghost view = { λ s. record { lost = s.lost; brought = s.brought; alive = s.alive; not_alive = s.not_alive; turned = s.turned } };
+    ghost view = { λ s. record { lost = s.lost; entries_at_data = s.entries_at_data; alive = s.alive; not_alive = s.not_alive; entries_at_turn = s.entries_at_turn } };
 
-    ghost inverse = { λ s. record { lost = s.lost; brought = s.brought; alive = s.alive; not_alive = s.not_alive; turned = s.turned } };
+    ghost inverse = { λ s. record { lost = s.lost; entries_at_data = s.entries_at_data; alive = s.alive; not_alive = s.not_alive; entries_at_turn = s.entries_at_turn } };
 }
 
 impl Seen {
     /// Before the first looks.
     pub const NOTHING: Seen = Seen {
         lost: 0,
-        brought: 0,
+        entries_at_data: 0,
         alive: 0,
         not_alive: 0,
-        turned: 0,
+        entries_at_turn: 0,
     };
+}
+
+/// Whether there is an entry of this kind, by the position of the newest, and it came after so many entries.
+pub fn is_after(entries: u64, position: Option<u64>) -> bool
+    ensures { result ≡ is_after entries position }
+{
+    match position {
+        Some(position) => entries < position,
+        None => false,
+    }
 }

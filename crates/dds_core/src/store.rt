@@ -2,7 +2,7 @@
 //!
 //! RTPS 2.5, 8.2 (HistoryCache of a reader); DDS 1.4, 2.2.3 (RESOURCE_LIMITS, LIVELINESS).
 
-ghost use Rattle.std.specs.Prelude.{◌≡◌, ◌≤◌, ℕ, List, [], if◌then◌else◌, IfOk, IfErr, OnOk, length};
+ghost use Rattle.std.specs.Prelude.{◌≡◌, ◌≤◌, ℕ, List, [], Some, if◌then◌else◌, IfOk, IfErr, OnOk, length};
 ghost use Rattle.dds_base.specs.declared.code.Code.TheVariants.{Memory};
 ghost use Rattle.dds_base.specs.declared.happening.Happening.{Happening};
 ghost use Rattle.dds_base.specs.Access.{handle_of, has_match, instance_of};
@@ -28,8 +28,8 @@ use std::marker::Model;
 pub struct Store {
     /// At most 2^64 - 1, where it stays.
     lost: u64,
-    /// The position of the newest entry that changed how many writers are alive, or not alive; 0 for none.
-    turned: u64,
+    /// The position of the newest entry that changed how many writers are alive, or not alive, if there is one.
+    turned: Option<u64>,
     leases: Leases,
     cache: ReaderCache,
 }
@@ -57,7 +57,7 @@ impl Store {
         let leases = Leases::open(alloc, &qos)?;
         Ok(Store {
             lost: 0,
-            turned: 0,
+            turned: None,
             leases,
             cache: ReaderCache::open(alloc, qos),
         })
@@ -79,13 +79,13 @@ impl Store {
     /// The newest entry changed how many writers are alive, or not alive, if so.
     fn turn_if(&mut self, turns: bool)
         ensures turned { (h : List Happening) → CacheStandsFor self.old.cache h
-            → self.new.turned ≡ (if turns then length h else self.old.turned) }
+            → self.new.turned ≡ (if turns then Some (length h) else self.old.turned) }
         ensures lost { self.new.lost ≡ self.old.lost }
         ensures leases { self.new.leases ≡ self.old.leases }
         ensures cache { self.new.cache ≡ self.old.cache }
     {
         if turns {
-            self.turned = self.cache.happened();
+            self.turned = Some(self.cache.happened());
         }
     }
 
@@ -99,20 +99,20 @@ impl Store {
         self.lost
     }
 
-    /// The position of the newest entry that changed how many writers are alive, or not alive; 0 for none.
+    /// The position of the newest entry that changed how many writers are alive, or not alive, if there is one.
     ///
     /// DDS 1.4, 2.2.4.1 (LIVELINESS_CHANGED).
-    pub fn turned(&self) -> u64
+    pub fn turned(&self) -> Option<u64>
         ensures turned { result ≡ self.now.turned }
         ensures at { (h : List Happening) → Holds self.now h → result ≡ turned_at h }
     {
         self.turned
     }
 
-    /// The position of the newest entry that brought a sample, if no read or take has followed it; 0 for none.
+    /// The position of the newest entry that brought a sample, if there is one and no read or take has followed it.
     ///
     /// DDS 1.4, 2.2.4.1 (DATA_AVAILABLE).
-    pub fn data_at(&self) -> u64
+    pub fn data_at(&self) -> Option<u64>
         ensures { (h : List Happening) → Holds self.now h
             → result ≡ data_available_at (qos_of self.now.cache) h }
     {
@@ -176,7 +176,7 @@ impl Store {
         let mut after = Handle::NIL;
         while let Some(writer) = self.leases.expire(after, now) {
             self.cache.died(writer, now).unwrap();
-            self.turned = self.cache.happened();
+            self.turned = Some(self.cache.happened());
             after = writer;
         }
     }

@@ -9,7 +9,7 @@ use Rattle.dds_base.specs.declared.happening.Happening.TheVariants.{Came, Died, 
 use Rattle.dds_base.specs.declared.qos.ReaderQos.{ReaderQos}
 use Rattle.dds_base.specs.Liveliness.{liveliness_changed_status, turns_alive}
 use Rattle.dds_base.specs.Statuses.{lost_count, sample_lost_status}
-use Rattle.dds_base.specs.StatusFlags.{brings_sample, data_available_at, turned_at}
+use Rattle.dds_base.specs.StatusFlags.{brings_sample, data_available_at, is_after, turned_at}
 use Rattle.dds_base.specs.Written.{liveliness_lost_status}
 use Rattle.dds_notices.specs.declared.notice.Status.{Status}
 use Rattle.dds_notices.specs.declared.notice.Status.TheVariants.{SampleLost, DataAvailable, LivelinessLost, LivelinessChanged}
@@ -114,46 +114,53 @@ end_untold before part nobody =
 
 -- ---- where nothing happened
 
-in_bounds : (b : Bool) (x n : ℕ) → x ≤ n → (if b then n + 1 else x) ≤ suc n
-in_bounds true x n low = omega arith
-in_bounds false x n low = omega (arith, low)
+-- no entry of a history comes after all of its entries
+earlier : (n : ℕ) (position : Option ℕ) → is_after n position ≡ false → is_after (suc n) position ≡ false
+earlier n None not = refl
+earlier n (Some position) not = grind (arith, nat_tests, not)
 
-data_within : (q : ReaderQos) (h : List Happening) → data_available_at q h ≤ length h
-data_within q [] = omega arith
-data_within q (Read samples ∷ h) = omega arith
-data_within q (Took samples ∷ h) = omega arith
+none_after : (b : Bool) (position : Option ℕ) (n : ℕ) → is_after n position ≡ false
+    → is_after (suc n) (if b then Some (n + 1) else position) ≡ false
+none_after true position n not = grind (arith, nat_tests)
+none_after false position n not = earlier n position not
+
+data_within : (q : ReaderQos) (h : List Happening) → is_after (length h) (data_available_at q h) ≡ false
+data_within q [] = refl
+data_within q (Read samples ∷ h) = refl
+data_within q (Took samples ∷ h) = refl
 data_within q (Came a ∷ h) =
-    in_bounds (brings_sample q (Came a ∷ h)) (data_available_at q h) (length h) (data_within q h)
+    none_after (brings_sample q (Came a ∷ h)) (data_available_at q h) (length h) (data_within q h)
 data_within q (Passed w first last ∷ h) =
-    in_bounds (brings_sample q (Passed w first last ∷ h)) (data_available_at q h) (length h) (data_within q h)
+    none_after (brings_sample q (Passed w first last ∷ h)) (data_available_at q h) (length h) (data_within q h)
 data_within q (Heard w moment ∷ h) =
-    in_bounds (brings_sample q (Heard w moment ∷ h)) (data_available_at q h) (length h) (data_within q h)
+    none_after (brings_sample q (Heard w moment ∷ h)) (data_available_at q h) (length h) (data_within q h)
 data_within q (Died w moment ∷ h) =
-    in_bounds (brings_sample q (Died w moment ∷ h)) (data_available_at q h) (length h) (data_within q h)
+    none_after (brings_sample q (Died w moment ∷ h)) (data_available_at q h) (length h) (data_within q h)
 data_within q (Looked status ∷ h) =
-    in_bounds (brings_sample q (Looked status ∷ h)) (data_available_at q h) (length h) (data_within q h)
+    none_after (brings_sample q (Looked status ∷ h)) (data_available_at q h) (length h) (data_within q h)
 
-turned_within : (h : List Happening) → turned_at h ≤ length h
-turned_within [] = omega arith
-turned_within (e ∷ h) = in_bounds (turns_alive h e) (turned_at h) (length h) (turned_within h)
+turned_within : (h : List Happening) → is_after (length h) (turned_at h) ≡ false
+turned_within [] = refl
+turned_within (e ∷ h) = none_after (turns_alive h e) (turned_at h) (length h) (turned_within h)
 
 not_above : (a b : ℕ) → b ≤ a → nat_lt a b ≡ false
 not_above a b le = grind (arith, nat_tests, le)
 
-not_raised : (a b : ℕ) (status : Status) → b ≤ a → (if nat_lt a b then Some status else None) ≡ None
-not_raised a b status le = ap (λ (x : Bool). if x then Some status else None) (not_above a b le)
+not_raised : (raised : Bool) (status : Status) → raised ≡ false → (if raised then Some status else None) ≡ None
+not_raised raised status not = ap (λ (x : Bool). if x then Some status else None) not
 
 reader_quiet : (part : Part) (n : ℕ) → reader_told part n part ≡ part
 reader_quiet part n =
     let r : Reader = own_reader part n in
     let lost : lost_raised r r ≡ None =
-    not_raised (lost_count r.happened) (lost_count r.happened)
-    (SampleLost (sample_lost_status r.happened r.seen.lost)) (omega arith) in
+    not_raised (nat_lt (lost_count r.happened) (lost_count r.happened))
+    (SampleLost (sample_lost_status r.happened r.seen.lost))
+    (not_above (lost_count r.happened) (lost_count r.happened) (omega arith)) in
     let data_too : data_raised r r ≡ None =
-    not_raised (length r.happened) (data_available_at r.qos r.happened) DataAvailable (data_within r.qos r.happened)
-    in
+    not_raised (is_after (length r.happened) (data_available_at r.qos r.happened)) DataAvailable
+    (data_within r.qos r.happened) in
     let turned : turn_raised r r ≡ None =
-    not_raised (length r.happened) (turned_at r.happened)
+    not_raised (is_after (length r.happened) (turned_at r.happened))
     (LivelinessChanged (liveliness_changed_status r.qos r.happened r.seen.alive r.seen.not_alive))
     (turned_within r.happened) in
     ap (λ (o : Option Status). turn_told part n (data_told part n (told part (entity.Reader n) o))) lost
@@ -164,8 +171,8 @@ writer_quiet : (part : Part) (n : ℕ) → writer_told part n part ≡ part
 writer_quiet part n =
     let w : Writer = own_writer part n in
     ap (λ (o : Option Status). told part (entity.Writer n) o)
-    (not_raised (losses_of w) (losses_of w) (LivelinessLost (liveliness_lost_status w.lease w.written))
-    (omega arith))
+    (not_raised (nat_lt (losses_of w) (losses_of w)) (LivelinessLost (liveliness_lost_status w.lease w.written))
+    (not_above (losses_of w) (losses_of w) (omega arith)))
 
 -- an event that changes nothing raises nothing, and nobody is told
 pub end_same : (part : Part) → at_end part part ≡ part

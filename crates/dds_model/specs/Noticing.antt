@@ -7,7 +7,7 @@ use Rattle.std.specs.Prelude.{ℕ, zero, suc, nat_lt, length, Option, None, Some
 use Rattle.dds_base.specs.declared.entity.Entity.{Entity}
 use Rattle.dds_base.specs.declared.entity.Entity.TheVariants as entity
 use Rattle.dds_base.specs.Liveliness.{liveliness_changed_status}
-use Rattle.dds_base.specs.StatusFlags.{data_available_at, turned_at}
+use Rattle.dds_base.specs.StatusFlags.{data_available_at, is_after, turned_at}
 use Rattle.dds_base.specs.Statuses.{lost_count, sample_lost_status}
 use Rattle.dds_base.specs.Written.{LookedAt, liveliness_lost_status}
 use Rattle.dds_notices.specs.declared.notice.Status.{Status}
@@ -32,13 +32,13 @@ lost_raised before r =
 
 -- its DATA_AVAILABLE, if a sample came
 abbrev pub data_raised : Reader → Reader → Option Status
-data_raised before r = if nat_lt (length before.happened) (data_available_at r.qos r.happened) then Some DataAvailable
+data_raised before r = if is_after (length before.happened) (data_available_at r.qos r.happened) then Some DataAvailable
     else None
 
 -- its LIVELINESS_CHANGED, if a writer became alive, or not alive
 abbrev pub turn_raised : Reader → Reader → Option Status
 turn_raised before r =
-    if nat_lt (length before.happened) (turned_at r.happened)
+    if is_after (length before.happened) (turned_at r.happened)
     then Some (LivelinessChanged (liveliness_changed_status r.qos r.happened r.seen.alive r.seen.not_alive)) else None
 
 -- how often a writer's liveliness was lost
@@ -55,7 +55,7 @@ loss_raised before w = if nat_lt (losses_of before) (losses_of w)
 -- what is seen of a reader's statuses once this one was looked at
 abbrev pub seen_by : Reader → Status → Seen
 seen_by r (SampleLost values) = seen_lost r
-seen_by r DataAvailable = record r.seen { brought = data_available_at r.qos r.happened }
+seen_by r DataAvailable = record r.seen { entries_at_data = length r.happened }
 seen_by r (LivelinessChanged values) = seen_liveliness r
 seen_by r (LivelinessLost values) = r.seen
 

@@ -2,7 +2,7 @@
 -- each matched pair. What other peers may learn of stands apart from what only its own calls ask for.
 --
 -- RTPS 2.5, 8.4.7 (StatefulWriter, ReaderProxy), 8.4.10 (StatefulReader, WriterProxy).
-use Rattle.std.specs.Prelude.{ℕ, ◌+◌, ◌<◌, ◌≤◌, Bool, false, cond, if◌then◌else◌, ◌==◌, nat_le, nat_lt, List, [], ◌∷◌, length, map, Option, Some, None, ℤ, pos, negsuc}
+use Rattle.std.specs.Prelude.{ℕ, ◌+◌, ◌<◌, ◌≤◌, Bool, false, if◌then◌else◌, ◌==◌, nat_le, nat_lt, List, [], ◌∷◌, length, map, Option, Some, None, ℤ, pos, negsuc}
 use Rattle.std.specs.List.{list_any}
 use Rattle.std.specs.Option.{option_map, option_map_or}
 use Rattle.dds_base.specs.declared.change.Change.{Change}
@@ -20,7 +20,7 @@ use Rattle.dds_model.specs.Numbered.{numbered, with_numbered}
 
 -- two names are of one endpoint
 abbrev pub same_endpoint : Endpoint → Endpoint → Bool
-same_endpoint a b = cond (a.peer == b.peer) (a.number == b.number) false
+same_endpoint a b = if a.peer == b.peer then a.number == b.number else false
 
 -- what a writer knows of a matched reader: it has acknowledged all changes below this number
 pub record ReaderProxy : Type 0 where
@@ -50,18 +50,18 @@ pub record Rtps : Type 0 where
   pub readers : List (List WriterProxy)
 
 -- what a reader's statuses said when each was looked at last, by a call or as a listener was told: the total of SAMPLE_LOST;
--- by DATA_AVAILABLE where the newest entry stood that had brought a sample; and by LIVELINESS_CHANGED how many matched writers
--- were alive and not alive, and where the newest entry stood that had changed that (DDS 1.4, 2.2.4.1)
+-- by DATA_AVAILABLE how many entries there were; and by LIVELINESS_CHANGED how many matched writers were alive and not alive,
+-- and how many entries there were (DDS 1.4, 2.2.4.1)
 pub record Seen : Type 0 where
   pub lost : ℕ
-  pub brought : ℕ
+  pub entries_at_data : ℕ
   pub alive : ℕ
   pub not_alive : ℕ
-  pub turned : ℕ
+  pub entries_at_turn : ℕ
 
 -- before the first looks
 abbrev pub nothing_seen : Seen
-nothing_seen = record { lost = 0; brought = 0; alive = 0; not_alive = 0; turned = 0 }
+nothing_seen = record { lost = 0; entries_at_data = 0; alive = 0; not_alive = 0; entries_at_turn = 0 }
 
 -- a reader as its own calls see it: its QoS, what happened there, the newest first, and what was seen of its statuses
 pub record Reader : Type 0 where
@@ -137,12 +137,13 @@ history_of w = record {
 -- the first of these rows of this name
 abbrev pub row_of : {X : Type 0} → (X → Endpoint) → List X → Endpoint → Option X
 row_of name [] end = None
-row_of name (x ∷ xs) end = cond (same_endpoint (name x) end) (Some x) (row_of name xs end)
+row_of name (x ∷ xs) end = if same_endpoint (name x) end then Some x else row_of name xs end
 
 -- the rows with another one in the place of the first of this name
 abbrev pub with_row : {X : Type 0} → (X → Endpoint) → (X → X) → List X → Endpoint → List X
 with_row name change [] end = []
-with_row name change (x ∷ xs) end = cond (same_endpoint (name x) end) (change x ∷ xs) (x ∷ with_row name change xs end)
+with_row name change (x ∷ xs) end =
+    if same_endpoint (name x) end then change x ∷ xs else x ∷ with_row name change xs end
 
 -- the number below which this reader has acknowledged all changes, if it is matched
 abbrev pub acknowledged_of : List ReaderProxy → Endpoint → Option ℕ
@@ -175,7 +176,8 @@ with_heard rows writer count =
 -- the number of the first row of this writer in a list that is numbered from n on
 abbrev pub publication_from : ℕ → List WriterProxy → Endpoint → Option ℕ
 publication_from n [] writer = None
-publication_from n (p ∷ ps) writer = cond (same_endpoint p.writer writer) (Some n) (publication_from (n + 1) ps writer)
+publication_from n (p ∷ ps) writer =
+    if same_endpoint p.writer writer then Some n else publication_from (n + 1) ps writer
 
 -- the publication handle of this writer, if it is matched (DDS 1.4, 2.2.2.5, publication_handle)
 abbrev pub publication_among : List WriterProxy → Endpoint → Option ℕ

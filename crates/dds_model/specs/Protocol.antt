@@ -1,7 +1,7 @@
 -- The reliable protocol of one peer: what it does with each submessage of a packet, and which messages are then due.
 --
 -- RTPS 2.5, 8.4.9 (reliable StatefulWriter), 8.4.12 (reliable StatefulReader).
-use Rattle.std.specs.Prelude.{◌≡◌, ◌≢◌, ◌⊎◌, ℕ, ◌+◌, ◌-◌, ◌^◌, ◌≤◌, ◌==◌, ◌&&◌, Bool, true, false, cond, if◌then◌else◌, nat_lt, nat_le, max, List, [], ◌∷◌, ◌++◌, length, map, filter, Option, Some, None, ℤ, pos, slice_get}
+use Rattle.std.specs.Prelude.{◌≡◌, ◌≢◌, ◌⊎◌, ℕ, ◌+◌, ◌-◌, ◌^◌, ◌≤◌, ◌==◌, ◌&&◌, Bool, true, false, if◌then◌else◌, nat_lt, nat_le, max, List, [], ◌∷◌, ◌++◌, length, map, filter, Option, Some, None, ℤ, pos, slice_get}
 use Rattle.std.specs.List.{flat_map}
 use Rattle.std.specs.Option.{option_map_or}
 use Rattle.dds_base.specs.declared.change.Change.{Change}
@@ -62,12 +62,16 @@ pub record Due : Type 0 where
 -- what a reader has heard of a writer is now this
 abbrev pub with_tracked : Known → Endpoint → ℕ → Tracked → Known
 with_tracked known writer reader t =
-    record known { tracked = λ w r. cond (same_endpoint w writer && (r == reader)) t (known.tracked w r) }
+    record known {
+      tracked = λ w r. if same_endpoint w writer && (r == reader) then t else known.tracked w r;
+    }
 
 -- the count of the last ACKNACK that a writer took of a reader is now this
 abbrev pub with_answered : Known → ℕ → Endpoint → ℤ → Known
 with_answered known writer reader count =
-    record known { answered = λ w r. cond ((w == writer) && same_endpoint r reader) (Some count) (known.answered w r) }
+    record known {
+      answered = λ w r. if (w == writer) && same_endpoint r reader then Some count else known.answered w r;
+    }
 
 -- Steps of a peer in turn, with what each of them moves and what is then due.
 abbrev pub InTurn : {X : Type 0} → (X → State → List Move → List Due → State → Type 0) → List X → State → List Move

@@ -9,7 +9,7 @@ returns-in-SampleLost-clause-sees c =
 
 pub returns-in-DataAvailable-clause-sees : goal.returns-in-DataAvailable-clause-sees
 returns-in-DataAvailable-clause-sees c =
-    sees_data c.args.self.now c.see_data.new.self c.args.status.now c.see_data.new.self.seen.brought
+    sees_data c.args.self.now c.see_data.new.self c.args.status.now c.see_data.new.self.seen.entries_at_data
     c.in-DataAvailable.is
     c.see_data.ensures.at c.see_data.ensures.seen
 

@@ -1,4 +1,4 @@
-use Rattle.std.proofs.Common.{◌∷◌, refl, rules, sym, subst}
+use Rattle.std.proofs.Common.{◌∷◌, Some, ap, refl, rules, sym, subst}
 use Rattle.dds_base.specs.declared.happening.Happening.TheVariants.{Died}
 use Rattle.dds_base.specs.declared.qos.ReaderQos.{ReaderQos}
 use Rattle.dds_cache.specs.Standing.{qos_of, StandsFor as CacheStandsFor}
@@ -46,5 +46,5 @@ loop-writer-preserved c =
           next_died q now c.loop-writer.after w _ _ _ l (c.in-Some.ensures.died q l.happened leases)
           (c.in-Some.ensures.turn q l.happened leases) cache
           (search rules) refl (c.in-Some.ensures.first q l.happened leases)
-          (c.happened-self-inside.ensures.entries (Died w now ∷ l.happened) cache);
+          (ap Some (c.happened.ensures.entries (Died w now ∷ l.happened) cache));
     }
