@@ -27,7 +27,8 @@ use Rattle.dds_model.specs.declared.event.Event.TheVariants as event
 use Rattle.dds_model.specs.declared.event.Output.{Output}
 use Rattle.dds_model.specs.declared.reply.Reply.{Reply}
 use Rattle.dds_model.specs.declared.reply.Reply.TheVariants.{Samples, Refused}
-use Rattle.dds_model.specs.Calls.{access_refusal, Answers as CallAnswers, AnswersAccess, AnswersByCondition, CallStep, Effect, nothing, effect, effect_of, picked_at, with_happening}
+use Rattle.dds_model.specs.Refusals.{access_refusal}
+use Rattle.dds_model.specs.Calls.{Answers as CallAnswers, AnswersAccess, AnswersByCondition, CallStep, Effect, nothing, effect, effect_of, picked_at, with_happening}
 use Rattle.dds_model.specs.Numbered.{has_element}
 use Rattle.dds_conditions.specs.Watched.{no_filters}
 use Rattle.dds_model.specs.Part.{Part, Dds, Reader, WriterProxy, own_reader, own_proxies, Seen}
@@ -43,7 +44,7 @@ use Rattle.dds_core.specs.Stored.{StoreKept, Holds}
 use Rattle.dds_model.specs.declared.endpoint.Endpoint.{Endpoint}
 use Rattle.dds_core.proofs.Rows.{writers_of}
 use Rattle.dds_core.specs.Kept.{ReaderKept, PeerKept}
-use Rattle.dds_core.specs.Receiving.{TakesOnly, access_reply}
+use Rattle.dds_core.specs.Looking.{TakesOnly, access_reply}
 use Rattle.dds_core.specs.Standing.{IsFirstRow, ReaderStands, StandsFor}
 use Rattle.dds_core.proofs.CallSteps.{FollowsBy, follows_as, refused_call, still_stands, there_is}
 use Rattle.dds_core.proofs.Ends.{with_reader, own_reader_changed}

@@ -11,7 +11,7 @@ use Rattle.dds_cache.specs.Standing.{qos_of}
 use Rattle.dds_model.specs.declared.call.Call.TheVariants as call
 use Rattle.dds_model.specs.declared.event.Event.TheVariants as event
 use Rattle.dds_model.specs.declared.reply.Reply.TheVariants.{KeyValue, InstanceHandle, Refused}
-use Rattle.dds_model.specs.Calls.{look_refusal, key_of, key_refusal}
+use Rattle.dds_model.specs.Refusals.{look_refusal, key_of, key_refusal}
 use Rattle.dds_model.specs.Numbered.{has_element}
 use Rattle.dds_model.specs.Part.{Part, own_reader}
 use Rattle.dds_model.specs.Peer.{Peer}

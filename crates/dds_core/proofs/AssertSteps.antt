@@ -12,12 +12,13 @@ use Rattle.dds_model.specs.declared.call.Call.TheVariants as call
 use Rattle.dds_model.specs.declared.event.Event.TheVariants as event
 use Rattle.dds_model.specs.declared.event.Packet.{Packet}
 use Rattle.dds_model.specs.declared.reply.Reply.TheVariants.{Done, Refused}
-use Rattle.dds_model.specs.Calls.{CallStep, assert_refusal}
+use Rattle.dds_model.specs.Refusals.{assert_refusal}
+use Rattle.dds_model.specs.Calls.{CallStep}
 use Rattle.dds_model.specs.Numbered.{has_element}
 use Rattle.dds_conditions.specs.Watched.{no_filters}
 use Rattle.dds_model.specs.Part.{ReaderProxy, Writer, has_readers, heartbeats_used, own_writer, peers_of}
 use Rattle.dds_model.specs.Peer.{Peer}
-use Rattle.dds_model.specs.Protocol.{Due, AreSent, assertion_message, assertions_due, writer_entity}
+use Rattle.dds_model.specs.DueMessages.{Due, AreSent, assertion_message, assertions_due, writer_entity}
 use Rattle.dds_model.specs.Receipt.{prefix_of}
 use Rattle.dds_model.proofs.DuesAssertions.{assertions_true}
 use Rattle.dds_core.specs.declared.matching.Destination.{Destination}

@@ -15,7 +15,7 @@ use Rattle.rtps_writer.specs.declared.heartbeat.HeartbeatDue.{HeartbeatDue}
 use Rattle.dds_model.specs.declared.endpoint.Endpoint.{Endpoint}
 use Rattle.dds_model.specs.declared.event.Packet.{Packet}
 use Rattle.dds_model.specs.Part.{ReaderProxy, Writer, has_readers, heartbeats_used}
-use Rattle.dds_model.specs.Protocol.{Due, AreSent, assertion_message}
+use Rattle.dds_model.specs.DueMessages.{Due, AreSent, assertion_message}
 use Rattle.dds_core.specs.declared.heartbeat.Beat.{Beat}
 use Rattle.dds_core.specs.declared.matching.Destination.{Destination}
 use Rattle.dds_core.specs.Beating.{Adds, IsValid, assertions_of, due_to, message_to, told_to}

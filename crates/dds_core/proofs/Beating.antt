@@ -19,7 +19,7 @@ use Rattle.rtps_writer.specs.declared.heartbeat.HeartbeatDue.{HeartbeatDue}
 use Rattle.dds_model.specs.declared.endpoint.Endpoint.{Endpoint}
 use Rattle.dds_model.specs.declared.event.Packet.{Packet}
 use Rattle.dds_model.specs.Part.{ReaderProxy, Writer, no_writer, writer_changes, has_readers, history_of}
-use Rattle.dds_model.specs.Protocol.{Due, AreSent, heartbeat_message}
+use Rattle.dds_model.specs.DueMessages.{Due, AreSent, heartbeat_message}
 use Rattle.dds_core.specs.declared.heartbeat.Beat.{Beat}
 use Rattle.dds_core.specs.declared.matching.Destination.{Destination}
 use Rattle.dds_core.specs.declared.matching.ReaderName.{ReaderName}

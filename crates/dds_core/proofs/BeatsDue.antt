@@ -13,12 +13,12 @@ use Rattle.rtps_wire.specs.Messages.{spelling_of}
 use Rattle.dds_model.specs.declared.endpoint.Endpoint.{Endpoint}
 use Rattle.dds_model.specs.declared.event.Packet.{Packet}
 use Rattle.dds_model.specs.declared.reply.Reply.TheVariants.{Done}
-use Rattle.dds_model.specs.Calls.{TickStep, tick_refusal, after_tick}
+use Rattle.dds_model.specs.Ticks.{TickStep, tick_refusal, after_tick}
 use Rattle.dds_model.specs.Claims.{Claim, Claims, IsNumbered, every_reader}
 use Rattle.dds_model.specs.Dues.{IsPartOf, AreTruthful}
 use Rattle.dds_model.specs.Part.{Part, ReaderProxy, Writer, no_writer, own_writer, acknowledged_of, has_readers, peers_of, writer_changes, NoLess}
 use Rattle.dds_model.specs.Peer.{Peer, IsTrueAt}
-use Rattle.dds_model.specs.Protocol.{Due, AreSent, heartbeat_message, heartbeats_of, heartbeats_from, heartbeats_due, readers_behind, writer_entity}
+use Rattle.dds_model.specs.DueMessages.{Due, AreSent, heartbeat_message, heartbeats_of, heartbeats_from, heartbeats_due, readers_behind, writer_entity}
 use Rattle.dds_model.specs.Receipt.{prefix_of}
 use Rattle.dds_model.proofs.DuesGrowth.{true_on}
 use Rattle.dds_model.proofs.DuesHeartbeats.{heartbeats_truthful}

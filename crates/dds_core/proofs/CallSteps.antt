@@ -20,7 +20,9 @@ use Rattle.dds_model.specs.declared.event.Output.{Output}
 use Rattle.dds_model.specs.declared.reply.Reply.{Reply}
 use Rattle.dds_model.specs.declared.reply.Reply.TheVariants.{Done, LivelinessLost, Refused}
 use Rattle.dds_model.specs.declared.endpoint.Endpoint.{Endpoint}
-use Rattle.dds_model.specs.Calls.{Effect, nothing, writes, effect, effect_of, IsDoneUnless, Answers, CallStep, register_refusal, write_refusal, dispose_refusal, unregister_refusal, change_refusal, change_made, unregister_kind, tick_refusal, after_tick, is_deadly, RefusesTick, TickStep, writer_look_refusal}
+use Rattle.dds_model.specs.Ticks.{tick_refusal, after_tick, is_deadly, RefusesTick, TickStep}
+use Rattle.dds_model.specs.Refusals.{register_refusal, write_refusal, dispose_refusal, unregister_refusal, change_refusal, change_made, unregister_kind, writer_look_refusal}
+use Rattle.dds_model.specs.Calls.{Effect, nothing, writes, effect, effect_of, IsDoneUnless, Answers, CallStep}
 use Rattle.dds_model.specs.Numbered.{has_element}
 use Rattle.dds_conditions.specs.Watched.{no_filters}
 use Rattle.dds_model.specs.Part.{Part, Dds, Writer, own_writer}
@@ -28,7 +30,7 @@ use Rattle.dds_model.specs.Peer.{Peer, PeerStep}
 use Rattle.dds_model.specs.Watching.{Tests}
 use Rattle.dds_core.specs.Kept.{WriterKept, ReaderKept, PeerKept, WriterIdentity, ReaderIdentity, identity_of, reader_identity, writer_identity, IsPeerOf}
 use Rattle.dds_core.specs.Expiring.{AllExpire, HasDeadly}
-use Rattle.dds_core.specs.Receiving.{AreAlike}
+use Rattle.dds_core.specs.Readiness.{AreAlike}
 use Rattle.dds_core.specs.Making.{IsMade, IsNotMade, entered}
 use Rattle.dds_core.specs.Sending.{SendsFor, SendsNothing}
 use Rattle.dds_core.specs.Standing.{WriterStands, StandsFor, Enters, AllTick}

@@ -9,7 +9,7 @@ use Rattle.rtps_wire.specs.Content.{content_of}
 use Rattle.rtps_wire.specs.Messages.{spelling_of}
 use Rattle.dds_model.specs.declared.event.Packet.{Packet}
 use Rattle.dds_model.specs.Part.{Writer}
-use Rattle.dds_model.specs.Protocol.{Due, AreSent, change_message, changes_due, writer_entity}
+use Rattle.dds_model.specs.DueMessages.{Due, AreSent, change_message, changes_due, writer_entity}
 use Rattle.dds_model.specs.Receipt.{prefix_of}
 use Rattle.dds_core.specs.declared.matching.Destination.{Destination}
 use Rattle.dds_core.specs.declared.sending.Sender.{Sender}

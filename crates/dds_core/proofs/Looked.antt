@@ -13,12 +13,13 @@ use Rattle.dds_model.specs.declared.call.Call.TheVariants as call
 use Rattle.dds_model.specs.declared.event.Event.TheVariants as event
 use Rattle.dds_model.specs.declared.reply.Reply.{Reply}
 use Rattle.dds_model.specs.declared.reply.Reply.TheVariants.{SampleLost, LivelinessChanged}
-use Rattle.dds_model.specs.Calls.{look_refusal, Answers, after_look, effect, effect_of, nothing, seen_lost, seen_liveliness}
+use Rattle.dds_model.specs.Refusals.{look_refusal}
+use Rattle.dds_model.specs.Calls.{Answers, after_look, effect, effect_of, nothing, seen_lost, seen_liveliness}
 use Rattle.dds_conditions.specs.Watched.{no_filters}
 use Rattle.dds_model.specs.Part.{Reader, Seen, own_reader}
 use Rattle.dds_model.specs.Peer.{Peer}
 use Rattle.dds_core.specs.Kept.{ReaderKept, PeerKept}
-use Rattle.dds_core.specs.Receiving.{TellsLost, TellsLiveliness}
+use Rattle.dds_core.specs.Looking.{TellsLost, TellsLiveliness}
 use Rattle.dds_core.specs.Standing.{StandsFor}
 use Rattle.dds_core.proofs.CallSteps.{Follows, there_is}
 use Rattle.dds_core.proofs.Ends.{with_reader, own_reader_changed}

@@ -19,10 +19,11 @@ use Rattle.dds_model.specs.declared.event.Output.{Output}
 use Rattle.dds_model.specs.declared.event.Packet.{Packet}
 use Rattle.dds_model.specs.declared.reply.Reply.TheVariants.{Done, Refused}
 use Rattle.dds_model.specs.Part.{Writer, ReaderProxy, no_writer, own_writer, history_of, writer_changes}
-use Rattle.dds_model.specs.Calls.{with_written, change_made, change_refusal}
+use Rattle.dds_model.specs.Refusals.{change_made, change_refusal}
+use Rattle.dds_model.specs.Calls.{with_written}
 use Rattle.dds_model.specs.Claims.{IsWriter}
 use Rattle.dds_model.specs.Peer.{Peer}
-use Rattle.dds_model.specs.Protocol.{AreSent, changes_due}
+use Rattle.dds_model.specs.DueMessages.{AreSent, changes_due}
 use Rattle.dds_model.proofs.OwnGuids.{one_writer}
 use Rattle.dds_core.specs.declared.matching.Destination.{Destination}
 use Rattle.dds_core.specs.declared.sending.Sender.{Sender}

@@ -27,7 +27,7 @@ use Rattle.dds_model.specs.Peer.{Peer}
 use Rattle.dds_core.specs.declared.marks.ReaderMark.{ReaderMark}
 use Rattle.dds_core.specs.Kept.{PeerKept, ReaderKept, WriterKept, reader_identity}
 use Rattle.dds_core.specs.Noticing.{IsMarkOf, MarksPeer, MarksReaders, MarksWriters, RaisesSo, SeesStatus, Tells}
-use Rattle.dds_core.specs.Receiving.{TellsLiveliness, TellsLost}
+use Rattle.dds_core.specs.Looking.{TellsLiveliness, TellsLost}
 use Rattle.dds_core.specs.Standing.{Enters, ReaderStands, StandsFor, WriterStands}
 use Rattle.dds_core.specs.Stored.{Holds}
 use Rattle.dds_core.proofs.Ends.{own_reader_changed, own_writer_stepped, with_reader, with_writer}

@@ -13,7 +13,7 @@ use Rattle.dds_model.specs.declared.endpoint.Endpoint.{Endpoint}
 use Rattle.dds_model.specs.Claims.{every_reader}
 use Rattle.dds_model.specs.Part.{ReaderProxy, Writer, WriterProxy, no_writer, own_proxies, same_endpoint, row_of, acknowledged_of, is_reader_behind, place_of, writer_changes}
 use Rattle.dds_model.specs.Peer.{Peer}
-use Rattle.dds_model.specs.Protocol.{writer_entity}
+use Rattle.dds_model.specs.DueMessages.{writer_entity}
 use Rattle.dds_model.proofs.Tables.{same_is}
 use Rattle.dds_core.specs.declared.matching.ReaderName.{ReaderName}
 use Rattle.dds_core.specs.declared.matching.WriterName.{WriterName}
@@ -21,7 +21,7 @@ use Rattle.dds_core.specs.declared.pairing.Pair.{Pair}
 use Rattle.dds_core.specs.Kept.{PeerKept, ReaderKept, WriterKept}
 use Rattle.dds_core.specs.Matching.{reader_name, reader_names}
 use Rattle.dds_core.specs.Pairs.{IsPair, reader_entity}
-use Rattle.dds_core.specs.Receiving.{IsPlaceAt}
+use Rattle.dds_core.specs.Readiness.{IsPlaceAt}
 use Rattle.dds_core.specs.Standing.{StandsFor, WriterStands, IsFirstReader, IsFirstRow}
 use Rattle.dds_core.proofs.BeatsDue.{writer_named, readers_named}
 use Rattle.dds_core.proofs.Lists.{get-map, map-get}

@@ -21,7 +21,8 @@ use Rattle.dds_core.specs.declared.reader_end.Ready.{Ready}
 use Rattle.dds_core.specs.declared.reader_end.Told.{Told}
 use Rattle.dds_core.specs.declared.reader_end.Told.TheVariants as told
 use Rattle.dds_core.specs.Kept.{ReaderKept, PeerKept, ReaderIdentity, Identity, reader_identity, writer_identity, IsPeerOf}
-use Rattle.dds_core.specs.Receiving.{IsReadyFor, IsReadyWith, AreReady, IsAlike, AreAlike, CanTake, AllCanTake, TookAt, TakesTold, SameReader, TakesSome, TakesAll, ReadersTake, moves_of, IsBounded, IsToldBounded, IsToldBy, StandsAsWell}
+use Rattle.dds_core.specs.Readiness.{IsReadyFor, IsReadyWith, AreReady, IsAlike, AreAlike, CanTake, TakesTold, SameReader, moves_of, IsBounded, IsToldBounded, IsToldBy}
+use Rattle.dds_core.specs.Receiving.{AllCanTake, TookAt, TakesSome, TakesAll, ReadersTake, StandsAsWell}
 use Rattle.dds_core.specs.Standing.{IsFirstRow, ReaderStands}
 use Rattle.dds_core.specs.Stored.{StoreKept, Holds}
 use Rattle.dds_core.proofs.Identities.{same_identity}
@@ -30,7 +31,7 @@ use Rattle.dds_core.proofs.Rows.{writers_of}
 use Rattle.dds_base.specs.declared.guid.EntityId.{EntityId}
 use Rattle.dds_core.specs.declared.sending.Announced.{Announced}
 use Rattle.dds_core.specs.Beating.{AddsTo}
-use Rattle.dds_model.specs.Protocol.{acknacks_due}
+use Rattle.dds_model.specs.DueMessages.{acknacks_due}
 
 -- after a change of one element, another is as before, and that one is the new one
 pub set-cases : {X : Type 0} (xs : List X) (i : ℕ) (x : X) (j : ℕ) (y : X) → slice_get (set xs i x) j ≡ Some y

@@ -13,7 +13,8 @@ use Rattle.dds_model.specs.declared.reply.Move.{Move}
 use Rattle.dds_model.specs.Claims.{Receiver, IsToWriter}
 use Rattle.dds_model.specs.Part.{ReaderProxy, no_writer, own_writer}
 use Rattle.dds_model.specs.Peer.{Peer, state_of}
-use Rattle.dds_model.specs.Protocol.{Due, State, InTurn, WriterTakes}
+use Rattle.dds_model.specs.DueMessages.{Due}
+use Rattle.dds_model.specs.Protocol.{State, InTurn, WriterTakes}
 use Rattle.dds_model.proofs.OwnGuids.{one_writer}
 use Rattle.dds_core.specs.declared.answering.Room.{Room}
 use Rattle.dds_core.specs.declared.matching.ReaderName.{ReaderName}

@@ -24,7 +24,8 @@ use Rattle.dds_model.specs.Claims.{Receiver, IsNumbered, IsWriter, IsToWriter, N
 use Rattle.dds_model.specs.Dues.{AreTellable}
 use Rattle.dds_model.specs.Part.{Part, ReaderProxy, Writer, no_writer, same_endpoint, history_of, at_writer, writer_changes}
 use Rattle.dds_model.specs.Peer.{Peer, state_of as network_of}
-use Rattle.dds_model.specs.Protocol.{Due, State, Known, WriterTakes, AreGrouped, TakesAckNack as TakesByRules, acknowledging, answer_message, is_taken_up, with_answered}
+use Rattle.dds_model.specs.DueMessages.{Due, answer_message}
+use Rattle.dds_model.specs.Protocol.{State, Known, WriterTakes, AreGrouped, TakesAckNack as TakesByRules, acknowledging, is_taken_up, with_answered}
 use Rattle.dds_model.proofs.Framing.{with_same}
 use Rattle.dds_model.proofs.InOrder.{same_self}
 use Rattle.dds_core.specs.declared.answering.Answering.{Answering}

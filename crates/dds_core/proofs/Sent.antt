@@ -28,7 +28,7 @@ use Rattle.dds_model.specs.Part.{Part, ReaderProxy, own_writer, writer_changes}
 use Rattle.dds_model.specs.Claims.{Claim, ChangeIs, MayPass, PlaceReached, Asserts, Receiver, receiver_of, every_peer, every_reader, is_for, stamp_of, after_submessage, StandsAt, StandsIn, IsWriter, IsReader, IsToReader, Says, Claims}
 use Rattle.dds_model.specs.Peer.{IsTrueAt}
 use Rattle.dds_model.proofs.Dues.{stands_in, told}
-use Rattle.dds_model.specs.Protocol.{AreSent, changes_due}
+use Rattle.dds_model.specs.DueMessages.{AreSent, changes_due}
 use Rattle.dds_core.specs.declared.matching.Destination.{Destination}
 use Rattle.dds_core.specs.declared.sending.Sender.{Sender}
 use Rattle.dds_core.specs.Matching.{has_reader, destinations}

@@ -26,12 +26,14 @@ use Rattle.dds_model.specs.Part.{Part, Reader, WriterProxy, no_reader, own_proxi
 use Rattle.dds_model.specs.Moves.{IsMatchedAt, match_of}
 use Rattle.dds_model.specs.Claims.{Receiver}
 use Rattle.dds_model.specs.Peer.{Peer, state_of}
-use Rattle.dds_model.specs.Protocol.{Known, State, Goes, Asserting, TakesHeartbeat, with_tracked, acknacks_due}
+use Rattle.dds_model.specs.DueMessages.{acknacks_due}
+use Rattle.dds_model.specs.Protocol.{Known, State, Goes, Asserting, TakesHeartbeat, with_tracked}
 use Rattle.dds_model.proofs.Framing.{tracked_here, tracked_elsewhere, pair_or_not}
 use Rattle.dds_model.proofs.Tables.{numbered-same, place-cases, place-hits, place-heard}
 use Rattle.dds_core.specs.declared.matching.WriterName.{WriterName}
 use Rattle.dds_core.specs.Kept.{ReaderKept, PeerKept, reader_identity}
-use Rattle.dds_core.specs.Receiving.{SameReader, moves_of, with_state}
+use Rattle.dds_core.specs.Readiness.{SameReader, moves_of}
+use Rattle.dds_core.specs.Receiving.{with_state}
 use Rattle.dds_core.specs.Standing.{IsFirstRow, ReaderStands, StandsFor}
 use Rattle.dds_core.specs.Stored.{Holds}
 use Rattle.dds_core.proofs.Ends.{with_reader, with_read, own_reader_stepped}

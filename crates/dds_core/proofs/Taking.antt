@@ -27,16 +27,19 @@ use Rattle.dds_model.specs.declared.reply.Reply.TheVariants.{Done, Refused}
 use Rattle.dds_model.specs.declared.call.Call.{Call}
 use Rattle.dds_model.specs.Numbered.{numbered, HasNumber}
 use Rattle.dds_model.specs.Backed.{IsBacked}
-use Rattle.dds_model.specs.Calls.{Effect, nothing, writes, effect, effect_of, TickStep}
+use Rattle.dds_model.specs.Ticks.{TickStep}
+use Rattle.dds_model.specs.Calls.{Effect, nothing, writes, effect, effect_of}
 use Rattle.dds_model.specs.Claims.{Receiver, receiver_of, after_submessage, IsNumbered}
 use Rattle.dds_model.specs.Part.{Part, Rtps, place_of, heard_of}
 use Rattle.dds_model.specs.Peer.{Peer, packets_of, state_of}
-use Rattle.dds_model.specs.Protocol.{Due, State, InTurn, ReaderTakes, Takes, FollowsMessage, AreSent}
+use Rattle.dds_model.specs.DueMessages.{Due, AreSent}
+use Rattle.dds_model.specs.Protocol.{State, InTurn, ReaderTakes, Takes, FollowsMessage}
 use Rattle.dds_model.specs.Receipt.{prefix_of, IsNotTaken}
 use Rattle.dds_core.specs.declared.sending.Announced.{Announced}
 use Rattle.dds_core.specs.Beating.{AddsTo}
 use Rattle.dds_core.specs.Kept.{PeerKept}
-use Rattle.dds_core.specs.Receiving.{with_state, StandsAsWell, ReadersTook, TookSubmessage, TellsReaders, TakesOneMore, TookMessage, TakesMessage, TakenTo, TakesTo, ReceivesPacket, IsBounded, AreBounded}
+use Rattle.dds_core.specs.Readiness.{IsBounded, AreBounded}
+use Rattle.dds_core.specs.Receiving.{with_state, StandsAsWell, ReadersTook, TookSubmessage, TellsReaders, TakesOneMore, TookMessage, TakesMessage, TakenTo, TakesTo, ReceivesPacket}
 use Rattle.dds_core.specs.Sending.{AreMessages}
 use Rattle.dds_core.specs.Standing.{StandsFor, IsSound, Steps, StepsBy, SoundSteps, SoundStepsBy}
 use Rattle.dds_model.specs.Watching.{Tests}

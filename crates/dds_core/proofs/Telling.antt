@@ -15,7 +15,7 @@ use Rattle.dds_core.specs.declared.reader_end.Ready.{Ready}
 use Rattle.dds_core.specs.declared.reader_end.Told.{Told}
 use Rattle.dds_core.specs.declared.reader_end.Told.TheVariants as told
 use Rattle.dds_core.specs.Kept.{ReaderKept}
-use Rattle.dds_core.specs.Receiving.{TakesTold, TellsSo}
+use Rattle.dds_core.specs.Readiness.{TakesTold, TellsSo}
 use Rattle.dds_core.specs.Stored.{Holds}
 
 -- what was answered was done

@@ -5,7 +5,7 @@ use Rattle.std.proofs.lemmas.List.{length-map}
 use Rattle.std.proofs.lemmas.Option.{same_Some}
 use Rattle.dds_model.specs.declared.endpoint.Endpoint.{Endpoint}
 use Rattle.dds_model.specs.Part.{Writer, no_writer}
-use Rattle.dds_model.specs.Calls.{ticked}
+use Rattle.dds_model.specs.Ticks.{ticked}
 use Rattle.dds_core.specs.Kept.{WriterKept, WriterIdentity, writer_identity}
 use Rattle.dds_core.specs.Standing.{WriterStands, WritersStand, Ticks, AllTick}
 

@@ -22,14 +22,16 @@ use Rattle.dds_model.specs.declared.reply.Move.{Move}
 use Rattle.dds_model.specs.declared.reply.Move.TheVariants.{Place, Heard}
 use Rattle.dds_model.specs.Claims.{Receiver, IsToReader, Names}
 use Rattle.dds_model.specs.Peer.{Peer, state_of}
-use Rattle.dds_model.specs.Protocol.{Due, State, InTurn, TakesHeartbeat, ReaderTakes, acknacks_due}
+use Rattle.dds_model.specs.DueMessages.{Due, acknacks_due}
+use Rattle.dds_model.specs.Protocol.{State, InTurn, TakesHeartbeat, ReaderTakes}
 use Rattle.dds_core.specs.declared.matching.WriterName.{WriterName}
 use Rattle.dds_core.specs.declared.sending.Announced.{Announced}
 use Rattle.dds_core.specs.declared.reader_end.Ready.{Ready}
 use Rattle.dds_core.specs.declared.reader_end.Told.{Told}
 use Rattle.dds_core.specs.declared.reader_end.Told.TheVariants as told
 use Rattle.dds_core.specs.Kept.{ReaderKept, PeerKept}
-use Rattle.dds_core.specs.Receiving.{IsReadyWith, IsReadyFor, AreReady, NamedBy, IsToldBy, SameReader, TellsSo, TookAt, moves_of, with_state, ReadersTook, TakesSome, TakesAll, TellsReaders, StandsAsWell, writer_guid}
+use Rattle.dds_core.specs.Readiness.{IsReadyWith, IsReadyFor, AreReady, NamedBy, IsToldBy, SameReader, TellsSo, moves_of, writer_guid}
+use Rattle.dds_core.specs.Receiving.{TookAt, with_state, ReadersTook, TakesSome, TakesAll, TellsReaders, StandsAsWell}
 use Rattle.dds_core.specs.Beating.{AddsTo}
 use Rattle.dds_core.specs.Standing.{IsFirstRow, StandsFor}
 use Rattle.dds_core.proofs.Beating.{adds_none, adds_on}

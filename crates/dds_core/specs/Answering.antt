@@ -24,7 +24,8 @@ use Rattle.dds_model.specs.declared.reply.Move.{Move}
 use Rattle.dds_model.specs.declared.reply.Move.TheVariants.{Acknowledged}
 use Rattle.dds_model.specs.Claims.{Receiver, is_for, Names}
 use Rattle.dds_model.specs.Peer.{Peer, state_of}
-use Rattle.dds_model.specs.Protocol.{Due, State, InTurn, WriterTakes, AreGrouped, answer_message}
+use Rattle.dds_model.specs.DueMessages.{Due, answer_message}
+use Rattle.dds_model.specs.Protocol.{State, InTurn, WriterTakes, AreGrouped}
 use Rattle.dds_core.specs.declared.answering.Answering.{Answering}
 use Rattle.dds_core.specs.declared.answering.Room.{Room}
 use Rattle.dds_core.specs.declared.matching.ReaderName.{ReaderName}

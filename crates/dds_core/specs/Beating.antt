@@ -13,7 +13,7 @@ use Rattle.dds_model.specs.declared.endpoint.Endpoint.{Endpoint}
 use Rattle.dds_model.specs.declared.event.Packet.{Packet}
 use Rattle.dds_model.specs.Part.{ReaderProxy, Writer, writer_changes, has_readers, heartbeats_used}
 use Rattle.dds_model.specs.Claims.{every_reader}
-use Rattle.dds_model.specs.Protocol.{Due, AreSent, assertion_message, heartbeat_message}
+use Rattle.dds_model.specs.DueMessages.{Due, AreSent, assertion_message, heartbeat_message}
 use Rattle.dds_core.specs.declared.heartbeat.Beat.{Beat}
 use Rattle.dds_core.specs.declared.matching.Destination.{Destination}
 use Rattle.dds_core.specs.declared.matching.ReaderName.{ReaderName}

@@ -7,7 +7,7 @@ use Rattle.dds_base.specs.Liveliness.{dead_at}
 use Rattle.dds_cache.specs.Standing.{deaths_of}
 use Rattle.dds_lease.specs.Standing.{overdue_of}
 use Rattle.dds_model.specs.declared.endpoint.Endpoint.{Endpoint}
-use Rattle.dds_model.specs.Calls.{reader_ticked}
+use Rattle.dds_model.specs.Ticks.{reader_ticked}
 use Rattle.dds_model.specs.Part.{Reader, WriterProxy}
 use Rattle.rtps_reader.specs.Tracked.{Tracked}
 use Rattle.dds_core.specs.Kept.{ReaderKept, reader_identity}

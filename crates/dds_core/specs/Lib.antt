@@ -4,7 +4,9 @@ pub mod Standing
 pub mod Opening
 pub mod Sending
 pub mod Making
+pub mod Readiness
 pub mod Receiving
+pub mod Looking
 pub mod Stored
 pub mod Beating
 pub mod Answering

@@ -15,7 +15,8 @@ use Rattle.dds_model.specs.declared.event.Output.{Output}
 use Rattle.dds_model.specs.declared.event.Packet.{Packet}
 use Rattle.dds_model.specs.declared.reply.Reply.TheVariants.{Done, Refused}
 use Rattle.dds_model.specs.Part.{Part}
-use Rattle.dds_model.specs.Calls.{writes, effect, change_made, change_refusal}
+use Rattle.dds_model.specs.Refusals.{change_made, change_refusal}
+use Rattle.dds_model.specs.Calls.{writes, effect}
 use Rattle.dds_model.specs.Claims.{Claim, Claims}
 use Rattle.dds_model.specs.Peer.{Peer, IsTrueAt}
 use Rattle.dds_core.specs.Kept.{PeerKept}

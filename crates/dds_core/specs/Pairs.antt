@@ -9,7 +9,7 @@ use Rattle.dds_model.specs.declared.endpoint.Endpoint.{Endpoint}
 use Rattle.dds_model.specs.Claims.{every_reader}
 use Rattle.dds_model.specs.Part.{own_writer, acknowledged_of, is_reader_behind, writer_changes}
 use Rattle.dds_model.specs.Peer.{Peer}
-use Rattle.dds_model.specs.Protocol.{writer_entity}
+use Rattle.dds_model.specs.DueMessages.{writer_entity}
 use Rattle.dds_core.specs.declared.pairing.Pair.{Pair}
 
 -- the entity id of a peer's reader, by the configuration

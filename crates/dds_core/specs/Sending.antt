@@ -24,7 +24,7 @@ use Rattle.dds_model.specs.Peer.{Peer}
 use Rattle.dds_model.specs.Part.{peers_of}
 use Rattle.dds_model.specs.declared.reply.Reply.{Reply}
 use Rattle.dds_model.specs.declared.reply.Reply.TheVariants.{Done}
-use Rattle.dds_model.specs.Protocol.{Due, AreSent, changes_due, heartbeats_due, assertions_due}
+use Rattle.dds_model.specs.DueMessages.{Due, AreSent, changes_due, heartbeats_due, assertions_due}
 use Rattle.dds_core.specs.declared.matching.Destination.{Destination}
 use Rattle.dds_core.specs.declared.sending.Sender.{Sender}
 use Rattle.dds_core.specs.Kept.{PeerKept, WriterKept}

@@ -23,11 +23,13 @@ use Rattle.dds_model.specs.declared.reply.Report.{Report}
 use Rattle.dds_model.specs.Backed.{IsBacked}
 use Rattle.dds_model.specs.Dues.{AreTellable}
 use Rattle.dds_model.specs.Part.{Writer, Reader, ReaderProxy, WriterProxy, no_writer, no_reader, place_of}
-use Rattle.dds_model.specs.Calls.{with_written, ticked}
+use Rattle.dds_model.specs.Ticks.{ticked}
+use Rattle.dds_model.specs.Calls.{with_written}
 use Rattle.dds_model.specs.Watching.{Tests}
 use Rattle.dds_conditions.specs.Watched.{no_filters}
 use Rattle.dds_model.specs.Peer.{Peer, PeerStep, packets_of, state_of as network_of}
-use Rattle.dds_model.specs.Protocol.{Known, Due, TakesPacket, AreSent}
+use Rattle.dds_model.specs.DueMessages.{Due, AreSent}
+use Rattle.dds_model.specs.Protocol.{Known, TakesPacket}
 use Rattle.dds_core.specs.declared.matching.Destination.{Destination}
 use Rattle.dds_core.specs.declared.matching.ReaderName.{ReaderName}
 use Rattle.dds_core.specs.declared.matching.WriterName.{WriterName}

@@ -8,7 +8,8 @@ ghost use Rattle.dds_base.specs.declared.code.Code.TheVariants.{Memory};
 ghost use Rattle.dds_model.specs.declared.event.Event.TheVariants as event;
 ghost use Rattle.dds_core.specs.Standing.{SoundSteps};
 ghost use Rattle.dds_core.specs.Sending.{AreMessages};
-ghost use Rattle.dds_core.specs.Receiving.{receiver_at, IsBounded, AreBounded, AreReady, AreAlike, moves_of, CanTakeAt, TakesAt, AllCanTake, TakesAll, TellsReaders, TakesOneMore, KeepsPeer, TakesMessage, StandsAsWell, ReceivesPacket};
+ghost use Rattle.dds_core.specs.Readiness.{receiver_at, IsBounded, AreBounded, AreReady, AreAlike, moves_of};
+ghost use Rattle.dds_core.specs.Receiving.{CanTakeAt, TakesAt, AllCanTake, TakesAll, TellsReaders, TakesOneMore, KeepsPeer, TakesMessage, StandsAsWell, ReceivesPacket};
 
 use crate::acknack::send_acknack;
 use crate::output::unmoved;

@@ -5,7 +5,7 @@
 ghost use Rattle.std.specs.Prelude.{◌≡◌, IfErr, OnErr, OnOk};
 ghost use Rattle.dds_base.specs.declared.code.Code.TheVariants.{Memory};
 ghost use Rattle.dds_core.specs.Expiring.{AllExpire, HasDeadly, HaveRoomForDeaths};
-ghost use Rattle.dds_core.specs.Receiving.{AreAlike};
+ghost use Rattle.dds_core.specs.Readiness.{AreAlike};
 
 use crate::reader_end::ReaderEnd;
 use dds_base::{Code, Moment};

@@ -3,7 +3,7 @@
 //! DDS 1.4, 2.2.1.1 (return codes).
 
 ghost use Rattle.std.specs.Prelude.{◌≡◌, []};
-ghost use Rattle.dds_core.specs.Receiving.{access_reply};
+ghost use Rattle.dds_core.specs.Looking.{access_reply};
 
 use dds_base::{Code, Sample, Sequence};
 use dds_model::{Output, Reply, Report};

@@ -4,7 +4,7 @@
 
 ghost use Rattle.std.specs.Prelude.{◌≡◌};
 ghost use Rattle.dds_model.specs.Claims.{receiver_of, is_for, stamp_of, after_submessage};
-ghost use Rattle.dds_core.specs.Receiving.{receiver_at};
+ghost use Rattle.dds_core.specs.Readiness.{receiver_at};
 
 use dds_base::GuidPrefix;
 use rtps_wire::Submessage;

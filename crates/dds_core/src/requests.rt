@@ -6,7 +6,8 @@ ghost use Rattle.std.specs.Prelude.{◌≡◌, ◌+◌, ◌^◌, ◌<◌, ◌≤
 ghost use Rattle.rtps_wire.specs.declared.submessage.Submessage.TheVariants as submessage;
 ghost use Rattle.dds_core.specs.Answering.{HasRoom, HaveRoom, IsWriterOf, TakesRow, TakesAllRows};
 ghost use Rattle.dds_core.specs.Kept.{WriterKept};
-ghost use Rattle.dds_core.specs.Receiving.{receiver_at, TakesOneMore, KeepsPeer};
+ghost use Rattle.dds_core.specs.Readiness.{receiver_at};
+ghost use Rattle.dds_core.specs.Receiving.{TakesOneMore, KeepsPeer};
 ghost use Rattle.dds_core.specs.Sending.{AreMessages};
 
 use crate::answering::Room;

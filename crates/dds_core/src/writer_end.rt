@@ -10,7 +10,7 @@ ghost use Rattle.dds_base.specs.Refusal.{Refuses};
 ghost use Rattle.dds_base.specs.Written.{Asserted, Registered, Changed, LookedAt, is_key_registered, liveliness_lost_status};
 ghost use Rattle.dds_model.specs.declared.endpoint.Endpoint.{Endpoint as EndpointOf};
 ghost use Rattle.dds_model.specs.Watching.{writer_statuses};
-ghost use Rattle.dds_model.specs.Calls.{unregister_kind};
+ghost use Rattle.dds_model.specs.Refusals.{unregister_kind};
 ghost use Rattle.dds_model.specs.Part.{ReaderProxy, Writer, history_of, writer_changes};
 ghost use Rattle.dds_core.specs.declared.matching.ReaderName.{ReaderName as NameOf};
 ghost use Rattle.dds_core.specs.Answering.{HasRoom, AreRooms, TakesAckNack};
@@ -18,7 +18,7 @@ ghost use Rattle.dds_core.specs.Beating.{BeatsOf, BeatsOfAll, HasNoCount, TellsO
 ghost use Rattle.dds_core.specs.Kept.{writer_identity};
 ghost use Rattle.dds_core.specs.Noticing.{MarksWriter};
 ghost use Rattle.dds_core.specs.Opening.{OpensWriter};
-ghost use Rattle.dds_core.specs.Receiving.{receiver_at};
+ghost use Rattle.dds_core.specs.Readiness.{receiver_at};
 ghost use Rattle.dds_core.specs.Sending.{AnnouncesOf, AreMessages};
 ghost use Rattle.dds_core.specs.Standing.{WriterStands, Enters, Ticks, AllTick};
 

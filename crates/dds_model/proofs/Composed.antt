@@ -27,7 +27,8 @@ use Rattle.dds_base.proofs.PlaceLaws.{SayAsMuch, goes_on}
 use Rattle.dds_model.specs.Moves.{Grounds, as_to, match_of, position_at, IsMove, AreMoves, DeliveryStep}
 use Rattle.dds_model.specs.Receipt.{HasNoRoom, MovesOver, TakesUp, Receives, prefix_of}
 use Rattle.dds_model.specs.Progress.{ReceivesIn, Progresses}
-use Rattle.dds_model.specs.Calls.{CallStep, TickStep}
+use Rattle.dds_model.specs.Ticks.{TickStep}
+use Rattle.dds_model.specs.Calls.{CallStep}
 use Rattle.dds_model.specs.Watching.{Tests}
 use Rattle.dds_model.specs.Claims.{Receiver, after_submessage, receiver_of, Claim, ChangeIs, MayPass, PlaceReached, Asserts, Claims, Claimed}
 use Rattle.dds_model.specs.Peer.{Peer, Delivery, PeerStep, EventStep, no_peer, claimed, packets_of, IsTrueAt}

@@ -19,7 +19,7 @@ use Rattle.rtps_writer.specs.declared.answer.Answer.{Answer}
 use Rattle.rtps_writer.specs.declared.answer.Answer.TheVariants.{Data as AnswersData, Gap as AnswersGap}
 use Rattle.dds_model.specs.declared.endpoint.Endpoint.{Endpoint}
 use Rattle.dds_model.specs.Claims.{Receiver, receiver_of, after_submessage, StandsAt, StandsIn, IsWriter, IsToWriter}
-use Rattle.dds_model.specs.Protocol.{Due, data_of, submessages_of}
+use Rattle.dds_model.specs.DueMessages.{Due, data_of, submessages_of}
 use Rattle.dds_model.specs.Fresh.{HasHeartbeat, HasAckNack}
 use Rattle.dds_model.proofs.Composed.{front_or_rest, later_in}
 use Rattle.dds_model.proofs.Dues.{addressed, message_to, stands_again}

@@ -21,7 +21,8 @@ use Rattle.dds_model.specs.Part.{Part, WriterProxy, own_proxies, place_of, with_
 use Rattle.dds_model.specs.Claims.{Receiver, every_peer, Names, IsWriter, IsReader, IsToReader, IsToWriter, Claim}
 use Rattle.dds_model.specs.Claims.{ChangeIs, MayPass, PlaceReached, Asserts, Says}
 use Rattle.dds_model.specs.Peer.{IsTrueAt}
-use Rattle.dds_model.specs.Protocol.{Due, State, Goes, TakesHeartbeat, ReaderTakes, acknack_message, acknacks_due}
+use Rattle.dds_model.specs.DueMessages.{Due, acknack_message, acknacks_due}
+use Rattle.dds_model.specs.Protocol.{State, Goes, TakesHeartbeat, ReaderTakes}
 use Rattle.dds_model.specs.Backed.{reader_at}
 use Rattle.dds_model.specs.Dues.{IsTruthful, AreTruthful}
 use Rattle.dds_model.proofs.Dues.{addressed, told_alone}

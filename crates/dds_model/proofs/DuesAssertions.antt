@@ -22,7 +22,7 @@ use Rattle.dds_model.specs.Watching.{Tests}
 use Rattle.dds_model.specs.Claims.{Claim, ChangeIs, MayPass, PlaceReached, Asserts, Says}
 use Rattle.dds_model.specs.Receipt.{prefix_of}
 use Rattle.dds_model.specs.Peer.{IsTrueAt}
-use Rattle.dds_model.specs.Protocol.{Due, assertion_message, assertions_due, writer_entity}
+use Rattle.dds_model.specs.DueMessages.{Due, assertion_message, assertions_due, writer_entity}
 use Rattle.dds_model.specs.Dues.{IsPartOf, IsTruthful, AreTruthful, IsSized, HasSmallChanges, CanBeWritten}
 use Rattle.dds_model.proofs.Dues.{addressed, told_alone}
 use Rattle.dds_model.proofs.DuesGrowth.{true_on}

@@ -15,7 +15,7 @@ use Rattle.dds_model.specs.Part.{acknowledged_of, with_acknowledged, place_of, w
 use Rattle.dds_model.specs.Moves.{Grounds, IsMove, AreMoves}
 use Rattle.dds_model.specs.Claims.{Claim, ChangeIs, MayPass, PlaceReached, Asserts}
 use Rattle.dds_model.specs.Peer.{IsTrueAt}
-use Rattle.dds_model.specs.Protocol.{Due}
+use Rattle.dds_model.specs.DueMessages.{Due}
 use Rattle.dds_model.specs.Dues.{AreTellable, IsPartOf, IsTruthful, AreTruthful, AreSmall, HasSmallChanges}
 use Rattle.dds_model.proofs.Growth.{Grows, grows_same, grows_on, IsMove-grows, writer-changes, change_at-append}
 use Rattle.dds_model.proofs.Growth.{dropped-grows, assertion-grows}

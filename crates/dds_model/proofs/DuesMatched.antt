@@ -17,7 +17,7 @@ use Rattle.dds_model.specs.Numbered.{HasNumber}
 use Rattle.dds_model.specs.Part.{Part, ReaderProxy, same_endpoint, row_of, own_writer, acknowledged_of}
 use Rattle.dds_model.specs.Claims.{IsNumbered, IsWriter, IsReader, every_reader}
 use Rattle.dds_model.specs.Receipt.{prefix_of}
-use Rattle.dds_model.specs.Protocol.{writer_entity}
+use Rattle.dds_model.specs.DueMessages.{writer_entity}
 use Rattle.dds_model.specs.Dues.{IsPartOf}
 use Rattle.dds_model.proofs.Composed.{front_or_rest, later_in}
 use Rattle.dds_model.proofs.InOrder.{same_self}

@@ -17,10 +17,11 @@ use Rattle.dds_model.specs.declared.reply.Move.{Move}
 use Rattle.dds_model.specs.declared.reply.Report.{Report}
 use Rattle.dds_model.specs.declared.reply.Reply.{Reply}
 use Rattle.dds_model.specs.Part.{Part, ReaderProxy, own_writer, acknowledged_of, NoLess}
-use Rattle.dds_model.specs.Calls.{TickStep}
+use Rattle.dds_model.specs.Ticks.{TickStep}
 use Rattle.dds_model.specs.Claims.{Receiver, receiver_of, after_submessage, Claim, Claims}
 use Rattle.dds_model.specs.Peer.{Delivery, packets_of, IsTrueAt}
-use Rattle.dds_model.specs.Protocol.{Due, State, FollowsMessage, TakesMessage, TakesPacket, AreSent, heartbeats_due}
+use Rattle.dds_model.specs.DueMessages.{Due, AreSent, heartbeats_due}
+use Rattle.dds_model.specs.Protocol.{State, FollowsMessage, TakesMessage, TakesPacket}
 use Rattle.dds_model.specs.Backed.{IsBacked}
 use Rattle.dds_model.specs.Dues.{AreTellable, IsPartOf, IsTruthful, AreTruthful, IsSized, HasSmallChanges, HasPlaces}
 use Rattle.dds_model.specs.Dues.{CanBeWritten}

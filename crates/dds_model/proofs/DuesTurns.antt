@@ -10,7 +10,8 @@ use Rattle.rtps_wire.specs.declared.submessage.Submessage.TheVariants.{Gap, Othe
 use Rattle.dds_model.specs.declared.reply.Move.{Move}
 use Rattle.dds_model.specs.Part.{ReaderProxy, own_writer}
 use Rattle.dds_model.specs.Moves.{AreMoves}
-use Rattle.dds_model.specs.Protocol.{Due, State, InTurn, ReaderTakes, WriterTakes, Takes}
+use Rattle.dds_model.specs.DueMessages.{Due}
+use Rattle.dds_model.specs.Protocol.{State, InTurn, ReaderTakes, WriterTakes, Takes}
 use Rattle.dds_model.specs.Dues.{AreTellable, IsTruthful, AreTruthful, IsSized, HasSmallChanges, CanBeWritten}
 use Rattle.dds_model.proofs.DuesAcknacks.{none_due, reader_truthful}
 use Rattle.dds_model.proofs.DuesAnswers.{writer_truthful}

@@ -27,7 +27,7 @@ use Rattle.rtps_wire.proofs.LengthLaws.{short_writable}
 use Rattle.rtps_writer.specs.declared.answer.Answer.{Answer}
 use Rattle.rtps_writer.specs.declared.answer.Answer.TheVariants.{Data as AnswersData, Gap as AnswersGap}
 use Rattle.dds_model.specs.Part.{Writer, writer_changes, heartbeats_used, history_of}
-use Rattle.dds_model.specs.Protocol.{acknack_message, answer_message, data_of, submessages_of, heartbeat_with}
+use Rattle.dds_model.specs.DueMessages.{acknack_message, answer_message, data_of, submessages_of, heartbeat_with}
 use Rattle.dds_model.proofs.Growth.{change_at-within}
 
 -- a count from 1 to 2^31 - 1

@@ -34,7 +34,8 @@ use Rattle.dds_model.specs.Part.{Part, Dds, Reader as ReaderState, nothing_seen}
 use Rattle.dds_model.specs.Moves.{Grounds, IsMove, AreMoves}
 use Rattle.dds_model.specs.Claims.{Receiver, after_submessage}
 use Rattle.dds_model.specs.Receipt.{TakesUp}
-use Rattle.dds_model.specs.Calls.{IsDoneUnless, IsAnswered, IsAnsweredInMemory, AnswersLook, AnswersAccess, AnswersByCondition, Answers, register_refusal, write_refusal, dispose_refusal, unregister_refusal}
+use Rattle.dds_model.specs.Refusals.{register_refusal, write_refusal, dispose_refusal, unregister_refusal}
+use Rattle.dds_model.specs.Calls.{IsDoneUnless, IsAnswered, IsAnsweredInMemory, AnswersLook, AnswersAccess, AnswersByCondition, Answers}
 use Rattle.dds_model.specs.Opening.{opening_peers, opening_world, opening_writer, reader_qos}
 use Rattle.dds_model.specs.Peer.{Peer, PeerStep, EventStep, no_peer}
 use Rattle.dds_model.specs.World.{peer_at}

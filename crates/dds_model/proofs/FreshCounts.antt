@@ -27,14 +27,16 @@ use Rattle.dds_model.specs.declared.reply.Reply.TheVariants.{Done, Reported}
 use Rattle.dds_model.specs.Numbered.{HasNumber}
 use Rattle.dds_model.specs.Part.{Part, Writer, no_writer, own_writer, writer_changes, has_readers, is_behind, peers_of, heartbeats_used}
 use Rattle.dds_model.specs.Moves.{Grounds}
-use Rattle.dds_model.specs.Calls.{Effect, nothing, writes, effect, effect_of, with_written, ticked, after_tick, TickStep}
+use Rattle.dds_model.specs.Ticks.{ticked, after_tick, TickStep}
+use Rattle.dds_model.specs.Calls.{Effect, nothing, writes, effect, effect_of, with_written}
 use Rattle.dds_model.specs.Watching.{Tests}
 use Rattle.dds_model.specs.Claims.{Receiver, receiver_of, after_submessage, every_reader}
 use Rattle.dds_model.specs.Receipt.{TakesUp, Receives, prefix_of}
 use Rattle.dds_model.specs.Dues.{IsPartOf}
 use Rattle.dds_model.specs.Machine.{Machine, AllTests, part_at, writer_at}
 use Rattle.dds_model.specs.Peer.{Peer, EventStep, no_peer, claimed, state_of}
-use Rattle.dds_model.specs.Protocol.{Due, Known, TakesPacket, writer_entity, change_message, heartbeat_with, assertions_due, heartbeats_due}
+use Rattle.dds_model.specs.DueMessages.{Due, writer_entity, change_message, heartbeat_with, assertions_due, heartbeats_due}
+use Rattle.dds_model.specs.Protocol.{Known, TakesPacket}
 use Rattle.dds_model.specs.World.{WorldState, WorldStep, PeerSteps, peer_at, machine_of}
 use Rattle.dds_model.specs.Rules.{announcements_due, AreDue, RuledStep}
 use Rattle.dds_model.specs.Fresh.{HasHeartbeat, HasAckNack, heartbeats_used_at, tracked_at, acknacks_used_at, HasUsedCounts}

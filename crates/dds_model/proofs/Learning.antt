@@ -8,7 +8,8 @@ use Rattle.rtps_wire.specs.declared.heartbeat.Heartbeat.{Heartbeat as HeartbeatB
 use Rattle.dds_model.specs.declared.endpoint.Endpoint.{Endpoint}
 use Rattle.dds_model.specs.declared.reply.Move.{Move}
 use Rattle.dds_model.specs.Claims.{Receiver}
-use Rattle.dds_model.specs.Protocol.{Due, Known, State, Goes, Asserting, TakesHeartbeat}
+use Rattle.dds_model.specs.DueMessages.{Due}
+use Rattle.dds_model.specs.Protocol.{Known, State, Goes, Asserting, TakesHeartbeat}
 use Rattle.dds_model.proofs.Framing.{tracked_here, tracked_elsewhere}
 
 -- of this writer the reader knows this now, and of others what it knew

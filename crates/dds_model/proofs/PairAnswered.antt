@@ -24,7 +24,8 @@ use Rattle.dds_model.specs.Part.{ReaderProxy, Writer, no_writer, own_writer, ack
 use Rattle.dds_model.specs.Claims.{IsToReader}
 use Rattle.dds_model.specs.Machine.{AllTests}
 use Rattle.dds_model.specs.Peer.{Peer, state_of}
-use Rattle.dds_model.specs.Protocol.{Due, State, AreSent, AreGrouped, answer_message}
+use Rattle.dds_model.specs.DueMessages.{Due, AreSent, answer_message}
+use Rattle.dds_model.specs.Protocol.{State, AreGrouped}
 use Rattle.dds_model.specs.World.{WorldState, peer_at}
 use Rattle.dds_model.specs.Backed.{reader_at}
 use Rattle.dds_model.specs.CatchUp.{Standing, TakesAnswers}

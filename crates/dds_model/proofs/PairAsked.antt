@@ -12,7 +12,8 @@ use Rattle.dds_model.specs.declared.reply.Move.{Move}
 use Rattle.dds_model.specs.Numbered.{HasNumber}
 use Rattle.dds_model.specs.Part.{Part, ReaderProxy, Writer, no_writer, same_endpoint, row_of, own_writer, acknowledged_of, writer_changes}
 use Rattle.dds_model.specs.Claims.{Receiver, IsToWriter}
-use Rattle.dds_model.specs.Protocol.{Due, Known, State, InTurn, TakesAckNack, is_taken_up, WriterTakes, Takes, with_answered}
+use Rattle.dds_model.specs.DueMessages.{Due}
+use Rattle.dds_model.specs.Protocol.{Known, State, InTurn, TakesAckNack, is_taken_up, WriterTakes, Takes, with_answered}
 use Rattle.dds_model.specs.Backed.{reader_at}
 use Rattle.dds_model.proofs.Framing.{number_or_not}
 use Rattle.dds_model.proofs.InOrder.{same_self}

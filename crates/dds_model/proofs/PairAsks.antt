@@ -12,7 +12,7 @@ use Rattle.dds_model.specs.declared.endpoint.Endpoint.{Endpoint}
 use Rattle.dds_model.specs.declared.event.Packet.{Packet}
 use Rattle.dds_model.specs.Part.{Writer, writer_changes}
 use Rattle.dds_model.specs.Machine.{AllTests, writer_at}
-use Rattle.dds_model.specs.Protocol.{Due, acknacks_due, writer_entity}
+use Rattle.dds_model.specs.DueMessages.{Due, acknacks_due, writer_entity}
 use Rattle.dds_model.specs.World.{WorldState, machine_of, Sound}
 use Rattle.dds_model.specs.Bounds.{IsBounded}
 use Rattle.dds_model.specs.Fresh.{HasAckNack, HasUsedCounts, acknacks_used_at}

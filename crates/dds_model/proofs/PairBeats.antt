@@ -20,7 +20,7 @@ use Rattle.dds_model.specs.Part.{Part, ReaderProxy, Writer, no_writer, same_endp
 use Rattle.dds_model.specs.Receipt.{prefix_of}
 use Rattle.dds_model.specs.Dues.{IsPartOf}
 use Rattle.dds_model.specs.Machine.{AllTests, writer_at}
-use Rattle.dds_model.specs.Protocol.{Due, readers_behind, heartbeats_of, heartbeats_from, heartbeats_due}
+use Rattle.dds_model.specs.DueMessages.{Due, readers_behind, heartbeats_of, heartbeats_from, heartbeats_due}
 use Rattle.dds_model.specs.World.{WorldState, peer_at, machine_of}
 use Rattle.dds_model.specs.Fresh.{HasUsedCounts, heartbeats_used_at}
 use Rattle.dds_model.specs.Repair.{HasBeatTo}

@@ -26,7 +26,8 @@ use Rattle.dds_model.specs.Part.{Writer, own_reader, acknowledged_of, writer_cha
 use Rattle.dds_model.specs.Moves.{match_of, position_at}
 use Rattle.dds_model.specs.Machine.{AllTests, writer_at}
 use Rattle.dds_model.specs.Peer.{Peer, state_of}
-use Rattle.dds_model.specs.Protocol.{Due, State, is_taken_up, TakesPacket}
+use Rattle.dds_model.specs.DueMessages.{Due}
+use Rattle.dds_model.specs.Protocol.{State, is_taken_up, TakesPacket}
 use Rattle.dds_model.specs.World.{WorldState, peer_at, machine_of, Sound}
 use Rattle.dds_model.specs.Bounds.{IsBounded}
 use Rattle.dds_model.specs.CatchUp.{Standing, TakesAnswers, IsRepaired, IsFull, HasGoneOn}

@@ -25,7 +25,7 @@ use Rattle.dds_model.specs.Receipt.{prefix_of}
 use Rattle.dds_model.specs.Dues.{IsPartOf}
 use Rattle.dds_model.specs.Machine.{AllTests}
 use Rattle.dds_model.specs.Numbered.{HasNumber}
-use Rattle.dds_model.specs.Protocol.{Due, writer_entity, heartbeats_due, acknacks_due}
+use Rattle.dds_model.specs.DueMessages.{Due, writer_entity, heartbeats_due, acknacks_due}
 use Rattle.dds_model.specs.World.{WorldState, peer_at}
 use Rattle.dds_model.specs.Backed.{reader_at}
 use Rattle.dds_model.specs.Fresh.{HasHeartbeat, HasAckNack}

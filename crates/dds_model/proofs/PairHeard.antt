@@ -28,7 +28,8 @@ use Rattle.dds_model.specs.Claims.{Receiver, is_for, every_peer, Names, IsWriter
 use Rattle.dds_model.specs.Receipt.{prefix_of}
 use Rattle.dds_model.specs.Machine.{AllTests}
 use Rattle.dds_model.specs.Peer.{state_of}
-use Rattle.dds_model.specs.Protocol.{Due, State, TakesPacket, writer_entity, acknacks_due}
+use Rattle.dds_model.specs.DueMessages.{Due, writer_entity, acknacks_due}
+use Rattle.dds_model.specs.Protocol.{State, TakesPacket}
 use Rattle.dds_model.specs.World.{WorldState, WorldStep, peer_at, machine_of, Sound}
 use Rattle.dds_model.specs.Bounds.{IsBounded}
 use Rattle.dds_model.specs.Fresh.{HasAckNack}

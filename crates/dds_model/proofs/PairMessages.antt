@@ -26,7 +26,8 @@ use Rattle.dds_model.specs.declared.reply.Report.{Report}
 use Rattle.dds_model.specs.Part.{own_writer}
 use Rattle.dds_model.specs.Claims.{Receiver, receiver_of, after_submessage, is_for, stamp_of, IsToReader}
 use Rattle.dds_model.specs.Receipt.{prefix_of}
-use Rattle.dds_model.specs.Protocol.{Due, State, InTurn, ReaderTakes, is_taken_up, Takes, FollowsMessage, TakesPacket, data_of, submessages_of, answer_message}
+use Rattle.dds_model.specs.DueMessages.{Due, data_of, submessages_of, answer_message}
+use Rattle.dds_model.specs.Protocol.{State, InTurn, ReaderTakes, is_taken_up, Takes, FollowsMessage, TakesPacket}
 use Rattle.dds_model.specs.Backed.{reader_at}
 use Rattle.dds_model.specs.CatchUp.{TakesAnswer, TakesAnswers}
 use Rattle.dds_model.proofs.Dues.{addressed, message_to}

@@ -10,7 +10,7 @@ use Rattle.dds_base.specs.declared.config.ReaderConfig.{ReaderConfig}
 use Rattle.dds_base.specs.Matched.{same_topic}
 use Rattle.dds_model.specs.declared.endpoint.Endpoint.{Endpoint}
 use Rattle.dds_model.specs.Part.{Part, ReaderProxy, same_endpoint, row_of, own_writer, acknowledged_of}
-use Rattle.dds_model.specs.Protocol.{writer_entity}
+use Rattle.dds_model.specs.DueMessages.{writer_entity}
 use Rattle.dds_model.specs.Dues.{IsPartOf}
 use Rattle.dds_model.specs.Repair.{IsPair}
 use Rattle.dds_model.proofs.Composed.{front_or_rest, later_in}

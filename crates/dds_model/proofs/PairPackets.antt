@@ -12,7 +12,8 @@ use Rattle.dds_model.specs.declared.reply.Move.{Move}
 use Rattle.dds_model.specs.declared.reply.Report.{Report}
 use Rattle.dds_model.specs.Claims.{Receiver, receiver_of, after_submessage}
 use Rattle.dds_model.specs.Receipt.{prefix_of}
-use Rattle.dds_model.specs.Protocol.{Due, State, InTurn, Idles, ReaderTakes, Takes, FollowsMessage, TakesPacket}
+use Rattle.dds_model.specs.DueMessages.{Due}
+use Rattle.dds_model.specs.Protocol.{State, InTurn, Idles, ReaderTakes, Takes, FollowsMessage, TakesPacket}
 use Rattle.dds_model.proofs.Dues.{read_again}
 use Rattle.dds_model.proofs.Tables.{append_nothing}
 

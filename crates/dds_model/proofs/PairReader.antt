@@ -20,7 +20,8 @@ use Rattle.dds_model.specs.Numbered.{HasNumber}
 use Rattle.dds_model.specs.Part.{Part, Reader, WriterProxy, no_reader, own_proxies, own_reader, place_of, publication_among}
 use Rattle.dds_model.specs.Moves.{match_of}
 use Rattle.dds_model.specs.Claims.{Receiver, IsToReader}
-use Rattle.dds_model.specs.Protocol.{Due, State, Goes, Asserting, TakesHeartbeat, ReaderTakes, acknacks_due}
+use Rattle.dds_model.specs.DueMessages.{Due, acknacks_due}
+use Rattle.dds_model.specs.Protocol.{State, Goes, Asserting, TakesHeartbeat, ReaderTakes}
 use Rattle.dds_model.specs.Backed.{reader_at}
 use Rattle.dds_model.specs.CatchUp.{Standing, GoesOn}
 use Rattle.dds_model.proofs.DuesAcknacks.{goes_there}

@@ -18,12 +18,12 @@ use Rattle.dds_model.specs.declared.event.WorldEvent.TheVariants as world
 use Rattle.dds_model.specs.declared.reply.Reply.{Reply}
 use Rattle.dds_model.specs.declared.reply.Reply.TheVariants.{Done}
 use Rattle.dds_model.specs.Part.{Part, own_writer, writer_changes}
-use Rattle.dds_model.specs.Calls.{TickStep}
+use Rattle.dds_model.specs.Ticks.{TickStep}
 use Rattle.dds_model.specs.Receipt.{prefix_of}
 use Rattle.dds_model.specs.Dues.{IsPartOf}
 use Rattle.dds_model.specs.Machine.{AllTests}
 use Rattle.dds_model.specs.Peer.{Peer, no_peer}
-use Rattle.dds_model.specs.Protocol.{Due, writer_entity, heartbeats_due}
+use Rattle.dds_model.specs.DueMessages.{Due, writer_entity, heartbeats_due}
 use Rattle.dds_model.specs.Numbered.{HasNumber}
 use Rattle.dds_model.specs.World.{WorldState, WorldStep, PeerSteps, peer_at}
 use Rattle.dds_model.specs.Fresh.{HasHeartbeat}

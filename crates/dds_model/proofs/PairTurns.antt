@@ -23,7 +23,8 @@ use Rattle.dds_model.specs.declared.endpoint.Endpoint.{Endpoint}
 use Rattle.dds_model.specs.declared.reply.Move.{Move}
 use Rattle.dds_model.specs.Part.{WriterProxy, own_proxies, own_reader, with_heard}
 use Rattle.dds_model.specs.Claims.{Receiver, IsReader, IsToReader}
-use Rattle.dds_model.specs.Protocol.{Due, State, InTurn, Goes, Asserting, TakesHeartbeat, Idles, ReaderTakes, acknack_message, acknacks_due, with_tracked}
+use Rattle.dds_model.specs.DueMessages.{Due, acknack_message, acknacks_due}
+use Rattle.dds_model.specs.Protocol.{State, InTurn, Goes, Asserting, TakesHeartbeat, Idles, ReaderTakes, with_tracked}
 use Rattle.dds_model.specs.Backed.{reader_at}
 use Rattle.dds_model.specs.Fresh.{HasAckNack}
 use Rattle.dds_model.proofs.Composed.{is_alone}

@@ -24,7 +24,8 @@ use Rattle.dds_model.specs.Moves.{IsMatchedAt, AreMoves}
 use Rattle.dds_model.specs.Claims.{Receiver, receiver_of, after_submessage, StandsAt, StandsIn, IsReader, IsToReader, ChangeIs, Says}
 use Rattle.dds_model.specs.Receipt.{prefix_of, MovesOver, TakesUp, IsNotTaken, Receives}
 use Rattle.dds_model.specs.Peer.{Delivery, IsApplied, IsBefore, claimed, packets_of}
-use Rattle.dds_model.specs.Protocol.{Due, Known, State, InTurn, ReaderTakes, Takes, FollowsMessage, TakesPacket}
+use Rattle.dds_model.specs.DueMessages.{Due}
+use Rattle.dds_model.specs.Protocol.{Known, State, InTurn, ReaderTakes, Takes, FollowsMessage, TakesPacket}
 use Rattle.dds_model.specs.Backed.{reader_at, IsClaimed, IsBacked}
 use Rattle.dds_model.proofs.Knowing.{claimed_on}
 use Rattle.dds_model.proofs.Composed.{front_or_rest, later_in}

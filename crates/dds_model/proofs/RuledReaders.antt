@@ -32,7 +32,8 @@ use Rattle.dds_model.specs.Moves.{Grounds, match_of, position_at, IsMatchedAt, A
 use Rattle.dds_model.specs.Claims.{Receiver, IsToReader, Claim, ChangeIs, MayPass, Asserts, Says, Claimed}
 use Rattle.dds_model.specs.Receipt.{GoesOver, HasNoRoom}
 use Rattle.dds_model.specs.Peer.{Delivery, claimed, packets_of, delivered_to}
-use Rattle.dds_model.specs.Protocol.{Due, State, Goes, Asserting, TakesHeartbeat, Idles, ReaderTakes}
+use Rattle.dds_model.specs.DueMessages.{Due}
+use Rattle.dds_model.specs.Protocol.{State, Goes, Asserting, TakesHeartbeat, Idles, ReaderTakes}
 use Rattle.dds_model.specs.Backed.{reader_at, IsClaimed, TookNone, IsBacked}
 use Rattle.dds_model.proofs.Composed.{moves_on}
 use Rattle.dds_model.proofs.OwnGuids.{one_writer}

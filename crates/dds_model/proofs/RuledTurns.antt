@@ -13,7 +13,8 @@ use Rattle.dds_model.specs.declared.reply.Move.TheVariants.{Place, Acknowledged,
 use Rattle.dds_model.specs.Part.{Reader, WriterProxy, own_proxies, own_reader, place_of, publication_among}
 use Rattle.dds_model.specs.Moves.{AreMoves}
 use Rattle.dds_model.specs.Receipt.{GoesOver}
-use Rattle.dds_model.specs.Protocol.{Due, State, InTurn, ReaderTakes}
+use Rattle.dds_model.specs.DueMessages.{Due}
+use Rattle.dds_model.specs.Protocol.{State, InTurn, ReaderTakes}
 use Rattle.dds_model.proofs.Composed.{moves_on}
 use Rattle.dds_model.proofs.Framing.{Frames, number_or_not}
 use Rattle.dds_model.proofs.RuledReaders.{Coming, grounds, Backs, IsPast, MovesIt, IsTakenAt, nothing_taken, data_taken, gap_taken, heartbeat_taken}

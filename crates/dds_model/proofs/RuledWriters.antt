@@ -11,7 +11,8 @@ use Rattle.dds_model.specs.declared.reply.Move.TheVariants.{Acknowledged}
 use Rattle.dds_model.specs.Part.{ReaderProxy, Writer, own_writer, at_writer}
 use Rattle.dds_model.specs.Moves.{IsMove, AreMoves}
 use Rattle.dds_model.specs.Claims.{IsToWriter, PlaceReached, Says}
-use Rattle.dds_model.specs.Protocol.{Due, State, InTurn, TakesAckNack, WriterTakes, acknowledging}
+use Rattle.dds_model.specs.DueMessages.{Due}
+use Rattle.dds_model.specs.Protocol.{State, InTurn, TakesAckNack, WriterTakes, acknowledging}
 use Rattle.dds_model.proofs.Composed.{moves_on}
 use Rattle.dds_model.proofs.Framing.{at_writer_same}
 use Rattle.dds_model.proofs.RuledReaders.{Coming, grounds, Backs}

@@ -24,7 +24,8 @@ use Rattle.dds_model.specs.declared.reply.Reply.TheVariants.{Done, Samples, KeyV
 use Rattle.dds_model.specs.Part.{Dds, Part, writer_changes, history_of}
 use Rattle.dds_base.specs.Places.{GoesTo}
 use Rattle.dds_model.specs.Moves.{as_to, match_of, position_at, AreMoves, DeliveryStep}
-use Rattle.dds_model.specs.Calls.{IsAnswered, IsAnsweredInMemory, AnswersLook, AnswersByCondition, CallStep, TickStep}
+use Rattle.dds_model.specs.Ticks.{TickStep}
+use Rattle.dds_model.specs.Calls.{IsAnswered, IsAnsweredInMemory, AnswersLook, AnswersByCondition, CallStep}
 use Rattle.dds_model.specs.Watching.{Test, Tests, condition_selection}
 use Rattle.dds_model.specs.Machine.{Machine, AllTests, part_at, writer_at, grounds_of, Step}
 use Rattle.dds_model.specs.World.{WorldState, machine_of, Sound}

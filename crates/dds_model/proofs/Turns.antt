@@ -1,7 +1,8 @@
 -- Steps in turn: what each of them keeps, all of them keep.
 use Rattle.std.proofs.Common.{List, [], ◌∷◌, ◌++◌, subst, sym}
 use Rattle.dds_model.specs.declared.reply.Move.{Move}
-use Rattle.dds_model.specs.Protocol.{Due, State, InTurn}
+use Rattle.dds_model.specs.DueMessages.{Due}
+use Rattle.dds_model.specs.Protocol.{State, InTurn}
 
 -- a relation of two states, and of what is due meanwhile, that goes on
 pub in_turn : {X : Type 0} (R : State → List Due → State → Type 0) → ((s : State) → R s [] s)

@@ -12,7 +12,7 @@ use Rattle.dds_model.specs.declared.reply.Move.TheVariants.{Acknowledged, Heard}
 use Rattle.dds_model.specs.declared.reply.Reply.TheVariants.{Reported}
 use Rattle.dds_model.specs.Part.{Part, Writer, is_assertion}
 use Rattle.dds_model.specs.Moves.{Grounds, Acknowledges, IsLater, Hears, DeliveryStep}
-use Rattle.dds_model.specs.Calls.{change_refusal}
+use Rattle.dds_model.specs.Refusals.{change_refusal}
 use Rattle.dds_model.specs.Machine.{grounds_of}
 use Rattle.dds_model.specs.Claims.{ChangeIs, MayPass, PlaceReached, Asserts}
 use Rattle.dds_model.specs.Peer.{IsTrueAt}

@@ -8,10 +8,11 @@ use Rattle.dds_base.specs.declared.qos.MatchedWriter.{MatchedWriter}
 use Rattle.dds_base.specs.declared.qos.OwnershipQos.TheVariants.{Shared}
 use Rattle.dds_base.specs.Written.{Asserted, Ticked}
 use Rattle.rtps_wire.specs.declared.submessage.Submessage.TheVariants.{InfoDst, Heartbeat}
-use Rattle.dds_model.specs.Calls.{RefusesTick, after_tick, is_deadly, tick_refusal, with_written}
+use Rattle.dds_model.specs.Ticks.{RefusesTick, after_tick, is_deadly, tick_refusal}
+use Rattle.dds_model.specs.Calls.{with_written}
 use Rattle.dds_model.specs.Claims.{every_reader}
 use Rattle.dds_model.specs.Part.{Part, Writer, heartbeats_used, is_assertion, no_part, no_writer, nothing_seen, own_reader}
-use Rattle.dds_model.specs.Protocol.{assertions_due}
+use Rattle.dds_model.specs.DueMessages.{assertions_due}
 use Rattle.dds_model.proofs.WorkedReceivers.{network, prefix_1, prefix_2, r1, r3, w1, w1_id}
 
 -- ---- deaths

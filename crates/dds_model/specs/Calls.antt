@@ -3,25 +3,20 @@
 --
 -- DDS 1.4, 2.2.2.4 (register_instance, write, dispose, unregister_instance, assert_liveliness, get_liveliness_lost_status),
 -- 2.2.2.5 (the forms of read and take, get_key_value, lookup_instance, get_sample_lost_status, get_liveliness_changed_status), 2.2.1.1 (return codes).
-use Rattle.std.specs.Prelude.{◌≡◌, ◌≢◌, ◌⊎◌, ℕ, ◌+◌, ◌-◌, ◌^◌, ◌||◌, not, Bool, true, false, List, [], ◌∷◌, map, length, Option, Some, None, is_some, nat_le, nat_lt, if◌then◌else◌}
-use Rattle.std.specs.List.{list_any}
-use Rattle.dds_base.specs.declared.key.Key.{Key}
-use Rattle.dds_base.specs.declared.change.Change.{Change}
-use Rattle.dds_base.specs.declared.change.ChangeKind.{ChangeKind}
+use Rattle.std.specs.Prelude.{◌≡◌, ◌≢◌, ◌⊎◌, ℕ, ◌+◌, not, Bool, true, false, List, [], ◌∷◌, length, Option, Some, None, is_some}
 use Rattle.dds_base.specs.declared.change.ChangeKind.TheVariants as kind
 use Rattle.dds_base.specs.declared.code.Code.{Code}
-use Rattle.dds_base.specs.declared.code.Code.TheVariants.{BadParameter, Memory, OutOfResources, PreconditionNotMet, NoData, Timeout}
+use Rattle.dds_base.specs.declared.code.Code.TheVariants.{Memory, NoData, Timeout}
 use Rattle.dds_base.specs.declared.happening.Happening.{Happening}
 use Rattle.dds_base.specs.declared.happening.Happening.TheVariants.{Read as HasRead, Took}
 use Rattle.dds_base.specs.declared.happening.SamplePosition.{SamplePosition}
 use Rattle.dds_base.specs.declared.selection.Selection.{Selection}
-use Rattle.dds_base.specs.Access.{no_filter, collection_of, instance_of, handle_of}
-use Rattle.dds_base.specs.Kept.{append_refusal}
-use Rattle.dds_base.specs.Liveliness.{after_deaths, alive_count, dead_at, liveliness_changed_status, not_alive_count}
+use Rattle.dds_base.specs.Access.{no_filter, collection_of, handle_of}
+use Rattle.dds_base.specs.Liveliness.{alive_count, liveliness_changed_status, not_alive_count}
 use Rattle.dds_base.specs.Refusal.{Refuses}
-use Rattle.dds_base.specs.Selection.{picked_by, selection_refusal}
+use Rattle.dds_base.specs.Selection.{picked_by}
 use Rattle.dds_base.specs.Statuses.{lost_count, sample_lost_status}
-use Rattle.dds_base.specs.Written.{Written, Registered, Changed, Asserted, LookedAt, Ticked, is_key_registered, liveliness_lost_status}
+use Rattle.dds_base.specs.Written.{Written, Registered, Changed, Asserted, LookedAt, liveliness_lost_status}
 use Rattle.dds_base.specs.Number.{at_number}
 use Rattle.dds_model.specs.declared.call.Call.{Call}
 use Rattle.dds_model.specs.declared.call.Call.TheVariants.{Register, Write, Dispose, Unregister, AssertLiveliness, Read, Take, GetKeyValue, LookupInstance, GetSampleLost, GetLivelinessChanged, GetLivelinessLost, ReadByCondition, TakeByCondition, CreateReadCondition, CreateQueryCondition, CreateGuardCondition, SetTriggerValue, DeleteCondition, GetTriggerValue, CreateWaitSet, DeleteWaitSet, AttachCondition, DetachCondition, GetConditions, WaitBegin, WaitLook, WaitEnd, SetEnabledStatuses, GetStatusChanges}
@@ -31,79 +26,15 @@ use Rattle.dds_conditions.specs.declared.condition.Cond.{Cond}
 use Rattle.dds_conditions.specs.declared.condition.Condition.TheVariants.{Guard, Samples as OfSamples}
 use Rattle.dds_conditions.specs.Attached.{active_of, is_attached}
 use Rattle.dds_conditions.specs.Watched.{Watched, attach_refusal, conditions_of, detaching_refusal, free_refusal, guard_refusal, is_timed_out, knows, knows_entity, number_refusal, unless_there, use_refusal, with_attached, with_condition, with_condition_at, with_deadline, with_detached, with_enabled, with_wait_set, with_wait_set_at, without_condition}
-use Rattle.dds_model.specs.Numbered.{has_element, numbered, with_numbered}
+use Rattle.dds_model.specs.Numbered.{numbered, with_numbered}
 use Rattle.dds_model.specs.Watching.{Test, Tests, condition_refusal, condition_selection, condition_test, query_condition_refusal, read_condition_refusal, status_changes, trigger_value}
-use Rattle.dds_model.specs.Part.{Part, Rtps, Dds, Seen, Reader, Writer, no_writer, own_writer, own_reader, heartbeats_used, history_of, is_behind}
-
--- the change that a call makes at the peer's moment
-abbrev pub change_made : Part → ChangeKind → Key → List ℕ → Change
-change_made part kind key value = record { kind = kind; key = key; value = value; source_timestamp = part.dds.moment }
-
--- what an unregister makes: with autodispose the instance is disposed too (2.2.3, WRITER_DATA_LIFECYCLE)
-abbrev pub unregister_kind : Bool → ChangeKind
-unregister_kind autodispose = if autodispose then kind.DisposeUnregister else kind.Unregister
-
--- why a change of the peer's writer is refused, as its history says
-abbrev pub change_refusal : Part → ℕ → Change → Option Code
-change_refusal part writer change = append_refusal (history_of (own_writer part writer)) change
-
--- why a register is refused: no such writer
-abbrev pub register_refusal : Part → ℕ → Option Code
-register_refusal part writer = if not (has_element part.rtps.writers writer) then Some BadParameter else None
-
--- why a write is refused: no such writer, a value above 1,024 octets, or as its history says
-abbrev pub write_refusal : Part → ℕ → Key → List ℕ → Option Code
-write_refusal part writer key value =
-    if not (has_element part.rtps.writers writer) || nat_lt 1024 (length value) then Some BadParameter
-    else change_refusal part writer (change_made part kind.Write key value)
-
--- why a dispose is refused: no such writer, or as its history says
-abbrev pub dispose_refusal : Part → ℕ → Key → Option Code
-dispose_refusal part writer key =
-    if not (has_element part.rtps.writers writer) then Some BadParameter
-    else change_refusal part writer (change_made part kind.Dispose key [])
-
--- why an unregister is refused: no such writer, the instance is not registered there, or as its history says
-abbrev pub unregister_refusal : Part → ℕ → Key → Option Code
-unregister_refusal part writer key =
-    if not (has_element part.rtps.writers writer) then Some BadParameter
-    else (if not (is_key_registered key (own_writer part writer).written) then Some PreconditionNotMet
-    else change_refusal part writer (change_made part (unregister_kind (own_writer part writer).autodispose) key []))
-
--- why an assertion is refused: no such writer, or its HEARTBEAT counts, 1 to 2^31 - 1, are used up
-abbrev pub assert_refusal : Part → ℕ → Option Code
-assert_refusal part writer =
-    if not (has_element part.rtps.writers writer) then Some BadParameter
-    else (if nat_le (2 ^ 31 - 1) (heartbeats_used (own_writer part writer)) then Some OutOfResources else None)
+use Rattle.dds_model.specs.Part.{Part, Rtps, Dds, Seen, Reader, Writer, no_writer, own_writer, own_reader}
+use Rattle.dds_model.specs.Refusals.{change_made, unregister_kind, register_refusal, write_refusal, dispose_refusal, unregister_refusal, assert_refusal, access_refusal, key_of, key_refusal, look_refusal, writer_look_refusal}
 
 -- the samples that an access of the peer's reader returns
 abbrev pub picked_at : Test → Part → ℕ → Selection → List SamplePosition
 picked_at test part reader selection =
     picked_by (own_reader part reader).qos (own_reader part reader).happened selection test
-
--- why an access is refused: no such reader, a max that is neither -1 nor positive, or an instance that has to be known and is not
-abbrev pub access_refusal : Part → ℕ → Selection → Option Code
-access_refusal part reader selection =
-    if not (has_element part.dds.readers reader) then Some BadParameter
-    else selection_refusal (own_reader part reader).qos (own_reader part reader).happened selection
-
--- the key of an instance of the peer's reader, by its handle
-abbrev pub key_of : Part → ℕ → ℕ → Option Key
-key_of part reader instance = instance_of (own_reader part reader).qos (own_reader part reader).happened instance
-
--- why there is no key of an instance: no such reader, or no known instance has the handle
-abbrev pub key_refusal : Part → ℕ → ℕ → Option Code
-key_refusal part reader instance =
-    if not (has_element part.dds.readers reader) || not (is_some (key_of part reader instance)) then Some BadParameter
-    else None
-
--- why a look at a status or a handle of the peer's reader is refused: no such reader
-abbrev pub look_refusal : Part → ℕ → Option Code
-look_refusal part reader = if not (has_element part.dds.readers reader) then Some BadParameter else None
-
--- why a look at a status of the peer's writer is refused: no such writer
-abbrev pub writer_look_refusal : Part → ℕ → Option Code
-writer_look_refusal part writer = if not (has_element part.rtps.writers writer) then Some BadParameter else None
 
 -- a peer's reader, of whose statuses this was seen
 abbrev pub after_look : Part → ℕ → Seen → Dds
@@ -323,37 +254,3 @@ Answers tests old (GetStatusChanges entity) reply dds =
 pub record CallStep (tests : Tests) (old : Part) (call : Call) (reply : Reply) (new : Part) : Type 0 where
   pub answers : Answers tests old call reply new.dds
   pub rtps : new.rtps ≡ effect old.rtps (effect_of old call reply)
-
--- why a moment is refused: it lies before the peer's, or is none, from 2^63 on
-abbrev pub tick_refusal : Part → ℕ → Option Code
-tick_refusal part now = if nat_lt now part.dds.moment || nat_le (2 ^ 63) now then Some BadParameter else None
-
--- a writer, after its peer's time went on to this moment
-abbrev pub ticked : ℕ → Writer → Writer
-ticked now w = with_written w (Ticked now (is_behind w))
-
--- a reader, after its peer's time went on to this moment: the writers whose leases are then over have died there
-abbrev pub reader_ticked : ℕ → Reader → Reader
-reader_ticked now r = record r { happened = after_deaths r.qos now r.happened }
-
--- The part of a peer whose time went on to this moment: first writers die at its readers; then it enters so at each of its
--- writers, and whether a reader was behind.
-abbrev pub after_tick : Part → ℕ → Part
-after_tick old now = record {
-  rtps = record old.rtps { writers = map (ticked now) old.rtps.writers };
-  dds = record old.dds { moment = now; readers = map (reader_ticked now) old.dds.readers };
-}
-
--- at some reader of the peer a writer dies at this moment
-abbrev pub is_deadly : Part → ℕ → Bool
-is_deadly part now = list_any (λ (r : Reader). nat_lt 0 (length (dead_at r.qos now r.happened))) part.dds.readers
-
--- why a tick is refused: for its moment, or for want of memory, where somebody dies: a death may leave markers
-abbrev pub RefusesTick : Part → ℕ → Code → Type 0
-RefusesTick old now code = Refuses (tick_refusal old now) code × (code ≡ Memory → is_deadly old now ≡ true)
-
--- the time of a peer goes on to this moment, exactly unless that is refused
-abbrev pub TickStep : Part → ℕ → Reply → Part → Type 0
-TickStep old now Done new = (tick_refusal old now ≡ None) × (new ≡ after_tick old now)
-TickStep old now (Refused code) new = RefusesTick old now code × (new ≡ old)
-TickStep old now reply new = ⊥

@@ -19,7 +19,7 @@ use Rattle.rtps_wire.specs.Messages.{IsWritable, spelling_of}
 use Rattle.dds_model.specs.Part.{Part, ReaderProxy, own_writer, writer_changes}
 use Rattle.dds_model.specs.Claims.{IsNumbered, Claim, Claims}
 use Rattle.dds_model.specs.Peer.{IsTrueAt}
-use Rattle.dds_model.specs.Protocol.{Due}
+use Rattle.dds_model.specs.DueMessages.{Due}
 
 -- a change that an INFO_TS and a DATA tell whole: only a write has a value, and its moment is below 2^63
 pub record IsTellable (change : Change) : Type 0 where

@@ -24,10 +24,12 @@ use Rattle.dds_model.specs.declared.reply.Reply.TheVariants.{Done, Reported}
 use Rattle.dds_model.specs.Numbered.{numbered}
 use Rattle.dds_model.specs.Receipt.{Receives}
 use Rattle.dds_model.specs.Peer.{Delivery, no_peer, state_of, packets_of, claimed}
-use Rattle.dds_model.specs.Protocol.{State, Due, TakesPacket, assertions_due, heartbeats_due}
+use Rattle.dds_model.specs.DueMessages.{Due, assertions_due, heartbeats_due}
+use Rattle.dds_model.specs.Protocol.{State, TakesPacket}
 use Rattle.dds_model.specs.Backed.{IsBacked}
 use Rattle.dds_model.specs.Dues.{AreTellable, IsPartOf, AreTruthful, IsSized, HasSmallChanges, CanBeWritten}
-use Rattle.dds_model.specs.Calls.{CallStep, TickStep}
+use Rattle.dds_model.specs.Ticks.{TickStep}
+use Rattle.dds_model.specs.Calls.{CallStep}
 use Rattle.dds_model.specs.Watching.{Tests}
 use Rattle.dds_model.specs.Machine.{Machine, AllTests, writer_at, Step}
 use Rattle.dds_model.specs.World.{WorldState, WorldStep, machine_of, Sound}

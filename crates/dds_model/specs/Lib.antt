@@ -2,7 +2,9 @@ pub mod Numbered
 pub mod Part
 pub mod Moves
 pub mod Watching
+pub mod Refusals
 pub mod Calls
+pub mod Ticks
 pub mod Claims
 pub mod Receipt
 pub mod Peer
@@ -14,6 +16,7 @@ pub mod Opening
 pub mod Laws
 pub mod InOrder
 pub mod Bounds
+pub mod DueMessages
 pub mod Protocol
 pub mod Backed
 pub mod Dues

@@ -14,7 +14,8 @@ use Rattle.dds_model.specs.declared.reply.Reply.TheVariants.{Refused}
 use Rattle.dds_model.specs.Numbered.{numbered, with_numbered, HasNumber}
 use Rattle.dds_model.specs.Part.{Part, Writer, no_part, own_writer, own_proxies, place_of, writer_changes, history_of, is_assertion, IsAtMost}
 use Rattle.dds_model.specs.Moves.{Grounds, DeliveryStep}
-use Rattle.dds_model.specs.Calls.{CallStep, TickStep}
+use Rattle.dds_model.specs.Ticks.{TickStep}
+use Rattle.dds_model.specs.Calls.{CallStep}
 use Rattle.dds_model.specs.Watching.{Tests}
 use Rattle.dds_conditions.specs.Watched.{no_filters}
 

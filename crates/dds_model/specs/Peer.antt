@@ -19,7 +19,8 @@ use Rattle.dds_model.specs.declared.reply.Reply.TheVariants.{Reported}
 use Rattle.dds_model.specs.declared.reply.Report.{Report}
 use Rattle.dds_model.specs.Part.{Part, no_part, own_writer, own_proxies, acknowledged_of, place_of, writer_changes, history_of, is_assertion, IsBelow, IsAtMost}
 use Rattle.dds_model.specs.Moves.{Grounds}
-use Rattle.dds_model.specs.Calls.{TickStep, CallStep}
+use Rattle.dds_model.specs.Ticks.{TickStep}
+use Rattle.dds_model.specs.Calls.{CallStep}
 use Rattle.dds_model.specs.Watching.{Tests}
 use Rattle.dds_model.specs.Claims.{Receiver, StandsIn, IsToReader, Claim, ChangeIs, MayPass, PlaceReached, Asserts, Claims, Claimed}
 use Rattle.dds_model.specs.Receipt.{Receives}

@@ -1,43 +1,36 @@
 -- The reliable protocol of one peer: what it does with each submessage of a packet, and which messages are then due.
 --
 -- RTPS 2.5, 8.4.9 (reliable StatefulWriter), 8.4.12 (reliable StatefulReader).
-use Rattle.std.specs.Prelude.{◌≡◌, ◌≢◌, ◌⊎◌, ℕ, ◌+◌, ◌-◌, ◌^◌, ◌≤◌, ◌==◌, ◌&&◌, Bool, true, false, if◌then◌else◌, nat_lt, nat_le, max, List, [], ◌∷◌, ◌++◌, length, map, filter, Option, Some, None, ℤ, pos, slice_get}
-use Rattle.std.specs.List.{flat_map}
-use Rattle.std.specs.Option.{option_map_or}
-use Rattle.dds_base.specs.declared.change.Change.{Change}
+use Rattle.std.specs.Prelude.{◌≡◌, ◌≢◌, ◌⊎◌, ℕ, ◌+◌, ◌≤◌, ◌==◌, ◌&&◌, Bool, true, false, if◌then◌else◌, nat_lt, nat_le, max, List, [], ◌∷◌, ◌++◌, length, map, Option, Some, None, ℤ}
 use Rattle.dds_base.specs.declared.config.Config.{Config}
-use Rattle.dds_base.specs.declared.config.PeerConfig.{PeerConfig}
-use Rattle.dds_base.specs.declared.config.WriterConfig.{WriterConfig}
 use Rattle.dds_base.specs.declared.guid.EntityId.{EntityId}
 use Rattle.dds_base.specs.declared.guid.GuidPrefix.{GuidPrefix}
 use Rattle.dds_base.specs.declared.happening.Happening.{Happening}
 use Rattle.dds_base.specs.declared.happening.Happening.TheVariants.{Heard as WasHeard}
 use Rattle.dds_base.specs.declared.happening.PassedRun.{PassedRun}
-use Rattle.dds_base.specs.Kept.{numbers_from, change_at, is_kept, first_kept}
+use Rattle.dds_base.specs.Kept.{numbers_from, is_kept}
 use Rattle.rtps_wire.specs.declared.acknack.AckNack.{AckNack as AckNackBody}
 use Rattle.rtps_wire.specs.declared.heartbeat.Heartbeat.{Heartbeat as HeartbeatBody}
 use Rattle.rtps_wire.specs.declared.message.Message.{Message}
 use Rattle.rtps_wire.specs.declared.submessage.Submessage.{Submessage}
-use Rattle.rtps_wire.specs.declared.submessage.Submessage.TheVariants.{InfoDst, InfoTs, Data, Heartbeat, AckNack, Gap}
-use Rattle.rtps_wire.specs.Content.{change_in, content_of}
-use Rattle.rtps_wire.specs.Messages.{ReadsMessage, IsWritable, spelling_of}
+use Rattle.rtps_wire.specs.declared.submessage.Submessage.TheVariants.{Data, Heartbeat, AckNack, Gap}
+use Rattle.rtps_wire.specs.Content.{change_in}
+use Rattle.rtps_wire.specs.Messages.{ReadsMessage}
 use Rattle.rtps_reader.specs.declared.step.AckNackDue.{AckNackDue}
 use Rattle.rtps_reader.specs.Tracked.{Tracked, fresh, with_data, with_gap, with_heartbeat, is_later}
 use Rattle.rtps_reader.specs.Advance.{Advances}
 use Rattle.rtps_reader.specs.Answer.{AnswersHeartbeat, answered}
-use Rattle.rtps_sets.specs.NumberSet.{empty_from}
 use Rattle.rtps_writer.specs.declared.answer.Answer.{Answer}
-use Rattle.rtps_writer.specs.declared.answer.Answer.TheVariants.{Data as AnswersData, Gap as AnswersGap}
 use Rattle.rtps_writer.specs.Answers.{answers_to, requested}
 use Rattle.dds_model.specs.declared.endpoint.Endpoint.{Endpoint}
-use Rattle.dds_model.specs.declared.event.Packet.{Packet}
 use Rattle.dds_model.specs.declared.reply.Report.{Report}
 use Rattle.dds_model.specs.declared.reply.Move.{Move}
 use Rattle.dds_model.specs.declared.reply.Move.TheVariants.{Place, Acknowledged, Heard}
-use Rattle.dds_model.specs.Part.{Part, ReaderProxy, Writer, peers_of, same_endpoint, own_writer, own_proxies, own_reader, acknowledged_of, with_acknowledged, with_place, with_heard, publication_among, at_reader, at_writer, writer_changes, heartbeats_used, history_of}
+use Rattle.dds_model.specs.Part.{Part, ReaderProxy, Writer, same_endpoint, own_writer, own_proxies, own_reader, acknowledged_of, with_acknowledged, with_place, with_heard, publication_among, at_reader, at_writer, writer_changes, history_of}
 use Rattle.dds_model.specs.Moves.{IsMatchedAt, match_of}
-use Rattle.dds_model.specs.Claims.{Receiver, receiver_of, after_submessage, IsToReader, IsToWriter, every_reader}
+use Rattle.dds_model.specs.Claims.{Receiver, receiver_of, after_submessage, IsToReader, IsToWriter}
 use Rattle.dds_model.specs.Receipt.{prefix_of, IsNotTaken}
+use Rattle.dds_model.specs.DueMessages.{Due, answer_message, acknacks_due}
 
 -- What a peer knows beside its part of the machine: what each of its readers has heard of a matched writer's changes, and
 -- for each of its writers the count of the last ACKNACK that it took of a matched reader.
@@ -53,11 +46,6 @@ knows_nothing = record { tracked = λ w r. fresh; answered = λ w r. None }
 pub record State : Type 0 where
   pub part : Part
   pub known : Known
-
--- a message that is due to the peer of this number
-pub record Due : Type 0 where
-  pub to : ℕ
-  pub message : Message
 
 -- what a reader has heard of a writer is now this
 abbrev pub with_tracked : Known → Endpoint → ℕ → Tracked → Known
@@ -120,26 +108,6 @@ Asserting true old writer reader count moves new =
     HearsOf old writer reader count new × (moves ≡ Heard writer reader ∷ [])
 Asserting false old writer reader count moves new = (moves ≡ []) × (new ≡ old)
 
--- a message with one ACKNACK
-abbrev pub acknack_message : (own to : GuidPrefix) (reader writer : EntityId) → AckNackDue → Message
-acknack_message own to reader writer due = record {
-  prefix = own;
-  submessages = InfoDst to ∷ AckNack
-      (record {
-        reader_id = reader;
-        writer_id = writer;
-        reader_sn_state = due.missing;
-        count = due.count;
-        final_flag = due.is_final;
-      }) ∷ [];
-}
-
--- an ACKNACK to a peer, if one is due
-abbrev pub acknacks_due : (own to : GuidPrefix) (peer : ℕ) (reader writer : EntityId) → Option AckNackDue → List Due
-acknacks_due own to peer reader writer None = []
-acknacks_due own to peer reader writer (Some due) =
-    record { to = peer; message = acknack_message own to reader writer due } ∷ []
-
 -- a HEARTBEAT whose count is greater than that of the last one that the reader took of the writer is taken: the reader
 -- hears the writer, its place goes on, and it answers
 pub record TakesHeartbeat (own : GuidPrefix) (at : Receiver) (old : State) (writer : Endpoint) (reader : ℕ)
@@ -192,26 +160,6 @@ ReaderTakes config own peer at (Heartbeat h) reader old moves dues new =
     (λ writer entity. TakesOrNot own at old writer reader entity h moves dues new)
     (Idles old moves dues new)
 ReaderTakes config own peer at submessage reader old moves dues new = Idles old moves dues new
-
--- what stands in a message for the change of a number: its moment in an INFO_TS, then the DATA; nothing where there is
--- no such change (RTPS 2.5, 8.3.8)
-abbrev pub data_of : EntityId → EntityId → ℕ → Option Change → List Submessage
-data_of reader writer number None = []
-data_of reader writer number (Some change) =
-    InfoTs (Some change.source_timestamp) ∷ Data
-    (record { reader_id = reader; writer_id = writer; writer_sn = number; content = content_of change }) ∷ []
-
--- what an answer to an ACKNACK puts into a message: the change of its number, or the GAP from its first number to its
--- last
-abbrev pub submessages_of : List Change → EntityId → EntityId → Answer → List Submessage
-submessages_of changes reader writer (AnswersData number) = data_of reader writer number (change_at changes number)
-submessages_of changes reader writer (AnswersGap first last) =
-    Gap (record { reader_id = reader; writer_id = writer; gap_start = first; gap_list = empty_from (last + 1) }) ∷ []
-
--- a message with these answers
-abbrev pub answer_message : (own to : GuidPrefix) (reader writer : EntityId) → List Change → List Answer → Message
-answer_message own to reader writer changes answers =
-    record { prefix = own; submessages = InfoDst to ∷ flat_map (submessages_of changes reader writer) answers }
 
 -- the answers in order, eight in each group but the last, which has no more than that
 abbrev pub AreGrouped : List Answer → List (List Answer) → Type 0
@@ -299,89 +247,3 @@ abbrev pub TakesPacket : Config → ℕ → List ℕ → State → Report → Li
 TakesPacket config peer bytes old report dues new =
     TakesMessage config peer bytes old report dues new
     ⊎ (IsNotTaken bytes old.part report new.part × (new.known ≡ old.known) × (dues ≡ []))
-
--- the entity id of a peer's writer, by the configuration
-abbrev pub writer_entity : Config → ℕ → ℕ → EntityId
-writer_entity config peer number =
-    option_map_or (λ (p : PeerConfig). option_map_or (λ (w : WriterConfig). w.entity)
-    (slice_get p.writers (number - 1)) every_reader) (slice_get config.peers (peer - 1)) every_reader
-
--- a change is announced at once to each peer with a matched reader, for all of its readers
-abbrev pub change_message : (own to : GuidPrefix) (writer : EntityId) → ℕ → Change → Message
-change_message own to writer number change =
-    record { prefix = own; submessages = InfoDst to ∷ data_of every_reader writer number (Some change) }
-
--- what is due once a writer has made the change of this number: a message to each peer with one of these readers
-abbrev pub changes_due : Config → Endpoint → List ReaderProxy → ℕ → Change → List Due
-changes_due config writer readers number change =
-    map (λ to. record {
-      to = to;
-      message = change_message (prefix_of config writer.peer) (prefix_of config to)
-          (writer_entity config writer.peer writer.number) number change;
-    }) (peers_of readers)
-
--- the matched readers that have not acknowledged all changes of a writer
-abbrev pub readers_behind : Writer → List ReaderProxy
-readers_behind w = filter (λ (p : ReaderProxy). nat_le p.acknowledged (length (writer_changes w))) w.readers
-
--- a HEARTBEAT of a writer with these flags: from its first kept number to its last, with the next count
-abbrev pub heartbeat_with : (final liveliness : Bool) (own to : GuidPrefix) (writer : EntityId) → Writer → Message
-heartbeat_with final liveliness own to writer w = record {
-  prefix = own;
-  submessages = InfoDst to ∷ Heartbeat (record {
-    reader_id = every_reader;
-    writer_id = writer;
-    first_sn = first_kept (history_of w);
-    last_sn = length (writer_changes w);
-    count = pos (heartbeats_used w + 1);
-    final_flag = final;
-    liveliness_flag = liveliness;
-  }) ∷ [];
-}
-
--- the HEARTBEAT of a tick, which asks for an answer
-abbrev pub heartbeat_message : (own to : GuidPrefix) (writer : EntityId) → Writer → Message
-heartbeat_message own to writer w = heartbeat_with false false own to writer w
-
--- the HEARTBEAT of an assertion, which asks for none (RTPS 2.5, 8.3.8: FinalFlag, LivelinessFlag)
-abbrev pub assertion_message : (own to : GuidPrefix) (writer : EntityId) → Writer → Message
-assertion_message own to writer w = heartbeat_with true true own to writer w
-
--- at a tick, one to each peer with a reader that is behind, while there are counts left
-abbrev pub heartbeats_of : Config → ℕ → ℕ → Writer → List Due
-heartbeats_of config peer number w =
-    if nat_lt (heartbeats_used w) (2 ^ 31 - 1)
-    then map (λ to. record {
-      to = to;
-      message = heartbeat_message (prefix_of config peer) (prefix_of config to) (writer_entity config peer number) w;
-    })
-    (peers_of (readers_behind w))
-    else []
-
--- the HEARTBEATs that are due at a tick from these writers, the first of which has this number
-abbrev pub heartbeats_from : Config → ℕ → ℕ → List Writer → List Due
-heartbeats_from config peer number [] = []
-heartbeats_from config peer number (w ∷ ws) =
-    heartbeats_of config peer number w ++ heartbeats_from config peer (number + 1) ws
-
--- what is due at a tick of a peer: the HEARTBEATs of its writers, in their order
-abbrev pub heartbeats_due : Config → ℕ → Part → List Due
-heartbeats_due config peer part = heartbeats_from config peer 1 part.rtps.writers
-
--- a writer's assertion is told at once to each peer with a matched reader
-abbrev pub assertions_due : Config → Endpoint → Writer → List Due
-assertions_due config writer w =
-    map (λ to. record {
-      to = to;
-      message = assertion_message (prefix_of config writer.peer) (prefix_of config to)
-          (writer_entity config writer.peer writer.number) w;
-    }) (peers_of w.readers)
-
--- of the messages that are due these packets are sent, in their order, each in the one written form that it has; so many
--- more found no memory
-abbrev pub AreSent : List Due → List Packet → ℕ → Type 0
-AreSent [] packets unsent = (packets ≡ []) × (unsent ≡ 0)
-AreSent (due ∷ dues) packets unsent =
-    ((rest : List Packet) × (packets ≡ record { to = due.to; bytes = spelling_of due.message } ∷ rest)
-    × IsWritable due.message × AreSent dues rest unsent)
-    ⊎ ((fewer : ℕ) × (unsent ≡ fewer + 1) × AreSent dues packets fewer)

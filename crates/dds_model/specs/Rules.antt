@@ -15,7 +15,8 @@ use Rattle.dds_model.specs.Part.{Part, own_writer, writer_changes}
 use Rattle.dds_model.specs.Calls.{Effect, writes, effect_of}
 use Rattle.dds_model.specs.Machine.{AllTests}
 use Rattle.dds_model.specs.Peer.{state_of}
-use Rattle.dds_model.specs.Protocol.{Due, TakesPacket, AreSent, assertions_due, changes_due, heartbeats_due}
+use Rattle.dds_model.specs.DueMessages.{Due, AreSent, assertions_due, changes_due, heartbeats_due}
+use Rattle.dds_model.specs.Protocol.{TakesPacket}
 use Rattle.dds_model.specs.Runs.{Traffic, Sends}
 use Rattle.dds_model.specs.World.{WorldState, WorldStep, peer_at, machine_of}
 

@@ -16,7 +16,7 @@ use Rattle.dds_model.specs.Calls.{Effect, writes, effect_of}
 use Rattle.dds_model.specs.Claims.{ChangeIs, Claims}
 use Rattle.dds_model.specs.Machine.{Machine, AllTests, part_at, writer_at, Step}
 use Rattle.dds_model.specs.Noticing.{machine_ended}
-use Rattle.dds_model.specs.Protocol.{Due, AreSent, assertions_due, changes_due, heartbeats_due}
+use Rattle.dds_model.specs.DueMessages.{Due, AreSent, assertions_due, changes_due, heartbeats_due}
 use Rattle.dds_model.specs.Progress.{Progresses}
 
 -- the packets that were sent, and how many found no memory, which stays at its greatest value

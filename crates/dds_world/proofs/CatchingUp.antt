@@ -28,7 +28,8 @@ use Rattle.dds_model.specs.Fresh.{HasHeartbeat, HasAckNack, heartbeats_used_at, 
 use Rattle.dds_model.specs.Machine.{AllTests, place_at, writer_at}
 use Rattle.dds_model.specs.Numbered.{numbered, HasNumber}
 use Rattle.dds_model.specs.Part.{Part, ReaderProxy, Writer, WriterProxy, NoLess, IsAtMost, own_writer, acknowledged_of, place_of, writer_changes}
-use Rattle.dds_model.specs.Protocol.{Known, writer_entity}
+use Rattle.dds_model.specs.DueMessages.{writer_entity}
+use Rattle.dds_model.specs.Protocol.{Known}
 use Rattle.dds_model.specs.Repair.{AsksInRound, BeginsRound, Delivers, DeliversAll, HasCaughtUp, IsRepairRound, StandsAt}
 use Rattle.dds_model.specs.Rules.{RuledStep, RuledRun}
 use Rattle.dds_model.specs.World.{WorldState, peer_at, machine_of}

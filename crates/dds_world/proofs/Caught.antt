@@ -20,7 +20,7 @@ use Rattle.dds_model.specs.declared.reply.Report.{Report}
 use Rattle.dds_model.specs.Numbered.{numbered, HasNumber}
 use Rattle.dds_model.specs.Machine.{AllTests, place_at}
 use Rattle.dds_model.specs.Part.{NoLess, own_writer, own_proxies, place_of, writer_changes}
-use Rattle.dds_model.specs.Calls.{TickStep}
+use Rattle.dds_model.specs.Ticks.{TickStep}
 use Rattle.dds_model.specs.Peer.{Peer, EventStep, no_peer}
 use Rattle.dds_model.specs.Repair.{Delivers, DeliversAll}
 use Rattle.dds_model.specs.Rules.{RuledStep, RuledRun}

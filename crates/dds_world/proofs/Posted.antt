@@ -2,7 +2,7 @@
 use Rattle.std.proofs.Common.{◌≡◌, ℕ, ◌+◌, ◌-◌, ◌^◌, min, List, [], ◌∷◌, inl, inr, ⊎_elim, length, subst, ap, ◌∙◌, arith, length-append}
 use Rattle.dds_model.specs.declared.event.Output.{Output}
 use Rattle.dds_model.specs.declared.event.Packet.{Packet}
-use Rattle.dds_model.specs.Protocol.{Due, AreSent}
+use Rattle.dds_model.specs.DueMessages.{Due, AreSent}
 use Rattle.dds_world.specs.WorldStanding.{WorldKept, ArePosted, Posts}
 use Rattle.dds_world.specs.Acting.{Counts}
 

@@ -18,7 +18,7 @@ use Rattle.dds_model.specs.declared.reply.Reply.{Reply}
 use Rattle.dds_model.specs.Machine.{AllTests, part_at, place_at, writer_at}
 use Rattle.dds_model.specs.Part.{NoLess, Part, own_proxies, own_writer, acknowledged_of, is_reader_behind, place_of, writer_changes}
 use Rattle.dds_model.specs.Peer.{Peer, no_peer}
-use Rattle.dds_model.specs.Protocol.{writer_entity}
+use Rattle.dds_model.specs.DueMessages.{writer_entity}
 use Rattle.dds_model.specs.World.{WorldState, WorldStep, machine_of}
 use Rattle.dds_model.proofs.Tables.{numbered-map, slice_get-append}
 use Rattle.dds_core.specs.declared.pairing.Pair.{Pair}

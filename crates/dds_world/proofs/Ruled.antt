@@ -15,7 +15,8 @@ use Rattle.dds_model.specs.declared.reply.Report.{Report}
 use Rattle.dds_model.specs.Part.{Part}
 use Rattle.dds_model.specs.Calls.{Effect, nothing, writes, effect_of}
 use Rattle.dds_model.specs.Peer.{Peer, no_peer, state_of}
-use Rattle.dds_model.specs.Protocol.{Due, State, TakesPacket, AreSent, heartbeats_due}
+use Rattle.dds_model.specs.DueMessages.{Due, AreSent, heartbeats_due}
+use Rattle.dds_model.specs.Protocol.{State, TakesPacket}
 use Rattle.dds_model.specs.Rules.{AreDue, announcements_due}
 use Rattle.dds_model.specs.World.{WorldState, peer_at}
 use Rattle.dds_core.specs.Kept.{PeerKept}

@@ -17,7 +17,7 @@ use Rattle.dds_model.specs.Part.{Part, ReaderProxy, own_writer, writer_changes}
 use Rattle.dds_model.specs.Calls.{Effect, nothing, writes, effect_of}
 use Rattle.dds_model.specs.Machine.{AllTests, part_at}
 use Rattle.dds_model.specs.Peer.{Peer, no_peer}
-use Rattle.dds_model.specs.Protocol.{Due, AreSent, assertions_due, changes_due, heartbeats_due}
+use Rattle.dds_model.specs.DueMessages.{Due, AreSent, assertions_due, changes_due, heartbeats_due}
 use Rattle.dds_model.specs.Runs.{Traffic, Announced, Sends, SendsDues, SendsOf}
 use Rattle.dds_model.specs.Part.{peers_of}
 use Rattle.dds_model.specs.World.{WorldState, machine_of}

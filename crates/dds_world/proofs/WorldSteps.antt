@@ -33,7 +33,7 @@ use Rattle.dds_model.specs.Numbered.{HasNumber}
 use Rattle.dds_model.specs.Peer.{Peer, Delivery, PeerStep, no_peer, state_of}
 use Rattle.dds_model.specs.Progress.{Progresses}
 use Rattle.dds_model.specs.Calls.{Effect}
-use Rattle.dds_model.specs.Protocol.{Due, AreSent}
+use Rattle.dds_model.specs.DueMessages.{Due, AreSent}
 use Rattle.dds_model.specs.Rules.{RuledStep, AreDue, announcements_due}
 use Rattle.dds_model.specs.World.{Sound, WorldState, WorldStep, PeerSteps, machine_of, peer_at}
 use Rattle.dds_model.proofs.Bounded.{steps_bounded}

@@ -25,7 +25,7 @@ use Rattle.dds_model.specs.Part.{acknowledged_of, is_reader_behind, writer_chang
 use Rattle.dds_model.specs.Repair.{HasCaughtUp}
 use Rattle.dds_model.specs.Rules.{RuledRun}
 use Rattle.dds_model.specs.Runs.{Run}
-use Rattle.dds_model.specs.Protocol.{writer_entity}
+use Rattle.dds_model.specs.DueMessages.{writer_entity}
 use Rattle.dds_model.specs.World.{WorldState, machine_of}
 use Rattle.dds_core.specs.Pairs.{reader_entity}
 use Rattle.dds_world.specs.declared.round.Round.{Round}

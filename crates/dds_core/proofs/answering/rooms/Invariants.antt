@@ -2,7 +2,7 @@ use Rattle.std.proofs.Common.{◌≡◌, ℕ, Option, Some, length, slice_get}
 use Rattle.dds_core.specs.declared.answering.Room.{Room}
 use Rattle.dds_core.specs.declared.matching.ReaderName.{ReaderName}
 use Rattle.dds_core.specs.Answering.{IsRoom}
-use Rattle.dds_core.specs.Receiving.{receiver_at}
+use Rattle.dds_core.specs.Readiness.{receiver_at}
 use Rattle.dds_core.proofs.answering.rooms.Given as goal
 
 -- the readers so far have room where the ACKNACK is from them

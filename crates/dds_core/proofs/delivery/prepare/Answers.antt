@@ -1,6 +1,6 @@
 use Rattle.std.proofs.Common.{arith, rules}
 use Rattle.std.proofs.lemmas.Grind.{common_steps}
-use Rattle.dds_core.specs.Receiving.{receiver_at}
+use Rattle.dds_core.specs.Readiness.{receiver_at}
 use Rattle.dds_core.proofs.Ready.{none_there, all_alike_self, alike_more, ready_more}
 use Rattle.dds_core.proofs.delivery.prepare.Goals as goal
 

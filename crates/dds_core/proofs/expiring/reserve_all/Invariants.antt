@@ -1,7 +1,7 @@
 use Rattle.std.proofs.Common.{◌≡◌, ℕ, ◌<◌, Some, slice_get}
 use Rattle.dds_core.specs.Expiring.{HasRoomForDeaths}
 use Rattle.dds_core.specs.Kept.{ReaderKept}
-use Rattle.dds_core.specs.Receiving.{AreAlike}
+use Rattle.dds_core.specs.Readiness.{AreAlike}
 use Rattle.dds_core.proofs.expiring.reserve_all.Given as goal
 
 abbrev pub invariant-loop-index : goal.invariant-loop-index

@@ -2,7 +2,8 @@ use Rattle.std.proofs.Common.{List, sym, ◌∙◌, subst}
 use Rattle.std.specs.Prelude.{IfOk}
 use Rattle.std.proofs.lemmas.List.{with_items_is}
 use Rattle.dds_core.specs.Kept.{ReaderKept, PeerKept}
-use Rattle.dds_core.specs.Receiving.{receiver_at, AreReady, AreAlike, StandsAsWell}
+use Rattle.dds_core.specs.Readiness.{receiver_at, AreReady, AreAlike}
+use Rattle.dds_core.specs.Receiving.{StandsAsWell}
 use Rattle.dds_core.proofs.Ready.{alike_core}
 use Rattle.dds_core.proofs.peer.Peer.make_ready.Goals as goal
 

@@ -5,7 +5,8 @@ use Rattle.rtps_wire.specs.declared.submessage.Submessage.TheVariants.{AckNack}
 use Rattle.dds_model.specs.declared.reply.Move.{Move}
 use Rattle.dds_core.specs.Answering.{AreRooms}
 use Rattle.dds_core.specs.Kept.{PeerKept, WriterKept}
-use Rattle.dds_core.specs.Receiving.{receiver_at, TakesOneMore}
+use Rattle.dds_core.specs.Readiness.{receiver_at}
+use Rattle.dds_core.specs.Receiving.{TakesOneMore}
 use Rattle.dds_core.proofs.Lists.{get-within}
 use Rattle.dds_core.proofs.Requesting.{have_room, no_writer_takes, writer_takes}
 use Rattle.dds_core.proofs.peer.Peer.take_acknack.Goals as goal

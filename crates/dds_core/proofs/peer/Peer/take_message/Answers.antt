@@ -7,7 +7,8 @@ use Rattle.dds_model.specs.declared.reply.Move.{Move}
 use Rattle.dds_model.specs.declared.reply.Report.{Report}
 use Rattle.dds_model.specs.Claims.{Receiver, after_submessage}
 use Rattle.dds_core.specs.Kept.{PeerKept}
-use Rattle.dds_core.specs.Receiving.{receiver_at, TakesTo}
+use Rattle.dds_core.specs.Readiness.{receiver_at}
+use Rattle.dds_core.specs.Receiving.{TakesTo}
 use Rattle.dds_core.proofs.Taking.{no_messages, takes_none, takes_more, takes_all, takes_some}
 use Rattle.dds_core.proofs.Lists.{drop_at, drop_all}
 use Rattle.dds_core.proofs.peer.Peer.take_message.Goals as goal

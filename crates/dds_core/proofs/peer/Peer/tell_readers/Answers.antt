@@ -1,6 +1,7 @@
 use Rattle.std.proofs.Common.{List, subst}
 use Rattle.dds_model.specs.declared.reply.Move.{Move}
-use Rattle.dds_core.specs.Receiving.{receiver_at, TellsReaders}
+use Rattle.dds_core.specs.Readiness.{receiver_at}
+use Rattle.dds_core.specs.Receiving.{TellsReaders}
 use Rattle.dds_core.proofs.Ready.{all_can}
 use Rattle.dds_core.proofs.Turns.{tells_readers}
 use Rattle.dds_core.proofs.peer.Peer.tell_readers.Goals as goal

@@ -4,7 +4,7 @@ use Rattle.dds_model.specs.declared.event.Packet.{Packet}
 use Rattle.dds_core.specs.Beating.{BeatsOfAll}
 use Rattle.dds_core.specs.Expiring.{AllExpire, HasDeadly}
 use Rattle.dds_core.specs.Kept.{PeerKept, ReaderKept, WriterKept}
-use Rattle.dds_core.specs.Receiving.{AreAlike}
+use Rattle.dds_core.specs.Readiness.{AreAlike}
 use Rattle.dds_core.specs.Standing.{StandsFor, AllTick}
 use Rattle.dds_core.proofs.BeatsDue.{due_sent}
 use Rattle.dds_core.proofs.CallSteps.{follows_as, tick_without_memory, ticks}

@@ -2,7 +2,7 @@ use Rattle.std.proofs.Common.{ℕ, ap, subst, ◌∙◌}
 use Rattle.std.specs.Prelude.{IfNone, List}
 use Rattle.dds_core.specs.declared.matching.WriterName.{WriterName}
 use Rattle.dds_core.specs.Kept.{ReaderKept}
-use Rattle.dds_core.specs.Receiving.{receiver_at, IsFirstName, writer_guid}
+use Rattle.dds_core.specs.Readiness.{receiver_at, IsFirstName, writer_guid}
 use Rattle.dds_core.proofs.Named.{none_named}
 use Rattle.dds_core.proofs.reader_end.ReaderEnd.row_of.Goals as goal
 

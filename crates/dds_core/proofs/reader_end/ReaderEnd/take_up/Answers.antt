@@ -1,7 +1,7 @@
 use Rattle.std.proofs.Common.{sym, subst}
 use Rattle.dds_core.specs.Kept.{ReaderKept}
 use Rattle.dds_core.specs.declared.reader_end.Told.TheVariants as told
-use Rattle.dds_core.specs.Receiving.{HasMemory}
+use Rattle.dds_core.specs.Readiness.{HasMemory}
 use Rattle.dds_core.proofs.Telling.{answer_told, heartbeat_told}
 use Rattle.dds_core.proofs.reader_end.ReaderEnd.take_up.Goals as goal
 
