@@ -1,20 +1,21 @@
 -- A step of one of the peer's own writers or readers is a step of the peer.
-use Rattle.std.proofs.Common.{◌≡◌, ℕ, zero, suc, List, [], ◌∷◌, length, arith, Option, Some, map, set, get_or, slice_get, length-set, refl, subst, ap, sym, ◌∙◌}
+use Rattle.std.proofs.Common.{◌≡◌, ℕ, zero, suc, List, [], ◌∷◌, arith, Option, Some, map, set, get_or, slice_get, length-set, refl, subst, ap, sym, ◌∙◌}
 use Rattle.std.specs.Prelude.{ℤ}
-use Rattle.std.proofs.lemmas.Option.{same_Some}
 use Rattle.dds_base.specs.declared.config.Config.{Config}
 use Rattle.dds_base.specs.Written.{Written}
 use Rattle.dds_model.specs.declared.endpoint.Endpoint.{Endpoint}
 use Rattle.dds_model.specs.Dues.{AreTellable}
 use Rattle.dds_model.specs.Numbered.{with_numbered}
-use Rattle.dds_model.specs.Part.{Part, Dds, Writer, Reader, WriterProxy, no_writer, no_reader, own_proxies}
+use Rattle.dds_model.specs.Part.{Part, Dds, Writer, Reader, ReaderProxy, WriterProxy, no_writer, no_reader, at_writer, own_proxies}
 use Rattle.dds_model.specs.Calls.{writes, effect, with_written}
 use Rattle.dds_model.specs.Peer.{Peer}
 use Rattle.dds_model.specs.Protocol.{Known}
 use Rattle.rtps_reader.specs.Tracked.{Tracked}
 use Rattle.rtps_reader.specs.Reader.{Tracks}
+use Rattle.rtps_writer.specs.Standing.{StandsFor as RtpsStandsFor}
 use Rattle.dds_core.specs.Kept.{WriterKept, ReaderKept, PeerKept, Identity, WriterIdentity, ReaderIdentity, writer_identity, reader_identity, identity_of, IsPeerOf}
-use Rattle.dds_core.specs.Standing.{WriterStands, WritersStand, ReaderStands, StandsFor, Enters}
+use Rattle.dds_core.specs.Receiving.{with_state}
+use Rattle.dds_core.specs.Standing.{WriterStands, WritersStand, ReaderStands, StandsFor, Enters, state_of}
 use Rattle.dds_core.proofs.Lists.{each_set_at, map-set_same, set_back}
 
 -- what is kept, with another writer or reader of this index
@@ -54,21 +55,55 @@ unchanged_with kept i k k' at same =
     changed : PeerKept → List WriterKept → PeerKept
     changed x ws = record x { writers = ws }
 
--- each writer stands, also where one stepped
-writers_set : (ks : List WriterKept) (ws : List Writer) (i : ℕ) (k : WriterKept) (w : Writer)
-    (answered : ℕ → Endpoint → Option ℤ) → length ws ≡ length ks
-    → ((j : ℕ) (x : WriterKept) → slice_get ks j ≡ Some x → WriterStands x (get_or ws j no_writer) (answered (suc j)))
-    → WriterStands k w (answered (suc i))
-    → (j : ℕ) (x : WriterKept) → slice_get (set ks i k) j ≡ Some x
-    → WriterStands x (get_or (set ws i w) j no_writer) (answered (suc j))
-writers_set [] ws i k w answered count each new j x at = absurd cc
-writers_set (a ∷ ks) [] i k w answered count each new j x at = absurd (omega (arith, count))
-writers_set (a ∷ ks) (b ∷ ws) zero k w answered count each new zero x at =
-    subst (λ (z : WriterKept). WriterStands z w (answered 1)) (same_Some k x at) new
-writers_set (a ∷ ks) (b ∷ ws) zero k w answered count each new (suc j) x at = each (suc j) x at
-writers_set (a ∷ ks) (b ∷ ws) (suc i) k w answered count each new zero x at = each zero x at
-writers_set (a ∷ ks) (b ∷ ws) (suc i) k w answered count each new (suc j) x at =
-    writers_set ks ws i k w (λ n. answered (suc n)) (omega (arith, count)) (λ n y h. each (suc n) y h) new j x at
+-- what is known of its readers is the same, said by another function
+writer_stands_on : (k : WriterKept) (w : Writer) (old new : Endpoint → Option ℤ) → ((r : Endpoint) → new r ≡ old r)
+    → WriterStands k w old → WriterStands k w new
+writer_stands_on k w old new same s = record {
+  autodispose = s.autodispose;
+  readers = s.readers;
+  writer =
+      subst (λ (cs : List (Option ℤ)). RtpsStandsFor k.writer (record (state_of w old) { counts = cs }))
+      (sym (counts w.readers)) s.writer;
+  begun = s.begun;
+}
+  where
+    counts : (rows : List ReaderProxy) → map (λ (p : ReaderProxy). new p.reader) rows
+        ≡ map (λ (p : ReaderProxy). old p.reader) rows
+    counts [] = refl
+    counts (p ∷ ps) =
+        ap (λ (o : Option ℤ). o ∷ map (λ (q : ReaderProxy). new q.reader) ps) (same p.reader)
+        ∙ ap (λ (os : List (Option ℤ)). old p.reader ∷ os) (counts ps)
+
+-- own writer n has become another one, and what is known of its readers has changed
+pub writer_put : (config : Config) (peer : Peer) (kept : PeerKept) → StandsFor kept config peer
+    → (i : ℕ) (k k' : WriterKept) → slice_get kept.writers i ≡ Some k → writer_identity k' ≡ writer_identity k
+    → (w : Writer) (answered : ℕ → Endpoint → Option ℤ)
+    → WriterStands k' w (answered (suc i))
+    → ((j : ℕ) → (j ≡ i → ⊥) → (r : Endpoint) → answered (suc j) r ≡ peer.known.answered (suc j) r)
+    → AreTellable (at_writer peer.part (suc i) w)
+    → StandsFor (with_writer kept i k') config
+    (with_state peer
+    (record { part = at_writer peer.part (suc i) w; known = record peer.known { answered = answered } }))
+writer_put config peer kept s i k k' at same w answered stands others tellable =
+    let ws : List Writer = peer.part.rtps.writers in
+    record {
+      is_peer =
+          subst (λ (x : Identity). IsPeerOf config peer.number x)
+          (sym (same_with_writer kept i k k' at same)) s.is_peer;
+      moment = s.moment;
+      early = s.early;
+      watch = s.watch;
+      writers = record {
+        count = length-set ws i w ∙ (s.writers.count ∙ sym (length-set kept.writers i k'));
+        each =
+            each_set_at (λ (j : ℕ) (x : WriterKept) (y : Writer) (z : Writer). WriterStands x y (answered (suc j)))
+            kept.writers ws ws i k' w no_writer w no_writer s.writers.count s.writers.count
+            (λ j x apart there. writer_stands_on x (get_or ws j no_writer) (peer.known.answered (suc j))
+            (answered (suc j)) (others j apart) (s.writers.each j x there)) stands;
+      };
+      readers = record { rows = s.readers.rows; count = s.readers.count; each = s.readers.each };
+      tellable = tellable;
+    }
 
 -- own writer n stepped
 pub own_writer_stepped : (kept : PeerKept) (i : ℕ) (k k' : WriterKept) (entry : Written) (config : Config) (peer : Peer)
@@ -76,26 +111,9 @@ pub own_writer_stepped : (kept : PeerKept) (i : ℕ) (k k' : WriterKept) (entry 
     → AreTellable (entered_at peer (suc i) entry).part
     → StandsFor (with_writer kept i k') config (entered_at peer (suc i) entry)
 own_writer_stepped kept i k k' entry config peer s at enters tellable =
-    let ws : List Writer = peer.part.rtps.writers in
-    record {
-      is_peer =
-          subst (λ (x : Identity). IsPeerOf config peer.number x)
-          (sym (same_with_writer kept i k k' at enters.same)) s.is_peer;
-      moment = s.moment;
-      early = s.early;
-      watch = s.watch;
-      writers = record {
-        count =
-            length-set ws i (with_written (get_or ws i no_writer) entry)
-            ∙ (s.writers.count ∙ sym (length-set kept.writers i k'));
-        each =
-            writers_set kept.writers ws i k'
-            (with_written (get_or ws i no_writer) entry) peer.known.answered s.writers.count s.writers.each
-            (enters.stands (get_or ws i no_writer) (peer.known.answered (suc i)) (s.writers.each i k at));
-      };
-      readers = s.readers;
-      tellable = tellable;
-    }
+    let w : Writer = get_or peer.part.rtps.writers i no_writer in
+    writer_put config peer kept s i k k' at enters.same (with_written w entry) peer.known.answered
+    (enters.stands w (peer.known.answered (suc i)) (s.writers.each i k at)) (λ j apart r. refl) tellable
 
 -- the part of a peer with another reader of this number
 abbrev pub with_read : Part → ℕ → List WriterProxy → Reader → Part

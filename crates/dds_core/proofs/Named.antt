@@ -2,7 +2,7 @@
 use Rattle.std.specs.Prelude.{IfNone}
 use Rattle.rtps_wire.specs.declared.submessage.Submessage.{Submessage}
 use Rattle.rtps_wire.specs.declared.submessage.Submessage.TheVariants.{Data, Heartbeat, Gap}
-use Rattle.std.proofs.Common.{◌≡◌, Option, ℕ, zero, suc, ◌+◌, ◌-◌, ◌<◌, Bool, true, false, cond, List, [], ◌∷◌, ◌++◌, Some, None, slice_get, refl, ap, sym, ◌∙◌, subst, arith, inl, inr, ⊎_elim, eq-eqb}
+use Rattle.std.proofs.Common.{◌≡◌, Option, ℕ, zero, suc, ◌+◌, ◌-◌, ◌<◌, Bool, true, false, cond, List, [], ◌∷◌, ◌++◌, Some, None, slice_get, refl, ap, sym, ◌∙◌, arith, inl, inr, ⊎_elim, eq-eqb}
 use Rattle.std.proofs.lemmas.Option.{same_Some}
 use Rattle.dds_base.specs.declared.config.Config.{Config}
 use Rattle.dds_base.specs.declared.config.PeerConfig.{PeerConfig}
@@ -20,7 +20,8 @@ use Rattle.dds_core.specs.Kept.{ReaderKept, PeerKept}
 use Rattle.dds_core.specs.Matching.{writer_name}
 use Rattle.dds_core.specs.Readiness.{IsFirstName, IsNamedFor, NamedBy, writer_guid}
 use Rattle.dds_core.specs.Standing.{IsFirstRow, StandsFor}
-use Rattle.dds_core.proofs.Names.{IsNamed, one_guid, guid_as, IsOwnReader, own_reader_is}
+use Rattle.dds_core.proofs.Names.{IsWriterNamed, one_guid, guid_as, IsOwnReader, own_reader_is}
+use Rattle.dds_core.proofs.Numbered.{same_end}
 
 -- ---- from a row to the configuration
 
@@ -48,22 +49,21 @@ abbrev pub is_to : (config : Config) (peer : Peer) (kept : PeerKept) (s : Stands
 is_to config peer kept s i k at_k at reader_id writer_id n here =
     let own : IsOwnReader config s.is_peer.own i k = own_reader_is config peer.number kept s.is_peer i k at_k in
     let name : WriterName = here.first.name in
-    let named : IsNamed config own.end.topic name = own.names n name here.first.at in
+    let named : IsWriterNamed config own.end.topic name = own.names n name here.first.at in
     let from : IsWriter config at.source_guid_prefix writer_id name.writer = record {
       peer = named.peer;
       at_peer = named.at_peer;
       same_prefix = named.same_prefix ∙ ap (λ (g : Guid). g.prefix) here.first.named;
       end = named.end;
-      at_writer = named.at_writer;
+      at_writer = named.at_end;
       same_entity = named.same_entity ∙ ap (λ (g : Guid). g.entity) here.first.named;
     } in
-    let index : suc i - 1 ≡ i = omega arith in
     let to : IsReader config kept.prefix k.entity (record { peer = peer.number; number = suc i }) = record {
       peer = s.is_peer.own;
       at_peer = s.is_peer.at;
       same_prefix = sym s.is_peer.prefix;
       end = own.end;
-      at_reader = (omega arith, subst (λ (m : ℕ). slice_get s.is_peer.own.readers m ≡ Some own.end) (sym index) own.at);
+      at_reader = own.at;
       same_entity = own.entity;
     } in
     record {
@@ -176,16 +176,12 @@ pub row_of_writer : (config : Config) (peer : Peer) (kept : PeerKept) (s : Stand
     → ((n : ℕ) → IsNamedFor kept.prefix k at reader_id writer_id n → ⊥) → ⊥
 row_of_writer config peer kept s i k at_k at reader_id writer_id w to none =
     let own : IsOwnReader config s.is_peer.own i k = own_reader_is config peer.number kept s.is_peer i k at_k in
-    let index : suc i - 1 ≡ i = omega arith in
-    let peers : to.to.peer ≡ s.is_peer.own =
-    same_Some to.to.peer s.is_peer.own (sym to.to.at_peer.1 ∙ s.is_peer.at.1) in
-    let at_reader : slice_get s.is_peer.own.readers i ≡ Some to.to.end =
-    subst (λ (m : ℕ). slice_get s.is_peer.own.readers m ≡ Some to.to.end) index
-    (subst (λ (p : PeerConfig). slice_get p.readers (suc i - 1) ≡ Some to.to.end) peers to.to.at_reader.1) in
-    let ends : to.to.end ≡ own.end = same_Some to.to.end own.end (sym at_reader ∙ own.at) in
+    let same =
+    same_end (λ (p : PeerConfig). p.readers) config.peers (record { peer = peer.number; number = suc i }) to.to.peer
+    s.is_peer.own to.to.end own.end to.to.at_peer s.is_peer.at to.to.at_reader own.at in
     let entity : to.entity ≡ k.entity =
-    sym to.to.same_entity ∙ (ap (λ (x : ReaderConfig). x.entity) ends ∙ own.entity) in
-    let topic : to.from.end.topic ≡ own.end.topic = to.matched ∙ ap (λ (x : ReaderConfig). x.topic) ends in
+    sym to.to.same_entity ∙ (ap (λ (x : ReaderConfig). x.entity) same.1 ∙ own.entity) in
+    let topic : to.from.end.topic ≡ own.end.topic = to.matched ∙ ap (λ (x : ReaderConfig). x.topic) same.1 in
     let there =
     told (λ (p : PeerConfig). p.writers) (λ (x : WriterConfig). x.topic) writer_name own.end.topic 1 config.peers
     (w.peer - 1) to.from.peer (w.number - 1) to.from.end to.from.at_peer.1 to.from.at_writer.1 topic in

@@ -1,7 +1,7 @@
 -- The writer that an ACKNACK names answers its matched readers, one after the other, and the peer's other writers do nothing.
 use Rattle.std.proofs.Common.{◌≡◌, ℕ, zero, suc, ◌+◌, ◌<◌, List, [], ◌∷◌, ◌++◌, Option, Some, None, map, take, drop, set, length, get_or, slice_get, refl, ap, sym, ◌∙◌, subst, arith, inr, append_assoc, append-nil, length-set}
 use Rattle.std.proofs.lemmas.List.{take_more, take_all}
-use Rattle.std.proofs.lemmas.Option.{same_Some, slice_get-get_or}
+use Rattle.std.proofs.lemmas.Option.{same_Some, get_or_from_slice_get}
 use Rattle.dds_base.specs.declared.config.Config.{Config}
 use Rattle.dds_base.specs.declared.guid.EntityId.{EntityId}
 use Rattle.dds_base.specs.declared.guid.GuidPrefix.{GuidPrefix}
@@ -19,8 +19,7 @@ use Rattle.dds_model.proofs.OwnGuids.{one_writer}
 use Rattle.dds_core.specs.declared.answering.Room.{Room}
 use Rattle.dds_core.specs.declared.matching.ReaderName.{ReaderName}
 use Rattle.dds_core.specs.declared.sending.Announced.{Announced}
-use Rattle.dds_core.specs.Answering.{IsFrom, AreRooms, TakesAckNack, HaveRoom, IsWriterOf, RowTook, RowsTook, TakesRow, TakesRows, acknowledged_moves}
-use Rattle.dds_core.specs.Beating.{AddsTo}
+use Rattle.dds_core.specs.Answering.{IsRoom, AreRooms, TakesAckNack, HaveRoom, IsWriterOf, RowTook, RowsTook, TakesRow, TakesRows, acknowledged_moves}
 use Rattle.dds_core.specs.Kept.{WriterKept, PeerKept, WriterIdentity, writer_identity}
 use Rattle.dds_core.specs.Receiving.{with_state, TakesOneMore}
 use Rattle.dds_core.specs.Standing.{StandsFor}
@@ -28,7 +27,7 @@ use Rattle.dds_core.proofs.Beating.{adds_none, adds_on}
 use Rattle.dds_core.proofs.Lists.{element, get-within}
 use Rattle.dds_core.proofs.Makes.{set_get}
 use Rattle.dds_core.proofs.Ready.{partner}
-use Rattle.dds_core.proofs.RowsAnswered.{IsOwn, Row, one_entity, own_end, own_is, row_answered, row_idle}
+use Rattle.dds_core.proofs.RowsAnswered.{IsOwn, RowAnswered, one_entity, own_end, own_is, row_answered, row_idle, row_at}
 use Rattle.dds_core.proofs.Turns.{turn_more}
 
 -- ---- turns in which nothing, or one alone, does something
@@ -135,27 +134,71 @@ rows_none old index a k rooms moves sent at_k = record {
   others = refl;
 }
 
-more_rows : (config : Config) (own : GuidPrefix) (at : Receiver) (a : AckNackBody) (index i : ℕ)
-    (names : List ReaderName) (d : ReaderName) (peer : Peer) (made one : List Move) (due : List Due)
-    (sent mid gone : Announced) (now new : PeerKept) → i < length names
-    → (before : RowsTook config own at a index (take i names) peer made sent now mid) (after : State)
-    → WriterTakes config own peer.number at a (suc index) (get_or names i d).reader before.state one due after
-    → StandsFor new config (with_state peer after)
-    → AddsTo due mid gone → RowsTook config own at a index (take (i + 1) names) peer (made ++ one) sent new gone
-more_rows config own at a index i names d peer made one due sent mid gone now new lt before after takes stands adds =
+-- the reader of this row, by its name, at the writer as it was and as it is by now
+record IsAtRow (k there : WriterKept) (i : ℕ) : Type 0 where
+  name : ReaderName
+  was : slice_get k.readers i ≡ Some name
+  at : slice_get there.readers i ≡ Some name
+  more : take (i + 1) k.readers ≡ take i k.readers ++ name ∷ []
+
+at_row : (k there : WriterKept) (i : ℕ) → writer_identity there ≡ writer_identity k → i < length k.readers
+    → IsAtRow k there i
+at_row k there i same lt =
+    let found = element k.readers i lt in
     record {
-      state = after;
-      dues = before.dues ++ due;
+      name = found.0;
+      was = found.1;
+      at = ap (λ (x : WriterIdentity). slice_get x.readers i) same ∙ found.1;
+      more =
+          take_more k.readers i found.0 lt
+          ∙ ap (λ (n : ReaderName). take i k.readers ++ n ∷ [])
+          (get_or_from_slice_get k.readers i found.0 found.0 found.1);
+    }
+
+-- for each peer that the old values stand for, its writer did at the ACKNACK what it has to, as to this reader
+abbrev AnswersRow : PeerKept → ℕ → AckNackBody → WriterKept → ReaderName → Option Room → List Move → Announced
+    → PeerKept → Announced → Type 0
+AnswersRow old index a k name room made sent new gone =
+    (config : Config) (peer : Peer) → StandsFor old config peer → (at : Receiver)
+    → IsRoom old.prefix k.entity at a name room
+    → RowAnswered config old.prefix at a (suc index) name.reader peer made sent new gone
+
+-- one row more was answered
+row_more : (old now new : PeerKept) (index : ℕ) (a : AckNackBody) (k : WriterKept) (rooms : List (Option Room)) (i : ℕ)
+    (room : Option Room) (moves mid one : List Move) (sent went gone : Announced)
+    → (h : TakesRows old index a k rooms i moves sent now mid went) (r : IsAtRow k h.there i)
+    → slice_get rooms i ≡ Some room → AnswersRow now index a h.there r.name room one went new gone
+    → (at : Receiver) → AreRooms old.prefix k.entity at a k.readers rooms → (config : Config) (peer : Peer)
+    → StandsFor old config peer
+    → RowsTook config old.prefix at a index (take (i + 1) k.readers) peer (h.made ++ one) sent new gone
+row_more old now new index a k rooms i room moves mid one sent went gone h r there answers at are config peer stands =
+    let before : RowsTook config old.prefix at a index (take i k.readers) peer h.made sent now went =
+    h.takes at are config peer stands in
+    let entity : h.there.entity ≡ k.entity = ap (λ (x : WriterIdentity). x.entity) h.same in
+    let is : IsRoom now.prefix h.there.entity at a r.name room =
+    subst (λ (p : GuidPrefix). IsRoom p h.there.entity at a r.name room) (sym h.prefix)
+    (subst (λ (e : EntityId). IsRoom old.prefix e at a r.name room) (sym entity)
+    (are.each i r.name room r.was there)) in
+    let answered : RowAnswered config now.prefix at a (suc index) r.name.reader (with_state peer before.state) one went
+    new gone = answers config (with_state peer before.state) before.stands at is in
+    let takes : WriterTakes config old.prefix peer.number at a (suc index) r.name.reader before.state one answered.dues
+    answered.state =
+    subst (λ (p : GuidPrefix). WriterTakes config p peer.number at a (suc index) r.name.reader before.state one
+    answered.dues answered.state) h.prefix answered.takes in
+    record {
+      state = answered.state;
+      dues = before.dues ++ answered.dues;
       turn =
           subst (λ (ns : List ReaderName). InTurn
-          (λ (n : ReaderName). WriterTakes config own peer.number at a (suc index) n.reader) ns (state_of peer)
-          (made ++ one) (before.dues ++ due) after) (sym (take_more names i d lt))
-          (turn_more (λ (n : ReaderName). WriterTakes config own peer.number at a (suc index) n.reader) (take i names)
-          (get_or names i d) (state_of peer) before.state after made one before.dues due before.turn takes);
-      stands = stands;
+          (λ (n : ReaderName). WriterTakes config old.prefix peer.number at a (suc index) n.reader) ns (state_of peer)
+          (h.made ++ one) (before.dues ++ answered.dues) answered.state) (sym r.more)
+          (turn_more (λ (n : ReaderName). WriterTakes config old.prefix peer.number at a (suc index) n.reader)
+          (take i k.readers) r.name (state_of peer) before.state answered.state h.made one before.dues answered.dues
+          before.turn takes);
+      stands = answered.stands;
       adds =
-          adds_on before.dues due sent.packets.items mid.packets.items gone.packets.items sent.unsent mid.unsent gone.unsent
-          before.adds adds;
+          adds_on before.dues answered.dues sent.packets.items went.packets.items gone.packets.items sent.unsent
+          went.unsent gone.unsent before.adds answered.adds;
     }
 
 -- nobody has room at this row
@@ -163,55 +206,21 @@ pub rows_skip : (old now : PeerKept) (index : ℕ) (a : AckNackBody) (k : Writer
     (moves after : List Move) (sent gone : Announced) → TakesRows old index a k rooms i moves sent now after gone
     → i < length k.readers
     → slice_get rooms i ≡ Some None → TakesRows old index a k rooms (i + 1) moves sent now after gone
-rows_skip old now index a k rooms i moves after sent gone h lt none = record {
-  made = h.made;
-  after_is = h.after_is;
-  takes = λ at are config peer stands.
-      let before : RowsTook config old.prefix at a index (take i k.readers) peer h.made sent now gone =
-      h.takes at are config peer stands in
-      let found = element k.readers i lt in
-      let readers : h.there.readers ≡ k.readers = ap (λ (x : WriterIdentity). x.readers) h.same in
-      let entity : h.there.entity ≡ k.entity = ap (λ (x : WriterIdentity). x.entity) h.same in
-      let at_name : slice_get h.there.readers i ≡ Some found.0 =
-      ap (λ (ns : List ReaderName). slice_get ns i) readers ∙ found.1 in
-      let c : Row =
-      record {
-        config = config;
-        peer = with_state peer before.state;
-        kept = now;
-        stands = before.stands;
-        i = index;
-        k = h.there;
-        at_k = h.at;
-        row = i;
-        name = found.0;
-        at_name = at_name;
-      } in
-      let o : IsOwn config now peer.number index h.there =
-      own_is config (with_state peer before.state) now before.stands index h.there h.at in
-      let not : IsFrom now.prefix h.there.entity at a found.0 → ⊥ =
-      subst (λ (p : GuidPrefix). IsFrom p h.there.entity at a found.0 → ⊥) (sym h.prefix)
-      (subst (λ (e : EntityId). IsFrom old.prefix e at a found.0 → ⊥) (sym entity)
-      (are.each i found.0 None found.1 none)) in
-      let idle : WriterTakes config now.prefix peer.number at a (suc index) found.0.reader before.state []
-      [] before.state = row_idle c o at a not before.state in
-      let same : WriterTakes config old.prefix peer.number at a (suc index) found.0.reader before.state []
-      [] before.state = subst (λ (p : GuidPrefix). WriterTakes config p peer.number at a
-      (suc index) found.0.reader before.state [] [] before.state) h.prefix idle in
-      let is : found.0 ≡ get_or k.readers i found.0 =
-      same_Some found.0 (get_or k.readers i found.0) (sym found.1 ∙ slice_get-get_or k.readers i found.0 lt) in
-      subst (λ (ms : List Move). RowsTook config old.prefix at a index (take (i + 1) k.readers) peer ms sent now gone)
-      (append-nil h.made)
-      (more_rows config old.prefix at a index i k.readers found.0 peer h.made []
-      [] sent gone gone now now lt before before.state
-      (subst (λ (n : ReaderName). WriterTakes config old.prefix peer.number at a (suc index) n.reader before.state []
-      [] before.state) is same) before.stands (adds_none gone.packets.items gone.unsent));
-  there = h.there;
-  at = h.at;
-  same = h.same;
-  prefix = h.prefix;
-  others = h.others;
-}
+rows_skip old now index a k rooms i moves after sent gone h lt none =
+    let r = at_row k h.there i h.same lt in
+    record {
+      made = h.made ++ [];
+      after_is = h.after_is ∙ ap (λ (ms : List Move). moves ++ ms) (sym (append-nil h.made));
+      takes =
+          row_more old now now index a k rooms i None moves after [] sent gone gone h r none
+          (λ config peer stands at not.
+          row_idle (row_at now index i h.there r.name h.at r.at config peer stands) at a gone not);
+      there = h.there;
+      at = h.at;
+      same = h.same;
+      prefix = h.prefix;
+      others = h.others;
+    }
 
 -- this reader was answered
 pub rows_more : (old now new : PeerKept) (index : ℕ) (a : AckNackBody) (k : WriterKept) (rooms : List (Option Room))
@@ -220,49 +229,17 @@ pub rows_more : (old now new : PeerKept) (index : ℕ) (a : AckNackBody) (k : Wr
     → slice_get rooms i ≡ Some (Some room) → TakesRow now index i a mid went new after gone
     → TakesRows old index a k rooms (i + 1) moves sent new after gone
 rows_more old now new index a k rooms i room moves mid after sent went gone h lt is took =
-    let found = element k.readers i lt in
-    let readers : h.there.readers ≡ k.readers = ap (λ (x : WriterIdentity). x.readers) h.same in
-    let entity : h.there.entity ≡ k.entity = ap (λ (x : WriterIdentity). x.entity) h.same in
-    let at_name : slice_get h.there.readers i ≡ Some found.0 =
-    ap (λ (ns : List ReaderName). slice_get ns i) readers ∙ found.1 in
-    let t : RowTook now index i a h.there found.0 mid went new after gone = took h.there found.0 h.at at_name in
-    let made : List Move = acknowledged_moves (index + 1) found.0.reader t.acknowledged in
+    let r = at_row k h.there i h.same lt in
+    let t : RowTook now index i a h.there r.name mid went new after gone = took h.there r.name h.at r.at in
+    let made : List Move = acknowledged_moves (index + 1) r.name.reader t.acknowledged in
     record {
       made = h.made ++ made;
       after_is = t.after_is ∙ (ap (λ (ms : List Move). ms ++ made) h.after_is ∙ append_assoc moves h.made made);
-      takes = λ at are config peer stands.
-          let before : RowsTook config old.prefix at a index (take i k.readers) peer h.made sent now went =
-          h.takes at are config peer stands in
-          let c : Row =
-          record {
-            config = config;
-            peer = with_state peer before.state;
-            kept = now;
-            stands = before.stands;
-            i = index;
-            k = h.there;
-            at_k = h.at;
-            row = i;
-            name = found.0;
-            at_name = at_name;
-          } in
-          let o : IsOwn config now peer.number index h.there =
-          own_is config (with_state peer before.state) now before.stands index h.there h.at in
-          let from : IsFrom now.prefix h.there.entity at a found.0 =
-          subst (λ (p : GuidPrefix). IsFrom p h.there.entity at a found.0) (sym h.prefix)
-          (subst (λ (e : EntityId). IsFrom old.prefix e at a found.0) (sym entity)
-          (are.each i found.0 (Some room) found.1 is).0) in
-          let r = row_answered c o at a from mid went new after gone t in
-          let same : WriterTakes config old.prefix peer.number at a
-          (suc index) found.0.reader before.state made r.dues r.state = subst
-          (λ (p : GuidPrefix). WriterTakes config p peer.number at a
-          (suc index) found.0.reader before.state made r.dues r.state) h.prefix r.takes in
-          let named : found.0 ≡ get_or k.readers i found.0 =
-          same_Some found.0 (get_or k.readers i found.0) (sym found.1 ∙ slice_get-get_or k.readers i found.0 lt) in
-          more_rows config old.prefix at a index i k.readers found.0 peer h.made made r.dues sent went gone now new lt
-          before r.state
-          (subst (λ (n : ReaderName). WriterTakes config old.prefix peer.number at a
-          (suc index) n.reader before.state made r.dues r.state) named same) r.stands r.adds;
+      takes =
+          row_more old now new index a k rooms i (Some room) moves mid made sent went gone h r is
+          (λ config peer stands at from.
+          row_answered (row_at now index i h.there r.name h.at r.at config peer stands) at a from.0 mid went new after
+          gone t);
       there = t.writer;
       at = ap (λ (x : PeerKept). slice_get x.writers index) t.new_is ∙ set_get now.writers index h.there t.writer h.at;
       same = t.same ∙ h.same;

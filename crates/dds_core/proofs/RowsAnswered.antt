@@ -1,8 +1,7 @@
 -- A writer of the peer takes an ACKNACK of one of its matched readers, by the rules of the protocol.
-use Rattle.std.proofs.Common.{◌≡◌, ℕ, suc, ◌+◌, ◌-◌, ◌≤◌, ◌==◌, Bool, true, false, cond, ◌&&◌, List, [], ◌∷◌, Option, Some, None, map, max, length, get_or, slice_get, refl, ap, sym, ◌∙◌, subst, arith, inl, inr, length-append, length-set, nat_lt, eq-eqb, eqb-true}
+use Rattle.std.proofs.Common.{◌≡◌, ℕ, suc, ◌+◌, ◌≤◌, ◌==◌, Bool, true, false, cond, ◌&&◌, List, [], ◌∷◌, Option, Some, None, map, max, length, get_or, slice_get, refl, ap, sym, ◌∙◌, subst, arith, inl, inr, length-append, nat_lt, eq-eqb, eqb-true}
 use Rattle.std.specs.Prelude.{ℤ, if◌then◌else◌}
 use Rattle.std.proofs.lemmas.Bool.Decides.{nat_tests}
-use Rattle.std.proofs.lemmas.Option.{same_Some}
 use Rattle.dds_base.specs.declared.config.Config.{Config}
 use Rattle.dds_base.specs.declared.config.PeerConfig.{PeerConfig}
 use Rattle.dds_base.specs.declared.config.ReaderConfig.{ReaderConfig}
@@ -20,8 +19,7 @@ use Rattle.rtps_writer.specs.WriterState.{WriterState, acknowledged_by}
 use Rattle.dds_model.specs.declared.endpoint.Endpoint.{Endpoint}
 use Rattle.dds_model.specs.declared.reply.Move.{Move}
 use Rattle.dds_model.specs.declared.reply.Move.TheVariants.{Acknowledged}
-use Rattle.dds_model.specs.Claims.{Receiver, IsNumbered, IsWriter, IsToWriter, Names}
-use Rattle.dds_model.specs.Dues.{AreTellable}
+use Rattle.dds_model.specs.Claims.{Receiver, IsWriter, IsToWriter, Names}
 use Rattle.dds_model.specs.Part.{Part, ReaderProxy, Writer, no_writer, same_endpoint, history_of, at_writer, writer_changes}
 use Rattle.dds_model.specs.Peer.{Peer, state_of as network_of}
 use Rattle.dds_model.specs.DueMessages.{Due, answer_message}
@@ -33,46 +31,21 @@ use Rattle.dds_core.specs.declared.matching.ReaderName.{ReaderName}
 use Rattle.dds_core.specs.declared.sending.Announced.{Announced}
 use Rattle.dds_core.specs.Answering.{IsFrom, RowTook, SendsAnswers, TookAckNack, acknowledged_moves, answer_due}
 use Rattle.dds_core.specs.Beating.{AddsTo, due_to}
-use Rattle.dds_core.specs.Kept.{WriterKept, PeerKept, Identity, WriterIdentity, IsPeerOf, writer_identity}
+use Rattle.dds_core.specs.Kept.{WriterKept, PeerKept, WriterIdentity}
 use Rattle.dds_core.specs.Matching.{reader_name, reader_names}
 use Rattle.dds_core.specs.Receiving.{with_state}
 use Rattle.dds_core.specs.Standing.{StandsFor, WriterStands, state_of}
 use Rattle.dds_core.proofs.Acknowledging.{IsOnly, IsCounted, only_row, acknowledged_is, acknowledged_then, applied_is, low_of, moves_then, not_same, readers_same, state_applied, still_begun}
-use Rattle.dds_core.proofs.Ends.{with_writer, same_with_writer}
-use Rattle.dds_core.proofs.Lists.{each_set_at, get-map, map-get}
+use Rattle.dds_core.proofs.Beating.{adds_none}
+use Rattle.dds_core.proofs.Ends.{with_writer, writer_put}
+use Rattle.dds_core.proofs.Lists.{get-map, map-get}
 use Rattle.dds_core.proofs.Makes.{IsOwnWriter, own_writer_is}
-use Rattle.dds_core.proofs.Numbered.{is_told}
+use Rattle.dds_core.proofs.Names.{IsReaderNamed, of_named}
+use Rattle.dds_core.proofs.Numbered.{same_end}
 use Rattle.dds_core.proofs.Once.{Once, named_once}
 use Rattle.dds_core.proofs.Tellable.{tellable_put}
 
 -- ---- whom an ACKNACK is from, by the configuration
-
--- the name is that of a reader of the topic
-pub record IsReaderNamed (config : Config) (topic : ℕ) (name : ReaderName) : Type 0 where
-  pub peer : PeerConfig
-  pub at_peer : IsNumbered config.peers name.reader.peer peer
-  pub same_prefix : peer.prefix ≡ name.guid.prefix
-  pub end : ReaderConfig
-  pub at_reader : IsNumbered peer.readers name.reader.number end
-  pub same_entity : end.entity ≡ name.guid.entity
-  pub same_topic : end.topic ≡ topic
-
-reader_named : (config : Config) (topic k : ℕ) (name : ReaderName)
-    → slice_get (reader_names topic config.peers) k ≡ Some name → IsReaderNamed config topic name
-reader_named config topic k name at =
-    let f =
-    is_told config.peers (λ (p : PeerConfig). p.readers) (λ (r : ReaderConfig). r.topic) reader_name topic k name at
-    in
-    subst (λ (x : ReaderName). IsReaderNamed config topic x) f.told
-    (record {
-      peer = f.peer;
-      at_peer = f.at_peer;
-      same_prefix = refl;
-      end = f.end;
-      at_reader = f.at_end;
-      same_entity = refl;
-      same_topic = f.same_topic;
-    })
 
 -- what the configuration says of a writer of the peer, and of the readers that it knows
 pub record IsOwn (config : Config) (kept : PeerKept) (number i : ℕ) (k : WriterKept) : Type 0 where
@@ -89,7 +62,9 @@ own_is config peer kept s i k at =
     record {
       own = own;
       all = all;
-      named = λ row name there. reader_named config own.end.topic row name
+      named = λ row name there. of_named (λ (p : PeerConfig). p.readers) (λ (r : ReaderConfig). r.topic)
+          (λ (r : ReaderConfig). r.entity) reader_name (λ (x : ReaderName). IsReaderNamed config own.end.topic x)
+          config.peers own.end.topic row name (λ peer p number r is. is)
           (subst (λ (ns : List ReaderName). slice_get ns row ≡ Some name) all there);
     }
 
@@ -110,7 +85,7 @@ to_writer config peer kept i k o at a name n f = record {
         same_prefix = n.same_prefix
             ∙ f.source;
         end = n.end;
-        at_reader = n.at_reader;
+        at_reader = n.at_end;
         same_entity = n.same_entity;
       };
   named = f.named;
@@ -131,11 +106,10 @@ to_writer config peer kept i k o at a name n f = record {
 pub one_entity : (config : Config) (prefix other : GuidPrefix) (a b : EntityId) (e : Endpoint)
     → IsWriter config prefix a e → IsWriter config other b e → a ≡ b
 one_entity config prefix other a b e x y =
-    let peers : x.peer ≡ y.peer = same_Some x.peer y.peer (sym x.at_peer.1 ∙ y.at_peer.1) in
-    let there : slice_get y.peer.writers (e.number - 1) ≡ Some x.end =
-    subst (λ (p : PeerConfig). slice_get p.writers (e.number - 1) ≡ Some x.end) peers x.at_writer.1 in
-    let ends : x.end ≡ y.end = same_Some x.end y.end (sym there ∙ y.at_writer.1) in
-    sym x.same_entity ∙ (ap (λ (w : WriterConfig). w.entity) ends ∙ y.same_entity)
+    let same =
+    same_end (λ (p : PeerConfig). p.writers) config.peers e x.peer y.peer x.end y.end x.at_peer y.at_peer x.at_writer
+    y.at_writer in
+    sym x.same_entity ∙ (ap (λ (w : WriterConfig). w.entity) same.1 ∙ y.same_entity)
 
 pub from_reader : (config : Config) (peer : Peer) (kept : PeerKept) (i : ℕ) (k : WriterKept)
     (o : IsOwn config kept peer.number i k) (at : Receiver) (a : AckNackBody) (name : ReaderName)
@@ -143,69 +117,16 @@ pub from_reader : (config : Config) (peer : Peer) (kept : PeerKept) (i : ℕ) (k
     → IsToWriter config kept.prefix at a.reader_id a.writer_id (own_end peer i) name.reader
     → IsFrom kept.prefix k.entity at a name
 from_reader config peer kept i k o at a name n to =
-    let peers : to.from.peer ≡ n.peer = same_Some to.from.peer n.peer (sym to.from.at_peer.1 ∙ n.at_peer.1) in
-    let there : slice_get n.peer.readers (name.reader.number - 1) ≡ Some to.from.end =
-    subst (λ (p : PeerConfig). slice_get p.readers (name.reader.number - 1)
-    ≡ Some to.from.end) peers to.from.at_reader.1 in
-    let ends : to.from.end ≡ n.end = same_Some to.from.end n.end (sym there ∙ n.at_reader.1) in
+    let same =
+    same_end (λ (p : PeerConfig). p.readers) config.peers name.reader to.from.peer n.peer to.from.end n.end
+    to.from.at_peer n.at_peer to.from.at_reader n.at_end in
     let entity : to.entity ≡ name.guid.entity =
-    sym to.from.same_entity ∙ (ap (λ (r : ReaderConfig). r.entity) ends ∙ n.same_entity) in
+    sym to.from.same_entity ∙ (ap (λ (r : ReaderConfig). r.entity) same.1 ∙ n.same_entity) in
     record {
       named = subst (λ (x : EntityId). Names a.reader_id x) entity to.named;
       is_for = to.is_for;
       writer = one_entity config kept.prefix kept.prefix a.writer_id k.entity (own_end peer i) to.to o.own.from;
-      source = sym n.same_prefix ∙ (ap (λ (p : PeerConfig). p.prefix) (sym peers) ∙ to.from.same_prefix);
-    }
-
--- ---- the peer, with another writer
-
-writer_stands_on : (k : WriterKept) (w : Writer) (old new : Endpoint → Option ℤ) → ((r : Endpoint) → new r ≡ old r)
-    → WriterStands k w old → WriterStands k w new
-writer_stands_on k w old new same s = record {
-  autodispose = s.autodispose;
-  readers = s.readers;
-  writer =
-      subst (λ (cs : List (Option ℤ)). RtpsStandsFor k.writer (record (state_of w old) { counts = cs }))
-      (sym (counts w.readers)) s.writer;
-  begun = s.begun;
-}
-  where
-    counts : (rows : List ReaderProxy) → map (λ (p : ReaderProxy). new p.reader) rows
-        ≡ map (λ (p : ReaderProxy). old p.reader) rows
-    counts [] = refl
-    counts (p ∷ ps) =
-        ap (λ (o : Option ℤ). o ∷ map (λ (q : ReaderProxy). new q.reader) ps) (same p.reader)
-        ∙ ap (λ (os : List (Option ℤ)). old p.reader ∷ os) (counts ps)
-
--- own writer n has become another one, and what is known of its readers has changed
-pub writer_put : (config : Config) (peer : Peer) (kept : PeerKept) → StandsFor kept config peer
-    → (i : ℕ) (k k' : WriterKept) → slice_get kept.writers i ≡ Some k → writer_identity k' ≡ writer_identity k
-    → (w : Writer) (answered : ℕ → Endpoint → Option ℤ)
-    → WriterStands k' w (answered (suc i))
-    → ((j : ℕ) → (j ≡ i → ⊥) → (r : Endpoint) → answered (suc j) r ≡ peer.known.answered (suc j) r)
-    → AreTellable (at_writer peer.part (suc i) w)
-    → StandsFor (with_writer kept i k') config
-    (with_state peer
-    (record { part = at_writer peer.part (suc i) w; known = record peer.known { answered = answered } }))
-writer_put config peer kept s i k k' at same w answered stands others tellable =
-    let ws : List Writer = peer.part.rtps.writers in
-    record {
-      is_peer =
-          subst (λ (x : Identity). IsPeerOf config peer.number x)
-          (sym (same_with_writer kept i k k' at same)) s.is_peer;
-      moment = s.moment;
-      early = s.early;
-      watch = s.watch;
-      writers = record {
-        count = length-set ws i w ∙ (s.writers.count ∙ sym (length-set kept.writers i k'));
-        each =
-            each_set_at (λ (j : ℕ) (x : WriterKept) (y : Writer) (z : Writer). WriterStands x y (answered (suc j)))
-            kept.writers ws ws i k' w no_writer w no_writer s.writers.count s.writers.count
-            (λ j x apart there. writer_stands_on x (get_or ws j no_writer) (peer.known.answered (suc j))
-            (answered (suc j)) (others j apart) (s.writers.each j x there)) stands;
-      };
-      readers = record { rows = s.readers.rows; count = s.readers.count; each = s.readers.each };
-      tellable = tellable;
+      source = sym n.same_prefix ∙ (ap (λ (p : PeerConfig). p.prefix) (sym same.0) ∙ to.from.same_prefix);
     }
 
 -- ---- one row
@@ -232,6 +153,27 @@ pub record Row : Type 0 where
   pub row : ℕ
   pub name : ReaderName
   pub at_name : slice_get k.readers row ≡ Some name
+
+-- the row, where the values stand for this peer
+abbrev pub row_at : (kept : PeerKept) (i row : ℕ) (k : WriterKept) (name : ReaderName)
+    → slice_get kept.writers i ≡ Some k → slice_get k.readers row ≡ Some name → (config : Config) (peer : Peer)
+    → StandsFor kept config peer → Row
+row_at kept i row k name at_k at_name config peer stands = record {
+  config = config;
+  peer = peer;
+  kept = kept;
+  stands = stands;
+  i = i;
+  k = k;
+  at_k = at_k;
+  row = row;
+  name = name;
+  at_name = at_name;
+}
+
+-- what the configuration says of its writer
+own_of : (c : Row) → IsOwn c.config c.kept c.peer.number c.i c.k
+own_of c = own_is c.config c.peer c.kept c.stands c.i c.k c.at_k
 
 abbrev writer_of : Row → Writer
 writer_of c = get_or c.peer.part.rtps.writers c.i no_writer
@@ -532,19 +474,20 @@ row_ignored turn is = record {
       begun = (stood turn.c).begun;
     }
 
-pub row_answered : (c : Row) (o : IsOwn c.config c.kept c.peer.number c.i c.k) (at : Receiver) (a : AckNackBody)
+-- a reader that the ACKNACK is from is answered
+pub row_answered : (c : Row) (at : Receiver) (a : AckNackBody)
     → IsFrom c.kept.prefix c.k.entity at a c.name
     → (moves : List Move) (sent : Announced) (new : PeerKept) (after : List Move) (gone : Announced)
     → (t : RowTook c.kept c.i c.row a c.k c.name moves sent new after gone)
     → RowAnswered c.config c.kept.prefix at a (suc c.i) c.name.reader c.peer
     (acknowledged_moves (c.i + 1) c.name.reader t.acknowledged) sent new gone
-row_answered c o at a from moves sent new after gone t = subst (GoesOn turn) (sym t.new_is) (by (is_taken turn) refl)
+row_answered c at a from moves sent new after gone t = subst (GoesOn turn) (sym t.new_is) (by (is_taken turn) refl)
   where
     turn : Turn
     turn =
         record {
           c = c;
-          own = o;
+          own = own_of c;
           at = at;
           a = a;
           moves = moves;
@@ -561,12 +504,20 @@ row_answered c o at a from moves sent new after gone t = subst (GoesOn turn) (sy
     by false is = row_ignored turn is
 
 -- a reader that the ACKNACK is not from has nothing to be answered
-pub row_idle : (c : Row) (o : IsOwn c.config c.kept c.peer.number c.i c.k) (at : Receiver) (a : AckNackBody)
-    → (IsFrom c.kept.prefix c.k.entity at a c.name → ⊥) → (state : State)
-    → WriterTakes c.config c.kept.prefix c.peer.number at a (suc c.i) c.name.reader state [] [] state
-row_idle c o at a not state =
-    inr (
-      (λ to. absurd (not (from_reader c.config c.peer c.kept c.i c.k o at a c.name
-          (o.named c.row c.name c.at_name) to))),
-      (refl, refl, refl),
-    )
+pub row_idle : (c : Row) (at : Receiver) (a : AckNackBody) (sent : Announced)
+    → (IsFrom c.kept.prefix c.k.entity at a c.name → ⊥)
+    → RowAnswered c.config c.kept.prefix at a (suc c.i) c.name.reader c.peer [] sent c.kept sent
+row_idle c at a sent not =
+    let o : IsOwn c.config c.kept c.peer.number c.i c.k = own_of c in
+    record {
+      state = network_of c.peer;
+      dues = [];
+      takes =
+          inr (
+            (λ to. absurd (not (from_reader c.config c.peer c.kept c.i c.k o at a c.name
+                (o.named c.row c.name c.at_name) to))),
+            (refl, refl, refl),
+          );
+      stands = c.stands;
+      adds = adds_none sent.packets.items sent.unsent;
+    }
