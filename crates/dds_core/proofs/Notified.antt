@@ -45,16 +45,16 @@ to_nobody : (o : Option Entity) (part : Part) (e : Entity) (status : Status) →
 to_nobody (Some taker) part e status h = cc
 to_nobody None part e status h = refl
 
--- the writer of a number stands in an open peer at the index before it, and so it does in the peer
-pub writer_found : (inside now : PeerKept) (n from : ℕ) (k : WriterKept) → inside ≡ now → 1 ≤ n → n ≤ length now.writers
-    → from ≡ n → k ≡ get_or inside.writers (from - 1) k
-    → (suc (from - 1) ≡ n) × (from - 1 < length inside.writers) × (slice_get inside.writers (from - 1) ≡ Some k)
-    × (slice_get now.writers (from - 1) ≡ Some k)
-writer_found inside now n from k view low high number is =
-    let size = ap (λ (p : PeerKept). length p.writers) view in
-    let within : from - 1 < length inside.writers = omega (arith, low, high, number, size) in
-    let at = slice_get_read inside.writers (length inside.writers) (from - 1) k refl within is in
-    (omega (arith, low, number), within, at, subst (λ (p : PeerKept). slice_get p.writers (from - 1) ≡ Some k) view at)
+-- the end of a number stands in an open peer at the index before it, and so it does in the peer
+pub end_found : {X : Type 0} (ends : PeerKept → List X) (inside now : PeerKept) (n from : ℕ) (x : X) → inside ≡ now
+    → 1 ≤ n → n ≤ length (ends now) → from ≡ n → x ≡ get_or (ends inside) (from - 1) x
+    → (suc (from - 1) ≡ n) × (from - 1 < length (ends inside)) × (slice_get (ends inside) (from - 1) ≡ Some x)
+    × (slice_get (ends now) (from - 1) ≡ Some x)
+end_found ends inside now n from x view low high number is =
+    let size = ap (λ (p : PeerKept). length (ends p)) view in
+    let within : from - 1 < length (ends inside) = omega (arith, low, high, number, size) in
+    let at = slice_get_read (ends inside) (length (ends inside)) (from - 1) x refl within is in
+    (omega (arith, low, number), within, at, subst (λ (p : PeerKept). slice_get (ends p) (from - 1) ≡ Some x) view at)
 
 -- the listeners of a peer are the last thing that it stands for
 pub listeners_apart : (kept : PeerKept) (config : Config) (peer : Peer) (places : Places) → StandsFor kept config peer
@@ -123,27 +123,29 @@ module _ {L : Type 0} (notices : L → List Notice) (capacity : L → ℕ) where
         tell peer.part.dds.listeners l,
       )
 
-  -- a status of the reader of this number
-  pub tells_reader : (status : Status) (old : PeerKept) (slots : Slotted L) (n i : ℕ) (k k' : ReaderKept)
-      (after : Slotted L) → suc i ≡ n
-      → slice_get old.readers i ≡ Some k → reader_identity k' ≡ reader_identity k → SeesStatus k status k'
+  -- a status of the reader of this number, at the peer that was opened
+  pub tells_reader : (raised : Option Status) (status : Status) (inside old : PeerKept) (slots : Slotted L) (n i : ℕ)
+      (k k' : ReaderKept) (after : Slotted L) → raised ≡ Some status → inside ≡ old → suc i ≡ n
+      → slice_get inside.readers i ≡ Some k → reader_identity k' ≡ reader_identity k → SeesStatus k status k'
       → ((places : Places) → SlotsStandFor notices capacity slots places
       → true ≡ is_some (taker_of places (entity.Reader n) status))
       → ((places : Places) → SlotsStandFor notices capacity slots places
       → SlotsStandFor notices capacity after
       (after_notice places (record { entity = entity.Reader n; status = status })))
-      → Tells notices capacity (λ part. told part (entity.Reader n) (Some status)) old slots
-      (with_reader old i k') after
-  tells_reader status old slots n i k k' after is at same sees takes tell =
-      told_by (entity.Reader n) status old slots (with_reader old i k') after takes tell
-      (λ config peer s.
-      subst (λ (m : ℕ). StandsFor (with_reader old i k') config
+      → Tells notices capacity (λ part. told part (entity.Reader n) raised) old slots (with_reader inside i k') after
+  tells_reader raised status inside old slots n i k k' after so view is at same sees takes tell =
+      subst (λ (o : Option Status). Tells notices capacity (λ part. told part (entity.Reader n) o) old slots
+      (with_reader inside i k') after) (sym so)
+      (told_by (entity.Reader n) status old slots (with_reader inside i k') after takes tell
+      (λ config peer given.
+      let s : StandsFor inside config peer = subst (λ (x : PeerKept). StandsFor x config peer) (sym view) given in
+      subst (λ (m : ℕ). StandsFor (with_reader inside i k') config
       (record peer { part = looked_at peer.part (entity.Reader m) status })) is
-      (own_reader_changed old i k k'
+      (own_reader_changed inside i k k'
       (record (own_reader peer.part (suc i)) { seen = seen_by (own_reader peer.part (suc i)) status }) config peer s
       at same
       (sees (own_proxies peer.part (suc i)) (own_reader peer.part (suc i)) (λ w. peer.known.tracked w (suc i))
-      (s.readers.each i k at))))
+      (s.readers.each i k at)))))
 
   -- a status of the writer of this number
   pub tells_writer : (status : Status) (old : PeerKept) (slots : Slotted L) (n i : ℕ) (k k' : WriterKept)
@@ -274,12 +276,12 @@ beyond [] i d h = refl
 beyond (x ∷ xs) zero d h = absurd (omega (arith, h))
 beyond (x ∷ xs) (suc i) d h = beyond xs i d (omega (arith, h))
 
--- they are those of each state that it stands for
-pub marks_peer : (kept : PeerKept) (writers : List ℕ) (readers : List ReaderMark)
+-- they are those of each state that it stands for, at the peer that was opened
+pub marks_peer : (kept now : PeerKept) (writers : List ℕ) (readers : List ReaderMark) → kept ≡ now
     → MarksWriters kept.writers (length kept.writers) writers
     → MarksReaders kept.readers (length kept.readers) readers
-    → MarksPeer kept (record { writers = writers; readers = readers })
-marks_peer kept writers readers of_writers of_readers config peer s = record {
+    → MarksPeer now (record { writers = writers; readers = readers })
+marks_peer kept now writers readers view of_writers of_readers config peer given = record {
   writers = λ i mark at.
       ⊎_elim
       (λ lt.
@@ -310,6 +312,9 @@ marks_peer kept writers readers of_writers of_readers config peer s = record {
       (cases_lt i (length kept.readers));
 }
   where
+    s : StandsFor kept config peer
+    s = subst (λ (x : PeerKept). StandsFor x config peer) (sym view) given
+
     some_one : {X : Type 0} (xs : List X) (i : ℕ) → i < length xs → X
     some_one [] i h = absurd (omega (arith, h))
     some_one (x ∷ xs) i h = x

@@ -7,15 +7,14 @@ use Rattle.dds_model.specs.Part.{own_writer}
 use Rattle.dds_core.specs.Kept.{PeerKept}
 use Rattle.dds_core.specs.Noticing.{Tells}
 use Rattle.dds_core.proofs.Ends.{with_writer}
-use Rattle.dds_core.proofs.Notified.{lost_so, not_lost, tells_loss, tells_nobody, tells_nothing, tells_writer}
-use Rattle.dds_core.proofs.Notified.{writer_found}
+use Rattle.dds_core.proofs.Notified.{end_found, lost_so, not_lost, tells_loss, tells_nobody, tells_nothing, tells_writer}
 use Rattle.dds_core.proofs.peer.Peer.notify_writer.Goals as goal
 
 pub returns-then-values-losses-clause-told : goal.returns-then-values-losses-clause-told
 returns-then-values-losses-clause-told g c = λ before mark.
     let here =
-    writer_found _ c.args.self.now c.args.number c.from-index.result c.index.result.now c.self.view_is
-    c.requires.within.0 c.requires.within.1 c.from-index.ensures c.index.ensures in
+    end_found (λ (k : PeerKept). k.writers) _ c.args.self.now c.args.number c.from-index.result c.index.result.now
+    c.self.view_is c.requires.within.0 c.requires.within.1 c.from-index.ensures c.index.ensures in
     tells_loss g.L.Listener.notices g.L.Listener.capacity None before c.args.self.now c.args.slots.now c.args.number
     (c.from-index.result - 1) c.index.result.now c.args.self.now c.args.slots.now here.0 here.3
     (λ w answered s. not_lost (own_writer before c.args.number) w c.liveliness_lost-values.result c.args.losses
@@ -26,8 +25,8 @@ returns-then-values-losses-clause-told g c = λ before mark.
 pub returns-then-takes-clause-told : goal.returns-then-takes-clause-told
 returns-then-takes-clause-told g c = λ before mark.
     let here =
-    writer_found _ c.args.self.now c.args.number c.from-index.result c.index.result.now c.self.view_is
-    c.requires.within.0 c.requires.within.1 c.from-index.ensures c.index.ensures in
+    end_found (λ (k : PeerKept). k.writers) _ c.args.self.now c.args.number c.from-index.result c.index.result.now
+    c.self.view_is c.requires.within.0 c.requires.within.1 c.from-index.ensures c.index.ensures in
     let inside = c.self.inside in
     let kept : PeerKept = record {
       prefix = inside.prefix;
@@ -57,8 +56,8 @@ returns-then-takes-clause-told g c = λ before mark.
 pub returns-else-takes-clause-told : goal.returns-else-takes-clause-told
 returns-else-takes-clause-told g c = λ before mark.
     let here =
-    writer_found _ c.args.self.now c.args.number c.from-index.result c.index.result.now c.self.view_is
-    c.requires.within.0 c.requires.within.1 c.from-index.ensures c.index.ensures in
+    end_found (λ (k : PeerKept). k.writers) _ c.args.self.now c.args.number c.from-index.result c.index.result.now
+    c.self.view_is c.requires.within.0 c.requires.within.1 c.from-index.ensures c.index.ensures in
     tells_loss g.L.Listener.notices g.L.Listener.capacity (Some (LivelinessLost c.liveliness_lost-values.result)) before
     c.args.self.now c.args.slots.now c.args.number (c.from-index.result - 1) c.index.result.now c.args.self.now
     c.args.slots.now here.0 here.3
