@@ -1,5 +1,5 @@
--- What is said of an answer, said in other words.
-use Rattle.std.proofs.Common.{Result, Ok, Err}
+-- What is said of an answer, or of other values, said in other words.
+use Rattle.std.proofs.Common.{◌≡◌, Result, Ok, Err, sym, subst}
 use Rattle.std.specs.Prelude.{IfErr, IfOk}
 
 pub ok_as : {X E : Type 0} {P Q : X → Type 0} (result : Result X E) → ((x : X) → P x → Q x) → IfOk result P
@@ -11,3 +11,9 @@ pub err_as : {X E : Type 0} {P Q : E → Type 0} (result : Result X E) → ((e :
     → IfErr result Q
 err_as (Ok x) as_well h = h
 err_as (Err e) as_well h = as_well e h
+
+-- what is said of three values is said of three others that they are
+pub of_three : {X Y Z : Type 0} {a b : X} {c d : Y} {e f : Z} (P : X → Y → Z → Type 0) → b ≡ a → d ≡ c → f ≡ e
+    → P a c e → P b d f
+of_three {a = a} {c = c} {d = d} {f = f} P first second third h =
+    subst (λ x. P x d f) (sym first) (subst (λ y. P a y f) (sym second) (subst (λ z. P a c z) (sym third) h))

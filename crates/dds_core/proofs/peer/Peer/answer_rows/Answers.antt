@@ -9,6 +9,7 @@ use Rattle.dds_core.specs.Kept.{PeerKept, WriterKept, WriterIdentity}
 use Rattle.dds_core.specs.Sending.{AreMessages}
 use Rattle.dds_core.proofs.Ready.{still_ready, rest_more}
 use Rattle.dds_core.proofs.Requesting.{rows_none, rows_skip, rows_more}
+use Rattle.dds_core.proofs.Results.{of_three}
 use Rattle.dds_core.proofs.peer.Peer.answer_rows.Goals.{in-Some, in_default}
 use Rattle.dds_core.proofs.peer.Peer.answer_rows.Goals as goal
 
@@ -70,21 +71,17 @@ loop-row-preserved c =
           let len = w.answer_row.ensures.len in
           let capacity = w.answer_row.ensures.capacity in
           let more = w.answer_row.ensures.few in
+          let long = ap (λ (m : Vec Move _). vec_len m) w.moves-is in
+          let wide = ap (λ (m : Vec Move _). vec_capacity m) w.moves-is in
           record {
             takes = λ x at.
                 let same : k ≡ x = same_Some k x (sym c.requires.within.1 ∙ at) in
-                let takes : TakesRows old c.args.index c.args.body.now x rooms
-                (i + 1) moves sent w.answer_row.new.self w.answer_row.new.moves.items w.answer_row.new.sent =
-                rows_more old c.loop-row.self w.answer_row.new.self c.args.index c.args.body.now x rooms i
+                of_three (λ (q : PeerKept) (m : Vec Move _) (y : Announced). TakesRows old c.args.index c.args.body.now x
+                rooms (i + 1) moves sent q m.items y) w.self-is w.moves-is w.sent-is
+                (rows_more old c.loop-row.self w.answer_row.new.self c.args.index c.args.body.now x rooms i
                 w.in-Some.room moves c.loop-row.moves.items w.answer_row.new.moves.items sent c.loop-row.sent
                 w.answer_row.new.sent (c.loop-row.invariant.takes x at)
-                (subst (λ (y : WriterKept). i < length y.readers) same known) is w.answer_row.ensures.takes in
-                subst (λ (q : PeerKept). TakesRows old c.args.index c.args.body.now x rooms
-                (i + 1) moves sent q c.match-take.moves.items c.match-take.sent) (sym w.self-is)
-                (subst (λ (m : Vec Move _). TakesRows old c.args.index c.args.body.now x rooms
-                (i + 1) moves sent w.answer_row.new.self m.items c.match-take.sent) (sym w.moves-is)
-                (subst (λ (y : Announced). TakesRows old c.args.index c.args.body.now x rooms
-                (i + 1) moves sent w.answer_row.new.self w.answer_row.new.moves.items y) (sym w.sent-is) takes));
+                (subst (λ (y : WriterKept). i < length y.readers) same known) is w.answer_row.ensures.takes);
             rest = rest;
             count = count;
             few =
@@ -93,33 +90,21 @@ loop-row-preserved c =
             messages =
                 λ h. subst (λ (y : Announced). AreMessages y.packets.items) (sym w.sent-is)
                 (w.answer_row.ensures.messages (c.loop-row.invariant.messages h));
-            room =
-                omega (
-                  arith,
-                  room,
-                  len,
-                  capacity,
-                  ap (λ (m : Vec Move _). vec_len m) w.moves-is,
-                  ap (λ (m : Vec Move _). vec_capacity m) w.moves-is,
-                );
+            room = omega (arith, room, len, capacity, long, wide);
           }
       | in_default w ↦
           let none : slice_get rooms i ≡ Some None =
           there ∙ ap (λ (x : Option Room). Some x) (sym c.take.ensures.value ∙ w.in_default.is) in
+          let long = ap (λ (m : Vec Move _). vec_len m) w.moves-is in
+          let wide = ap (λ (m : Vec Move _). vec_capacity m) w.moves-is in
           record {
             takes = λ x at.
                 let same : k ≡ x = same_Some k x (sym c.requires.within.1 ∙ at) in
-                let takes : TakesRows old c.args.index c.args.body.now x rooms
-                (i + 1) moves sent c.loop-row.self c.loop-row.moves.items c.loop-row.sent =
-                rows_skip old c.loop-row.self c.args.index c.args.body.now x rooms i moves c.loop-row.moves.items sent
+                of_three (λ (q : PeerKept) (m : Vec Move _) (y : Announced). TakesRows old c.args.index c.args.body.now x
+                rooms (i + 1) moves sent q m.items y) w.self-is w.moves-is w.sent-is
+                (rows_skip old c.loop-row.self c.args.index c.args.body.now x rooms i moves c.loop-row.moves.items sent
                 c.loop-row.sent (c.loop-row.invariant.takes x at)
-                (subst (λ (y : WriterKept). i < length y.readers) same known) none in
-                subst (λ (q : PeerKept). TakesRows old c.args.index c.args.body.now x rooms
-                (i + 1) moves sent q c.match-take.moves.items c.match-take.sent) (sym w.self-is)
-                (subst (λ (m : Vec Move _). TakesRows old c.args.index c.args.body.now x rooms
-                (i + 1) moves sent c.loop-row.self m.items c.match-take.sent) (sym w.moves-is)
-                (subst (λ (y : Announced). TakesRows old c.args.index c.args.body.now x rooms
-                (i + 1) moves sent c.loop-row.self c.loop-row.moves.items y) (sym w.sent-is) takes));
+                (subst (λ (y : WriterKept). i < length y.readers) same known) none);
             rest = rest;
             count = count;
             few =
@@ -127,13 +112,7 @@ loop-row-preserved c =
             messages =
                 λ h. subst (λ (y : Announced). AreMessages y.packets.items) (sym w.sent-is)
                 (c.loop-row.invariant.messages h);
-            room =
-                omega (
-                  arith,
-                  room,
-                  ap (λ (m : Vec Move _). vec_len m) w.moves-is,
-                  ap (λ (m : Vec Move _). vec_capacity m) w.moves-is,
-                );
+            room = omega (arith, room, long, wide);
           }
     ]
 

@@ -8,6 +8,7 @@ use Rattle.dds_core.specs.Receiving.{TakesSome}
 use Rattle.dds_core.specs.Sending.{AreMessages}
 use Rattle.dds_core.proofs.Turns.{takes_none, takes_skip, takes_more}
 use Rattle.dds_core.proofs.Ready.{takes_all, still_ready, rest_more}
+use Rattle.dds_core.proofs.Results.{of_three}
 use Rattle.dds_core.proofs.Lists.{left_at}
 use Rattle.dds_core.proofs.peer.Peer.take_all.Goals.{in-Some, in_default}
 use Rattle.dds_core.proofs.peer.Peer.take_all.Goals as goal
@@ -63,25 +64,19 @@ loop-index-preserved c =
       | in-Some w ↦
           let is : slice_get c.args.ready.items i ≡ Some (Some w.in-Some.one) =
           there ∙ ap (λ (x : Option Ready). Some x) (sym w.in-Some.ensures.value) in
-          let takes =
-          takes_more c.args.self.now c.loop-index.self w.take_at.new.self c.args.ready.items i w.in-Some.one
-          c.args.moves.now.items c.loop-index.moves.items w.take_at.new.moves.items c.args.sent.now
-          c.loop-index.sent w.take_at.new.sent
-          c.loop-index.invariant.takes known is w.take_at.ensures.takes in
           let more = w.take_at.ensures.few in
           let len = w.take_at.ensures.len in
           let capacity = w.take_at.ensures.capacity in
+          let long = ap (λ (m : Vec Move _). vec_len m) w.moves-is in
+          let wide = ap (λ (m : Vec Move _). vec_capacity m) w.moves-is in
           record {
             takes =
-                subst (λ (k : PeerKept). TakesSome c.args.self.now c.args.ready.items
-                (i + 1) c.args.moves.now.items c.args.sent.now k c.match-take.moves.items c.match-take.sent)
-                (sym w.self-is)
-                (subst (λ (m : Vec Move _). TakesSome c.args.self.now c.args.ready.items
-                (i + 1) c.args.moves.now.items c.args.sent.now w.take_at.new.self m.items c.match-take.sent)
-                (sym w.moves-is)
-                (subst (λ (x : Announced). TakesSome c.args.self.now c.args.ready.items
-                (i + 1) c.args.moves.now.items c.args.sent.now w.take_at.new.self w.take_at.new.moves.items x)
-                (sym w.sent-is) takes));
+                of_three (λ (k : PeerKept) (m : Vec Move _) (x : Announced). TakesSome c.args.self.now c.args.ready.items
+                (i + 1) c.args.moves.now.items c.args.sent.now k m.items x) w.self-is w.moves-is w.sent-is
+                (takes_more c.args.self.now c.loop-index.self w.take_at.new.self c.args.ready.items i w.in-Some.one
+                c.args.moves.now.items c.loop-index.moves.items w.take_at.new.moves.items c.args.sent.now
+                c.loop-index.sent w.take_at.new.sent
+                c.loop-index.invariant.takes known is w.take_at.ensures.takes);
             few =
                 subst (λ (x : Announced). x.unsent ≤ c.args.sent.now.unsent + (i + 1)) (sym w.sent-is)
                 (omega (arith, few, more));
@@ -90,33 +85,19 @@ loop-index-preserved c =
                 (w.take_at.ensures.messages (c.loop-index.invariant.messages h));
             rest = rest;
             count = count;
-            room =
-                omega (
-                  arith,
-                  room,
-                  len,
-                  capacity,
-                  ap (λ (m : Vec Move _). vec_len m) w.moves-is,
-                  ap (λ (m : Vec Move _). vec_capacity m) w.moves-is,
-                );
+            room = omega (arith, room, len, capacity, long, wide);
           }
       | in_default w ↦
           let none : slice_get c.args.ready.items i ≡ Some None =
           there ∙ ap (λ (x : Option Ready). Some x) (sym c.take.ensures.value ∙ w.in_default.is) in
-          let takes =
-          takes_skip c.args.self.now c.loop-index.self c.args.ready.items i c.args.moves.now.items
-          c.loop-index.moves.items c.args.sent.now c.loop-index.sent c.loop-index.invariant.takes known none in
+          let long = ap (λ (m : Vec Move _). vec_len m) w.moves-is in
+          let wide = ap (λ (m : Vec Move _). vec_capacity m) w.moves-is in
           record {
             takes =
-                subst (λ (k : PeerKept). TakesSome c.args.self.now c.args.ready.items
-                (i + 1) c.args.moves.now.items c.args.sent.now k c.match-take.moves.items c.match-take.sent)
-                (sym w.self-is)
-                (subst (λ (m : Vec Move _). TakesSome c.args.self.now c.args.ready.items
-                (i + 1) c.args.moves.now.items c.args.sent.now c.loop-index.self m.items c.match-take.sent)
-                (sym w.moves-is)
-                (subst (λ (x : Announced). TakesSome c.args.self.now c.args.ready.items
-                (i + 1) c.args.moves.now.items c.args.sent.now c.loop-index.self c.loop-index.moves.items x)
-                (sym w.sent-is) takes));
+                of_three (λ (k : PeerKept) (m : Vec Move _) (x : Announced). TakesSome c.args.self.now c.args.ready.items
+                (i + 1) c.args.moves.now.items c.args.sent.now k m.items x) w.self-is w.moves-is w.sent-is
+                (takes_skip c.args.self.now c.loop-index.self c.args.ready.items i c.args.moves.now.items
+                c.loop-index.moves.items c.args.sent.now c.loop-index.sent c.loop-index.invariant.takes known none);
             few =
                 subst (λ (x : Announced). x.unsent ≤ c.args.sent.now.unsent + (i + 1)) (sym w.sent-is)
                 (omega (arith, few));
@@ -125,13 +106,7 @@ loop-index-preserved c =
                 (c.loop-index.invariant.messages h);
             rest = rest;
             count = count;
-            room =
-                omega (
-                  arith,
-                  room,
-                  ap (λ (m : Vec Move _). vec_len m) w.moves-is,
-                  ap (λ (m : Vec Move _). vec_capacity m) w.moves-is,
-                );
+            room = omega (arith, room, long, wide);
           }
     ]
   where

@@ -1,5 +1,5 @@
 use mir.Val.{SFits}
-use Rattle.std.proofs.Common.{◌∙◌, ℕ, ◌<◌, ap, rules, sym, subst}
+use Rattle.std.proofs.Common.{◌≡◌, ◌∙◌, ℕ, ◌<◌, ap, rules, sym, subst}
 use Rattle.std.specs.Prelude.{ℤ}
 use Rattle.std.specs.Int.{w32}
 use Rattle.std.proofs.lemmas.Int.{to_z-of_z}
@@ -7,35 +7,32 @@ use Rattle.dds_base.specs.Checked.{limit_of}
 use Rattle.dds_core.proofs.ReaderEnds.{opens_reader, rows_fit, qos_as}
 use Rattle.dds_core.proofs.reader_end.ReaderEnd.open.Goals as goal
 
+-- the limits are those of the configuration
+limits : (c : goal.After-result-1)
+    → (c.limit_of.result ≡ limit_of c.args.config.now.max_samples)
+    × (c.limit_of-2.result ≡ limit_of c.args.config.now.max_instances)
+limits c =
+    let samples_fit : SFits w32 c.args.config.now.max_samples = search rules in
+    let instances_fit : SFits w32 c.args.config.now.max_instances = search rules in (
+      c.limit_of.ensures ∙ ap (λ (z : ℤ). limit_of z) (to_z-of_z w32 c.args.config.now.max_samples samples_fit),
+      c.limit_of-2.ensures ∙ ap (λ (z : ℤ). limit_of z) (to_z-of_z w32 c.args.config.now.max_instances instances_fit),
+    )
+
 pub invariant_of-result : goal.invariant_of-result
 invariant_of-result c =
-    let samples_fit : SFits w32 c.args.config.now.max_samples = search rules in
-    let instances_fit : SFits w32 c.args.config.now.max_instances = search rules in
-    let samples =
-    c.limit_of.ensures ∙ ap (λ (z : ℤ). limit_of z) (to_z-of_z w32 c.args.config.now.max_samples samples_fit) in
-    let instances =
-    c.limit_of-2.ensures ∙ ap (λ (z : ℤ). limit_of z) (to_z-of_z w32 c.args.config.now.max_instances instances_fit)
-    in
     rows_fit c.args.peers.now c.args.config.now c.in_ok-names.field-0.names.items c.in_ok-names.field-0.qos.items
     c.in-Ok.reader c.in-Ok-open.store c.in_ok-names.ensures.names c.in_ok-names.ensures.qos
     (c.in-Ok.ensures.count ∙ (c.len.ensures ∙ c.in_ok-names.field-0.names.ok.0))
     (c.in-Ok-open.ensures.qos
-    ∙ qos_as c.args.config.now c.limit_of.result c.limit_of-2.result _ c.in_ok-names.field-0.qos.items samples
-    instances c.from_vec.ensures.elements) c.in_ok-names.ensures.many
+    ∙ qos_as c.args.config.now c.limit_of.result c.limit_of-2.result _ c.in_ok-names.field-0.qos.items (limits c).0
+    (limits c).1 c.from_vec.ensures.elements) c.in_ok-names.ensures.many
 
 pub returns : goal.returns
 returns c =
     let count = c.len.ensures ∙ c.in_ok-names.field-0.names.ok.0 in
-    let samples_fit : SFits w32 c.args.config.now.max_samples = search rules in
-    let instances_fit : SFits w32 c.args.config.now.max_instances = search rules in
-    let samples =
-    c.limit_of.ensures ∙ ap (λ (z : ℤ). limit_of z) (to_z-of_z w32 c.args.config.now.max_samples samples_fit) in
-    let instances =
-    c.limit_of-2.ensures ∙ ap (λ (z : ℤ). limit_of z) (to_z-of_z w32 c.args.config.now.max_instances instances_fit)
-    in
     opens_reader c.args.peers.now c.args.config.now c.in_ok-names.field-0.names.items c.in_ok-names.field-0.qos.items
     c.in-Ok.reader c.in-Ok-open.store c.in_ok-names.ensures.names c.in_ok-names.ensures.qos
     (λ index within. c.in-Ok.ensures.fresh index (subst (λ (n : ℕ). index < n) (sym count) within))
     (c.in-Ok-open.ensures.qos
-    ∙ qos_as c.args.config.now c.limit_of.result c.limit_of-2.result _ c.in_ok-names.field-0.qos.items samples
-    instances c.from_vec.ensures.elements) c.in-Ok-open.ensures.opening
+    ∙ qos_as c.args.config.now c.limit_of.result c.limit_of-2.result _ c.in_ok-names.field-0.qos.items (limits c).0
+    (limits c).1 c.from_vec.ensures.elements) c.in-Ok-open.ensures.opening
