@@ -32,9 +32,8 @@ use Rattle.dds_model.specs.Part.{at_writer}
 use Rattle.dds_model.specs.Claims.{Receiver, is_for, stamp_of, after_submessage, StandsAt, IsWriter, IsToWriter, Claim}
 use Rattle.dds_model.specs.Claims.{ChangeIs, MayPass, PlaceReached, Asserts, Says}
 use Rattle.dds_model.specs.Peer.{IsTrueAt}
-use Rattle.dds_model.specs.DueMessages.{Due, answer_message, data_of}
+use Rattle.dds_model.specs.DueMessages.{Due, answer_message, data_of, submessages_of}
 use Rattle.dds_model.specs.Protocol.{State, TakesAckNack, WriterTakes, AreGrouped}
-use Rattle.dds_model.specs.DueMessages.{submessages_of}
 use Rattle.dds_model.specs.Dues.{IsTellable, AreTellable, IsTruthful, AreTruthful}
 use Rattle.dds_model.proofs.Dues.{addressed, told_to, ts_says}
 use Rattle.dds_model.proofs.DuesAcknacks.{none_due}

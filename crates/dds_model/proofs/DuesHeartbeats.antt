@@ -19,8 +19,7 @@ use Rattle.dds_model.specs.Part.{Part, ReaderProxy, Writer, is_behind, no_writer
 use Rattle.dds_model.specs.Claims.{every_reader, Claim, ChangeIs, MayPass, PlaceReached, Asserts, Says}
 use Rattle.dds_model.specs.Receipt.{prefix_of}
 use Rattle.dds_model.specs.Peer.{IsTrueAt}
-use Rattle.dds_model.specs.DueMessages.{Due, writer_entity, readers_behind, heartbeat_message, heartbeats_of}
-use Rattle.dds_model.specs.DueMessages.{heartbeats_from, heartbeats_due}
+use Rattle.dds_model.specs.DueMessages.{Due, writer_entity, readers_behind, heartbeat_message, heartbeats_of, heartbeats_from, heartbeats_due}
 use Rattle.dds_model.specs.Dues.{IsPartOf, IsTruthful, AreTruthful, IsSized, HasSmallChanges, CanBeWritten}
 use Rattle.dds_model.proofs.Dues.{addressed, told_alone}
 use Rattle.dds_model.proofs.DuesMatched.{OwnName, own_name, same_end}

@@ -10,10 +10,9 @@ use Rattle.dds_model.specs.declared.reply.Reply.{Reply}
 use Rattle.dds_model.specs.declared.reply.Reply.TheVariants.{Done, Refused}
 use Rattle.dds_model.specs.Numbered.{numbered}
 use Rattle.dds_model.specs.Part.{Part, ReaderProxy, Rtps, Writer, no_writer, own_writer, writer_changes}
-use Rattle.dds_model.specs.Ticks.{ticked}
+use Rattle.dds_model.specs.Ticks.{ticked, TickStep}
 use Rattle.dds_model.specs.Calls.{Effect, nothing, writes, effect, effect_of, with_written, CallStep}
 use Rattle.dds_model.specs.Watching.{Tests}
-use Rattle.dds_model.specs.Ticks.{TickStep}
 use Rattle.dds_model.specs.Dues.{AreTellable, AreSmall, HasSmallChanges, IsPartOf}
 use Rattle.dds_model.proofs.DuesGrowth.{SameNames, names_of, is_part_kept}
 use Rattle.dds_model.proofs.Growth.{CallStep-readers, TickStep-acknowledged}

@@ -30,10 +30,8 @@ use Rattle.dds_model.specs.declared.reply.Move.{Move}
 use Rattle.dds_model.specs.Part.{Writer, own_writer, own_reader, writer_changes, history_of}
 use Rattle.dds_model.specs.Moves.{match_of}
 use Rattle.dds_model.specs.Claims.{IsReader, IsWriter, IsToReader, IsToWriter}
-use Rattle.dds_model.specs.DueMessages.{Due}
-use Rattle.dds_model.specs.Protocol.{State, Goes, TakesHeartbeat, TakesAckNack, ReaderTakes, WriterTakes}
-use Rattle.dds_model.specs.DueMessages.{answer_message, acknack_message, acknacks_due}
-use Rattle.dds_model.specs.Protocol.{AreGrouped}
+use Rattle.dds_model.specs.DueMessages.{Due, answer_message, acknack_message, acknacks_due}
+use Rattle.dds_model.specs.Protocol.{State, Goes, TakesHeartbeat, TakesAckNack, ReaderTakes, WriterTakes, AreGrouped}
 use Rattle.dds_model.specs.Backed.{reader_at}
 use Rattle.dds_model.specs.Dues.{IsTellable, AreTellable, IsSized, AreSmall, HasSmallChanges, CanBeWritten}
 use Rattle.dds_model.proofs.DuesAnswers.{IsAskedOf, answers_of, answers_of-right, all_grouped}

@@ -1,8 +1,6 @@
-use Rattle.std.proofs.Common.{◌≡◌, Bool, true, false, not, refl, sym, subst}
+use Rattle.std.proofs.Common.{◌≡◌, Bool, true, false, not, refl}
 use Rattle.dds_model.specs.declared.call.Call.TheVariants as call
-use Rattle.dds_core.specs.Kept.{PeerKept}
-use Rattle.dds_core.specs.Standing.{StandsFor}
-use Rattle.dds_core.proofs.CallSteps.{follows_as}
+use Rattle.dds_core.proofs.CallSteps.{follows_as, still_stands}
 use Rattle.dds_conditions.specs.Attached.{is_attached}
 use Rattle.dds_conditions.specs.Watched.{attach_refusal, conditions_of, with_attached}
 use Rattle.dds_core.proofs.Watched.{done_in_memory}
@@ -15,7 +13,7 @@ attached_already false needless then = absurd cc
 
 pub returns-clause-step : goal.returns-clause-step
 returns-clause-step c = λ config peer given.
-    let s = subst (λ (k : PeerKept). StandsFor k config peer) (sym c.self.view_is) given in
+    let s = still_stands c.self.view_is given in
     follows_as _ config peer _ _ _ c.answered.ensures
     (done_in_memory (λ w. not (is_attached c.args.condition (conditions_of w c.args.wait_set)))
     (λ w. attach_refusal w c.args.wait_set c.args.condition) (λ w. with_attached w c.args.wait_set c.args.condition) _

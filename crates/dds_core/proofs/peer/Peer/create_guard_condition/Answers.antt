@@ -1,8 +1,6 @@
-use Rattle.std.proofs.Common.{◌+◌, false, length, refl, sym, subst}
+use Rattle.std.proofs.Common.{◌+◌, false, length, refl}
 use Rattle.dds_model.specs.declared.call.Call.TheVariants as call
-use Rattle.dds_core.specs.Kept.{PeerKept}
-use Rattle.dds_core.specs.Standing.{StandsFor}
-use Rattle.dds_core.proofs.CallSteps.{follows_as}
+use Rattle.dds_core.proofs.CallSteps.{follows_as, still_stands}
 use Rattle.dds_conditions.specs.Watched.{number_refusal, with_condition}
 use Rattle.dds_conditions.specs.declared.condition.Condition.TheVariants.{Guard}
 use Rattle.dds_model.specs.declared.reply.Reply.TheVariants.{Created}
@@ -12,7 +10,7 @@ use Rattle.dds_core.proofs.peer.Peer.create_guard_condition.Goals as goal
 
 pub returns-clause-step : goal.returns-clause-step
 returns-clause-step c = λ config peer given.
-    let s = subst (λ (k : PeerKept). StandsFor k config peer) (sym c.self.view_is) given in
+    let s = still_stands c.self.view_is given in
     follows_as _ config peer _ _ _ c.answered.ensures
     (given_in_memory (λ n. Created n) made_reply (λ n. refl) (λ code. refl) (λ w. number_refusal w.conditions)
     (λ w. length w.conditions + 1) (λ w. with_condition w (Guard false)) _

@@ -1,8 +1,6 @@
-use Rattle.std.proofs.Common.{refl, sym, subst}
+use Rattle.std.proofs.Common.{refl}
 use Rattle.dds_model.specs.declared.call.Call.TheVariants as call
-use Rattle.dds_core.specs.Kept.{PeerKept}
-use Rattle.dds_core.specs.Standing.{StandsFor}
-use Rattle.dds_core.proofs.CallSteps.{follows_as}
+use Rattle.dds_core.proofs.CallSteps.{follows_as, still_stands}
 use Rattle.dds_conditions.specs.Watched.{unless_there, without_condition}
 use Rattle.std.specs.Prelude.{is_some}
 use Rattle.dds_base.specs.Number.{at_number}
@@ -11,7 +9,7 @@ use Rattle.dds_core.proofs.peer.Peer.delete_condition.Goals as goal
 
 pub returns-clause-step : goal.returns-clause-step
 returns-clause-step c = λ config peer given.
-    let s = subst (λ (k : PeerKept). StandsFor k config peer) (sym c.self.view_is) given in
+    let s = still_stands c.self.view_is given in
     follows_as _ config peer _ _ _ c.answered.ensures
     (done_call (λ w. unless_there (is_some (at_number w.conditions c.args.condition)))
     (λ w. without_condition w c.args.condition) _

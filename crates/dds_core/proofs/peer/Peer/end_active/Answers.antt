@@ -1,18 +1,16 @@
 use Rattle.std.proofs.Common.{sym, subst, rules}
 use Rattle.dds_model.specs.declared.call.Call.TheVariants as call
 use Rattle.dds_model.specs.declared.event.Event.TheVariants as event
-use Rattle.dds_core.specs.Kept.{PeerKept}
-use Rattle.dds_core.specs.Standing.{StandsFor}
 use Rattle.dds_base.specs.declared.code.Code.{Code}
 use Rattle.dds_model.specs.declared.reply.Reply.TheVariants.{Refused}
-use Rattle.dds_core.proofs.CallSteps.{FollowsBy, follows_as}
+use Rattle.dds_core.proofs.CallSteps.{FollowsBy, follows_as, still_stands}
 use Rattle.dds_core.proofs.Taking.{silent}
 use Rattle.dds_core.proofs.Triggers.{is_over_with, lacks_memory}
 use Rattle.dds_core.proofs.peer.Peer.end_active.Goals as goal
 
 pub returns-in-Ok-clause-step : goal.returns-in-Ok-clause-step
 returns-in-Ok-clause-step g c = λ config peer given.
-    let s = subst (λ (k : PeerKept). StandsFor k config peer) (sym c.self.view_is) given in
+    let s = still_stands c.self.view_is given in
     follows_as _ config peer _ _ _ c.answered.ensures
     (is_over_with _ c.end.new.self config peer s c.args.wait_set c.in-Ok.active
     (c.requires.active config peer given) (c.in-Ok.ensures.ok config peer given) (search rules) (search rules))

@@ -1,9 +1,8 @@
-use Rattle.std.proofs.Common.{refl, sym, subst}
+use Rattle.std.proofs.Common.{refl, subst}
 use Rattle.dds_model.specs.declared.call.Call.TheVariants as call
 use Rattle.dds_model.specs.declared.event.Event.TheVariants as event
 use Rattle.dds_core.specs.Kept.{PeerKept}
-use Rattle.dds_core.specs.Standing.{StandsFor}
-use Rattle.dds_core.proofs.CallSteps.{Follows, follows_as}
+use Rattle.dds_core.proofs.CallSteps.{Follows, follows_as, still_stands}
 use Rattle.std.specs.Prelude.{is_some}
 use Rattle.dds_base.specs.Number.{at_number}
 use Rattle.dds_conditions.specs.Watched.{conditions_of, unless_there}
@@ -14,7 +13,7 @@ use Rattle.dds_core.proofs.peer.Peer.get_conditions.Goals as goal
 
 pub returns-clause-step : goal.returns-clause-step
 returns-clause-step c = λ config peer given.
-    let s = subst (λ (k : PeerKept). StandsFor k config peer) (sym c.self.view_is) given in
+    let s = still_stands c.self.view_is given in
     subst (λ (k : PeerKept). Follows k config peer (event.Call (call.GetConditions c.args.wait_set)) c.answered.result)
     c.self.view_is
     (follows_as _ config peer _ _ _ c.answered.ensures

@@ -1,37 +1,28 @@
-use Rattle.std.proofs.Common.{◌≡◌, ◌<◌, Some, length, slice_get, sym, ◌∙◌, ap, subst, rules}
-use Rattle.std.proofs.lemmas.Option.{slice_get-get_or}
+use Rattle.std.proofs.Common.{◌<◌, length, subst, rules, refl}
+use Rattle.std.proofs.lemmas.Option.{slice_get_read}
 use Rattle.dds_model.specs.declared.call.Call.TheVariants as call
 use Rattle.dds_model.specs.declared.event.Event.TheVariants as event
-use Rattle.dds_core.specs.Kept.{ReaderKept, PeerKept}
-use Rattle.dds_core.specs.Standing.{StandsFor}
-use Rattle.dds_core.proofs.CallSteps.{Follows, follows_as}
+use Rattle.dds_core.specs.Kept.{PeerKept}
+use Rattle.dds_core.proofs.CallSteps.{Follows, follows_as, still_stands}
 use Rattle.dds_core.proofs.Asking.{key_told, key_not_told}
 use Rattle.dds_core.proofs.peer.Peer.get_key_value.Goals as goal
 
 pub returns-in-Some-key_value-clause-step : goal.returns-in-Some-key_value-clause-step
 returns-in-Some-key_value-clause-step c = λ config peer given.
-    let i = c.in-Some.index in
-    let s = subst (λ (k : PeerKept). StandsFor k config peer) (sym c.self.view_is) given in
-    let within : i < length c.self.inside.readers.items = search rules in
-    let at : slice_get c.self.inside.readers.items i ≡ Some c.index.result.now =
-    slice_get-get_or c.self.inside.readers.items i _ within ∙ ap (λ (x : ReaderKept). Some x) (sym c.index.ensures)
-    in
+    let within : c.in-Some.index < length c.self.inside.readers.items = search rules in
     subst (λ (k : PeerKept). Follows k config peer
     (event.Call (call.GetKeyValue c.args.reader c.args.instance)) c.answered.result) c.self.view_is
     (follows_as _ config peer _ _ _ c.answered.ensures
-    (key_told _ config peer c.args.reader i c.index.result.now c.args.instance c.in-Some-key_value.key s
-    c.in-Some.ensures.index.0 within at c.in-Some-key_value.ensures))
+    (key_told _ config peer c.args.reader c.in-Some.index c.index.result.now c.args.instance c.in-Some-key_value.key
+    (still_stands c.self.view_is given) c.in-Some.ensures.index.0 within
+    (slice_get_read _ _ _ _ refl within c.index.ensures) c.in-Some-key_value.ensures))
 
 pub returns-in-None-clause-step : goal.returns-in-None-clause-step
 returns-in-None-clause-step c = λ config peer given.
-    let i = c.in-Some.index in
-    let s = subst (λ (k : PeerKept). StandsFor k config peer) (sym c.self.view_is) given in
-    let within : i < length c.self.inside.readers.items = search rules in
-    let at : slice_get c.self.inside.readers.items i ≡ Some c.index.result.now =
-    slice_get-get_or c.self.inside.readers.items i _ within ∙ ap (λ (x : ReaderKept). Some x) (sym c.index.ensures)
-    in
+    let within : c.in-Some.index < length c.self.inside.readers.items = search rules in
     subst (λ (k : PeerKept). Follows k config peer
     (event.Call (call.GetKeyValue c.args.reader c.args.instance)) c.refused-in-None.result) c.self.view_is
     (follows_as _ config peer _ _ _ c.refused-in-None.ensures
-    (key_not_told _ config peer c.args.reader i c.index.result.now c.args.instance s c.in-Some.ensures.index.0 within at
-    c.in-None.ensures))
+    (key_not_told _ config peer c.args.reader c.in-Some.index c.index.result.now c.args.instance
+    (still_stands c.self.view_is given) c.in-Some.ensures.index.0 within
+    (slice_get_read _ _ _ _ refl within c.index.ensures) c.in-None.ensures))

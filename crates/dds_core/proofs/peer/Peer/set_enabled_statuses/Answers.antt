@@ -1,15 +1,13 @@
-use Rattle.std.proofs.Common.{refl, sym, subst}
+use Rattle.std.proofs.Common.{refl}
 use Rattle.dds_model.specs.declared.call.Call.TheVariants as call
-use Rattle.dds_core.specs.Kept.{PeerKept}
-use Rattle.dds_core.specs.Standing.{StandsFor}
-use Rattle.dds_core.proofs.CallSteps.{follows_as}
+use Rattle.dds_core.proofs.CallSteps.{follows_as, still_stands}
 use Rattle.dds_conditions.specs.Watched.{knows_entity, unless_there, with_enabled}
 use Rattle.dds_core.proofs.Watched.{done_call}
 use Rattle.dds_core.proofs.peer.Peer.set_enabled_statuses.Goals as goal
 
 pub returns-clause-step : goal.returns-clause-step
 returns-clause-step c = λ config peer given.
-    let s = subst (λ (k : PeerKept). StandsFor k config peer) (sym c.self.view_is) given in
+    let s = still_stands c.self.view_is given in
     follows_as _ config peer _ _ _ c.answered.ensures
     (done_call (λ w. unless_there (knows_entity w c.args.entity)) (λ w. with_enabled w c.args.entity c.args.mask) _
     c.enable-done.new.self c.enable-done.result c.reply_to.result config peer s

@@ -1,9 +1,7 @@
-use Rattle.std.proofs.Common.{Some, refl, sym, subst}
+use Rattle.std.proofs.Common.{Some, refl}
 use Rattle.dds_base.specs.Number.{at_number}
 use Rattle.dds_model.specs.declared.call.Call.TheVariants as call
-use Rattle.dds_core.specs.Kept.{PeerKept}
-use Rattle.dds_core.specs.Standing.{StandsFor}
-use Rattle.dds_core.proofs.CallSteps.{follows_as}
+use Rattle.dds_core.proofs.CallSteps.{follows_as, still_stands}
 use Rattle.dds_conditions.specs.Watched.{guard_refusal, with_condition_at}
 use Rattle.dds_conditions.specs.declared.condition.Condition.TheVariants.{Guard}
 use Rattle.dds_core.proofs.Watched.{done_call}
@@ -11,7 +9,7 @@ use Rattle.dds_core.proofs.peer.Peer.set_trigger_value.Goals as goal
 
 pub returns-clause-step : goal.returns-clause-step
 returns-clause-step c = λ config peer given.
-    let s = subst (λ (k : PeerKept). StandsFor k config peer) (sym c.self.view_is) given in
+    let s = still_stands c.self.view_is given in
     follows_as _ config peer _ _ _ c.answered.ensures
     (done_call (λ w. guard_refusal (at_number w.conditions c.args.condition))
     (λ w. with_condition_at w c.args.condition (Some (Guard c.args.value))) _

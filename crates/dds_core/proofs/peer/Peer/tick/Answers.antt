@@ -3,18 +3,18 @@ use Rattle.std.proofs.lemmas.List.{with_items_is}
 use Rattle.dds_model.specs.declared.event.Packet.{Packet}
 use Rattle.dds_core.specs.Beating.{BeatsOfAll}
 use Rattle.dds_core.specs.Expiring.{AllExpire, HasDeadly}
-use Rattle.dds_core.specs.Kept.{PeerKept, ReaderKept, WriterKept}
+use Rattle.dds_core.specs.Kept.{ReaderKept, WriterKept}
 use Rattle.dds_core.specs.Readiness.{AreAlike}
-use Rattle.dds_core.specs.Standing.{StandsFor, AllTick}
+use Rattle.dds_core.specs.Standing.{AllTick}
 use Rattle.dds_core.proofs.BeatsDue.{due_sent}
-use Rattle.dds_core.proofs.CallSteps.{follows_as, tick_without_memory, ticks}
+use Rattle.dds_core.proofs.CallSteps.{follows_as, tick_without_memory, ticks, still_stands}
 use Rattle.dds_core.proofs.Lists.{written_back}
 use Rattle.dds_core.proofs.peer.Peer.tick.Goals as goal
 
 -- nobody has died, and all stands as before
 pub returns-in-Err-clause-step : goal.returns-in-Err-clause-step
 returns-in-Err-clause-step c = λ config peer given.
-    let s = subst (λ (k : PeerKept). StandsFor k config peer) (sym c.self.view_is) given in
+    let s = still_stands c.self.view_is given in
     let alike : AreAlike c.self.inside.readers.items c.expire_all.new.readers =
     subst (λ (ks : List ReaderKept). AreAlike ks c.expire_all.new.readers) c.as_mut_slice.ensures.value
     c.in-Err.ensures.alike in
@@ -39,7 +39,7 @@ beats c =
 
 pub returns-clause-step : goal.returns-clause-step
 returns-clause-step c = λ config peer given.
-    let s = subst (λ (k : PeerKept). StandsFor k config peer) (sym c.self.view_is) given in
+    let s = still_stands c.self.view_is given in
     let all : AllTick c.self.inside.writers.items c.args.now c.tick_all-packets.new.writers =
     subst (λ (ks : List WriterKept). AllTick ks c.args.now c.tick_all-packets.new.writers)
     c.as_mut_slice-2.ensures.value c.tick_all-packets.ensures.ticks in
@@ -58,5 +58,5 @@ returns-clause-step c = λ config peer given.
 
 pub returns-clause-sends : goal.returns-clause-sends
 returns-clause-sends c = λ config peer given.
-    let s = subst (λ (k : PeerKept). StandsFor k config peer) (sym c.self.view_is) given in
+    let s = still_stands c.self.view_is given in
     due_sent config peer _ c.from_vec.result c.tick_all-packets.result.unsent s (beats c)

@@ -1,6 +1,6 @@
-use Rattle.std.proofs.Common.{◌≡◌, ◌<◌, Some, List, length, slice_get, sym, subst, ◌∙◌, ap, rules, arith}
+use Rattle.std.proofs.Common.{◌≡◌, ◌<◌, Some, List, length, slice_get, sym, subst, ◌∙◌, ap, rules, arith, refl}
 use Rattle.std.specs.Prelude.{ℕ}
-use Rattle.std.proofs.lemmas.Option.{slice_get-get_or, same_Some}
+use Rattle.std.proofs.lemmas.Option.{same_Some, slice_get_read}
 use Rattle.dds_base.specs.declared.config.Config.{Config}
 use Rattle.dds_model.specs.declared.call.Call.TheVariants as call
 use Rattle.dds_model.specs.declared.event.Event.TheVariants as event
@@ -25,10 +25,9 @@ unregisters c =
     let here : i < length c.self.inside.writers.items =
     let same = ap (λ (k : PeerKept). length k.writers) c.self.view_is in omega (arith, within, same) in
     let first : slice_get c.self.inside.writers.items i ≡ Some c.index.result.now =
-    slice_get-get_or c.self.inside.writers.items i _ here ∙ ap (λ (x : WriterKept). Some x) (sym c.index.ensures) in
+    slice_get_read _ _ _ _ refl here c.index.ensures in
     let second : slice_get c.self.inside.writers.items i ≡ Some c.index-2.result.now =
-    slice_get-get_or c.self.inside.writers.items i _ here ∙ ap (λ (x : WriterKept). Some x) (sym c.index-2.ensures)
-    in
+    slice_get_read _ _ _ _ refl here c.index-2.ensures in
     let one : c.index-2.result.now ≡ c.index.result.now =
     same_Some c.index-2.result.now c.index.result.now (sym second ∙ first) in
     let at : slice_get c.args.self.now.writers i ≡ Some c.index.result.now =
@@ -53,7 +52,7 @@ returns-then-not-is_registered-clause-step c = λ config peer s.
     let here : i < length c.self.inside.writers.items =
     let same = ap (λ (k : PeerKept). length k.writers) c.self.view_is in omega (arith, within, same) in
     let there : slice_get c.self.inside.writers.items i ≡ Some c.index.result.now =
-    slice_get-get_or c.self.inside.writers.items i _ here ∙ ap (λ (x : WriterKept). Some x) (sym c.index.ensures) in
+    slice_get_read _ _ _ _ refl here c.index.ensures in
     let at : slice_get c.args.self.now.writers i ≡ Some c.index.result.now =
     subst (λ (k : PeerKept). slice_get k.writers i ≡ Some c.index.result.now) c.self.view_is there in
     follows_as _ config peer _ _ _ c.refused-then-not-is_registered.ensures

@@ -1,28 +1,23 @@
-use Rattle.std.proofs.Common.{◌≡◌, ℕ, ◌<◌, Option, Some, length, slice_get, sym, ◌∙◌, ap, subst, rules}
-use Rattle.dds_core.specs.Kept.{PeerKept}
-use Rattle.dds_core.specs.Standing.{StandsFor}
-use Rattle.std.proofs.lemmas.Option.{slice_get-get_or}
+use Rattle.std.proofs.Common.{◌≡◌, ℕ, ◌<◌, Option, Some, length, ◌∙◌, ap, rules, refl}
+use Rattle.std.proofs.lemmas.Option.{slice_get_read}
 use Rattle.dds_base.specs.Access.{has_match}
 use Rattle.dds_conditions.specs.declared.condition.Condition.{Condition}
 use Rattle.dds_conditions.specs.declared.condition.Condition.TheVariants.{Samples}
 use Rattle.dds_model.specs.Part.{own_reader}
 use Rattle.dds_model.specs.Watching.{test_of, condition_value}
-use Rattle.dds_core.specs.Kept.{ReaderKept}
-use Rattle.dds_core.proofs.CallSteps.{number_is}
+use Rattle.dds_core.proofs.CallSteps.{number_is, still_stands}
 use Rattle.dds_core.proofs.peer.Peer.value_of.Goals as goal
 
 pub returns-in-Some : goal.returns-in-Some
 returns-in-Some g c = λ config peer given.
-    let s = subst (λ (k : PeerKept). StandsFor k config peer) (sym c.self.view_is) given in
+    let s = still_stands c.self.view_is given in
     let i = c.in-Some.index in
     let tests = g.T.Filters.meaning c.args.filters.now in
     let whole : Some (Samples c.in-Some-Samples.reader c.in-Some-Samples.masks c.in-Some-Samples.filter)
     ≡ c.args.condition = search rules in
     let within : i < length c.self.inside.readers.items = search rules in
-    let at : slice_get c.self.inside.readers.items i ≡ Some c.index.result.now =
-    slice_get-get_or c.self.inside.readers.items i _ within ∙ ap (λ (x : ReaderKept). Some x) (sym c.index.ensures)
-    in
-    c.has_match.ensures _ _ _ (s.readers.each i c.index.result.now at)
+    c.has_match.ensures _ _ _
+    (s.readers.each i c.index.result.now (slice_get_read _ _ _ _ refl within c.index.ensures))
     ∙ (ap (λ (n : ℕ). has_match (own_reader peer.part n).qos (own_reader peer.part n).happened c.in-Some-Samples.masks
     (test_of tests c.in-Some-Samples.filter)) (number_is c.in-Some-Samples.reader i c.in-Some.ensures.index.0)
     ∙ ap (λ (x : Option Condition). condition_value tests peer.part x) whole)

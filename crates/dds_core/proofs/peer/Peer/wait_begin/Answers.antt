@@ -1,16 +1,14 @@
-use Rattle.std.proofs.Common.{Some, refl, sym, subst}
+use Rattle.std.proofs.Common.{Some, refl}
 use Rattle.dds_base.specs.Number.{at_number}
 use Rattle.dds_model.specs.declared.call.Call.TheVariants as call
-use Rattle.dds_core.specs.Kept.{PeerKept}
-use Rattle.dds_core.specs.Standing.{StandsFor}
-use Rattle.dds_core.proofs.CallSteps.{follows_as}
+use Rattle.dds_core.proofs.CallSteps.{follows_as, still_stands}
 use Rattle.dds_conditions.specs.Watched.{free_refusal, with_deadline}
 use Rattle.dds_core.proofs.Watched.{done_call}
 use Rattle.dds_core.proofs.peer.Peer.wait_begin.Goals as goal
 
 pub returns-clause-step : goal.returns-clause-step
 returns-clause-step c = λ config peer given.
-    let s = subst (λ (k : PeerKept). StandsFor k config peer) (sym c.self.view_is) given in
+    let s = still_stands c.self.view_is given in
     follows_as _ config peer _ _ _ c.answered.ensures
     (done_call (λ w. free_refusal (at_number w.wait_sets c.args.wait_set))
     (λ w. with_deadline w c.args.wait_set (Some c.args.deadline)) _

@@ -1,17 +1,16 @@
-use Rattle.std.proofs.Common.{◌≡◌, true, false, sym, subst, rules, arith, ◌∙◌}
+use Rattle.std.proofs.Common.{◌≡◌, true, false, subst, rules, arith, ◌∙◌}
 use Rattle.dds_model.specs.declared.call.Call.TheVariants as call
 use Rattle.dds_model.specs.declared.event.Event.TheVariants as event
 use Rattle.dds_core.specs.Kept.{PeerKept}
-use Rattle.dds_core.specs.Standing.{StandsFor}
 use Rattle.std.specs.Prelude.{nat_le}
 use Rattle.std.proofs.lemmas.Bool.Decides.{nat_tests}
-use Rattle.dds_core.proofs.CallSteps.{FollowsBy, follows_as}
+use Rattle.dds_core.proofs.CallSteps.{FollowsBy, follows_as, still_stands}
 use Rattle.dds_core.proofs.Triggers.{times_out, waits_on}
 use Rattle.dds_core.proofs.peer.Peer.wait_look.Goals as goal
 
 pub returns-then-units-clause-step : goal.returns-then-units-clause-step
 returns-then-units-clause-step g c = λ config peer given.
-    let s = subst (λ (k : PeerKept). StandsFor k config peer) (sym c.self.view_is) given in
+    let s = still_stands c.self.view_is given in
     let none = c.if-is_active.ensures config peer given in
     let before = c.if-units.true in
     let early : nat_le c.in-Ok.deadline c.self.inside.moment ≡ false = grind (arith, nat_tests) in
@@ -23,7 +22,7 @@ returns-then-units-clause-step g c = λ config peer given.
 
 pub returns-clause-step : goal.returns-clause-step
 returns-clause-step g c = λ config peer given.
-    let s = subst (λ (k : PeerKept). StandsFor k config peer) (sym c.self.view_is) given in
+    let s = still_stands c.self.view_is given in
     let none = c.if-is_active.ensures config peer given in
     let after = c.if-units.false in
     let late : nat_le c.in-Ok.deadline c.self.inside.moment ≡ true = grind (arith, nat_tests) in
