@@ -13,7 +13,7 @@ use Rattle.rtps_reader.specs.Tracked.{fresh}
 use Rattle.dds_model.specs.Protocol.{knows_nothing}
 use Rattle.dds_model.specs.Peer.{Peer, no_peer}
 use Rattle.dds_core.specs.Kept.{WriterKept, ReaderKept, writer_identity, reader_identity, configured_writer, configured_reader}
-use Rattle.dds_core.specs.Opening.{OpensWriter, OpensReader, OpenWriters, OpenReaders, OpensCore, opening_peer}
+use Rattle.dds_core.specs.Opening.{OpensWriter, OpensReader, OpensEach, OpensCore, opening_peer}
 use Rattle.dds_core.specs.Standing.{WriterStands, ReaderStands, WritersStand, ReadersStand, StandsFor}
 use Rattle.dds_core.proofs.Ready.{last-cases}
 use Rattle.dds_core.proofs.Tellable.{tellable_opening}
@@ -55,20 +55,20 @@ count_more {X} {Y} xs ys zs i d y lt count more =
     let second = length-append ys (y ∷ []) in
     omega (arith, now, all, first, second, count)
 
-pub writers_more : (peers : List PeerConfig) (ws : List WriterConfig) (old new : List WriterKept) (i : ℕ)
-    (w : WriterConfig) (k : WriterKept) → i < length ws → OpenWriters peers (take i ws) old → new ≡ old ++ k ∷ []
-    → OpensWriter peers (get_or ws i w) k → OpenWriters peers (take (i + 1) ws) new
-writers_more peers ws old new i w k lt opened more one = record {
-  count = count_more ws old new i w k lt opened.count more;
-  each = pairs_more (OpensWriter peers) ws old new i w k lt opened.count opened.each more one;
+pub opens_more : {C K : Type 0} (Opens : C → K → Type 0) (configs : List C) (old new : List K) (i : ℕ) (c : C) (k : K)
+    → i < length configs → OpensEach Opens (take i configs) old → new ≡ old ++ k ∷ [] → Opens (get_or configs i c) k
+    → OpensEach Opens (take (i + 1) configs) new
+opens_more Opens configs old new i c k lt opened more one = record {
+  count = count_more configs old new i c k lt opened.count more;
+  each = pairs_more Opens configs old new i c k lt opened.count opened.each more one;
 }
 
-pub readers_more : (peers : List PeerConfig) (rs : List ReaderConfig) (old new : List ReaderKept) (i : ℕ)
-    (r : ReaderConfig) (k : ReaderKept) → i < length rs → OpenReaders peers (take i rs) old → new ≡ old ++ k ∷ []
-    → OpensReader peers (get_or rs i r) k → OpenReaders peers (take (i + 1) rs) new
-readers_more peers rs old new i r k lt opened more one = record {
-  count = count_more rs old new i r k lt opened.count more;
-  each = pairs_more (OpensReader peers) rs old new i r k lt opened.count opened.each more one;
+-- what opens so opens as well so
+pub opens_as : {C K : Type 0} {P Q : C → K → Type 0} (configs : List C) (kept : List K)
+    → ((c : C) (k : K) → P c k → Q c k) → OpensEach P configs kept → OpensEach Q configs kept
+opens_as configs kept as_well h = record {
+  count = h.count;
+  each = λ i c k at_c at_k. as_well c k (h.each i c k at_c at_k);
 }
 
 -- ---- all of them
@@ -98,7 +98,7 @@ mapped_at f [] i x d at = absurd cc
 mapped_at f (a ∷ xs) zero x d at = ap f (sym (same_Some a x at))
 mapped_at f (a ∷ xs) (suc i) x d at = mapped_at f xs i x d at
 
-writers_stand : (peers : List PeerConfig) (ws : List WriterConfig) (kept : List WriterKept) → OpenWriters peers ws kept
+writers_stand : (peers : List PeerConfig) (ws : List WriterConfig) (kept : List WriterKept) → OpensEach (OpensWriter peers) ws kept
     → WritersStand kept (map (opening_writer peers) ws) (λ n r. None)
 writers_stand peers ws kept opened = record {
   count = length-map ws (opening_writer peers) ∙ sym opened.count;
@@ -108,7 +108,7 @@ writers_stand peers ws kept opened = record {
       (opened.each i w.0 k w.1 at).stands;
 }
 
-readers_stand : (peers : List PeerConfig) (rs : List ReaderConfig) (kept : List ReaderKept) → OpenReaders peers rs kept
+readers_stand : (peers : List PeerConfig) (rs : List ReaderConfig) (kept : List ReaderKept) → OpensEach (OpensReader peers) rs kept
     → ReadersStand kept (map (λ (r : ReaderConfig). matched_writers r.topic 1 peers) rs)
     (map (λ (r : ReaderConfig). record { qos = reader_qos peers r; happened = []; seen = nothing_seen }) rs)
     knows_nothing
@@ -156,7 +156,7 @@ stands_begun : (peers : List PeerConfig) (index moment : ℕ) (own : PeerConfig)
     (readers : List ReaderKept) (watch : Watched) → check_refusal peers ≡ None → slice_get peers index ≡ Some own
     → moment ≡ 0
     → watch ≡ opened (length writers) (length readers)
-    → OpenWriters peers own.writers writers → OpenReaders peers own.readers readers
+    → OpensEach (OpensWriter peers) own.writers writers → OpensEach (OpensReader peers) own.readers readers
     → StandsFor (record { prefix = own.prefix; moment = moment; writers = writers; readers = readers; watch = watch })
     (record { peers = peers }) (begun peers own (1 + index))
 stands_begun peers index moment own writers readers watch checked at begins watches ws rs = record {
@@ -185,8 +185,8 @@ stands_begun peers index moment own writers readers watch checked at begins watc
 pub opens_core : (peers : List PeerConfig) (index moment : ℕ) (own : PeerConfig) (writers : List WriterKept)
     (readers : List ReaderKept) (watch : Watched) → index < length peers → check_refusal peers ≡ None
     → own ≡ get_or peers index own → moment ≡ 0
-    → watch ≡ opened (length writers) (length readers) → OpenWriters peers own.writers writers
-    → OpenReaders peers own.readers readers
+    → watch ≡ opened (length writers) (length readers) → OpensEach (OpensWriter peers) own.writers writers
+    → OpensEach (OpensReader peers) own.readers readers
     → OpensCore peers index
     (record { prefix = own.prefix; moment = moment; writers = writers; readers = readers; watch = watch })
 opens_core peers index moment own writers readers watch within checked is begins watches ws rs =

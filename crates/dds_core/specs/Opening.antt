@@ -39,17 +39,10 @@ pub record OpensReader (peers : List PeerConfig) (config : ReaderConfig) (kept :
   pub stands : ReaderStands kept (matched_writers config.topic 1 peers)
       (record { qos = reader_qos peers config; happened = []; seen = nothing_seen }) (λ w. fresh)
 
--- a writer for each of these configurations, in their order, at the opening
-pub record OpenWriters (peers : List PeerConfig) (configs : List WriterConfig) (kept : List WriterKept) : Type 0 where
+-- one for each of these configurations, in their order, as it is opened
+pub record OpensEach {C K : Type 0} (Opens : C → K → Type 0) (configs : List C) (kept : List K) : Type 0 where
   pub count : length kept ≡ length configs
-  pub each : (i : ℕ) (w : WriterConfig) (k : WriterKept) → slice_get configs i ≡ Some w → slice_get kept i ≡ Some k
-      → OpensWriter peers w k
-
--- a reader for each of these configurations, in their order, at the opening
-pub record OpenReaders (peers : List PeerConfig) (configs : List ReaderConfig) (kept : List ReaderKept) : Type 0 where
-  pub count : length kept ≡ length configs
-  pub each : (i : ℕ) (r : ReaderConfig) (k : ReaderKept) → slice_get configs i ≡ Some r → slice_get kept i ≡ Some k
-      → OpensReader peers r k
+  pub each : (i : ℕ) (c : C) (k : K) → slice_get configs i ≡ Some c → slice_get kept i ≡ Some k → Opens c k
 
 -- the peer of this index stands for its opening
 abbrev pub OpensCore : List PeerConfig → ℕ → PeerKept → Type 0

@@ -2,47 +2,33 @@
 //!
 //! DDS 1.4, 2.2.3 (policies of matched entities); RTPS 2.5, 8.2 (Participant, Endpoint).
 
-ghost use Rattle.std.specs.Prelude.{◌≡◌, ◌<◌, length, None, IfOk, IfErr};
+ghost use Rattle.std.specs.Prelude.{◌≡◌, ◌<◌, length, None, Ok, IfOk, IfErr};
+ghost use Rattle.std.specs.Fn.{FnReturnsAt};
 ghost use Rattle.dds_base.specs.Checked.{check_refusal};
 ghost use Rattle.dds_base.specs.Refusal.{Refuses};
-ghost use Rattle.dds_core.specs.Opening.{core_refusal, opening_peer, OpenWriters, OpenReaders, OpensCore};
+ghost use Rattle.dds_core.specs.Opening.{core_refusal, opening_peer, OpensEach, OpensCore};
 ghost use Rattle.dds_core.specs.Standing.{StandsFor};
 
 use crate::peer::Peer;
 use crate::reader_end::ReaderEnd;
 use crate::writer_end::WriterEnd;
-use dds_base::{Code, Config, Moment, PeerConfig, ReaderConfig, WriterConfig, index_of};
+use dds_base::{Code, Config, Moment, PeerConfig, index_of};
 use dds_conditions::Watch;
 use std::alloc::{AllocError, Global};
 
-/// A peer's writers, which have written nothing.
-fn open_writers(
+/// What opens of each of these configurations, in their order.
+fn open_each<C, E: Drop, F: Fn(&C) -> Result<E, AllocError>>(
     alloc: Global,
-    peers: &[PeerConfig],
-    writers: &[WriterConfig],
-) -> Result<Vec<WriterEnd>, AllocError>
-    requires checked { check_refusal peers.now ≡ None }
-    ensures { IfOk result (λ all. OpenWriters peers.now writers.now all.items) }
+    configs: &[C],
+    make: F,
+) -> Result<Vec<E>, AllocError>
+    requires callable { F.IsAlwaysCallable make }
+    ensures { IfOk result (λ all.
+        OpensEach (λ config end. FnReturnsAt F.Fn make config (Ok end)) configs.now all.items) }
 {
     let mut all = Vec::new(alloc);
-    for writer in writers {
-        all.push(WriterEnd::open(alloc, peers, writer)?)?;
-    }
-    Ok(all)
-}
-
-/// A peer's readers, at which nothing has happened.
-fn open_readers(
-    alloc: Global,
-    peers: &[PeerConfig],
-    readers: &[ReaderConfig],
-) -> Result<Vec<ReaderEnd>, AllocError>
-    requires checked { check_refusal peers.now ≡ None }
-    ensures { IfOk result (λ all. OpenReaders peers.now readers.now all.items) }
-{
-    let mut all = Vec::new(alloc);
-    for reader in readers {
-        all.push(ReaderEnd::open(alloc, peers, reader)?)?;
+    for config in configs {
+        all.push(make(config)?)?;
     }
     Ok(all)
 }
@@ -54,8 +40,16 @@ fn open(alloc: Global, peers: &[PeerConfig], index: usize) -> Result<Peer, Alloc
     ensures { IfOk result (OpensCore peers.now index) }
 {
     let own = &peers[index];
-    let writers = open_writers(alloc, peers, own.writers.as_slice())?;
-    let readers = open_readers(alloc, peers, own.readers.as_slice())?;
+    let writers = open_each(
+        alloc,
+        own.writers.as_slice(),
+        |w| WriterEnd::open(alloc, peers, w),
+    )?;
+    let readers = open_each(
+        alloc,
+        own.readers.as_slice(),
+        |r| ReaderEnd::open(alloc, peers, r),
+    )?;
     let watch = Watch::open(alloc, writers.len(), readers.len())?;
     Ok(Peer {
         alloc,
