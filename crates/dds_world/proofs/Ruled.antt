@@ -19,12 +19,14 @@ use Rattle.dds_model.specs.DueMessages.{Due, AreSent, heartbeats_due}
 use Rattle.dds_model.specs.Protocol.{State, TakesPacket}
 use Rattle.dds_model.specs.Rules.{AreDue, announcements_due}
 use Rattle.dds_model.specs.World.{WorldState, peer_at}
-use Rattle.dds_core.specs.Kept.{PeerKept}
+use Rattle.dds_model.proofs.Composed.{contains_at}
 use Rattle.dds_core.specs.Sending.{SendsFor, due_at_tick}
-use Rattle.dds_core.proofs.Lists.{element, get-within}
-use Rattle.dds_world.specs.WorldStanding.{WorldKept, StandsFor, Steps, KeepsRules, MovesOn}
+use Rattle.dds_core.proofs.CallSteps.{number_is}
+use Rattle.dds_core.proofs.Lists.{element}
+use Rattle.dds_world.specs.WorldStanding.{WorldKept, Steps, KeepsRules, MovesOn}
 use Rattle.dds_world.specs.Acting.{Acts, IsCopy, RuledSteps}
-use Rattle.dds_world.proofs.WorldSteps.{SendsItsDues, acts_ruled, calls_at, comes_to_nothing, contains_at, delivers_at, found_at, nothing_moved, posts_none, progresses, set_same, ticks_at}
+use Rattle.dds_world.proofs.Sends.{numbered_so}
+use Rattle.dds_world.proofs.WorldSteps.{SendsItsDues, acts_ruled, calls_at, comes_to_nothing, delivers_at, found_at, nothing_moved, posts_none, progresses, set_same, ticks_at}
 use Rattle.dds_model.specs.Machine.{AllTests}
 
 -- a step by the rules is a step
@@ -39,17 +41,6 @@ rules_at old new ev reply steps config network s = let t = steps config network 
 pub progresses_at : (tests : AllTests) (old new : WorldKept) (ev : WorldEvent) (reply : Reply)
     → RuledSteps tests old ev reply new → MovesOn old ev reply
 progresses_at tests old new ev reply steps = progresses tests old new ev reply (steps_at old new ev reply steps)
-
--- the number of the peer of this index
-numbered_so : (kept : WorldKept) (config : Config) (network : WorldState) (i : ℕ) (core : PeerKept)
-    → StandsFor kept config network → slice_get kept.peers i ≡ Some core
-    → (get_or network.peers i no_peer).number ≡ suc i
-numbered_so kept config network i core s at =
-    let count = s.count in
-    let low = get-within kept.peers i core at in s.sound.number (suc i) (omega arith, omega (arith, count, low))
-
-next_number : (i n : ℕ) → n ≡ i + 1 → suc i ≡ n
-next_number i n is = omega (arith, is)
 
 -- ---- a call
 
@@ -85,7 +76,7 @@ call_dues kept new i call reply a config network next s rules =
 pub called : {tests : AllTests} → (kept new : WorldKept) (i peer : ℕ) (call : Call) (reply : Reply) → peer ≡ i + 1
     → Acts tests kept i (event.Call call) reply new → RuledSteps tests kept (world.Call peer call) reply new
 called {tests} kept new i peer call reply is a =
-    subst (λ (n : ℕ). RuledSteps tests kept (world.Call n call) reply new) (next_number i peer is)
+    subst (λ (n : ℕ). RuledSteps tests kept (world.Call n call) reply new) (number_is peer i is)
     (acts_ruled kept new i (event.Call call)
     (world.Call (suc i) call) reply refl (calls_at tests kept.sent (suc i) call) a
     (call_dues kept new i call reply a))
@@ -129,7 +120,7 @@ tick_dues kept new i now reply a config network next s rules =
 pub ticked : {tests : AllTests} → (kept new : WorldKept) (i peer now : ℕ) (reply : Reply) → peer ≡ i + 1
     → Acts tests kept i (event.Tick now) reply new → RuledSteps tests kept (world.Tick peer now) reply new
 ticked {tests} kept new i peer now reply is a =
-    subst (λ (n : ℕ). RuledSteps tests kept (world.Tick n now) reply new) (next_number i peer is)
+    subst (λ (n : ℕ). RuledSteps tests kept (world.Tick n now) reply new) (number_is peer i is)
     (acts_ruled kept new i (event.Tick now) (world.Tick (suc i) now) reply refl (ticks_at tests kept.sent (suc i) now) a
     (tick_dues kept new i now reply a))
 

@@ -1,5 +1,5 @@
 -- What a network sends at an event.
-use Rattle.std.proofs.Common.{◌≡◌, ℕ, suc, ◌+◌, List, inl, inr, length, get_or, subst, sym, ◌∙◌, refl, arith}
+use Rattle.std.proofs.Common.{◌≡◌, ℕ, suc, ◌+◌, List, Some, inl, inr, length, get_or, slice_get, subst, sym, ◌∙◌, refl, arith}
 use Rattle.dds_base.specs.declared.change.Change.{Change}
 use Rattle.dds_base.specs.declared.config.Config.{Config}
 use Rattle.dds_base.specs.Written.{Registered, Changed, Asserted, LookedAt, Ticked}
@@ -22,10 +22,11 @@ use Rattle.dds_model.specs.Runs.{Traffic, Announced, Sends, SendsDues, SendsOf}
 use Rattle.dds_model.specs.Part.{peers_of}
 use Rattle.dds_model.specs.World.{WorldState, machine_of}
 use Rattle.dds_model.proofs.Tables.{numbered-map}
+use Rattle.dds_core.specs.Kept.{PeerKept}
 use Rattle.dds_core.specs.Sending.{SendsNothing, SendsChange, SendsFor, due_at_tick}
-use Rattle.dds_core.proofs.CallSteps.{refused_nothing}
+use Rattle.dds_core.proofs.CallSteps.{number_is, refused_nothing}
 use Rattle.dds_core.proofs.Lists.{get-within}
-use Rattle.dds_world.specs.WorldStanding.{WorldKept, Posts, Announces, traffic}
+use Rattle.dds_world.specs.WorldStanding.{WorldKept, StandsFor, Posts, Announces, traffic}
 use Rattle.dds_world.specs.Acting.{Acts, Counts, IsQuiet}
 use Rattle.dds_world.proofs.Posted.{lost_in_all, lost_is, posted_count, posted_on}
 
@@ -109,6 +110,14 @@ machine_sends config old new network peer (writes w LookedAt) h = h
 machine_sends config old new network peer (writes w (Ticked now behind)) h = h
 machine_sends config old new network peer nothing h = h
 
+-- the number of the peer of this index
+pub numbered_so : (kept : WorldKept) (config : Config) (network : WorldState) (i : ℕ) (core : PeerKept)
+    → StandsFor kept config network → slice_get kept.peers i ≡ Some core
+    → (get_or network.peers i no_peer).number ≡ suc i
+numbered_so kept config network i core s at =
+    let count = s.count in
+    let low = get-within kept.peers i core at in s.sound.number (suc i) (omega arith, omega (arith, count, low))
+
 -- what is sent at a call of the peer of this index
 call_sends : {tests : AllTests} → (kept new : WorldKept) (i : ℕ) (c : Call) (reply : Reply)
     → Acts tests kept i (event.Call c) reply new → Announces kept (world.Call (suc i) c) reply new
@@ -117,9 +126,7 @@ call_sends kept new i c reply a config network s =
     let old : Traffic = traffic kept in
     let peer : Peer = get_or network.peers i no_peer in
     let output : Output = acts.output in
-    let count = s.count in
-    let low = get-within kept.peers i acts.core acts.at in
-    let number : peer.number ≡ suc i = s.sound.number (suc i) (omega arith, omega (arith, count, low)) in
+    let number = numbered_so kept config network i acts.core s acts.at in
     let part : part_at (machine_of network) (suc i) ≡ peer.part =
     numbered-map (λ (p : Peer). p.part) network.peers (suc i) no_peer in
     let effect : Effect = effect_of peer.part c output.reply in
@@ -137,13 +144,10 @@ call_sends kept new i c reply a config network s =
     machine_sends config old (traffic new) network (suc i)
     (effect_of (part_at (machine_of network) (suc i)) c reply) parted
 
-number_of : (i n : ℕ) → n ≡ i + 1 → suc i ≡ n
-number_of i n is = omega (arith, is)
-
 pub called_sends : {tests : AllTests} → (kept new : WorldKept) (i peer : ℕ) (c : Call) (reply : Reply) → peer ≡ i + 1
     → Acts tests kept i (event.Call c) reply new → Announces kept (world.Call peer c) reply new
 called_sends kept new i peer c reply is a =
-    subst (λ (n : ℕ). Announces kept (world.Call n c) reply new) (number_of i peer is) (call_sends kept new i c reply a)
+    subst (λ (n : ℕ). Announces kept (world.Call n c) reply new) (number_is peer i is) (call_sends kept new i c reply a)
 
 -- a tick sends what is due
 
@@ -173,9 +177,7 @@ ticks_sent kept new i now reply a config network s =
     let acts = a.acts in
     let old : Traffic = traffic kept in
     let peer : Peer = get_or network.peers i no_peer in
-    let count = s.count in
-    let low = get-within kept.peers i acts.core acts.at in
-    let number : peer.number ≡ suc i = s.sound.number (suc i) (omega arith, omega (arith, count, low)) in
+    let number = numbered_so kept config network i acts.core s acts.at in
     let part : part_at (machine_of network) (suc i) ≡ peer.part =
     numbered-map (λ (p : Peer). p.part) network.peers (suc i) no_peer in
     let sent : TicksAt config old peer.number peer.part acts.output.reply (traffic new) =
@@ -190,7 +192,7 @@ ticks_sent kept new i now reply a config network s =
 pub ticked_sends : {tests : AllTests} → (kept new : WorldKept) (i peer now : ℕ) (reply : Reply) → peer ≡ i + 1
     → Acts tests kept i (event.Tick now) reply new → Announces kept (world.Tick peer now) reply new
 ticked_sends kept new i peer now reply is a =
-    subst (λ (n : ℕ). Announces kept (world.Tick n now) reply new) (number_of i peer is)
+    subst (λ (n : ℕ). Announces kept (world.Tick n now) reply new) (number_is peer i is)
     (ticks_sent kept new i now reply a)
 
 -- a delivery sends what is then due

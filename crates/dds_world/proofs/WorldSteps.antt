@@ -45,6 +45,7 @@ use Rattle.dds_core.specs.Kept.{PeerKept}
 use Rattle.dds_core.specs.Standing.{StandsFor as CoreStandsFor, IsSound, KeepsRules as CoreKeepsRules}
 use Rattle.dds_core.proofs.CallSteps.{refused_nothing}
 use Rattle.dds_core.proofs.Lists.{get-within}
+use Rattle.dds_core.proofs.Taking.{stands_again}
 use Rattle.dds_world.specs.WorldStanding.{AreTold, WorldKept, StandsFor, Steps, MovesOn, ArePosted, Posts}
 use Rattle.dds_world.specs.Acting.{Acts, RuledSteps, StepsAt}
 use Rattle.dds_world.proofs.Posted.{lost_is, posted_on}
@@ -282,16 +283,7 @@ comes_to_nothing {tests} core count slots bytes some config peer s counted told 
       step = (inr (record { moves = refl; after = refl; cause = inr (refl, some) }), refl);
       sent = λ p claim c says. absurd (omega (arith, c.1));
     } in
-    let stands : CoreStandsFor core config after =
-    record {
-      is_peer = s.is_peer;
-      moment = s.moment;
-      early = s.early;
-      writers = s.writers;
-      readers = s.readers;
-      tellable = s.tellable;
-      watch = s.watch;
-    } in
+    let stands : CoreStandsFor core config after = stands_again core config peer after refl refl refl s in
     let known : IsSound config after =
     unread_backed config peer.number peer.delivered bytes (state_of peer) (state_of peer) delivery.report
     (record { moves = refl; after = refl; cause = inr (refl, some) }) refl sound in
@@ -314,11 +306,6 @@ pub set_same : {X : Type 0} (xs : List X) (i : ℕ) (x : X) → slice_get xs i �
 set_same [] i x at = refl
 set_same (y ∷ ys) zero x at = ap (λ z. z ∷ ys) (same_Some y x at)
 set_same (y ∷ ys) (suc i) x at = ap (λ zs. y ∷ zs) (set_same ys i x at)
-
-pub contains_at : (ps : List Packet) (i : ℕ) (p : Packet) → slice_get ps i ≡ Some p → Contains ps p
-contains_at [] i p at = absurd cc
-contains_at (q ∷ ps) zero p at = (0, omega arith, same_Some q p at)
-contains_at (q ∷ ps) (suc i) p at = let r = contains_at ps i p at in (suc r.0, omega (arith, r.1), r.2)
 
 -- numbers that nobody has
 
