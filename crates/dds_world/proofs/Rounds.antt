@@ -2,7 +2,7 @@
 use Rattle.std.proofs.Common.{◌≡◌, ◌⊎◌, ℕ, zero, suc, ◌+◌, ◌-◌, ◌<◌, ◌≤◌, List, [], ◌∷◌, ◌++◌, Option, Some, None, map, length, get_or, slice_get, refl, ap, sym, ◌∙◌, subst, inl, inr, ⊎_elim, append_assoc, arith}
 use Rattle.std.specs.Prelude.{IsSome, is_some, if◌then◌else◌}
 use Rattle.std.proofs.lemmas.List.{append-nil}
-use Rattle.std.proofs.lemmas.Option.{same_Some, slice_get-get_or}
+use Rattle.std.proofs.lemmas.Option.{same_Some, slice_get_read, slice_get_within}
 use Rattle.dds_base.specs.declared.code.Code.TheVariants.{BadParameter}
 use Rattle.dds_base.specs.declared.config.Config.{Config}
 use Rattle.dds_base.specs.Refusal.{Refuses}
@@ -25,12 +25,12 @@ use Rattle.dds_core.specs.declared.pairing.Pair.{Pair}
 use Rattle.dds_core.specs.Kept.{PeerKept}
 use Rattle.dds_core.specs.Pairs.{IsPair}
 use Rattle.dds_core.specs.Standing.{StandsFor as CoreStandsFor}
-use Rattle.dds_core.proofs.Lists.{get-within}
 use Rattle.dds_world.specs.declared.round.Matched.{Matched}
 use Rattle.dds_world.specs.declared.round.RoundReply.{RoundReply}
 use Rattle.dds_world.specs.Repairing.{Knows, IsKnown, NotMatched, Stage, Answering, Acknowledging, Beating}
 use Rattle.dds_world.specs.Round.{AreMatched, RefusesRound, IsStep, AreSteps, IsTo, HasNone, IsFirst, heartbeat_of, acknack_of, answers_at, AfterHeartbeat, AfterTick, IsRound}
 use Rattle.dds_world.specs.WorldStanding.{WorldKept, StandsFor, Steps}
+use Rattle.dds_world.proofs.Sends.{numbered_so}
 
 -- ---- what was sent stays
 
@@ -136,23 +136,43 @@ steps_more old (e ∷ es) (r ∷ rs) mid ev reply new h step = (h.0, h.1, steps_
 steps_more old [] (r ∷ rs) mid ev reply new h step = absurd h
 steps_more old (e ∷ es) [] mid ev reply new h step = absurd h
 
-steps_as : (tests : AllTests) → (old : WorldKept) (events later : List WorldEvent) (replies rest : List RoundReply)
-    (new : WorldKept) → events ≡ later → replies ≡ rest → AreSteps tests old later rest new
-    → AreSteps tests old events replies new
-steps_as tests old events later replies rest new e r h =
-    subst (λ (es : List WorldEvent). AreSteps tests old es replies new) (sym e)
-    (subst (λ (rs : List RoundReply). AreSteps tests old later rs new) (sym r) h)
+-- what is said of these events, replies and states is said of those that they are
+said_of : (P : List WorldEvent → List RoundReply → WorldKept → Type 0) (events later : List WorldEvent)
+    (replies rest : List RoundReply) (new last : WorldKept)
+    → events ≡ later → replies ≡ rest → new ≡ last → P later rest last → P events replies new
+said_of P events later replies rest new last e r n h =
+    subst (λ (es : List WorldEvent). P es replies new) (sym e)
+    (subst (λ (rs : List RoundReply). P later rs new) (sym r) (subst (λ (k : WorldKept). P later rest k) (sym n) h))
+
+-- what is so where there is no such packet, and where the first one is delivered and it goes on so, is so of the stage
+pub stage_is : {tests : AllTests}
+    → (Is : Packet → Type 0) (from peer : ℕ) (Next : WorldKept → List WorldEvent → List RoundReply → WorldKept → Type 0)
+    (old : WorldKept) (events : List WorldEvent) (replies : List RoundReply) (new : WorldKept)
+    (P : List WorldEvent → List RoundReply → WorldKept → Type 0)
+    → (HasNone Is old.sent from (length old.sent) → P [] [] old)
+    → ((k : ℕ) (reply : RoundReply) (mid : WorldKept) (later : List WorldEvent) (rest : List RoundReply)
+    → IsFirst Is old.sent from (length old.sent) k → IsStep tests old (world.Deliver peer k) reply mid
+    → Next mid later rest new → P (world.Deliver peer k ∷ later) (reply ∷ rest) new)
+    → Stage tests Is from peer Next old events replies new → P events replies new
+stage_is Is from peer Next old events replies new P none goes h =
+    ⊎_elim (λ f. said_of P events [] replies [] new old f.0 f.1 f.2 (none f.3))
+    (λ f. said_of P events (world.Deliver peer f.0 ∷ f.3) replies (f.1 ∷ f.4) new new f.7 f.8 refl
+    (goes f.0 f.1 f.2 f.3 f.4 f.5 f.6 f.9)) h
+
+-- what goes on so goes by steps
+abbrev pub BySteps : AllTests → (WorldKept → List WorldEvent → List RoundReply → WorldKept → Type 0) → WorldKept
+    → Type 0
+BySteps tests Next new =
+    (mid : WorldKept) (events : List WorldEvent) (replies : List RoundReply) → Next mid events replies new
+    → AreSteps tests mid events replies new
 
 stage_steps : {tests : AllTests}
     → (Is : Packet → Type 0) (from peer : ℕ) (Next : WorldKept → List WorldEvent → List RoundReply → WorldKept → Type 0)
-    (old : WorldKept) (events : List WorldEvent) (replies : List RoundReply) (new : WorldKept)
-    → ((mid : WorldKept) (es : List WorldEvent) (rs : List RoundReply) → Next mid es rs new
-    → AreSteps tests mid es rs new) → Stage tests Is from peer Next old events replies new
-    → AreSteps tests old events replies new
+    (old : WorldKept) (events : List WorldEvent) (replies : List RoundReply) (new : WorldKept) → BySteps tests Next new
+    → Stage tests Is from peer Next old events replies new → AreSteps tests old events replies new
 stage_steps {tests} Is from peer Next old events replies new next h =
-    ⊎_elim (λ f. steps_as tests old events [] replies [] new f.0 f.1 f.2)
-    (λ f. steps_as tests old events (world.Deliver peer f.0 ∷ f.3) replies (f.1 ∷ f.4) new f.7 f.8
-    (f.2, f.6, next f.2 f.3 f.4 f.9)) h
+    stage_is Is from peer Next old events replies new (λ es rs k. AreSteps tests old es rs k) (λ none. refl)
+    (λ k reply mid later rest first step goes. (mid, step, next mid later rest goes)) h
 
 pub acks_steps : {tests : AllTests}
     → (m : Matched) (from : ℕ) (old : WorldKept) (events : List WorldEvent) (replies : List RoundReply)
@@ -209,12 +229,32 @@ heartbeat_is : (config : Config) (network : WorldState) (m : Matched) → Knows 
     → sought.Heartbeat m.pair.writer ≡ heartbeat_of config m.writer
 heartbeat_is config network m k = let w = k.writer in cc
 
--- what is said of these events and replies is said of those that they are
-said_of : (P : List WorldEvent → List RoundReply → Type 0) (events later : List WorldEvent)
-    (replies rest : List RoundReply)
-    → events ≡ later → replies ≡ rest → P later rest → P events replies
-said_of P events later replies rest e r h =
-    subst (λ (es : List WorldEvent). P es replies) (sym e) (subst (λ (rs : List RoundReply). P later rs) (sym r) h)
+-- What is so of what was sent before, where there is no such packet, and of what was sent in the end, where the first
+-- one is delivered and it goes on so, is so of the stage. What is looked for is this submessage.
+stage_in_round : {tests : AllTests}
+    → (config : Config) (network : WorldState) {wanted known : Sought} (from peer : ℕ)
+    (Next : WorldKept → List WorldEvent → List RoundReply → WorldKept → Type 0) (old : WorldKept)
+    (events : List WorldEvent) (replies : List RoundReply) (new : WorldKept)
+    (After : List Packet → List WorldEvent → List RoundReply → Type 0) → wanted ≡ known → StandsFor old config network
+    → BySteps tests Next new
+    → (HasNone (IsTo peer known) old.sent from (length old.sent) → After old.sent [] [])
+    → ((k : ℕ) (reply : RoundReply) (mid : WorldKept) (later : List WorldEvent) (rest : List RoundReply)
+    → IsFirst (IsTo peer known) new.sent from (length old.sent) k → GoesOn config old mid
+    → reply.sent ≡ length mid.sent → Next mid later rest new
+    → After new.sent (world.Deliver peer k ∷ later) (reply ∷ rest))
+    → Stage tests (IsTo peer wanted) from peer Next old events replies new → After new.sent events replies
+stage_in_round {tests} config network {wanted} from peer Next old events replies new After is s next none goes h =
+    stage_is (IsTo peer wanted) from peer Next old events replies new (λ es rs k. After k.sent es rs)
+    (λ n. none (subst (λ (x : Sought). HasNone (IsTo peer x) old.sent from (length old.sent)) is n))
+    (λ k reply mid later rest first step on.
+    let ev : WorldEvent = world.Deliver peer k in
+    let high : length old.sent ≤ length old.sent = omega arith in
+    let steps : AreSteps tests old (ev ∷ later) (reply ∷ rest) new = (mid, step, next mid later rest on) in
+    let grows = (steps_on tests config network old (ev ∷ later) (reply ∷ rest) new steps s).grows in
+    let there = first_on (IsTo peer wanted) old.sent new.sent from (length old.sent) k grows high first in
+    goes k reply mid later rest
+    (subst (λ (x : Sought). IsFirst (IsTo peer x) new.sent from (length old.sent) k) is there)
+    (step_on tests config network old ev reply.reply mid step.step s) step.sent on) h
 
 after_heartbeat : {tests : AllTests}
     → (config : Config) (network known : WorldState) (m : Matched) (from : ℕ) (old : WorldKept)
@@ -223,29 +263,11 @@ after_heartbeat : {tests : AllTests}
     → Acknowledging tests m from old events replies new
     → AfterHeartbeat config m.writer m.reader new.sent from (length old.sent) events replies
 after_heartbeat {tests} config network known m from old events replies new k s h =
-    let high : length old.sent ≤ length old.sent = omega arith in
-    let grows =
-    (steps_on tests config network old events replies new (acks_steps m from old events replies new h) s).grows in
-    let is = acknack_is config known m k in
-    ⊎_elim
-    (λ f.
-    let none =
-    none_on (IsTo m.writer.peer (sought.AckNack m.pair.reader m.pair.writer)) old.sent new.sent from
-    (length old.sent) grows high f.3 in
-    said_of (AfterHeartbeat config m.writer m.reader new.sent from (length old.sent)) events [] replies [] f.0 f.1
-    (subst (λ (x : Sought). HasNone (IsTo m.writer.peer x) new.sent from (length old.sent)) is none))
-    (λ f.
-    let first =
-    first_on (IsTo m.writer.peer (sought.AckNack m.pair.reader m.pair.writer)) old.sent new.sent from
-    (length old.sent) f.0 grows high f.5 in
-    let answers = subst (λ (n : ℕ). f.3 ≡ answers_at m.reader.peer (length old.sent) n) (sym f.6.sent) f.9.0 in
-    said_of (AfterHeartbeat config m.writer m.reader new.sent from (length old.sent)) events
-    (world.Deliver m.writer.peer f.0 ∷ f.3) replies (f.1 ∷ f.4) f.7 f.8 (
-      refl,
-      subst (λ (x : Sought). IsFirst (IsTo m.writer.peer x) new.sent from (length old.sent) f.0) is first,
-      answers,
-    ))
-    h
+    stage_in_round config network from m.writer.peer (Answering tests m (length old.sent)) old events replies new
+    (λ ps es rs. AfterHeartbeat config m.writer m.reader ps from (length old.sent) es rs)
+    (acknack_is config known m k) s (λ mid es rs a. a.1) (λ none. none)
+    (λ number reply mid later rest first on sent a.
+    (refl, first, subst (λ (n : ℕ). later ≡ answers_at m.reader.peer (length old.sent) n) (sym sent) a.0)) h
 
 after_tick : {tests : AllTests} → (config : Config) (network known : WorldState) (m : Matched) (from : ℕ)
     (old : WorldKept) (events : List WorldEvent) (replies : List RoundReply) (new : WorldKept) → Knows config known m
@@ -253,31 +275,15 @@ after_tick : {tests : AllTests} → (config : Config) (network known : WorldStat
     → Beating tests m from old events replies new
     → AfterTick config m.writer m.reader new.sent from (length old.sent) events replies
 after_tick {tests} config network known m from old events replies new k s h =
-    let high : length old.sent ≤ length old.sent = omega arith in
-    let grows =
-    (steps_on tests config network old events replies new (beats_steps m from old events replies new h) s).grows in
-    let is = heartbeat_is config known m k in
-    ⊎_elim
-    (λ f.
-    let none =
-    none_on (IsTo m.reader.peer (sought.Heartbeat m.pair.writer)) old.sent new.sent from
-    (length old.sent) grows high f.3 in
-    said_of (AfterTick config m.writer m.reader new.sent from (length old.sent)) events [] replies [] f.0 f.1
-    (subst (λ (x : Sought). HasNone (IsTo m.reader.peer x) new.sent from (length old.sent)) is none))
-    (λ f.
-    let first =
-    first_on (IsTo m.reader.peer (sought.Heartbeat m.pair.writer)) old.sent new.sent from
-    (length old.sent) f.0 grows high f.5 in
-    let on = step_on tests config network old (world.Deliver m.reader.peer f.0) f.1.reply f.2 f.6.step s in
-    let later = after_heartbeat config on.after known m (length old.sent) f.2 f.3 f.4 new k on.stands f.9 in
-    said_of (AfterTick config m.writer m.reader new.sent from (length old.sent)) events
-    (world.Deliver m.reader.peer f.0 ∷ f.3) replies (f.1 ∷ f.4) f.7 f.8 (
+    stage_in_round config network from m.reader.peer (Acknowledging tests m (length old.sent)) old events replies new
+    (λ ps es rs. AfterTick config m.writer m.reader ps from (length old.sent) es rs) (heartbeat_is config known m k) s
+    (λ mid es rs a. acks_steps m (length old.sent) mid es rs new a) (λ none. none)
+    (λ number reply mid later rest first on sent a. (
       refl,
-      subst (λ (x : Sought). IsFirst (IsTo m.reader.peer x) new.sent from (length old.sent) f.0) is first,
-      subst (λ (n : ℕ). AfterHeartbeat config m.writer m.reader new.sent (length old.sent) n f.3 f.4)
-          (sym f.6.sent) later,
-    ))
-    h
+      first,
+      subst (λ (n : ℕ). AfterHeartbeat config m.writer m.reader new.sent (length old.sent) n later rest) (sym sent)
+          (after_heartbeat config on.after known m (length old.sent) mid later rest new k on.stands a),
+    )) h
 
 pub round_is : {tests : AllTests}
     → (old : WorldKept) (m : Matched) (ticked : RoundReply) (mid : WorldKept) (events : List WorldEvent)
@@ -312,25 +318,14 @@ peer_is : (kept : WorldKept) (i number : ℕ) (core : PeerKept) (config : Config
     → StandsFor kept config network → number ≡ i + 1 → slice_get kept.peers i ≡ Some core
     → IsPeerAt config network core number
 peer_is kept i number core config network s is at =
-    let count = s.count in
-    let low = get-within kept.peers i core at in
     let next : suc i ≡ number = omega (arith, is) in
     let here : IsPeerAt config network core (suc i) = record {
       peer = get_or network.peers i no_peer;
       stands = s.each i core at;
-      numbered = s.sound.number (suc i) (omega arith, omega (arith, count, low));
+      numbered = numbered_so kept config network i core s at;
       part = numbered-map (λ (p : Peer). p.part) network.peers (suc i) no_peer;
     } in
     subst (λ (n : ℕ). IsPeerAt config network core n) next here
-
--- a peer that is kept at this index
-pub peer_kept : (inside peers : List PeerKept) (i count : ℕ) (core : PeerKept) → inside ≡ peers
-    → core ≡ get_or inside i core
-    → count ≡ length peers → i < count → slice_get peers i ≡ Some core
-peer_kept inside peers i count core same is counted low =
-    let within : i < length peers = omega (arith, counted, low) in
-    let here = subst (λ (ps : List PeerKept). core ≡ get_or ps i core) same is in
-    slice_get-get_or peers i core within ∙ ap (λ (x : PeerKept). Some x) (sym here)
 
 pub no_pair_matched : (kept : WorldKept) (i : ℕ) (core : PeerKept) (writer reader : Endpoint) → writer.peer ≡ i + 1
     → slice_get kept.peers i ≡ Some core
@@ -426,34 +421,34 @@ pub none_within : (Is : Packet → Type 0) (sent : List Packet) (from to index :
 none_within Is sent from to index low none =
     λ k packet above within at is. none k packet above (omega (arith, low, within)) at is
 
+-- the packet that is read at an index of those that were sent
+pub packet_read : (inside sent : List Packet) (index : ℕ) (packet : Packet) → inside ≡ sent → index < length sent
+    → packet ≡ get_or inside index packet → slice_get sent index ≡ Some packet
+packet_read inside sent index packet same low is =
+    slice_get_read sent (length sent) index packet refl low
+    (subst (λ (ps : List Packet). packet ≡ get_or ps index packet) same is)
+
 pub none_more : (Is : Packet → Type 0) (sent : List Packet) (from index next : ℕ) (packet : Packet) → next ≡ index + 1
-    → index < length sent → packet ≡ get_or sent index packet → (Is packet → ⊥) → HasNone Is sent from index
-    → HasNone Is sent from next
-none_more Is sent from index next packet is low here other none = λ k p above within at is_p.
+    → slice_get sent index ≡ Some packet → (Is packet → ⊥) → HasNone Is sent from index → HasNone Is sent from next
+none_more Is sent from index next packet is here other none = λ k p above within at is_p.
     ⊎_elim (λ before. none k p above before at is_p)
     (λ last.
     let number : k - 1 ≡ index = omega (arith, last) in
     let there : slice_get sent index ≡ Some p = subst (λ (n : ℕ). slice_get sent n ≡ Some p) number at.1 in
-    let same : packet ≡ p =
-    here ∙ same_Some (get_or sent index packet) p (sym (slice_get-get_or sent index packet low) ∙ there) in
-    other (subst (λ (x : Packet). Is x) (sym same) is_p))
+    other (subst (λ (x : Packet). Is x) (sym (same_Some packet p (sym here ∙ there))) is_p))
     (at_most_next k index (omega (arith, within, is)))
 
 pub found_here : (Is : Packet → Type 0) (sent : List Packet) (from index number : ℕ) (packet : Packet)
-    → number ≡ index + 1 → from ≤ index → index < length sent → packet ≡ get_or sent index packet → Is packet
-    → HasNone Is sent from index
+    → number ≡ index + 1 → from ≤ index → slice_get sent index ≡ Some packet → Is packet → HasNone Is sent from index
     → IsFirst Is sent from (length sent) number
-found_here Is sent from index number packet is above low here such none =
+found_here Is sent from index number packet is above here such none =
     let before : index ≡ number - 1 = omega (arith, is) in
+    let low = slice_get_within sent index packet here in
     record {
       above = omega (arith, is, above);
       within = omega (arith, is, low);
       packet = packet;
-      at = (
-        omega (arith, is),
-        subst (λ (n : ℕ). slice_get sent n ≡ Some packet) before
-            (slice_get-get_or sent index packet low ∙ ap (λ (x : Packet). Some x) (sym here)),
-      );
+      at = (omega (arith, is), subst (λ (n : ℕ). slice_get sent n ≡ Some packet) before here);
       is = such;
       first = subst (λ (n : ℕ). HasNone Is sent from n) before none;
     }
