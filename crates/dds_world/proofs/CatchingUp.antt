@@ -21,7 +21,7 @@ use Rattle.dds_model.specs.declared.event.Packet.{Packet}
 use Rattle.dds_model.specs.declared.event.WorldEvent.{WorldEvent}
 use Rattle.dds_model.specs.declared.event.WorldEvent.TheVariants as world
 use Rattle.dds_model.specs.declared.reply.Reply.{Reply}
-use Rattle.dds_model.specs.declared.reply.Reply.TheVariants.{Done, Reported}
+use Rattle.dds_model.specs.declared.reply.Reply.TheVariants.{Done}
 use Rattle.dds_model.specs.Claims.{IsReader, every_reader}
 use Rattle.dds_model.specs.Dues.{IsPartOf}
 use Rattle.dds_model.specs.Fresh.{HasHeartbeat, HasAckNack, heartbeats_used_at, acknacks_used_at}
@@ -36,7 +36,7 @@ use Rattle.dds_model.specs.World.{WorldState, peer_at, machine_of}
 use Rattle.dds_model.proofs.PairAsked.{has_writer}
 use Rattle.dds_model.proofs.PairAsks.{asks_found}
 use Rattle.dds_model.proofs.PairBeats.{beats_are_sent}
-use Rattle.dds_model.proofs.PairBegun.{Begun, writer_is, place_is}
+use Rattle.dds_model.proofs.PairBegun.{Begun, the_begun, writer_is, place_is}
 use Rattle.dds_model.proofs.PairCaughtUp.{pair_catches_up, answers_are_few}
 use Rattle.dds_model.proofs.PairEnded.{leaves_ended}
 use Rattle.dds_model.proofs.PairFound.{beat_found, beat_sought, ask_found_among}
@@ -47,12 +47,87 @@ use Rattle.dds_core.specs.Pairs.{reader_entity}
 use Rattle.dds_world.specs.declared.round.Matched.{Matched}
 use Rattle.dds_world.specs.declared.round.Round.{Round}
 use Rattle.dds_world.specs.declared.round.RoundReply.{RoundReply}
-use Rattle.dds_world.specs.Repairing.{Knows, IsKnown, Answering, Acknowledging, Beating}
+use Rattle.dds_world.specs.Repairing.{Knows, IsKnown, Stage, Answering, Acknowledging, Beating}
 use Rattle.dds_world.specs.Round.{IsHindered, has_unsent, IsStep, AreSteps, IsTo, HasNone, IsFirst, Rounds, answers_at, is_whole, are_whole, replies_of}
 use Rattle.dds_world.specs.WorldStanding.{WorldKept, StandsFor}
-use Rattle.dds_world.proofs.Caught.{WholeReport, whole_report, CoreAt, core_at, place_known, few_changes, places_after, unsent_shown, went, sent_by, whole_tick, delivers, both_are, Ran, ran, unsent_on, none_lost, deliver_all, later_packet, among_none, get_later}
-use Rattle.dds_world.proofs.Rounds.{IsPlace, acks_steps, beats_steps, round_is}
-use Rattle.dds_world.proofs.RunSteps.{ended, Went, runs_so}
+use Rattle.dds_world.proofs.Caught.{CoreAt, core_at, place_known, few_changes, places_after, unsent_shown, went, sent_by, whole_tick, delivers, first_whole, Ran, ran, none_lost, deliver_all, later_packet, among_none, get_later}
+use Rattle.dds_world.proofs.Rounds.{BySteps, IsPlace, acks_steps, beats_steps, round_is, stage_is}
+use Rattle.dds_world.proofs.RunSteps.{Went, runs_so}
+
+-- ---- a packet that is delivered
+
+-- Of the packets that were sent since so many had been, the first such one is delivered at this peer. Memory was found
+-- for it, and nothing was lost: before it no fewer are counted as unsent than these, and after it no more.
+record Delivered (tests : AllTests) (Is : Packet → Type 0) (from peer unsent : ℕ) (old : WorldKept) : Type 0 where
+  k : ℕ
+  reply : RoundReply
+  mid : WorldKept
+  first : IsFirst Is old.sent from (length old.sent) k
+  step : IsStep tests old (world.Deliver peer k) reply mid
+  whole : is_whole reply.reply ≡ true
+  same : mid.unsent ≤ unsent
+  more : unsent ≤ old.unsent
+
+-- it is so in a stage whose replies are whole and which lost nothing, unless there is no such packet
+stage_delivers : {tests : AllTests}
+    → (config : Config) (network : WorldState) (Is : Packet → Type 0) (from peer unsent : ℕ)
+    (Next : WorldKept → List WorldEvent → List RoundReply → WorldKept → Type 0) (old : WorldKept)
+    (events : List WorldEvent) (replies : List RoundReply) (new : WorldKept)
+    (P : List WorldEvent → List RoundReply → WorldKept → Type 0) → StandsFor old config network
+    → new.unsent ≤ unsent → unsent ≤ old.unsent → BySteps tests Next new
+    → (HasNone Is old.sent from (length old.sent) → P [] [] old)
+    → ((d : Delivered tests Is from peer unsent old) (later : List WorldEvent) (rest : List RoundReply)
+    → are_whole rest ≡ true → unsent ≤ d.mid.unsent → Next d.mid later rest new
+    → P (world.Deliver peer d.k ∷ later) (d.reply ∷ rest) new)
+    → Stage tests Is from peer Next old events replies new → are_whole replies ≡ true → P events replies new
+stage_delivers {tests} config network Is from peer unsent Next old events replies new P s same more steps none goes =
+    stage_is Is from peer Next old events replies new (λ es rs n. are_whole rs ≡ true → P es rs n)
+    (λ no whole. none no)
+    (λ k reply mid later rest first step next whole.
+    let w =
+    first_whole config network old (world.Deliver peer k) reply mid later rest new unsent step
+    (steps mid later rest next) s whole same more in
+    let d : Delivered tests Is from peer unsent old = record {
+      k = k;
+      reply = reply;
+      mid = mid;
+      first = first;
+      step = step;
+      whole = w.whole;
+      same = w.same;
+      more = more;
+    } in
+    goes d later rest w.rest w.more next)
+
+-- it is a delivery by the rules
+delivered : {tests : AllTests} {Is : Packet → Type 0} {from peer unsent : ℕ} {old : WorldKept}
+    (d : Delivered tests Is from peer unsent old) {config : Config} {network : WorldState}
+    → StandsFor old config network
+    → (w : Went tests config network old (world.Deliver peer d.k) d.reply.reply d.mid)
+    → Delivers config tests network peer d.first.packet w.step.lost w.after
+delivered {peer = peer} {old = old} d {config} {network} s w =
+    delivers config network old peer d.k d.first.packet d.reply.reply d.mid s d.first.at.1 d.whole w
+
+-- at which nothing was lost
+none_at : {tests : AllTests} {Is : Packet → Type 0} {from peer unsent : ℕ} {old : WorldKept}
+    (d : Delivered tests Is from peer unsent old) {config : Config} {network : WorldState}
+    (w : Went tests config network old (world.Deliver peer d.k) d.reply.reply d.mid) → old.unsent ≤ unsent
+    → unsent < 2 ^ 64 - 1 → w.step.lost ≡ 0
+none_at {old = old} d w most below =
+    let same = d.same in
+    let more = d.more in
+    none_lost old.unsent w.step.lost d.mid.unsent w.step.counted (omega (arith, same, more))
+    (omega (arith, below, most))
+
+-- of a packet that was sent since then
+sent_since : {tests : AllTests} {Is : Packet → Type 0} {peer unsent : ℕ} {old : WorldKept}
+    (before packets : List Packet) (d : Delivered tests Is (length before) peer unsent old)
+    → old.sent ≡ before ++ packets
+    → Contains packets d.first.packet
+sent_since before packets d sent =
+    let above = d.first.above in
+    later_packet before packets (d.k - 1) d.first.packet (omega (arith, above))
+    (subst (λ (ps : List Packet). slice_get ps (d.k - 1) ≡ Some d.first.packet) sent d.first.at.1)
 
 -- ---- what is known at the beginning
 
@@ -184,13 +259,6 @@ EndsSo tests config network old m place events replies new =
 abbrev Ends : Tick → List WorldEvent → List RoundReply → WorldKept → Type 0
 Ends t events replies new = EndsSo t.tests t.config t.network t.old t.m t.place events replies new
 
-ends_as : (t : Tick) (events events' : List WorldEvent) (replies replies' : List RoundReply) (new new' : WorldKept)
-    → events ≡ events' → replies ≡ replies' → new ≡ new' → Ends t events' replies' new' → Ends t events replies new
-ends_as t events events' replies replies' new new' e r n h =
-    subst (λ (k : WorldKept). Ends t events replies k) (sym n)
-    (subst (λ (rs : List RoundReply). Ends t events rs new') (sym r)
-    (subst (λ (es : List WorldEvent). Ends t es replies' new') (sym e) h))
-
 -- ---- no HEARTBEAT was sent
 
 -- where the reader is not behind, it has caught up already
@@ -282,45 +350,34 @@ no_beat t none = (
 
 record Hear : Type 0 where
   t : Tick
-  k : ℕ
-  heard : RoundReply
-  mid : WorldKept
-  first : IsFirst (IsTo t.m.reader.peer (sought.Heartbeat t.m.pair.writer)) t.mid.sent (length t.old.sent)
-      (length t.mid.sent) k
-  step : IsStep t.tests t.mid (world.Deliver t.m.reader.peer k) heard mid
-  whole : is_whole heard.reply ≡ true
-  same : mid.unsent ≤ t.old.unsent
-  more : t.old.unsent ≤ t.mid.unsent
+  beat : Delivered t.tests (IsTo t.m.reader.peer (sought.Heartbeat t.m.pair.writer)) (length t.old.sent)
+      t.m.reader.peer t.old.unsent t.mid
 
 w1 : (h : Hear) → Went h.t.tests h.t.config (noted_tick h.t) h.t.mid
-    (world.Deliver h.t.m.reader.peer h.k) h.heard.reply h.mid
+    (world.Deliver h.t.m.reader.peer h.beat.k) h.beat.reply.reply h.beat.mid
 w1 h =
-    went h.t.config (noted_tick h.t) h.t.mid (world.Deliver h.t.m.reader.peer h.k) h.heard h.mid h.step (w0 h.t).stands
+    went h.t.config (noted_tick h.t) h.t.mid (world.Deliver h.t.m.reader.peer h.beat.k) h.beat.reply h.beat.mid
+    h.beat.step (w0 h.t).stands
 
 abbrev after_beat : Hear → WorldState
 after_beat h = (w1 h).after
 
 -- at its end
 abbrev noted_beat : Hear → WorldState
-noted_beat h = world_ended (noted_tick h.t) (world.Deliver h.t.m.reader.peer h.k) (after_beat h)
+noted_beat h = world_ended (noted_tick h.t) (world.Deliver h.t.m.reader.peer h.beat.k) (after_beat h)
 
-hears : (h : Hear) → Delivers h.t.config h.t.tests (noted_tick h.t) h.t.m.reader.peer h.first.packet (w1 h).step.lost
-    (after_beat h)
-hears h =
-    delivers h.t.config (noted_tick h.t) h.t.mid h.t.m.reader.peer h.k h.first.packet h.heard.reply h.mid
-    (w0 h.t).stands h.first.at.1 h.whole (w1 h)
+hears : (h : Hear) → Delivers h.t.config h.t.tests (noted_tick h.t) h.t.m.reader.peer h.beat.first.packet
+    (w1 h).step.lost (after_beat h)
+hears h = delivered h.beat (w0 h.t).stands (w1 h)
 
-among1 : (h : Hear) → Contains (ruled0 h.t).packets h.first.packet
-among1 h =
-    let above = h.first.above in
-    later_packet h.t.old.sent (ruled0 h.t).packets (h.k - 1) h.first.packet (omega (arith, above))
-    (subst (λ (ps : List Packet). slice_get ps (h.k - 1) ≡ Some h.first.packet) (sent0 h.t) h.first.at.1)
+among1 : (h : Hear) → Contains (ruled0 h.t).packets h.beat.first.packet
+among1 h = sent_since h.t.old.sent (ruled0 h.t).packets h.beat (sent0 h.t)
 
-beat_has : (h : Hear) → (count : ℤ) × HasHeartbeat h.t.config h.first.packet.bytes h.t.m.writer count
+beat_has : (h : Hear) → (count : ℤ) × HasHeartbeat h.t.config h.beat.first.packet.bytes h.t.m.writer count
 beat_has h =
-    beat_found h.t.config h.t.tests h.t.network h.t.m.moment 0 (after_tick h.t) h.t.m.writer h.first.packet (of h.t)
-    (here h.t) (ruled0 h.t) (among1 h)
-    (subst (λ (e : EntityId). Has h.first.packet.bytes (sought.Heartbeat e)) h.t.known.writer h.first.is.1)
+    beat_found h.t.config h.t.tests h.t.network h.t.m.moment 0 (after_tick h.t) h.t.m.writer h.beat.first.packet
+    (of h.t) (here h.t) (ruled0 h.t) (among1 h)
+    (subst (λ (e : EntityId). Has h.beat.first.packet.bytes (sought.Heartbeat e)) h.t.known.writer h.beat.first.is.1)
 
 begins : (h : Hear) → BeginsRound h.t.config h.t.tests h.t.m.writer h.t.m.reader h.t.network (after_beat h)
 begins h = record {
@@ -328,9 +385,9 @@ begins h = record {
   ticked = after_tick h.t;
   lost_beats = 0;
   ticks = ruled0 h.t;
-  beat = h.first.packet;
+  beat = h.beat.first.packet;
   beat_sent = among1 h;
-  beat_to = h.first.is.0;
+  beat_to = h.beat.first.is.0;
   beat_count = (beat_has h).0;
   beat_of = (beat_has h).1;
   lost_asks = (w1 h).step.lost;
@@ -338,37 +395,17 @@ begins h = record {
 }
 
 begun : Hear → Begun
-begun h = record {
-  config = h.t.config;
-  tests = h.t.tests;
-  writer = h.t.m.writer;
-  reader = h.t.m.reader;
-  place = h.t.place;
-  acknowledged = acknowledged h.t;
-  old = h.t.network;
-  heard = after_beat h;
-  checked = (core h.t).stands.is_peer.checked;
-  sound = h.t.s.sound;
-  used = h.t.s.used;
-  bounded = h.t.s.bounded;
-  pair = (pair h.t).pair;
-  stands = stands h.t;
-  begins = begins h;
-}
+begun h =
+    the_begun h.t.config h.t.tests h.t.m.writer h.t.m.reader h.t.place (acknowledged h.t) h.t.network (after_beat h)
+    (core h.t).stands.is_peer.checked h.t.s.sound h.t.s.used h.t.s.bounded (pair h.t).pair (stands h.t) (begins h)
 
 none1 : (h : Hear) → (w1 h).step.lost ≡ 0
-none1 h =
-    let same = h.same in
-    let more = h.more in
-    let below = h.t.below in
-    let first = h.t.same in
-    none_lost h.t.mid.unsent (w1 h).step.lost h.mid.unsent (w1 h).step.counted (omega (arith, same, more))
-    (omega (arith, below, first))
+none1 h = none_at h.beat (w1 h) h.t.same h.t.below
 
-sent1 : (h : Hear) → h.mid.sent ≡ h.t.mid.sent ++ (hears h).step.packets
+sent1 : (h : Hear) → h.beat.mid.sent ≡ h.t.mid.sent ++ (hears h).step.packets
 sent1 h =
     sent_by h.t.config (noted_tick h.t) h.t.mid (world.Deliver h.t.m.reader.peer (hears h).number) _ (w1 h).step.lost
-    (after_beat h) h.mid (w0 h.t).stands (w1 h).stands (hears h).step
+    (after_beat h) h.beat.mid (w0 h.t).stands (w1 h).stands (hears h).step
 
 -- the ACKNACK, as it is looked for
 abbrev ask_of : Hear → Sought
@@ -383,22 +420,23 @@ ask_is h =
 
 -- one that was sent is found
 ask_is_found : (h : Hear) → acknacks_used_at h.t.network h.t.m.writer h.t.m.reader < 2 ^ 31 - 1
-    → HasNone (IsTo h.t.m.writer.peer (ask_of h)) h.mid.sent (length h.t.mid.sent) (length h.mid.sent) → ⊥
+    → HasNone (IsTo h.t.m.writer.peer (ask_of h)) h.beat.mid.sent (length h.t.mid.sent) (length h.beat.mid.sent) → ⊥
 unfolding begun begins w1 hears
 ask_is_found h left none =
     let last : the_last h.t ≡ length (writer_changes (own_writer (part h.t) h.t.m.writer.number)) =
     ap (λ (w : Writer). length (writer_changes w)) (writer_is h.t.network h.t.m.writer) in
     let small = few h.t in
     let ask = asks_found (begun h) (omega (arith, small, last)) left (none1 h) in
-    among_none (IsTo h.t.m.writer.peer (ask_of h)) h.t.mid.sent (hears h).step.packets h.mid.sent ask.0 (sent1 h) ask.1
-    (ask.2, subst (λ (x : Sought). Has ask.0.bytes x) (ask_is h) ask.3) none
+    among_none (IsTo h.t.m.writer.peer (ask_of h)) h.t.mid.sent (hears h).step.packets h.beat.mid.sent ask.0
+    (sent1 h) ask.1 (ask.2, subst (λ (x : Sought). Has ask.0.bytes x) (ask_is h) ask.3) none
 
-no_ask : (h : Hear) → HasNone (IsTo h.t.m.writer.peer (ask_of h)) h.mid.sent (length h.t.mid.sent) (length h.mid.sent)
-    → Ends h.t (world.Tick h.t.m.writer.peer h.t.m.moment ∷ world.Deliver h.t.m.reader.peer h.k ∷ [])
-    (h.t.ticked ∷ h.heard ∷ []) h.mid
+no_ask : (h : Hear)
+    → HasNone (IsTo h.t.m.writer.peer (ask_of h)) h.beat.mid.sent (length h.t.mid.sent) (length h.beat.mid.sent)
+    → Ends h.t (world.Tick h.t.m.writer.peer h.t.m.moment ∷ world.Deliver h.t.m.reader.peer h.beat.k ∷ [])
+    (h.t.ticked ∷ h.beat.reply ∷ []) h.beat.mid
 no_ask h none = (
   noted_beat h,
-  (after_tick h.t, h.t.mid.unsent, (w0 h.t).step, (after_beat h, h.mid.unsent, (w1 h).step, (refl, refl))),
+  (after_tick h.t, h.t.mid.unsent, (w0 h.t).step, (after_beat h, h.beat.mid.unsent, (w1 h).step, (refl, refl))),
   (w1 h).stands,
   inl
       (⊎_elim (λ left. absurd (ask_is_found h left none)) (λ used. inr (inr (inr (inr (refl, used)))))
@@ -409,75 +447,43 @@ no_ask h none = (
 
 record Ask : Type 0 where
   h : Hear
-  k : ℕ
-  asked : RoundReply
-  mid : WorldKept
-  first : IsFirst (IsTo h.t.m.writer.peer (ask_of h)) h.mid.sent (length h.t.mid.sent) (length h.mid.sent) k
-  step : IsStep h.t.tests h.mid (world.Deliver h.t.m.writer.peer k) asked mid
-  whole : is_whole asked.reply ≡ true
-  same : mid.unsent ≤ h.t.old.unsent
-  more : h.t.old.unsent ≤ h.mid.unsent
+  ask : Delivered h.t.tests (IsTo h.t.m.writer.peer (ask_of h)) (length h.t.mid.sent) h.t.m.writer.peer h.t.old.unsent
+      h.beat.mid
 
-w2 : (a : Ask) → Went a.h.t.tests a.h.t.config (noted_beat a.h) a.h.mid
-    (world.Deliver a.h.t.m.writer.peer a.k) a.asked.reply a.mid
+w2 : (a : Ask) → Went a.h.t.tests a.h.t.config (noted_beat a.h) a.h.beat.mid
+    (world.Deliver a.h.t.m.writer.peer a.ask.k) a.ask.reply.reply a.ask.mid
 w2 a =
-    went a.h.t.config (noted_beat a.h) a.h.mid (world.Deliver a.h.t.m.writer.peer a.k) a.asked a.mid a.step
-    (w1 a.h).stands
+    went a.h.t.config (noted_beat a.h) a.h.beat.mid (world.Deliver a.h.t.m.writer.peer a.ask.k) a.ask.reply
+    a.ask.mid a.ask.step (w1 a.h).stands
 
 abbrev after_ask : Ask → WorldState
 after_ask a = (w2 a).after
 
 -- at its end
 abbrev noted_ask : Ask → WorldState
-noted_ask a = world_ended (noted_beat a.h) (world.Deliver a.h.t.m.writer.peer a.k) (after_ask a)
+noted_ask a = world_ended (noted_beat a.h) (world.Deliver a.h.t.m.writer.peer a.ask.k) (after_ask a)
 
-none2 : (a : Ask) → (w2 a).step.lost ≡ 0
-none2 a =
-    let same = a.same in
-    let more = a.more in
-    let below = a.h.t.below in
-    let first = a.h.same in
-    none_lost a.h.mid.unsent (w2 a).step.lost a.mid.unsent (w2 a).step.counted (omega (arith, same, more))
-    (omega (arith, below, first))
-
-reported : (a : Ask) → WholeReport a.asked.reply
-reported a =
-    whole_report a.h.t.tests a.h.t.config (noted_beat a.h) a.h.t.m.writer.peer a.k a.asked.reply (after_ask a) a.whole
-    (w2 a).step.ruled.step
-
-takes : (a : Ask) → Delivers a.h.t.config a.h.t.tests (noted_beat a.h) a.h.t.m.writer.peer a.first.packet 0
+takes : (a : Ask) → Delivers a.h.t.config a.h.t.tests (noted_beat a.h) a.h.t.m.writer.peer a.ask.first.packet 0
     (after_ask a)
-takes a = record {
-  number = a.k;
-  at = subst (λ (ps : List Packet). slice_get ps (a.k - 1) ≡ Some a.first.packet)
-      (sym (w1 a.h).stands.sent) a.first.at.1;
-  report = (reported a).report;
-  whole = (reported a).none;
-  step =
-      subst (λ (n : ℕ). RuledStep a.h.t.config a.h.t.tests (noted_beat a.h) (world.Deliver a.h.t.m.writer.peer a.k)
-      (Reported (reported a).report) n (after_ask a)) (none2 a)
-      (subst (λ (r : Reply). RuledStep a.h.t.config a.h.t.tests (noted_beat a.h)
-      (world.Deliver a.h.t.m.writer.peer a.k) r (w2 a).step.lost (after_ask a)) (reported a).is (w2 a).step.ruled);
-}
+takes a =
+    subst (λ (n : ℕ). Delivers a.h.t.config a.h.t.tests (noted_beat a.h) a.h.t.m.writer.peer a.ask.first.packet n
+    (after_ask a)) (none_at a.ask (w2 a) a.h.beat.same a.h.t.below) (delivered a.ask (w1 a.h).stands (w2 a))
 
-among2 : (a : Ask) → Contains (hears a.h).step.packets a.first.packet
-among2 a =
-    let above = a.first.above in
-    later_packet a.h.t.mid.sent (hears a.h).step.packets (a.k - 1) a.first.packet (omega (arith, above))
-    (subst (λ (ps : List Packet). slice_get ps (a.k - 1) ≡ Some a.first.packet) (sent1 a.h) a.first.at.1)
+among2 : (a : Ask) → Contains (hears a.h).step.packets a.ask.first.packet
+among2 a = sent_since a.h.t.mid.sent (hears a.h).step.packets a.ask (sent1 a.h)
 
-ask_has : (a : Ask) → (count : ℤ) × HasAckNack a.h.t.config a.first.packet.bytes a.h.t.m.writer a.h.t.m.reader count
+ask_has : (a : Ask) → (count : ℤ) × HasAckNack a.h.t.config a.ask.first.packet.bytes a.h.t.m.writer a.h.t.m.reader count
 unfolding begun begins hears
 ask_has a =
-    ask_found_among (begun a.h) a.first.packet (among2 a)
-    (subst (λ (x : Sought). Has a.first.packet.bytes x) (sym (ask_is a.h)) a.first.is.1)
+    ask_found_among (begun a.h) a.ask.first.packet (among2 a)
+    (subst (λ (x : Sought). Has a.ask.first.packet.bytes x) (sym (ask_is a.h)) a.ask.first.is.1)
 
 asks : (a : Ask) → AsksInRound a.h.t.config a.h.t.tests a.h.t.m.writer a.h.t.m.reader a.h.t.network (after_ask a)
 unfolding begins hears
 asks a = record {
   heard = after_beat a.h;
   begins = begins a.h;
-  ask = a.first.packet;
+  ask = a.ask.first.packet;
   ask_sent = among2 a;
   ask_count = (ask_has a).0;
   ask_of = (ask_has a).1;
@@ -487,14 +493,19 @@ asks a = record {
 abbrev answers : Ask → List Packet
 answers a = (takes a).step.packets
 
-sent2 : (a : Ask) → a.mid.sent ≡ a.h.mid.sent ++ answers a
+sent2 : (a : Ask) → a.ask.mid.sent ≡ a.h.beat.mid.sent ++ answers a
 sent2 a =
-    sent_by a.h.t.config (noted_beat a.h) a.h.mid (world.Deliver a.h.t.m.writer.peer (takes a).number) _ 0
-    (after_ask a) a.mid (w1 a.h).stands (w2 a).stands (takes a).step
+    sent_by a.h.t.config (noted_beat a.h) a.h.beat.mid (world.Deliver a.h.t.m.writer.peer (takes a).number) _ 0
+    (after_ask a) a.ask.mid (w1 a.h).stands (w2 a).stands (takes a).step
 
--- all of them are delivered
-all_answers : (a : Ask) → answers_at a.h.t.m.reader.peer (length a.h.mid.sent) (length a.mid.sent)
-    ≡ map (λ k. world.Deliver a.h.t.m.reader.peer k) (numbers_from (length a.h.mid.sent + 1) (length (answers a)))
+-- each of them is delivered
+abbrev deliveries : Ask → List WorldEvent
+deliveries a =
+    map (λ k. world.Deliver a.h.t.m.reader.peer k) (numbers_from (length a.h.beat.mid.sent + 1) (length (answers a)))
+
+-- and no other
+all_answers : (a : Ask) → answers_at a.h.t.m.reader.peer (length a.h.beat.mid.sent) (length a.ask.mid.sent)
+    ≡ deliveries a
 unfolding asks
 all_answers a =
     let c = a.h.t in
@@ -502,15 +513,15 @@ all_answers a =
     answers_are_few c.config a.h.t.tests c.m.writer c.m.reader c.place (acknowledged c) c.network (after_ask a)
     (core c).stands.is_peer.checked c.s.sound c.s.used c.s.bounded (pair c).pair (stands c) (asks a) in
     let size = ap (λ (ps : List Packet). length ps) (sent2 a) in
-    let parts = length-append a.h.mid.sent (answers a) in
-    let count : min 32 (length a.mid.sent - length a.h.mid.sent) ≡ length (answers a) =
+    let parts = length-append a.h.beat.mid.sent (answers a) in
+    let count : min 32 (length a.ask.mid.sent - length a.h.beat.mid.sent) ≡ length (answers a) =
     omega (arith, most, size, parts) in
-    ap (λ (n : ℕ). map (λ k. world.Deliver c.m.reader.peer k) (numbers_from (length a.h.mid.sent + 1) n)) count
+    ap (λ (n : ℕ). map (λ k. world.Deliver c.m.reader.peer k) (numbers_from (length a.h.beat.mid.sent + 1) n)) count
 
 answered : (a : Ask) (later : List WorldEvent) (rest : List RoundReply) (new : WorldKept) → are_whole rest ≡ true
-    → Answering a.h.t.tests a.h.t.m (length a.h.mid.sent) a.mid later rest new
-    → Ends a.h.t (world.Tick a.h.t.m.writer.peer a.h.t.m.moment ∷ world.Deliver a.h.t.m.reader.peer a.h.k
-    ∷ world.Deliver a.h.t.m.writer.peer a.k ∷ later) (a.h.t.ticked ∷ a.h.heard ∷ a.asked ∷ rest) new
+    → Answering a.h.t.tests a.h.t.m (length a.h.beat.mid.sent) a.ask.mid later rest new
+    → Ends a.h.t (world.Tick a.h.t.m.writer.peer a.h.t.m.moment ∷ world.Deliver a.h.t.m.reader.peer a.h.beat.k
+    ∷ world.Deliver a.h.t.m.writer.peer a.ask.k ∷ later) (a.h.t.ticked ∷ a.h.beat.reply ∷ a.ask.reply ∷ rest) new
 unfolding asks
 answered a later rest new whole next = (
   all.after,
@@ -518,7 +529,7 @@ answered a later rest new whole next = (
     after_tick c,
     c.mid.unsent,
     (w0 c).step,
-    (after_beat a.h, a.h.mid.unsent, (w1 a.h).step, (after_ask a, a.mid.unsent, (w2 a).step, run)),
+    (after_beat a.h, a.h.beat.mid.unsent, (w1 a.h).step, (after_ask a, a.ask.mid.unsent, (w2 a).step, run)),
   ),
   all.stands,
   inr (pair_catches_up c.config a.h.t.tests c.m.writer c.m.reader c.place (acknowledged c) c.network all.after
@@ -528,29 +539,26 @@ answered a later rest new whole next = (
     c : Tick
     c = a.h.t
 
-    steps : AreSteps a.h.t.tests a.mid
-        (map (λ k. world.Deliver c.m.reader.peer k) (numbers_from (length a.h.mid.sent + 1) (length (answers a)))) rest
-        new
-    steps = subst (λ (es : List WorldEvent). AreSteps a.h.t.tests a.mid es rest new) (next.0 ∙ all_answers a) next.1
+    steps : AreSteps a.h.t.tests a.ask.mid (deliveries a) rest new
+    steps = subst (λ (es : List WorldEvent). AreSteps a.h.t.tests a.ask.mid es rest new) (next.0 ∙ all_answers a) next.1
 
     at : (k : ℕ) (p : Packet) → slice_get (answers a) k ≡ Some p
-        → slice_get a.mid.sent (length a.h.mid.sent + 1 + k - 1) ≡ Some p
+        → slice_get a.ask.mid.sent (length a.h.beat.mid.sent + 1 + k - 1) ≡ Some p
     at k p is =
-        let index : length a.h.mid.sent + k ≡ length a.h.mid.sent + 1 + k - 1 = omega arith in
-        subst (λ (i : ℕ). slice_get a.mid.sent i ≡ Some p) index
-        (subst (λ (ps : List Packet). slice_get ps (length a.h.mid.sent + k) ≡ Some p) (sym (sent2 a))
-        (get_later a.h.mid.sent (answers a) k p is))
+        let index : length a.h.beat.mid.sent + k ≡ length a.h.beat.mid.sent + 1 + k - 1 = omega arith in
+        subst (λ (i : ℕ). slice_get a.ask.mid.sent i ≡ Some p) index
+        (subst (λ (ps : List Packet). slice_get ps (length a.h.beat.mid.sent + k) ≡ Some p) (sym (sent2 a))
+        (get_later a.h.beat.mid.sent (answers a) k p is))
 
-    all : Ran a.h.t.tests c.config (noted_ask a) a.mid
-        (map (λ k. world.Deliver c.m.reader.peer k) (numbers_from (length a.h.mid.sent + 1) (length (answers a)))) rest
-        new (λ x. DeliversAll c.config a.h.t.tests (noted_ask a) c.m.reader.peer (answers a) x)
+    all : Ran a.h.t.tests c.config (noted_ask a) a.ask.mid (deliveries a) rest new
+        (λ x. DeliversAll c.config a.h.t.tests (noted_ask a) c.m.reader.peer (answers a) x)
     all =
-        deliver_all c.config c.m.reader.peer (length a.h.mid.sent + 1) (answers a) (noted_ask a) a.mid rest new
+        deliver_all c.config c.m.reader.peer (length a.h.beat.mid.sent + 1) (answers a) (noted_ask a) a.ask.mid rest new
         (omega arith) at whole steps (w2 a).stands
 
-    run : RuledRun c.config a.h.t.tests (noted_ask a) a.mid.unsent later (replies_of rest) all.after new.unsent
+    run : RuledRun c.config a.h.t.tests (noted_ask a) a.ask.mid.unsent later (replies_of rest) all.after new.unsent
     run =
-        subst (λ (es : List WorldEvent). RuledRun c.config a.h.t.tests (noted_ask a) a.mid.unsent es
+        subst (λ (es : List WorldEvent). RuledRun c.config a.h.t.tests (noted_ask a) a.ask.mid.unsent es
         (replies_of rest) all.after new.unsent) (sym (next.0 ∙ all_answers a)) all.run
 
     round : IsRepairRound c.config a.h.t.tests c.m.writer c.m.reader c.network all.after
@@ -558,84 +566,29 @@ answered a later rest new whole next = (
 
 -- ---- the stages
 
--- what is so of replies that were found whole
-whole_as : (replies rest : List RoundReply) (r : RoundReply) → replies ≡ r ∷ rest → are_whole replies ≡ true
-    → (is_whole r.reply ≡ true) × (are_whole rest ≡ true)
-whole_as replies rest r is whole =
-    both_are (is_whole r.reply) (are_whole rest) (subst (λ (rs : List RoundReply). are_whole rs ≡ true) is whole)
-
 after_hearing : (h : Hear) (events : List WorldEvent) (replies : List RoundReply) (new : WorldKept)
-    → are_whole replies ≡ true → new.unsent ≤ h.t.old.unsent → h.t.old.unsent ≤ h.mid.unsent
-    → Acknowledging h.t.tests h.t.m (length h.t.mid.sent) h.mid events replies new
-    → Ends h.t (world.Tick h.t.m.writer.peer h.t.m.moment ∷ world.Deliver h.t.m.reader.peer h.k ∷ events)
-    (h.t.ticked ∷ h.heard ∷ replies) new
+    → are_whole replies ≡ true → new.unsent ≤ h.t.old.unsent → h.t.old.unsent ≤ h.beat.mid.unsent
+    → Acknowledging h.t.tests h.t.m (length h.t.mid.sent) h.beat.mid events replies new
+    → Ends h.t (world.Tick h.t.m.writer.peer h.t.m.moment ∷ world.Deliver h.t.m.reader.peer h.beat.k ∷ events)
+    (h.t.ticked ∷ h.beat.reply ∷ replies) new
 after_hearing h events replies new whole same more next =
-    ⊎_elim
-    (λ f. ends_as h.t (before ++ events) before (h.t.ticked ∷ h.heard ∷ replies) (h.t.ticked ∷ h.heard ∷ []) new h.mid
-    (ap (λ (es : List WorldEvent). before ++ es) f.0) (ap (λ (rs : List RoundReply). h.t.ticked ∷ h.heard ∷ rs) f.1) f.2
-    (no_ask h f.3))
-    (λ f.
-    let all = whole_as replies f.4 f.1 f.8 whole in
-    let w = went h.t.config (noted_beat h) h.mid (world.Deliver h.t.m.writer.peer f.0) f.1 f.2 f.6 (w1 h).stands in
-    let rest = unsent_on h.t.tests h.t.config (ended w) f.2 f.3 f.4 new f.9.1 w.stands in
-    let a : Ask =
-    record {
-      h = h;
-      k = f.0;
-      asked = f.1;
-      mid = f.2;
-      first = f.5;
-      step = f.6;
-      whole = all.0;
-      same = omega (arith, rest, same);
-      more = more;
-    } in
-    ends_as h.t (before ++ events) (before ++ world.Deliver h.t.m.writer.peer f.0 ∷ f.3)
-    (h.t.ticked ∷ h.heard ∷ replies) (h.t.ticked ∷ h.heard ∷ f.1 ∷ f.4) new new
-    (ap (λ (es : List WorldEvent). before ++ es) f.7)
-    (ap (λ (rs : List RoundReply). h.t.ticked ∷ h.heard ∷ rs) f.8) refl (answered a f.3 f.4 new all.1 f.9))
-    next
-  where
-    before : List WorldEvent
-    before = world.Tick h.t.m.writer.peer h.t.m.moment ∷ world.Deliver h.t.m.reader.peer h.k ∷ []
+    stage_delivers h.t.config (noted_beat h) (IsTo h.t.m.writer.peer (ask_of h)) (length h.t.mid.sent)
+    h.t.m.writer.peer h.t.old.unsent (Answering h.t.tests h.t.m (length h.beat.mid.sent)) h.beat.mid events replies new
+    (λ es rs n. Ends h.t (world.Tick h.t.m.writer.peer h.t.m.moment ∷ world.Deliver h.t.m.reader.peer h.beat.k ∷ es)
+    (h.t.ticked ∷ h.beat.reply ∷ rs) n) (w1 h).stands same more (λ mid es rs a. a.1) (no_ask h)
+    (λ ask later rest all above a. answered (record { h = h; ask = ask }) later rest new all a) next whole
 
 after_ticking : (t : Tick) (events : List WorldEvent) (replies : List RoundReply) (new : WorldKept)
     → are_whole replies ≡ true → new.unsent ≤ t.old.unsent → t.old.unsent ≤ t.mid.unsent
     → Beating t.tests t.m (length t.old.sent) t.mid events replies new
     → Ends t (world.Tick t.m.writer.peer t.m.moment ∷ events) (t.ticked ∷ replies) new
 after_ticking t events replies new whole same more next =
-    ⊎_elim
-    (λ f. ends_as t (tick ∷ events) (tick ∷ []) (t.ticked ∷ replies) (t.ticked ∷ []) new t.mid
-    (ap (λ (es : List WorldEvent). tick ∷ es) f.0) (ap (λ (rs : List RoundReply). t.ticked ∷ rs) f.1) f.2
-    (no_beat t f.3))
-    (λ f.
-    let all = whole_as replies f.4 f.1 f.8 whole in
-    let w = went t.config (noted_tick t) t.mid (world.Deliver t.m.reader.peer f.0) f.1 f.2 f.6 (w0 t).stands in
-    let steps : AreSteps t.tests f.2 f.3 f.4 new = acks_steps t.m (length t.mid.sent) f.2 f.3 f.4 new f.9 in
-    let rest = unsent_on t.tests t.config (ended w) f.2 f.3 f.4 new steps w.stands in
-    let one =
-    unsent_on t.tests t.config (noted_tick t) t.mid (world.Deliver t.m.reader.peer f.0 ∷ []) (f.1 ∷ []) f.2
-    (f.2, f.6, refl) (w0 t).stands in
-    let h : Hear =
-    record {
-      t = t;
-      k = f.0;
-      heard = f.1;
-      mid = f.2;
-      first = f.5;
-      step = f.6;
-      whole = all.0;
-      same = omega (arith, rest, same);
-      more = more;
-    } in
-    ends_as t (tick ∷ events) (tick ∷ world.Deliver t.m.reader.peer f.0 ∷ f.3) (t.ticked ∷ replies)
-    (t.ticked ∷ f.1 ∷ f.4) new new
-    (ap (λ (es : List WorldEvent). tick ∷ es) f.7) (ap (λ (rs : List RoundReply). t.ticked ∷ rs) f.8) refl
-    (after_hearing h f.3 f.4 new all.1 same (omega (arith, one, more)) f.9))
-    next
-  where
-    tick : WorldEvent
-    tick = world.Tick t.m.writer.peer t.m.moment
+    stage_delivers t.config (noted_tick t) (IsTo t.m.reader.peer (sought.Heartbeat t.m.pair.writer))
+    (length t.old.sent) t.m.reader.peer t.old.unsent (Acknowledging t.tests t.m (length t.mid.sent)) t.mid events
+    replies new (λ es rs n. Ends t (world.Tick t.m.writer.peer t.m.moment ∷ es) (t.ticked ∷ rs) n) (w0 t).stands same
+    more (λ mid es rs a. acks_steps t.m (length t.mid.sent) mid es rs new a) (no_beat t)
+    (λ beat later rest all above a. after_hearing (record { t = t; beat = beat }) later rest new all same above a) next
+    whole
 
 -- ---- the round
 
@@ -652,9 +605,6 @@ ends {tests} old m ticked mid events replies new known tick beats config network
     steps : AreSteps tests mid events replies new
     steps = beats_steps m (length old.sent) mid events replies new beats
 
-    w : Went tests config network old (world.Tick m.writer.peer m.moment) ticked.reply mid
-    w = went config network old (world.Tick m.writer.peer m.moment) ticked mid tick s
-
     hindered : IsHindered network m.writer m.reader (answer_of old m place place (ticked ∷ replies))
         → EndsSo tests config network old m place (world.Tick m.writer.peer m.moment ∷ events) (ticked ∷ replies) new
     hindered why =
@@ -666,11 +616,9 @@ ends {tests} old m ticked mid events replies new known tick beats config network
     good : are_whole (ticked ∷ replies) ≡ true → new.unsent ≤ old.unsent → old.unsent < 2 ^ 64 - 1
         → EndsSo tests config network old m place (world.Tick m.writer.peer m.moment ∷ events) (ticked ∷ replies) new
     good whole same below =
-        let all = both_are (is_whole ticked.reply) (are_whole replies) whole in
-        let rest = unsent_on tests config (ended w) mid events replies new steps w.stands in
-        let one =
-        unsent_on tests config network old (world.Tick m.writer.peer m.moment ∷ []) (ticked ∷ []) mid
-        (mid, tick, refl) s in
+        let w =
+        first_whole config network old (world.Tick m.writer.peer m.moment) ticked mid events replies new old.unsent
+        tick steps s whole same (omega arith) in
         let t : Tick = record {
           tests = tests;
           config = config;
@@ -684,11 +632,11 @@ ends {tests} old m ticked mid events replies new known tick beats config network
           at = at;
           known = known config network s;
           step = tick;
-          whole = all.0;
-          same = omega (arith, rest, same);
+          whole = w.whole;
+          same = w.same;
           below = below;
         } in
-        after_ticking t events replies new all.1 same one beats
+        after_ticking t events replies new w.rest same w.more beats
 
     all_sent : are_whole (ticked ∷ replies) ≡ true → (b : Bool) → has_unsent old.unsent (ticked ∷ replies) ≡ b
         → EndsSo tests config network old m place (world.Tick m.writer.peer m.moment ∷ events) (ticked ∷ replies) new

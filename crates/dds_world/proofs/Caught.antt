@@ -37,7 +37,7 @@ use Rattle.dds_core.proofs.Lists.{element}
 use Rattle.dds_world.specs.declared.round.RoundReply.{RoundReply}
 use Rattle.dds_world.specs.Round.{IsStep, AreSteps, HasNone, has_unsent, is_whole, are_whole, replies_of}
 use Rattle.dds_world.specs.WorldStanding.{WorldKept, StandsFor}
-use Rattle.dds_world.proofs.RunSteps.{Went, went_by}
+use Rattle.dds_world.proofs.RunSteps.{Went, ended, went_by}
 
 -- ---- the peers
 
@@ -130,16 +130,16 @@ whole_tick tests config old peer now (Reported report) new whole (inr h) = let r
 whole_tick tests config old peer now reply new whole step = absurd cc
 
 -- a delivery for which memory was found is reported as whole
-pub record WholeReport (reply : Reply) : Type 0 where
-  pub report : Report
-  pub is : reply ≡ Reported report
-  pub none : report.refused ≡ None
+record WholeReport (reply : Reply) : Type 0 where
+  report : Report
+  is : reply ≡ Reported report
+  none : report.refused ≡ None
 
 not_some : (o : Option ℕ) → not (is_some o) ≡ true → o ≡ None
 not_some None h = refl
 not_some (Some n) h = absurd cc
 
-pub whole_report : (tests : AllTests)
+whole_report : (tests : AllTests)
     → (config : Config) (old : WorldState) (peer k : ℕ) (reply : Reply) (new : WorldState) → is_whole reply ≡ true
     → WorldStep config tests old (world.Deliver peer k) reply new → WholeReport reply
 whole_report tests config old peer k Done new whole (inl h) =
@@ -181,17 +181,21 @@ pub record Ran (tests : AllTests) (config : Config) (network : WorldState) (old 
   pub stands : StandsFor new config after
   pub then : Then after
 
+-- a run of no step
+ran_none : {tests : AllTests} → (config : Config) (network : WorldState) (old new : WorldKept)
+    {Then : WorldState → Type 0} → new ≡ old → StandsFor old config network → Then network
+    → Ran tests config network old [] [] new Then
+ran_none config network old new same s so = record {
+  after = network;
+  run = (refl, ap (λ (k : WorldKept). k.unsent) same);
+  stands = subst (λ (k : WorldKept). StandsFor k config network) (sym same) s;
+  then = so;
+}
+
 pub ran : {tests : AllTests} → (config : Config) (network : WorldState) (old : WorldKept) (events : List WorldEvent)
     (replies : List RoundReply) (new : WorldKept) → AreSteps tests old events replies new → StandsFor old config network
     → Ran tests config network old events replies new (λ x. Unit {0})
-ran config network old [] [] new same s =
-    record {
-      after = network;
-      run = (refl, ap (λ (k : WorldKept). k.unsent) same);
-      stands = subst
-          (λ (k : WorldKept). StandsFor k config network) (sym same) s;
-      then = tt;
-    }
+ran config network old [] [] new same s = ran_none config network old new same s tt
 ran config network old (e ∷ es) (r ∷ rs) new h s =
     let w = went config network old e r h.0 h.1 s in
     let rest = ran config (world_ended network e w.after) h.0 es rs new h.2 w.stands in
@@ -215,6 +219,32 @@ unsent_on tests config network old (e ∷ es) (r ∷ rs) new h s =
     omega (arith, first, rest)
 unsent_on tests config network old [] (r ∷ rs) new h s = absurd h
 unsent_on tests config network old (e ∷ es) [] new h s = absurd h
+
+-- memory was found for this step, and for those after it, and after it as many are counted as unsent as these
+pub record FirstWhole (unsent : ℕ) (reply : RoundReply) (mid : WorldKept) (replies : List RoundReply) : Type 0 where
+  pub whole : is_whole reply.reply ≡ true
+  pub rest : are_whole replies ≡ true
+  pub same : mid.unsent ≤ unsent
+  pub more : unsent ≤ mid.unsent
+
+-- so it is with the first of steps that are whole, where no more are counted in the end
+pub first_whole : {tests : AllTests}
+    → (config : Config) (network : WorldState) (old : WorldKept) (ev : WorldEvent) (reply : RoundReply)
+    (mid : WorldKept) (events : List WorldEvent) (replies : List RoundReply) (new : WorldKept) (unsent : ℕ)
+    → IsStep tests old ev reply mid → AreSteps tests mid events replies new → StandsFor old config network
+    → are_whole (reply ∷ replies) ≡ true → new.unsent ≤ unsent → unsent ≤ old.unsent
+    → FirstWhole unsent reply mid replies
+first_whole {tests} config network old ev reply mid events replies new unsent step steps s whole high low =
+    let all = both_are (is_whole reply.reply) (are_whole replies) whole in
+    let w = went config network old ev reply mid step s in
+    let first = no_less old.unsent w.step.lost mid.unsent w.step.counted s.few in
+    let rest = unsent_on tests config (ended w) mid events replies new steps w.stands in
+    record {
+      whole = all.0;
+      rest = all.1;
+      same = omega (arith, rest, high);
+      more = omega (arith, first, low);
+    }
 
 -- where no reply counts more, no more are counted in the end
 none_of : (a b : Bool) → (a || b) ≡ false → (a ≡ false) × (b ≡ false)
@@ -250,13 +280,7 @@ pub deliver_all : {tests : AllTests}
     → Ran tests config network old (map (λ k. world.Deliver peer k) (numbers_from first (length packets))) replies new
     (λ x. DeliversAll config tests network peer packets x)
 deliver_all config peer first [] network old [] new low there whole same s =
-    record {
-      after = network;
-      run = (refl, ap (λ (k : WorldKept). k.unsent) same);
-      stands = subst
-          (λ (k : WorldKept). StandsFor k config network) (sym same) s;
-      then = refl;
-    }
+    ran_none config network old new same s refl
 deliver_all config peer first [] network old (r ∷ rs) new low there whole h s = absurd h
 deliver_all config peer first (p ∷ ps) network old [] new low there whole h s = absurd h
 deliver_all config peer first (p ∷ ps) network old (r ∷ rs) new low there whole h s =
