@@ -13,7 +13,6 @@ use Rattle.dds_notices.specs.declared.mask.StatusMask.{StatusMask}
 use Rattle.dds_notices.specs.declared.notice.Notice.{Notice}
 use Rattle.dds_notices.specs.Listeners.{Slotted, listener_place}
 use Rattle.dds_notices.specs.Notices.{Recording}
-use Rattle.dds_model.specs.declared.call.Call.{Call}
 use Rattle.dds_model.specs.declared.event.Event.{Event}
 use Rattle.dds_model.specs.declared.event.Event.TheVariants as event
 use Rattle.dds_model.specs.declared.event.WorldEvent.{WorldEvent}
@@ -35,9 +34,9 @@ use Rattle.dds_core.specs.Sending.{AreMessages, Sends as CoreSends}
 use Rattle.dds_core.specs.Standing.{IsSound}
 use Rattle.dds_core.proofs.Lists.{map-get, map-set_same}
 use Rattle.dds_core.proofs.Results.{err_as, ok_as}
-use Rattle.dds_world.specs.Acting.{Counts, IsCopy, IsQuiet, StepsAt}
+use Rattle.dds_world.specs.Acting.{Acts, Counts, IsCopy, IsQuiet, RuledSteps, StepsAt}
 use Rattle.dds_world.specs.Holding.{ActsIn, Adds, Held, IsOfPeer, RefusesFilter, RefusesListener, Sets, StepsIn, filters_of, kept_of, recordings, tests_by, tests_in}
-use Rattle.dds_world.specs.WorldStanding.{Posts, StandsFor}
+use Rattle.dds_world.specs.WorldStanding.{Announces, Posts, StandsFor}
 use Rattle.dds_world.proofs.Recorded.{are_told, stand_for}
 use Rattle.dds_world.proofs.Replaced.{peer_stands, with_peer}
 use Rattle.dds_world.proofs.Ruled.{called, delivered, not_delivered, ticked}
@@ -336,28 +335,30 @@ module _ {F L : Type 0} (notices : L → List Notice) (capacity : L → ℕ) whe
 
 -- ---- events as steps
 
+-- an event of a peer is a step in the network, where it is a step of it, and what is sent at it is said
+stepped_in : {F L : Type 0} (meaning : F → Key → List ℕ → Bool) (notices : L → List Notice) (capacity : L → ℕ)
+    (old new : Held F L) (i : ℕ) (ev own : Event) (given : WorldEvent) (reply : Reply) → own ≡ ev
+    → (Acts (tests_in meaning old) (kept_of notices capacity old) i own reply (kept_of notices capacity new)
+    → RuledSteps (tests_in meaning old) (kept_of notices capacity old) given reply (kept_of notices capacity new))
+    → (Acts (tests_in meaning old) (kept_of notices capacity old) i own reply (kept_of notices capacity new)
+    → Announces (kept_of notices capacity old) given reply (kept_of notices capacity new))
+    → ActsIn meaning notices capacity old i ev reply new → StepsIn meaning notices capacity old given reply new
+stepped_in meaning notices capacity old new i ev own given reply is steps sends a =
+    let h = subst (λ (e : Event). ActsIn meaning notices capacity old i e reply new) (sym is) a in
+    record { steps = steps h.acts; filters = h.filters; sends = sends h.acts }
+
 pub happened_in : {F L : Type 0} (meaning : F → Key → List ℕ → Bool) (notices : L → List Notice) (capacity : L → ℕ)
     (old new : Held F L) (i peer : ℕ) (ev : Event) (given : WorldEvent) (reply : Reply) → peer ≡ i + 1
     → IsOfPeer given peer ev
     → ActsIn meaning notices capacity old i ev reply new → StepsIn meaning notices capacity old given reply new
 happened_in meaning notices capacity old new i peer ev (world.Call number call) reply is of a =
-    let own = subst (λ (e : Event). ActsIn meaning notices capacity old i e reply new) (sym of.1) a in
-    record {
-      steps = called (kept_of notices capacity old) (kept_of notices capacity new) i number call reply
-          (of.0 ∙ is) own.acts;
-      filters = own.filters;
-      sends = called_sends (kept_of notices capacity old)
-          (kept_of notices capacity new) i number call reply (of.0 ∙ is) own.acts;
-    }
+    stepped_in meaning notices capacity old new i ev (event.Call call) (world.Call number call) reply of.1
+    (called (kept_of notices capacity old) (kept_of notices capacity new) i number call reply (of.0 ∙ is))
+    (called_sends (kept_of notices capacity old) (kept_of notices capacity new) i number call reply (of.0 ∙ is)) a
 happened_in meaning notices capacity old new i peer ev (world.Tick number now) reply is of a =
-    let own = subst (λ (e : Event). ActsIn meaning notices capacity old i e reply new) (sym of.1) a in
-    record {
-      steps = ticked (kept_of notices capacity old) (kept_of notices capacity new) i number now reply
-          (of.0 ∙ is) own.acts;
-      filters = own.filters;
-      sends = ticked_sends (kept_of notices capacity old)
-          (kept_of notices capacity new) i number now reply (of.0 ∙ is) own.acts;
-    }
+    stepped_in meaning notices capacity old new i ev (event.Tick now) (world.Tick number now) reply of.1
+    (ticked (kept_of notices capacity old) (kept_of notices capacity new) i number now reply (of.0 ∙ is))
+    (ticked_sends (kept_of notices capacity old) (kept_of notices capacity new) i number now reply (of.0 ∙ is)) a
 happened_in meaning notices capacity old new i peer ev (world.Deliver number packet) reply is of a = absurd of
 
 pub delivered_in : {F L : Type 0} (meaning : F → Key → List ℕ → Bool) (notices : L → List Notice) (capacity : L → ℕ)
@@ -365,13 +366,10 @@ pub delivered_in : {F L : Type 0} (meaning : F → Key → List ℕ → Bool) (n
     → ActsIn meaning notices capacity old i (event.Deliver bytes) reply new
     → StepsIn meaning notices capacity old (world.Deliver (i + 1) (j + 1)) reply new
 delivered_in meaning notices capacity old new i j bytes reply copy a =
-    record {
-      steps = delivered (kept_of notices capacity old)
-          (kept_of notices capacity new) i j bytes reply copy a.acts;
-      filters = a.filters;
-      sends = delivered_sends
-          (kept_of notices capacity old) (kept_of notices capacity new) i (i + 1) (j + 1) bytes reply a.acts;
-    }
+    stepped_in meaning notices capacity old new i (event.Deliver bytes) (event.Deliver bytes)
+    (world.Deliver (i + 1) (j + 1)) reply refl
+    (delivered (kept_of notices capacity old) (kept_of notices capacity new) i j bytes reply copy)
+    (delivered_sends (kept_of notices capacity old) (kept_of notices capacity new) i (i + 1) (j + 1) bytes reply) a
 
 -- no peer has the number
 outside : {F L : Type 0} (notices : L → List Notice) (capacity : L → ℕ) (old : Held F L) (peer count number : ℕ)
