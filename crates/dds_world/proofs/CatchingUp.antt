@@ -57,7 +57,7 @@ use Rattle.dds_world.proofs.RunSteps.{Went, runs_so}
 -- ---- a packet that is delivered
 
 -- Of the packets that were sent since so many had been, the first such one is delivered at this peer. Memory was found
--- for it, and nothing was lost: before it no fewer are counted as unsent than these, and after it no more.
+-- for it, and nothing was lost: before it no fewer than so many are counted as unsent, and after it no more.
 record Delivered (tests : AllTests) (Is : Packet → Type 0) (from peer unsent : ℕ) (old : WorldKept) : Type 0 where
   k : ℕ
   reply : RoundReply
@@ -68,7 +68,7 @@ record Delivered (tests : AllTests) (Is : Packet → Type 0) (from peer unsent :
   same : mid.unsent ≤ unsent
   more : unsent ≤ old.unsent
 
--- it is so in a stage whose replies are whole and which lost nothing, unless there is no such packet
+-- in a stage whose replies are whole, and in which nothing was lost, there is no such packet, or it is delivered so
 stage_delivers : {tests : AllTests}
     → (config : Config) (network : WorldState) (Is : Packet → Type 0) (from peer unsent : ℕ)
     (Next : WorldKept → List WorldEvent → List RoundReply → WorldKept → Type 0) (old : WorldKept)
@@ -108,18 +108,18 @@ delivered : {tests : AllTests} {Is : Packet → Type 0} {from peer unsent : ℕ}
 delivered {peer = peer} {old = old} d {config} {network} s w =
     delivers config network old peer d.k d.first.packet d.reply.reply d.mid s d.first.at.1 d.whole w
 
--- at which nothing was lost
-none_at : {tests : AllTests} {Is : Packet → Type 0} {from peer unsent : ℕ} {old : WorldKept}
+-- nothing was lost at it
+nothing_lost : {tests : AllTests} {Is : Packet → Type 0} {from peer unsent : ℕ} {old : WorldKept}
     (d : Delivered tests Is from peer unsent old) {config : Config} {network : WorldState}
     (w : Went tests config network old (world.Deliver peer d.k) d.reply.reply d.mid) → old.unsent ≤ unsent
     → unsent < 2 ^ 64 - 1 → w.step.lost ≡ 0
-none_at {old = old} d w most below =
+nothing_lost {old = old} d w most below =
     let same = d.same in
     let more = d.more in
     none_lost old.unsent w.step.lost d.mid.unsent w.step.counted (omega (arith, same, more))
     (omega (arith, below, most))
 
--- of a packet that was sent since then
+-- its packet is one of those that were sent since
 sent_since : {tests : AllTests} {Is : Packet → Type 0} {peer unsent : ℕ} {old : WorldKept}
     (before packets : List Packet) (d : Delivered tests Is (length before) peer unsent old)
     → old.sent ≡ before ++ packets
@@ -348,6 +348,7 @@ no_beat t none = (
 
 -- ---- the HEARTBEAT was heard
 
+-- its delivery, after such a tick
 record Hear : Type 0 where
   t : Tick
   beat : Delivered t.tests (IsTo t.m.reader.peer (sought.Heartbeat t.m.pair.writer)) (length t.old.sent)
@@ -400,7 +401,7 @@ begun h =
     (core h.t).stands.is_peer.checked h.t.s.sound h.t.s.used h.t.s.bounded (pair h.t).pair (stands h.t) (begins h)
 
 none1 : (h : Hear) → (w1 h).step.lost ≡ 0
-none1 h = none_at h.beat (w1 h) h.t.same h.t.below
+none1 h = nothing_lost h.beat (w1 h) h.t.same h.t.below
 
 sent1 : (h : Hear) → h.beat.mid.sent ≡ h.t.mid.sent ++ (hears h).step.packets
 sent1 h =
@@ -445,6 +446,7 @@ no_ask h none = (
 
 -- ---- the ACKNACK was taken
 
+-- its delivery, after that of the HEARTBEAT
 record Ask : Type 0 where
   h : Hear
   ask : Delivered h.t.tests (IsTo h.t.m.writer.peer (ask_of h)) (length h.t.mid.sent) h.t.m.writer.peer h.t.old.unsent
@@ -467,7 +469,7 @@ takes : (a : Ask) → Delivers a.h.t.config a.h.t.tests (noted_beat a.h) a.h.t.m
     (after_ask a)
 takes a =
     subst (λ (n : ℕ). Delivers a.h.t.config a.h.t.tests (noted_beat a.h) a.h.t.m.writer.peer a.ask.first.packet n
-    (after_ask a)) (none_at a.ask (w2 a) a.h.beat.same a.h.t.below) (delivered a.ask (w1 a.h).stands (w2 a))
+    (after_ask a)) (nothing_lost a.ask (w2 a) a.h.beat.same a.h.t.below) (delivered a.ask (w1 a.h).stands (w2 a))
 
 among2 : (a : Ask) → Contains (hears a.h).step.packets a.ask.first.packet
 among2 a = sent_since a.h.t.mid.sent (hears a.h).step.packets a.ask (sent1 a.h)
@@ -498,12 +500,12 @@ sent2 a =
     sent_by a.h.t.config (noted_beat a.h) a.h.beat.mid (world.Deliver a.h.t.m.writer.peer (takes a).number) _ 0
     (after_ask a) a.ask.mid (w1 a.h).stands (w2 a).stands (takes a).step
 
--- each of them is delivered
+-- the deliveries of all of them
 abbrev deliveries : Ask → List WorldEvent
 deliveries a =
     map (λ k. world.Deliver a.h.t.m.reader.peer k) (numbers_from (length a.h.beat.mid.sent + 1) (length (answers a)))
 
--- and no other
+-- the events after the ACKNACK are those
 all_answers : (a : Ask) → answers_at a.h.t.m.reader.peer (length a.h.beat.mid.sent) (length a.ask.mid.sent)
     ≡ deliveries a
 unfolding asks
@@ -566,6 +568,7 @@ answered a later rest new whole next = (
 
 -- ---- the stages
 
+-- a round whose HEARTBEAT was heard ends so
 after_hearing : (h : Hear) (events : List WorldEvent) (replies : List RoundReply) (new : WorldKept)
     → are_whole replies ≡ true → new.unsent ≤ h.t.old.unsent → h.t.old.unsent ≤ h.beat.mid.unsent
     → Acknowledging h.t.tests h.t.m (length h.t.mid.sent) h.beat.mid events replies new
@@ -578,6 +581,7 @@ after_hearing h events replies new whole same more next =
     (h.t.ticked ∷ h.beat.reply ∷ rs) n) (w1 h).stands same more (λ mid es rs a. a.1) (no_ask h)
     (λ ask later rest all above a. answered (record { h = h; ask = ask }) later rest new all a) next whole
 
+-- a round after such a tick ends so
 after_ticking : (t : Tick) (events : List WorldEvent) (replies : List RoundReply) (new : WorldKept)
     → are_whole replies ≡ true → new.unsent ≤ t.old.unsent → t.old.unsent ≤ t.mid.unsent
     → Beating t.tests t.m (length t.old.sent) t.mid events replies new

@@ -347,6 +347,7 @@ stepped_in meaning notices capacity old new i ev own given reply is steps sends 
     let h = subst (λ (e : Event). ActsIn meaning notices capacity old i e reply new) (sym is) a in
     record { steps = steps h.acts; filters = h.filters; sends = sends h.acts }
 
+-- a call or a tick
 pub happened_in : {F L : Type 0} (meaning : F → Key → List ℕ → Bool) (notices : L → List Notice) (capacity : L → ℕ)
     (old new : Held F L) (i peer : ℕ) (ev : Event) (given : WorldEvent) (reply : Reply) → peer ≡ i + 1
     → IsOfPeer given peer ev
@@ -361,6 +362,7 @@ happened_in meaning notices capacity old new i peer ev (world.Tick number now) r
     (ticked_sends (kept_of notices capacity old) (kept_of notices capacity new) i number now reply (of.0 ∙ is)) a
 happened_in meaning notices capacity old new i peer ev (world.Deliver number packet) reply is of a = absurd of
 
+-- the delivery of a packet that was sent
 pub delivered_in : {F L : Type 0} (meaning : F → Key → List ℕ → Bool) (notices : L → List Notice) (capacity : L → ℕ)
     (old new : Held F L) (i j : ℕ) (bytes : List ℕ) (reply : Reply) → IsCopy old.sent j bytes
     → ActsIn meaning notices capacity old i (event.Deliver bytes) reply new

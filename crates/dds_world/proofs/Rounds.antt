@@ -166,6 +166,7 @@ BySteps tests Next new =
     (mid : WorldKept) (events : List WorldEvent) (replies : List RoundReply) → Next mid events replies new
     → AreSteps tests mid events replies new
 
+-- a stage goes by steps, where what follows does
 stage_steps : {tests : AllTests}
     → (Is : Packet → Type 0) (from peer : ℕ) (Next : WorldKept → List WorldEvent → List RoundReply → WorldKept → Type 0)
     (old : WorldKept) (events : List WorldEvent) (replies : List RoundReply) (new : WorldKept) → BySteps tests Next new
@@ -256,6 +257,7 @@ stage_in_round {tests} config network {wanted} from peer Next old events replies
     (subst (λ (x : Sought). IsFirst (IsTo peer x) new.sent from (length old.sent) k) is there)
     (step_on tests config network old ev reply.reply mid step.step s) step.sent on) h
 
+-- the stage after the HEARTBEAT is that of a round
 after_heartbeat : {tests : AllTests}
     → (config : Config) (network known : WorldState) (m : Matched) (from : ℕ) (old : WorldKept)
     (events : List WorldEvent) (replies : List RoundReply) (new : WorldKept) → Knows config known m
@@ -269,6 +271,7 @@ after_heartbeat {tests} config network known m from old events replies new k s h
     (λ number reply mid later rest first on sent a.
     (refl, first, subst (λ (n : ℕ). later ≡ answers_at m.reader.peer (length old.sent) n) (sym sent) a.0)) h
 
+-- the stage after the tick is that of a round
 after_tick : {tests : AllTests} → (config : Config) (network known : WorldState) (m : Matched) (from : ℕ)
     (old : WorldKept) (events : List WorldEvent) (replies : List RoundReply) (new : WorldKept) → Knows config known m
     → StandsFor old config network
