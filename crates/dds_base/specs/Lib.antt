@@ -20,3 +20,4 @@ pub mod Faults
 pub mod FaultAt
 pub mod Places
 pub mod Selection
+pub mod Counts

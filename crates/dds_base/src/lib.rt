@@ -38,6 +38,7 @@ mod config;
 mod config_check;
 mod config_fault;
 mod config_rules;
+mod count;
 mod datum;
 mod endianness;
 mod entity;
@@ -63,6 +64,7 @@ pub use change::{Change, ChangeKind};
 pub use code::Code;
 pub use config::{Config, PeerConfig, ReaderConfig, WriterConfig};
 pub use config_fault::{ConfigFault, ConfigPlace, ConfigRule};
+pub use count::is_later;
 pub use datum::{
     Datum, DatumRef, MAX_VALUE, decode_datum, decode_datum_key, decode_datum_ref, decode_key,
     encode_datum, encode_key, take_key,

@@ -6,11 +6,11 @@ use Rattle.std.proofs.lemmas.Bool.Decides.{nat_tests}
 use Rattle.std.proofs.lemmas.List.{length-map}
 use Rattle.std.proofs.lemmas.List.Elements.{All-from_recursion, recursion_from_All}
 use Rattle.std.proofs.lemmas.Option.{same_Some}
-use Rattle.rtps_reader.specs.Tracked.{is_later}
-use Rattle.rtps_writer.specs.Acknack.{applied, is_applied, is_new_count, if_later, newly_acknowledged}
+use Rattle.rtps_writer.specs.Acknack.{applied, is_applied, if_later, newly_acknowledged}
 use Rattle.rtps_writer.specs.WriterState.{WriterState, acknowledged_by}
 use Rattle.dds_model.specs.declared.endpoint.Endpoint.{Endpoint}
 use Rattle.std.specs.Option.{option_map}
+use Rattle.dds_base.specs.Counts.{is_later}
 use Rattle.dds_model.specs.declared.reply.Move.TheVariants.{Acknowledged}
 use Rattle.dds_model.specs.Part.{ReaderProxy, Writer, same_endpoint, row_of, acknowledged_of, with_acknowledged, writer_changes}
 use Rattle.dds_core.specs.Answering.{acknowledged_moves}
@@ -202,19 +202,14 @@ state_applied w answered new e n p base count only counted =
     ∙ ap (λ (m : ℕ). set (map (λ (x : ReaderProxy). x.acknowledged) rows) n (max m base)) (sym at))
     (counts_set answered new rows e n p (max p.acknowledged base) (Some count) counted.here counted.others only)
 
-is_later_is : (o : Option ℤ) (count : ℤ) → is_new_count o count ≡ is_later o count
-is_later_is None count = refl
-is_later_is (Some last) count = refl
-
 -- the ACKNACK is applied where it is taken
 pub applied_is : (w : Writer) (answered : Endpoint → Option ℤ) (e : Endpoint) (n : ℕ) (p : ReaderProxy) (base : ℕ)
     (count : ℤ) → IsOnly w.readers e n p
     → is_applied (state_of w answered) n base count
     ≡ (is_later (answered e) count && nat_le base (length (writer_changes w) + 1))
 applied_is w answered e n p base count only =
-    ap (λ (o : Option ℤ). is_new_count o count && nat_le base (length (writer_changes w) + 1))
+    ap (λ (o : Option ℤ). is_later o count && nat_le base (length (writer_changes w) + 1))
     (count_at answered w.readers e n p only)
-    ∙ ap (λ (b : Bool). b && nat_le base (length (writer_changes w) + 1)) (is_later_is (answered e) count)
 
 set_index : (xs : List ℕ) (n to : ℕ) → n < length xs → slice_index (set xs n to) n ≡ to
 set_index [] n to lt = absurd (omega (arith, lt))

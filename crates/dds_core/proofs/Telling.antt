@@ -1,14 +1,13 @@
 -- What a reader is told, as its proxies and its store answer it.
 use Rattle.std.proofs.Common.{◌≡◌, ℕ, Bool, true, false, List, Result, Ok, refl, sym, subst, inl, inr}
 use Rattle.std.specs.Prelude.{IsOk, IfOk}
-use Rattle.dds_base.specs.declared.change.Change.{Change}
 use Rattle.dds_base.specs.declared.code.Code.{Code}
 use Rattle.dds_base.specs.declared.happening.Happening.{Happening}
+use Rattle.dds_base.specs.Counts.{is_later}
 use Rattle.dds_cache.specs.Standing.{qos_of}
-use Rattle.rtps_sets.specs.NumberSet.{NumberSet}
 use Rattle.rtps_reader.specs.declared.step.HeartbeatSeen.{HeartbeatSeen}
 use Rattle.rtps_reader.specs.declared.step.Step.{Step}
-use Rattle.rtps_reader.specs.Tracked.{Tracked, is_later}
+use Rattle.rtps_reader.specs.Tracked.{Tracked}
 use Rattle.rtps_reader.specs.Answer.{IsIdle}
 use Rattle.rtps_reader.specs.Reader.{Tracks, OthersStay, match_at, TakesHeartbeat}
 use Rattle.dds_core.specs.declared.reader_end.Ready.{Ready}

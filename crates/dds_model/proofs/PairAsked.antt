@@ -4,7 +4,7 @@ use Rattle.std.proofs.Common.{refl, subst, ap, sym, ◌∙◌, inl, inr, ⊎_eli
 use Rattle.std.specs.Option.{option_map}
 use Rattle.dds_base.specs.declared.guid.EntityId.{EntityId}
 use Rattle.dds_base.specs.Kept.{numbers_from}
-use Rattle.rtps_reader.specs.Tracked.{is_later}
+use Rattle.dds_base.specs.Counts.{is_later}
 use Rattle.rtps_wire.specs.declared.acknack.AckNack.{AckNack as AckNackBody}
 use Rattle.rtps_wire.specs.declared.submessage.Submessage.TheVariants.{AckNack}
 use Rattle.dds_model.specs.declared.endpoint.Endpoint.{Endpoint}

@@ -5,7 +5,8 @@ use Rattle.dds_base.specs.declared.change.Change.{Change}
 use Rattle.dds_base.specs.declared.config.Config.{Config}
 use Rattle.dds_base.specs.Checked.{check_refusal}
 use Rattle.dds_base.specs.Places.{Match}
-use Rattle.rtps_reader.specs.Tracked.{Tracked, is_later, with_heartbeat}
+use Rattle.dds_base.specs.Counts.{is_later}
+use Rattle.rtps_reader.specs.Tracked.{Tracked, with_heartbeat}
 use Rattle.rtps_wire.specs.declared.heartbeat.Heartbeat.{Heartbeat as HeartbeatBody}
 use Rattle.rtps_wire.specs.Messages.{IsWritable, spelling_of}
 use Rattle.dds_model.specs.declared.endpoint.Endpoint.{Endpoint}

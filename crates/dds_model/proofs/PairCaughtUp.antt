@@ -13,7 +13,6 @@ use Rattle.dds_base.specs.Checked.{check_refusal}
 use Rattle.dds_base.specs.Places.{coming}
 use Rattle.dds_base.specs.Presence.{has_room}
 use Rattle.rtps_reader.specs.declared.step.AckNackDue.{AckNackDue}
-use Rattle.rtps_reader.specs.Tracked.{is_later}
 use Rattle.rtps_reader.specs.Answer.{AnswersHeartbeat, Tells, answered}
 use Rattle.rtps_wire.specs.Messages.{IsWritable}
 use Rattle.rtps_writer.specs.declared.answer.Answer.{Answer}
@@ -40,6 +39,7 @@ use Rattle.dds_model.proofs.FreshCounts.{sent_written}
 use Rattle.dds_model.proofs.PairAnswered.{asking, took_acknowledged, took_seat, took_standing, answers_of, have_changes, all_answered, post, all_sent, each_writable, ungrouped, group_due, Repaired, answers_delivered}
 use Rattle.dds_model.proofs.PairFew.{few_groups}
 use Rattle.dds_base.specs.Kept.{is_kept}
+use Rattle.dds_base.specs.Counts.{is_later}
 use Rattle.std.proofs.lemmas.List.{length-map}
 use Rattle.dds_model.proofs.PairAsked.{Asking, Took}
 use Rattle.dds_model.proofs.PairHeard.{writer_prefix, reader_prefix, HasAsked, ask_found, delivered_takes, delivered_others, reader_entities}

@@ -9,7 +9,8 @@ use Rattle.dds_base.specs.declared.guid.EntityId.{EntityId}
 use Rattle.dds_base.specs.declared.guid.GuidPrefix.{GuidPrefix}
 use Rattle.dds_base.specs.Kept.{change_at, numbers_from}
 use Rattle.dds_base.specs.Places.{Match}
-use Rattle.rtps_reader.specs.Tracked.{with_data, with_gap, is_later}
+use Rattle.dds_base.specs.Counts.{is_later}
+use Rattle.rtps_reader.specs.Tracked.{with_data, with_gap}
 use Rattle.rtps_sets.specs.NumberSet.{empty_from}
 use Rattle.rtps_wire.specs.declared.data.Data.{Data as DataBody}
 use Rattle.rtps_wire.specs.declared.gap.Gap.{Gap as GapBody}

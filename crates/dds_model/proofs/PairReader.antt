@@ -5,8 +5,9 @@ use Rattle.std.proofs.lemmas.Option.{same_Some}
 use Rattle.dds_base.specs.declared.happening.Happening.{Happening}
 use Rattle.dds_base.specs.declared.qos.ReaderQos.{ReaderQos}
 use Rattle.dds_base.specs.Places.{Match}
+use Rattle.dds_base.specs.Counts.{is_later}
 use Rattle.rtps_reader.specs.declared.step.AckNackDue.{AckNackDue}
-use Rattle.rtps_reader.specs.Tracked.{Tracked, with_data, with_gap, with_heartbeat, is_later}
+use Rattle.rtps_reader.specs.Tracked.{Tracked, with_data, with_gap, with_heartbeat}
 use Rattle.rtps_reader.specs.Advance.{Advances}
 use Rattle.rtps_reader.specs.Answer.{AnswersHeartbeat, answered}
 use Rattle.rtps_wire.specs.declared.data.Data.{Data as DataBody}

@@ -12,9 +12,10 @@ use Rattle.dds_base.specs.Checked.{check_refusal}
 use Rattle.dds_base.specs.Places.{Position, coming}
 use Rattle.dds_base.specs.Presence.{has_room}
 use Rattle.dds_base.proofs.PlaceLaws.{goes_nowhere}
+use Rattle.dds_base.specs.Counts.{is_later}
 use Rattle.rtps_sets.specs.NumberSet.{NumberSet, has_number}
 use Rattle.rtps_sets.specs.Window.{is_in_window}
-use Rattle.rtps_reader.specs.Tracked.{Slot, Missing, Held, Irrelevant, Tracked, is_missing, is_passable, is_passable_slot, is_named, is_later, with_data, with_gap, with_heartbeat}
+use Rattle.rtps_reader.specs.Tracked.{Slot, Missing, Held, Irrelevant, Tracked, is_missing, is_passable, is_passable_slot, is_named, with_data, with_gap, with_heartbeat}
 use Rattle.rtps_reader.specs.Advance.{known}
 use Rattle.rtps_reader.specs.Answer.{answered}
 use Rattle.rtps_wire.specs.declared.data.Data.{Data as DataBody}

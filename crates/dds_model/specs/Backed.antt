@@ -5,7 +5,8 @@
 use Rattle.std.specs.Prelude.{◌≡◌, ℕ, ◌≤◌, true, false, List, Some, ℤ, Contains}
 use Rattle.dds_base.specs.declared.change.Change.{Change}
 use Rattle.dds_base.specs.declared.config.Config.{Config}
-use Rattle.rtps_reader.specs.Tracked.{Held, Tracked, is_passable, is_later}
+use Rattle.dds_base.specs.Counts.{is_later}
+use Rattle.rtps_reader.specs.Tracked.{Held, Tracked, is_passable}
 use Rattle.dds_model.specs.declared.endpoint.Endpoint.{Endpoint}
 use Rattle.dds_model.specs.Claims.{ChangeIs, MayPass, Claimed}
 use Rattle.dds_model.specs.Numbered.{HasNumber}

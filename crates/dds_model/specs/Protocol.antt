@@ -9,6 +9,7 @@ use Rattle.dds_base.specs.declared.happening.Happening.{Happening}
 use Rattle.dds_base.specs.declared.happening.Happening.TheVariants.{Heard as WasHeard}
 use Rattle.dds_base.specs.declared.happening.PassedRun.{PassedRun}
 use Rattle.dds_base.specs.Kept.{numbers_from, is_kept}
+use Rattle.dds_base.specs.Counts.{is_later}
 use Rattle.rtps_wire.specs.declared.acknack.AckNack.{AckNack as AckNackBody}
 use Rattle.rtps_wire.specs.declared.heartbeat.Heartbeat.{Heartbeat as HeartbeatBody}
 use Rattle.rtps_wire.specs.declared.message.Message.{Message}
@@ -17,7 +18,7 @@ use Rattle.rtps_wire.specs.declared.submessage.Submessage.TheVariants.{Data, Hea
 use Rattle.rtps_wire.specs.Content.{change_in}
 use Rattle.rtps_wire.specs.Messages.{ReadsMessage}
 use Rattle.rtps_reader.specs.declared.step.AckNackDue.{AckNackDue}
-use Rattle.rtps_reader.specs.Tracked.{Tracked, fresh, with_data, with_gap, with_heartbeat, is_later}
+use Rattle.rtps_reader.specs.Tracked.{Tracked, fresh, with_data, with_gap, with_heartbeat}
 use Rattle.rtps_reader.specs.Advance.{Advances}
 use Rattle.rtps_reader.specs.Answer.{AnswersHeartbeat, answered}
 use Rattle.rtps_writer.specs.declared.answer.Answer.{Answer}

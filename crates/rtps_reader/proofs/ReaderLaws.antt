@@ -9,10 +9,11 @@ use Rattle.dds_base.specs.declared.code.Code.{Code}
 use Rattle.dds_base.specs.declared.happening.Happening.{Happening}
 use Rattle.dds_base.specs.declared.qos.ReaderQos.{ReaderQos}
 use Rattle.dds_base.specs.Places.{Match}
+use Rattle.dds_base.specs.Counts.{is_later}
 use Rattle.rtps_reader.specs.declared.step.HeartbeatSeen.{HeartbeatSeen}
 use Rattle.rtps_reader.specs.declared.step.Step.{Step}
 use Rattle.rtps_reader.specs.declared.writer_proxy.WriterProxy.{WriterProxy}
-use Rattle.rtps_reader.specs.Tracked.{Tracked, SameTracked, is_later}
+use Rattle.rtps_reader.specs.Tracked.{Tracked, SameTracked}
 use Rattle.rtps_reader.specs.Advance.{Advances, Moves}
 use Rattle.rtps_reader.specs.Answer.{HeartbeatMoves, IsIdle, Accepts}
 use Rattle.rtps_reader.specs.declared.writer_proxy.Source.{Source}

@@ -2,7 +2,7 @@
 -- the window as it stood when the submessage came.
 --
 -- RTPS 2.5, 8.4.10 (WriterProxy, ChangeFromWriter), 8.3.8 (Data, Gap, Heartbeat).
-use Rattle.std.specs.Prelude.{◌≡◌, ℕ, Bool, true, false, ◌&&◌, ◌||◌, ◌==◌, nat_lt, nat_le, max, ℤ, int_lt, Option, None}
+use Rattle.std.specs.Prelude.{◌≡◌, ℕ, Bool, true, false, ◌&&◌, ◌||◌, ◌==◌, nat_lt, nat_le, max, ℤ, Option, None}
 use Rattle.std.specs.Prelude.{Some, if◌then◌else◌}
 use Rattle.dds_base.specs.declared.change.Change.{Change}
 use Rattle.rtps_sets.specs.Window.{is_in_window}
@@ -62,11 +62,6 @@ is_named start list n = (nat_le start n && nat_lt n list.base) || has_number lis
 -- what a GAP names is irrelevant, as far as it is of the window and nothing is known of it
 abbrev pub with_gap : ℕ → NumberSet → Tracked → Tracked
 with_gap start list t = record t { slot = λ n. if is_named start list n && is_open t n then Irrelevant else t.slot n }
-
--- a count is greater than the one of the last accepted HEARTBEAT; the first always is
-abbrev pub is_later : Option ℤ → ℤ → Bool
-is_later None count = true
-is_later (Some last) count = int_lt last count
 
 -- an accepted HEARTBEAT tells its firstSN and its count
 abbrev pub with_heartbeat : ℕ → ℤ → Tracked → Tracked

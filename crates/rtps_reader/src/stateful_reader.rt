@@ -5,7 +5,8 @@
 ghost use Rattle.std.specs.Prelude.{◌≡◌, ℕ, ◌+◌, ◌-◌, ◌^◌, ◌<◌, ◌≤◌, List, length, true, false, OnOk, IsOk, IfOk, IfErr};
 ghost use Rattle.dds_base.specs.declared.code.Code.TheVariants.{Memory};
 ghost use Rattle.dds_base.specs.declared.happening.Happening.{Happening};
-ghost use Rattle.rtps_reader.specs.Tracked.{Tracked, fresh, is_later, with_data, with_gap};
+ghost use Rattle.dds_base.specs.Counts.{is_later};
+ghost use Rattle.rtps_reader.specs.Tracked.{Tracked, fresh, with_data, with_gap};
 ghost use Rattle.rtps_reader.specs.Answer.{IsIdle};
 ghost use Rattle.rtps_reader.specs.Reader.{Tracks, count_of, IsReady, AllStay, match_at, MovesOn, TakesHeartbeat, KeepsRest};
 

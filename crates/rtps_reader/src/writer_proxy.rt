@@ -10,16 +10,17 @@ ghost use Rattle.dds_base.specs.declared.happening.Happening.{Happening};
 ghost use Rattle.dds_base.specs.Ownership.{IsMatched};
 ghost use Rattle.dds_base.specs.Presence.{has_room};
 ghost use Rattle.dds_base.specs.Places.{coming};
+ghost use Rattle.dds_base.specs.Counts.{is_later};
 ghost use Rattle.rtps_sets.specs.Window.{mark_of, window_place, room_of, can_mark};
 ghost use Rattle.rtps_sets.specs.declared.window.Mark.TheVariants as mark;
-ghost use Rattle.rtps_reader.specs.Tracked.{Tracked, Held, fresh, is_named, is_passable, is_later, with_data, with_gap, with_heartbeat, SameTracked};
+ghost use Rattle.rtps_reader.specs.Tracked.{Tracked, Held, fresh, is_named, is_passable, with_data, with_gap, with_heartbeat, SameTracked};
 ghost use Rattle.rtps_reader.specs.Advance.{ArePassable, PassesOver, HandsOn, Moves, run_of, passed_from};
 ghost use Rattle.rtps_reader.specs.Proxy.{match_of, held_change, stamped, tracked, mark_named, IsSound, CanMove, IsProxyReady, ProxyKeepsRest};
 ghost use Rattle.rtps_reader.specs.Answer.{AnswersHeartbeat, HeartbeatMoves, IsIdle, IsSayable, answered, heard_after};
 
 use crate::sink::Sink;
 use crate::step::{AckNackDue, HeartbeatSeen, Step};
-use dds_base::{Arrival, Change, Code, Handle, Moment, PassedRun, Sequence, Sn};
+use dds_base::{Arrival, Change, Code, Handle, Moment, PassedRun, Sequence, Sn, is_later};
 use rtps_sets::{Mark, SnSet, Window};
 use std::alloc::Global;
 use std::mem;
@@ -409,16 +410,6 @@ impl WriterProxy {
         self.count = Some(heartbeat.count);
     }
 
-    /// Whether a count is greater than that of the last accepted HEARTBEAT.
-    fn is_later(&self, count: i32) -> bool
-        ensures { result ≡ is_later self.now.count count }
-    {
-        match self.count {
-            None => true,
-            Some(last) => last < count,
-        }
-    }
-
     /// What to answer to an accepted HEARTBEAT. It uses up a count.
     fn acknowledge(&mut self, last: Sn, is_final: bool) -> Option<AckNackDue>
         requires sound { IsSound self.old }
@@ -543,7 +534,7 @@ impl WriterProxy {
         ensures keeps { ProxyKeepsRest S.stands S.qos S.spare
             self.old self.new sink.old sink.new result }
     {
-        if !self.is_later(heartbeat.count) {
+        if !is_later(self.count, heartbeat.count) {
             return Ok(Step {
                 to: self.window.place(),
                 passed: Sequence::from_vec(Vec::new(self.alloc)),

@@ -4,22 +4,23 @@ use Rattle.std.specs.Prelude.{if◌then◌else◌, min, nat_le, nat_lt, ◌^◌,
 use Rattle.std.proofs.lemmas.List.{get_or_default, length-set}
 use Rattle.dds_base.specs.Kept.{acknowledge}
 use Rattle.dds_base.specs.Written.{counts_of}
+use Rattle.dds_base.specs.Counts.{is_later}
 use Rattle.dds_history.specs.Standing.{Held, StandsFor as HistoryStandsFor}
 use Rattle.rtps_sets.specs.NumberSet.{NumberSet}
 use Rattle.rtps_writer.specs.declared.answer.Answer.{Answer}
-use Rattle.rtps_writer.specs.Acknack.{acknack_answers, after_acknack, answers_after, applied, is_applied, is_new_count, newly_acknowledged}
+use Rattle.rtps_writer.specs.Acknack.{acknack_answers, after_acknack, answers_after, applied, is_applied, newly_acknowledged}
 use Rattle.rtps_writer.specs.Standing.{Kept, StandsFor, reader_count}
 use Rattle.rtps_writer.specs.WriterState.{WriterState, counts_due, history_of, last_of}
 
 -- whether it is applied, by the last count that is kept
 pub is_applied-at : (kept : Kept) (s : WriterState) (reader base : ℕ) (count : ℤ) (last : Option ℤ) → StandsFor kept s
     → reader < reader_count kept → last ≡ get_or kept.counts reader last
-    → is_applied s reader base count ≡ (is_new_count last count && nat_le base (last_of s + 1))
+    → is_applied s reader base count ≡ (is_later last count && nat_le base (last_of s + 1))
 is_applied-at kept s reader base count last given within is =
     let at : get_or s.counts reader None ≡ last =
     ap (λ (cs : List (Option ℤ)). get_or cs reader None) (sym given.counts)
     ∙ (sym (get_or_default kept.counts reader last None within) ∙ sym is) in
-    ap (λ (o : Option ℤ). is_new_count o count && nat_le base (last_of s + 1)) at
+    ap (λ (o : Option ℤ). is_later o count && nat_le base (last_of s + 1)) at
 
 after-applied : (s : WriterState) (reader base : ℕ) (count : ℤ) → is_applied s reader base count ≡ true
     → after_acknack s reader base count ≡ applied s reader base count

@@ -1,19 +1,15 @@
 -- What an ACKNACK does to a writer, and what it is answered (RTPS 2.5, 8.3.8: AckNack; 8.4.9: ReaderProxy).
-use Rattle.std.specs.Prelude.{ℕ, ◌+◌, ◌&&◌, Bool, true, List, [], get_or, slice_set, nat_le, nat_lt, int_lt, Option, None, Some, ℤ, if◌then◌else◌}
+use Rattle.std.specs.Prelude.{ℕ, ◌+◌, ◌&&◌, Bool, List, [], get_or, slice_set, nat_le, nat_lt, Option, None, Some, ℤ, if◌then◌else◌}
 use Rattle.dds_base.specs.Kept.{acknowledge, is_kept}
+use Rattle.dds_base.specs.Counts.{is_later}
 use Rattle.rtps_sets.specs.NumberSet.{NumberSet}
 use Rattle.rtps_writer.specs.declared.answer.Answer.{Answer}
 use Rattle.rtps_writer.specs.Answers.{answers_to, requested}
 use Rattle.rtps_writer.specs.WriterState.{WriterState, acknowledged_by, history_of, last_of}
 
--- the count is greater than the last one; the first is always new
-abbrev pub is_new_count : Option ℤ → ℤ → Bool
-is_new_count None count = true
-is_new_count (Some last) count = int_lt last count
-
 -- an ACKNACK of this reader is applied: its count is new, and its base is no more than one past the last number
 abbrev pub is_applied : WriterState → ℕ → ℕ → ℤ → Bool
-is_applied s reader base count = is_new_count (get_or s.counts reader None) count && nat_le base (last_of s + 1)
+is_applied s reader base count = is_later (get_or s.counts reader None) count && nat_le base (last_of s + 1)
 
 -- the writer once it was applied: the reader has acknowledged all below the base, and the count is the last one
 abbrev pub applied : WriterState → ℕ → ℕ → ℤ → WriterState

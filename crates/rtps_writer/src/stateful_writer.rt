@@ -8,9 +8,10 @@ ghost use Rattle.dds_base.specs.declared.code.Code.TheVariants.{Memory};
 ghost use Rattle.dds_base.specs.Kept.{WriterHistory, append_refusal, first_kept, kept_change};
 ghost use Rattle.dds_base.specs.Refusal.{Refuses};
 ghost use Rattle.dds_base.specs.Written.{Registered, Changed, LookedAt, is_key_registered, liveliness_lost_status};
+ghost use Rattle.dds_base.specs.Counts.{is_later};
 ghost use Rattle.dds_history.specs.Standing.{StandsFor as HistoryStandsFor};
 ghost use Rattle.rtps_sets.specs.NumberSet.{span};
-ghost use Rattle.rtps_writer.specs.Acknack.{acknack_answers, after_acknack, answers_after, applied, if_later, is_applied, is_new_count, newly_acknowledged};
+ghost use Rattle.rtps_writer.specs.Acknack.{acknack_answers, after_acknack, answers_after, applied, if_later, is_applied, newly_acknowledged};
 ghost use Rattle.rtps_writer.specs.Liveliness.{assert_refusal, asserted, heartbeat_asserted};
 ghost use Rattle.rtps_writer.specs.Standing.{StandsFor, reader_count};
 ghost use Rattle.rtps_writer.specs.WriterState.{WriterState, acknowledged_by, entering, heartbeat_due, history_of, is_reader_behind, last_of, opening, ticked};
@@ -19,7 +20,7 @@ use crate::answer::{Answer, Answered, put_answers};
 use crate::heartbeat::HeartbeatDue;
 use crate::liveliness::Liveliness;
 use crate::registration::{is_registered, note, register, reserve};
-use dds_base::{Change, Code, HistoryQos, Key, LivelinessLostStatus, Moment, Sn};
+use dds_base::{Change, Code, HistoryQos, Key, LivelinessLostStatus, Moment, Sn, is_later};
 use dds_history::History;
 use rtps_sets::SnSet;
 use std::alloc::Global;
@@ -27,16 +28,6 @@ use std::marker::Model;
 
 /// The greatest count of a HEARTBEAT.
 const MAX_COUNT: u32 = 2_147_483_647;
-
-/// Whether a count is greater than the last one; the first is always new.
-fn is_new_count(last: Option<i32>, count: i32) -> bool
-    ensures { result ≡ is_new_count last count }
-{
-    match last {
-        Some(last) => last < count,
-        None => true,
-    }
-}
 
 /// The second number, where it is greater.
 fn if_later(before: Sn, after: Sn) -> Option<Sn>
@@ -384,7 +375,7 @@ impl StatefulWriter {
         ensures { (s : WriterState) → StandsFor self.now s
             → result ≡ is_applied s reader base count }
     {
-        is_new_count(self.counts[reader], count)
+        is_later(self.counts[reader], count)
             && base.number() <= self.history.last().number().saturating_add(1)
     }
 
