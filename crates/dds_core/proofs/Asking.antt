@@ -11,7 +11,7 @@ use Rattle.dds_cache.specs.Standing.{qos_of}
 use Rattle.dds_model.specs.declared.call.Call.TheVariants as call
 use Rattle.dds_model.specs.declared.event.Event.TheVariants as event
 use Rattle.dds_model.specs.declared.reply.Reply.TheVariants.{KeyValue, InstanceHandle, Refused}
-use Rattle.dds_model.specs.Refusals.{look_refusal, key_of, key_refusal}
+use Rattle.dds_model.specs.Refusals.{reader_refusal, key_of, key_refusal}
 use Rattle.dds_model.specs.Numbered.{has_element}
 use Rattle.dds_model.specs.Part.{Part, own_reader}
 use Rattle.dds_model.specs.Peer.{Peer}
@@ -105,7 +105,7 @@ pub handle_told : (kept : PeerKept) (config : Config) (peer : Peer) (reader i : 
     → Follows kept config peer (event.Call (call.LookupInstance reader key)) (silent (InstanceHandle handle))
 handle_told kept config peer reader i k key handle s is lt at says =
     let a : IsAsked kept config peer reader i k = record { stands = s; number = is; within = lt; at = at } in
-    let known : look_refusal peer.part reader ≡ None =
+    let known : reader_refusal peer.part reader ≡ None =
     ap (λ (b : Bool). if not b then Some BadParameter else None) (known_reader kept config peer reader i k a) in
     unchanging_call kept config peer s (call.LookupInstance reader key)
     (InstanceHandle handle) refl (

@@ -21,7 +21,7 @@ use Rattle.dds_model.specs.declared.reply.Reply.{Reply}
 use Rattle.dds_model.specs.declared.reply.Reply.TheVariants.{Done, LivelinessLost, Refused}
 use Rattle.dds_model.specs.declared.endpoint.Endpoint.{Endpoint}
 use Rattle.dds_model.specs.Ticks.{tick_refusal, after_tick, is_deadly, RefusesTick, TickStep}
-use Rattle.dds_model.specs.Refusals.{register_refusal, write_refusal, dispose_refusal, unregister_refusal, change_refusal, change_made, unregister_kind, writer_look_refusal}
+use Rattle.dds_model.specs.Refusals.{writer_refusal, write_refusal, dispose_refusal, unregister_refusal, change_refusal, change_made, unregister_kind}
 use Rattle.dds_model.specs.Calls.{Effect, nothing, writes, effect, effect_of, IsDoneUnless, Answers, CallStep}
 use Rattle.dds_model.specs.Numbered.{has_element}
 use Rattle.dds_conditions.specs.Watched.{no_filters}
@@ -184,7 +184,7 @@ unregistered part w key known none = (
 
 -- a register
 
-pub good_register : (part : Part) (w : ℕ) → has_element part.rtps.writers w ≡ true → register_refusal part w ≡ None
+pub good_register : (part : Part) (w : ℕ) → has_element part.rtps.writers w ≡ true → writer_refusal part w ≡ None
 good_register part w known = ap (λ (b : Bool). if not b then Some BadParameter else None) known
 
 pub register_memory : (part : Part) (w : ℕ) (key : Key) → has_element part.rtps.writers w ≡ true
@@ -221,7 +221,7 @@ looks : (kept : PeerKept) (i : ℕ) (k k' : WriterKept) (status : LivelinessLost
     (silent (LivelinessLost status))
 looks kept i k k' status config peer s at lt tells enters =
     let count = s.writers.count in
-    let known : writer_look_refusal peer.part (suc i) ≡ None =
+    let known : writer_refusal peer.part (suc i) ≡ None =
     ap (λ (b : Bool). if not b then Some BadParameter else None)
     (there_is peer.part.rtps.writers i (omega (arith, lt, count))) in
     let told : status ≡ liveliness_lost_status (own_writer peer.part (suc i)).lease

@@ -13,7 +13,7 @@ use Rattle.dds_model.specs.declared.call.Call.TheVariants as call
 use Rattle.dds_model.specs.declared.event.Event.TheVariants as event
 use Rattle.dds_model.specs.declared.reply.Reply.{Reply}
 use Rattle.dds_model.specs.declared.reply.Reply.TheVariants.{SampleLost, LivelinessChanged}
-use Rattle.dds_model.specs.Refusals.{look_refusal}
+use Rattle.dds_model.specs.Refusals.{reader_refusal}
 use Rattle.dds_model.specs.Calls.{Answers, after_look, effect, effect_of, nothing, seen_lost, seen_liveliness}
 use Rattle.dds_conditions.specs.Watched.{no_filters}
 use Rattle.dds_model.specs.Part.{Reader, Seen, own_reader}
@@ -31,7 +31,7 @@ record IsLook (c : Call) (kept : PeerKept) (peer : Peer) (i : ℕ) (reply : Repl
   effect : effect_of peer.part c reply ≡ nothing
 
 known_reader : (kept : PeerKept) (i : ℕ) (config : Config) (peer : Peer) → StandsFor kept config peer
-    → i < length kept.readers → look_refusal peer.part (suc i) ≡ None
+    → i < length kept.readers → reader_refusal peer.part (suc i) ≡ None
 known_reader kept i config peer s lt =
     let count = s.readers.count in
     ap (λ (b : Bool). if not b then Some BadParameter else None)

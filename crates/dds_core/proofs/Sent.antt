@@ -38,7 +38,7 @@ use Rattle.dds_core.proofs.Destinations.{IsPeer, is_peer, IsReaderOf, is_reader,
 abbrev data_of : Sender → ℕ → DataContent → Submessage
 data_of sender number content =
     Data (record {
-      reader_id = record { 0 = 0 ∷ 0 ∷ 0 ∷ 0 ∷ [] };
+      reader_id = every_reader;
       writer_id = sender.entity;
       writer_sn = number;
       content = content;

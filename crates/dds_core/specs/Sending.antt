@@ -1,4 +1,5 @@
--- What a peer sends.
+-- What a peer sends. What `tools/believed --names` lists of it has to be believed; inner functions alone cite the
+-- rest.
 --
 -- RTPS 2.5, 8.4.9 (the behaviour of a reliable StatefulWriter), 8.3.7 (what stands in a message).
 use Rattle.std.specs.Prelude.{◌≡◌, ◌≢◌, ◌⊎◌, ℕ, ◌+◌, ◌++◌, ℤ, length, Contains, AllPairs, IsSome, List, [], ◌∷◌, Option, Some, None, set, slice_get}
@@ -19,7 +20,7 @@ use Rattle.dds_model.specs.declared.event.Output.{Output}
 use Rattle.dds_model.specs.declared.event.Packet.{Packet}
 use Rattle.dds_model.specs.Part.{ReaderProxy, Writer, history_of, own_writer, acknowledged_of, writer_changes}
 use Rattle.dds_model.specs.Calls.{Effect, writes, effect_of}
-use Rattle.dds_model.specs.Claims.{ChangeIs, Claims}
+use Rattle.dds_model.specs.Claims.{ChangeIs, Claims, every_reader}
 use Rattle.dds_model.specs.Peer.{Peer}
 use Rattle.dds_model.specs.Part.{peers_of}
 use Rattle.dds_model.specs.declared.reply.Reply.{Reply}
@@ -82,7 +83,7 @@ announcement sender to number content = record {
   prefix = sender.prefix;
   submessages = InfoDst to.prefix ∷ InfoTs (Some sender.moment)
       ∷ Data (record {
-        reader_id = record { 0 = 0 ∷ 0 ∷ 0 ∷ 0 ∷ [] };
+        reader_id = every_reader;
         writer_id = sender.entity;
         writer_sn = number;
         content = content;

@@ -33,7 +33,7 @@ use Rattle.dds_model.specs.Numbered.{numbered, with_numbered, HasNumber}
 use Rattle.dds_model.specs.Part.{same_endpoint, WriterProxy, Reader, Dds, Part, no_reader, no_part, own_writer, own_proxies, own_reader, at_reader, at_writer, row_of, place_of, with_place, with_heard, with_acknowledged, publication_among, writer_changes, nothing_seen, Seen}
 use Rattle.dds_model.specs.Moves.{Grounds, as_to, match_of, IsMatchedAt, position_at, AreMoves, Places, Hears, DeliveryStep}
 use Rattle.dds_model.specs.Ticks.{TickStep, reader_ticked}
-use Rattle.dds_model.specs.Refusals.{register_refusal, write_refusal, dispose_refusal, unregister_refusal}
+use Rattle.dds_model.specs.Refusals.{writer_refusal, write_refusal, dispose_refusal, unregister_refusal}
 use Rattle.dds_model.specs.Calls.{Effect, nothing, writes, effect, effect_of, after_look, seen_lost, seen_liveliness, with_happening, IsDoneUnless, AnswersAccess, AnswersByCondition, AnswersLook, IsAnswered, IsAnsweredInMemory, Answers, CallStep}
 use Rattle.dds_model.specs.Watching.{Test, Tests}
 use Rattle.dds_model.specs.Machine.{Machine, AllTests, part_at, writer_at, place_at, grounds_of, Step}
@@ -333,7 +333,7 @@ by_condition entry same None test old k selection reply new r h a =
 
 answers_came : (tests : Tests) (old : Part) (c : Call) (reply : Reply) (new : Dds) (r : ℕ) → HasNumber old.dds.readers r
     → Answers tests old c reply new → SameCame old.dds new r
-answers_came tests old (Register v key) reply new r h a = done_or_not (register_refusal old v) reply old.dds new r h a
+answers_came tests old (Register v key) reply new r h a = done_or_not (writer_refusal old v) reply old.dds new r h a
 answers_came tests old (Write v key value) reply new r h a =
     done_or_not (write_refusal old v key value) reply old.dds new r h a
 answers_came tests old (Dispose v key) reply new r h a = done_or_not (dispose_refusal old v key) reply old.dds new r h a

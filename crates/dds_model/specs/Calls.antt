@@ -29,7 +29,7 @@ use Rattle.dds_conditions.specs.Watched.{Watched, attach_refusal, conditions_of,
 use Rattle.dds_model.specs.Numbered.{numbered, with_numbered}
 use Rattle.dds_model.specs.Watching.{Test, Tests, condition_refusal, condition_selection, condition_test, query_condition_refusal, read_condition_refusal, status_changes, trigger_value}
 use Rattle.dds_model.specs.Part.{Part, Rtps, Dds, Seen, Reader, Writer, no_writer, own_writer, own_reader}
-use Rattle.dds_model.specs.Refusals.{change_made, unregister_kind, register_refusal, write_refusal, dispose_refusal, unregister_refusal, assert_refusal, access_refusal, key_of, key_refusal, look_refusal, writer_look_refusal}
+use Rattle.dds_model.specs.Refusals.{change_made, unregister_kind, writer_refusal, write_refusal, dispose_refusal, unregister_refusal, assert_refusal, access_refusal, key_of, key_refusal, reader_refusal}
 
 -- the samples that an access of the peer's reader returns
 abbrev pub picked_at : Test → Part → ℕ → Selection → List SamplePosition
@@ -148,7 +148,7 @@ AnswersByCondition entry None test old reader selection reply dds =
 -- What a call answers, and what it does to what the peer's own calls see. A look at a status, a key, a handle and an
 -- assertion need no memory.
 abbrev pub Answers : Tests → Part → Call → Reply → Dds → Type 0
-Answers tests old (Register writer key) reply dds = IsDoneUnless (register_refusal old writer) reply old.dds old.dds dds
+Answers tests old (Register writer key) reply dds = IsDoneUnless (writer_refusal old writer) reply old.dds old.dds dds
 Answers tests old (Write writer key value) reply dds =
     IsDoneUnless (write_refusal old writer key value) reply old.dds old.dds dds
 Answers tests old (Dispose writer key) reply dds =
@@ -167,30 +167,30 @@ Answers tests old (GetKeyValue reader instance) (Refused code) dds =
     (key_refusal old reader instance ≡ Some code) × (dds ≡ old.dds)
 Answers tests old (GetKeyValue reader instance) reply dds = ⊥
 Answers tests old (LookupInstance reader key) (InstanceHandle handle) dds =
-    (look_refusal old reader ≡ None)
+    (reader_refusal old reader ≡ None)
     × (handle ≡ handle_of (own_reader old reader).qos (own_reader old reader).happened key) × (dds ≡ old.dds)
 Answers tests old (LookupInstance reader key) (Refused code) dds =
-    (look_refusal old reader ≡ Some code) × (dds ≡ old.dds)
+    (reader_refusal old reader ≡ Some code) × (dds ≡ old.dds)
 Answers tests old (LookupInstance reader key) reply dds = ⊥
 Answers tests old (GetSampleLost reader) (SampleLost status) dds =
-    (look_refusal old reader ≡ None)
+    (reader_refusal old reader ≡ None)
     × (status ≡ sample_lost_status (own_reader old reader).happened (own_reader old reader).seen.lost)
     × (dds ≡ after_look old reader (seen_lost (own_reader old reader)))
-Answers tests old (GetSampleLost reader) (Refused code) dds = (look_refusal old reader ≡ Some code) × (dds ≡ old.dds)
+Answers tests old (GetSampleLost reader) (Refused code) dds = (reader_refusal old reader ≡ Some code) × (dds ≡ old.dds)
 Answers tests old (GetSampleLost reader) reply dds = ⊥
 Answers tests old (GetLivelinessChanged reader) (LivelinessChanged status) dds =
-    (look_refusal old reader ≡ None)
+    (reader_refusal old reader ≡ None)
     × (status ≡ liveliness_changed_status (own_reader old reader).qos (own_reader old reader).happened
     (own_reader old reader).seen.alive (own_reader old reader).seen.not_alive)
     × (dds ≡ after_look old reader (seen_liveliness (own_reader old reader)))
 Answers tests old (GetLivelinessChanged reader) (Refused code) dds =
-    (look_refusal old reader ≡ Some code) × (dds ≡ old.dds)
+    (reader_refusal old reader ≡ Some code) × (dds ≡ old.dds)
 Answers tests old (GetLivelinessChanged reader) reply dds = ⊥
 Answers tests old (GetLivelinessLost writer) (LivelinessLost status) dds =
-    (writer_look_refusal old writer ≡ None)
+    (writer_refusal old writer ≡ None)
     × (status ≡ liveliness_lost_status (own_writer old writer).lease (own_writer old writer).written) × (dds ≡ old.dds)
 Answers tests old (GetLivelinessLost writer) (Refused code) dds =
-    (writer_look_refusal old writer ≡ Some code) × (dds ≡ old.dds)
+    (writer_refusal old writer ≡ Some code) × (dds ≡ old.dds)
 Answers tests old (GetLivelinessLost writer) reply dds = ⊥
 Answers tests old (ReadByCondition reader scope condition) reply dds =
     AnswersByCondition HasRead (condition_refusal old reader scope condition)

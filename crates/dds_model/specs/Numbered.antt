@@ -1,7 +1,8 @@
 -- Lists whose elements are numbered from 1.
 --
 -- No clause has these numbers: peers, writers, readers and packets go by them here. GUIDs are in RTPS 2.5, 8.2.
-use Rattle.std.specs.Prelude.{ℕ, zero, suc, ◌≤◌, List, get_or, set, length, Bool, ◌&&◌, nat_le, nat_lt}
+use Rattle.std.specs.Prelude.{ℕ, zero, suc, ◌≤◌, List, get_or, set, length, Bool}
+use Rattle.dds_base.specs.Number.{is_number}
 
 -- the element of this number, or the one given where there is none
 abbrev pub numbered : {X : Type 0} → List X → ℕ → X → X
@@ -19,4 +20,4 @@ HasNumber xs n = (1 ≤ n) × (n ≤ length xs)
 
 -- so it is, as a test
 abbrev pub has_element : {X : Type 0} → List X → ℕ → Bool
-has_element xs n = nat_lt 0 n && nat_le n (length xs)
+has_element xs n = is_number n (length xs)

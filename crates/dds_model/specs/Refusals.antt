@@ -30,9 +30,9 @@ unregister_kind autodispose = if autodispose then kind.DisposeUnregister else ki
 abbrev pub change_refusal : Part → ℕ → Change → Option Code
 change_refusal part writer change = append_refusal (history_of (own_writer part writer)) change
 
--- why a register is refused: no such writer
-abbrev pub register_refusal : Part → ℕ → Option Code
-register_refusal part writer = if not (has_element part.rtps.writers writer) then Some BadParameter else None
+-- why a call that names a writer, and nothing that may be wrong besides, is refused: no such writer
+abbrev pub writer_refusal : Part → ℕ → Option Code
+writer_refusal part writer = if not (has_element part.rtps.writers writer) then Some BadParameter else None
 
 -- why a write is refused: no such writer, a value above 1,024 octets, or as its history says
 abbrev pub write_refusal : Part → ℕ → Key → List ℕ → Option Code
@@ -75,10 +75,6 @@ key_refusal part reader instance =
     if not (has_element part.dds.readers reader) || not (is_some (key_of part reader instance)) then Some BadParameter
     else None
 
--- why a look at a status or a handle of the peer's reader is refused: no such reader
-abbrev pub look_refusal : Part → ℕ → Option Code
-look_refusal part reader = if not (has_element part.dds.readers reader) then Some BadParameter else None
-
--- why a look at a status of the peer's writer is refused: no such writer
-abbrev pub writer_look_refusal : Part → ℕ → Option Code
-writer_look_refusal part writer = if not (has_element part.rtps.writers writer) then Some BadParameter else None
+-- why a call that names a reader, and nothing that may be wrong besides, is refused: no such reader
+abbrev pub reader_refusal : Part → ℕ → Option Code
+reader_refusal part reader = if not (has_element part.dds.readers reader) then Some BadParameter else None

@@ -19,6 +19,7 @@ use Rattle.dds_base.specs.StatusFlags.{data_available_at, is_after, turned_at}
 use Rattle.dds_base.specs.Written.{liveliness_lost_status}
 use Rattle.dds_base.specs.Number.{at_number}
 use Rattle.dds_notices.specs.declared.mask.StatusMask.{StatusMask}
+use Rattle.dds_notices.specs.Masks.{sample_lost_bit, data_available_bit, liveliness_lost_bit, liveliness_changed_bit}
 use Rattle.dds_conditions.specs.declared.condition.Cond.{Cond}
 use Rattle.dds_conditions.specs.declared.condition.Cond.TheVariants.{Status, Made}
 use Rattle.dds_conditions.specs.declared.condition.Condition.{Condition}
@@ -51,12 +52,14 @@ bit_if b bit = if b then bit else 0
 
 -- the flagged statuses of a reader, as a mask: SAMPLE_LOST, DATA_AVAILABLE and LIVELINESS_CHANGED (2.3.3)
 abbrev pub reader_statuses : Reader → StatusMask
-reader_statuses r = record
-    { 0 = bit_if (is_lost_flagged r) 128 + (bit_if (is_data_flagged r) 1024 + bit_if (is_turn_flagged r) 4096) }
+reader_statuses r = record {
+  0 = bit_if (is_lost_flagged r) sample_lost_bit
+      + (bit_if (is_data_flagged r) data_available_bit + bit_if (is_turn_flagged r) liveliness_changed_bit);
+}
 
 -- the flagged statuses of a writer, as a mask: LIVELINESS_LOST alone (2.3.3)
 abbrev pub writer_statuses : Writer → StatusMask
-writer_statuses w = record { 0 = bit_if (is_loss_flagged w) 2048 }
+writer_statuses w = record { 0 = bit_if (is_loss_flagged w) liveliness_lost_bit }
 
 -- the flagged statuses of an entity; the participant has none of its own (Entity, get_status_changes)
 abbrev pub status_changes : Part → Entity → StatusMask

@@ -7,12 +7,28 @@ use Rattle.dds_notices.specs.declared.mask.StatusMask.{StatusMask}
 use Rattle.dds_notices.specs.declared.notice.Status.{Status}
 use Rattle.dds_notices.specs.declared.notice.Status.TheVariants.{SampleLost, DataAvailable, LivelinessLost, LivelinessChanged}
 
+-- SAMPLE_LOST_STATUS
+abbrev pub sample_lost_bit : ℕ
+sample_lost_bit = 128
+
+-- DATA_AVAILABLE_STATUS
+abbrev pub data_available_bit : ℕ
+data_available_bit = 1024
+
+-- LIVELINESS_LOST_STATUS
+abbrev pub liveliness_lost_bit : ℕ
+liveliness_lost_bit = 2048
+
+-- LIVELINESS_CHANGED_STATUS
+abbrev pub liveliness_changed_bit : ℕ
+liveliness_changed_bit = 4096
+
 -- the bit of a status, whichever its values are
 abbrev pub status_bit : Status → ℕ
-status_bit (SampleLost values) = 128
-status_bit DataAvailable = 1024
-status_bit (LivelinessLost values) = 2048
-status_bit (LivelinessChanged values) = 4096
+status_bit (SampleLost values) = sample_lost_bit
+status_bit DataAvailable = data_available_bit
+status_bit (LivelinessLost values) = liveliness_lost_bit
+status_bit (LivelinessChanged values) = liveliness_changed_bit
 
 -- the mask names the status
 abbrev pub names : StatusMask → Status → Bool
