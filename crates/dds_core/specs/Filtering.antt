@@ -1,4 +1,5 @@
--- A peer with the filters of its application.
+-- A peer with the filters of its application. What `tools/believed --names` lists of it has to be believed; inner
+-- functions alone cite the rest.
 --
 -- DDS 1.4, 2.2.2.5 (QueryCondition).
 use Rattle.std.specs.Prelude.{◌≡◌, ℕ, ◌+◌, List, [], ◌∷◌, ◌++◌, length, None}

@@ -1,4 +1,5 @@
--- What a peer keeps: what never changes, which the configuration says, and what events change.
+-- What a peer keeps: what never changes, which the configuration says, and what events change. What `tools/believed
+-- --names` lists of it has to be believed; inner functions alone cite the rest.
 --
 -- RTPS 2.5, 8.2 (Participant, Endpoint), 8.4.7 (StatefulWriter, ReaderProxy), 8.4.10 (StatefulReader,
 -- WriterProxy).

@@ -1,4 +1,5 @@
--- What a call at a reader answers by what the reader keeps: an access, a look at a status, a condition's match.
+-- What a call at a reader answers by what the reader keeps: an access, a look at a status, a condition's match. Inner
+-- functions alone cite this: nothing here has to be believed.
 --
 -- DDS 1.4, 2.2.2.5 (read, take; get_sample_lost_status, get_liveliness_changed_status), 2.2.4.1, 2.2.4.2.
 use Rattle.std.specs.Prelude.{◌≡◌, Bool, ℕ, List, length, Result, Ok, Err}

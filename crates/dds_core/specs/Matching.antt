@@ -1,5 +1,6 @@
 -- What a peer knows of the ends that its own are matched with: to which peers a writer sends, and by which names a
--- reader knows its writers.
+-- reader knows its writers. What `tools/believed --names` lists of it has to be believed; inner functions alone cite
+-- the rest.
 --
 -- RTPS 2.5, 8.4.7 (ReaderProxy), 8.4.10 (WriterProxy).
 use Rattle.std.specs.Prelude.{ℕ, ◌+◌, Bool, if◌then◌else◌, List, [], ◌∷◌}

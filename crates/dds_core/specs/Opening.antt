@@ -1,4 +1,5 @@
--- How a peer begins.
+-- How a peer begins. What `tools/believed --names` lists of it has to be believed; inner functions alone cite the
+-- rest.
 --
 -- DDS 1.4, 2.2.3 (policies of matched entities); RTPS 2.5, 8.2 (Participant, Endpoint).
 use Rattle.std.specs.Prelude.{◌≡◌, ℕ, ◌+◌, List, [], length, slice_get, is_some, Option, Some, None, if◌then◌else◌}

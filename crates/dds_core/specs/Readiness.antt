@@ -1,5 +1,6 @@
--- Which of a peer's readers a submessage names, what it tells them, that it is made ready for each of them, with memory for all
--- that it does, before the first of them is told, and what a reader does with it.
+-- Which of a peer's readers a submessage names, what it tells them, that it is made ready for each of them, with
+-- memory for all that it does, before the first of them is told, and what a reader does with it. Inner functions alone
+-- cite this: nothing here has to be believed.
 --
 -- RTPS 2.5, 8.3.4 (the message receiver), 8.4.12 (the behaviour of a reliable StatefulReader).
 use Rattle.std.specs.Prelude.{◌≡◌, ◌⊎◌, ◌+◌, ◌^◌, ◌<◌, ◌≤◌, true, false, ℕ, List, [], ◌∷◌, ◌++◌, length, slice_get, nat_lt, if◌then◌else◌, Option, Some, None}
@@ -8,9 +9,10 @@ use Rattle.dds_base.specs.declared.guid.Guid.{Guid}
 use Rattle.dds_base.specs.declared.guid.GuidPrefix.{GuidPrefix}
 use Rattle.dds_base.specs.declared.happening.Happening.{Happening}
 use Rattle.dds_base.specs.Places.{Match}
+use Rattle.dds_base.specs.Counts.{is_later}
 use Rattle.dds_cache.specs.Standing.{qos_of, room_of}
 use Rattle.rtps_reader.specs.declared.step.Step.{Step}
-use Rattle.rtps_reader.specs.Tracked.{Tracked, is_later, with_data, with_gap}
+use Rattle.rtps_reader.specs.Tracked.{Tracked, with_data, with_gap}
 use Rattle.rtps_reader.specs.Answer.{IsIdle}
 use Rattle.rtps_reader.specs.Reader.{Tracks, IsReady, AllStay, OthersStay, match_at, MovesOn, TakesHeartbeat}
 use Rattle.rtps_wire.specs.declared.submessage.Submessage.{Submessage}
@@ -30,7 +32,7 @@ use Rattle.dds_core.specs.Stored.{Holds}
 
 -- the receiver of a message, as a peer keeps it
 abbrev pub receiver_at : MessageReceiver → Receiver
-receiver_at r = record { source_guid_prefix = r.source; dest_guid_prefix = r.dest; timestamp = r.timestamp }
+receiver_at r = record { source_guid_prefix = r.source; dest_guid_prefix = r.destination; timestamp = r.timestamp }
 
 -- ---- whom a submessage names
 

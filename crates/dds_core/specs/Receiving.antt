@@ -1,5 +1,6 @@
--- How a peer takes up the submessages of a packet: what one tells the readers that it names is made ready for each of them
--- before the first of them is told; so it is taken up by all of them or by none.
+-- How a peer takes up the submessages of a packet: what one tells the readers that it names is made ready for each of
+-- them before the first of them is told; so it is taken up by all of them or by none. Inner functions alone cite this:
+-- nothing here has to be believed.
 --
 -- RTPS 2.5, 8.3.4 (the message receiver), 8.4.12 (the behaviour of a reliable StatefulReader).
 use Rattle.std.specs.Prelude.{◌≡◌, ◌+◌, ◌≤◌, ℕ, List, ◌++◌, drop, set, length, slice_get, Option, Some, Result, OnErr, IfErr}

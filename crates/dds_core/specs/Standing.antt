@@ -1,5 +1,6 @@
 -- What a peer stands for: each of its writers for a writer of the machine, each of its readers for a reader, and what
--- never changes for what the configuration says of it.
+-- never changes for what the configuration says of it. What `tools/believed --names` lists of it has to be believed;
+-- inner functions alone cite the rest.
 --
 -- RTPS 2.5, 8.4.7 (StatefulWriter, ReaderProxy), 8.4.10 (StatefulReader, WriterProxy): the machine has them
 -- without packets.

@@ -77,9 +77,10 @@ impl<F: Filter, L: Listener> Core<F, L> {
     /// At the end of an event each status that was raised in it is told, once, to the listener of its entity, or else to that
     /// of the participant, and its flag is cleared, as by a look; where none takes it the flag stays. The writers come first,
     /// in their order, then the readers, and the statuses of each by ascending bit.
-    /// Packets go out for a change that was made and for an assertion, one for each peer with a matched reader, and at a tick
-    /// for each writer, a HEARTBEAT for each peer with a reader that is behind; or they are counted in `unsent` for want of
-    /// memory.
+    /// Packets go out for a change that was made and for an assertion, one for each peer with a matched reader; at a tick for
+    /// each writer, a HEARTBEAT for each peer with a reader that is behind; and at a delivery the ACKNACKs that its
+    /// HEARTBEATs ask for, and the changes and GAPs that its ACKNACKs do. Those for which there is no memory are counted in
+    /// `unsent`.
     ///
     /// DDS 1.4, 2.2.2.4 and 2.2.2.5 (DataWriter, DataReader), 2.2.4.2 (listeners); RTPS 2.5, 8.4 (behaviour).
     pub fn step(&mut self, event: Event) -> Output

@@ -18,7 +18,7 @@ pub const NO_MOMENT: u64 = 1 << 63;
 #[derive(Clone, Copy)]
 pub struct MessageReceiver {
     pub source: GuidPrefix,
-    pub dest: GuidPrefix,
+    pub destination: GuidPrefix,
     /// In units of 2^-32 second.
     pub timestamp: u64,
 }
@@ -29,7 +29,7 @@ pub fn receiver_for(prefix: GuidPrefix) -> MessageReceiver
 {
     MessageReceiver {
         source: prefix,
-        dest: GuidPrefix::UNKNOWN,
+        destination: GuidPrefix::UNKNOWN,
         timestamp: 0,
     }
 }
@@ -38,7 +38,7 @@ pub fn receiver_for(prefix: GuidPrefix) -> MessageReceiver
 pub fn is_for(receiver: &MessageReceiver, own: &GuidPrefix) -> bool
     ensures { result ≡ is_for (receiver_at receiver.now) own.now }
 {
-    receiver.dest == *own || receiver.dest == GuidPrefix::UNKNOWN
+    receiver.destination == *own || receiver.destination == GuidPrefix::UNKNOWN
 }
 
 /// The moment that an INFO_TS gives: 0 where it gives none.
@@ -61,7 +61,7 @@ pub fn receiver_after(
 {
     match submessage {
         Submessage::InfoDst(prefix) => MessageReceiver {
-            dest: *prefix,
+            destination: *prefix,
             ..receiver
         },
         Submessage::InfoTs(stamp) if is_for(&receiver, own) => MessageReceiver {

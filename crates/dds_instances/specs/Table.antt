@@ -1,5 +1,6 @@
--- When what is kept of the instances stands for what happened, and how an entry more is taken up. Public contracts name
--- the counts of it, and look no further into it.
+-- When what is kept of the instances stands for what happened, and how an entry more is taken up. Public contracts
+-- name the counts of it, and look no further into it. What `tools/believed --names` lists of it has to be believed;
+-- inner functions alone cite the rest.
 --
 -- DDS 1.4, 2.2.2.5 (SampleInfo: instance_handle, instance_state, view_state, the two generation counts).
 use Rattle.std.specs.Prelude.{◌≡◌, ◌≢◌, ℕ, zero, suc, slice_get, ◌+◌, ◌<◌, ◌≤◌, List, [], length, map, count_by, All, Bool, false, Option, None, slice_index_or}

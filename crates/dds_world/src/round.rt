@@ -57,7 +57,8 @@ pub struct Round {
 }
 
 impl Round {
-    /// Whether the reader has come to the next 256 changes of the writer, or to all.
+    /// Whether the reader's place has gone on by 256 numbers, or past the writer's last change. Where it stands at a change for
+    /// which the reader has no room it has gone as far as it can, and this may be `false`.
     pub fn has_caught_up(&self) -> bool
         // It is so where the place is at least the smaller one of 256 more than before and one more than the last number.
         ensures caught_up { IsTrue result

@@ -1,5 +1,6 @@
 -- How far a reader's place goes on in the list of one of its writers, by what the reader knows: changes that are held
--- come while there is room, and what can be passed over is.
+-- come while there is room, and what can be passed over is. What `tools/believed --names` lists of it has to be
+-- believed; inner functions alone cite the rest.
 --
 -- RTPS 2.5, 8.4.12 (reliable StatefulReader).
 use Rattle.std.specs.Prelude.{◌≡◌, ℕ, ◌+◌, ◌-◌, ◌<◌, ◌≤◌, List, [], ◌∷◌, ◌++◌, true, false, nat_lt, if◌then◌else◌}

@@ -1,4 +1,5 @@
--- What a proxy keeps of its writer, and what that means.
+-- What a proxy keeps of its writer, and what that means. What `tools/believed --names` lists of it has to be believed;
+-- inner functions alone cite the rest.
 --
 -- RTPS 2.5, 8.4.10 (WriterProxy, ChangeFromWriter).
 use Rattle.std.specs.Prelude.{◌≡◌, ℕ, ◌+◌, ◌*◌, ◌<◌, ◌≤◌, ◌^◌, min, List, [], ◌∷◌, true, ◌==◌, ◌&&◌, nat_le, nat_lt}
