@@ -29,7 +29,8 @@ same_peers [] = refl
 same_peers (r ∷ rs) =
     ap (λ ns. if list_any (λ peer. peer == r.reader.peer) ns then ns else r.reader.peer ∷ ns) (same_peers rs)
 
-abbrev name_at : ℕ → ℕ → ReaderConfig → Endpoint
+-- a reader, by the numbers of its peer and its own
+abbrev pub name_at : ℕ → ℕ → ReaderConfig → Endpoint
 name_at peer number r = record { peer = peer; number = number }
 
 -- the readers of the topic, by their numbers

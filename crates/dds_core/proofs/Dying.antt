@@ -1,6 +1,6 @@
 -- A tick's deaths at a reader, one after the other.
-use Rattle.std.proofs.Common.{◌≡◌, ℕ, zero, suc, ◌+◌, ◌<◌, ◌≤◌, List, [], ◌∷◌, Some, length, map, ◌||◌, get_or, set, slice_get, refl, ap, sym, ◌∙◌, subst, arith, ⊎_elim, length-set, Bool, true, false, not, ◌&&◌, Option, None, cond, nat_lt}
-use Rattle.std.specs.Prelude.{filter, find, if◌then◌else◌, is_some}
+use Rattle.std.proofs.Common.{◌≡◌, ℕ, zero, suc, ◌+◌, ◌<◌, ◌≤◌, List, [], ◌∷◌, Some, length, map, ◌||◌, get_or, set, slice_get, refl, ap, sym, ◌∙◌, subst, arith, ⊎_elim, length-set, Bool, true, false, not, ◌&&◌, cond, nat_lt}
+use Rattle.std.specs.Prelude.{filter, find, if◌then◌else◌}
 use Rattle.std.specs.List.{list_any}
 use Rattle.std.proofs.lemmas.Bool.{cases_Bool}
 use Rattle.std.proofs.lemmas.Bool.Decides.{nat_tests}
@@ -12,11 +12,11 @@ use Rattle.dds_base.specs.declared.qos.ReaderQos.{ReaderQos}
 use Rattle.dds_base.specs.Liveliness.{after_deaths, alive_since, dead_at, is_alive, is_death_of, is_overdue, lease_of}
 use Rattle.dds_base.specs.Ownership.{publication_handles, writer_of}
 use Rattle.dds_base.specs.StatusFlags.{turned_at}
-use Rattle.dds_base.specs.Written.{is_over}
 use Rattle.dds_cache.specs.Standing.{qos_of, StandsFor as CacheStandsFor}
 use Rattle.dds_lease.specs.Standing.{after_deaths_above, writer_count, StandsFor as LeasesStandFor}
 use Rattle.dds_lease.proofs.DeathLaws.{above_none}
 use Rattle.dds_model.specs.Ticks.{is_deadly, reader_ticked}
+use Rattle.dds_lease.proofs.StandingLaws.{over-live}
 use Rattle.dds_model.specs.Part.{Part, Reader, WriterProxy, no_reader}
 use Rattle.dds_model.specs.Protocol.{Known}
 use Rattle.dds_model.proofs.Tables.{numbered-map}
@@ -69,19 +69,13 @@ found_in due above w (v ∷ vs) is = ⊎_elim
     here true v_due rest at = subst (λ (x : ℕ). due x ≡ true) (sym (same_Some w v at)) v_due
     here false v_due rest at = rest at
 
--- whoever is overdue is alive
-overdue_alive : (lease since : Option ℕ) (now : ℕ) → is_over lease since now ≡ true → is_some since ≡ true
-overdue_alive (Some lease) (Some since) now is = refl
-overdue_alive (Some lease) None now is = absurd cc
-overdue_alive None since now is = absurd cc
-
 -- and turns by its death
 turned_by_death : (q : ReaderQos) (now after w : ℕ) (h : List Happening)
     → Some w ≡ find (λ v. nat_lt after v) (dead_at q now h)
     → Some (length (Died w now ∷ h)) ≡ turned_at (Died w now ∷ h)
 turned_by_death q now after w h first =
     turns (list_any (is_death_of w) h) (is_alive w h)
-    (overdue_alive (lease_of (writer_of q.writers w)) (alive_since w h) now
+    (over-live (lease_of (writer_of q.writers w)) (alive_since w h) now
     (found_in (is_overdue q now h) (λ v. nat_lt after v) w (publication_handles q) first))
   where
     turns : (died alive : Bool) → alive ≡ true

@@ -1,5 +1,5 @@
 -- Lists with one element changed, by what is read of them.
-use Rattle.std.proofs.Common.{◌≡◌, ℕ, zero, suc, ◌+◌, ◌<◌, List, [], ◌∷◌, ◌++◌, Some, None, map, set, take, drop, length, get_or, slice_get, refl, subst, ap, sym, ◌∙◌, arith}
+use Rattle.std.proofs.Common.{◌≡◌, ℕ, zero, suc, ◌+◌, ◌<◌, ◌≤◌, List, [], ◌∷◌, ◌++◌, Some, None, map, set, take, drop, length, get_or, slice_get, refl, subst, ap, sym, ◌∙◌, arith}
 use Rattle.std.proofs.lemmas.Option.{same_Some}
 use Rattle.std.proofs.lemmas.List.{set-get_or}
 use Rattle.std.proofs.lemmas.Option.{get_or_from_slice_get}
@@ -69,6 +69,12 @@ pub get-within : {X : Type 0} (xs : List X) (i : ℕ) (x : X) → slice_get xs i
 get-within [] i x at = absurd cc
 get-within (a ∷ xs) zero x at = omega arith
 get-within (a ∷ xs) (suc i) x at = let later = get-within xs i x at in omega (arith, later)
+
+-- past the end of a list there is none
+pub past_end : {X : Type 0} (xs : List X) (n : ℕ) (none : X) → length xs ≤ n → get_or xs n none ≡ none
+past_end [] n none past = refl
+past_end (x ∷ xs) zero none past = absurd (omega (arith, past))
+past_end (x ∷ xs) (suc n) none past = past_end xs n none (omega (arith, past))
 
 -- what is left begins with the element at hand
 pub drop_at : {X : Type 0} (xs : List X) (i : ℕ) (d : X) → i < length xs → drop i xs ≡ get_or xs i d ∷ drop (i + 1) xs

@@ -21,7 +21,7 @@ use Rattle.dds_model.specs.Peer.{Peer}
 use Rattle.dds_core.specs.Kept.{ReaderKept, PeerKept}
 use Rattle.dds_core.specs.Looking.{TellsLost, TellsLiveliness}
 use Rattle.dds_core.specs.Standing.{StandsFor}
-use Rattle.dds_core.proofs.CallSteps.{Follows, there_is}
+use Rattle.dds_core.proofs.CallSteps.{Follows, there_is, number_is}
 use Rattle.dds_core.proofs.Ends.{with_reader, own_reader_changed}
 use Rattle.dds_core.proofs.Taking.{silent}
 
@@ -62,9 +62,6 @@ looked c kept i k reply seen config peer s at is =
       }),
     )
 
-number_of : (reader i : ℕ) → reader ≡ i + 1 → suc i ≡ reader
-number_of reader i is = let index : i + 1 ≡ suc i = omega arith in sym (is ∙ index)
-
 -- a look at SAMPLE_LOST
 pub looked_at_lost : (kept : PeerKept) (reader i : ℕ) (k k' : ReaderKept) (status : SampleLostStatus) (config : Config)
     (peer : Peer) → StandsFor kept config peer → reader ≡ i + 1 → i < length kept.readers
@@ -88,7 +85,7 @@ looked_at_lost kept reader i k k' status config peer s is lt at tells after =
     subst (λ (x : ReaderKept). Follows (with_reader kept i x) config peer (event.Call (call.GetSampleLost reader))
     (silent (SampleLost status))) now
     (subst (λ (n : ℕ). Follows (with_reader kept i (record k { seen = seen_lost r })) config peer
-    (event.Call (call.GetSampleLost n)) (silent (SampleLost status))) (number_of reader i is) look)
+    (event.Call (call.GetSampleLost n)) (silent (SampleLost status))) (number_is reader i is) look)
 
 -- a look at LIVELINESS_CHANGED
 pub looked_at_liveliness : (kept : PeerKept) (reader i : ℕ) (k k' : ReaderKept) (status : LivelinessChangedStatus)
@@ -123,4 +120,4 @@ looked_at_liveliness kept reader i k k' status seen config peer s is lt at tells
     subst (λ (x : ReaderKept). Follows (with_reader kept i x) config peer
     (event.Call (call.GetLivelinessChanged reader)) (silent (LivelinessChanged status))) now
     (subst (λ (n : ℕ). Follows (with_reader kept i (record k { seen = seen_liveliness r })) config peer
-    (event.Call (call.GetLivelinessChanged n)) (silent (LivelinessChanged status))) (number_of reader i is) look)
+    (event.Call (call.GetLivelinessChanged n)) (silent (LivelinessChanged status))) (number_is reader i is) look)

@@ -1,5 +1,5 @@
 -- What a peer and its listeners stand for, as they are told of what was raised.
-use Rattle.std.proofs.Common.{◌≡◌, ℕ, ℤ, zero, suc, ◌+◌, ◌-◌, ◌<◌, ◌≤◌, Bool, true, false, List, [], ◌∷◌, Option, Some, None, is_some, length, get_or, slice_get, arith, ⊎_elim, refl, ap, sym, ◌∙◌, subst}
+use Rattle.std.proofs.Common.{◌≡◌, ℕ, ℤ, suc, ◌+◌, ◌-◌, ◌<◌, ◌≤◌, Bool, true, false, List, [], ◌∷◌, Option, Some, None, is_some, length, get_or, slice_get, arith, ⊎_elim, refl, ap, sym, ◌∙◌, subst}
 use Rattle.std.specs.Prelude.{nat_lt, if◌then◌else◌}
 use Rattle.std.proofs.lemmas.Bool.{cases_lt}
 use Rattle.std.proofs.lemmas.Bool.Decides.{nat_tests}
@@ -31,6 +31,8 @@ use Rattle.dds_core.specs.Looking.{TellsLiveliness, TellsLost}
 use Rattle.dds_core.specs.Standing.{Enters, ReaderStands, StandsFor, WriterStands}
 use Rattle.dds_core.specs.Stored.{Holds}
 use Rattle.dds_core.proofs.Ends.{own_reader_changed, own_writer_stepped, with_reader, with_writer}
+use Rattle.dds_core.proofs.Lists.{past_end}
+use Rattle.dds_core.proofs.Taking.{stands_beside}
 use Rattle.dds_core.proofs.Tellable.{tellable_entered}
 
 -- ---- who is told
@@ -60,15 +62,8 @@ end_found ends inside now n from x view low high number is =
 pub listeners_apart : (kept : PeerKept) (config : Config) (peer : Peer) (places : Places) → StandsFor kept config peer
     → StandsFor kept config
     (record peer { part = record peer.part { dds = record peer.part.dds { listeners = places } } })
-listeners_apart kept config peer places s = record {
-  is_peer = s.is_peer;
-  moment = s.moment;
-  early = s.early;
-  writers = s.writers;
-  readers = s.readers;
-  tellable = s.tellable;
-  watch = s.watch;
-}
+listeners_apart kept config peer places s =
+    stands_beside kept kept.watch peer.part.dds.watch places peer.delivered config peer s.watch s
 
 module _ {L : Type 0} (notices : L → List Notice) (capacity : L → ℕ) where
   -- the same change, as it is at the states that a peer stands for
@@ -271,11 +266,6 @@ not_lost before w values losses is mark le =
 
 -- ---- the marks of a peer
 
-beyond : {X : Type 0} (xs : List X) (i : ℕ) (d : X) → length xs ≤ i → get_or xs i d ≡ d
-beyond [] i d h = refl
-beyond (x ∷ xs) zero d h = absurd (omega (arith, h))
-beyond (x ∷ xs) (suc i) d h = beyond xs i d (omega (arith, h))
-
 -- they are those of each state that it stands for, at the peer that was opened
 pub marks_peer : (kept now : PeerKept) (writers : List ℕ) (readers : List ReaderMark) → kept ≡ now
     → MarksWriters kept.writers (length kept.writers) writers
@@ -293,7 +283,7 @@ marks_peer kept now writers readers view of_writers of_readers config peer given
       (λ le.
       let count = s.writers.count in
       (of_writers i mark at).1 le
-      ∙ ap (λ (w : Writer). losses_of w) (sym (beyond peer.part.rtps.writers i no_writer (omega (arith, count, le)))))
+      ∙ ap (λ (w : Writer). losses_of w) (sym (past_end peer.part.rtps.writers i no_writer (omega (arith, count, le)))))
       (cases_lt i (length kept.writers));
   readers = λ i mark at.
       ⊎_elim
@@ -306,7 +296,7 @@ marks_peer kept now writers readers view of_writers of_readers config peer given
       (λ le.
       let count = s.readers.count in
       subst (λ (r : Reader). IsMarkOf mark r)
-      (sym (beyond peer.part.dds.readers i no_reader (omega (arith, count, le))))
+      (sym (past_end peer.part.dds.readers i no_reader (omega (arith, count, le))))
       (subst (λ (m : ReaderMark). IsMarkOf m no_reader) (sym ((of_readers i mark at).1 le))
       (record { lost = refl; happened = refl })))
       (cases_lt i (length kept.readers));

@@ -15,7 +15,7 @@ use Rattle.dds_model.specs.Peer.{Peer, no_peer}
 use Rattle.dds_core.specs.Kept.{WriterKept, ReaderKept, writer_identity, reader_identity, configured_writer, configured_reader}
 use Rattle.dds_core.specs.Opening.{OpensWriter, OpensReader, OpensEach, OpensCore, opening_peer}
 use Rattle.dds_core.specs.Standing.{WriterStands, ReaderStands, WritersStand, ReadersStand, StandsFor}
-use Rattle.dds_core.proofs.Ready.{last-cases}
+use Rattle.dds_core.proofs.Ready.{last-cases, partner}
 use Rattle.dds_core.proofs.Tellable.{tellable_opening}
 
 -- ---- one element more
@@ -84,21 +84,14 @@ same_maps f g (x ∷ xs) (y ∷ ys) count each =
     ∙ ap (λ zs. f x ∷ zs) (same_maps f g xs ys (omega (arith, count))
     (λ i a b at_a at_b. each (suc i) a b at_a at_b))
 
--- the partner of an element
-partner : {X Y : Type 0} (xs : List X) (ys : List Y) (i : ℕ) (y : Y) → length ys ≡ length xs → slice_get ys i ≡ Some y
-    → (x : X) × (slice_get xs i ≡ Some x)
-partner xs [] i y count at = absurd cc
-partner [] (b ∷ ys) i y count at = absurd (omega (arith, count))
-partner (a ∷ xs) (b ∷ ys) zero y count at = (a, refl)
-partner (a ∷ xs) (b ∷ ys) (suc i) y count at = partner xs ys i y (omega (arith, count)) at
-
 mapped_at : {X Z : Type 0} (f : X → Z) (xs : List X) (i : ℕ) (x : X) (d : Z) → slice_get xs i ≡ Some x
     → f x ≡ get_or (map f xs) i d
 mapped_at f [] i x d at = absurd cc
 mapped_at f (a ∷ xs) zero x d at = ap f (sym (same_Some a x at))
 mapped_at f (a ∷ xs) (suc i) x d at = mapped_at f xs i x d at
 
-writers_stand : (peers : List PeerConfig) (ws : List WriterConfig) (kept : List WriterKept) → OpensEach (OpensWriter peers) ws kept
+writers_stand : (peers : List PeerConfig) (ws : List WriterConfig) (kept : List WriterKept)
+    → OpensEach (OpensWriter peers) ws kept
     → WritersStand kept (map (opening_writer peers) ws) (λ n r. None)
 writers_stand peers ws kept opened = record {
   count = length-map ws (opening_writer peers) ∙ sym opened.count;
@@ -108,7 +101,8 @@ writers_stand peers ws kept opened = record {
       (opened.each i w.0 k w.1 at).stands;
 }
 
-readers_stand : (peers : List PeerConfig) (rs : List ReaderConfig) (kept : List ReaderKept) → OpensEach (OpensReader peers) rs kept
+readers_stand : (peers : List PeerConfig) (rs : List ReaderConfig) (kept : List ReaderKept)
+    → OpensEach (OpensReader peers) rs kept
     → ReadersStand kept (map (λ (r : ReaderConfig). matched_writers r.topic 1 peers) rs)
     (map (λ (r : ReaderConfig). record { qos = reader_qos peers r; happened = []; seen = nothing_seen }) rs)
     knows_nothing

@@ -1,5 +1,5 @@
 -- A writer and a reader that it is matched with, and the place of a reader, by what a peer keeps.
-use Rattle.std.proofs.Common.{◌≡◌, ℕ, ℤ, zero, suc, ◌+◌, ◌-◌, ◌<◌, ◌≤◌, ◌==◌, Bool, true, false, cond, List, [], ◌∷◌, Option, Some, None, map, length, get_or, slice_get, refl, ap, sym, ◌∙◌, subst, arith, eq-eqb}
+use Rattle.std.proofs.Common.{◌≡◌, ℕ, ℤ, zero, suc, ◌+◌, ◌-◌, ◌<◌, ◌≤◌, Bool, true, false, cond, List, [], ◌∷◌, Option, Some, None, map, length, get_or, slice_get, refl, ap, sym, ◌∙◌, subst, arith}
 use Rattle.std.specs.Prelude.{◌&&◌, nat_lt, nat_le, IsSome, slice_index}
 use Rattle.std.specs.Option.{option_map, option_map_or}
 use Rattle.std.proofs.lemmas.Bool.Decides.{nat_tests}
@@ -15,6 +15,7 @@ use Rattle.dds_model.specs.Part.{ReaderProxy, Writer, WriterProxy, no_writer, ow
 use Rattle.dds_model.specs.Peer.{Peer}
 use Rattle.dds_model.specs.DueMessages.{writer_entity}
 use Rattle.dds_model.proofs.Tables.{same_is}
+use Rattle.dds_model.proofs.InOrder.{same_self}
 use Rattle.dds_core.specs.declared.matching.ReaderName.{ReaderName}
 use Rattle.dds_core.specs.declared.matching.WriterName.{WriterName}
 use Rattle.dds_core.specs.declared.pairing.Pair.{Pair}
@@ -24,7 +25,7 @@ use Rattle.dds_core.specs.Pairs.{IsPair, reader_entity}
 use Rattle.dds_core.specs.Readiness.{IsPlaceAt}
 use Rattle.dds_core.specs.Standing.{StandsFor, WriterStands, IsFirstReader, IsFirstRow}
 use Rattle.dds_core.proofs.BeatsDue.{writer_named, readers_named}
-use Rattle.dds_core.proofs.Lists.{get-map, map-get}
+use Rattle.dds_core.proofs.Lists.{get-map, map-get, past_end}
 use Rattle.dds_core.proofs.Numbered.{is_told}
 use Rattle.dds_core.proofs.Rows.{IsFirstOf, is_first_of, no_row, place_there, proxied}
 
@@ -34,10 +35,6 @@ abbrev reader_of : ReaderProxy → Endpoint
 reader_of p = p.reader
 
 -- a reader that a row is of
-same_itself : (e : Endpoint) → same_endpoint e e ≡ true
-same_itself e =
-    ap (λ (b : Bool). cond b (e.number == e.number) false) (eq-eqb e.peer e.peer refl) ∙ eq-eqb e.number e.number refl
-
 first_row : (b : Bool) (r : ReaderProxy) (rs : List ReaderProxy) (reader : Endpoint)
     → (b ≡ false → IsSome (acknowledged_of rs reader))
     → IsSome (option_map (λ (p : ReaderProxy). p.acknowledged) (cond b (Some r) (row_of reader_of rs reader)))
@@ -49,7 +46,7 @@ some_row : (rows : List ReaderProxy) (reader : Endpoint) (j : ℕ) → slice_get
 some_row [] reader j at = absurd cc
 some_row (r ∷ rs) reader zero at =
     let same : same_endpoint r.reader reader ≡ true =
-    subst (λ (e : Endpoint). same_endpoint r.reader e ≡ true) (same_Some r.reader reader at) (same_itself r.reader)
+    subst (λ (e : Endpoint). same_endpoint r.reader e ≡ true) (same_Some r.reader reader at) (same_self r.reader)
     in
     first_row (same_endpoint r.reader reader) r rs reader (λ other. absurd cc)
 some_row (r ∷ rs) reader (suc j) at =
@@ -72,7 +69,7 @@ behind_at : (rows : List ReaderProxy) (reader : Endpoint) (k last : ℕ) → sli
 behind_at [] reader k last at first = absurd cc
 behind_at (r ∷ rs) reader zero last at first =
     let same : same_endpoint r.reader reader ≡ true =
-    subst (λ (e : Endpoint). same_endpoint r.reader e ≡ true) (same_Some r.reader reader at) (same_itself r.reader)
+    subst (λ (e : Endpoint). same_endpoint r.reader e ≡ true) (same_Some r.reader reader at) (same_self r.reader)
     in
     ap (λ (b : Bool). option_map_or (λ x. nat_le x last)
     (option_map (λ (p : ReaderProxy). p.acknowledged) (cond b (Some r) (row_of reader_of rs reader))) false) same
@@ -83,11 +80,6 @@ behind_at (r ∷ rs) reader (suc k) last at first =
     (behind_at rs reader k last at (λ j low there. first (suc j) (omega (arith, low)) there))
 
 -- no writer has this number, or no reader
-
-past_end : {X : Type 0} (xs : List X) (n : ℕ) (none : X) → length xs ≤ n → get_or xs n none ≡ none
-past_end [] n none past = refl
-past_end (x ∷ xs) zero none past = absurd (omega (arith, past))
-past_end (x ∷ xs) (suc n) none past = past_end xs n none (omega (arith, past))
 
 past_last : (n count : ℕ) → (nat_lt 0 (suc n) && nat_le (suc n) count) ≡ false → count ≤ n
 past_last n count none = grind (arith, nat_tests, none)

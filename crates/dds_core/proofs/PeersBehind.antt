@@ -11,7 +11,7 @@ use Rattle.dds_model.specs.Part.{ReaderProxy, peers_of}
 use Rattle.dds_core.specs.declared.matching.Destination.{Destination}
 use Rattle.dds_core.specs.Matching.{has_reader, destinations}
 use Rattle.dds_core.proofs.Beating.{other_number}
-use Rattle.dds_core.proofs.Destinations.{reader_ends, sends_to}
+use Rattle.dds_core.proofs.Destinations.{reader_ends, sends_to, name_at}
 
 -- ---- lists of numbers that go up, from this one on
 
@@ -231,23 +231,20 @@ has_filtered q m (d ∷ ds) = one (q d.peer) (d.peer == m) refl refl (has_filter
 
 -- ---- the readers of the configuration go up
 
-abbrev end_at : ℕ → ℕ → ReaderConfig → Endpoint
-end_at peer number r = record { peer = peer; number = number }
-
 ends_before : (topic peer n : ℕ) (rs : List ReaderConfig) (rest : List Endpoint) → InOrder peer rest
-    → InOrder peer (of_readers_in (end_at peer) topic n rs ++ rest)
+    → InOrder peer (of_readers_in (name_at peer) topic n rs ++ rest)
 unfolding InOrder
 ends_before topic peer n [] rest h = h
 ends_before topic peer n (r ∷ rs) rest h = one (same_topic r.topic topic) (ends_before topic peer (n + 1) rs rest h)
   where
-    one : (b : Bool) → InOrder peer (of_readers_in (end_at peer) topic (n + 1) rs ++ rest)
-        → InOrder peer (cond b (end_at peer n r ∷ of_readers_in (end_at peer) topic (n + 1) rs)
-        (of_readers_in (end_at peer) topic (n + 1) rs) ++ rest)
+    one : (b : Bool) → InOrder peer (of_readers_in (name_at peer) topic (n + 1) rs ++ rest)
+        → InOrder peer (cond b (name_at peer n r ∷ of_readers_in (name_at peer) topic (n + 1) rs)
+        (of_readers_in (name_at peer) topic (n + 1) rs) ++ rest)
     one true k = (omega arith, k)
     one false k = k
 
 ends_in_order : (topic n : ℕ) (ps : List PeerConfig)
-    → InOrder n (of_matched_readers (λ i p k r. end_at i k r) topic n ps)
+    → InOrder n (of_matched_readers (λ i p k r. name_at i k r) topic n ps)
 unfolding InOrder
 ends_in_order topic n [] = tt
 ends_in_order topic n (p ∷ ps) =

@@ -1,5 +1,5 @@
 -- What is sent: it claims the change to each matched reader, and nothing but the truth.
-use Rattle.std.proofs.Common.{◌≡◌, ◌≢◌, ◌⊎◌, ℕ, zero, suc, ◌+◌, ◌-◌, ◌^◌, ◌<◌, ◌≤◌, Bool, true, false, cond, ◌||◌, List, [], ◌∷◌, Option, Some, map, length, slice_get, refl, ap, sym, ◌∙◌, subst, arith, inl, inr, ⊎_elim, Contains}
+use Rattle.std.proofs.Common.{◌≡◌, ◌≢◌, ◌⊎◌, ℕ, zero, suc, ◌+◌, ◌-◌, ◌^◌, ◌<◌, ◌≤◌, Bool, true, false, cond, ◌||◌, List, [], ◌∷◌, Some, map, length, slice_get, refl, ap, sym, ◌∙◌, subst, arith, inl, inr, ⊎_elim, Contains}
 use Rattle.std.specs.Prelude.{nat_lt, nat_eq, if◌then◌else◌, AllPairs}
 use Rattle.std.specs.List.{AllByRecursion}
 use Rattle.std.proofs.lemmas.Bool.Decides.{nat_tests, Decides-eqb}
@@ -27,7 +27,7 @@ use Rattle.dds_model.specs.declared.event.Output.{Output}
 use Rattle.dds_model.specs.Part.{Part, ReaderProxy, own_writer, writer_changes}
 use Rattle.dds_model.specs.Claims.{Claim, ChangeIs, MayPass, PlaceReached, Asserts, Receiver, receiver_of, every_peer, every_reader, is_for, stamp_of, after_submessage, StandsAt, StandsIn, IsWriter, IsReader, IsToReader, Says, Claims}
 use Rattle.dds_model.specs.Peer.{IsTrueAt}
-use Rattle.dds_model.proofs.Dues.{stands_in, told}
+use Rattle.dds_model.proofs.Dues.{stands_in, told, dst_says, ts_says}
 use Rattle.dds_model.specs.DueMessages.{AreSent, changes_due}
 use Rattle.dds_core.specs.declared.matching.Destination.{Destination}
 use Rattle.dds_core.specs.declared.sending.Sender.{Sender}
@@ -78,20 +78,6 @@ data_says config sender own part prefix at number content (ChangeIs w r n c) onl
 data_says config sender own part prefix at number content (MayPass w r n) only source time there h = absurd h
 data_says config sender own part prefix at number content (PlaceReached w r b) only source time there h = absurd h
 data_says config sender own part prefix at number content (Asserts w r k) only source time there h = absurd h
-
-dst_says : (config : Config) (own : GuidPrefix) (at : Receiver) (prefix : GuidPrefix) (claim : Claim)
-    → Says config own at (InfoDst prefix) claim → ⊥
-dst_says config own at prefix (ChangeIs w r n c) h = h
-dst_says config own at prefix (MayPass w r n) h = h
-dst_says config own at prefix (PlaceReached w r b) h = h
-dst_says config own at prefix (Asserts w r k) h = h
-
-ts_says : (config : Config) (own : GuidPrefix) (at : Receiver) (moment : Option ℕ) (claim : Claim)
-    → Says config own at (InfoTs moment) claim → ⊥
-ts_says config own at moment (ChangeIs w r n c) h = h
-ts_says config own at moment (MayPass w r n) h = h
-ts_says config own at moment (PlaceReached w r b) h = h
-ts_says config own at moment (Asserts w r k) h = h
 
 -- the INFO_TS counts for whom the DATA is
 stamped : (b : Bool) (own : GuidPrefix) (r at : Receiver) (stamp : ℕ) → is_for r own ≡ b

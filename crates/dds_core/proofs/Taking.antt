@@ -17,21 +17,22 @@ use Rattle.rtps_wire.specs.declared.submessage.Submessage.TheVariants.{Pad, Info
 use Rattle.rtps_wire.specs.Messages.{ReadsMessage, ReadsAll, HasSubmessage}
 use Rattle.rtps_wire.specs.Sets.{set_of}
 use Rattle.rtps_wire.specs.Submessages.{Reads}
+use Rattle.dds_conditions.specs.Watched.{Watched}
+use Rattle.dds_notices.specs.Listeners.{Places}
 use Rattle.dds_model.specs.declared.event.Event.TheVariants as event
 use Rattle.dds_model.specs.declared.event.Output.{Output}
 use Rattle.dds_model.specs.declared.event.Packet.{Packet}
 use Rattle.dds_model.specs.declared.reply.Move.{Move}
 use Rattle.dds_model.specs.declared.reply.Report.{Report}
 use Rattle.dds_model.specs.declared.reply.Reply.{Reply}
-use Rattle.dds_model.specs.declared.reply.Reply.TheVariants.{Done, Refused}
 use Rattle.dds_model.specs.declared.call.Call.{Call}
 use Rattle.dds_model.specs.Numbered.{numbered, HasNumber}
 use Rattle.dds_model.specs.Backed.{IsBacked}
 use Rattle.dds_model.specs.Ticks.{TickStep}
 use Rattle.dds_model.specs.Calls.{Effect, nothing, writes, effect, effect_of}
 use Rattle.dds_model.specs.Claims.{Receiver, receiver_of, after_submessage, IsNumbered}
-use Rattle.dds_model.specs.Part.{Part, Rtps, place_of, heard_of}
-use Rattle.dds_model.specs.Peer.{Peer, packets_of, state_of}
+use Rattle.dds_model.specs.Part.{Rtps, place_of, heard_of}
+use Rattle.dds_model.specs.Peer.{Peer, packets_of, state_of, Delivery}
 use Rattle.dds_model.specs.DueMessages.{Due, AreSent}
 use Rattle.dds_model.specs.Protocol.{State, InTurn, ReaderTakes, Takes, FollowsMessage}
 use Rattle.dds_model.specs.Receipt.{prefix_of, IsNotTaken}
@@ -43,9 +44,27 @@ use Rattle.dds_core.specs.Receiving.{with_state, StandsAsWell, ReadersTook, Took
 use Rattle.dds_core.specs.Sending.{AreMessages}
 use Rattle.dds_core.specs.Standing.{StandsFor, IsSound, Steps, StepsBy, SoundSteps, SoundStepsBy}
 use Rattle.dds_model.specs.Watching.{Tests}
+use Rattle.dds_model.proofs.Growth.{TickStep-rows}
 use Rattle.dds_core.proofs.Beating.{written_on}
 
 -- ---- what a peer is, said again
+
+-- what is watched, who listens, and what was delivered, stand beside all else that a peer stands for
+pub stands_beside : (kept : PeerKept) (new watched : Watched) (places : Places) (delivered : List Delivery)
+    (config : Config) (peer : Peer) → watched ≡ new → StandsFor kept config peer
+    → StandsFor (record kept { watch = new }) config (record peer {
+      part = record peer.part { dds = record peer.part.dds { watch = watched; listeners = places } };
+      delivered = delivered;
+    })
+stands_beside kept new watched places delivered config peer same s = record {
+  is_peer = s.is_peer;
+  moment = s.moment;
+  early = s.early;
+  writers = s.writers;
+  readers = s.readers;
+  tellable = s.tellable;
+  watch = same;
+}
 
 pub stands_again : (kept : PeerKept) (config : Config) (peer after : Peer) → after.number ≡ peer.number
     → after.part ≡ peer.part → after.known ≡ peer.known → StandsFor kept config peer → StandsFor kept config after
@@ -56,15 +75,7 @@ stands_again kept config peer after number part known s =
     (record { number = peer.number; part = p; known = after.known; delivered = after.delivered })) (sym part)
     (subst (λ k. StandsFor kept config
     (record { number = peer.number; part = peer.part; known = k; delivered = after.delivered })) (sym known)
-    (record {
-      is_peer = s.is_peer;
-      moment = s.moment;
-      early = s.early;
-      writers = s.writers;
-      readers = s.readers;
-      tellable = s.tellable;
-      watch = s.watch;
-    })))
+    (stands_beside kept kept.watch peer.part.dds.watch peer.part.dds.listeners after.delivered config peer s.watch s)))
 
 pub numbered_prefix : (ps : List PeerConfig) (n : ℕ) (p : PeerConfig) → IsNumbered ps n p
     → (numbered ps n (record { prefix = unknown_prefix; writers = []; readers = [] })).prefix ≡ p.prefix
@@ -357,12 +368,6 @@ effect_readers : (old : Rtps) (e : Effect) → (effect old e).readers ≡ old.re
 effect_readers old nothing = refl
 effect_readers old (writes w entry) = refl
 
-tick_readers : (old : Part) (now : ℕ) (reply : Reply) (new : Part) → TickStep old now reply new
-    → new.rtps.readers ≡ old.rtps.readers
-tick_readers old now Done new h = ap (λ (p : Part). p.rtps.readers) h.1
-tick_readers old now (Refused code) new h = ap (λ (p : Part). p.rtps.readers) h.1
-tick_readers old now reply new h = absurd h
-
 pub sound_call : {tests : Tests} (old new : PeerKept) (call : Call) (output : Output)
     → StepsBy tests old (event.Call call) output new → SoundStepsBy tests old (event.Call call) output new
 sound_call old new call output steps config peer s sound =
@@ -380,6 +385,6 @@ sound_tick old new now output steps config peer s sound =
       r.1,
       r.2,
       sound_still config peer r.0 r.1.same_number r.1.knows r.1.step.1
-          (tick_readers peer.part now output.reply r.0.part r.1.step.0) sound,
+          (TickStep-rows peer.part now output.reply r.0.part r.1.step.0) sound,
       tt,
     )

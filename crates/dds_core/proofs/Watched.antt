@@ -16,21 +16,14 @@ use Rattle.dds_core.specs.Kept.{PeerKept}
 use Rattle.dds_core.specs.Standing.{StandsFor}
 use Rattle.dds_core.specs.Watching.{done_reply}
 use Rattle.dds_core.proofs.CallSteps.{Follows, FollowsBy}
-use Rattle.dds_core.proofs.Taking.{silent}
+use Rattle.dds_core.proofs.Taking.{silent, stands_beside}
 
 -- what is kept stands for the state in which this is watched, once it is what is kept of that
 pub watches : (kept : PeerKept) (new : Watched) (config : Config) (peer : Peer) → StandsFor kept config peer
     → StandsFor (record kept { watch = new }) config
     (record peer { part = record peer.part { dds = record peer.part.dds { watch = new } } })
-watches kept new config peer s = record {
-  is_peer = s.is_peer;
-  moment = s.moment;
-  early = s.early;
-  writers = s.writers;
-  readers = s.readers;
-  tellable = s.tellable;
-  watch = refl;
-}
+watches kept new config peer s =
+    stands_beside kept new new peer.part.dds.listeners peer.delivered config peer refl s
 
 -- a call after which this is watched
 pub watched_call : {tests : Tests} (kept : PeerKept) (new : Watched) (config : Config) (peer : Peer)

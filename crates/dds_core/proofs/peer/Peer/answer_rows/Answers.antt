@@ -76,8 +76,8 @@ loop-row-preserved c =
           record {
             takes = λ x at.
                 let same : k ≡ x = same_Some k x (sym c.requires.within.1 ∙ at) in
-                of_three (λ (q : PeerKept) (m : Vec Move _) (y : Announced). TakesRows old c.args.index c.args.body.now x
-                rooms (i + 1) moves sent q m.items y) w.self-is w.moves-is w.sent-is
+                of_three (λ (q : PeerKept) (m : Vec Move _) (y : Announced). TakesRows old c.args.index c.args.body.now
+                x rooms (i + 1) moves sent q m.items y) w.self-is w.moves-is w.sent-is
                 (rows_more old c.loop-row.self w.answer_row.new.self c.args.index c.args.body.now x rooms i
                 w.in-Some.room moves c.loop-row.moves.items w.answer_row.new.moves.items sent c.loop-row.sent
                 w.answer_row.new.sent (c.loop-row.invariant.takes x at)
@@ -100,8 +100,8 @@ loop-row-preserved c =
           record {
             takes = λ x at.
                 let same : k ≡ x = same_Some k x (sym c.requires.within.1 ∙ at) in
-                of_three (λ (q : PeerKept) (m : Vec Move _) (y : Announced). TakesRows old c.args.index c.args.body.now x
-                rooms (i + 1) moves sent q m.items y) w.self-is w.moves-is w.sent-is
+                of_three (λ (q : PeerKept) (m : Vec Move _) (y : Announced). TakesRows old c.args.index c.args.body.now
+                x rooms (i + 1) moves sent q m.items y) w.self-is w.moves-is w.sent-is
                 (rows_skip old c.loop-row.self c.args.index c.args.body.now x rooms i moves c.loop-row.moves.items sent
                 c.loop-row.sent (c.loop-row.invariant.takes x at)
                 (subst (λ (y : WriterKept). i < length y.readers) same known) none);

@@ -71,8 +71,8 @@ loop-index-preserved c =
           let wide = ap (λ (m : Vec Move _). vec_capacity m) w.moves-is in
           record {
             takes =
-                of_three (λ (k : PeerKept) (m : Vec Move _) (x : Announced). TakesSome c.args.self.now c.args.ready.items
-                (i + 1) c.args.moves.now.items c.args.sent.now k m.items x) w.self-is w.moves-is w.sent-is
+                of_three (λ (k : PeerKept) (m : Vec Move _) (x : Announced). TakesSome c.args.self.now
+                c.args.ready.items (i + 1) c.args.moves.now.items c.args.sent.now k m.items x) w.self-is w.moves-is w.sent-is
                 (takes_more c.args.self.now c.loop-index.self w.take_at.new.self c.args.ready.items i w.in-Some.one
                 c.args.moves.now.items c.loop-index.moves.items w.take_at.new.moves.items c.args.sent.now
                 c.loop-index.sent w.take_at.new.sent
@@ -94,8 +94,8 @@ loop-index-preserved c =
           let wide = ap (λ (m : Vec Move _). vec_capacity m) w.moves-is in
           record {
             takes =
-                of_three (λ (k : PeerKept) (m : Vec Move _) (x : Announced). TakesSome c.args.self.now c.args.ready.items
-                (i + 1) c.args.moves.now.items c.args.sent.now k m.items x) w.self-is w.moves-is w.sent-is
+                of_three (λ (k : PeerKept) (m : Vec Move _) (x : Announced). TakesSome c.args.self.now
+                c.args.ready.items (i + 1) c.args.moves.now.items c.args.sent.now k m.items x) w.self-is w.moves-is w.sent-is
                 (takes_skip c.args.self.now c.loop-index.self c.args.ready.items i c.args.moves.now.items
                 c.loop-index.moves.items c.args.sent.now c.loop-index.sent c.loop-index.invariant.takes known none);
             few =
