@@ -165,25 +165,10 @@ still_begun rows e to low h =
 
 -- ---- the state
 
-state_as : (w : Writer) (a b : List ℕ) (c d : List (Option ℤ)) → a ≡ b → c ≡ d
-    → ◌≡◌ {A = WriterState}
-    (record {
-      policy = w.policy;
-      max_samples = w.max_samples;
-      lease = w.lease;
-      written = w.written;
-      acknowledged = a;
-      counts = c;
-    })
-    (record {
-      policy = w.policy;
-      max_samples = w.max_samples;
-      lease = w.lease;
-      written = w.written;
-      acknowledged = b;
-      counts = d;
-    })
-state_as w a b c d e f = cc
+-- a state in which what was acknowledged and the counts are others
+pub state_as : (s : WriterState) (a b : List ℕ) (c d : List (Option ℤ)) → a ≡ b → c ≡ d
+    → ◌≡◌ {A = WriterState} (record s { acknowledged = a; counts = c }) (record s { acknowledged = b; counts = d })
+state_as s a b c d e f = cc
 
 -- what the writer knows of a reader of which this ACKNACK is taken
 pub record IsCounted (old new : Endpoint → Option ℤ) (e : Endpoint) (count : ℤ) : Type 0 where
@@ -197,7 +182,7 @@ state_applied w answered new e n p base count only counted =
     let rows : List ReaderProxy = w.readers in
     let at : slice_index (map (λ (x : ReaderProxy). x.acknowledged) rows) n ≡ p.acknowledged =
     acknowledged_at rows e n p only in
-    state_as w _ _ _ _
+    state_as (state_of w answered) _ _ _ _
     (acknowledged_set rows e n p (max p.acknowledged base) only
     ∙ ap (λ (m : ℕ). set (map (λ (x : ReaderProxy). x.acknowledged) rows) n (max m base)) (sym at))
     (counts_set answered new rows e n p (max p.acknowledged base) (Some count) counted.here counted.others only)

@@ -1,11 +1,11 @@
 -- The packets that announce a change.
-use Rattle.std.proofs.Common.{◌≡◌, ℕ, ◌+◌, ◌^◌, ◌<◌, ◌≤◌, List, [], ◌∷◌, ◌++◌, Some, set, take, length, get_or, refl, ap, sym, ◌∙◌, subst, arith, inl, inr, ⊎_elim, length-append, length-set}
+use Rattle.std.proofs.Common.{◌≡◌, ℕ, ◌+◌, ◌^◌, ◌<◌, ◌≤◌, List, [], ◌∷◌, ◌++◌, set, take, length, get_or, refl, ap, sym, ◌∙◌, subst, arith, inl, inr, ⊎_elim, length-append, length-set}
 use Rattle.std.proofs.lemmas.List.{set-set, take_more}
 use Rattle.dds_base.specs.declared.guid.GuidPrefix.{GuidPrefix}
 use Rattle.rtps_wire.specs.declared.data.DataContent.{DataContent}
 use Rattle.rtps_wire.specs.declared.message.Message.{Message}
 use Rattle.rtps_wire.specs.declared.submessage.Submessage.{Submessage}
-use Rattle.rtps_wire.specs.declared.submessage.Submessage.TheVariants.{InfoDst, InfoTs, Data}
+use Rattle.rtps_wire.specs.declared.submessage.Submessage.TheVariants.{InfoDst}
 use Rattle.rtps_wire.specs.Data.{IsContent}
 use Rattle.rtps_wire.specs.Messages.{IsWritable, spelling_of}
 use Rattle.rtps_wire.proofs.LengthLaws.{short_writable}
@@ -17,54 +17,31 @@ use Rattle.dds_core.specs.Sending.{announcement, IsAnnouncement, AreAnnouncement
 abbrev message_with : GuidPrefix → List Submessage → Message
 message_with prefix submessages = record { prefix = prefix; submessages = submessages }
 
--- the submessages of an announcement, by the units of its moment
+-- the announcement to a peer, by the units of its moment
+abbrev announced : Sender → ℕ → DataContent → GuidPrefix → ℕ → Message
+announced sender number c to units =
+    announcement (record sender { moment = units }) (record { peer = 0; prefix = to }) number c
+
+-- a message with its submessages is it
 pub says_so : (sender : Sender) (number : ℕ) (c : DataContent) (to : GuidPrefix) (units : ℕ)
     (submessages : List Submessage) → units ≡ sender.moment
-    → submessages ≡ InfoDst to ∷ InfoTs (Some units) ∷ Data
-    (record {
-      reader_id = record { 0 = 0 ∷ 0 ∷ 0 ∷ 0 ∷ [] };
-      writer_id = sender.entity;
-      writer_sn = number;
-      content = c;
-    }) ∷ []
+    → submessages ≡ (announced sender number c to units).submessages
     → Announces sender number c (message_with sender.prefix submessages)
-says_so sender number c to units submessages same all =
-    let rest : ℕ → List Submessage =
-    λ n. InfoDst to ∷ InfoTs (Some n) ∷ Data
-    (record {
-      reader_id = record { 0 = 0 ∷ 0 ∷ 0 ∷ 0 ∷ [] };
-      writer_id = sender.entity;
-      writer_sn = number;
-      content = c;
-    }) ∷ [] in (
-      record { peer = 0; prefix = to },
-      ap (λ (ss : List Submessage). message_with sender.prefix ss)
-          (all ∙ ap rest same),
-    )
+says_so sender number c to units submessages same all = (
+  record { peer = 0; prefix = to },
+  ap (λ (ss : List Submessage). message_with sender.prefix ss) all
+      ∙ ap (λ (n : ℕ). announced sender number c to n) same,
+)
 
--- an announcement can be written
+-- and can be written
 pub writable_so : (sender : Sender) (number : ℕ) (c : DataContent) (to : GuidPrefix) (units : ℕ)
     (submessages : List Submessage) → length sender.prefix.0 ≡ 12 → length sender.entity.0 ≡ 4 → units < 2 ^ 64
     → IsContent c → 1 ≤ number → number ≤ 2 ^ 48
-    → submessages ≡ InfoDst to ∷ InfoTs (Some units) ∷ Data
-    (record {
-      reader_id = record { 0 = 0 ∷ 0 ∷ 0 ∷ 0 ∷ [] };
-      writer_id = sender.entity;
-      writer_sn = number;
-      content = c;
-    }) ∷ []
+    → submessages ≡ (announced sender number c to units).submessages
     → IsAddressable (message_with sender.prefix submessages)
 writable_so sender number c to units submessages prefix entity moment valid first small all other of_other =
-    let rest : List Submessage =
-    InfoTs (Some units) ∷ Data
-    (record {
-      reader_id = record { 0 = 0 ∷ 0 ∷ 0 ∷ 0 ∷ [] };
-      writer_id = sender.entity;
-      writer_sn = number;
-      content = c;
-    }) ∷ [] in
-    let w : IsWritable (message_with sender.prefix (InfoDst other ∷ rest)) =
-    short_writable (message_with sender.prefix (InfoDst other ∷ rest)) prefix (
+    let w : IsWritable (announced sender number c other units) =
+    short_writable (announced sender number c other units) prefix (
       of_other,
       (moment, ((record { reader = refl; writer = entity; first = first; small = omega (arith, small) }, valid), tt)),
     )

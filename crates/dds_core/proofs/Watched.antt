@@ -72,6 +72,24 @@ done_call refusal after kept new (Err code) reply config peer s c answers none i
     watched_call kept new config peer s c reply none
     (answers _ (refused_so _ _ _ peer.part code reply new (ap refusal s.watch ∙ refused) is (err ∙ sym s.watch)))
 
+-- it is refused, for a cause or for want of memory
+wanting : (needs : Bool) (refusal : Option Code) (answer : Reply) (after : Watched) (part : Part) (code : Code)
+    (reply : Reply) (new : Watched) → Refuses refusal code → (needs ≡ false → refusal ≡ Some code)
+    → reply ≡ Refused code → new ≡ part.dds.watch
+    → IsAnsweredInMemory needs refusal answer after part reply (record part.dds { watch = new })
+wanting needs (Some cause) answer after part code reply new is certain told same =
+    inl (refused_so (Some cause) answer after part cause reply new refl (told
+    ∙ ap (λ (x : Code). Refused x) is) same)
+wanting true None answer after part code reply new is certain told same =
+    inr (
+      refl,
+      refl,
+      told
+          ∙ ap (λ (x : Code). Refused x) is,
+      ap (λ (w : Watched). record part.dds { watch = w }) same,
+    )
+wanting false None answer after part code reply new is certain told same = let some = certain refl in absurd cc
+
 -- one that may want memory too
 pub done_in_memory : (needs : Watched → Bool) (refusal : Watched → Option Code) (after : Watched → Watched)
     (kept : PeerKept) (new : Watched) (result : Result (Unit {0}) Code) (reply : Reply) (config : Config) (peer : Peer)
@@ -95,23 +113,6 @@ done_in_memory needs refusal after kept new
     (answers _ (wanting (needs peer.part.dds.watch) (refusal peer.part.dds.watch) _ _ peer.part code reply new
     (subst (λ (w : Watched). Refuses (refusal w) code) (sym s.watch) refused)
     (λ needless. ap refusal s.watch ∙ certain (ap needs (sym s.watch) ∙ needless)) is (err ∙ sym s.watch)))
-  where
-    wanting : (needs : Bool) (refusal : Option Code) (answer : Reply) (after : Watched) (part : Part) (code : Code)
-        (reply : Reply) (new : Watched) → Refuses refusal code → (needs ≡ false → refusal ≡ Some code)
-        → reply ≡ Refused code → new ≡ part.dds.watch
-        → IsAnsweredInMemory needs refusal answer after part reply (record part.dds { watch = new })
-    wanting needs (Some cause) answer after part code reply new is certain told same =
-        inl (refused_so (Some cause) answer after part cause reply new refl (told
-        ∙ ap (λ (x : Code). Refused x) is) same)
-    wanting true None answer after part code reply new is certain told same =
-        inr (
-          refl,
-          refl,
-          told
-              ∙ ap (λ (x : Code). Refused x) is,
-          ap (λ (w : Watched). record part.dds { watch = w }) same,
-        )
-    wanting false None answer after part code reply new is certain told same = let some = certain refl in absurd cc
 
 -- one that gives something, which it tells, and may want memory
 pub given_in_memory : {X : Type 0} (tells : X → Reply) (told : Result X Code → Reply)
@@ -134,24 +135,9 @@ given_in_memory tells told on_ok on_err refusal gives after kept new
 given_in_memory tells told on_ok on_err refusal gives after kept new
     (Err code) reply config peer s c answers none is ok value taken refused err =
     watched_call kept new config peer s c reply none
-    (answers _ (wanting (refusal peer.part.dds.watch) _ _ peer.part code reply new
-    (subst (λ (w : Watched). Refuses (refusal w) code) (sym s.watch) refused) (is ∙ on_err code) (err ∙ sym s.watch)))
-  where
-    wanting : (refusal : Option Code) (answer : Reply) (after : Watched) (part : Part) (code : Code) (reply : Reply)
-        (new : Watched) → Refuses refusal code
-        → reply ≡ Refused code → new ≡ part.dds.watch
-        → IsAnsweredInMemory true refusal answer after part reply (record part.dds { watch = new })
-    wanting (Some cause) answer after part code reply new is told same =
-        inl (refused_so (Some cause) answer after part cause reply new refl (told
-        ∙ ap (λ (x : Code). Refused x) is) same)
-    wanting None answer after part code reply new is told same =
-        inr (
-          refl,
-          refl,
-          told
-              ∙ ap (λ (x : Code). Refused x) is,
-          ap (λ (w : Watched). record part.dds { watch = w }) same,
-        )
+    (answers _ (wanting true (refusal peer.part.dds.watch) _ _ peer.part code reply new
+    (subst (λ (w : Watched). Refuses (refusal w) code) (sym s.watch) refused) (λ needless. absurd cc) (is ∙ on_err code)
+    (err ∙ sym s.watch)))
 
 -- a call that tells something, and changes nothing
 pub told_call : {tests : Tests} (kept : PeerKept) (config : Config) (peer : Peer) → StandsFor kept config peer

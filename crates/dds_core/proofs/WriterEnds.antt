@@ -23,29 +23,10 @@ use Rattle.dds_core.specs.Kept.{WriterKept, WriterIdentity, writer_identity}
 use Rattle.dds_core.specs.Matching.{destinations, reader_name, reader_names}
 use Rattle.dds_core.specs.Opening.{OpensWriter}
 use Rattle.dds_core.specs.Standing.{Enters, Ticks, WriterStands, state_of}
+use Rattle.dds_core.proofs.Acknowledging.{state_as}
 use Rattle.dds_core.proofs.Tables.{map-matched_readers, told_alike}
 
 -- a writer at its opening
-
-state_as : (w : WriterConfig) (a b : List ℕ) (c d : List (Option ℤ)) → a ≡ b → c ≡ d
-    → ◌≡◌ {A = WriterState}
-    (record {
-      policy = w.history;
-      max_samples = limit_of w.max_samples;
-      lease = w.lease;
-      written = [];
-      acknowledged = a;
-      counts = c;
-    })
-    (record {
-      policy = w.history;
-      max_samples = limit_of w.max_samples;
-      lease = w.lease;
-      written = [];
-      acknowledged = b;
-      counts = d;
-    })
-state_as w a b c d e f = cc
 
 identity_as : (entity : EntityId) (autodispose : Bool) (a b : List Destination) (c d : List ReaderName) → a ≡ b → c ≡ d
     → ◌≡◌ {A = WriterIdentity} (record { entity = entity; autodispose = autodispose; destinations = a; readers = c })
@@ -95,7 +76,8 @@ opens_writer peers w ds names limit kept count counted sent matched limited stan
             ∙ map-matched_readers (λ (n : ReaderName). n.reader) reader_name w.topic 1 peers);
         writer =
             subst (λ (s : WriterState). RtpsStandsFor kept s)
-            (state_as w (replicate count 1) _ (replicate count none) _ (sym acknowledged) (sym counts))
+            (state_as (opening w.history (limit_of w.max_samples) w.lease count) (replicate count 1) _
+            (replicate count none) _ (sym acknowledged) (sym counts))
             (subst (λ (o : Option ℕ). RtpsStandsFor kept (opening w.history o w.lease count)) limited stands);
         begun = All-from_recursion (λ (p : ReaderProxy). 1 ≤ p.acknowledged) rows (rows_begun rows count acknowledged);
       };
