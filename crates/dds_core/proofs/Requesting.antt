@@ -1,4 +1,5 @@
--- The writer that an ACKNACK names answers its matched readers, one after the other, and the peer's other writers do nothing.
+-- The writer that an ACKNACK names answers its matched readers, one after the other, and the peer's other writers do
+-- nothing.
 use Rattle.std.proofs.Common.{◌≡◌, ℕ, zero, suc, ◌+◌, ◌<◌, List, [], ◌∷◌, ◌++◌, Option, Some, None, map, take, drop, set, length, get_or, slice_get, refl, ap, sym, ◌∙◌, subst, arith, inr, append_assoc, append-nil, length-set}
 use Rattle.std.proofs.lemmas.List.{take_more, take_all}
 use Rattle.std.proofs.lemmas.Option.{same_Some, get_or_from_slice_get}

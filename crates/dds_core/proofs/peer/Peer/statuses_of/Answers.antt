@@ -13,7 +13,8 @@ returns-in-Some c = λ config peer given.
     let within : i < length c.self.inside.writers.items = search rules in
     c.status_changes.ensures (own_writer peer.part (suc i)) (peer.known.answered (suc i))
     (s.writers.each i c.index.result.now (slice_get_read _ _ _ _ refl within c.index.ensures))
-    ∙ (ap (λ (n : ℕ). writer_statuses (own_writer peer.part n)) (number_is c.in-Writer.number i c.in-Some.ensures.index.0)
+    ∙ (ap (λ (n : ℕ). writer_statuses (own_writer peer.part n))
+    (number_is c.in-Writer.number i c.in-Some.ensures.index.0)
     ∙ ap (λ (e : Entity). status_changes peer.part e) (sym c.in-Writer.is))
 
 pub returns-in-Some-index_of : goal.returns-in-Some-index_of

@@ -56,8 +56,8 @@ returns-then-not-is_registered-clause-step c = λ config peer s.
     let at : slice_get c.args.self.now.writers i ≡ Some c.index.result.now =
     subst (λ (k : PeerKept). slice_get k.writers i ≡ Some c.index.result.now) c.self.view_is there in
     follows_as _ config peer _ _ _ c.refused-then-not-is_registered.ensures
-    (unregistered_at c.args.self.now c.args.writer i c.index.result.now c.args.key config peer s c.in-Some.ensures.index.0
-    within at (λ w answered stands. sym (c.is_registered.ensures w answered stands) ∙ c.if-not-is_registered.true))
+    (unregistered_at c.args.self.now c.args.writer i c.index.result.now c.args.key config peer s
+    c.in-Some.ensures.index.0 within at (λ w answered stands. sym (c.is_registered.ensures w answered stands) ∙ c.if-not-is_registered.true))
 
 pub returns-clause-step : goal.returns-clause-step
 returns-clause-step c = (unregisters c).0
