@@ -28,7 +28,7 @@ use Rattle.dds_core.proofs.Beating.{adds_none, adds_on}
 use Rattle.dds_core.proofs.Lists.{element, get-within}
 use Rattle.dds_core.proofs.Makes.{set_get}
 use Rattle.dds_core.proofs.Ready.{partner}
-use Rattle.dds_core.proofs.RowsAnswered.{IsOwn, RowAnswered, one_entity, own_end, own_is, row_answered, row_idle, row_at}
+use Rattle.dds_core.proofs.RowsAnswered.{IsAtRow, IsOwn, RowAnswered, one_entity, own_end, own_is, row_answered, row_idle, row_at}
 use Rattle.dds_core.proofs.Turns.{turn_more}
 
 -- ---- turns in which nothing, or one alone, does something
@@ -135,13 +135,6 @@ rows_none old index a k rooms moves sent at_k = record {
   others = refl;
 }
 
--- the reader of this row, by its name, at the writer as it was and as it is by now
-record IsAtRow (k there : WriterKept) (i : ℕ) : Type 0 where
-  name : ReaderName
-  was : slice_get k.readers i ≡ Some name
-  at : slice_get there.readers i ≡ Some name
-  more : take (i + 1) k.readers ≡ take i k.readers ++ name ∷ []
-
 at_row : (k there : WriterKept) (i : ℕ) → writer_identity there ≡ writer_identity k → i < length k.readers
     → IsAtRow k there i
 at_row k there i same lt =
@@ -215,7 +208,7 @@ rows_skip old now index a k rooms i moves after sent gone h lt none =
       takes =
           row_more old now now index a k rooms i None moves after [] sent gone gone h r none
           (λ config peer stands at not.
-          row_idle (row_at now index i h.there r.name h.at r.at config peer stands) at a gone not);
+          row_idle (row_at now index i k h.there h.at r config peer stands) at a gone not);
       there = h.there;
       at = h.at;
       same = h.same;
@@ -239,7 +232,7 @@ rows_more old now new index a k rooms i room moves mid after sent went gone h lt
       takes =
           row_more old now new index a k rooms i (Some room) moves mid made sent went gone h r is
           (λ config peer stands at from.
-          row_answered (row_at now index i h.there r.name h.at r.at config peer stands) at a from.0 mid went new after
+          row_answered (row_at now index i k h.there h.at r config peer stands) at a from.0 mid went new after
           gone t);
       there = t.writer;
       at = ap (λ (x : PeerKept). slice_get x.writers index) t.new_is ∙ set_get now.writers index h.there t.writer h.at;

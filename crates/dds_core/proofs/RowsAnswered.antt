@@ -1,5 +1,5 @@
 -- A writer of the peer takes an ACKNACK of one of its matched readers, by the rules of the protocol.
-use Rattle.std.proofs.Common.{◌≡◌, ℕ, suc, ◌+◌, ◌≤◌, ◌==◌, Bool, true, false, cond, ◌&&◌, List, [], ◌∷◌, Option, Some, None, map, max, length, get_or, slice_get, refl, ap, sym, ◌∙◌, subst, arith, inl, inr, length-append, nat_lt, eq-eqb, eqb-true}
+use Rattle.std.proofs.Common.{◌≡◌, ℕ, suc, ◌+◌, ◌≤◌, ◌==◌, Bool, true, false, cond, ◌&&◌, List, [], ◌∷◌, ◌++◌, Option, Some, None, map, max, take, length, get_or, slice_get, refl, ap, sym, ◌∙◌, subst, arith, inl, inr, length-append, nat_lt, eq-eqb, eqb-true}
 use Rattle.std.specs.Prelude.{ℤ, if◌then◌else◌}
 use Rattle.std.proofs.lemmas.Bool.Decides.{nat_tests}
 use Rattle.dds_base.specs.declared.config.Config.{Config}
@@ -154,21 +154,27 @@ pub record Row : Type 0 where
   pub name : ReaderName
   pub at_name : slice_get k.readers row ≡ Some name
 
--- the row, where the values stand for this peer
-abbrev pub row_at : (kept : PeerKept) (i row : ℕ) (k : WriterKept) (name : ReaderName)
-    → slice_get kept.writers i ≡ Some k → slice_get k.readers row ≡ Some name → (config : Config) (peer : Peer)
-    → StandsFor kept config peer → Row
-row_at kept i row k name at_k at_name config peer stands = record {
+-- the reader of this row, by its name, at the writer as it was and as it is by now
+pub record IsAtRow (k there : WriterKept) (row : ℕ) : Type 0 where
+  pub name : ReaderName
+  pub was : slice_get k.readers row ≡ Some name
+  pub at : slice_get there.readers row ≡ Some name
+  pub more : take (row + 1) k.readers ≡ take row k.readers ++ name ∷ []
+
+-- its row, where the values stand for this peer
+abbrev pub row_at : (kept : PeerKept) (i row : ℕ) (k there : WriterKept) → slice_get kept.writers i ≡ Some there
+    → IsAtRow k there row → (config : Config) (peer : Peer) → StandsFor kept config peer → Row
+row_at kept i row k there at_there r config peer stands = record {
   config = config;
   peer = peer;
   kept = kept;
   stands = stands;
   i = i;
-  k = k;
-  at_k = at_k;
+  k = there;
+  at_k = at_there;
   row = row;
-  name = name;
-  at_name = at_name;
+  name = r.name;
+  at_name = r.at;
 }
 
 -- what the configuration says of its writer
