@@ -25,7 +25,7 @@ pub struct InstanceTrack {
     pub last_accepted: Option<ChangeKind>,
     pub disposed_generations: u64,
     pub no_writers_generations: u64,
-    /// The position of the latest rebirth, 0 where it had none.
+    /// Where its present life begins: the position of the latest rebirth, or 0, the start.
     pub latest_rebirth: u64,
     /// The position of the last marker.
     pub last_marker: Option<u64>,
