@@ -1,4 +1,5 @@
--- What the search for a fault finds is a rule that is broken, and it finds one exactly where a configuration is refused.
+-- What the search for a fault finds is a rule that is broken, and it finds one exactly where a configuration is
+-- refused.
 use Rattle.std.proofs.Common.{◌≡◌, ℕ, suc, ◌+◌, ◌-◌, ◌==◌, Bool, true, false, not, ◌||◌, Option, Some, None, List, [], ◌∷◌, length, slice_get, is_some, IfSome, IfNone, refl, subst, ap, sym, ◌∙◌, arith}
 use Rattle.std.specs.Prelude.{if◌then◌else◌, nat_lt}
 use Rattle.std.specs.List.{list_any}
@@ -33,10 +34,6 @@ or_swap true b c d = refl
 or_swap false true true d = refl
 or_swap false true false d = refl
 or_swap false false c d = refl
-
-or_assoc : (a b c : Bool) → ((a || b) || c) ≡ (a || (b || c))
-or_assoc true b c = refl
-or_assoc false b c = refl
 
 any_or : {X : Type 0} (p q : X → Bool) (xs : List X) → list_any (λ x. p x || q x) xs ≡ (list_any p xs || list_any q xs)
 any_or p q [] = refl
@@ -96,13 +93,10 @@ bad_reader : (peers : List PeerConfig) (p : PeerConfig) (peer n : ℕ) (r : Read
     → is_some (reader_fault Parameters peers peer p n r) ≡ (nat_lt 1 (entity_count p r.entity) || is_bad_reader r)
 bad_reader peers p peer n r =
     some_reader Parameters peers p peer n r
-    ∙ (ap (λ (b : Bool). nat_lt 1 (entity_count p r.entity) ||
+    ∙ ap (λ (b : Bool). nat_lt 1 (entity_count p r.entity) ||
     (not (has_kind 7 r.entity)
-    || (has_no_depth r.history || ((not (is_maximum r.max_samples) || not (is_maximum r.max_instances)) || b))))
+    || (has_no_depth r.history || (not (is_maximum r.max_samples) || (not (is_maximum r.max_instances) || b)))))
     (or_false (is_bad_lease r.lease))
-    ∙ ap (λ (b : Bool). nat_lt 1
-    (entity_count p r.entity) || (not (has_kind 7 r.entity) || (has_no_depth r.history || b)))
-    (or_assoc (not (is_maximum r.max_samples)) (not (is_maximum r.max_instances)) (is_bad_lease r.lease)))
 
 exceeding_writer : (p : PeerConfig) (peer n : ℕ) (w : WriterConfig)
     → is_some (writer_fault Policies peer p n w) ≡ exceeds_limit w.history w.max_samples
@@ -274,8 +268,10 @@ writer_each Q Policies p w h = (λ e. h _ e refl, tt)
 reader_each : (Q : ConfigRule → Type 0) (pass : Pass) (peers : List PeerConfig) (p : PeerConfig) (r : ReaderConfig)
     → ((rule : ConfigRule) → breaks_as_reader peers p rule r ≡ true → code_of_rule rule ≡ pass_code pass → Q rule)
     → Each Q (reader_rules pass peers p r)
-reader_each Q Parameters peers p r h =
-    (λ e. h _ e refl, (λ e. h _ e refl, (λ e. h _ e refl, (λ e. h _ e refl, (λ e. h _ e refl, tt)))))
+reader_each Q Parameters peers p r h = (
+  λ e. h _ e refl,
+  (λ e. h _ e refl, (λ e. h _ e refl, (λ e. h _ e refl, (λ e. h _ e refl, (λ e. h _ e refl, tt))))),
+)
 reader_each Q Policies peers p r h = (λ e. h _ e refl, (λ e. h _ e refl, (λ e. h _ e refl, tt)))
 
 peer_each : (Q : ConfigRule → Type 0) (pass : Pass) (peers : List PeerConfig) (p : PeerConfig)

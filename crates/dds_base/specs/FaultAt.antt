@@ -1,5 +1,5 @@
--- The search for the first rule that a configuration breaks: what the code does, on lists. Nothing here has to be believed,
--- since `Config::fault` says what it finds by `Checked` and `Faults` alone.
+-- The search for the first rule that a configuration breaks: what the code does, on lists. Nothing here has to be
+-- believed, since `Config::fault` says what it finds by `Checked` and `Faults` alone.
 --
 -- DDS 1.4, 2.2.1.1 (BAD_PARAMETER, INCONSISTENT_POLICY), 2.2.3.
 use Rattle.std.specs.Prelude.{ℕ, ◌+◌, ◌==◌, ◌||◌, Bool, not, List, [], ◌∷◌, length, nat_lt, Option, Some, None, if◌then◌else◌}
@@ -12,7 +12,7 @@ use Rattle.dds_base.specs.declared.config_rules.PairPolicy.TheVariants as policy
 use Rattle.dds_base.specs.declared.config_rules.Pass.{Pass}
 use Rattle.dds_base.specs.declared.config_rules.Pass.TheVariants.{Parameters, Policies}
 use Rattle.dds_base.specs.declared.config_fault.ConfigRule.{ConfigRule}
-use Rattle.dds_base.specs.declared.config_fault.ConfigRule.TheVariants.{PeerCount, WriterCount, ReaderCount, KnownPrefix, OwnPrefix, OwnEntity, EntityKind, Depth, Maximum, Lease, DepthWithinMaximum, SameOwnership, OfferedLease}
+use Rattle.dds_base.specs.declared.config_fault.ConfigRule.TheVariants.{PeerCount, WriterCount, ReaderCount, KnownPrefix, OwnPrefix, OwnEntity, EntityKind, Depth, MaxSamples, MaxInstances, Lease, DepthWithinMaximum, SameOwnership, OfferedLease}
 use Rattle.dds_base.specs.declared.config_fault.ConfigPlace.{ConfigPlace}
 use Rattle.dds_base.specs.declared.config_fault.ConfigPlace.TheVariants.{Whole, Peer, Writer, Reader}
 use Rattle.dds_base.specs.declared.config_fault.ConfigFault.{ConfigFault}
@@ -30,7 +30,7 @@ abbrev pub writer_rules : Pass → PeerConfig → WriterConfig → List (ConfigR
 writer_rules Parameters p w =
     (OwnEntity, nat_lt 1 (entity_count p w.entity)) ∷ (EntityKind, not (has_kind 2 w.entity)) ∷
     (Depth, has_no_depth w.history)
-    ∷ (Maximum, not (is_maximum w.max_samples)) ∷ (Lease, is_bad_lease w.lease) ∷ []
+    ∷ (MaxSamples, not (is_maximum w.max_samples)) ∷ (Lease, is_bad_lease w.lease) ∷ []
 writer_rules Policies p w = (DepthWithinMaximum, exceeds_limit w.history w.max_samples) ∷ []
 
 -- a writer does not fit a reader that it is matched with, in this policy
@@ -43,7 +43,8 @@ abbrev pub reader_rules : Pass → List PeerConfig → PeerConfig → ReaderConf
 reader_rules Parameters peers p r =
     (OwnEntity, nat_lt 1 (entity_count p r.entity)) ∷ (EntityKind, not (has_kind 7 r.entity)) ∷
     (Depth, has_no_depth r.history)
-    ∷ (Maximum, not (is_maximum r.max_samples) || not (is_maximum r.max_instances)) ∷ (Lease, is_bad_lease r.lease) ∷ []
+    ∷ (MaxSamples, not (is_maximum r.max_samples)) ∷ (MaxInstances, not (is_maximum r.max_instances))
+    ∷ (Lease, is_bad_lease r.lease) ∷ []
 reader_rules Policies peers p r =
     (DepthWithinMaximum, exceeds_limit r.history r.max_samples)
     ∷ (SameOwnership, list_any (λ (w : WriterConfig). differ w.ownership r.ownership) (matched_writers_of peers r))

@@ -8,7 +8,7 @@ use Rattle.dds_base.specs.declared.config.PeerConfig.{PeerConfig}
 use Rattle.dds_base.specs.declared.config.WriterConfig.{WriterConfig}
 use Rattle.dds_base.specs.declared.config.ReaderConfig.{ReaderConfig}
 use Rattle.dds_base.specs.declared.config_fault.ConfigRule.{ConfigRule}
-use Rattle.dds_base.specs.declared.config_fault.ConfigRule.TheVariants.{PeerCount, WriterCount, ReaderCount, KnownPrefix, OwnPrefix, OwnEntity, EntityKind, Depth, Maximum, Lease, DepthWithinMaximum, SameOwnership, OfferedLease}
+use Rattle.dds_base.specs.declared.config_fault.ConfigRule.TheVariants.{PeerCount, WriterCount, ReaderCount, KnownPrefix, OwnPrefix, OwnEntity, EntityKind, Depth, MaxSamples, MaxInstances, Lease, DepthWithinMaximum, SameOwnership, OfferedLease}
 use Rattle.dds_base.specs.declared.config_fault.ConfigPlace.{ConfigPlace}
 use Rattle.dds_base.specs.declared.config_fault.ConfigPlace.TheVariants.{Whole, Peer, Writer, Reader}
 use Rattle.dds_base.specs.declared.config_fault.ConfigFault.{ConfigFault}
@@ -40,7 +40,7 @@ abbrev pub breaks_as_writer : PeerConfig → ConfigRule → WriterConfig → Boo
 breaks_as_writer p OwnEntity w = nat_lt 1 (entity_count p w.entity)
 breaks_as_writer p EntityKind w = not (has_kind 2 w.entity)
 breaks_as_writer p Depth w = has_no_depth w.history
-breaks_as_writer p Maximum w = not (is_maximum w.max_samples)
+breaks_as_writer p MaxSamples w = not (is_maximum w.max_samples)
 breaks_as_writer p Lease w = is_bad_lease w.lease
 breaks_as_writer p DepthWithinMaximum w = exceeds_limit w.history w.max_samples
 breaks_as_writer p _ w = false
@@ -50,7 +50,8 @@ abbrev pub breaks_as_reader : List PeerConfig → PeerConfig → ConfigRule → 
 breaks_as_reader peers p OwnEntity r = nat_lt 1 (entity_count p r.entity)
 breaks_as_reader peers p EntityKind r = not (has_kind 7 r.entity)
 breaks_as_reader peers p Depth r = has_no_depth r.history
-breaks_as_reader peers p Maximum r = not (is_maximum r.max_samples) || not (is_maximum r.max_instances)
+breaks_as_reader peers p MaxSamples r = not (is_maximum r.max_samples)
+breaks_as_reader peers p MaxInstances r = not (is_maximum r.max_instances)
 breaks_as_reader peers p Lease r = is_bad_lease r.lease
 breaks_as_reader peers p DepthWithinMaximum r = exceeds_limit r.history r.max_samples
 breaks_as_reader peers p SameOwnership r =

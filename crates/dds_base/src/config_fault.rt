@@ -30,8 +30,10 @@ pub enum ConfigRule {
     EntityKind,
     /// A depth is not 0 (HISTORY).
     Depth,
-    /// A maximum is -1 or positive (RESOURCE_LIMITS).
-    Maximum,
+    /// `max_samples` is -1, for no limit, or positive (RESOURCE_LIMITS).
+    MaxSamples,
+    /// `max_instances` of a reader is -1, for no limit, or positive (RESOURCE_LIMITS).
+    MaxInstances,
     /// A lease is from 1 to 2^63 - 1 units of 2^-32 second (LIVELINESS).
     Lease,
     /// A depth is at most `max_samples`, where that is a limit (HISTORY, RESOURCE_LIMITS).
@@ -43,8 +45,8 @@ pub enum ConfigRule {
 }
 
 impl ConfigRule {
-    /// The code with which a configuration that breaks the rule is refused: `InconsistentPolicy` for the last three rules,
-    /// `BadParameter` for all others.
+    /// The code with which a configuration that breaks the rule is refused: `InconsistentPolicy` for the last three
+    /// rules, `BadParameter` for all others.
     pub fn code(self) -> Code
         ensures code { result ≡ code_of_rule self }
     {
@@ -66,7 +68,8 @@ impl ConfigRule {
             ConfigRule::OwnEntity => "another writer or reader of its peer has its entity",
             ConfigRule::EntityKind => "its entity has the wrong kind",
             ConfigRule::Depth => "its depth is 0",
-            ConfigRule::Maximum => "a maximum is neither -1 nor positive",
+            ConfigRule::MaxSamples => "its max_samples is neither -1 nor positive",
+            ConfigRule::MaxInstances => "its max_instances is neither -1 nor positive",
             ConfigRule::Lease => "its lease is 0 or too long",
             ConfigRule::DepthWithinMaximum => "its depth is above its maximum of samples",
             ConfigRule::SameOwnership => "a matched writer has another ownership",

@@ -23,8 +23,8 @@ const MAX_ENDS: usize = 16;
 /// From this one on a lease is too long, in units of 2^-32 second.
 const LEASE_END: u64 = 1 << 63;
 
-/// Which rules are looked at: those of each parameter, or those of policies with one another. A bad parameter anywhere goes
-/// before an inconsistent policy anywhere.
+/// Which rules are looked at: those of each parameter, or those of policies with one another. A bad parameter anywhere
+/// goes before an inconsistent policy anywhere.
 #[derive(Clone, Copy)]
 pub enum Pass {
     /// The rules of each parameter by itself.
@@ -126,7 +126,7 @@ fn writer_parameter(peer: &PeerConfig, writer: &WriterConfig) -> Option<ConfigRu
         return Some(ConfigRule::Depth);
     }
     if !is_maximum(writer.max_samples) {
-        return Some(ConfigRule::Maximum);
+        return Some(ConfigRule::MaxSamples);
     }
     if is_bad_lease(writer.lease) {
         return Some(ConfigRule::Lease);
@@ -163,8 +163,11 @@ fn reader_parameter(peer: &PeerConfig, reader: &ReaderConfig) -> Option<ConfigRu
     if has_no_depth(reader.history) {
         return Some(ConfigRule::Depth);
     }
-    if !is_maximum(reader.max_samples) || !is_maximum(reader.max_instances) {
-        return Some(ConfigRule::Maximum);
+    if !is_maximum(reader.max_samples) {
+        return Some(ConfigRule::MaxSamples);
+    }
+    if !is_maximum(reader.max_instances) {
+        return Some(ConfigRule::MaxInstances);
     }
     if is_bad_lease(reader.lease) {
         return Some(ConfigRule::Lease);
@@ -189,7 +192,8 @@ fn reader_policy(peers: &[PeerConfig], reader: &ReaderConfig) -> Option<ConfigRu
     None
 }
 
-/// Whether the writer does not fit the reader in this policy: it has another ownership, or a longer lease than it asks for.
+/// Whether the writer does not fit the reader in this policy: it has another ownership, or a longer lease than it asks
+/// for.
 fn is_unfit(policy: PairPolicy, writer: &WriterConfig, reader: &ReaderConfig) -> bool
     ensures { result ≡ is_unfit policy writer.now reader.now }
 {

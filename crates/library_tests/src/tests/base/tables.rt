@@ -1,7 +1,8 @@
 //! Rows about what every crate speaks of.
 
-/// Octets, and what they begin with: a datum (its key and its value, or how long that is), a datum (its key alone), a key form. It
-/// says `written so` where they are the one written form of it: representation CDR_LE, options, key, length of the value, value.
+/// Octets, and what they begin with: a datum (its key and its value, or how long that is), a datum (its key alone), a
+/// key form. It says `written so` where they are the one written form of it: representation CDR_LE, options, key,
+/// length of the value, value.
 pub const DATA: &str = "\
 decode 0001 0000 00000000000000000000000000000001 02000000 6162 => 00000000000000000000000000000001 6162 written so; 00000000000000000000000000000001; 00000000000000000000000000000001
 # CDR_BE.
@@ -40,7 +41,8 @@ instances => [ALIVE 1][DISPOSED 2][NO_WRITERS 4][NOT_ALIVE 6][ANY 65535][true]
 numbers => 7 8 9 true
 ";
 
-/// Configurations as in `CONFIGS`, and the fault of each: one for each rule, the first place that breaks it, and the code.
+/// Configurations as in `CONFIGS`, and the fault of each: one for each rule, the first place that breaks it, and the
+/// code.
 pub const FAULTS: &str = "\
 fault writer reader => none
 fault peers=0 => the configuration: there are no peers, or more than 16, BAD_PARAMETER
@@ -51,17 +53,18 @@ fault prefix=1 writer reader => peer 1: another peer has its prefix, BAD_PARAMET
 fault writer writer reader => writer 1 of peer 1: another writer or reader of its peer has its entity, BAD_PARAMETER
 fault writer reader kind=2 => reader 1 of peer 2: its entity has the wrong kind, BAD_PARAMETER
 fault writer times=2 writer last=0 reader => writer 3 of peer 1: its depth is 0, BAD_PARAMETER
-fault writer reader instances=0 => reader 1 of peer 2: a maximum is neither -1 nor positive, BAD_PARAMETER
+fault writer max=0 reader => writer 1 of peer 1: its max_samples is neither -1 nor positive, BAD_PARAMETER
+fault writer reader instances=0 => reader 1 of peer 2: its max_instances is neither -1 nor positive, BAD_PARAMETER
 fault writer lease=0 reader => writer 1 of peer 1: its lease is 0 or too long, BAD_PARAMETER
 fault writer last=3 max=2 reader => writer 1 of peer 1: its depth is above its maximum of samples, INCONSISTENT_POLICY
 fault writer exclusive reader => reader 1 of peer 2: a matched writer has another ownership, INCONSISTENT_POLICY
 fault writer lease=20 reader lease=10 => reader 1 of peer 2: a matched writer has a longer lease than it asks for, INCONSISTENT_POLICY
 ";
 
-/// Configurations, and the answer to each. There are two peers, or as many as `peers` says; the first has the writers, and the last,
-/// which may have another `prefix`, the readers. A writer or a reader keeps all, has no limits and no lease, and is shared,
-/// but for the words after it: its entity `kind`, `last` so many are kept, its `max`_samples, its max_`instances`, its `lease`, its
-/// `topic`, and how many `times` it is there, each time as another entity.
+/// Configurations, and the answer to each. There are two peers, or as many as `peers` says; the first has the writers,
+/// and the last, which may have another `prefix`, the readers. A writer or a reader keeps all, has no limits and no
+/// lease, and is shared, but for the words after it: its entity `kind`, `last` so many are kept, its `max`_samples, its
+/// max_`instances`, its `lease`, its `topic`, and how many `times` it is there, each time as another entity.
 pub const CONFIGS: &str = "\
 # Peers that keep all are taken.
 check writer reader => Ok(())
