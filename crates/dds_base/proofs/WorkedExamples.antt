@@ -167,10 +167,10 @@ take-no_writers : answer shared (came 1 3 Write (2 ∷ []) ∷ came 1 2 Unregist
 take-no_writers = refl
 
 -- a dispose of an instance without writers raises no count, and its marker replaces the older one
-take-dispose_abandoned : answer shared
+take-dispose_without_writers : answer shared
     (came 1 4 Write (2 ∷ []) ∷ came 1 3 Dispose [] ∷ came 1 2 Unregister [] ∷ came 1 1 Write (1 ∷ []) ∷ []) None any
     ≡ info NR New Alive 0 0 2 1 1 true 1 ∷ info NR New Alive 0 0 1 1 1 false 1 ∷ info NR New Alive 1 0 0 0 0 true 1 ∷ []
-take-dispose_abandoned = refl
+take-dispose_without_writers = refl
 
 -- a dispose with unregister leaves the instance DISPOSED, with one marker
 take-dispose_unregister : answer shared (came 1 2 DisposeUnregister [] ∷ came 1 1 Write (1 ∷ []) ∷ []) None any

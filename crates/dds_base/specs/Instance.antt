@@ -62,8 +62,8 @@ abbrev pub revives_disposed : ReaderQos → Key → List Happening → Happening
 revives_disposed q i h e = is_write (accepted_kind q i h e) && is_disposed (instance_state_of q i h)
 
 -- the entry is an accepted write of i that comes upon a NO_WRITERS instance
-abbrev pub revives_abandoned : ReaderQos → Key → List Happening → Happening → Bool
-revives_abandoned q i h e = is_write (accepted_kind q i h e) && is_without_writers (instance_state_of q i h)
+abbrev pub revives_without_writers : ReaderQos → Key → List Happening → Happening → Bool
+revives_without_writers q i h e = is_write (accepted_kind q i h e) && is_without_writers (instance_state_of q i h)
 
 -- how often i became alive again after a dispose (2.2.2.5, disposed_generation_count)
 abbrev pub disposed_generations : ReaderQos → Key → List Happening → ℕ
@@ -73,7 +73,7 @@ disposed_generations q i (e ∷ h) = disposed_generations q i h + (if revives_di
 -- how often i became alive again after it had no writers (2.2.2.5, no_writers_generation_count)
 abbrev pub no_writers_generations : ReaderQos → Key → List Happening → ℕ
 no_writers_generations q i [] = 0
-no_writers_generations q i (e ∷ h) = no_writers_generations q i h + (if revives_abandoned q i h e then 1 else 0)
+no_writers_generations q i (e ∷ h) = no_writers_generations q i h + (if revives_without_writers q i h e then 1 else 0)
 
 -- both counts together
 abbrev pub generations_of : ReaderQos → Key → List Happening → ℕ
@@ -81,7 +81,7 @@ generations_of q i h = disposed_generations q i h + no_writers_generations q i h
 
 -- the entry is a rebirth of i
 abbrev pub is_rebirth : ReaderQos → Key → List Happening → Happening → Bool
-is_rebirth q i h e = revives_disposed q i h e || revives_abandoned q i h e
+is_rebirth q i h e = revives_disposed q i h e || revives_without_writers q i h e
 
 -- the position of i's latest rebirth, or the start
 abbrev pub latest_rebirth : ReaderQos → Key → List Happening → ℕ

@@ -79,7 +79,7 @@ fn is_disposed_state(state: Option<InstanceState>) -> bool
     }
 }
 
-fn is_abandoned_state(state: Option<InstanceState>) -> bool
+fn is_without_writers_state(state: Option<InstanceState>) -> bool
     ensures { result ≡ is_without_writers state }
 {
     match state {
@@ -184,10 +184,10 @@ impl InstanceTrack {
         self.last_accepted = first_there(kind, self.last_accepted);
         let is_write = is_written(kind);
         let revives_disposed = is_write && is_disposed_state(before);
-        let revives_abandoned = is_write && is_abandoned_state(before);
+        let revives_without_writers = is_write && is_without_writers_state(before);
         self.disposed_generations += count_if(revives_disposed);
-        self.no_writers_generations += count_if(revives_abandoned);
-        let is_rebirth = revives_disposed || revives_abandoned;
+        self.no_writers_generations += count_if(revives_without_writers);
+        let is_rebirth = revives_disposed || revives_without_writers;
         self.latest_rebirth = chosen(is_rebirth, position, self.latest_rebirth);
         self.is_seen = !is_rebirth && self.is_seen;
         let is_marked = is_new_end(before, self.state());
