@@ -7,7 +7,7 @@ use Rattle.dds_model.specs.declared.call.Call.TheVariants as call
 use Rattle.dds_model.specs.declared.event.Event.TheVariants as event
 use Rattle.dds_model.specs.declared.event.Output.{Output}
 use Rattle.dds_model.specs.declared.reply.Reply.{Reply}
-use Rattle.dds_model.specs.declared.reply.Reply.TheVariants.{Done, InstanceHandle, KeyValue, LivelinessChanged, LivelinessLost, Refused, Reported, SampleLost}
+use Rattle.dds_model.specs.declared.reply.Reply.TheVariants.{KeyValue, Refused, Reported}
 use Rattle.dds_model.specs.Calls.{Answers}
 use Rattle.dds_model.specs.Part.{Dds, Part}
 use Rattle.dds_model.specs.Peer.{EventStep, Peer}
@@ -29,26 +29,16 @@ any_answers tests old (call.Register w key) reply dds plain a = a
 any_answers tests old (call.Write w key value) reply dds plain a = a
 any_answers tests old (call.Dispose w key) reply dds plain a = a
 any_answers tests old (call.Unregister w key) reply dds plain a = a
-any_answers tests old (call.AssertLiveliness w) Done dds plain a = a
-any_answers tests old (call.AssertLiveliness w) (Refused code) dds plain a = a
-any_answers tests old (call.AssertLiveliness w) reply dds plain a = absurd a
+any_answers tests old (call.AssertLiveliness w) reply dds plain a = a
 any_answers tests old (call.Read r selection) reply dds plain a = a
 any_answers tests old (call.Take r selection) reply dds plain a = a
 any_answers tests old (call.GetKeyValue r instance) (KeyValue key) dds plain a = a
 any_answers tests old (call.GetKeyValue r instance) (Refused code) dds plain a = a
 any_answers tests old (call.GetKeyValue r instance) reply dds plain a = absurd a
-any_answers tests old (call.LookupInstance r key) (InstanceHandle handle) dds plain a = a
-any_answers tests old (call.LookupInstance r key) (Refused code) dds plain a = a
-any_answers tests old (call.LookupInstance r key) reply dds plain a = absurd a
-any_answers tests old (call.GetSampleLost r) (SampleLost status) dds plain a = a
-any_answers tests old (call.GetSampleLost r) (Refused code) dds plain a = a
-any_answers tests old (call.GetSampleLost r) reply dds plain a = absurd a
-any_answers tests old (call.GetLivelinessChanged r) (LivelinessChanged status) dds plain a = a
-any_answers tests old (call.GetLivelinessChanged r) (Refused code) dds plain a = a
-any_answers tests old (call.GetLivelinessChanged r) reply dds plain a = absurd a
-any_answers tests old (call.GetLivelinessLost w) (LivelinessLost status) dds plain a = a
-any_answers tests old (call.GetLivelinessLost w) (Refused code) dds plain a = a
-any_answers tests old (call.GetLivelinessLost w) reply dds plain a = absurd a
+any_answers tests old (call.LookupInstance r key) reply dds plain a = a
+any_answers tests old (call.GetSampleLost r) reply dds plain a = a
+any_answers tests old (call.GetLivelinessChanged r) reply dds plain a = a
+any_answers tests old (call.GetLivelinessLost w) reply dds plain a = a
 any_answers tests old (call.ReadByCondition r scope c) reply dds plain a = absurd cc
 any_answers tests old (call.TakeByCondition r scope c) reply dds plain a = absurd cc
 any_answers tests old (call.CreateReadCondition r masks) reply dds plain a = a

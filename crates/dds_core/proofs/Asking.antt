@@ -13,12 +13,13 @@ use Rattle.dds_model.specs.declared.event.Event.TheVariants as event
 use Rattle.dds_model.specs.declared.reply.Reply.TheVariants.{KeyValue, InstanceHandle, Refused}
 use Rattle.dds_model.specs.Refusals.{reader_refusal, key_of, key_refusal}
 use Rattle.dds_model.specs.Numbered.{has_element}
+use Rattle.dds_model.specs.Calls.{handle_at}
 use Rattle.dds_model.specs.Part.{Part, own_reader}
 use Rattle.dds_model.specs.Peer.{Peer}
 use Rattle.dds_core.specs.Kept.{ReaderKept, PeerKept}
 use Rattle.dds_core.specs.Standing.{StandsFor}
 use Rattle.dds_core.specs.Stored.{Holds}
-use Rattle.dds_core.proofs.CallSteps.{Follows, unchanging_call, there_is}
+use Rattle.dds_core.proofs.CallSteps.{Follows, answered_as, unchanging_call, there_is}
 use Rattle.dds_core.proofs.Taking.{silent}
 
 -- what is asked of the reader of this index, which the peer has
@@ -108,9 +109,6 @@ handle_told kept config peer reader i k key handle s is lt at says =
     let known : reader_refusal peer.part reader ≡ None =
     ap (λ (b : Bool). if not b then Some BadParameter else None) (known_reader kept config peer reader i k a) in
     unchanging_call kept config peer s (call.LookupInstance reader key)
-    (InstanceHandle handle) refl (
-      known,
-      by_store
-          (λ q h. handle_of q h key) kept config peer reader i k handle a says,
-      refl,
-    )
+    (InstanceHandle handle) refl
+    (answered_as _ (InstanceHandle (handle_at (own_reader peer.part reader) key)) peer.part.dds peer.part _ known
+    (ap InstanceHandle (by_store (λ q h. handle_of q h key) kept config peer reader i k handle a says)))

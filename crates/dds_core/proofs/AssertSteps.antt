@@ -26,7 +26,7 @@ use Rattle.dds_core.specs.Beating.{HasNoCount, TellsOf, assertions_of, due_to}
 use Rattle.dds_core.specs.Kept.{WriterKept, PeerKept}
 use Rattle.dds_core.specs.Standing.{StandsFor, Enters}
 use Rattle.dds_core.proofs.BeatsDue.{IsNamed, all_named, by_number, named, part_of, sent_true}
-use Rattle.dds_core.proofs.CallSteps.{Follows, number_is, refused_call, there_is}
+use Rattle.dds_core.proofs.CallSteps.{Follows, answered_as, number_is, refused_as, refused_call, there_is}
 use Rattle.dds_core.proofs.Destinations.{sends_to}
 use Rattle.dds_core.proofs.Ends.{with_writer, entered_at, own_writer_stepped, unchanged_with}
 use Rattle.dds_core.proofs.Taking.{silent}
@@ -101,7 +101,7 @@ asserts kept i k k' config peer s at lt enters packets unsent tells =
     let entered : Enters k (Asserted now) k' = subst (λ (m : ℕ). Enters k (Asserted m) k') (sym s.moment) enters in
     let after : Peer = entered_at peer (suc i) (Asserted now) in
     let step : CallStep no_filters peer.part (call.AssertLiveliness (suc i)) Done after.part =
-    record { answers = (accepted, refl); rtps = refl } in
+    record { answers = answered_as _ Done peer.part.dds peer.part Done accepted refl; rtps = refl } in
     let truthful =
     assertions_true config no_filters peer.number (suc i) peer.part after.part s.is_peer.checked
     (part_of config peer kept s) step in (
@@ -154,7 +154,8 @@ refuses kept i k config peer s at lt used =
     (heartbeats_used w) then Some OutOfResources else None)) known
     ∙ ap (λ (b : Bool). if b then Some OutOfResources else None)
     (used w (peer.known.answered (suc i)) (s.writers.each i k at)) in
-    refused_call kept config peer s (call.AssertLiveliness (suc i)) OutOfResources (is, refl)
+    refused_call kept config peer s (call.AssertLiveliness (suc i)) OutOfResources
+    (refused_as _ Done peer.part.dds peer.part OutOfResources is)
 
 pub refuses_at : (kept : PeerKept) (writer i : ℕ) (k k' : WriterKept) (code : Code) (config : Config) (peer : Peer)
     → StandsFor kept config peer → writer ≡ i + 1 → slice_get kept.writers i ≡ Some k → i < length kept.writers

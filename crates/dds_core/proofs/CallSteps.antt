@@ -22,7 +22,7 @@ use Rattle.dds_model.specs.declared.reply.Reply.TheVariants.{Done, LivelinessLos
 use Rattle.dds_model.specs.declared.endpoint.Endpoint.{Endpoint}
 use Rattle.dds_model.specs.Ticks.{tick_refusal, after_tick, is_deadly, RefusesTick, TickStep}
 use Rattle.dds_model.specs.Refusals.{writer_refusal, write_refusal, dispose_refusal, unregister_refusal, change_refusal, change_made, unregister_kind}
-use Rattle.dds_model.specs.Calls.{Effect, nothing, writes, effect, effect_of, IsDoneUnless, Answers, CallStep}
+use Rattle.dds_model.specs.Calls.{Effect, nothing, writes, effect, effect_of, liveliness_lost_at, IsAnswered, IsDoneUnless, Answers, CallStep}
 use Rattle.dds_model.specs.Numbered.{has_element}
 use Rattle.dds_conditions.specs.Watched.{no_filters}
 use Rattle.dds_model.specs.Part.{Part, Dds, Writer, own_writer}
@@ -99,6 +99,18 @@ refused_nothing part (call.WaitLook n) x = refl
 refused_nothing part (call.WaitEnd n) x = refl
 refused_nothing part (call.SetEnabledStatuses e mask) x = refl
 refused_nothing part (call.GetStatusChanges e) x = refl
+
+-- a call that needs no memory is answered where no cause refuses it ..
+pub answered_as : (refusal : Option Code) (answer : Reply) (after : Dds) (part : Part) (reply : Reply)
+    → refusal ≡ None → reply ≡ answer → IsAnswered refusal answer after part reply after
+answered_as refusal answer after part reply none is =
+    subst (λ (o : Option Code). IsAnswered o answer after part reply after) (sym none) (is, refl)
+
+-- .. and refused by the first that does
+pub refused_as : (refusal : Option Code) (answer : Reply) (after : Dds) (part : Part) (code : Code)
+    → refusal ≡ Some code → IsAnswered refusal answer after part (Refused code) part.dds
+refused_as refusal answer after part code some =
+    subst (λ (o : Option Code). IsAnswered o answer after part (Refused code) part.dds) (sym some) (refl, refl)
 
 -- a call that changes nothing
 pub unchanging_call : {tests : Tests} (kept : PeerKept) (config : Config) (peer : Peer) → StandsFor kept config peer
@@ -231,7 +243,12 @@ looks kept i k k' status config peer s at lt tells enters =
       record {
         same_number = refl;
         knows = refl;
-        step = (record { answers = (known, told, refl); rtps = refl }, refl);
+        step = (record {
+          answers =
+              answered_as _ (LivelinessLost (liveliness_lost_at (own_writer peer.part (suc i)))) peer.part.dds
+              peer.part _ known (ap LivelinessLost told);
+          rtps = refl;
+        }, refl);
         sent = λ p x m h.
             absurd (omega (arith, m.1));
       },

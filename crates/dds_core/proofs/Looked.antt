@@ -14,14 +14,14 @@ use Rattle.dds_model.specs.declared.event.Event.TheVariants as event
 use Rattle.dds_model.specs.declared.reply.Reply.{Reply}
 use Rattle.dds_model.specs.declared.reply.Reply.TheVariants.{SampleLost, LivelinessChanged}
 use Rattle.dds_model.specs.Refusals.{reader_refusal}
-use Rattle.dds_model.specs.Calls.{Answers, after_look, effect, effect_of, nothing, seen_lost, seen_liveliness}
+use Rattle.dds_model.specs.Calls.{Answers, after_look, effect, effect_of, liveliness_at, lost_at, nothing, seen_lost, seen_liveliness}
 use Rattle.dds_conditions.specs.Watched.{no_filters}
 use Rattle.dds_model.specs.Part.{Reader, Seen, own_reader}
 use Rattle.dds_model.specs.Peer.{Peer}
 use Rattle.dds_core.specs.Kept.{ReaderKept, PeerKept}
 use Rattle.dds_core.specs.Looking.{TellsLost, TellsLiveliness}
 use Rattle.dds_core.specs.Standing.{StandsFor}
-use Rattle.dds_core.proofs.CallSteps.{Follows, there_is, number_is}
+use Rattle.dds_core.proofs.CallSteps.{Follows, answered_as, there_is, number_is}
 use Rattle.dds_core.proofs.Ends.{with_reader, own_reader_changed}
 use Rattle.dds_core.proofs.Taking.{silent}
 
@@ -80,7 +80,12 @@ looked_at_lost kept reader i k k' status config peer s is lt at tells after =
     let look : Follows (with_reader kept i (record k { seen = seen_lost r })) config peer
     (event.Call (call.GetSampleLost (suc i))) (silent (SampleLost status)) =
     looked (call.GetSampleLost (suc i)) kept i k (SampleLost status) (seen_lost r) config peer s at
-    (record { answers = (known_reader kept i config peer s lt, answer, refl); effect = refl }) in
+    (record {
+      answers =
+          answered_as _ (SampleLost (lost_at r)) _ peer.part _ (known_reader kept i config peer s lt)
+          (ap SampleLost answer);
+      effect = refl;
+    }) in
     let now : record k { seen = seen_lost r } ≡ k' = sym (after ∙ ap (λ (x : Seen). record k { seen = x }) seen) in
     subst (λ (x : ReaderKept). Follows (with_reader kept i x) config peer (event.Call (call.GetSampleLost reader))
     (silent (SampleLost status))) now
@@ -114,7 +119,12 @@ looked_at_liveliness kept reader i k k' status seen config peer s is lt at tells
     let look : Follows (with_reader kept i (record k { seen = seen_liveliness r })) config peer
     (event.Call (call.GetLivelinessChanged (suc i))) (silent (LivelinessChanged status)) =
     looked (call.GetLivelinessChanged (suc i)) kept i k (LivelinessChanged status) (seen_liveliness r) config peer s at
-    (record { answers = (known_reader kept i config peer s lt, answer, refl); effect = refl }) in
+    (record {
+      answers =
+          answered_as _ (LivelinessChanged (liveliness_at r)) _ peer.part _ (known_reader kept i config peer s lt)
+          (ap LivelinessChanged answer);
+      effect = refl;
+    }) in
     let now : record k { seen = seen_liveliness r } ≡ k' =
     sym (after ∙ ap (λ (x : Seen). record k { seen = x }) same) in
     subst (λ (x : ReaderKept). Follows (with_reader kept i x) config peer

@@ -18,7 +18,7 @@ use Rattle.dds_model.specs.declared.call.Call.TheVariants as call
 use Rattle.dds_model.specs.declared.event.Event.TheVariants as event
 use Rattle.dds_model.specs.declared.reply.Reply.{Reply}
 use Rattle.dds_model.specs.declared.reply.Reply.TheVariants.{Active, Refused, Waiting}
-use Rattle.dds_model.specs.Calls.{AnswersByCondition, AnswersLook, IsAnswered, IsAnsweredInMemory}
+use Rattle.dds_model.specs.Calls.{AnswersByCondition, AnswersLook, IsAnsweredWatching, IsAnsweredInMemory}
 use Rattle.dds_model.specs.Part.{Part, Dds}
 use Rattle.dds_model.specs.Peer.{Peer}
 use Rattle.dds_model.specs.Watching.{Test, Tests, condition_refusal, condition_selection, condition_test, trigger_value}
@@ -86,7 +86,7 @@ look_goes_on : (active : List Cond) (timed_out : Bool) (part : Part) (wait_set :
 look_goes_on active timed_out part wait_set none early used =
     subst (λ (cs : List Cond). AnswersLook cs timed_out part wait_set Waiting part.dds) (sym none)
     (subst (λ (b : Bool). AnswersLook [] b part wait_set Waiting part.dds) (sym early)
-    (subst (λ (o : Option Code). IsAnswered o Waiting part.dds.watch part Waiting part.dds) (sym used) (refl, refl)))
+    (subst (λ (o : Option Code). IsAnsweredWatching o Waiting part.dds.watch part Waiting part.dds) (sym used) (refl, refl)))
 
 look_times_out : (active : List Cond) (timed_out : Bool) (part : Part) (wait_set : ℕ) (new : Watched) → active ≡ []
     → timed_out ≡ true → used_by part.dds.watch wait_set ≡ None
@@ -96,7 +96,7 @@ look_times_out active timed_out part wait_set new none late used ended =
     subst (λ (cs : List Cond). AnswersLook cs timed_out part wait_set (Refused Timeout)
     (record part.dds { watch = new })) (sym none)
     (subst (λ (b : Bool). AnswersLook [] b part wait_set (Refused Timeout) (record part.dds { watch = new })) (sym late)
-    (subst (λ (o : Option Code). IsAnswered o (Refused Timeout) (with_deadline part.dds.watch wait_set None) part
+    (subst (λ (o : Option Code). IsAnsweredWatching o (Refused Timeout) (with_deadline part.dds.watch wait_set None) part
     (Refused Timeout) (record part.dds { watch = new })) (sym used)
     (refl, ap (λ (w : Watched). record part.dds { watch = w }) ended)))
 
@@ -112,13 +112,13 @@ look_is_refused : (active : List Cond) (timed_out : Bool) (part : Part) (wait_se
     → used_by part.dds.watch wait_set ≡ Some code
     → AnswersLook active timed_out part wait_set (Refused code) part.dds
 look_is_refused [] true part wait_set code some =
-    subst (λ (o : Option Code). IsAnswered o (Refused Timeout) (with_deadline part.dds.watch wait_set None) part
+    subst (λ (o : Option Code). IsAnsweredWatching o (Refused Timeout) (with_deadline part.dds.watch wait_set None) part
     (Refused code) part.dds) (sym some) (refl, refl)
 look_is_refused [] false part wait_set code some =
-    subst (λ (o : Option Code). IsAnswered o Waiting part.dds.watch part (Refused code) part.dds) (sym some)
+    subst (λ (o : Option Code). IsAnsweredWatching o Waiting part.dds.watch part (Refused code) part.dds) (sym some)
     (refl, refl)
 look_is_refused (c ∷ cs) timed_out part wait_set code some =
-    inl (subst (λ (o : Option Code). IsAnswered o (Active (c ∷ cs)) (with_deadline part.dds.watch wait_set None) part
+    inl (subst (λ (o : Option Code). IsAnsweredWatching o (Active (c ∷ cs)) (with_deadline part.dds.watch wait_set None) part
     (Refused code) part.dds) (sym some) (refl, refl))
 
 -- the wait goes on
@@ -172,7 +172,7 @@ is_over_with {tests} kept new config peer s wait_set active some is used ended =
     watched_call kept new config peer s (call.WaitLook wait_set) (Active active) refl
     (look_is_active _ _ peer.part wait_set _ _
     (some_active (trigger_value tests peer.part) (conditions_of peer.part.dds.watch wait_set) (sym some))
-    (inl (subst (λ (o : Option Code). IsAnswered o
+    (inl (subst (λ (o : Option Code). IsAnsweredWatching o
     (Active (active_of (trigger_value tests peer.part) (conditions_of peer.part.dds.watch wait_set)))
     (with_deadline peer.part.dds.watch wait_set None) peer.part (Active active)
     (record peer.part.dds { watch = new }))

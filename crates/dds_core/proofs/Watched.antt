@@ -8,7 +8,7 @@ use Rattle.dds_model.specs.declared.call.Call.{Call}
 use Rattle.dds_model.specs.declared.event.Event.TheVariants as event
 use Rattle.dds_model.specs.declared.reply.Reply.{Reply}
 use Rattle.dds_model.specs.declared.reply.Reply.TheVariants.{Done, Refused}
-use Rattle.dds_model.specs.Calls.{Effect, nothing, effect, effect_of, Answers, IsAnswered, IsAnsweredInMemory}
+use Rattle.dds_model.specs.Calls.{Effect, nothing, effect, effect_of, Answers, IsAnsweredWatching, IsAnsweredInMemory}
 use Rattle.dds_model.specs.Part.{Part, Dds}
 use Rattle.dds_model.specs.Peer.{Peer}
 use Rattle.dds_model.specs.Watching.{Tests}
@@ -43,23 +43,23 @@ watched_call kept new config peer s c reply none is = (
 
 answered_so : (refusal : Option Code) (answer : Reply) (after : Watched) (part : Part) (reply : Reply) (new : Watched)
     → refusal ≡ None → reply ≡ answer → new ≡ after
-    → IsAnswered refusal answer after part reply (record part.dds { watch = new })
+    → IsAnsweredWatching refusal answer after part reply (record part.dds { watch = new })
 answered_so refusal answer after part reply new none is same =
-    subst (λ (o : Option Code). IsAnswered o answer after part reply (record part.dds { watch = new })) (sym none)
+    subst (λ (o : Option Code). IsAnsweredWatching o answer after part reply (record part.dds { watch = new })) (sym none)
     (is, ap (λ (w : Watched). record part.dds { watch = w }) same)
 
 refused_so : (refusal : Option Code) (answer : Reply) (after : Watched) (part : Part) (code : Code) (reply : Reply)
     (new : Watched) → refusal ≡ Some code → reply ≡ Refused code → new ≡ part.dds.watch
-    → IsAnswered refusal answer after part reply (record part.dds { watch = new })
+    → IsAnsweredWatching refusal answer after part reply (record part.dds { watch = new })
 refused_so refusal answer after part code reply new some is same =
-    subst (λ (o : Option Code). IsAnswered o answer after part reply (record part.dds { watch = new })) (sym some)
+    subst (λ (o : Option Code). IsAnsweredWatching o answer after part reply (record part.dds { watch = new })) (sym some)
     (is, ap (λ (w : Watched). record part.dds { watch = w }) same)
 
 -- a call that is done or refused
 pub done_call : (refusal : Watched → Option Code) (after : Watched → Watched) (kept : PeerKept) (new : Watched)
     (result : Result (Unit {0}) Code) (reply : Reply) (config : Config) (peer : Peer)
     → StandsFor kept config peer → (c : Call)
-    → ((dds : Dds) → IsAnswered (refusal peer.part.dds.watch) Done (after peer.part.dds.watch) peer.part reply dds
+    → ((dds : Dds) → IsAnsweredWatching (refusal peer.part.dds.watch) Done (after peer.part.dds.watch) peer.part reply dds
     → Answers no_filters peer.part c reply dds)
     → effect_of peer.part c reply ≡ nothing → reply ≡ done_reply result
     → OnOk result (new ≡ after kept.watch) → OnOk result (refusal kept.watch ≡ None)
@@ -142,7 +142,7 @@ given_in_memory tells told on_ok on_err refusal gives after kept new
 -- a call that tells something, and changes nothing
 pub told_call : {tests : Tests} (kept : PeerKept) (config : Config) (peer : Peer) → StandsFor kept config peer
     → (refusal : Option Code) (answer : Reply) (c : Call) (reply : Reply)
-    → ((dds : Dds) → IsAnswered refusal answer peer.part.dds.watch peer.part reply dds
+    → ((dds : Dds) → IsAnsweredWatching refusal answer peer.part.dds.watch peer.part reply dds
     → Answers tests peer.part c reply dds)
     → effect_of peer.part c reply ≡ nothing → refusal ≡ None → reply ≡ answer
     → FollowsBy tests kept config peer (event.Call c) (silent reply)
@@ -155,7 +155,7 @@ told_call {tests} kept config peer s refusal answer c reply answers none taken i
 -- one that is refused
 pub not_told : {tests : Tests} (kept : PeerKept) (config : Config) (peer : Peer) → StandsFor kept config peer
     → (refusal : Option Code) (answer : Reply) (after : Watched) (code : Code) (c : Call)
-    → ((dds : Dds) → IsAnswered refusal answer after peer.part (Refused code) dds
+    → ((dds : Dds) → IsAnsweredWatching refusal answer after peer.part (Refused code) dds
     → Answers tests peer.part c (Refused code) dds)
     → effect_of peer.part c (Refused code) ≡ nothing → refusal ≡ Some code
     → FollowsBy tests kept config peer (event.Call c) (silent (Refused code))

@@ -1,10 +1,12 @@
--- The HEARTBEATs that tell a writer's assertion claim only what is true of the writer that has entered it, and can be written.
+-- The HEARTBEATs that tell a writer's assertion claim only what is true of the writer that has entered it, and can be
+-- written.
 use Rattle.std.proofs.Common.{◌≡◌, ℕ, suc, ◌+◌, ◌-◌, ◌^◌, ◌<◌, Bool, true, false, not, List, [], ◌∷◌, ◌++◌, length, get_or, map}
 use Rattle.std.proofs.Common.{refl, subst, ap, sym, ◌∙◌, ⊎_elim, arith, nat_le}
-use Rattle.std.specs.Prelude.{if◌then◌else◌, pos, Some, None}
+use Rattle.std.specs.Prelude.{if◌then◌else◌, pos, Option, Some, None}
 use Rattle.std.specs.List.{All}
 use Rattle.std.proofs.lemmas.Bool.Decides.{nat_tests}
 use Rattle.std.proofs.lemmas.List.Elements.{All-map, All-nil}
+use Rattle.dds_base.specs.declared.code.Code.{Code}
 use Rattle.dds_base.specs.declared.code.Code.TheVariants.{BadParameter, OutOfResources}
 use Rattle.dds_base.specs.declared.config.Config.{Config}
 use Rattle.dds_base.specs.declared.guid.EntityId.{EntityId}
@@ -16,8 +18,9 @@ use Rattle.dds_model.specs.declared.call.Call.TheVariants.{AssertLiveliness}
 use Rattle.dds_model.specs.declared.endpoint.Endpoint.{Endpoint}
 use Rattle.dds_model.specs.declared.reply.Reply.TheVariants.{Done}
 use Rattle.dds_model.specs.Numbered.{numbered, HasNumber, has_element}
-use Rattle.dds_model.specs.Part.{Part, ReaderProxy, Rtps, Writer, acknowledged_of, has_readers, heartbeats_used, is_assertion, no_writer, own_writer, peers_of, NoLess}
-use Rattle.dds_model.specs.Calls.{CallStep, effect, with_written, writes}
+use Rattle.dds_model.specs.Part.{Dds, Part, ReaderProxy, Rtps, Writer, acknowledged_of, has_readers, heartbeats_used, is_assertion, no_writer, own_writer, peers_of, NoLess}
+use Rattle.dds_model.specs.Calls.{CallStep, IsAnswered, effect, with_written, writes}
+use Rattle.dds_model.specs.Refusals.{assert_refusal}
 use Rattle.dds_model.specs.Watching.{Tests}
 use Rattle.dds_model.specs.Claims.{Claim, ChangeIs, MayPass, PlaceReached, Asserts, Says}
 use Rattle.dds_model.specs.Receipt.{prefix_of}
@@ -161,6 +164,12 @@ assertions_true config tests peer writer old new checked of step =
 
 -- ---- its written form
 
+-- what is done, and needs no memory, has no cause to be refused
+none_if_done : (refusal : Option Code) (after : Dds) (old : Part) (dds : Dds)
+    → IsAnswered refusal Done after old Done dds → refusal ≡ None
+none_if_done None after old dds h = refl
+none_if_done (Some code) after old dds h = let is = h.0 in absurd cc
+
 left_if_done : (a b : Bool)
     → (if not a then Some BadParameter else (if b then Some OutOfResources else None)) ≡ None → b ≡ false
 left_if_done true true h = cc
@@ -185,7 +194,7 @@ assertions_writable config tests peer writer old new of step sized small =
     used =
         left_if_done (has_element old.rtps.writers writer)
         (nat_le (2 ^ 31 - 1) (heartbeats_used (own_writer old writer)))
-        step.answers.0
+        (none_if_done (assert_refusal old writer) old.dds old new.dds step.answers)
 
     left : heartbeats_used (own_writer old writer) < 2 ^ 31 - 1
     left = grind (arith, nat_tests, used)

@@ -1,5 +1,5 @@
--- No event adds a filter, or sets a listener, or tells one: a peer has as many filters after a step as before it, and the
--- same places of listeners.
+-- No event adds a filter, or sets a listener, or tells one: a peer has as many filters after a step as before it, and
+-- the same places of listeners.
 use Rattle.std.proofs.Common.{◌≡◌, ℕ, ◌+◌, zero, suc, Bool, true, false, List, [], ◌∷◌, get_or, length, map, refl, ap, sym, ◌∙◌, subst, inl, inr}
 use Rattle.std.specs.Prelude.{Option, Some, None}
 use Rattle.std.proofs.lemmas.List.{length-map}
@@ -18,8 +18,8 @@ use Rattle.dds_conditions.specs.declared.condition.Cond.{Cond}
 use Rattle.dds_base.specs.declared.entity.Entity.{Entity}
 use Rattle.dds_base.specs.declared.entity.Entity.TheVariants.{Participant, Writer, Reader}
 use Rattle.dds_notices.specs.declared.mask.StatusMask.{StatusMask}
-use Rattle.dds_notices.specs.Listeners.{NobodyTakes, Places, nobody}
-use Rattle.dds_notices.proofs.ListenerLaws.{nobody_is_told}
+use Rattle.dds_notices.specs.Listeners.{Places, nobody}
+use Rattle.dds_notices.proofs.ListenerLaws.{nobody_is_told, NobodyTakes}
 use Rattle.dds_conditions.specs.Watched.{Watched, with_enabled}
 use Rattle.dds_model.specs.declared.call.Call.{Call}
 use Rattle.dds_model.specs.declared.call.Call.TheVariants.{Register, Write, Dispose, Unregister, AssertLiveliness, Read, Take, GetKeyValue, LookupInstance, GetSampleLost, GetLivelinessChanged, GetLivelinessLost, ReadByCondition, TakeByCondition, CreateReadCondition, CreateQueryCondition, CreateGuardCondition, SetTriggerValue, DeleteCondition, GetTriggerValue, CreateWaitSet, DeleteWaitSet, AttachCondition, DetachCondition, GetConditions, WaitBegin, WaitLook, WaitEnd, SetEnabledStatuses, GetStatusChanges}
@@ -29,13 +29,13 @@ use Rattle.dds_model.specs.declared.event.Output.{Output}
 use Rattle.dds_model.specs.declared.reply.Move.{Move}
 use Rattle.dds_model.specs.declared.reply.Move.TheVariants.{Place, Acknowledged, Heard}
 use Rattle.dds_model.specs.declared.reply.Reply.{Reply}
-use Rattle.dds_model.specs.declared.reply.Reply.TheVariants.{Done, Samples, KeyValue, InstanceHandle, SampleLost, LivelinessChanged, LivelinessLost, Reported, Refused}
+use Rattle.dds_model.specs.declared.reply.Reply.TheVariants.{Done, Samples, KeyValue, Reported, Refused}
 use Rattle.dds_model.specs.Part.{Part, Dds, Reader as ReaderState, nothing_seen}
 use Rattle.dds_model.specs.Moves.{Grounds, IsMove, AreMoves}
 use Rattle.dds_model.specs.Claims.{Receiver, after_submessage}
 use Rattle.dds_model.specs.Receipt.{TakesUp}
 use Rattle.dds_model.specs.Refusals.{writer_refusal, write_refusal, dispose_refusal, unregister_refusal}
-use Rattle.dds_model.specs.Calls.{IsDoneUnless, IsAnswered, IsAnsweredInMemory, AnswersLook, AnswersAccess, AnswersByCondition, Answers}
+use Rattle.dds_model.specs.Calls.{IsDoneUnless, IsAnswered, IsAnsweredWatching, IsAnsweredInMemory, AnswersLook, AnswersAccess, AnswersByCondition, Answers}
 use Rattle.dds_model.specs.Opening.{opening_peers, opening_world, opening_writer, reader_qos}
 use Rattle.dds_model.specs.Peer.{Peer, PeerStep, EventStep, no_peer}
 use Rattle.dds_model.specs.World.{peer_at}
@@ -61,18 +61,23 @@ done_or_not refusal Done old new a = as_it_was old new a.1
 done_or_not refusal (Refused code) old new a = as_it_was old new a.1
 done_or_not refusal reply old new a = absurd a
 
-answered : (refusal : Option Code) (answer : Reply) (after : Watched) (old : Part) (reply : Reply) (new : Dds)
-    → after.filters ≡ old.dds.watch.filters → IsAnswered refusal answer after old reply new → SameHanded old.dds new
+answered : (refusal : Option Code) (answer : Reply) (after : Dds) (old : Part) (reply : Reply) (new : Dds)
+    → SameHanded old.dds after → IsAnswered refusal answer after old reply new → SameHanded old.dds new
 answered (Some code) answer after old reply new same a = as_it_was old.dds new a.1
-answered None answer after old reply new same a =
-    ap (λ (d : Dds). handed d) a.1
-    ∙ ap (λ (n : ℕ). let h : Handed = record { filters = n; listeners = old.dds.listeners } in h) same
+answered None answer after old reply new same a = ap (λ (d : Dds). handed d) a.1 ∙ same
+
+watching : (refusal : Option Code) (answer : Reply) (after : Watched) (old : Part) (reply : Reply) (new : Dds)
+    → after.filters ≡ old.dds.watch.filters → IsAnsweredWatching refusal answer after old reply new
+    → SameHanded old.dds new
+watching refusal answer after old reply new same a =
+    answered refusal answer (record old.dds { watch = after }) old reply new
+    (ap (λ (n : ℕ). let h : Handed = record { filters = n; listeners = old.dds.listeners } in h) same) a
 
 in_memory : (needs : Bool) (refusal : Option Code) (answer : Reply) (after : Watched) (old : Part) (reply : Reply)
     (new : Dds)
     → after.filters ≡ old.dds.watch.filters → IsAnsweredInMemory needs refusal answer after old reply new
     → SameHanded old.dds new
-in_memory needs refusal answer after old reply new same (inl a) = answered refusal answer after old reply new same a
+in_memory needs refusal answer after old reply new same (inl a) = watching refusal answer after old reply new same a
 in_memory needs refusal answer after old reply new same (inr a) = as_it_was old.dds new a.3
 
 enabled_keeps : (w : Watched) (e : Entity) (mask : StatusMask) → (with_enabled w e mask).filters ≡ w.filters
@@ -82,8 +87,8 @@ enabled_keeps w (Reader n) mask = refl
 
 looked : (active : List Cond) (timed_out : Bool) (old : Part) (wait_set : ℕ) (reply : Reply) (new : Dds)
     → AnswersLook active timed_out old wait_set reply new → SameHanded old.dds new
-looked [] true old wait_set reply new a = answered _ _ _ old reply new refl a
-looked [] false old wait_set reply new a = answered _ _ _ old reply new refl a
+looked [] true old wait_set reply new a = watching _ _ _ old reply new refl a
+looked [] false old wait_set reply new a = watching _ _ _ old reply new refl a
 looked (c ∷ cs) timed_out old wait_set reply new a = in_memory _ _ _ _ old reply new refl a
 
 accessed : (entry : List SamplePosition → Happening) (test : Test) (old : Part) (k : ℕ) (selection : Selection)
@@ -106,45 +111,35 @@ answers_keep tests old (Register v key) reply new a = done_or_not (writer_refusa
 answers_keep tests old (Write v key value) reply new a = done_or_not (write_refusal old v key value) reply old.dds new a
 answers_keep tests old (Dispose v key) reply new a = done_or_not (dispose_refusal old v key) reply old.dds new a
 answers_keep tests old (Unregister v key) reply new a = done_or_not (unregister_refusal old v key) reply old.dds new a
-answers_keep tests old (AssertLiveliness v) Done new a = as_it_was old.dds new a.1
-answers_keep tests old (AssertLiveliness v) (Refused code) new a = as_it_was old.dds new a.1
-answers_keep tests old (AssertLiveliness v) reply new a = absurd a
+answers_keep tests old (AssertLiveliness v) reply new a = answered _ Done old.dds old reply new refl a
 answers_keep tests old (Read v selection) reply new a = accessed HasRead _ old v selection reply new a
 answers_keep tests old (Take v selection) reply new a = accessed Took _ old v selection reply new a
 answers_keep tests old (GetKeyValue v instance) (KeyValue key) new a = as_it_was old.dds new a.2
 answers_keep tests old (GetKeyValue v instance) (Refused code) new a = as_it_was old.dds new a.1
 answers_keep tests old (GetKeyValue v instance) reply new a = absurd a
-answers_keep tests old (LookupInstance v key) (InstanceHandle handle) new a = as_it_was old.dds new a.2
-answers_keep tests old (LookupInstance v key) (Refused code) new a = as_it_was old.dds new a.1
-answers_keep tests old (LookupInstance v key) reply new a = absurd a
-answers_keep tests old (GetSampleLost v) (SampleLost status) new a = ap (λ (d : Dds). handed d) a.2
-answers_keep tests old (GetSampleLost v) (Refused code) new a = as_it_was old.dds new a.1
-answers_keep tests old (GetSampleLost v) reply new a = absurd a
-answers_keep tests old (GetLivelinessChanged v) (LivelinessChanged status) new a = ap (λ (d : Dds). handed d) a.2
-answers_keep tests old (GetLivelinessChanged v) (Refused code) new a = as_it_was old.dds new a.1
-answers_keep tests old (GetLivelinessChanged v) reply new a = absurd a
-answers_keep tests old (GetLivelinessLost v) (LivelinessLost status) new a = as_it_was old.dds new a.2
-answers_keep tests old (GetLivelinessLost v) (Refused code) new a = as_it_was old.dds new a.1
-answers_keep tests old (GetLivelinessLost v) reply new a = absurd a
+answers_keep tests old (LookupInstance v key) reply new a = answered _ _ old.dds old reply new refl a
+answers_keep tests old (GetSampleLost v) reply new a = answered _ _ _ old reply new refl a
+answers_keep tests old (GetLivelinessChanged v) reply new a = answered _ _ _ old reply new refl a
+answers_keep tests old (GetLivelinessLost v) reply new a = answered _ _ old.dds old reply new refl a
 answers_keep tests old (ReadByCondition v scope c) reply new a = by_condition HasRead _ _ old v _ reply new a
 answers_keep tests old (TakeByCondition v scope c) reply new a = by_condition Took _ _ old v _ reply new a
 answers_keep tests old (CreateReadCondition v masks) reply new a = in_memory _ _ _ _ old reply new refl a
 answers_keep tests old (CreateQueryCondition v masks filter) reply new a = in_memory _ _ _ _ old reply new refl a
 answers_keep tests old CreateGuardCondition reply new a = in_memory _ _ _ _ old reply new refl a
-answers_keep tests old (SetTriggerValue c value) reply new a = answered _ _ _ old reply new refl a
-answers_keep tests old (DeleteCondition c) reply new a = answered _ _ _ old reply new refl a
-answers_keep tests old (GetTriggerValue c) reply new a = answered _ _ _ old reply new refl a
+answers_keep tests old (SetTriggerValue c value) reply new a = watching _ _ _ old reply new refl a
+answers_keep tests old (DeleteCondition c) reply new a = watching _ _ _ old reply new refl a
+answers_keep tests old (GetTriggerValue c) reply new a = watching _ _ _ old reply new refl a
 answers_keep tests old CreateWaitSet reply new a = in_memory _ _ _ _ old reply new refl a
-answers_keep tests old (DeleteWaitSet s) reply new a = answered _ _ _ old reply new refl a
+answers_keep tests old (DeleteWaitSet s) reply new a = watching _ _ _ old reply new refl a
 answers_keep tests old (AttachCondition s c) reply new a = in_memory _ _ _ _ old reply new refl a
-answers_keep tests old (DetachCondition s c) reply new a = answered _ _ _ old reply new refl a
+answers_keep tests old (DetachCondition s c) reply new a = watching _ _ _ old reply new refl a
 answers_keep tests old (GetConditions s) reply new a = in_memory _ _ _ _ old reply new refl a
-answers_keep tests old (WaitBegin s deadline) reply new a = answered _ _ _ old reply new refl a
+answers_keep tests old (WaitBegin s deadline) reply new a = watching _ _ _ old reply new refl a
 answers_keep tests old (WaitLook s) reply new a = looked _ _ old s reply new a
-answers_keep tests old (WaitEnd s) reply new a = answered _ _ _ old reply new refl a
+answers_keep tests old (WaitEnd s) reply new a = watching _ _ _ old reply new refl a
 answers_keep tests old (SetEnabledStatuses e mask) reply new a =
-    answered _ _ _ old reply new (enabled_keeps old.dds.watch e mask) a
-answers_keep tests old (GetStatusChanges e) reply new a = answered _ _ _ old reply new refl a
+    watching _ _ _ old reply new (enabled_keeps old.dds.watch e mask) a
+answers_keep tests old (GetStatusChanges e) reply new a = watching _ _ _ old reply new refl a
 
 move_keeps : (g : Grounds) (old : Part) (m : Move) (new : Part) → IsMove g old m new → SameHanded old.dds new.dds
 move_keeps g old (Place w r to passed) new h = ap (λ (p : Part). handed p.dds) h.after

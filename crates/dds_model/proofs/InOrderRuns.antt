@@ -28,18 +28,19 @@ use Rattle.dds_model.specs.declared.reply.Move.{Move}
 use Rattle.dds_model.specs.declared.reply.Move.TheVariants.{Place, Acknowledged, Heard}
 use Rattle.dds_base.specs.declared.happening.PassedRun.{PassedRun}
 use Rattle.dds_model.specs.declared.reply.Reply.{Reply}
-use Rattle.dds_model.specs.declared.reply.Reply.TheVariants.{Done, Samples, KeyValue, InstanceHandle, SampleLost, LivelinessChanged, LivelinessLost, Reported, Refused}
+use Rattle.dds_model.specs.declared.reply.Reply.TheVariants.{Done, Samples, KeyValue, Reported, Refused}
 use Rattle.dds_model.specs.Numbered.{numbered, with_numbered, HasNumber}
 use Rattle.dds_model.specs.Part.{same_endpoint, WriterProxy, Reader, Dds, Part, no_reader, no_part, own_writer, own_proxies, own_reader, at_reader, at_writer, row_of, place_of, with_place, with_heard, with_acknowledged, publication_among, writer_changes, nothing_seen, Seen}
 use Rattle.dds_model.specs.Moves.{Grounds, as_to, match_of, IsMatchedAt, position_at, AreMoves, Places, Hears, DeliveryStep}
 use Rattle.dds_model.specs.Ticks.{TickStep, reader_ticked}
 use Rattle.dds_model.specs.Refusals.{writer_refusal, write_refusal, dispose_refusal, unregister_refusal}
-use Rattle.dds_model.specs.Calls.{Effect, nothing, writes, effect, effect_of, after_look, seen_lost, seen_liveliness, with_happening, IsDoneUnless, AnswersAccess, AnswersByCondition, AnswersLook, IsAnswered, IsAnsweredInMemory, Answers, CallStep}
+use Rattle.dds_model.specs.Calls.{Effect, nothing, writes, effect, effect_of, after_look, seen_lost, seen_liveliness, with_happening, IsDoneUnless, AnswersAccess, AnswersByCondition, AnswersLook, IsAnswered, IsAnsweredWatching, IsAnsweredInMemory, Answers, CallStep}
 use Rattle.dds_model.specs.Watching.{Test, Tests}
 use Rattle.dds_model.specs.Machine.{Machine, AllTests, part_at, writer_at, place_at, grounds_of, Step}
 use Rattle.dds_model.specs.Runs.{Traffic, Run}
 use Rattle.dds_model.specs.InOrder.{came_from, CameInOrder, no_traffic}
-use Rattle.dds_model.specs.Opening.{writers_in, matched_writers, reader_qos, opening_part, opening_peers, opening}
+use Rattle.dds_model.proofs.Opened.{writers_in}
+use Rattle.dds_model.specs.Opening.{matched_writers, reader_qos, opening_part, opening_peers, opening}
 use Rattle.dds_model.specs.Peer.{Peer}
 use Rattle.dds_model.proofs.Tables.{numbered-cases, numbered-map-cases, numbered-same, length-with_numbered, place-cases, place-hits, place-heard, same_is}
 use Rattle.dds_model.proofs.Growth.{CallStep-grows, TickStep-rows, TickStep-readers, TickStep-grows, DeliveryStep-grows, MachineGrows, with_part-grows, writer-changes}
@@ -303,23 +304,30 @@ watch_came old new after r h e = (
   λ p. ap (λ (d : Dds). came_from p (numbered d.readers r no_reader).happened) e,
 )
 
-answered_came : (refusal : Option Code) (answer : Reply) (after : Watched) (old : Part) (reply : Reply) (new : Dds)
+answered_came : (refusal : Option Code) (answer : Reply) (after : Dds) (old : Part) (reply : Reply) (new : Dds) (r : ℕ)
+    → HasNumber old.dds.readers r → (new ≡ after → SameCame old.dds new r)
+    → IsAnswered refusal answer after old reply new → SameCame old.dds new r
+answered_came (Some code) answer after old reply new r h came a = same_came old.dds new r h a.1
+answered_came None answer after old reply new r h came a = came a.1
+
+watching_came : (refusal : Option Code) (answer : Reply) (after : Watched) (old : Part) (reply : Reply) (new : Dds)
     (r : ℕ)
-    → HasNumber old.dds.readers r → IsAnswered refusal answer after old reply new → SameCame old.dds new r
-answered_came (Some code) answer after old reply new r h a = same_came old.dds new r h a.1
-answered_came None answer after old reply new r h a = watch_came old.dds new after r h a.1
+    → HasNumber old.dds.readers r → IsAnsweredWatching refusal answer after old reply new → SameCame old.dds new r
+watching_came refusal answer after old reply new r h a =
+    answered_came refusal answer (record old.dds { watch = after }) old reply new r h
+    (watch_came old.dds new after r h) a
 
 in_memory_came : (needs : Bool) (refusal : Option Code) (answer : Reply) (after : Watched) (old : Part) (reply : Reply)
     (new : Dds) (r : ℕ)
     → HasNumber old.dds.readers r → IsAnsweredInMemory needs refusal answer after old reply new → SameCame old.dds new r
 in_memory_came needs refusal answer after old reply new r h (inl a) =
-    answered_came refusal answer after old reply new r h a
+    watching_came refusal answer after old reply new r h a
 in_memory_came needs refusal answer after old reply new r h (inr a) = same_came old.dds new r h a.3
 
 look_came : (active : List Cond) (timed_out : Bool) (old : Part) (wait_set : ℕ) (reply : Reply) (new : Dds) (r : ℕ)
     → HasNumber old.dds.readers r → AnswersLook active timed_out old wait_set reply new → SameCame old.dds new r
-look_came [] true old wait_set reply new r h a = answered_came _ _ _ old reply new r h a
-look_came [] false old wait_set reply new r h a = answered_came _ _ _ old reply new r h a
+look_came [] true old wait_set reply new r h a = watching_came _ _ _ old reply new r h a
+look_came [] false old wait_set reply new r h a = watching_came _ _ _ old reply new r h a
 look_came (c ∷ cs) timed_out old wait_set reply new r h a = in_memory_came _ _ _ _ old reply new r h a
 
 by_condition : (entry : List SamplePosition → Happening) → EntersNothingThatCame entry
@@ -339,9 +347,8 @@ answers_came tests old (Write v key value) reply new r h a =
 answers_came tests old (Dispose v key) reply new r h a = done_or_not (dispose_refusal old v key) reply old.dds new r h a
 answers_came tests old (Unregister v key) reply new r h a =
     done_or_not (unregister_refusal old v key) reply old.dds new r h a
-answers_came tests old (AssertLiveliness v) Done new r h a = same_came old.dds new r h a.1
-answers_came tests old (AssertLiveliness v) (Refused code) new r h a = same_came old.dds new r h a.1
-answers_came tests old (AssertLiveliness v) reply new r h a = absurd a
+answers_came tests old (AssertLiveliness v) reply new r h a =
+    answered_came _ _ old.dds old reply new r h (same_came old.dds new r h) a
 answers_came tests old (Read v selection) reply new r h a =
     accessed HasRead (λ samples p past. refl) _ old v selection reply new r h a
 answers_came tests old (Take v selection) reply new r h a =
@@ -349,20 +356,14 @@ answers_came tests old (Take v selection) reply new r h a =
 answers_came tests old (GetKeyValue v instance) (KeyValue key) new r h a = same_came old.dds new r h a.2
 answers_came tests old (GetKeyValue v instance) (Refused code) new r h a = same_came old.dds new r h a.1
 answers_came tests old (GetKeyValue v instance) reply new r h a = absurd a
-answers_came tests old (LookupInstance v key) (InstanceHandle handle) new r h a = same_came old.dds new r h a.2
-answers_came tests old (LookupInstance v key) (Refused code) new r h a = same_came old.dds new r h a.1
-answers_came tests old (LookupInstance v key) reply new r h a = absurd a
-answers_came tests old (GetSampleLost v) (SampleLost status) new r h a =
-    looked old new v (seen_lost (own_reader old v)) r h a.2
-answers_came tests old (GetSampleLost v) (Refused code) new r h a = same_came old.dds new r h a.1
-answers_came tests old (GetSampleLost v) reply new r h a = absurd a
-answers_came tests old (GetLivelinessChanged v) (LivelinessChanged status) new r h a =
-    looked old new v (seen_liveliness (own_reader old v)) r h a.2
-answers_came tests old (GetLivelinessChanged v) (Refused code) new r h a = same_came old.dds new r h a.1
-answers_came tests old (GetLivelinessChanged v) reply new r h a = absurd a
-answers_came tests old (GetLivelinessLost v) (LivelinessLost status) new r h a = same_came old.dds new r h a.2
-answers_came tests old (GetLivelinessLost v) (Refused code) new r h a = same_came old.dds new r h a.1
-answers_came tests old (GetLivelinessLost v) reply new r h a = absurd a
+answers_came tests old (LookupInstance v key) reply new r h a =
+    answered_came _ _ old.dds old reply new r h (same_came old.dds new r h) a
+answers_came tests old (GetSampleLost v) reply new r h a =
+    answered_came _ _ _ old reply new r h (looked old new v (seen_lost (own_reader old v)) r h) a
+answers_came tests old (GetLivelinessChanged v) reply new r h a =
+    answered_came _ _ _ old reply new r h (looked old new v (seen_liveliness (own_reader old v)) r h) a
+answers_came tests old (GetLivelinessLost v) reply new r h a =
+    answered_came _ _ old.dds old reply new r h (same_came old.dds new r h) a
 answers_came tests old (ReadByCondition v scope c) reply new r h a =
     by_condition HasRead (λ samples p past. refl) _ _ old v _ reply new r h a
 answers_came tests old (TakeByCondition v scope c) reply new r h a =
@@ -371,19 +372,19 @@ answers_came tests old (CreateReadCondition v masks) reply new r h a = in_memory
 answers_came tests old (CreateQueryCondition v masks filter) reply new r h a =
     in_memory_came _ _ _ _ old reply new r h a
 answers_came tests old CreateGuardCondition reply new r h a = in_memory_came _ _ _ _ old reply new r h a
-answers_came tests old (SetTriggerValue c value) reply new r h a = answered_came _ _ _ old reply new r h a
-answers_came tests old (DeleteCondition c) reply new r h a = answered_came _ _ _ old reply new r h a
-answers_came tests old (GetTriggerValue c) reply new r h a = answered_came _ _ _ old reply new r h a
+answers_came tests old (SetTriggerValue c value) reply new r h a = watching_came _ _ _ old reply new r h a
+answers_came tests old (DeleteCondition c) reply new r h a = watching_came _ _ _ old reply new r h a
+answers_came tests old (GetTriggerValue c) reply new r h a = watching_came _ _ _ old reply new r h a
 answers_came tests old CreateWaitSet reply new r h a = in_memory_came _ _ _ _ old reply new r h a
-answers_came tests old (DeleteWaitSet s) reply new r h a = answered_came _ _ _ old reply new r h a
+answers_came tests old (DeleteWaitSet s) reply new r h a = watching_came _ _ _ old reply new r h a
 answers_came tests old (AttachCondition s c) reply new r h a = in_memory_came _ _ _ _ old reply new r h a
-answers_came tests old (DetachCondition s c) reply new r h a = answered_came _ _ _ old reply new r h a
+answers_came tests old (DetachCondition s c) reply new r h a = watching_came _ _ _ old reply new r h a
 answers_came tests old (GetConditions s) reply new r h a = in_memory_came _ _ _ _ old reply new r h a
-answers_came tests old (WaitBegin s deadline) reply new r h a = answered_came _ _ _ old reply new r h a
+answers_came tests old (WaitBegin s deadline) reply new r h a = watching_came _ _ _ old reply new r h a
 answers_came tests old (WaitLook s) reply new r h a = look_came _ _ old s reply new r h a
-answers_came tests old (WaitEnd s) reply new r h a = answered_came _ _ _ old reply new r h a
-answers_came tests old (SetEnabledStatuses e mask) reply new r h a = answered_came _ _ _ old reply new r h a
-answers_came tests old (GetStatusChanges e) reply new r h a = answered_came _ _ _ old reply new r h a
+answers_came tests old (WaitEnd s) reply new r h a = watching_came _ _ _ old reply new r h a
+answers_came tests old (SetEnabledStatuses e mask) reply new r h a = watching_came _ _ _ old reply new r h a
+answers_came tests old (GetStatusChanges e) reply new r h a = watching_came _ _ _ old reply new r h a
 
 effect_rows : (old : Part) (new : Part) (e : Effect) → new.rtps ≡ effect old.rtps e
     → new.rtps.readers ≡ old.rtps.readers

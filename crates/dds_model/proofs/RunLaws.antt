@@ -114,8 +114,8 @@ loses_delivery : (m : Machine) (i : ℕ) (w : Endpoint) (old : Part) (reply : Re
 loses_delivery m i w old (Reported report) new replies all h rest = (no_passes m i w old report.moves new all h, rest)
 loses_delivery m i w old reply new replies all h rest = absurd h
 
--- a call of what is watched is answered by no report
-answered_so : (refusal : Option Code) (answer : Reply) (after : Watched) (old : Part) (report : Report) (dds : Dds)
+-- a call that is answered by the first cause or so is answered by no report
+answered_so : (refusal : Option Code) (answer : Reply) (after : Dds) (old : Part) (report : Report) (dds : Dds)
     → (Reported report ≡ answer → ⊥) → IsAnswered refusal answer after old (Reported report) dds → ⊥
 answered_so (Some code) answer after old report dds other h = let is = h.0 in absurd cc
 answered_so None answer after old report dds other h = other h.0
@@ -124,7 +124,7 @@ in_memory_so : (needs : Bool) (refusal : Option Code) (answer : Reply) (after : 
     (dds : Dds)
     → (Reported report ≡ answer → ⊥) → IsAnsweredInMemory needs refusal answer after old (Reported report) dds → ⊥
 in_memory_so needs refusal answer after old report dds other (inl h) =
-    answered_so refusal answer after old report dds other h
+    answered_so refusal answer (record old.dds { watch = after }) old report dds other h
 in_memory_so needs refusal answer after old report dds other (inr h) = let is = h.2 in absurd cc
 
 look_so : (active : List Cond) (timed_out : Bool) (old : Part) (wait_set : ℕ) (report : Report) (dds : Dds)
@@ -159,14 +159,19 @@ loses_call w tests old (Register v k) (Reported report) new replies h rest = abs
 loses_call w tests old (Write v k c) (Reported report) new replies h rest = absurd h.answers
 loses_call w tests old (Dispose v k) (Reported report) new replies h rest = absurd h.answers
 loses_call w tests old (Unregister v k) (Reported report) new replies h rest = absurd h.answers
-loses_call w tests old (AssertLiveliness v) (Reported report) new replies h rest = absurd h.answers
+loses_call w tests old (AssertLiveliness v) (Reported report) new replies h rest =
+    absurd (answered_so _ _ _ old report new.dds (λ e. absurd cc) h.answers)
 loses_call w tests old (Read r s) (Reported report) new replies h rest = absurd h.answers
 loses_call w tests old (Take r s) (Reported report) new replies h rest = absurd h.answers
 loses_call w tests old (GetKeyValue r n) (Reported report) new replies h rest = absurd h.answers
-loses_call w tests old (LookupInstance r k) (Reported report) new replies h rest = absurd h.answers
-loses_call w tests old (GetSampleLost r) (Reported report) new replies h rest = absurd h.answers
-loses_call w tests old (GetLivelinessChanged r) (Reported report) new replies h rest = absurd h.answers
-loses_call w tests old (GetLivelinessLost v) (Reported report) new replies h rest = absurd h.answers
+loses_call w tests old (LookupInstance r k) (Reported report) new replies h rest =
+    absurd (answered_so _ _ _ old report new.dds (λ e. absurd cc) h.answers)
+loses_call w tests old (GetSampleLost r) (Reported report) new replies h rest =
+    absurd (answered_so _ _ _ old report new.dds (λ e. absurd cc) h.answers)
+loses_call w tests old (GetLivelinessChanged r) (Reported report) new replies h rest =
+    absurd (answered_so _ _ _ old report new.dds (λ e. absurd cc) h.answers)
+loses_call w tests old (GetLivelinessLost v) (Reported report) new replies h rest =
+    absurd (answered_so _ _ _ old report new.dds (λ e. absurd cc) h.answers)
 loses_call w tests old (ReadByCondition r scope c) (Reported report) new replies h rest =
     absurd (by_condition_so HasRead _ _ old r (condition_selection old scope c) report new.dds h.answers)
 loses_call w tests old (TakeByCondition r scope c) (Reported report) new replies h rest =
