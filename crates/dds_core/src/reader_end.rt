@@ -170,8 +170,8 @@ impl ReaderEnd {
         self.reader.place(row)
     }
 
-    /// The row of the writer that a submessage is from, if it is for this reader of the peer of this prefix, and the writer
-    /// is matched.
+    /// The row of the writer that a submessage is from, if it is for this reader of the peer of this prefix, and the
+    /// writer is matched.
     fn row_of(
         &self,
         own: &GuidPrefix,
@@ -205,7 +205,7 @@ fn told_by_data(alloc: Global, receiver: &MessageReceiver, body: &Data) -> Resul
 {
     let change = body
         .content
-        .to_change(alloc, Moment::new(receiver.timestamp))?;
+        .to_change(alloc, receiver.timestamp)?;
     Ok(Told::Change {
         number: body.writer_sn,
         change,
@@ -308,8 +308,8 @@ impl ReaderEnd {
         self.reader.reserve(&mut self.store)
     }
 
-    /// Makes ready what a submessage tells this reader of the peer of this prefix: a copy of it, and memory for all that it
-    /// does.
+    /// Makes ready what a submessage tells this reader of the peer of this prefix: a copy of it, and memory for all
+    /// that it does.
     ///
     /// # Errors
     ///
@@ -393,8 +393,8 @@ impl ReaderEnd {
     ///
     /// # Errors
     ///
-    /// `BadParameter` where the selection is not valid; `NoData` where no sample is selected; `Memory` where a growth was
-    /// refused. But for `NoData` the reader is then as it was.
+    /// `BadParameter` where the selection is not valid; `NoData` where no sample is selected; `Memory` where a growth
+    /// was refused. But for `NoData` the reader is then as it was.
     ///
     /// DDS 1.4, 2.2.2.5 (read, take and their other forms).
     pub fn access<T: Test>(

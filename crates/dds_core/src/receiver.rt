@@ -6,10 +6,10 @@ ghost use Rattle.std.specs.Prelude.{◌≡◌};
 ghost use Rattle.dds_model.specs.Claims.{receiver_of, is_for, stamp_of, after_submessage};
 ghost use Rattle.dds_core.specs.Readiness.{receiver_at};
 
-use dds_base::GuidPrefix;
+use dds_base::{GuidPrefix, Moment};
 use rtps_wire::Submessage;
 
-/// From here on, in units of 2^-32 second, there is no moment.
+/// From here on, in units of 2^-32 second, there is no moment of a peer.
 pub const NO_MOMENT: u64 = 1 << 63;
 
 /// What a receiver knows of what follows in a message.
@@ -17,10 +17,12 @@ pub const NO_MOMENT: u64 = 1 << 63;
 /// RTPS 2.5, 8.3.4.
 #[derive(Clone, Copy)]
 pub struct MessageReceiver {
+    /// The peer that speaks.
     pub source: GuidPrefix,
+    /// The peer that it speaks to; `GuidPrefix::UNKNOWN` for all.
     pub destination: GuidPrefix,
-    /// In units of 2^-32 second.
-    pub timestamp: u64,
+    /// When the changes that follow were made; the beginning where nothing said it.
+    pub timestamp: Moment,
 }
 
 /// The receiver at the begin of a message of this prefix.
@@ -30,7 +32,7 @@ pub fn receiver_for(prefix: GuidPrefix) -> MessageReceiver
     MessageReceiver {
         source: prefix,
         destination: GuidPrefix::UNKNOWN,
-        timestamp: 0,
+        timestamp: Moment::new(0),
     }
 }
 
@@ -41,13 +43,13 @@ pub fn is_for(receiver: &MessageReceiver, own: &GuidPrefix) -> bool
     receiver.destination == *own || receiver.destination == GuidPrefix::UNKNOWN
 }
 
-/// The moment that an INFO_TS gives: 0 where it gives none.
-fn moment_of(stamp: Option<u64>) -> u64
+/// The moment that an INFO_TS gives: the beginning where it gives none.
+fn moment_of(stamp: Option<u64>) -> Moment
     ensures { result ≡ stamp_of stamp }
 {
     match stamp {
-        Some(moment) if moment < NO_MOMENT => moment,
-        _ => 0,
+        Some(units) if units < NO_MOMENT => Moment::new(units),
+        _ => Moment::new(0),
     }
 }
 
