@@ -29,12 +29,6 @@ is_key_registered i (Changed change ∷ c) =
     if same_key change.key i then not (is_unregister change.kind) else is_key_registered i c
 is_key_registered i (_ ∷ c) = is_key_registered i c
 
--- how often the application asserted the writer's liveliness (2.2.2.4, assert_liveliness)
-abbrev pub assertions : List Written → ℕ
-assertions [] = 0
-assertions (Asserted moment ∷ c) = assertions c + 1
-assertions (_ ∷ c) = assertions c
-
 -- the lease of a writer that was asserted last at this moment has run out (2.2.3, LIVELINESS)
 abbrev pub is_over : Option ℕ → Option ℕ → ℕ → Bool
 is_over (Some lease) (Some asserted) now = nat_le (asserted + lease) now

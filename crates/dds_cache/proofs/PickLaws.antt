@@ -17,7 +17,14 @@ use Rattle.dds_base.specs.Selection.{picked_by, selection_refusal}
 use Rattle.dds_cache.specs.declared.access.Candidate.{Candidate}
 use Rattle.dds_cache.specs.declared.kept.Kept.{Kept}
 use Rattle.dds_cache.specs.Finding.{IsCandidate, Finds, sample_in, handle_in}
-use Rattle.dds_cache.specs.Picking.{limit_in, masks_in, test_in, of_form, of_selection, has_handle, first_above, Picks}
+use Rattle.dds_cache.specs.Picking.{limit_in, masks_in, test_in, of_handle, of_selection, has_handle, first_above, Picks}
+
+-- those of the matching samples that are of an instance that the access asks for
+abbrev pub of_form : ReaderQos → List Happening → Selection → List SamplePosition → List SamplePosition
+of_form q h (Any max masks) ss = ss
+of_form q h (Instance handle max masks) ss = of_handle q h handle ss
+of_form q h (NextInstance previous max masks) ss = of_handle q h (next_handle q h previous ss) ss
+of_form q h NextSample ss = ss
 
 -- the handle of a candidate is that of its instance
 abbrev pub IsOfHandle : ReaderQos → List Happening → Candidate → Type 0

@@ -1,5 +1,5 @@
--- The samples that an access picks among those that it finds, by its form. Inner functions alone cite this: nothing here
--- has to be believed.
+-- The samples that an access picks among those that it finds, by its form. Inner functions alone cite this: nothing
+-- here has to be believed.
 --
 -- DDS 1.4, 2.2.2.5 (read, take, and their instance, next-instance and next-sample forms).
 use Rattle.std.specs.Prelude.{◌≡◌, ℕ, List, [], ◌∷◌, All, map, filter, Bool, true, false, ◌==◌, nat_lt, Option, None, Some, Result, Ok, Err, ℤ, if◌then◌else◌}
@@ -14,7 +14,7 @@ use Rattle.dds_base.specs.declared.selection.Selection.{Selection}
 use Rattle.dds_base.specs.declared.selection.Selection.TheVariants.{Any, Instance, NextInstance, NextSample}
 use Rattle.dds_base.specs.Checked.{is_maximum, limit_of}
 use Rattle.dds_base.specs.Selection.{picked_by, selection_refusal}
-use Rattle.dds_base.specs.Access.{handle_of, next_handle, no_filter, not_read, collection_of}
+use Rattle.dds_base.specs.Access.{handle_of, no_filter, not_read, collection_of}
 use Rattle.dds_base.specs.declared.sample.Sample.{Sample}
 use Rattle.dds_instances.specs.Known.{IsReturnable}
 use Rattle.dds_cache.specs.declared.access.Candidate.{Candidate}
@@ -47,13 +47,6 @@ test_in NextSample test = no_filter
 -- those of one instance
 abbrev pub of_handle : ReaderQos → List Happening → ℕ → List SamplePosition → List SamplePosition
 of_handle q h n ss = filter (λ (s : SamplePosition). handle_of q h s.key == n) ss
-
--- those of the matching samples that are of an instance that the access asks for
-abbrev pub of_form : ReaderQos → List Happening → Selection → List SamplePosition → List SamplePosition
-of_form q h (Any max masks) ss = ss
-of_form q h (Instance handle max masks) ss = of_handle q h handle ss
-of_form q h (NextInstance previous max masks) ss = of_handle q h (next_handle q h previous ss) ss
-of_form q h NextSample ss = ss
 
 -- the candidate is of this instance
 abbrev pub has_handle : ℕ → Candidate → Bool

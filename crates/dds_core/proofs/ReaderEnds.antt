@@ -12,7 +12,8 @@ use Rattle.rtps_reader.specs.Reader.{Proxies, Tracks, count_of}
 use Rattle.rtps_reader.specs.Tracked.{fresh}
 use Rattle.dds_model.specs.declared.endpoint.Endpoint.{Endpoint}
 use Rattle.dds_base.specs.Checked.{limit_of}
-use Rattle.dds_model.specs.Opening.{writers_in, matched_writers}
+use Rattle.dds_model.proofs.Opened.{writers_in}
+use Rattle.dds_model.specs.Opening.{matched_writers}
 use Rattle.dds_model.specs.Part.{WriterProxy, same_endpoint, row_of, place_of, nothing_seen}
 use Rattle.dds_model.proofs.OwnGuids.{as_many}
 use Rattle.dds_core.specs.declared.matching.WriterName.{WriterName}

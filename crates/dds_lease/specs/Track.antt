@@ -1,8 +1,8 @@
--- What is known of the liveliness of one matched writer. Public contracts count the leases that are over by it, and look no
--- further into it.
+-- What is known of the liveliness of one matched writer. Public contracts count the leases that are over by it, and
+-- look no further into it.
 --
 -- DDS 1.4, 2.2.3 (LIVELINESS: lease_duration), 2.2.4.1 (LIVELINESS_CHANGED).
-use Rattle.std.specs.Prelude.{ℕ, ◌+◌, Bool, true, false, ◌&&◌, not, nat_lt, List, [], ◌∷◌, Option, Some, None, is_some, if◌then◌else◌}
+use Rattle.std.specs.Prelude.{ℕ, ◌+◌, Bool, false, ◌&&◌, not, nat_lt, List, [], ◌∷◌, Option, Some, None, is_some, if◌then◌else◌}
 use Rattle.std.specs.List.{list_any}
 use Rattle.dds_base.specs.declared.happening.Happening.{Happening}
 use Rattle.dds_base.specs.declared.qos.MatchedWriter.{MatchedWriter}
@@ -39,10 +39,6 @@ is_dead_track t = t.has_died && not (is_some t.since)
 -- it was asserted at this moment
 abbrev pub asserted : ℕ → LeaseTrack → LeaseTrack
 asserted moment t = record t { since = Some moment }
-
--- it died
-abbrev pub buried : LeaseTrack → LeaseTrack
-buried t = record t { since = None; has_died = true }
 
 -- the number of the first above this one whose lease is over, where these have the numbers from k on
 abbrev pub first_over : ℕ → ℕ → ℕ → List LeaseTrack → Option ℕ

@@ -13,7 +13,8 @@ use Rattle.dds_base.specs.StatusFlags.{brings_sample, data_available_at, is_afte
 use Rattle.dds_base.specs.Written.{liveliness_lost_status}
 use Rattle.dds_notices.specs.declared.notice.Status.{Status}
 use Rattle.dds_notices.specs.declared.notice.Status.TheVariants.{SampleLost, DataAvailable, LivelinessLost, LivelinessChanged}
-use Rattle.dds_notices.specs.Listeners.{NobodyTakes, taker_of}
+use Rattle.dds_notices.proofs.ListenerLaws.{NobodyTakes}
+use Rattle.dds_notices.specs.Listeners.{taker_of}
 use Rattle.dds_model.specs.Part.{Part, Reader, Writer, own_reader, own_writer}
 use Rattle.dds_model.specs.Noticing.{at_end, data_raised, data_told, each_told, loss_raised, losses_of, lost_raised, lost_told, reader_told, told, told_of, told_to, turn_raised, turn_told, writer_told}
 

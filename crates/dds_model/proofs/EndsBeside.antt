@@ -3,7 +3,7 @@ use Rattle.std.proofs.Common.{◌≡◌, ℕ, zero, suc, get_or, List, [], lengt
 use Rattle.std.proofs.lemmas.List.{set-get_or}
 use Rattle.dds_base.specs.declared.change.Change.{Change}
 use Rattle.dds_base.specs.declared.config.Config.{Config}
-use Rattle.dds_notices.specs.Listeners.{NobodyTakes}
+use Rattle.dds_notices.proofs.ListenerLaws.{NobodyTakes}
 use Rattle.dds_model.specs.declared.endpoint.Endpoint.{Endpoint}
 use Rattle.dds_model.specs.declared.event.WorldEvent.{WorldEvent}
 use Rattle.dds_model.specs.Bounds.{IsBounded}

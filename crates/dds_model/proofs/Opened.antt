@@ -11,8 +11,20 @@ use Rattle.dds_model.specs.Part.{row_of, NoLess, IsAtMost, same_endpoint, Reader
 use Rattle.dds_model.specs.Peer.{Peer, Delivery, no_peer}
 use Rattle.dds_model.specs.Machine.{Machine, part_at, place_at}
 use Rattle.dds_model.specs.World.{machine_of, Sound}
-use Rattle.dds_model.specs.Opening.{readers_in, matched_readers, writers_in, matched_writers, opening_writer, opening_peers, opening_world}
+use Rattle.dds_base.specs.Matched.{of_readers_in, of_writers_in}
+use Rattle.dds_model.specs.Opening.{matched_readers, matched_writers, opening_writer, opening_peers, opening_world}
 use Rattle.dds_model.proofs.Tables.{same_is}
+
+-- the writers of the topic among these, of which the first has this number
+abbrev pub writers_in : ℕ → ℕ → ℕ → List WriterConfig → List WriterProxy
+writers_in topic peer number ws =
+    of_writers_in (λ n w. record
+    { writer = record { peer = peer; number = n }; place = 1; heard = None }) topic number ws
+
+-- the readers of the topic among these, of which the first has this number
+abbrev pub readers_in : ℕ → ℕ → ℕ → List ReaderConfig → List ReaderProxy
+readers_in topic peer number rs =
+    of_readers_in (λ n r. record { reader = record { peer = peer; number = n }; acknowledged = 1 }) topic number rs
 
 -- the topics of a list, of which one stands at this place, counted from 0
 abbrev At : ℕ → List ℕ → ℕ → Type 0

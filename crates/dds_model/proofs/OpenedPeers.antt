@@ -13,9 +13,9 @@ use Rattle.dds_model.specs.Numbered.{numbered}
 use Rattle.dds_model.specs.Part.{row_of, same_endpoint, WriterProxy, own_proxies, place_of, heard_of}
 use Rattle.dds_model.specs.Peer.{Peer, Delivery, no_peer, state_of, packets_of}
 use Rattle.dds_model.specs.Protocol.{Known, knows_nothing}
-use Rattle.dds_model.specs.Opening.{writers_in, matched_writers, opening_peers, opening_world}
+use Rattle.dds_model.specs.Opening.{matched_writers, opening_peers, opening_world}
 use Rattle.dds_model.specs.Backed.{IsBacked}
-use Rattle.dds_model.proofs.Opened.{opening_delivered}
+use Rattle.dds_model.proofs.Opened.{opening_delivered, writers_in}
 
 -- no change of these writers has come, and nothing was heard
 abbrev pub AreFresh : List WriterProxy → Type 0

@@ -1,5 +1,5 @@
--- Networks that differ in what the peers' own calls and listeners see, and in nothing else: what holds of what was sent and of
--- lists and places holds of both.
+-- Networks that differ in what the peers' own calls and listeners see, and in nothing else: what holds of what was sent
+-- and of lists and places holds of both.
 use Rattle.std.proofs.Common.{◌≡◌, ℕ, Bool, Option, List, [], map, length, refl, subst, ap, sym, ◌∙◌, ⊎_elim, arith}
 use Rattle.std.specs.Prelude.{pos, ◌≤ℤ◌, Contains, nat_lt}
 use Rattle.dds_base.specs.declared.change.Change.{Change}
@@ -17,7 +17,7 @@ use Rattle.dds_model.specs.Bounds.{IsBounded}
 use Rattle.dds_model.specs.Claims.{Claim}
 use Rattle.dds_model.specs.Dues.{IsPartOf}
 use Rattle.dds_model.specs.Fresh.{HasUsedCounts}
-use Rattle.dds_model.specs.Filters.{machine_with_filter, part_with_filter, peer_with_filter, world_with_filter}
+use Rattle.dds_model.specs.Filters.{part_with_filter, peer_with_filter, world_with_filter}
 use Rattle.dds_model.specs.Machine.{Machine, part_at, writer_at, place_at}
 use Rattle.dds_model.specs.Noticing.{peer_with_place, world_with_place}
 use Rattle.dds_model.specs.World.{WorldState, Holds, Sound, machine_of, peer_at}
@@ -25,6 +25,10 @@ use Rattle.dds_model.proofs.Alike.{AlikeParts, AlikeWriters, alike_by, alike_rea
 use Rattle.dds_model.proofs.Composed.{parts_at}
 use Rattle.dds_model.proofs.Growth.{MachineGrows, Holds-grows}
 use Rattle.dds_model.proofs.Tables.{length-with_numbered, map-with_numbered, no_less_same, numbered-cases}
+
+-- the machine with one filter more at the peer of this number
+abbrev pub machine_with_filter : Machine → ℕ → Machine
+machine_with_filter m peer = record { parts = with_numbered m.parts peer (part_with_filter (part_at m peer)) }
 
 pub record SameBeside (old new : WorldState) : Type 0 where
   pub count : length new.peers ≡ length old.peers

@@ -6,7 +6,6 @@ use Rattle.dds_conditions.specs.Watched.{with_filter}
 use Rattle.dds_model.specs.Numbered.{with_numbered}
 use Rattle.dds_model.specs.Part.{Part}
 use Rattle.dds_model.specs.Peer.{Peer}
-use Rattle.dds_model.specs.Machine.{Machine, part_at}
 use Rattle.dds_model.specs.World.{WorldState, peer_at}
 
 -- a peer's part with one filter more
@@ -16,10 +15,6 @@ part_with_filter part = record part { dds = record part.dds { watch = with_filte
 -- a peer with one filter more
 abbrev pub peer_with_filter : Peer → Peer
 peer_with_filter peer = record peer { part = part_with_filter peer.part }
-
--- the machine with one filter more at the peer of this number
-abbrev pub machine_with_filter : Machine → ℕ → Machine
-machine_with_filter m peer = record { parts = with_numbered m.parts peer (part_with_filter (part_at m peer)) }
 
 -- a network with one filter more at the peer of this number
 abbrev pub world_with_filter : WorldState → ℕ → WorldState

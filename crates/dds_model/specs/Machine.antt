@@ -1,5 +1,5 @@
--- The machine without packets: each writer is a list of changes, and each matched reader has a place in it that goes over
--- changes which come, and passes over those alone that the writer's history had dropped.
+-- The machine without packets: each writer is a list of changes, and each matched reader has a place in it that goes
+-- over changes which come, and passes over those alone that the writer's history had dropped.
 --
 -- No clause has this machine: it is what RTPS 2.5, 8.4.9 (reliable StatefulWriter) and 8.4.12 (reliable
 -- StatefulReader) come to, whatever becomes of packets; HISTORY (DDS 1.4, 2.2.3) says what is dropped.
@@ -17,7 +17,6 @@ use Rattle.dds_model.specs.Moves.{Grounds, DeliveryStep}
 use Rattle.dds_model.specs.Ticks.{TickStep}
 use Rattle.dds_model.specs.Calls.{CallStep}
 use Rattle.dds_model.specs.Watching.{Tests}
-use Rattle.dds_conditions.specs.Watched.{no_filters}
 
 -- the peers' parts, which are numbered from 1
 pub record Machine : Type 0 where
@@ -59,12 +58,8 @@ IsRefused old reply new = (reply ≡ Refused BadParameter) × (new ≡ old)
 abbrev pub AllTests : Type 0
 AllTests = ℕ → Tests
 
--- a network of peers without filters
-abbrev pub no_tests : AllTests
-no_tests peer = no_filters
-
--- From old, when so many packets were sent, the machine may give this reply to the event and go on to new. Which moves a
--- delivery makes is its choice among the legal ones; every other reply is determined.
+-- From old, when so many packets were sent, the machine may give this reply to the event and go on to new. Which moves
+-- a delivery makes is its choice among the legal ones; every other reply is determined.
 abbrev pub Step : AllTests → ℕ → Machine → WorldEvent → Reply → Machine → Type 0
 Step tests sent old (event.Call peer call) reply new =
     AtPeer old peer (λ after. CallStep (tests peer) (part_at old peer) call reply after) new

@@ -12,7 +12,7 @@ use Rattle.dds_base.specs.declared.qos.MatchedWriter.{MatchedWriter}
 use Rattle.dds_base.specs.declared.qos.ReaderQos.{ReaderQos}
 use Rattle.dds_conditions.specs.Watched.{opened as nothing_watched}
 use Rattle.dds_notices.specs.Listeners.{nobody}
-use Rattle.dds_base.specs.Matched.{of_writers_in, of_matched_writers, of_readers_in, of_matched_readers}
+use Rattle.dds_base.specs.Matched.{of_matched_writers, of_matched_readers}
 use Rattle.dds_model.specs.Part.{ReaderProxy, WriterProxy, Writer, Part, nothing_seen}
 use Rattle.dds_base.specs.Checked.{limit_of}
 use Rattle.dds_model.specs.Peer.{Peer}
@@ -20,21 +20,10 @@ use Rattle.dds_model.specs.Protocol.{knows_nothing}
 use Rattle.dds_model.specs.Machine.{Machine}
 use Rattle.dds_model.specs.World.{WorldState, machine_of}
 
--- the readers of the topic among these, of which the first has this number
-abbrev pub readers_in : ℕ → ℕ → ℕ → List ReaderConfig → List ReaderProxy
-readers_in topic peer number rs =
-    of_readers_in (λ n r. record { reader = record { peer = peer; number = n }; acknowledged = 1 }) topic number rs
-
 -- what a writer of the topic has of its matched readers; the first of these peers has this number
 abbrev pub matched_readers : ℕ → ℕ → List PeerConfig → List ReaderProxy
 matched_readers topic peer ps =
     of_matched_readers (λ i p n r. record { reader = record { peer = i; number = n }; acknowledged = 1 }) topic peer ps
-
--- the writers of the topic among these, of which the first has this number
-abbrev pub writers_in : ℕ → ℕ → ℕ → List WriterConfig → List WriterProxy
-writers_in topic peer number ws =
-    of_writers_in (λ n w. record
-    { writer = record { peer = peer; number = n }; place = 1; heard = None }) topic number ws
 
 -- what a reader of the topic has of its matched writers, in the order of publication handles; the first of these peers
 -- has this number

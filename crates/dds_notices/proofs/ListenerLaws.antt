@@ -7,7 +7,11 @@ use Rattle.dds_base.specs.declared.entity.Entity.TheVariants.{Participant, Write
 use Rattle.dds_notices.specs.declared.notice.Notice.{Notice}
 use Rattle.dds_notices.specs.declared.notice.Status.{Status}
 use Rattle.dds_base.specs.Number.{at_number, is_number}
-use Rattle.dds_notices.specs.Listeners.{ByEntity, NobodyTakes, Place, Places, Slot, Slotted, StandsAt, StandsFor, at_entity, has_entity, is_any, nobody, taker_of, with_entity}
+use Rattle.dds_notices.specs.Listeners.{ByEntity, Place, Places, Slot, Slotted, StandsAt, StandsFor, at_entity, has_entity, is_any, nobody, taker_of, with_entity}
+
+-- nobody takes any status
+abbrev pub NobodyTakes : Places → Type 0
+NobodyTakes places = (entity : Entity) (status : Status) → taker_of places entity status ≡ None
 
 -- there are the same entities afterwards
 pub with_entity-has_entity : {X : Type 0} (all : ByEntity X) (entity other : Entity) (x : Option X)

@@ -1,6 +1,6 @@
 -- The listeners of a peer's entities: of which statuses each is told, and what it was told.
 --
--- DDS 1.4, 2.2.2.1 (Entity, set_listener), 2.2.4.2 (listeners: the one of the entity, or else of what contains it).
+-- DDS 1.4, 2.2.2.1 (Entity, set_listener), 2.2.4.3 (listeners: the one of the entity, or else of what contains it).
 use Rattle.std.specs.Prelude.{◌≡◌, ℕ, ◌-◌, Bool, true, false, ◌||◌, not, List, [], ◌∷◌, ◌++◌, length, set, replicate, Option, None, Some, is_some, if◌then◌else◌}
 use Rattle.std.specs.List.{list_any}
 use Rattle.dds_base.specs.declared.code.Code.{Code}
@@ -51,7 +51,8 @@ is_any all = is_some all.participant || (list_any is_some all.writers || list_an
 
 -- ---- what listeners are told
 
--- a listener's place: the statuses that it is told of, how many notices it can keep, and all that it was told, the oldest first
+-- a listener's place: the statuses that it is told of, how many notices it can keep, and all that it was told, the
+-- oldest first
 pub record Place : Type 0 where
   pub mask : StatusMask
   pub room : ℕ
@@ -66,16 +67,12 @@ abbrev pub takes : Option Place → Status → Bool
 takes None status = false
 takes (Some place) status = names place.mask status
 
--- Whose listener is told of an entity's status: that of the entity if it takes the status, else that of the participant, if
--- that does (2.2.4.2).
+-- Whose listener is told of an entity's status: that of the entity if it takes the status, else that of the
+-- participant, if that does (2.2.4.3).
 abbrev pub taker_of : Places → Entity → Status → Option Entity
 taker_of places entity status =
     if takes (at_entity places entity) status then Some entity
     else (if takes places.participant status then Some Participant else None)
-
--- nobody takes any status
-abbrev pub NobodyTakes : Places → Type 0
-NobodyTakes places = (entity : Entity) (status : Status) → taker_of places entity status ≡ None
 
 -- a place whose listener was told of one more
 abbrev pub with_notice : Option Place → Notice → Option Place
@@ -154,8 +151,8 @@ HandedBack notices capacity None None = Unit {0}
 HandedBack notices capacity (Some listener) (Some place) = Keeps notices capacity listener place
 HandedBack notices capacity _ _ = ⊥
 
--- a listener was set at an entity, or taken away there; for each of the places that they stand for, that of before is handed
--- back
+-- a listener was set at an entity, or taken away there; for each of the places that they stand for, that of before is
+-- handed back
 pub record Sets {L : Type 0} (notices : L → List Notice) (capacity : L → ℕ) (old : Slotted L) (entity : Entity)
     (mask : StatusMask)
     (listener handed : Option L) (new : Slotted L) : Type 0 where

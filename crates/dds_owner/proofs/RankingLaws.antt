@@ -20,9 +20,14 @@ use Rattle.dds_base.proofs.KeyLaws.{same_key-refl}
 use Rattle.dds_base.proofs.OwnerLaws.{all-at, eqb-refl, is_one_of, matched-writer, outranks-one_way, outranks-trans, owner-is, owner-one, writer_total}
 use Rattle.dds_owner.specs.declared.ranking.Leader.{Leader}
 use Rattle.dds_owner.specs.declared.registration.Registration.{Registration}
-use Rattle.dds_owner.specs.Ranking.{accepted_among, gives_way, leader_after, leader_among, sole}
+use Rattle.dds_owner.specs.Ranking.{accepted_among, gives_way, leader_after, leader_among}
 use Rattle.dds_owner.specs.Registration.{registration_of}
 use Rattle.dds_owner.proofs.RegistrationLaws.{other-than}
+
+-- the leader, if it outranks each other one
+abbrev pub sole : Option Leader → Option ℕ
+sole None = None
+sole (Some l) = if l.is_sole then Some l.writer else None
 
 -- ---- what is accepted
 

@@ -32,8 +32,3 @@ abbrev pub leader_among : ReaderQos → Option Leader → List Registration → 
 leader_among q leader [] = leader
 leader_among q leader (r ∷ rs) =
     leader_among q (if r.is_registered then Some (leader_after q leader r.writer) else leader) rs
-
--- the leader, if it outranks each other one
-abbrev pub sole : Option Leader → Option ℕ
-sole None = None
-sole (Some l) = if l.is_sole then Some l.writer else None

@@ -4,9 +4,8 @@ use Rattle.dds_base.specs.declared.happening.Happening.{Happening}
 use Rattle.dds_base.specs.declared.key.Key.{Key}
 use Rattle.dds_base.specs.Ownership.{owner_of, registered_writers}
 use Rattle.dds_owner.specs.declared.ranking.Leader.{Leader}
-use Rattle.dds_owner.specs.Ranking.{sole}
 use Rattle.dds_owner.specs.Standing.{Kept, StandsFor}
-use Rattle.dds_owner.proofs.RankingLaws.{owner-found}
+use Rattle.dds_owner.proofs.RankingLaws.{owner-found, sole}
 use Rattle.dds_owner.proofs.owners.Owners.owner.Goals as goal
 use Rattle.dds_owner.proofs.owners.Owners.owner.Goals.{After-leader_of}
 
