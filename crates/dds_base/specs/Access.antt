@@ -121,7 +121,8 @@ abbrev pub number_from : ℕ → Key → List Key → ℕ
 number_from n i [] = 0
 number_from n i (k ∷ ks) = if same_key k i then n else number_from (n + 1) i ks
 
--- the handle of an instance: 1 plus the number of those known before it, HANDLE_NIL for an unknown one (2.2.2.5, instance_handle)
+-- the handle of an instance: 1 plus the number of those known before it, HANDLE_NIL for an unknown one (2.2.2.5,
+-- instance_handle)
 abbrev pub handle_of : ReaderQos → List Happening → Key → ℕ
 handle_of q h i = number_from 1 i (known_instances q h)
 
@@ -142,7 +143,8 @@ abbrev pub picked_of_next_instance : ReaderQos → List Happening → Option ℕ
 picked_of_next_instance q h max masks passes handle =
     picked_of_instance q h max masks passes (next_handle q h handle (matching_samples q h masks passes))
 
--- the source timestamp of the newest entry: the change's, or the moment of the death (2.2.2.5, source_timestamp); no other entry leaves a sample
+-- the source timestamp of the newest entry: the change's, or the moment of the death (2.2.2.5, source_timestamp); no
+-- other entry leaves a sample
 abbrev pub timestamp_of : List Happening → ℕ
 timestamp_of (Came a ∷ h) = a.change.source_timestamp
 timestamp_of (Died w now ∷ h) = now
@@ -191,7 +193,8 @@ last_or x (y ∷ ys) = last_or y ys
 abbrev pub most_recent : Picked → List Picked → Picked
 most_recent p later = last_or p (filter (is_of p.instance_handle) later)
 
--- a sample's ranks: how many of its instance follow, and its distance in generations to the most recent of them and to the present (2.2.2.5)
+-- a sample's ranks: how many of its instance follow, and its distance in generations to the most recent of them and to
+-- the present (2.2.2.5)
 abbrev pub with_ranks : Picked → List Picked → SampleInfo
 with_ranks p later = record {
   sample_state = p.sample_state;

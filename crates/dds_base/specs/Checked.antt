@@ -1,5 +1,5 @@
--- Why a configuration is refused (DDS 1.4, 2.2.1.1: BAD_PARAMETER, INCONSISTENT_POLICY). The counts, and that a lease is
--- below 2^63, are limits of this project.
+-- Why a configuration is refused (DDS 1.4, 2.2.1.1: BAD_PARAMETER, INCONSISTENT_POLICY). The counts, and that a lease
+-- is below 2^63, are limits of this project.
 use Rattle.std.specs.Prelude.{ℕ, zero, suc, ◌+◌, ◌^◌, ◌==◌, ◌||◌, Bool, true, false, not, List, length, count_by, replicate, slice_index, nat_eq, nat_lt, nat_le, Option, Some, None, ℤ, pos, negsuc, if◌then◌else◌}
 use Rattle.std.specs.List.{list_any}
 use Rattle.std.specs.Cmp.Lexicographic.{pointwise}
@@ -90,7 +90,8 @@ has_bad_parameter peers =
     || nat_lt 1 (prefix_count peers p.prefix)) peers
     || list_any is_bad_peer peers)
 
--- a depth above a max_samples that is a limit (DDS 1.4, 2.2.3, HISTORY, RESOURCE_LIMITS: depth <= max_samples_per_instance <= max_samples)
+-- a depth above a max_samples that is a limit (DDS 1.4, 2.2.3, HISTORY, RESOURCE_LIMITS: depth <=
+-- max_samples_per_instance <= max_samples)
 abbrev pub exceeds_limit : HistoryQos → ℤ → Bool
 exceeds_limit (KeepLast depth) (pos limit) = nat_lt limit depth
 exceeds_limit _ _ = false
@@ -107,8 +108,8 @@ is_longer _ None = false
 is_longer None (Some b) = true
 is_longer (Some a) (Some b) = nat_lt b a
 
--- a matched pair does not fit: their ownership differs, or the lease that the writer offers is longer than the one that the
--- reader asks for (DDS 1.4, 2.2.3, OWNERSHIP, LIVELINESS: offered lease_duration <= requested)
+-- a matched pair does not fit: their ownership differs, or the lease that the writer offers is longer than the one that
+-- the reader asks for (DDS 1.4, 2.2.3, OWNERSHIP, LIVELINESS: offered lease_duration <= requested)
 abbrev pub are_incompatible : ReaderConfig → WriterConfig → Bool
 are_incompatible r w = differ w.ownership r.ownership || is_longer w.lease r.lease
 

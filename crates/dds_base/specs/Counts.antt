@@ -1,4 +1,5 @@
--- The counts of HEARTBEATs, and of ACKNACKs: one that is not greater than the last is a repetition (RTPS 2.5, 8.3.8, count).
+-- The counts of HEARTBEATs, and of ACKNACKs: one that is not greater than the last is a repetition (RTPS 2.5, 8.3.8,
+-- count).
 use Rattle.std.specs.Prelude.{ℤ, Bool, true, int_lt, Option, Some, None}
 
 -- a count is greater than the last one that was accepted; the first always is

@@ -1,6 +1,6 @@
 -- Reading a datum from left to right: what the code does, on lists. By `DatumText` alone `decode_datum`,
--- `decode_datum_ref`, `decode_datum_key` and `decode_key` say what they read (`found`, `only`); `exact` says the same by
--- this reading, and `take_key` what it leaves.
+-- `decode_datum_ref`, `decode_datum_key` and `decode_key` say what they read (`found`, `only`); `exact` says the same
+-- by this reading, and `take_key` what it leaves.
 --
 -- RTPS 2.5, clause 10 (SerializedPayload).
 use Rattle.std.specs.Prelude.{ℕ, zero, suc, List, ◌∷◌, Option, Some, None, nat_lt, if◌then◌else◌}

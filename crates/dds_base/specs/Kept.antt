@@ -41,7 +41,8 @@ is_dropped w number = is_dropped_by w.policy w.changes number
 abbrev pub is_awaited : WriterHistory → ℕ → Bool
 is_awaited w number = list_any (λ a. nat_le a number) w.acknowledged
 
--- the number of a change is kept while the change is not dropped and some matched reliable reader has not acknowledged it
+-- the number of a change is kept while the change is not dropped and some matched reliable reader has not acknowledged
+-- it
 abbrev pub is_kept : WriterHistory → ℕ → Bool
 is_kept w number = is_some (change_at w.changes number) && not (is_dropped w number) && is_awaited w number
 
@@ -82,8 +83,8 @@ append_refusal w change =
     if nat_le (2 ^ 48) (length w.changes) then Some OutOfResources
     else (if exceeds w.max_samples (kept_count (appended w change)) then Some Timeout else None)
 
--- the history once this reader, counted from 0, has acknowledged all numbers below this one; an acknowledgement doesn't go
--- back (RTPS 2.5, 8.4.9: ReaderProxy, acked_changes_set)
+-- the history once this reader, counted from 0, has acknowledged all numbers below this one; an acknowledgement doesn't
+-- go back (RTPS 2.5, 8.4.7: ReaderProxy, acked_changes_set)
 abbrev pub acknowledge : WriterHistory → ℕ → ℕ → WriterHistory
 acknowledge w reader to =
     record w { acknowledged = slice_set w.acknowledged reader (max (slice_index w.acknowledged reader) to) }

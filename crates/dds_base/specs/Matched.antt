@@ -1,5 +1,5 @@
--- Which writers and readers are matched: those of one topic, each reader's writers and each writer's readers in the order
--- of the configuration.
+-- Which writers and readers are matched: those of one topic, each reader's writers and each writer's readers in the
+-- order of the configuration.
 --
 -- DDS 1.4, 2.2.2.3 (a Topic is what publications and subscriptions have in common); RTPS 2.5, 8.4 (matched_writers,
 -- matched_readers).
@@ -19,7 +19,8 @@ of_ends_in topic_of tell topic number (e ∷ es) =
     if same_topic (topic_of e) topic then tell number e ∷ of_ends_in topic_of tell topic (number + 1) es
     else of_ends_in topic_of tell topic (number + 1) es
 
--- the same of each end of the topic at these peers, by its peer's number, its peer and its number there: by peer, then by end
+-- the same of each end of the topic at these peers, by its peer's number, its peer and its number there: by peer, then
+-- by end
 abbrev pub of_matched_ends : {E X : Type 0} → (PeerConfig → List E) → (E → ℕ) → (ℕ → PeerConfig → ℕ → E → X) → ℕ → ℕ
     → List PeerConfig → List X
 of_matched_ends ends topic_of tell topic peer [] = []

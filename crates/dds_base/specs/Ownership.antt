@@ -51,11 +51,13 @@ is_registered i w (e ∷ h) = not (ends_registration i w e) && (registers i w e 
 abbrev pub registered_writers : ReaderQos → Key → List Happening → List ℕ
 registered_writers q i h = filter (λ w. is_registered i w h) (publication_handles q)
 
--- the order of two GUIDs by their sixteen octets: the twelve of the prefix, then the four of the entity (RTPS 2.5, 8.2: GUID_t; the order is ours)
+-- the order of two GUIDs by their sixteen octets: the twelve of the prefix, then the four of the entity (RTPS 2.5, 8.2:
+-- GUID_t; the order is ours)
 abbrev pub guid_cmp : Guid → Guid → Ordering
 guid_cmp a b = ordering_then (slice_cmp nat_cmp a.prefix.0 b.prefix.0) (slice_cmp nat_cmp a.entity.0 b.entity.0)
 
--- the order of two writers: by strength, and of equals the one with the smaller GUID is the greater (2.2.3, OWNERSHIP_STRENGTH)
+-- the order of two writers: by strength, and of equals the one with the smaller GUID is the greater (2.2.3,
+-- OWNERSHIP_STRENGTH)
 abbrev pub writer_cmp : MatchedWriter → MatchedWriter → Ordering
 writer_cmp a b = ordering_then (int_cmp a.strength b.strength) (guid_cmp b.guid a.guid)
 
@@ -91,7 +93,8 @@ abbrev pub HaveOwnGuids : ReaderQos → Type 0
 HaveOwnGuids q = (v w : ℕ) (a b : MatchedWriter) → writer_of q.writers v ≡ Some a → writer_of q.writers w ≡ Some b
     → a.guid ≡ b.guid → v ≡ w
 
--- SHARED lets every writer change an instance, EXCLUSIVE the owner among those registered before and itself (2.2.3, OWNERSHIP)
+-- SHARED lets every writer change an instance, EXCLUSIVE the owner among those registered before and itself (2.2.3,
+-- OWNERSHIP)
 abbrev pub admits : OwnershipQos → Bool → Bool
 admits Shared is_owner = true
 admits Exclusive is_owner = is_owner

@@ -24,7 +24,8 @@ becomes_not_alive _ (Some NotAliveDisposed) = true
 becomes_not_alive _ (Some NotAliveNoWriters) = true
 becomes_not_alive _ _ = false
 
--- the entry turns i to a not-alive state, from another one or from unknown: it leaves a marker, a sample without data (2.2.2.5, valid_data)
+-- the entry turns i to a not-alive state, from another one or from unknown: it leaves a marker, a sample without data
+-- (2.2.2.5, valid_data)
 abbrev pub marks : ReaderQos → Key → List Happening → Happening → Bool
 marks q i h e = becomes_not_alive (instance_state_of q i h) (instance_state_of q i (e ∷ h))
 
@@ -43,7 +44,8 @@ abbrev pub ends_with_write : ReaderQos → Key → List Happening → Bool
 ends_with_write q i [] = false
 ends_with_write q i (e ∷ h) = is_write (accepted_kind q i h e)
 
--- KEEP_ALL keeps every write; KEEP_LAST keeps one that fewer than depth accepted writes of its instance have followed (2.2.3, HISTORY)
+-- KEEP_ALL keeps every write; KEEP_LAST keeps one that fewer than depth accepted writes of its instance have followed
+-- (2.2.3, HISTORY)
 abbrev pub keeps : HistoryQos → ℕ → Bool
 keeps KeepAll later = true
 keeps (KeepLast depth) later = nat_lt later depth
@@ -61,7 +63,8 @@ abbrev pub is_at : Option ℕ → ℕ → Bool
 is_at None j = false
 is_at (Some at) j = at == j
 
--- the sample of i at position j is present: not taken, and a write that the history keeps or i's last marker (2.2.2.5; 2.2.3, HISTORY)
+-- the sample of i at position j is present: not taken, and a write that the history keeps or i's last marker (2.2.2.5;
+-- 2.2.3, HISTORY)
 abbrev pub is_present : ReaderQos → List Happening → Key → ℕ → Bool
 is_present q h i j = not (is_taken (record { key = i; position = j }) h)
     && (is_kept_write q h i j || is_at (last_marker q i h) j)
@@ -94,7 +97,8 @@ abbrev pub is_accepted : ReaderQos → List Happening → Happening → Bool
 is_accepted q h (Came a) = is_some (accepted_kind q a.change.key h (Came a))
 is_accepted q h _ = false
 
--- after an accepted write or dispose the limits hold, and after any arrival fewer than 2^31 - 1 changes came (RESOURCE_LIMITS)
+-- after an accepted write or dispose the limits hold, and after any arrival fewer than 2^31 - 1 changes came
+-- (RESOURCE_LIMITS)
 abbrev pub has_room : ReaderQos → List Happening → Happening → Bool
 has_room q h e =
     nat_lt (arrivals (e ∷ h)) (2 ^ 31 - 1)

@@ -1,4 +1,5 @@
--- How a call is refused (DDS 1.4, 2.2.1.1: return codes): with the first cause that holds, or where a growth was refused.
+-- How a call is refused (DDS 1.4, 2.2.1.1: return codes): with the first cause that holds, or where a growth was
+-- refused.
 use Rattle.std.specs.Prelude.{◌≡◌, Option, Some, None}
 use Rattle.dds_base.specs.declared.code.Code.{Code}
 use Rattle.dds_base.specs.declared.code.Code.TheVariants.{Memory}

@@ -24,18 +24,20 @@ pub enum Code {
     /// UNSUPPORTED, 2: an operation or a policy that is optional in the standard and absent. No call answers it.
     Unsupported,
     /// BAD_PARAMETER, 3: a parameter that no call takes, or that names nothing. `Config::check` answers it for what is
-    /// invalid by itself, each call of a peer for a writer, a reader or an entity that the peer lacks, a write for a value
-    /// above `MAX_VALUE` octets, an access for a `max` that is neither -1 nor positive or an instance that is unknown, a look
-    /// at a key for a handle that names none; the calls about conditions and WaitSets for one that is not there or was deleted,
-    /// a recorder for room outside its bounds, a tick for a moment that goes back, a network for a packet that was not sent.
+    /// invalid by itself, each call of a peer for a writer, a reader or an entity that the peer lacks, a write for a
+    /// value above `MAX_VALUE` octets, an access for a `max` that is neither -1 nor positive or an instance that is
+    /// unknown, a look at a key for a handle that names none; the calls about conditions and WaitSets for one that is
+    /// not there or was deleted, a recorder for room outside its bounds, a tick for a moment that goes back, a network
+    /// for a packet that was not sent.
     BadParameter,
     /// PRECONDITION_NOT_MET, 4: a call that may not come yet. An unregister answers it for an instance that is not
     /// registered at its writer, and calls about conditions and WaitSets as `Call` says.
     PreconditionNotMet,
-    /// OUT_OF_RESOURCES, 5: a counter is at its limit. What makes a change answers it after 2^48 changes of its writer, an
-    /// assertion after 2^31 - 1 counts, and what makes a condition, a WaitSet or a filter where no number is left.
+    /// OUT_OF_RESOURCES, 5: a counter is at its limit. What makes a change answers it after 2^48 changes of its writer,
+    /// an assertion after 2^31 - 1 counts, and what makes a condition, a WaitSet or a filter where no number is left.
     OutOfResources,
-    /// NOT_ENABLED, 6: an entity that is not enabled yet. No call answers it, since each peer is enabled from the start.
+    /// NOT_ENABLED, 6: an entity that is not enabled yet. No call answers it, since each peer is enabled from the
+    /// start.
     NotEnabled,
     /// IMMUTABLE_POLICY, 7: a policy that can't be changed once its entity is enabled. No call answers it.
     ImmutablePolicy,
@@ -45,8 +47,8 @@ pub enum Code {
     /// ALREADY_DELETED, 9: an entity that is gone. No call answers it: entities are never deleted, and a condition or a
     /// WaitSet that was deleted is as one that was not made.
     AlreadyDeleted,
-    /// TIMEOUT, 10: a call that would have to wait. What makes a change answers it where its writer may not keep one more
-    /// (max_blocking_time is 0), and a look at a WaitSet in which nothing is true, once its deadline has come.
+    /// TIMEOUT, 10: a call that would have to wait. What makes a change answers it where its writer may not keep one
+    /// more (max_blocking_time is 0), and a look at a WaitSet in which nothing is true, once its deadline has come.
     Timeout,
     /// NO_DATA, 11: nothing meets what an access asks for. A read or a take answers it.
     NoData,

@@ -38,8 +38,8 @@ impl Config {
 
     /// Which rule this configuration breaks, and where; `None` where `check` takes it. It takes no memory.
     ///
-    /// Of several faults it is the first with the code that `check` answers: of the whole, then by peer, and of a peer's
-    /// faults its own, then its writers', then its readers'.
+    /// Of several faults it is the first with the code that `check` answers: of the whole, then by peer, and of a
+    /// peer's faults its own, then its writers', then its readers'.
     ///
     /// DDS 1.4, 2.2.1.1 (return codes), 2.2.3 (consistent and compatible policies).
     pub fn fault(&self) -> Option<ConfigFault>

@@ -162,7 +162,8 @@ pub fn decode_datum(alloc: Global, bytes: &[u8]) -> Result<Option<Datum>, Code>
     datum_of(alloc, bytes)
 }
 
-/// The datum that the bytes begin with, in either order of bytes; they lend its value. `None` where they begin with none.
+/// The datum that the bytes begin with, in either order of bytes; they lend its value. `None` where they begin with
+/// none.
 ///
 /// What follows the datum is not looked at. Takes no memory.
 ///

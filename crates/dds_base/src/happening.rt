@@ -22,7 +22,8 @@ pub struct Arrival {
     pub moment: Moment,
 }
 
-/// The changes from `first` to `last` of a writer, both of them too, which a reader passed over. `first` is at most `last`.
+/// The changes from `first` to `last` of a writer, both of them too, which a reader passed over. `first` is at most
+/// `last`.
 #[derive(Clone, Copy, Debug, PartialEq, Eq)]
 pub struct PassedRun {
     /// From 1.
@@ -36,7 +37,8 @@ pub struct PassedRun {
 pub struct SamplePosition {
     /// Its instance.
     pub key: Key,
-    /// The number of the happening, counted from 1: the oldest has 1, although a list of happenings begins with the newest.
+    /// The number of the happening, counted from 1: the oldest has 1, although a list of happenings begins with the
+    /// newest.
     pub position: u64,
 }
 

@@ -7,8 +7,8 @@ ghost use Rattle.dds_base.specs.Written.{is_over};
 
 use crate::moment::Moment;
 
-/// Whether a lease, in units of 2^-32 second, is over at this moment, for a writer that was asserted last at `since`. It is
-/// over once it has passed in full, and never where there is no lease, or nobody was asserted.
+/// Whether a lease, in units of 2^-32 second, is over at this moment, for a writer that was asserted last at `since`.
+/// It is over once it has passed in full, and never where there is no lease, or nobody was asserted.
 ///
 /// DDS 1.4, 2.2.3 (LIVELINESS: lease_duration).
 pub fn is_over(lease: Option<u64>, since: Option<Moment>, now: Moment) -> bool

@@ -8,7 +8,8 @@ use bitflags::{Flag, Flags, bitflag_items};
 
 /// The sample states that an access asks for.
 ///
-/// DDS 1.4, 2.2.2.5 (SampleStateMask), 2.3.3 (READ_SAMPLE_STATE and kin). Bits without a meaning are kept and ask for nothing.
+/// DDS 1.4, 2.2.2.5 (SampleStateMask), 2.3.3 (READ_SAMPLE_STATE and kin). Bits without a meaning are kept and ask for
+/// nothing.
 #[derive(Clone, Copy, Debug, PartialEq, Eq)]
 pub struct SampleStateMask(u32);
 
@@ -44,7 +45,8 @@ impl Flags for SampleStateMask {
 
 /// The view states that an access asks for.
 ///
-/// DDS 1.4, 2.2.2.5 (ViewStateMask), 2.3.3 (NEW_VIEW_STATE and kin). Bits without a meaning are kept and ask for nothing.
+/// DDS 1.4, 2.2.2.5 (ViewStateMask), 2.3.3 (NEW_VIEW_STATE and kin). Bits without a meaning are kept and ask for
+/// nothing.
 #[derive(Clone, Copy, Debug, PartialEq, Eq)]
 pub struct ViewStateMask(u32);
 
@@ -80,7 +82,8 @@ impl Flags for ViewStateMask {
 
 /// The instance states that an access asks for.
 ///
-/// DDS 1.4, 2.2.2.5 (InstanceStateMask), 2.3.3 (ALIVE_INSTANCE_STATE and kin). Bits without a meaning are kept and ask for nothing.
+/// DDS 1.4, 2.2.2.5 (InstanceStateMask), 2.3.3 (ALIVE_INSTANCE_STATE and kin). Bits without a meaning are kept and ask
+/// for nothing.
 #[derive(Clone, Copy, Debug, PartialEq, Eq)]
 pub struct InstanceStateMask(u32);
 

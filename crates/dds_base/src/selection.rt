@@ -8,8 +8,8 @@ ghost use Rattle.dds_base.specs.Selection.{selection_in};
 use crate::handle::Handle;
 use crate::mask::Masks;
 
-/// Which of the present samples an access asks for. `max` says how many at most, -1 for all of them; the samples are the
-/// first ones that meet the masks, by instance handle and then in the order in which their changes and deaths came.
+/// Which of the present samples an access asks for. `max` says how many at most, -1 for all of them; the samples are
+/// the first ones that meet the masks, by instance handle and then in the order in which their changes and deaths came.
 ///
 /// DDS 1.4, 2.2.2.5.
 #[derive(Clone, Copy, Debug, PartialEq, Eq)]

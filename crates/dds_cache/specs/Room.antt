@@ -16,8 +16,8 @@ abbrev pub is_present_write : ReaderQos → List Happening → Kept → Bool
 is_present_write q h k =
     is_present q h k.sample.key k.sample.position && ends_with_write q k.sample.key (as_of k.sample.position h)
 
--- a kept sample is so after a change: by the counts of its instance before it, whether one more write of the instance is
--- accepted, and whether the change leaves a marker of it
+-- a kept sample is so after a change: by the counts of its instance before it, whether one more write of the instance
+-- is accepted, and whether the change leaves a marker of it
 abbrev pub is_write_after : ReaderQos → KnownInstance → Bool → Bool → Kept → Bool
 is_write_after q known one_more is_marked k =
     k.valid_data && (keeps q.history ((known.accepted_writes - k.number) + one_if one_more)

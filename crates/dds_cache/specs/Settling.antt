@@ -1,4 +1,5 @@
--- What an access leaves of the kept samples, by its kind. Inner functions alone cite this: nothing here has to be believed.
+-- What an access leaves of the kept samples, by its kind. Inner functions alone cite this: nothing here has to be
+-- believed.
 --
 -- DDS 1.4, 2.2.2.5 (read, take).
 use Rattle.std.specs.Prelude.{List, map, filter, not}

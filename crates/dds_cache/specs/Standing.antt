@@ -106,8 +106,8 @@ picked stored h selection test = picked_by (qos_of stored) h selection test
 abbrev pub refusal : Stored → List Happening → Selection → Option Code
 refusal stored h selection = selection_refusal (qos_of stored) h selection
 
--- the answer of an access by a test: the collection, or NO_DATA where nothing is picked; or the first cause that refuses
--- it, or MEMORY where there is none
+-- the answer of an access by a test: the collection, or NO_DATA where nothing is picked; or the first cause that
+-- refuses it, or MEMORY where there is none
 abbrev pub AccessAnswers : Stored → List Happening → Selection → (Key → List ℕ → Bool) → Result (List Sample) Code
     → Type 0
 AccessAnswers stored h selection test (Ok samples) =

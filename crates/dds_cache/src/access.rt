@@ -195,8 +195,8 @@ fn sort_by_handle(candidates: &mut Vec<Candidate>) -> Result<(), AllocError>
     Ok(())
 }
 
-/// The present samples that meet the masks and pass the test, by handle, and those of one instance in the order in which
-/// they came.
+/// The present samples that meet the masks and pass the test, by handle, and those of one instance in the order in
+/// which they came.
 pub fn find_matching<T: Test>(
     alloc: Global,
     instances: &Instances,

@@ -70,8 +70,8 @@ impl Kept {
             || is_position(known.last_marker, self.sample.position)
     }
 
-    /// Whether it is a write that is present after a change: by what is known of its instance before it, whether one more
-    /// write of the instance is accepted, and whether the change leaves a marker of it.
+    /// Whether it is a write that is present after a change: by what is known of its instance before it, whether one
+    /// more write of the instance is accepted, and whether the change leaves a marker of it.
     pub fn is_write_after(
         &self,
         qos: &ReaderQos,

@@ -51,7 +51,8 @@ fn request_with(max: i32, masks: Masks) -> Result<Request, Code>
 ///
 /// # Errors
 ///
-/// `BadParameter` for a maximum that is neither -1 nor positive, and for an instance that is not known where it has to be.
+/// `BadParameter` for a maximum that is neither -1 nor positive, and for an instance that is not known where it has to
+/// be.
 fn request_by(instances: &Instances, selection: &Selection) -> Result<Request, Code>
     ensures { (q : ReaderQos) (h : List Happening) → Stands q instances.now h
         → IsRequest q h selection.now result }
@@ -147,8 +148,8 @@ fn find_asked<T: Test>(
 ///
 /// # Errors
 ///
-/// `BadParameter` for a maximum that is neither -1 nor positive, and for an instance that is not known where it has to be;
-/// else `Memory` where a growth was refused.
+/// `BadParameter` for a maximum that is neither -1 nor positive, and for an instance that is not known where it has to
+/// be; else `Memory` where a growth was refused.
 pub fn pick<T: Test>(
     alloc: Global,
     instances: &Instances,

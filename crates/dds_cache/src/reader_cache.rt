@@ -39,8 +39,9 @@ use std::marker::Model;
 
 /// What a reader holds: its instances, and its samples in the order in which they came.
 ///
-/// A change takes about the same time however many samples and instances there are; now and then the samples that are no
-/// longer present are swept out. A read or a take goes once over the samples, and sorts those that it returns by handle.
+/// A change takes about the same time however many samples and instances there are; now and then the samples that are
+/// no longer present are swept out. A read or a take goes once over the samples, and sorts those that it returns by
+/// handle.
 #[derive(Drop)]
 pub struct ReaderCache {
     alloc: Global,
@@ -94,8 +95,8 @@ impl ReaderCache {
         }
     }
 
-    /// Makes room for so many more entries: as many that follow find it, but for deaths, for which `reserve_deaths` makes
-    /// room. Room for deaths may be given up.
+    /// Makes room for so many more entries: as many that follow find it, but for deaths, for which `reserve_deaths`
+    /// makes room. Room for deaths may be given up.
     ///
     /// # Errors
     ///
@@ -121,8 +122,8 @@ impl ReaderCache {
     ///
     /// # Errors
     ///
-    /// `Memory` where a growth was refused, or where more than 2^64 - 1 entries would be counted; the cache is then as it
-    /// was.
+    /// `Memory` where a growth was refused, or where more than 2^64 - 1 entries would be counted; the cache is then as
+    /// it was.
     ///
     /// DDS 1.4, 2.2.3 (LIVELINESS).
     pub fn reserve_deaths(&mut self, count: usize) -> Result<(), Code>
@@ -225,8 +226,8 @@ impl ReaderCache {
         Ok(())
     }
 
-    /// Takes up a change that came. Its writer is a matched one. Room by the limits of the policies is the caller's affair:
-    /// a change is taken up also where they are then exceeded.
+    /// Takes up a change that came. Its writer is a matched one. Room by the limits of the policies is the caller's
+    /// affair: a change is taken up also where they are then exceeded.
     ///
     /// # Errors
     ///
@@ -299,7 +300,8 @@ impl ReaderCache {
     ///
     /// # Errors
     ///
-    /// `Memory` as `reserve_deaths` answers it, and never where room for a death was reserved; the cache is then as it was.
+    /// `Memory` as `reserve_deaths` answers it, and never where room for a death was reserved; the cache is then as it
+    /// was.
     ///
     /// DDS 1.4, 2.2.3 (LIVELINESS).
     pub fn died(&mut self, writer: Handle, moment: Moment) -> Result<(), Code>
@@ -321,8 +323,8 @@ impl ReaderCache {
         Ok(())
     }
 
-    /// Whether there is room for a change by the limits of the policies: fewer than 2^31 - 1 changes came with it, and if it
-    /// is accepted, the present writes and the known instances are as many as they may be. It needs no memory.
+    /// Whether there is room for a change by the limits of the policies: fewer than 2^31 - 1 changes came with it, and
+    /// if it is accepted, the present writes and the known instances are as many as they may be. It needs no memory.
     ///
     /// It goes once over the samples, if there is a limit to them.
     ///
@@ -341,7 +343,8 @@ impl ReaderCache {
         )
     }
 
-    /// Whether some present sample meets the masks and passes the test. It needs no memory, and goes once over the samples.
+    /// Whether some present sample meets the masks and passes the test. It needs no memory, and goes once over the
+    /// samples.
     ///
     /// DDS 1.4, 2.2.2.5 (ReadCondition, QueryCondition: get_trigger_value).
     pub fn has_match<T: Test>(&self, masks: Masks, test: &T) -> bool
@@ -389,8 +392,8 @@ impl ReaderCache {
         Ok(())
     }
 
-    /// Reads or takes the present samples that the selection asks for and that pass the test; `Everything` is the test that
-    /// each sample passes. The next sample is picked without the test.
+    /// Reads or takes the present samples that the selection asks for and that pass the test; `Everything` is the test
+    /// that each sample passes. The next sample is picked without the test.
     ///
     /// # Errors
     ///
@@ -446,8 +449,8 @@ impl ReaderCache {
         self.instances.handle(key)
     }
 
-    /// The position of the newest entry that brought a sample, if there is one and no read or take has followed it; where
-    /// there is none, DATA_AVAILABLE is not raised. It needs no memory.
+    /// The position of the newest entry that brought a sample, if there is one and no read or take has followed it;
+    /// where there is none, DATA_AVAILABLE is not raised. It needs no memory.
     ///
     /// DDS 1.4, 2.2.4.1 (DATA_AVAILABLE), 2.2.4.2.2 (changes in read communication statuses).
     pub fn data_at(&self) -> Option<u64>

@@ -17,8 +17,8 @@ use Rattle.dds_conditions.specs.declared.condition.Condition.TheVariants.{Sample
 use Rattle.dds_conditions.specs.declared.waiting.Waiting.{Waiting}
 use Rattle.dds_conditions.specs.Attached.{attached, detached, detach_refusal}
 
--- the conditions and the WaitSets by their numbers, none where one was deleted; and which statuses of the participant, of
--- each writer and of each reader are enabled; and how many filters there are
+-- the conditions and the WaitSets by their numbers, none where one was deleted; and which statuses of the participant,
+-- of each writer and of each reader are enabled; and how many filters there are
 pub record Watched : Type 0 where
   pub conditions : List (Option Condition)
   pub wait_sets : List (Option Waiting)
@@ -31,7 +31,8 @@ pub record Watched : Type 0 where
 abbrev pub every_status : StatusMask
 every_status = record { 0 = 65535 }
 
--- at first nothing was made, there is no filter, and all statuses of the participant, of so many writers and of so many readers are enabled
+-- at first nothing was made, there is no filter, and all statuses of the participant, of so many writers and of so many
+-- readers are enabled
 abbrev pub opened : ℕ → ℕ → Watched
 opened writers readers = record {
   conditions = [];

@@ -20,8 +20,8 @@ pub enum Cond {
 /// DDS 1.4, 2.2.2.1 (GuardCondition), 2.2.2.5 (ReadCondition).
 #[derive(Clone, Copy, Debug, PartialEq, Eq)]
 pub enum Condition {
-    /// A read condition: whether a present sample of this reader meets the masks. A query condition asks besides that the
-    /// sample passes the filter of this number.
+    /// A read condition: whether a present sample of this reader meets the masks. A query condition asks besides that
+    /// the sample passes the filter of this number.
     Samples {
         reader: u8,
         masks: Masks,

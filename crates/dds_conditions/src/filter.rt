@@ -43,7 +43,8 @@ pub trait Filters {
     /// Which keys and values pass the filter of a number.
     ghost meaning: { Self → ℕ → Key → List ℕ → Bool };
 
-    /// Whether a sample passes the filter of this number: its key, and the octets of its value, none where it has no data.
+    /// Whether a sample passes the filter of this number: its key, and the octets of its value, none where it has no
+    /// data.
     fn passes(&self, filter: u32, key: &Key, value: &[u8]) -> bool
         ensures meaning { result ≡ meaning self.now filter key.now value.now };
 }

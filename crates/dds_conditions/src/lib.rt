@@ -1,6 +1,6 @@
 //! Conditions, the WaitSets that wait for them, and the filters of query conditions.
 //!
-//! DDS 1.4, 2.2.2.1 (WaitSet, Condition), 2.2.2.5 (ReadCondition, QueryCondition).
+//! DDS 1.4, 2.2.2.1 (WaitSet, Condition), 2.2.2.5 (ReadCondition, QueryCondition), 2.2.4.4 (conditions and wait-sets).
 //! Not here: when a condition's trigger value is true, and how long a WaitSet waits.
 #![tactic(auto)]
 

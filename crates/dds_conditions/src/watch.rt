@@ -23,8 +23,8 @@ use dds_notices::StatusMask;
 use std::alloc::{AllocError, Global};
 use std::marker::Model;
 
-/// What the application of a peer watches: the conditions that it made, its WaitSets, and which statuses of which entity
-/// are enabled. Conditions and WaitSets are numbered from 1 to 2^32 - 1, and no number is given twice.
+/// What the application of a peer watches: the conditions that it made, its WaitSets, and which statuses of which
+/// entity are enabled. Conditions and WaitSets are numbered from 1 to 2^32 - 1, and no number is given twice.
 ///
 /// DDS 1.4, 2.2.2.1 (Condition, WaitSet, StatusCondition).
 #[derive(Drop)]
@@ -105,8 +105,8 @@ impl Watch {
         }
     }
 
-    /// Whether there is such a condition: the status condition of an entity that the peer has, or one that was made and not
-    /// deleted.
+    /// Whether there is such a condition: the status condition of an entity that the peer has, or one that was made and
+    /// not deleted.
     pub fn knows(&self, condition: Cond) -> bool
         ensures known { result ≡ knows self.now condition }
     {
@@ -116,7 +116,8 @@ impl Watch {
         }
     }
 
-    /// Whether the peer has this entity: the participant always, a writer or a reader of a number from 1 to how many there are.
+    /// Whether the peer has this entity: the participant always, a writer or a reader of a number from 1 to how many
+    /// there are.
     pub fn knows_entity(&self, entity: Entity) -> bool
         ensures known { result ≡ knows_entity self.now entity }
     {
@@ -157,7 +158,8 @@ impl Watch {
     ///
     /// # Errors
     ///
-    /// `BadParameter` where there is no such condition, `PreconditionNotMet` where it is no guard; nothing changes then.
+    /// `BadParameter` where there is no such condition, `PreconditionNotMet` where it is no guard; nothing changes
+    /// then.
     ///
     /// DDS 1.4, 2.2.2.1 (GuardCondition, set_trigger_value).
     pub fn set_guard(&mut self, number: u32, value: bool) -> Result<(), Code>
@@ -290,7 +292,8 @@ impl Watch {
     ///
     /// # Errors
     ///
-    /// `BadParameter` where there is no such WaitSet, `PreconditionNotMet` where somebody waits in it; nothing changes then.
+    /// `BadParameter` where there is no such WaitSet, `PreconditionNotMet` where somebody waits in it; nothing changes
+    /// then.
     ///
     /// DDS 1.4, 2.2.2.1 (WaitSet).
     pub fn delete_wait_set(&mut self, number: u32) -> Result<(), Code>
@@ -316,8 +319,8 @@ impl Watch {
     ///
     /// # Errors
     ///
-    /// `BadParameter` where there is no such WaitSet or no such condition, else `Memory` where a growth was refused, which
-    /// only one that was not attached needs; nothing changes then.
+    /// `BadParameter` where there is no such WaitSet or no such condition, else `Memory` where a growth was refused,
+    /// which only one that was not attached needs; nothing changes then.
     ///
     /// DDS 1.4, 2.2.2.1 (attach_condition).
     pub fn attach(&mut self, number: u32, condition: Cond) -> Result<(), Code>
@@ -348,8 +351,8 @@ impl Watch {
     ///
     /// # Errors
     ///
-    /// `BadParameter` where there is no such WaitSet or no such condition, `PreconditionNotMet` where it is not attached;
-    /// nothing changes then.
+    /// `BadParameter` where there is no such WaitSet or no such condition, `PreconditionNotMet` where it is not
+    /// attached; nothing changes then.
     ///
     /// DDS 1.4, 2.2.2.1 (detach_condition).
     pub fn detach(&mut self, number: u32, condition: Cond) -> Result<(), Code>
@@ -441,7 +444,8 @@ impl Watch {
     ///
     /// # Errors
     ///
-    /// `BadParameter` where there is no such WaitSet, `PreconditionNotMet` where nobody waits in it; nothing changes then.
+    /// `BadParameter` where there is no such WaitSet, `PreconditionNotMet` where nobody waits in it; nothing changes
+    /// then.
     ///
     /// DDS 1.4, 2.2.2.1 (wait).
     pub fn end(&mut self, number: u32) -> Result<(), Code>
@@ -506,8 +510,8 @@ impl Watch {
         }
     }
 
-    /// The conditions of a WaitSet whose trigger value is true, in the order in which they were attached; none where there
-    /// is no such WaitSet. `is_true` tells the trigger value of each.
+    /// The conditions of a WaitSet whose trigger value is true, in the order in which they were attached; none where
+    /// there is no such WaitSet. `is_true` tells the trigger value of each.
     ///
     /// # Errors
     ///

@@ -29,7 +29,8 @@ use Rattle.dds_core.proofs.Identities.{same_identity}
 use Rattle.dds_core.proofs.Lists.{get-within}
 use Rattle.dds_core.proofs.Ready.{alike_stands, partner, set-cases}
 
--- something happened by which the store stands as it does, and after which the deaths that are left lead to the tick's end
+-- something happened by which the store stands as it does, and after which the deaths that are left lead to the tick's
+-- end
 pub record LeadsTo (q : ReaderQos) (now after : ℕ) (store : StoreKept) (end : List Happening) : Type 0 where
   pub happened : List Happening
   pub holds : Holds store happened

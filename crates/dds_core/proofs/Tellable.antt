@@ -1,4 +1,5 @@
--- The changes of a peer's writers can be told by what a DATA says: at its opening, and after each thing that happens there.
+-- The changes of a peer's writers can be told by what a DATA says: at its opening, and after each thing that happens
+-- there.
 use Rattle.std.proofs.Common.{◌≡◌, ◌⊎◌, ℕ, zero, suc, ◌-◌, Bool, true, false, List, [], ◌∷◌, ◌++◌, Some, None, map, get_or, slice_get, refl, ap, sym, ◌∙◌, subst, inl, inr, ⊎_elim, arith, nat_lt}
 use Rattle.std.specs.Prelude.{if◌then◌else◌}
 use Rattle.std.proofs.lemmas.Bool.Decides.{nat_tests}

@@ -1,7 +1,7 @@
--- What a peer's writers do at an ACKNACK, by what the peer keeps. Inner functions alone cite this: nothing here has to be
--- believed.
+-- What a peer's writers do at an ACKNACK, by what the peer keeps. Inner functions alone cite this: nothing here has to
+-- be believed.
 --
--- RTPS 2.5, 8.4.9 (reliable StatefulWriter, ReaderProxy: requested_changes), 8.3.8 (AckNack, Data, Gap).
+-- RTPS 2.5, 8.4.7 (ReaderProxy: requested_changes), 8.4.9 (reliable StatefulWriter), 8.3.8 (AckNack, Data, Gap).
 use Rattle.std.specs.Prelude.{◌≡◌, ℕ, suc, ◌+◌, ◌^◌, ◌<◌, ◌≤◌, true, List, [], ◌∷◌, ◌++◌, length, map, take, set, slice_get, vec_capacity, Option, Some, None}
 use Rattle.std.specs.List.{All, AllByRecursion}
 use Rattle.dds_base.specs.declared.change.Change.{Change}

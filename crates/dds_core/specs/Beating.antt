@@ -1,5 +1,5 @@
--- The HEARTBEATs of a peer's writers, at a tick and for an assertion, by what the peer keeps. Inner functions alone cite this: nothing here has to
--- be believed.
+-- The HEARTBEATs of a peer's writers, at a tick and for an assertion, by what the peer keeps. Inner functions alone
+-- cite this: nothing here has to be believed.
 --
 -- RTPS 2.5, 8.4.9 (reliable StatefulWriter: heartbeatPeriod), 8.3.8 (Heartbeat).
 use Rattle.std.specs.Prelude.{◌≡◌, ℕ, ◌+◌, ◌-◌, ◌^◌, ◌≤◌, ◌==◌, ◌&&◌, Bool, if◌then◌else◌, nat_lt, nat_le, true, false, List, [], ◌∷◌, ◌++◌, length, map, filter, Option, ℤ}

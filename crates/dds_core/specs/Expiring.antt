@@ -1,5 +1,5 @@
--- The deaths of a tick at a peer's readers, by what the peer keeps. Inner functions alone cite this: nothing here has to be
--- believed.
+-- The deaths of a tick at a peer's readers, by what the peer keeps. Inner functions alone cite this: nothing here has
+-- to be believed.
 --
 -- DDS 1.4, 2.2.3 (LIVELINESS: lease_duration).
 use Rattle.std.specs.Prelude.{◌≡◌, ℕ, ◌≤◌, List, All, length, slice_get, Some}

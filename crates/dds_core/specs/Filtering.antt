@@ -25,9 +25,9 @@ pub record StandsFor {F : Type 0} (kept : FilteredKept F) (config : Config) (pee
   pub stands : PeerStandsFor kept.peer config peer
   pub filters : peer.part.dds.watch.filters ≡ length kept.filters
 
--- For each state that the old values stand for, and of which all that is known was claimed, the event is a step by what the
--- filters mean to one that the new values stand for, and of which all that is known was claimed; a delivery follows the rules
--- of the protocol. The filters stay.
+-- For each state that the old values stand for, and of which all that is known was claimed, the event is a step by what
+-- the filters mean to one that the new values stand for, and of which all that is known was claimed; a delivery follows
+-- the rules of the protocol. The filters stay.
 pub record Steps {F : Type 0} (tests : Tests) (old : FilteredKept F) (event : Event) (output : Output)
     (new : FilteredKept F) : Type 0 where
   pub step : (config : Config) (peer : Peer) → StandsFor old config peer → IsSound config peer
@@ -36,8 +36,9 @@ pub record Steps {F : Type 0} (tests : Tests) (old : FilteredKept F) (event : Ev
       × KeepsRules config peer event output after
   pub filters : new.filters ≡ old.filters
 
--- The filter is the last one. For each state that the old values stand for there is a number for it, and it is this one; the
--- new values stand for that state with one filter more, and nothing else; and what it knows was claimed, if it was before.
+-- The filter is the last one. For each state that the old values stand for there is a number for it, and it is this
+-- one; the new values stand for that state with one filter more, and nothing else; and what it knows was claimed, if it
+-- was before.
 pub record Adds {F : Type 0} (old : FilteredKept F) (filter : F) (number : ℕ) (new : FilteredKept F) : Type 0 where
   pub filters : new.filters ≡ old.filters ++ filter ∷ []
   pub adds : (config : Config) (peer : Peer) → StandsFor old config peer

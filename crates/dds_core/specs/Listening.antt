@@ -1,6 +1,6 @@
 -- A peer with the filters and the listeners of its application.
 --
--- DDS 1.4, 2.2.2.1 (Entity, set_listener), 2.2.4.2 (listeners).
+-- DDS 1.4, 2.2.2.1 (Entity, set_listener), 2.2.4.3 (access through listeners).
 use Rattle.std.specs.Prelude.{◌≡◌, ℕ, ◌+◌, List, [], ◌∷◌, ◌++◌, length, Option, None, Some}
 use Rattle.dds_base.specs.declared.code.Code.{Code}
 use Rattle.dds_base.specs.declared.config.Config.{Config}
@@ -24,16 +24,16 @@ pub record CoreKept (F L : Type 0) : Type 0 where
   pub filtered : FilteredKept F
   pub listeners : Slotted L
 
--- A state of the peer for which this stands: each listener has kept the last ones of all that it was told, by the notices that
--- it keeps and how many it can keep.
+-- A state of the peer for which this stands: each listener has kept the last ones of all that it was told, by the
+-- notices that it keeps and how many it can keep.
 pub record StandsFor {F L : Type 0} (notices : L → List Notice) (capacity : L → ℕ) (kept : CoreKept F L)
     (config : Config) (peer : Peer) : Type 0 where
   pub stands : FilteredStandsFor kept.filtered config peer
   pub listeners : SlotsStandFor notices capacity kept.listeners peer.part.dds.listeners
 
--- For each state that the old values stand for, and of which all that is known was claimed, the event is a step by what the
--- filters mean, which follows the rules of the protocol; at its end listeners are told what it raised. The new values stand
--- for the state after that, and all that is known of it was claimed. The filters stay.
+-- For each state that the old values stand for, and of which all that is known was claimed, the event is a step by what
+-- the filters mean, which follows the rules of the protocol; at its end listeners are told what it raised. The new
+-- values stand for the state after that, and all that is known of it was claimed. The filters stay.
 pub record Steps {F L : Type 0} (notices : L → List Notice) (capacity : L → ℕ) (tests : Tests) (old : CoreKept F L)
     (event : Event) (output : Output) (new : CoreKept F L) : Type 0 where
   pub step : (config : Config) (peer : Peer) → StandsFor notices capacity old config peer → IsSound config peer
@@ -41,8 +41,9 @@ pub record Steps {F L : Type 0} (notices : L → List Notice) (capacity : L → 
       × StandsFor notices capacity new config (peer_at_end peer stepped) × IsSound config (peer_at_end peer stepped)
   pub filters : new.filtered.filters ≡ old.filtered.filters
 
--- The filter is the last one. For each state that the old values stand for there is a number for it, and it is this one; the
--- new values stand for that state with one filter more, and nothing else; and what it knows was claimed, if it was before.
+-- The filter is the last one. For each state that the old values stand for there is a number for it, and it is this
+-- one; the new values stand for that state with one filter more, and nothing else; and what it knows was claimed, if it
+-- was before.
 pub record Adds {F L : Type 0} (notices : L → List Notice) (capacity : L → ℕ) (old : CoreKept F L) (filter : F)
     (number : ℕ) (new : CoreKept F L) : Type 0 where
   pub filters : new.filtered.filters ≡ old.filtered.filters ++ filter ∷ []
@@ -57,9 +58,9 @@ RefusesFilter notices capacity old code =
     (config : Config) (peer : Peer) → StandsFor notices capacity old config peer
     → Refuses (filter_refusal peer.part.dds.watch) code
 
--- A listener was set at an entity, or taken away there. For each state that the old values stand for it is not refused; the
--- listener of before is handed back, with the last ones of all that it was told; the new values stand for that state with the
--- place of the new one, and nothing else changes; and what it knows was claimed, if it was before.
+-- A listener was set at an entity, or taken away there. For each state that the old values stand for it is not refused;
+-- the listener of before is handed back, with the last ones of all that it was told; the new values stand for that
+-- state with the place of the new one, and nothing else changes; and what it knows was claimed, if it was before.
 pub record Sets {F L : Type 0} (notices : L → List Notice) (capacity : L → ℕ) (old : CoreKept F L) (entity : Entity)
     (mask : StatusMask)
     (listener handed : Option L) (new : CoreKept F L) : Type 0 where

@@ -1,7 +1,7 @@
--- What is kept of a peer before an event, and what telling its listeners does. Inner functions alone cite this: nothing here
--- has to be believed.
+-- What is kept of a peer before an event, and what telling its listeners does. Inner functions alone cite this: nothing
+-- here has to be believed.
 --
--- DDS 1.4, 2.2.4.1 (communication statuses), 2.2.4.2 (listeners).
+-- DDS 1.4, 2.2.4.1 (communication statuses), 2.2.4.3 (access through listeners).
 use Rattle.std.specs.Prelude.{◌≡◌, ℕ, suc, ◌<◌, ◌≤◌, List, length, slice_get, Option, Some, ℤ}
 use Rattle.dds_base.specs.declared.config.Config.{Config}
 use Rattle.dds_base.specs.Statuses.{lost_count}
@@ -68,8 +68,8 @@ SeesStatus old status new =
     (proxies : List WriterProxy) (r : Reader) (tracked : Endpoint → Tracked) → ReaderStands old proxies r tracked
     → ReaderStands new proxies (record r { seen = seen_by r status }) tracked
 
--- for each state that a peer stands for, with the places that its listeners stand for, both stand for what the change makes
--- of it
+-- for each state that a peer stands for, with the places that its listeners stand for, both stand for what the change
+-- makes of it
 abbrev pub Tells : {L : Type 0} → (L → List Notice) → (L → ℕ) → (Part → Part) → PeerKept → Slotted L → PeerKept
     → Slotted L → Type 0
 Tells notices capacity change old slots new after = (config : Config) (peer : Peer) → StandsFor old config peer

@@ -18,8 +18,8 @@ reader_entity config peer number =
     option_map_or (λ (p : PeerConfig). option_map_or (λ (r : ReaderConfig). r.entity)
     (slice_get p.readers (number - 1)) every_reader) (slice_get config.peers (peer - 1)) every_reader
 
--- the peer's writer is matched with the reader, these are their entity ids, the reader is behind exactly so, and the writer has
--- made so many changes; or they are not matched
+-- the peer's writer is matched with the reader, these are their entity ids, the reader is behind exactly so, and the
+-- writer has made so many changes; or they are not matched
 abbrev pub IsPair : Config → Peer → ℕ → Endpoint → Option Pair → Type 0
 IsPair config peer writer reader None = acknowledged_of (own_writer peer.part writer).readers reader ≡ None
 IsPair config peer writer reader (Some pair) =

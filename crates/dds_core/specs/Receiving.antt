@@ -138,8 +138,8 @@ pub record KeepsPeer (more : ℕ) (old : PeerKept) (moves : List Move) (sent : A
   -- it is refused for want of memory alone
   pub memory : IfErr answer (λ code. code ≡ Memory)
 
--- for each state that the old values stand for, the message's submessages are taken up with this report, and what is then
--- due is sent
+-- for each state that the old values stand for, the message's submessages are taken up with this report, and what is
+-- then due is sent
 pub record TookMessage (config : Config) (peer : Peer) (own : GuidPrefix) (message : Message) (report : Report)
     (new : PeerKept) (gone : Announced) : Type 0 where
   pub state : State
@@ -163,7 +163,8 @@ pub record TakenTo (old : PeerKept) (message : Message) (index : ℕ) (at : Rece
   pub stands : StandsFor now config (with_state peer state)
   pub sent : AreSent dues gone.packets.items gone.unsent
   pub on : (later : List Move) (refused : Option ℕ) (last : List Due) (after : State)
-      → FollowsMessage config old.prefix peer.number index at (drop index message.submessages) state later refused last after
+      → FollowsMessage config old.prefix peer.number index at (drop index message.submessages) state later refused last
+      after
       → FollowsMessage config old.prefix peer.number 0 (receiver_of message.prefix) message.submessages (state_of peer)
       (moves ++ later) refused (dues ++ last) after
 

@@ -36,8 +36,8 @@ pub record SendsNothing (output : Output) : Type 0 where
   pub packets : output.packets ≡ []
   pub unsent : output.unsent ≡ 0
 
--- A change of a writer is announced: each peer with a matched reader gets one packet, in its one written form, in which the
--- change is for each such reader, or the packet is counted as unsent.
+-- A change of a writer is announced: each peer with a matched reader gets one packet, in its one written form, in which
+-- the change is for each such reader, or the packet is counted as unsent.
 pub record SendsChange (config : Config) (writer : Endpoint) (readers : List ReaderProxy) (number : ℕ) (change : Change)
     (output : Output) : Type 0 where
   pub counted : length output.packets + output.unsent ≡ length (peers_of readers)
@@ -66,8 +66,8 @@ abbrev pub due_at_tick : Config → Peer → Reply → List Due
 due_at_tick config peer Done = heartbeats_due config peer.number peer.part
 due_at_tick config peer reply = []
 
--- for each state that the values stand for, this is what is sent at a call or a tick; what is sent at a delivery is said by
--- the rules of the protocol
+-- for each state that the values stand for, this is what is sent at a call or a tick; what is sent at a delivery is
+-- said by the rules of the protocol
 abbrev pub Sends : PeerKept → Event → Output → Type 0
 Sends old (event.Call call) output =
     (config : Config) (peer : Peer) → StandsFor old config peer

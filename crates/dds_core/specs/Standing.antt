@@ -59,8 +59,8 @@ pub record WriterStands (kept : WriterKept) (w : Writer) (answered : Endpoint �
 abbrev pub AreShort : List Change → Type 0
 AreShort changes = (number : ℕ) (change : Change) → change_at changes number ≡ Some change → length change.value ≤ 1024
 
--- what is so of each writer: it sends to at most 16 peers with at most 256 readers, its readers are those of what it keeps, and that stands for
--- some state, of short changes
+-- what is so of each writer: it sends to at most 16 peers with at most 256 readers, its readers are those of what it
+-- keeps, and that stands for some state, of short changes
 pub record IsWhole (destinations : List Destination) (readers : List ReaderName) (writer : Kept) : Type 0 where
   pub few : length destinations ≤ 16
   pub many : length readers ≤ 256
@@ -118,7 +118,8 @@ pub record StandsFor (kept : PeerKept) (config : Config) (peer : Peer) : Type 0 
   pub tellable : AreTellable peer.part
   pub watch : peer.part.dds.watch ≡ kept.watch
 
--- for each state that the old values stand for, the event is a step by these filters to one that the new values stand for
+-- for each state that the old values stand for, the event is a step by these filters to one that the new values stand
+-- for
 abbrev pub StepsBy : Tests → PeerKept → Event → Output → PeerKept → Type 0
 StepsBy tests old event output new = (config : Config) (peer : Peer) → StandsFor old config peer
     → (after : Peer) × PeerStep config tests peer event output after × StandsFor new config after
@@ -131,8 +132,8 @@ Steps old event output new = StepsBy no_filters old event output new
 abbrev pub IsSound : Config → Peer → Type 0
 IsSound config peer = IsBacked config peer.number (packets_of peer.delivered) peer.delivered (network_of peer)
 
--- A packet that was delivered is taken up by the rules of the protocol: they say what moves, what is known then, and which
--- messages are due; these are sent, in their order, or counted as unsent.
+-- A packet that was delivered is taken up by the rules of the protocol: they say what moves, what is known then, and
+-- which messages are due; these are sent, in their order, or counted as unsent.
 pub record IsTakenByRules (config : Config) (old : Peer) (packet : List ℕ) (output : Output) (new : Peer) : Type 0 where
   pub report : Report
   pub reply : output.reply ≡ Reported report
@@ -145,8 +146,9 @@ abbrev pub KeepsRules : Config → Peer → Event → Output → Peer → Type 0
 KeepsRules config old (event.Deliver packet) output new = IsTakenByRules config old packet output new
 KeepsRules config old other output new = Unit {0}
 
--- For each state that the old values stand for, and of which all that is known was claimed, the event is a step to one that
--- the new values stand for, and of which all that is known was claimed; a delivery follows the rules of the protocol.
+-- For each state that the old values stand for, and of which all that is known was claimed, the event is a step to one
+-- that the new values stand for, and of which all that is known was claimed; a delivery follows the rules of the
+-- protocol.
 abbrev pub SoundStepsBy : Tests → PeerKept → Event → Output → PeerKept → Type 0
 SoundStepsBy tests old event output new =
     (config : Config) (peer : Peer) → StandsFor old config peer → IsSound config peer

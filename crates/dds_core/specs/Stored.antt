@@ -1,5 +1,5 @@
--- What a reader stores. But for what it is made of (`StoreKept`), inner functions alone cite this: nothing else here has to
--- be believed.
+-- What a reader stores. But for what it is made of (`StoreKept`), inner functions alone cite this: nothing else here
+-- has to be believed.
 --
 -- RTPS 2.5, 8.2 (HistoryCache of a reader); DDS 1.4, 2.2.3 (LIVELINESS), 2.2.4.1 (SAMPLE_LOST,
 -- LIVELINESS_CHANGED).
@@ -10,8 +10,8 @@ use Rattle.dds_base.specs.StatusFlags.{turned_at}
 use Rattle.dds_cache.specs.Standing.{Stored, StandsFor as CacheStandsFor, qos_of}
 use Rattle.dds_lease.specs.Standing.{Kept as Leased, StandsFor as LeasesStandFor}
 
--- how many changes were passed over, up to a bound, the position of the newest entry that changed how many writers are alive
--- or not alive, if there is one, the leases of the matched writers, and the cache
+-- how many changes were passed over, up to a bound, the position of the newest entry that changed how many writers are
+-- alive or not alive, if there is one, the leases of the matched writers, and the cache
 pub record StoreKept : Type 0 where
   pub lost : ℕ
   pub turned : Option ℕ

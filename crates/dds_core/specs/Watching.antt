@@ -1,5 +1,5 @@
--- What a peer tells of its statuses and its conditions, by what it keeps. Inner functions alone cite this, so nothing here has
--- to be believed.
+-- What a peer tells of its statuses and its conditions, by what it keeps. Inner functions alone cite this, so nothing
+-- here has to be believed.
 --
 -- DDS 1.4, 2.2.2.1 (get_status_changes, get_trigger_value, WaitSet), 2.2.2.5 (ReadCondition, QueryCondition).
 use Rattle.std.specs.Prelude.{◌≡◌, ℕ, Bool, List, Option, Some, None, Result, Ok, Err, ◌==◌, if◌then◌else◌}

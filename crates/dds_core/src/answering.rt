@@ -1,6 +1,6 @@
 //! What a writer of the peer does at an ACKNACK of one of its matched readers, and the messages with its answers.
 //!
-//! RTPS 2.5, 8.4.9 (reliable StatefulWriter, ReaderProxy), 8.3.8 (AckNack, Data, Gap).
+//! RTPS 2.5, 8.4.7 (ReaderProxy), 8.4.9 (reliable StatefulWriter), 8.3.8 (AckNack, Data, Gap).
 
 ghost use Rattle.std.specs.Prelude.{◌≡◌, ◌++◌, ◌+◌, ◌^◌, ◌<◌, ◌≤◌, ◌↔◌, IsTrue, Some, length, IfOk, OnOk, []};
 ghost use Rattle.rtps_wire.specs.Messages.{IsWritable};

@@ -1,6 +1,6 @@
 //! A peer with the filters and the listeners of its application, and the one way in.
 //!
-//! DDS 1.4, 2.2.2.1 (Entity, set_listener), 2.2.2.5 (QueryCondition), 2.2.4.2 (listeners).
+//! DDS 1.4, 2.2.2.1 (Entity, set_listener), 2.2.2.5 (QueryCondition), 2.2.4.3 (access through listeners).
 
 ghost use Rattle.std.specs.Prelude.{◌≡◌, [], None, IfErr, IfOk, OnErr};
 ghost use Rattle.dds_base.specs.Refusal.{Refuses};
@@ -24,8 +24,8 @@ use dds_notices::{Listener, Slots, StatusMask};
 use std::alloc::Global;
 use std::marker::Model;
 
-/// A peer, with the filters and the listeners that its application handed it: boxes, unless `F` and `L` name types of the
-/// application's own.
+/// A peer, with the filters and the listeners that its application handed it: boxes, unless `F` and `L` name types of
+/// the application's own.
 #[derive(Drop)]
 pub struct Core<F = Box<dyn Filter + Send>, L = Box<dyn Listener + Send>> {
     filtered: FilteredPeer<F>,
@@ -41,8 +41,8 @@ impl<F, L> Model for Core<F, L> {
 }
 
 impl<F: Filter, L: Listener> Core<F, L> {
-    /// The peer of this number, at its opening, without filters and listeners. Its writers and readers are matched with those
-    /// of equal topic. The room for all listeners that will be set is made here.
+    /// The peer of this number, at its opening, without filters and listeners. Its writers and readers are matched with
+    /// those of equal topic. The room for all listeners that will be set is made here.
     ///
     /// # Errors
     ///
@@ -70,23 +70,24 @@ impl<F: Filter, L: Listener> Core<F, L> {
 
     /// One event: a call, the peer's time that goes on, or the bytes of a packet that come.
     ///
-    /// A call is answered as `Call` says, a tick as `Event::Tick`, and a packet by a report of what it moved, whatever its
-    /// bytes are. At a tick those whose lease is over die at the peer's readers, then its writers lose their liveliness
-    /// whose own lease is over, and then HEARTBEATs are sent. What is refused changes nothing, but for `NoData`: an access
-    /// that found nothing is entered.
-    /// At the end of an event each status that was raised in it is told, once, to the listener of its entity, or else to that
-    /// of the participant, and its flag is cleared, as by a look; where none takes it the flag stays. The writers come first,
-    /// in their order, then the readers, and the statuses of each by ascending bit.
-    /// Packets go out for a change that was made and for an assertion, one for each peer with a matched reader; at a tick for
-    /// each writer, a HEARTBEAT for each peer with a reader that is behind; and at a delivery the ACKNACKs that its
-    /// HEARTBEATs ask for, and the changes and GAPs that its ACKNACKs do. Those for which there is no memory are counted in
-    /// `unsent`.
+    /// A call is answered as `Call` says, a tick as `Event::Tick`, and a packet by a report of what it moved, whatever
+    /// its bytes are. At a tick those whose lease is over die at the peer's readers, then its writers lose their
+    /// liveliness whose own lease is over, and then HEARTBEATs are sent. What is refused changes nothing, but for
+    /// `NoData`, which is entered as the access that it is, and `Timeout` of a look at a WaitSet, which ends the wait.
+    /// At the end of an event each status that was raised in it is told, once, to the listener of its entity, or else
+    /// to that of the participant, and its flag is cleared, as by a look; where none takes it the flag stays. The
+    /// writers come first, in their order, then the readers, and the statuses of each by ascending bit.
+    /// Packets go out for a change that was made and for an assertion, one for each peer with a matched reader; at a
+    /// tick for each writer, a HEARTBEAT for each peer with a reader that is behind; and at a delivery the ACKNACKs
+    /// that its HEARTBEATs ask for, and the changes and GAPs that its ACKNACKs do. Those for which there is no memory
+    /// are counted in `unsent`.
     ///
-    /// DDS 1.4, 2.2.2.4 and 2.2.2.5 (DataWriter, DataReader), 2.2.4.2 (listeners); RTPS 2.5, 8.4 (behaviour).
+    /// DDS 1.4, 2.2.2.4 and 2.2.2.5 (DataWriter, DataReader), 2.2.4.3 (access through listeners); RTPS 2.5, 8.4
+    /// (behaviour).
     pub fn step(&mut self, event: Event) -> Output
-        // For each state that the peer stands for, the event is a step, by what its filters mean, whose end listeners are
-        // told of, to one that it stands for afterwards; a delivered packet is taken up by the rules of the protocol, and what
-        // is due by them is sent.
+        // For each state that the peer stands for, the event is a step, by what its filters mean, whose end listeners
+        // are told of, to one that it stands for afterwards; a delivered packet is taken up by the rules of the
+        // protocol, and what is due by them is sent.
         ensures step { Steps L.notices L.capacity
             (tests_of F.meaning self.old.filtered.filters) self.old event result self.new }
         // What goes out at a call or a tick, and what is counted as unsent.
@@ -108,8 +109,8 @@ impl<F: Filter, L: Listener> Core<F, L> {
     ///
     /// # Errors
     ///
-    /// `OutOfResources` where 2^32 - 1 filters were added, else `Memory` where a growth was refused. The filter comes back,
-    /// and nothing changes.
+    /// `OutOfResources` where 2^32 - 1 filters were added, else `Memory` where a growth was refused. The filter comes
+    /// back, and nothing changes.
     ///
     /// DDS 1.4, 2.2.2.5 (QueryCondition).
     pub fn add_filter(&mut self, filter: F) -> Result<u32, (Code, F)>
@@ -126,15 +127,15 @@ impl<F: Filter, L: Listener> Core<F, L> {
         self.filtered.add_filter(filter)
     }
 
-    /// Sets the listener of an entity, with the statuses that it is told of, and hands back the one that was set before, with
-    /// the last notices that it was told; `None` takes the listener away. It takes no memory.
+    /// Sets the listener of an entity, with the statuses that it is told of, and hands back the one that was set
+    /// before, with the last notices that it was told; `None` takes the listener away. It takes no memory.
     ///
     /// # Errors
     ///
-    /// `BadParameter` where there is no such entity, else `PreconditionNotMet` where the listener keeps notices already. It
-    /// comes back, and nothing changes.
+    /// `BadParameter` where there is no such entity, else `PreconditionNotMet` where the listener keeps notices
+    /// already. It comes back, and nothing changes.
     ///
-    /// DDS 1.4, 2.2.2.1 (Entity, set_listener), 2.2.4.2 (listeners).
+    /// DDS 1.4, 2.2.2.1 (Entity, set_listener), 2.2.4.3 (access through listeners).
     pub fn set_listener(
         &mut self,
         entity: Entity,
@@ -168,10 +169,11 @@ impl<F: Filter, L: Listener> Core<F, L> {
     /// The writer of this number and a reader, by their entity ids, whether the reader is behind, and the number of the
     /// writer's last change; `None` where they are not matched, or where there are no such ends.
     ///
-    /// RTPS 2.5, 8.4.7 (StatefulWriter, matched_readers), 8.4.9 (ReaderProxy, unacked_changes).
+    /// RTPS 2.5, 8.4.7 (StatefulWriter: matched_readers; ReaderProxy: unacked_changes).
     pub fn pair(&self, writer: u8, reader: Endpoint) -> Option<Pair>
         // They are matched exactly if a pair is found, and the ids are those of the configuration; the reader is behind
-        // exactly where it has not acknowledged some change, and the last number is how many changes the writer has made.
+        // exactly where it has not acknowledged some change, and the last number is how many changes the writer has
+        // made.
         ensures pair { (config : ConfigOf) (peer : PeerState)
             → PeerStandsFor self.now.filtered.peer config peer
             → IsPair config peer writer reader result }
@@ -179,8 +181,8 @@ impl<F: Filter, L: Listener> Core<F, L> {
         self.filtered.pair(writer, reader)
     }
 
-    /// The place of the reader of this number at a writer: the number of the change that it has next, from 1; `None` where
-    /// they are not matched, or where there are no such ends.
+    /// The place of the reader of this number at a writer: the number of the change that it has next, from 1; `None`
+    /// where they are not matched, or where there are no such ends.
     ///
     /// RTPS 2.5, 8.4.10 (StatefulReader, WriterProxy).
     pub fn place(&self, reader: u8, writer: Endpoint) -> Option<Sn>

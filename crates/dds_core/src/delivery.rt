@@ -1,7 +1,7 @@
 //! What a peer does with the bytes of a packet.
 //!
-//! RTPS 2.5, 8.3.4 (the message receiver), 8.4.12 (the behaviour of a reliable StatefulReader). What the peer's writers do
-//! with an ACKNACK is in `requests`.
+//! RTPS 2.5, 8.3.4 (the message receiver), 8.4.12 (the behaviour of a reliable StatefulReader). What the peer's writers
+//! do with an ACKNACK is in `requests`.
 
 ghost use Rattle.std.specs.Prelude.{◌≡◌, ◌++◌, ◌+◌, ◌*◌, ◌^◌, ◌<◌, ◌≤◌, [], length, vec_len, vec_capacity, IfOk, IfErr, OnOk};
 ghost use Rattle.dds_base.specs.declared.code.Code.TheVariants.{Memory};
@@ -71,8 +71,8 @@ fn push_moves(moves: &mut Vec<Move>, writer: Endpoint, reader: u8, from: Sn, ste
 }
 
 impl Peer {
-    /// The reader of this index is told what is ready for it, and sends the ACKNACK that is then due. Adds the moves, for
-    /// which there is room.
+    /// The reader of this index is told what is ready for it, and sends the ACKNACK that is then due. Adds the moves,
+    /// for which there is room.
     fn take_at(&mut self, moves: &mut Vec<Move>, sent: &mut Announced, index: usize, ready: Ready)
         requires can { CanTakeAt self.old.readers index ready }
         requires room { vec_len moves.old + 2 ≤ vec_capacity moves.old }

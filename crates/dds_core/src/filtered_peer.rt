@@ -42,8 +42,8 @@ impl<F> Model for FilteredPeer<F> {
 }
 
 impl<F: Filter> FilteredPeer<F> {
-    /// The peer of this number, at its opening, without filters. Its writers and readers are matched with those of equal
-    /// topic.
+    /// The peer of this number, at its opening, without filters. Its writers and readers are matched with those of
+    /// equal topic.
     ///
     /// # Errors
     ///
@@ -69,18 +69,19 @@ impl<F: Filter> FilteredPeer<F> {
 
     /// One event: a call, the peer's time that goes on, or the bytes of a packet that come.
     ///
-    /// A call is answered as `Call` says, a tick as `Event::Tick`, and a packet by a report of what it moved, whatever its
-    /// bytes are. At a tick those whose lease is over die at the peer's readers, then its writers lose their liveliness
-    /// whose own lease is over, and then HEARTBEATs are sent. What is refused changes nothing, but for `NoData`: an access
-    /// that found nothing is entered.
-    /// Packets go out for a change that was made and for an assertion, one for each peer with a matched reader, and at a tick
-    /// for each writer, a HEARTBEAT for each peer with a reader that is behind; or they are counted in `unsent` for want of
-    /// memory.
+    /// A call is answered as `Call` says, a tick as `Event::Tick`, and a packet by a report of what it moved, whatever
+    /// its bytes are. At a tick those whose lease is over die at the peer's readers, then its writers lose their
+    /// liveliness whose own lease is over, and then HEARTBEATs are sent. What is refused changes nothing, but for
+    /// `NoData`, which is entered as the access that it is, and `Timeout` of a look at a WaitSet, which ends the wait.
+    /// Packets go out for a change that was made and for an assertion, one for each peer with a matched reader; at a
+    /// tick for each writer, a HEARTBEAT for each peer with a reader that is behind; and at a delivery the ACKNACKs
+    /// that its HEARTBEATs ask for, and the changes and GAPs that its ACKNACKs do. Those for which there is no memory
+    /// are counted in `unsent`.
     ///
     /// DDS 1.4, 2.2.2.4 and 2.2.2.5 (DataWriter, DataReader); RTPS 2.5, 8.4 (behaviour).
     pub fn step(&mut self, event: Event) -> Output
-        // For each state that the peer stands for, the event is a step, by what its filters mean, to one that it stands for
-        // afterwards; a delivered packet is taken up by the rules of the protocol, and what is due by them is sent.
+        // For each state that the peer stands for, the event is a step, by what its filters mean, to one that it stands
+        // for afterwards; a delivered packet is taken up by the rules of the protocol, and what is due by them is sent.
         ensures step { Steps (tests_of F.meaning self.old.filters) self.old event result self.new }
         // The same of what it keeps beside the filters.
         ensures peer { SoundStepsBy
@@ -98,8 +99,8 @@ impl<F: Filter> FilteredPeer<F> {
     ///
     /// # Errors
     ///
-    /// `OutOfResources` where 2^32 - 1 filters were added, else `Memory` where a growth was refused. The filter comes back,
-    /// and nothing changes.
+    /// `OutOfResources` where 2^32 - 1 filters were added, else `Memory` where a growth was refused. The filter comes
+    /// back, and nothing changes.
     ///
     /// DDS 1.4, 2.2.2.5 (QueryCondition).
     pub fn add_filter(&mut self, filter: F) -> Result<u32, (Code, F)>
@@ -168,10 +169,11 @@ impl<F: Filter> FilteredPeer<F> {
     /// The writer of this number and a reader, by their entity ids, whether the reader is behind, and the number of the
     /// writer's last change; `None` where they are not matched, or where there are no such ends.
     ///
-    /// RTPS 2.5, 8.4.7 (StatefulWriter, matched_readers), 8.4.9 (ReaderProxy, unacked_changes).
+    /// RTPS 2.5, 8.4.7 (StatefulWriter: matched_readers; ReaderProxy: unacked_changes).
     pub fn pair(&self, writer: u8, reader: Endpoint) -> Option<Pair>
         // They are matched exactly if a pair is found, and the ids are those of the configuration; the reader is behind
-        // exactly where it has not acknowledged some change, and the last number is how many changes the writer has made.
+        // exactly where it has not acknowledged some change, and the last number is how many changes the writer has
+        // made.
         ensures pair { (config : ConfigOf) (peer : PeerState)
             → PeerStandsFor self.now.peer config peer
             → IsPair config peer writer reader result }
@@ -179,8 +181,8 @@ impl<F: Filter> FilteredPeer<F> {
         self.peer.pair(writer, reader)
     }
 
-    /// The place of the reader of this number at a writer: the number of the change that it has next, from 1; `None` where
-    /// they are not matched, or where there are no such ends.
+    /// The place of the reader of this number at a writer: the number of the change that it has next, from 1; `None`
+    /// where they are not matched, or where there are no such ends.
     ///
     /// RTPS 2.5, 8.4.10 (StatefulReader, WriterProxy).
     pub fn place(&self, reader: u8, writer: Endpoint) -> Option<Sn>

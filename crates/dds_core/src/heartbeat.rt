@@ -63,7 +63,7 @@ fn message(alloc: Global, beat: &Beat, to: GuidPrefix) -> Result<Message<'static
 
 /// Whether some reader of this peer, among these readers of a writer, has not acknowledged all changes.
 ///
-/// RTPS 2.5, 8.4.9 (ReaderProxy, unacked_changes).
+/// RTPS 2.5, 8.4.7 (ReaderProxy, unacked_changes).
 fn is_peer_behind(writer: &StatefulWriter, readers: &[ReaderName], peer: u8) -> bool
     requires { reader_count writer.now ≡ length readers.now }
     ensures { (w : Writer) (answered : Endpoint → Option ℤ)

@@ -1,6 +1,6 @@
 //! Telling the listeners of a peer what an event raised.
 //!
-//! DDS 1.4, 2.2.4.2 (listeners).
+//! DDS 1.4, 2.2.4.3 (access through listeners).
 
 ghost use Rattle.std.specs.Prelude.{◌≡◌, ◌≤◌, length};
 ghost use Rattle.dds_base.specs.declared.entity.Entity.TheVariants as entity;
@@ -111,10 +111,10 @@ impl Peer {
         }
     }
 
-    /// The end of an event, before which the peer had these marks: each status that was raised in it is told, once, to the
-    /// listener of its entity, else to that of the participant: writers, then readers, statuses by ascending bit.
+    /// The end of an event, before which the peer had these marks: each status that was raised in it is told, once, to
+    /// the listener of its entity, else to that of the participant: writers, then readers, statuses by ascending bit.
     ///
-    /// DDS 1.4, 2.2.4.2 (listeners).
+    /// DDS 1.4, 2.2.4.3 (access through listeners).
     pub(crate) fn end<L: Listener>(&mut self, slots: &mut Slots<L>, marks: &Marks)
         ensures told { (before : Part) → AreMarksOf marks.now before
             → Tells L.notices L.capacity (at_end before) self.old slots.old self.new slots.new }

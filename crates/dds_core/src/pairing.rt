@@ -1,5 +1,5 @@
-//! What a network may ask of a peer: its moment, by which entity ids a writer of it and a matched reader go, and the place
-//! of a reader of it.
+//! What a network may ask of a peer: its moment, by which entity ids a writer of it and a matched reader go, and the
+//! place of a reader of it.
 //!
 //! RTPS 2.5, 8.4.7 (StatefulWriter, matched_readers), 8.4.10 (StatefulReader, matched_writers).
 
@@ -71,10 +71,11 @@ impl Peer {
     /// The writer of this number and a reader, by their entity ids, whether the reader is behind, and the number of the
     /// writer's last change; `None` where they are not matched, or where there are no such ends.
     ///
-    /// RTPS 2.5, 8.4.7 (StatefulWriter, matched_readers), 8.4.9 (ReaderProxy, unacked_changes).
+    /// RTPS 2.5, 8.4.7 (StatefulWriter: matched_readers; ReaderProxy: unacked_changes).
     pub fn pair(&self, writer: u8, reader: Endpoint) -> Option<Pair>
         // They are matched exactly if a pair is found, and the ids are those of the configuration; the reader is behind
-        // exactly where it has not acknowledged some change, and the last number is how many changes the writer has made.
+        // exactly where it has not acknowledged some change, and the last number is how many changes the writer has
+        // made.
         ensures pair { (config : Config) (peer : PeerState) → StandsFor self.now config peer
             → IsPair config peer writer reader result }
     {
@@ -93,8 +94,8 @@ impl Peer {
         })
     }
 
-    /// The place of the reader of this number at a writer: the number of the change that it has next, from 1; `None` where
-    /// they are not matched, or where there are no such ends.
+    /// The place of the reader of this number at a writer: the number of the change that it has next, from 1; `None`
+    /// where they are not matched, or where there are no such ends.
     ///
     /// RTPS 2.5, 8.4.10 (StatefulReader, WriterProxy).
     pub fn place(&self, reader: u8, writer: Endpoint) -> Option<Sn>

@@ -53,8 +53,8 @@ impl Model for Peer {
 }
 
 impl Peer {
-    /// One event: a call, the peer's time that goes on, or the bytes of a packet that come. The filters tell which samples
-    /// its query conditions match, by their numbers.
+    /// One event: a call, the peer's time that goes on, or the bytes of a packet that come. The filters tell which
+    /// samples its query conditions match, by their numbers.
     pub fn step_by<T: Filters>(&mut self, filters: &T, event: Event) -> Output
         // For each state that the peer stands for, the event is a step by what the filters mean.
         ensures step { SoundStepsBy (T.meaning filters.now) self.old event result self.new }
@@ -70,8 +70,8 @@ impl Peer {
         }
     }
 
-    /// The time of the peer goes on: not back, and not to 2^63 or beyond. Those whose lease is over die at its readers, if there
-    /// is memory for that; then the HEARTBEATs that are due are sent.
+    /// The time of the peer goes on: not back, and not to 2^63 or beyond. Those whose lease is over die at its readers,
+    /// if there is memory for that; then the HEARTBEATs that are due are sent.
     fn tick(&mut self, now: Moment) -> Output
         ensures step { Steps self.old (event.Tick now) result self.new }
         ensures sends { Sends self.old (event.Tick now) result }

@@ -41,8 +41,8 @@ impl Peer {
         None
     }
 
-    /// The writer of this index takes an ACKNACK of its reader of this row, with room for the answers, and sends them. Adds
-    /// what moved, for which there is room.
+    /// The writer of this index takes an ACKNACK of its reader of this row, with room for the answers, and sends them.
+    /// Adds what moved, for which there is room.
     fn answer_row(
         &mut self,
         moves: &mut Vec<Move>,
@@ -77,8 +77,8 @@ impl Peer {
         }
     }
 
-    /// The writer of this index takes an ACKNACK of each of its readers that has room for the answers. Adds what moved, for
-    /// which there is room.
+    /// The writer of this index takes an ACKNACK of each of its readers that has room for the answers. Adds what moved,
+    /// for which there is room.
     fn answer_rows(
         &mut self,
         moves: &mut Vec<Move>,

@@ -65,7 +65,8 @@ fn is_valid(scope: &Scope) -> bool
     }
 }
 
-/// What an access by a condition asks for: the samples of a selection that pass the filter of a number, if there is one.
+/// What an access by a condition asks for: the samples of a selection that pass the filter of a number, if there is
+/// one.
 pub struct Asked {
     pub selection: Selection,
     pub filter: Option<u32>,

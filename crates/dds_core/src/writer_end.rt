@@ -213,7 +213,8 @@ impl WriterEnd {
         self.writer.register(key)
     }
 
-    /// Makes a change, and gives its number. A write or a dispose registers its instance, the others end its registration.
+    /// Makes a change, and gives its number. A write or a dispose registers its instance, the others end its
+    /// registration.
     ///
     /// # Errors
     ///
@@ -237,8 +238,8 @@ impl WriterEnd {
         self.writer.write(change)
     }
 
-    /// Announces the change of this number to each peer with a matched reader, at the moment of its peer, of this prefix.
-    /// The history lends the change. A change that is not kept is one that nobody awaits.
+    /// Announces the change of this number to each peer with a matched reader, at the moment of its peer, of this
+    /// prefix. The history lends the change. A change that is not kept is one that nobody awaits.
     pub fn announce(
         &self,
         alloc: Global,
@@ -301,10 +302,10 @@ impl WriterEnd {
         rooms(alloc, own, receiver, body, self.entity, readers)
     }
 
-    /// Takes an ACKNACK of its reader of this row, with room for the answers, and sends them. Gives the number below which
-    /// the reader has acknowledged all, where that is greater than before.
+    /// Takes an ACKNACK of its reader of this row, with room for the answers, and sends them. Gives the number below
+    /// which the reader has acknowledged all, where that is greater than before.
     ///
-    /// RTPS 2.5, 8.4.9 (ReaderProxy).
+    /// RTPS 2.5, 8.4.7 (ReaderProxy).
     pub fn take_acknack(
         &mut self,
         alloc: Global,

@@ -25,7 +25,7 @@ const MAX_CHANGES: u64 = 1 << 48;
 /// Its matched reliable readers are named by an index from 0. Where there is none, a change gets its number and is not
 /// kept.
 ///
-/// DDS 1.4, 2.2.3 (HISTORY, RESOURCE_LIMITS); RTPS 2.5, 8.2 (HistoryCache), 8.4.9 (ReaderProxy).
+/// DDS 1.4, 2.2.3 (HISTORY, RESOURCE_LIMITS); RTPS 2.5, 8.2 (HistoryCache), 8.4.7 (ReaderProxy).
 #[derive(Drop)]
 pub struct History {
     policy: HistoryQos,
@@ -183,7 +183,7 @@ impl History {
     /// This reader, by its index from 0, has acknowledged all numbers below this one. An acknowledgement doesn't go
     /// back.
     ///
-    /// RTPS 2.5, 8.4.9 (ReaderProxy, acked_changes_set).
+    /// RTPS 2.5, 8.4.7 (ReaderProxy, acked_changes_set).
     pub fn acked(&mut self, reader: usize, to: Sn)
         // There is such a reader.
         requires reader { reader < reader_count self.old }
@@ -202,7 +202,7 @@ impl History {
 
     /// The number below which this reader, by its index from 0, has acknowledged all: 1 at first.
     ///
-    /// RTPS 2.5, 8.4.9 (ReaderProxy, acked_changes_set).
+    /// RTPS 2.5, 8.4.7 (ReaderProxy, acked_changes_set).
     pub fn acknowledged(&self, reader: usize) -> Sn
         // There is such a reader.
         requires reader { reader < reader_count self.now }
@@ -215,7 +215,7 @@ impl History {
 
     /// Whether some matched reliable reader has not acknowledged the number. Every number may be asked for.
     ///
-    /// RTPS 2.5, 8.4.9 (ReaderProxy, unacked_changes).
+    /// RTPS 2.5, 8.4.7 (ReaderProxy, unacked_changes).
     pub fn is_awaited(&self, number: Sn) -> bool
         ensures awaited { (w : WriterHistory) → StandsFor self.now w
             → result ≡ is_awaited w number }
@@ -251,8 +251,8 @@ impl History {
         }
     }
 
-    /// The number of the last change, kept or not, at most 2^48; 0 before the first, as lastSN is in a HEARTBEAT of a writer
-    /// without changes.
+    /// The number of the last change, kept or not, at most 2^48; 0 before the first, as lastSN is in a HEARTBEAT of a
+    /// writer without changes.
     ///
     /// RTPS 2.5, 8.3.8 (Heartbeat: lastSN).
     pub fn last(&self) -> Sn

@@ -1,5 +1,5 @@
--- The samples of the same instance that follow a sample in a collection. Inner functions alone cite this: nothing here has
--- to be believed.
+-- The samples of the same instance that follow a sample in a collection. Inner functions alone cite this: nothing here
+-- has to be believed.
 --
 -- DDS 1.4, 2.2.2.5 (sample_rank, generation_rank, absolute_generation_rank).
 use Rattle.std.specs.Prelude.{◌≡◌, ℕ, List, [], ◌∷◌, Bool, false, count_by}

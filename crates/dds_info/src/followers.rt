@@ -65,8 +65,8 @@ pub fn lesser(first: Handle, second: Handle) -> Handle
     Handle::new(first.number().min(second.number()))
 }
 
-/// The followers of a sample, by those of the next one and the least handle of those that follow. Only where a sample of
-/// another instance comes next, and the handles do not rise, it looks at those that follow.
+/// The followers of a sample, by those of the next one and the least handle of those that follow. Only where a sample
+/// of another instance comes next, and the handles do not rise, it looks at those that follow.
 pub fn followers_of(sample: &Picked, later: &[Picked], next: Followers, least: Handle) -> Followers
     requires own { own_generations sample.now < 2 ^ 64 }
     requires small { All (λ p. own_generations p < 2 ^ 64) later.now }

@@ -96,7 +96,8 @@ impl Instances {
     ///
     /// # Errors
     ///
-    /// `Memory` where a growth was refused, or where more than 2^64 - 1 entries would be counted; nothing has changed then.
+    /// `Memory` where a growth was refused, or where more than 2^64 - 1 entries would be counted; nothing has changed
+    /// then.
     pub fn reserve(&mut self, additional: usize) -> Result<(), Code>
         // It stands for what it stood for.
         ensures same { (q : ReaderQos) (h : List Happening) → Stands q self.old h
@@ -196,8 +197,8 @@ impl Instances {
         Ok(())
     }
 
-    /// Takes up an entry that says nothing of any instance: changes that were passed over, a writer that was heard, or a
-    /// status that was looked at.
+    /// Takes up an entry that says nothing of any instance: changes that were passed over, a writer that was heard, or
+    /// a status that was looked at.
     ///
     /// # Errors
     ///

@@ -1,4 +1,5 @@
--- What a step at one of the peer's readers leaves as it was: all other readers, and what that reader knows of other writers.
+-- What a step at one of the peer's readers leaves as it was: all other readers, and what that reader knows of other
+-- writers.
 use Rattle.std.proofs.Common.{◌≡◌, ◌⊎◌, ℕ, ℤ, zero, suc, ◌+◌, ◌≤◌, ◌==◌, ◌&&◌, Bool, true, false, cond, List, [], ◌∷◌, Option, Some, None, refl, ap, sym, ◌∙◌, inl, inr, ⊎_elim, arith, length, get_or, set, eqb-true, eq-eqb}
 use Rattle.std.specs.Option.{option_map}
 use Rattle.dds_base.specs.declared.happening.Happening.{Happening}

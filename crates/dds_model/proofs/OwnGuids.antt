@@ -1,5 +1,5 @@
--- The matched writers of a reader have GUIDs of their own, where the configuration is not refused: a prefix is one peer's, and
--- an entity one writer's of it. Both are counted.
+-- The matched writers of a reader have GUIDs of their own, where the configuration is not refused: a prefix is one
+-- peer's, and an entity one writer's of it. Both are counted.
 use Rattle.std.proofs.Common.{◌≡◌, ℕ, zero, suc, ◌+◌, ◌-◌, ◌<◌, ◌≤◌, ◌⊎◌, Bool, true, false, cond, ◌&&◌, ◌||◌, Option, Some, None, List, [], ◌∷◌, refl, sym, ◌∙◌, ap, subst, inl, inr, ⊎_elim, arith, length, length-append, slice_get, if◌then◌else◌}
 use Rattle.std.specs.Prelude.{nat_eq, nat_lt, ◌==◌, not}
 use Rattle.std.specs.Bool.{Decides}
@@ -152,7 +152,8 @@ in_peer g p topic n (w ∷ ws) =
     (count-cons (λ (v : WriterConfig). same_entity v.entity g.entity) w ws) in
     omega arith
 
--- a GUID stands among the matched writers no more often than its prefix among the peers, where each entity is one writer's
+-- a GUID stands among the matched writers no more often than its prefix among the peers, where each entity is one
+-- writer's
 one_or_none : (b : Bool) (n : ℕ) → n ≤ 1 → cond b n 0 ≤ cond b 1 0
 one_or_none true n h = h
 one_or_none false n h = omega arith

@@ -139,7 +139,8 @@ beat_sought config writer bytes count prefix entity name h = record {
 
 -- ---- the ACKNACK
 
--- One in which an ACKNACK of the reader is looked for, of those that are sent when the HEARTBEAT is taken, has one of it to the writer.
+-- One in which an ACKNACK of the reader is looked for, of those that are sent when the HEARTBEAT is taken, has one of
+-- it to the writer.
 pub ask_found_among : (c : Begun) (ask : Packet) → Contains c.begins.hears.step.packets ask
     → Has ask.bytes (sought.AckNack c.pair.reader_entity (writer_entity c.config c.writer.peer c.writer.number))
     → (count : ℤ) × HasAckNack c.config ask.bytes c.writer c.reader count

@@ -454,8 +454,8 @@ pub record IsTakenUp (config : Config) (peer : ℕ) (before : List Delivery) (by
   pub backed : IsBacked config peer (bytes ∷ packets_of before)
       (record { packet = bytes; report = report } ∷ before) new
 
--- What a peer does with a packet by the rules rests on what this packet and earlier ones claim, and what it knows then is
--- what they claim.
+-- What a peer does with a packet by the rules rests on what this packet and earlier ones claim, and what it knows then
+-- is what they claim.
 pub takes_packet : (config : Config) (peer : ℕ) (before : List Delivery) (bytes : List ℕ) (old : State)
     (report : Report) (dues : List Due) (new : State) → check_refusal config.peers ≡ None
     → IsBacked config peer (packets_of before) before old → TakesPacket config peer bytes old report dues new

@@ -1,5 +1,5 @@
--- What the submessages of small packets claim, computed: a DATA, GAPs, HEARTBEATs and ACKNACKs between the writer w1 of peer
--- 1 and the readers r1, r2 and r3 of peer 2, of which r2 is of another topic.
+-- What the submessages of small packets claim, computed: a DATA, GAPs, HEARTBEATs and ACKNACKs between the writer w1 of
+-- peer 1 and the readers r1, r2 and r3 of peer 2, of which r2 is of another topic.
 use Rattle.std.proofs.Common.{◌≡◌, ℕ, Bool, true, false, List, [], ◌∷◌, ◌++◌, replicate, refl, ap, inl, inr, ⊎_elim, arith}
 use Rattle.std.specs.Prelude.{ℤ, pos}
 use Rattle.dds_base.specs.declared.change.Change.{Change}

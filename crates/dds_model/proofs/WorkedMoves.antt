@@ -1,5 +1,5 @@
--- Which moves a place makes, computed at two peers: over changes that come and over runs that are passed over. Peer 1 has a
--- writer w1, peer 2 a matched reader r1.
+-- Which moves a place makes, computed at two peers: over changes that come and over runs that are passed over. Peer 1
+-- has a writer w1, peer 2 a matched reader r1.
 use Rattle.std.proofs.Common.{◌≡◌, ℕ, zero, suc, ◌+◌, ◌<◌, ◌≤◌, true, Option, None, List, [], ◌∷◌, refl, ap, subst, arith}
 use Rattle.std.specs.Prelude.{ℤ, slice_index}
 use Rattle.dds_base.specs.declared.change.Change.{Change}
@@ -220,8 +220,8 @@ place-passes_2 =
       (write_of 2 3 ∷ [], (position 4 lost_2, record { is_change = refl; room = refl; after = refl }, refl), refl),
     )
 
--- with one more change of that key 2 and 3 are dropped: one run, entered by its first number and its last, behind which the
--- place stands
+-- with one more change of that key 2 and 3 are dropped: one run, entered by its first number and its last, behind which
+-- the place stands
 abbrev two_dropped : Writer
 two_dropped = writing (KeepLast 1) None (Changed (write_of 2 4) ∷ one_dropped.written) 1
 

@@ -1,5 +1,5 @@
--- What three packets claim, from their bytes on: one with a GAP, one with an ACKNACK and one with a HEARTBEAT that asserts
--- its writer, of which the reader hears once. Each begins with an INFO_DST.
+-- What three packets claim, from their bytes on: one with a GAP, one with an ACKNACK and one with a HEARTBEAT that
+-- asserts its writer, of which the reader hears once. Each begins with an INFO_DST.
 use Rattle.std.proofs.Common.{◌≡◌, ℕ, ◌+◌, ◌^◌, length, sym, true, Some, None, List, [], ◌∷◌, ◌++◌, refl, inl, inr, arith, codes}
 use Rattle.std.proofs.lemmas.Int.{ints}
 use Rattle.std.proofs.lemmas.List.{append-nil, length-append}

@@ -1,5 +1,5 @@
--- What a peer acknowledges, what it hears and what it may say of itself, computed at two peers. Peer 1 has a writer w1, peer
--- 2 a matched reader r1.
+-- What a peer acknowledges, what it hears and what it may say of itself, computed at two peers. Peer 1 has a writer w1,
+-- peer 2 a matched reader r1.
 use Rattle.std.proofs.Common.{◌≡◌, ℕ, zero, suc, true, false, Option, Some, None, List, [], ◌∷◌, refl, sym, subst, inl, inr, ⊎_elim, arith}
 use Rattle.std.proofs.lemmas.Int.{ints}
 use Rattle.std.specs.Prelude.{ℤ, pos, negsuc, ◌<ℤ◌}
@@ -64,8 +64,8 @@ refusal-acknowledged = refl
 
 -- ---- assertions that are heard
 
--- two assertions, a write, a tick at which r1 was behind, one at which it was not, a register and a third assertion: each
--- assertion takes a HEARTBEAT count, and each tick with a reader behind
+-- two assertions, a write, a tick at which r1 was behind, one at which it was not, a register and a third assertion:
+-- each assertion takes a HEARTBEAT count, and each tick with a reader behind
 abbrev asserting : List Written
 asserting =
     Asserted 20 ∷ Registered (key 2) ∷ Ticked 10 false ∷ Ticked 5 true ∷ Changed (write_of 1 1) ∷ Asserted 0

@@ -1,5 +1,5 @@
--- What the submessages of one packet do, computed for a packet of two changes from a writer w1 at peer 1 to a reader r1 at
--- peer 2: which moves there must be, and where a submessage that finds no memory may stand.
+-- What the submessages of one packet do, computed for a packet of two changes from a writer w1 at peer 1 to a reader r1
+-- at peer 2: which moves there must be, and where a submessage that finds no memory may stand.
 use Rattle.std.proofs.Common.{◌≡◌, ◌≢◌, ◌⊎◌, ℕ, zero, suc, ◌+◌, ◌-◌, ◌≤◌, ◌<◌, false, Option, Some, None, List, [], ◌∷◌, ◌++◌, refl, sym, ◌∙◌, ap, subst, inl, inr, ⊎_elim, arith, slice_get, length}
 use Rattle.std.specs.Prelude.{slice_index}
 use Rattle.dds_base.specs.declared.change.Change.{Change}
@@ -305,7 +305,8 @@ taken_up-not_excused_by_3 new h =
 
 -- ---- room
 
--- a reader that takes up to one sample has no room for the second change while the first is present, so the place need not move
+-- a reader that takes up to one sample has no room for the second change while the first is present, so the place need
+-- not move
 abbrev limited : List Happening → Part
 limited happened = record (part_2 2 None []) {
   dds =

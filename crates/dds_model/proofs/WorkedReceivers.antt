@@ -1,5 +1,5 @@
--- Whom the parts of a message are for, when what follows was made, and whom a submessage speaks to, computed at a network of
--- two peers: peer 1 has a writer w1, peer 2 readers r1, r2 and r3, of which r2 is of another topic.
+-- Whom the parts of a message are for, when what follows was made, and whom a submessage speaks to, computed at a
+-- network of two peers: peer 1 has a writer w1, peer 2 readers r1, r2 and r3, of which r2 is of another topic.
 use Rattle.std.proofs.Common.{◌≡◌, ℕ, ◌-◌, ◌^◌, true, false, Some, None, [], ◌∷◌, ◌++◌, replicate, refl, sym, ◌∙◌, ap, subst, inr, ⊎_elim, arith, slice_get, List}
 use Rattle.std.specs.Prelude.{pos, negsuc, slice_index}
 use Rattle.dds_base.specs.declared.config.Config.{Config}

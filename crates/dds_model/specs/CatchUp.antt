@@ -1,5 +1,5 @@
--- How a reader catches up with a writer by one round of repair: it takes a HEARTBEAT, tells in an ACKNACK what it lacks, and
--- takes the answers to that.
+-- How a reader catches up with a writer by one round of repair: it takes a HEARTBEAT, tells in an ACKNACK what it
+-- lacks, and takes the answers to that.
 --
 -- RTPS 2.5, 8.4.9 (reliable StatefulWriter), 8.4.12 (reliable StatefulReader).
 use Rattle.std.specs.Prelude.{◌≡◌, ◌⊎◌, ℕ, ◌+◌, ◌≤◌, min, true, false, List, [], ◌∷◌, Some, ℤ}
@@ -38,8 +38,8 @@ abbrev pub TakesAnswers : Match → List Answer → Standing → Standing → Ty
 TakesAnswers match [] old new = new ≡ old
 TakesAnswers match (a ∷ rest) old new = (mid : Standing) × TakesAnswer match a old mid × TakesAnswers match rest mid new
 
--- A HEARTBEAT up to this last number is taken, the reader tells what it lacks, and the answers are taken: one to each number
--- that it asks for, but for those that are acknowledged or past the last.
+-- A HEARTBEAT up to this last number is taken, the reader tells what it lacks, and the answers are taken: one to each
+-- number that it asks for, but for those that are acknowledged or past the last.
 pub record IsRepaired (match : Match) (last acknowledged : ℕ) (old new : Standing) : Type 0 where
   pub first : ℕ
   pub count : ℤ

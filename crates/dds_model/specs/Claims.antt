@@ -76,7 +76,8 @@ abbrev pub stamp_of : Option ℕ → ℕ
 stamp_of None = 0
 stamp_of (Some moment) = if nat_lt moment (2 ^ 63) then moment else 0
 
--- what a submessage leaves, at the peer of this prefix, for those that follow: an INFO_TS counts where it is for the peer
+-- what a submessage leaves, at the peer of this prefix, for those that follow: an INFO_TS counts where it is for the
+-- peer
 abbrev pub after_submessage : GuidPrefix → Receiver → Submessage → Receiver
 after_submessage own receiver (InfoDst prefix) = record receiver { dest_guid_prefix = prefix }
 after_submessage own receiver (InfoTs stamp) =

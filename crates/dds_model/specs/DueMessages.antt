@@ -1,5 +1,5 @@
--- The messages of the reliable protocol that a peer has to send, and when each is due; of an announced change, an assertion and
--- a HEARTBEAT also to whom.
+-- The messages of the reliable protocol that a peer has to send, and when each is due; of an announced change, an
+-- assertion and a HEARTBEAT also to whom.
 --
 -- RTPS 2.5, 8.4.9 (reliable StatefulWriter), 8.4.12 (reliable StatefulReader), 8.3.8 (AckNack, Data, Gap, Heartbeat).
 use Rattle.std.specs.Prelude.{◌≡◌, ◌⊎◌, ℕ, ◌+◌, ◌-◌, ◌^◌, Bool, true, false, if◌then◌else◌, nat_lt, nat_le, List, [], ◌∷◌, ◌++◌, length, map, filter, Option, Some, None, pos, slice_get}
@@ -149,8 +149,8 @@ assertions_due config writer w =
           (writer_entity config writer.peer writer.number) w;
     }) (peers_of w.readers)
 
--- of the messages that are due these packets are sent, in their order, each in the one written form that it has; so many
--- more found no memory
+-- of the messages that are due these packets are sent, in their order, each in the one written form that it has; so
+-- many more found no memory
 abbrev pub AreSent : List Due → List Packet → ℕ → Type 0
 AreSent [] packets unsent = (packets ≡ []) × (unsent ≡ 0)
 AreSent (due ∷ dues) packets unsent =

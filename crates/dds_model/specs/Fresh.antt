@@ -1,5 +1,5 @@
--- Counts of HEARTBEATs and of ACKNACKs: none was sent or taken that its sender has not used, so that the next one is newer
--- than all before it.
+-- Counts of HEARTBEATs and of ACKNACKs: none was sent or taken that its sender has not used, so that the next one is
+-- newer than all before it.
 --
 -- RTPS 2.5, 8.3.8 (Heartbeat, AckNack: count), 8.4.9, 8.4.12.
 use Rattle.std.specs.Prelude.{◌≡◌, ℕ, List, None, Some, ℤ, pos, ◌≤ℤ◌, Contains}

@@ -38,8 +38,8 @@ use Rattle.dds_model.specs.Runs.{Traffic, Sends, Run}
 use Rattle.dds_model.specs.Part.{Part, own_writer, publication_among}
 use Rattle.dds_model.specs.Opening.{opening_world, matched_writers, reader_qos}
 
--- a step of peers, on packets that were sent, is a step of the machine, which takes up what is delivered, and leaves all
--- claims true
+-- a step of peers, on packets that were sent, is a step of the machine, which takes up what is delivered, and leaves
+-- all claims true
 abbrev pub Composes : Type 0
 Composes = (config : Config) (tests : AllTests) (old new : WorldState) (event : WorldEvent) (reply : Reply)
     → Sound config old → WorldStep config tests old event reply new
@@ -88,8 +88,8 @@ KeepAllIsKept = (config : Config) (tests : AllTests) (writer : Endpoint) (m afte
     → (writer_at m writer).policy ≡ KeepAll → Run config tests sent m events replies last after
     → LosesNone writer replies
 
--- A reader of these peers tells its matched writers apart: no two have one GUID, and each publication handle, from 1 on, is
--- that of one.
+-- A reader of these peers tells its matched writers apart: no two have one GUID, and each publication handle, from 1
+-- on, is that of one.
 pub record TellsWritersApart (peers : List PeerConfig) (reader : ReaderConfig) : Type 0 where
   pub own_guids : HaveOwnGuids (reader_qos peers reader)
   pub each_handle : (handle : ℕ) → 1 ≤ handle → handle ≤ length (matched_writers reader.topic 1 peers)
@@ -112,8 +112,8 @@ OwnersExist = (config : Config) (peer : PeerConfig) (reader : ReaderConfig) (i :
     → Contains peer.readers reader → registered_writers (reader_qos config.peers reader) i h ≢ []
     → IsSome (owner_of (reader_qos config.peers reader) (registered_writers (reader_qos config.peers reader) i h))
 
--- what a peer does with a packet by the rules of the protocol rests on what that packet and earlier ones claim, and what it
--- knows then is what they claim
+-- what a peer does with a packet by the rules of the protocol rests on what that packet and earlier ones claim, and
+-- what it knows then is what they claim
 abbrev pub RulesRestOnClaims : Type 0
 RulesRestOnClaims = (config : Config) (peer : ℕ) (before : List Delivery) (bytes : List ℕ) (old : State)
     (report : Report) (dues : List Due) (new : State) → check_refusal config.peers ≡ None
@@ -134,8 +134,8 @@ AnswersAreTrue = (config : Config) (peer : ℕ) (before : List Delivery) (bytes 
     → TakesPacket config peer bytes old report dues new
     → AreTruthful config peer new.part dues
 
--- Each of these messages can be written, in a configuration whose names have their octets, where the changes are small and the
--- sets of ACKNACKs have their places: so a peer that has memory sends it.
+-- Each of these messages can be written, in a configuration whose names have their octets, where the changes are small
+-- and the sets of ACKNACKs have their places: so a peer that has memory sends it.
 abbrev pub AnswersCanBeWritten : Type 0
 AnswersCanBeWritten = (config : Config) (peer : ℕ) (before : List Delivery) (bytes : List ℕ) (old : State)
     (report : Report) (dues : List Due) (new : State) → check_refusal config.peers ≡ None
@@ -157,7 +157,8 @@ AssertionsAreTrue = (config : Config) (tests : Tests) (peer writer : ℕ) (old n
     → AreTruthful config peer new
     (assertions_due config (record { peer = peer; number = writer }) (own_writer old writer))
 
--- each HEARTBEAT that tells an assertion can be written, in a configuration whose names have their octets, where the changes are small
+-- each HEARTBEAT that tells an assertion can be written, in a configuration whose names have their octets, where the
+-- changes are small
 abbrev pub AssertionsCanBeWritten : Type 0
 AssertionsCanBeWritten = (config : Config) (tests : Tests) (peer writer : ℕ) (old new : Part) → IsPartOf config peer old
     → CallStep tests old (AssertLiveliness writer) Done new → IsSized config → HasSmallChanges old

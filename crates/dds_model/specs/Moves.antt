@@ -1,6 +1,6 @@
 -- What a delivery may do at a peer: a reader's place goes on over changes that come and changes that are passed over, a
--- reader acknowledges changes, and a writer is heard to assert its liveliness (RTPS 2.5, 8.4: reliable StatefulWriter and
--- StatefulReader; 8.7.2.2, LIVELINESS).
+-- reader acknowledges changes, and a writer is heard to assert its liveliness (RTPS 2.5, 8.4: reliable StatefulWriter
+-- and StatefulReader; 8.7.2.2, LIVELINESS).
 use Rattle.std.specs.Prelude.{◌≡◌, ℕ, ◌<◌, List, [], ◌∷◌, Option, Some, None, ℤ, ◌<ℤ◌}
 use Rattle.dds_base.specs.declared.change.Change.{Change}
 use Rattle.dds_base.specs.declared.happening.Happening.TheVariants.{Heard as WasHeard}

@@ -1,8 +1,9 @@
--- What listeners are told at an event's end: each status that was raised in the event, with its values at that moment, goes
--- once to the listener of its entity, else to that of the participant; its flag is then cleared, as by a look. Where nobody
--- takes it the flag stays.
+-- What listeners are told at an event's end: each status that was raised in the event, with its values at that moment,
+-- goes once to the listener of its entity, else to that of the participant; its flag is then cleared, as by a look.
+-- Where nobody takes it the flag stays.
 --
--- DDS 1.4, 2.2.4.1 (communication statuses), 2.2.4.2 (listeners), 2.2.4.2.1 (changes in plain communication status).
+-- DDS 1.4, 2.2.4.1 (communication statuses), 2.2.4.2.1 (changes in plain communication status), 2.2.4.3 (access through
+-- listeners).
 use Rattle.std.specs.Prelude.{ℕ, zero, suc, nat_lt, length, Option, None, Some, if◌then◌else◌}
 use Rattle.dds_base.specs.declared.entity.Entity.{Entity}
 use Rattle.dds_base.specs.declared.entity.Entity.TheVariants as entity

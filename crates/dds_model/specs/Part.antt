@@ -49,9 +49,9 @@ pub record Rtps : Type 0 where
   pub writers : List Writer
   pub readers : List (List WriterProxy)
 
--- what a reader's statuses said when each was looked at last, by a call or as a listener was told: the total of SAMPLE_LOST;
--- by DATA_AVAILABLE how many entries there were; and by LIVELINESS_CHANGED how many matched writers were alive and not alive,
--- and how many entries there were (DDS 1.4, 2.2.4.1)
+-- what a reader's statuses said when each was looked at last, by a call or as a listener was told: the total of
+-- SAMPLE_LOST; by DATA_AVAILABLE how many entries there were; and by LIVELINESS_CHANGED how many matched writers were
+-- alive and not alive, and how many entries there were (DDS 1.4, 2.2.4.1)
 pub record Seen : Type 0 where
   pub lost : ℕ
   pub entries_at_data : ℕ

@@ -31,7 +31,8 @@ pub record Delivery : Type 0 where
   pub packet : List ℕ
   pub report : Report
 
--- a peer, by its number, with its part, what it knows beside that, and the packets that were delivered to it, the newest first
+-- a peer, by its number, with its part, what it knows beside that, and the packets that were delivered to it, the
+-- newest first
 pub record Peer : Type 0 where
   pub number : ℕ
   pub part : Part
@@ -55,7 +56,8 @@ abbrev pub IsBefore : ℕ → Option ℕ → Type 0
 IsBefore index None = Unit {0}
 IsBefore index (Some refused) = index < refused
 
--- a HEARTBEAT of this count from the writer was applied at the reader: it stands in the packet, before what found no memory
+-- a HEARTBEAT of this count from the writer was applied at the reader: it stands in the packet, before what found no
+-- memory
 pub record IsApplied (config : Config) (delivery : Delivery) (writer reader : Endpoint) (count : ℤ) : Type 0 where
   pub own : GuidPrefix
   pub at : Receiver
@@ -75,8 +77,8 @@ IsNewest config deliveries writer reader count =
 abbrev pub delivered_to : List ℕ → ℕ → Delivery
 delivered_to packet index = record { packet = packet; report = record { moves = []; refused = Some index } }
 
--- what a packet claims to the peer of this number when it comes to the submessage of this index, with what was delivered
--- before
+-- what a packet claims to the peer of this number when it comes to the submessage of this index, with what was
+-- delivered before
 abbrev pub claimed : Config → List Delivery → List ℕ → ℕ → ℕ → Grounds
 claimed config before packet peer index = record {
   is_change = λ writer reader number change. Claimed config (packet ∷ packets_of before)

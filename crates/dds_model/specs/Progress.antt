@@ -1,5 +1,5 @@
--- What a delivery must move: a change that a packet claims for a reader, and that is the next one when the packet comes to
--- it, moves the reader's place.
+-- What a delivery must move: a change that a packet claims for a reader, and that is the next one when the packet comes
+-- to it, moves the reader's place.
 --
 -- RTPS 2.5, 8.3.4 (the message receiver), 8.4.12 (reliable StatefulReader).
 use Rattle.std.specs.Prelude.{◌≡◌, ℕ, ◌-◌, ◌≤◌, List, Some, slice_get}

@@ -33,8 +33,8 @@ use Rattle.dds_model.specs.Claims.{Receiver, receiver_of, after_submessage, IsTo
 use Rattle.dds_model.specs.Receipt.{prefix_of, IsNotTaken}
 use Rattle.dds_model.specs.DueMessages.{Due, answer_message, acknacks_due}
 
--- What a peer knows beside its part of the machine: what each of its readers has heard of a matched writer's changes, and
--- for each of its writers the count of the last ACKNACK that it took of a matched reader.
+-- What a peer knows beside its part of the machine: what each of its readers has heard of a matched writer's changes,
+-- and for each of its writers the count of the last ACKNACK that it took of a matched reader.
 pub record Known : Type 0 where
   pub tracked : Endpoint → ℕ → Tracked
   pub answered : ℕ → Endpoint → Option ℤ
@@ -75,8 +75,8 @@ InTurn step (x ∷ xs) old moves dues new =
 abbrev pub Idles : State → List Move → List Due → State → Type 0
 Idles old moves dues new = (moves ≡ []) × (dues ≡ []) × (new ≡ old)
 
--- The place of one of the peer's readers goes as far as it can in the list of a matched writer, of which the reader knows
--- this by now.
+-- The place of one of the peer's readers goes as far as it can in the list of a matched writer, of which the reader
+-- knows this by now.
 pub record Goes (old : State) (writer : Endpoint) (reader : ℕ) (t : Tracked) (moves : List Move)
     (new : State) : Type 0 where
   pub publication : ℕ
@@ -134,8 +134,8 @@ TakesOrNot own at old writer reader entity h moves dues new =
     TakesHeartbeat own at old writer reader entity h moves dues new
     ⊎ ((is_later (old.known.tracked writer reader).count h.count ≡ false) × Idles old moves dues new)
 
--- the submessage names the peer's reader, and is of a writer that is matched with it, which takes it so; else it is nothing
--- to the reader
+-- the submessage names the peer's reader, and is of a writer that is matched with it, which takes it so; else it is
+-- nothing to the reader
 abbrev pub WhereMatched : Config → GuidPrefix → Receiver → EntityId → EntityId → Endpoint
     → (Endpoint → EntityId → Type 0) → Type 0 → Type 0
 WhereMatched config own at reader_id writer_id reader Takes Idle =
@@ -173,9 +173,9 @@ AreGrouped answers (group ∷ groups) =
 abbrev pub acknowledging : Writer → Endpoint → ℕ → Writer
 acknowledging w reader to = record w { readers = with_acknowledged w.readers reader to }
 
--- An ACKNACK whose count is greater than that of the last one that the writer took of the reader, and whose base is not past
--- the next number, is taken: the reader has acknowledged all below the base, and gets each change that it asks for, or a GAP
--- where the change is not kept.
+-- An ACKNACK whose count is greater than that of the last one that the writer took of the reader, and whose base is not
+-- past the next number, is taken: the reader has acknowledged all below the base, and gets each change that it asks
+-- for, or a GAP where the change is not kept.
 pub record TakesAckNack (own : GuidPrefix) (at : Receiver) (old : State) (writer : ℕ) (reader : Endpoint)
     (entity : EntityId) (a : AckNackBody) (moves : List Move) (dues : List Due) (new : State) : Type 0 where
   pub acknowledged : ℕ
@@ -211,8 +211,8 @@ WriterTakes config own peer at a writer reader old moves dues new =
     ⊎ ((IsToWriter config own at a.reader_id a.writer_id (record { peer = peer; number = writer }) reader
     → is_taken_up old writer reader a ≡ false) × Idles old moves dues new)
 
--- a submessage is taken up: an ACKNACK by each of the peer's writers, as to each of its matched readers; any other one by
--- each of its readers
+-- a submessage is taken up: an ACKNACK by each of the peer's writers, as to each of its matched readers; any other one
+-- by each of its readers
 abbrev pub Takes : Config → GuidPrefix → ℕ → Receiver → Submessage → State → List Move → List Due → State → Type 0
 Takes config own peer at (AckNack a) old moves dues new =
     InTurn (λ (writer : ℕ). InTurn (λ (p : ReaderProxy). WriterTakes config own peer at a writer p.reader)
@@ -222,10 +222,10 @@ Takes config own peer at submessage old moves dues new =
     InTurn (ReaderTakes config own peer at submessage)
     (numbers_from 1 (length old.part.rtps.readers)) old moves dues new
 
--- The submessages from this index on are taken up in turn. Either one finds no memory, and nothing is done from it on, or it
--- is taken up, and those that follow are.
-abbrev pub FollowsMessage : Config → GuidPrefix → ℕ → ℕ → Receiver → List Submessage → State → List Move → Option ℕ → List Due
-    → State → Type 0
+-- The submessages from this index on are taken up in turn. Either one finds no memory, and nothing is done from it on,
+-- or it is taken up, and those that follow are.
+abbrev pub FollowsMessage : Config → GuidPrefix → ℕ → ℕ → Receiver → List Submessage → State → List Move → Option ℕ
+    → List Due → State → Type 0
 FollowsMessage config own peer index at [] old moves refused dues new = (refused ≡ None) × Idles old moves dues new
 FollowsMessage config own peer index at (submessage ∷ rest) old moves refused dues new =
     ((refused ≡ Some index) × Idles old moves dues new)
@@ -243,7 +243,8 @@ pub record TakesMessage (config : Config) (peer : ℕ) (bytes : List ℕ) (old :
   pub follows : FollowsMessage config (prefix_of config peer) peer 0
       (receiver_of message.prefix) message.submessages old report.moves report.refused dues new
 
--- what the peer of this number does with a packet: else the bytes are no message, or one for whose reading there was no memory
+-- what the peer of this number does with a packet: else the bytes are no message, or one for whose reading there was no
+-- memory
 abbrev pub TakesPacket : Config → ℕ → List ℕ → State → Report → List Due → State → Type 0
 TakesPacket config peer bytes old report dues new =
     TakesMessage config peer bytes old report dues new

@@ -1,5 +1,5 @@
--- What a delivered packet does, submessage by submessage: each that is reached makes its moves, a DATA with the change at
--- a reader's place moves that place, and from the one that found no memory on none is applied
+-- What a delivered packet does, submessage by submessage: each that is reached makes its moves, a DATA with the change
+-- at a reader's place moves that place, and from the one that found no memory on none is applied
 -- (RTPS 2.5, 8.3.4, the rules of the message receiver).
 use Rattle.std.specs.Prelude.{◌≡◌, ◌⊎◌, ℕ, ◌+◌, ◌^◌, ◌<◌, ◌≤◌, false, List, [], ◌∷◌, ◌++◌, Option, Some, None}
 use Rattle.dds_base.specs.declared.change.Change.{Change}
@@ -48,8 +48,8 @@ MovesOver config grounds peer own at submessage part moves =
     → IsMatchedAt part writer reader.number publication number → 1 ≤ number → number ≤ 2 ^ 62
     → GoesOver writer reader.number number moves ⊎ HasNoRoom grounds part writer reader.number publication number
 
--- The submessages from this index on are taken up in turn. Either one finds no memory, and nothing is done from it on, or
--- it makes its moves, and those that follow make theirs.
+-- The submessages from this index on are taken up in turn. Either one finds no memory, and nothing is done from it on,
+-- or it makes its moves, and those that follow make theirs.
 abbrev pub TakesUp : Config → (ℕ → Grounds) → ℕ → GuidPrefix → ℕ → Receiver → List Submessage → Part → List Move
     → Option ℕ → Part → Type 0
 TakesUp config grounds peer own index at [] old moves refused new = (moves ≡ []) × (refused ≡ None) × (new ≡ old)

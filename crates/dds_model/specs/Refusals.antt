@@ -1,8 +1,9 @@
--- Why a peer refuses a call that names a writer or a reader: the causes in their order, the first of which is answered; none where
--- it takes the call.
+-- Why a peer refuses a call that names a writer or a reader: the causes in their order, the first of which is answered;
+-- none where it takes the call.
 --
--- DDS 1.4, 2.2.2.4 (register_instance, write, dispose, unregister_instance, assert_liveliness, get_liveliness_lost_status),
--- 2.2.2.5 (the forms of read and take, get_key_value, get_sample_lost_status, get_liveliness_changed_status), 2.2.1.1 (return codes).
+-- DDS 1.4, 2.2.2.4 (register_instance, write, dispose, unregister_instance, assert_liveliness,
+-- get_liveliness_lost_status), 2.2.2.5 (the forms of read and take, get_key_value, get_sample_lost_status,
+-- get_liveliness_changed_status), 2.2.1.1 (return codes).
 use Rattle.std.specs.Prelude.{ℕ, ◌-◌, ◌^◌, ◌||◌, not, Bool, List, [], length, Option, Some, None, is_some, nat_le, nat_lt, if◌then◌else◌}
 use Rattle.dds_base.specs.declared.key.Key.{Key}
 use Rattle.dds_base.specs.declared.change.Change.{Change}
@@ -59,7 +60,8 @@ assert_refusal part writer =
     if not (has_element part.rtps.writers writer) then Some BadParameter
     else (if nat_le (2 ^ 31 - 1) (heartbeats_used (own_writer part writer)) then Some OutOfResources else None)
 
--- why an access is refused: no such reader, a max that is neither -1 nor positive, or an instance that has to be known and is not
+-- why an access is refused: no such reader, a max that is neither -1 nor positive, or an instance that has to be known
+-- and is not
 abbrev pub access_refusal : Part → ℕ → Selection → Option Code
 access_refusal part reader selection =
     if not (has_element part.dds.readers reader) then Some BadParameter

@@ -43,8 +43,8 @@ DeliversAll config tests old peer (packet ∷ packets) new =
     (mid : WorldState) × (lost : ℕ) × (h : Delivers config tests old peer packet lost mid)
     × DeliversAll config tests (world_ended old (Deliver peer h.number) mid) peer packets new
 
--- A round begins: the writer's peer ticks, and a packet to the reader's peer with a HEARTBEAT of the writer that this sent is
--- delivered there.
+-- A round begins: the writer's peer ticks, and a packet to the reader's peer with a HEARTBEAT of the writer that this
+-- sent is delivered there.
 pub record BeginsRound (config : Config) (tests : AllTests) (writer reader : Endpoint)
     (old heard : WorldState) : Type 0 where
   pub now : ℕ
@@ -70,8 +70,8 @@ abbrev pub beat_in : {config : Config} {tests : AllTests} {writer reader : Endpo
 beat_in {reader = reader} {heard = heard} begins =
     world_ended (ticked_in begins) (Deliver reader.peer begins.hears.number) heard
 
--- It goes on: a packet with an ACKNACK of the reader to the writer that this sent is delivered at the writer's peer, where no
--- answer is lost.
+-- It goes on: a packet with an ACKNACK of the reader to the writer that this sent is delivered at the writer's peer,
+-- where no answer is lost.
 pub record AsksInRound (config : Config) (tests : AllTests) (writer reader : Endpoint)
     (old asked : WorldState) : Type 0 where
   pub heard : WorldState
@@ -103,7 +103,8 @@ pub record IsPair (config : Config) (writer reader : Endpoint) : Type 0 where
   pub is_reader : IsReader config (prefix_of config reader.peer) reader_entity reader
   pub matched : is_writer.end.topic ≡ is_reader.end.topic
 
--- the reader's place in the writer's list, and what the writer has of the reader; and what the reader knows is of that place
+-- the reader's place in the writer's list, and what the writer has of the reader; and what the reader knows is of that
+-- place
 pub record StandsAt (world : WorldState) (writer reader : Endpoint) (place acknowledged : ℕ) : Type 0 where
   pub here : HasNumber (peer_at world reader.peer).part.dds.readers reader.number
   pub place_is : place_at (machine_of world) reader writer ≡ Some place
@@ -121,8 +122,8 @@ pub record HoldsWithoutRoom (world : WorldState) (writer reader : Endpoint) (pla
       (coming (match_of (peer_at world reader.peer).part reader.number publication)
       (position_at (peer_at world reader.peer).part reader.number place) change) ≡ false
 
--- The reader has gone on by 256 numbers, or to the end of a list of so many, or to a change that has no room; and the writer
--- knows of all that the reader had.
+-- The reader has gone on by 256 numbers, or to the end of a list of so many, or to a change that has no room; and the
+-- writer knows of all that the reader had.
 pub record HasCaughtUp (world : WorldState) (writer reader : Endpoint) (before last : ℕ) : Type 0 where
   pub place : ℕ
   pub acknowledged : ℕ
@@ -146,8 +147,8 @@ pub record HasBeatTo (config : Config) (writer : Endpoint) (peer : ℕ) (packets
   pub count : ℤ
   pub has : HasHeartbeat config packet.bytes writer count
 
--- a tick at which nothing is lost sends such a one to the peer of each reader that has not acknowledged all changes, while
--- there are counts left
+-- a tick at which nothing is lost sends such a one to the peer of each reader that has not acknowledged all changes,
+-- while there are counts left
 abbrev pub BeatsAreSent : Type 0
 BeatsAreSent = (config : Config) (tests : AllTests) (writer reader : Endpoint) (acknowledged now : ℕ)
     (old new : WorldState) → check_refusal config.peers ≡ None → HasUsedCounts config old
@@ -165,8 +166,8 @@ pub record HasAskOf (config : Config) (writer reader : Endpoint) (packets : List
   pub count : ℤ
   pub has : HasAckNack config packet.bytes writer reader count
 
--- a HEARTBEAT that begins a round is answered by an ACKNACK, which is sent where nothing is lost, while there are counts
--- left, and numbers
+-- a HEARTBEAT that begins a round is answered by an ACKNACK, which is sent where nothing is lost, while there are
+-- counts left, and numbers
 abbrev pub AsksAreSent : Type 0
 AsksAreSent = (config : Config) (tests : AllTests) (writer reader : Endpoint) (place acknowledged : ℕ)
     (old heard : WorldState) → check_refusal config.peers ≡ None → Sound config old → HasUsedCounts config old

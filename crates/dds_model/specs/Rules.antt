@@ -1,5 +1,5 @@
--- A network whose peers keep the rules of the reliable protocol: which messages are due at an event, and which packets are
--- sent of them.
+-- A network whose peers keep the rules of the reliable protocol: which messages are due at an event, and which packets
+-- are sent of them.
 --
 -- RTPS 2.5, 8.4.9 (reliable StatefulWriter), 8.4.12 (reliable StatefulReader).
 use Rattle.std.specs.Prelude.{◌≡◌, ℕ, ◌+◌, ◌-◌, ◌^◌, min, List, [], ◌∷◌, ◌++◌, length, slice_get, Some}
@@ -20,8 +20,8 @@ use Rattle.dds_model.specs.Protocol.{TakesPacket}
 use Rattle.dds_model.specs.Runs.{Traffic, Sends}
 use Rattle.dds_model.specs.World.{WorldState, WorldStep, peer_at, machine_of}
 
--- what is due for what a call enters at a writer of the peer: a change is announced, with the next number, and an assertion is
--- told
+-- what is due for what a call enters at a writer of the peer: a change is announced, with the next number, and an
+-- assertion is told
 abbrev pub announcements_due : Config → ℕ → Part → Effect → List Due
 announcements_due config peer part (writes writer (Changed change)) =
     changes_due config (record { peer = peer; number = writer }) (own_writer part writer).readers
@@ -30,8 +30,9 @@ announcements_due config peer part (writes writer (Asserted moment)) =
     assertions_due config (record { peer = peer; number = writer }) (own_writer part writer)
 announcements_due config peer part other = []
 
--- These messages are due at an event: for a call what announces its change or tells its assertion, at a tick that is done the
--- HEARTBEATs of the peer, for a delivered packet what the rules say once it was taken up; where the event is refused, none.
+-- These messages are due at an event: for a call what announces its change or tells its assertion, at a tick that is
+-- done the HEARTBEATs of the peer, for a delivered packet what the rules say once it was taken up; where the event is
+-- refused, none.
 abbrev pub AreDue : Config → WorldState → WorldEvent → Reply → WorldState → List Due → Type 0
 AreDue config old (Call peer call) reply new dues =
     dues ≡ announcements_due config peer (peer_at old peer).part (effect_of (peer_at old peer).part call reply)
@@ -41,8 +42,8 @@ AreDue config old (Deliver peer number) (Reported report) new dues =
     × TakesPacket config peer packet.bytes (state_of (peer_at old peer)) report dues (state_of (peer_at new peer))
 AreDue config old event reply new dues = dues ≡ []
 
--- One event of a network by the rules: it is a step of the peers, and of the messages that are due these packets are sent,
--- in their order; so many are not.
+-- One event of a network by the rules: it is a step of the peers, and of the messages that are due these packets are
+-- sent, in their order; so many are not.
 pub record RuledStep (config : Config) (tests : AllTests) (old : WorldState) (event : WorldEvent) (reply : Reply)
     (lost : ℕ) (new : WorldState) : Type 0 where
   pub step : WorldStep config tests old event reply new
@@ -56,8 +57,8 @@ pub record RuledStep (config : Config) (tests : AllTests) (old : WorldState) (ev
 abbrev pub traffic_of : WorldState → ℕ → Traffic
 traffic_of world unsent = record { sent = world.sent; unsent = unsent }
 
--- One event of a network by the rules, and how many packets are counted as unsent before it and after it: to the greatest
--- number that has 64 bits, those that are due and not sent besides.
+-- One event of a network by the rules, and how many packets are counted as unsent before it and after it: to the
+-- greatest number that has 64 bits, those that are due and not sent besides.
 pub record CountedStep (config : Config) (tests : AllTests) (old : WorldState) (unsent : ℕ) (event : WorldEvent)
     (reply : Reply)
     (new : WorldState) (next : ℕ) : Type 0 where
@@ -66,8 +67,8 @@ pub record CountedStep (config : Config) (tests : AllTests) (old : WorldState) (
   pub counted : next ≡ min (unsent + lost) (2 ^ 64 - 1)
   pub sends : Sends config (traffic_of old unsent) (machine_of old) event reply (traffic_of new next)
 
--- Replies to a list of events of a network by the rules, one after another, each to its end, at which listeners are told; with
--- the counts of unsent packets before and after.
+-- Replies to a list of events of a network by the rules, one after another, each to its end, at which listeners are
+-- told; with the counts of unsent packets before and after.
 abbrev pub RuledRun : Config → AllTests → WorldState → ℕ → List WorldEvent → List Reply → WorldState → ℕ → Type 0
 RuledRun config tests old unsent [] [] new last = (new ≡ old) × (last ≡ unsent)
 RuledRun config tests old unsent (event ∷ events) (reply ∷ replies) new last =

@@ -24,8 +24,8 @@ pub record Traffic : Type 0 where
   pub sent : List Packet
   pub unsent : ℕ
 
--- A change of a writer is announced: each peer with a matched reader is sent one packet, in its one written form, in which
--- the change is for each such reader, or the packet is counted as unsent.
+-- A change of a writer is announced: each peer with a matched reader is sent one packet, in its one written form, in
+-- which the change is for each such reader, or the packet is counted as unsent.
 pub record Announced (config : Config) (old : Traffic) (writer : Endpoint) (readers : List ReaderProxy) (number : ℕ)
     (change : Change) (new : Traffic) : Type 0 where
   pub packets : List Packet
@@ -39,8 +39,8 @@ pub record Announced (config : Config) (old : Traffic) (writer : Endpoint) (read
   pub are_sent : AreSent (changes_due config writer readers number change) packets lost
   pub unsent : new.unsent ≡ min (old.unsent + lost) (2 ^ 64 - 1)
 
--- Of the messages that are due some are sent, in their order, each in its one written form; the others found no memory, and
--- are counted.
+-- Of the messages that are due some are sent, in their order, each in its one written form; the others found no memory,
+-- and are counted.
 pub record SendsDues (dues : List Due) (old new : Traffic) : Type 0 where
   pub packets : List Packet
   pub sent : new.sent ≡ old.sent ++ packets
@@ -48,7 +48,8 @@ pub record SendsDues (dues : List Due) (old new : Traffic) : Type 0 where
   pub are_sent : AreSent dues packets lost
   pub unsent : new.unsent ≡ min (old.unsent + lost) (2 ^ 64 - 1)
 
--- what a call with this effect sends: a change is announced, with the next number, and an assertion told; else nothing is sent
+-- what a call with this effect sends: a change is announced, with the next number, and an assertion told; else nothing
+-- is sent
 abbrev pub SendsOf : Config → Traffic → Machine → ℕ → Effect → Traffic → Type 0
 SendsOf config old m peer (writes writer (Changed change)) new =
     Announced config old (record { peer = peer; number = writer })
@@ -59,10 +60,10 @@ SendsOf config old m peer (writes writer (Asserted moment)) new =
     (writer_at m (record { peer = peer; number = writer }))) old new
 SendsOf config old m peer other new = new ≡ old
 
--- What is sent at an event: an accepted change is announced, an assertion is told, a tick that is done sends the HEARTBEATs
--- that are due at the peer, and a delivery the ACKNACKs and the answers that are then due there, of which the machine without
--- packets does not know, or nothing where its own bytes found no memory; another call and what is refused send nothing, and
--- lose nothing.
+-- What is sent at an event: an accepted change is announced, an assertion is told, a tick that is done sends the
+-- HEARTBEATs that are due at the peer, and a delivery the ACKNACKs and the answers that are then due there, of which
+-- the machine without packets does not know, or nothing where its own bytes found no memory; another call and what is
+-- refused send nothing, and lose nothing.
 abbrev pub Sends : Config → Traffic → Machine → WorldEvent → Reply → Traffic → Type 0
 Sends config old m (world.Call peer call) reply new =
     SendsOf config old m peer (effect_of (part_at m peer) call reply) new
@@ -72,8 +73,8 @@ Sends config old m (world.Deliver peer packet) (Reported report) new =
     ((dues : List Due) × SendsDues dues old new) ⊎ (new ≡ old)
 Sends config old m (world.Deliver peer packet) reply new = new ≡ old
 
--- Replies to a list of events, one step after another, each to its end, at which listeners are told; with the packets before
--- and after.
+-- Replies to a list of events, one step after another, each to its end, at which listeners are told; with the packets
+-- before and after.
 abbrev pub Run : Config → AllTests → Traffic → Machine → List WorldEvent → List Reply → Traffic → Machine → Type 0
 Run config tests sent old [] [] last new = (new ≡ old) × (last ≡ sent)
 Run config tests sent old (event ∷ events) (reply ∷ replies) last new =

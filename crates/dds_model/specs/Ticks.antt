@@ -1,4 +1,5 @@
--- What a tick does: the time of a peer goes on, and whoever was not heard of for as long as its lease dies at its readers.
+-- What a tick does: the time of a peer goes on, and whoever was not heard of for as long as its lease dies at its
+-- readers.
 --
 -- DDS 1.4, 2.2.3 (LIVELINESS: lease_duration).
 use Rattle.std.specs.Prelude.{◌≡◌, ℕ, ◌^◌, ◌||◌, Bool, true, map, length, Option, Some, None, nat_le, nat_lt, if◌then◌else◌}
@@ -25,8 +26,8 @@ ticked now w = with_written w (Ticked now (is_behind w))
 abbrev pub reader_ticked : ℕ → Reader → Reader
 reader_ticked now r = record r { happened = after_deaths r.qos now r.happened }
 
--- The part of a peer whose time went on to this moment: first writers die at its readers; then it enters so at each of its
--- writers, and whether a reader was behind.
+-- The part of a peer whose time went on to this moment: first writers die at its readers; then it enters so at each of
+-- its writers, and whether a reader was behind.
 abbrev pub after_tick : Part → ℕ → Part
 after_tick old now = record {
   rtps = record old.rtps { writers = map (ticked now) old.rtps.writers };

@@ -88,8 +88,8 @@ test_of tests (Some filter) = tests filter
 abbrev pub meet : StatusMask → StatusMask → Bool
 meet a b = not (bit_and a.0 b.0 == 0)
 
--- a condition that was made: a read condition is true while a present sample meets its masks, a query condition while such
--- a sample passes its filter, a guard as it was set
+-- a condition that was made: a read condition is true while a present sample meets its masks, a query condition while
+-- such a sample passes its filter, a guard as it was set
 abbrev pub condition_value : Tests → Part → Option Condition → Bool
 condition_value tests part None = false
 condition_value tests part (Some (Samples reader masks filter)) =
@@ -120,8 +120,8 @@ abbrev pub is_condition_of : ℕ → Option Condition → Bool
 is_condition_of reader (Some (Samples other masks filter)) = other == reader
 is_condition_of reader _ = false
 
--- why an access by a condition is refused: no such reader, no such condition, or a max that is neither -1 nor positive; or a
--- condition that is no read condition of the reader (read_w_condition)
+-- why an access by a condition is refused: no such reader, no such condition, or a max that is neither -1 nor positive;
+-- or a condition that is no read condition of the reader (read_w_condition)
 abbrev pub condition_refusal : Part → ℕ → Scope → ℕ → Option Code
 condition_refusal part reader scope condition =
     if not (has_element part.dds.readers reader)

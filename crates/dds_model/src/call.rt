@@ -21,8 +21,8 @@ pub enum Call {
         writer: u8,
         key: Key,
     },
-    /// Writes a value of an instance, and registers it (DDS 1.4, 2.2.2.4, write). `BadParameter` for a value above 1,024
-    /// octets.
+    /// Writes a value of an instance, and registers it (DDS 1.4, 2.2.2.4, write). `BadParameter` for a value above
+    /// 1,024 octets.
     Write {
         writer: u8,
         key: Key,
@@ -40,27 +40,27 @@ pub enum Call {
         writer: u8,
         key: Key,
     },
-    /// Asserts a writer's liveliness (DDS 1.4, 2.2.2.4, assert_liveliness), and sends a HEARTBEAT that says so to each peer
-    /// with a matched reader. `OutOfResources` where at least 2^31 - 1 HEARTBEAT counts of the writer were due. It is never
-    /// refused for want of memory.
+    /// Asserts a writer's liveliness (DDS 1.4, 2.2.2.4, assert_liveliness), and sends a HEARTBEAT that says so to each
+    /// peer with a matched reader. `OutOfResources` where at least 2^31 - 1 HEARTBEAT counts of the writer were due. It
+    /// is never refused for want of memory.
     AssertLiveliness {
         writer: u8,
     },
     /// Reads samples, which stay (DDS 1.4, 2.2.2.5, read and its instance, next-instance and next-sample forms).
-    /// `BadParameter` for a `max` that is neither -1 nor positive, and for an instance that is not known where it has to
-    /// be; `NoData` where there is no such sample.
+    /// `BadParameter` for a `max` that is neither -1 nor positive, and for an instance that is not known where it has
+    /// to be; `NoData` where there is no such sample.
     Read {
         reader: u8,
         selection: Selection,
     },
-    /// Takes samples, which are then gone (DDS 1.4, 2.2.2.5, take and its instance, next-instance and next-sample forms).
-    /// It is refused as a read is.
+    /// Takes samples, which are then gone (DDS 1.4, 2.2.2.5, take and its instance, next-instance and next-sample
+    /// forms). It is refused as a read is.
     Take {
         reader: u8,
         selection: Selection,
     },
-    /// Asks for the key of an instance (DDS 1.4, 2.2.2.5, get_key_value). `BadParameter` for an instance that is not known.
-    /// It is never refused for want of memory.
+    /// Asks for the key of an instance (DDS 1.4, 2.2.2.5, get_key_value). `BadParameter` for an instance that is not
+    /// known. It is never refused for want of memory.
     GetKeyValue {
         reader: u8,
         instance: Handle,
@@ -76,8 +76,8 @@ pub enum Call {
     GetSampleLost {
         reader: u8,
     },
-    /// Looks at how many matched writers of a reader are alive, and how many are not alive, now and against the last look
-    /// (DDS 1.4, 2.2.2.5, get_liveliness_changed_status). It is never refused for want of memory.
+    /// Looks at how many matched writers of a reader are alive, and how many are not alive, now and against the last
+    /// look (DDS 1.4, 2.2.2.5, get_liveliness_changed_status). It is never refused for want of memory.
     GetLivelinessChanged {
         reader: u8,
     },
@@ -87,9 +87,9 @@ pub enum Call {
         writer: u8,
     },
     /// Reads samples that a read condition of the reader asks for (DDS 1.4, 2.2.2.5, read_w_condition,
-    /// read_next_instance_w_condition). `BadParameter` for a condition that was not made, and for a `max` that is neither -1
-    /// nor positive; `PreconditionNotMet` for one that is no read condition of the reader; `NoData` where there is no such
-    /// sample.
+    /// read_next_instance_w_condition). `BadParameter` for a condition that was not made, and for a `max` that is
+    /// neither -1 nor positive; `PreconditionNotMet` for one that is no read condition of the reader; `NoData` where
+    /// there is no such sample.
     ReadByCondition {
         reader: u8,
         scope: Scope,
@@ -108,9 +108,9 @@ pub enum Call {
         reader: u8,
         masks: Masks,
     },
-    /// Makes a query condition: its trigger value is true while a present sample of the reader meets the masks and passes the
-    /// filter of this number (DDS 1.4, 2.2.2.5, create_querycondition). `BadParameter` for a filter that was not added,
-    /// `OutOfResources` where 2^32 - 1 conditions were made.
+    /// Makes a query condition: its trigger value is true while a present sample of the reader meets the masks and
+    /// passes the filter of this number (DDS 1.4, 2.2.2.5, create_querycondition). `BadParameter` for a filter that was
+    /// not added, `OutOfResources` where 2^32 - 1 conditions were made.
     CreateQueryCondition {
         reader: u8,
         masks: Masks,
@@ -119,8 +119,8 @@ pub enum Call {
     /// Makes a guard condition, whose trigger value is false (DDS 1.4, 2.2.2.1, GuardCondition). `OutOfResources` where
     /// 2^32 - 1 conditions were made.
     CreateGuardCondition,
-    /// Gives a guard condition its trigger value (DDS 1.4, 2.2.2.1, set_trigger_value). `BadParameter` for one that was not
-    /// made, `PreconditionNotMet` for one that is no guard. It is never refused for want of memory.
+    /// Gives a guard condition its trigger value (DDS 1.4, 2.2.2.1, set_trigger_value). `BadParameter` for one that was
+    /// not made, `PreconditionNotMet` for one that is no guard. It is never refused for want of memory.
     SetTriggerValue {
         condition: u32,
         value: bool,
@@ -130,8 +130,8 @@ pub enum Call {
     DeleteCondition {
         condition: u32,
     },
-    /// Asks for the trigger value of a condition (DDS 1.4, 2.2.2.1, get_trigger_value). `BadParameter` for one that does not
-    /// exist. It is never refused for want of memory.
+    /// Asks for the trigger value of a condition (DDS 1.4, 2.2.2.1, get_trigger_value). `BadParameter` for one that
+    /// does not exist. It is never refused for want of memory.
     GetTriggerValue {
         condition: Cond,
     },
@@ -148,25 +148,26 @@ pub enum Call {
         wait_set: u32,
         condition: Cond,
     },
-    /// Detaches a condition from a WaitSet (DDS 1.4, 2.2.2.1, detach_condition). `BadParameter` where one of them does not
-    /// exist, `PreconditionNotMet` where the condition is not attached. It is never refused for want of memory.
+    /// Detaches a condition from a WaitSet (DDS 1.4, 2.2.2.1, detach_condition). `BadParameter` where one of them does
+    /// not exist, `PreconditionNotMet` where the condition is not attached. It is never refused for want of memory.
     DetachCondition {
         wait_set: u32,
         condition: Cond,
     },
-    /// Asks for the conditions of a WaitSet (DDS 1.4, 2.2.2.1, get_conditions). `BadParameter` for one that was not made.
+    /// Asks for the conditions of a WaitSet (DDS 1.4, 2.2.2.1, get_conditions). `BadParameter` for one that was not
+    /// made.
     GetConditions {
         wait_set: u32,
     },
-    /// Somebody waits in a WaitSet, up to this moment (DDS 1.4, 2.2.2.1, wait). `BadParameter` for one that was not made,
-    /// `PreconditionNotMet` where somebody waits in it already. It is never refused for want of memory.
+    /// Somebody waits in a WaitSet, up to this moment (DDS 1.4, 2.2.2.1, wait). `BadParameter` for one that was not
+    /// made, `PreconditionNotMet` where somebody waits in it already. It is never refused for want of memory.
     WaitBegin {
         wait_set: u32,
         deadline: Moment,
     },
-    /// Looks whether a condition of a WaitSet is true (DDS 1.4, 2.2.2.1, wait). If so, it answers those that are, and the
-    /// wait is over; else it answers `Waiting`, or `Timeout` once the deadline has come, and then the wait is over too.
-    /// `BadParameter` for one that was not made, `PreconditionNotMet` where nobody waits in it.
+    /// Looks whether a condition of a WaitSet is true (DDS 1.4, 2.2.2.1, wait). If so, it answers those that are, and
+    /// the wait is over; else it answers `Waiting`, or `Timeout` once the deadline has come, and then the wait is over
+    /// too. `BadParameter` for one that was not made, `PreconditionNotMet` where nobody waits in it.
     WaitLook {
         wait_set: u32,
     },
@@ -182,8 +183,8 @@ pub enum Call {
         entity: Entity,
         mask: StatusMask,
     },
-    /// Asks which statuses of an entity are flagged, enabled or not (DDS 1.4, 2.2.2.1, get_status_changes). `BadParameter`
-    /// for an entity that the peer does not have. It is never refused for want of memory.
+    /// Asks which statuses of an entity are flagged, enabled or not (DDS 1.4, 2.2.2.1, get_status_changes).
+    /// `BadParameter` for an entity that the peer does not have. It is never refused for want of memory.
     GetStatusChanges {
         entity: Entity,
     },

@@ -2,8 +2,8 @@
 //!
 //! RTPS 2.5, 8.2 (Endpoint).
 
-/// A writer or a reader, by its peer and by its number there; both count from 1, in the order of the configuration. Writers
-/// and readers are numbered apart, so an endpoint alone doesn't say which of the two it is.
+/// A writer or a reader, by its peer and by its number there; both count from 1, in the order of the configuration.
+/// Writers and readers are numbered apart, so an endpoint alone doesn't say which of the two it is.
 ///
 /// RTPS 2.5, 8.2 (Endpoint).
 #[derive(Clone, Copy, Debug, PartialEq, Eq)]

@@ -23,9 +23,9 @@ pub struct Packet {
 pub enum Event {
     /// A call of the application; `Call` says what answers it.
     Call(Call),
-    /// The time goes on to this moment: those whose lease is over die at the peer's readers, and then the HEARTBEATs are
-    /// sent that are due. `BadParameter` where it would go back, or to 2^63 units of 2^-32 second and beyond; `Memory`
-    /// only where somebody dies.
+    /// The time goes on to this moment: those whose lease is over die at the peer's readers, and then the HEARTBEATs
+    /// are sent that are due. `BadParameter` where it would go back, or to 2^63 units of 2^-32 second and beyond;
+    /// `Memory` only where somebody dies.
     Tick(Moment),
     /// The bytes of a packet come, whatever they are. The answer is a `Report`.
     Deliver(Octets),

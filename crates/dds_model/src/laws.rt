@@ -34,8 +34,8 @@ pub fn keep_all_is_kept()
     ensures kept { KeepAllIsKept }
 {}
 
-/// After every run, the changes of a writer that keeps all that came at a matched reader are the first ones of its list,
-/// as many as lie before the reader's place there.
+/// After every run, the changes of a writer that keeps all that came at a matched reader are the first ones of its
+/// list, as many as lie before the reader's place there.
 pub fn changes_come_in_order()
     ensures order { ChangesComeInOrder }
 {}
@@ -66,8 +66,8 @@ pub fn outputs_are_compared(output: &Output, other: &Output) -> bool
     output == other
 }
 
-/// Each reader of a configuration that is not refused tells its matched writers apart, by GUIDs and by publication handles:
-/// so an instance has an owner wherever a writer is registered for it.
+/// Each reader of a configuration that is not refused tells its matched writers apart, by GUIDs and by publication
+/// handles: so an instance has an owner wherever a writer is registered for it.
 pub fn owners_exist()
     // Each reader tells its matched writers apart.
     ensures apart { ReadersTellWritersApart }
@@ -77,8 +77,8 @@ pub fn owners_exist()
     owner_is_found();
 }
 
-/// What a peer does with a packet by the rules of the protocol rests on what that packet and earlier ones claim. What it
-/// knows beside its part of the machine is claimed by them too, at the opening and after each packet.
+/// What a peer does with a packet by the rules of the protocol rests on what that packet and earlier ones claim. What
+/// it knows beside its part of the machine is claimed by them too, at the opening and after each packet.
 ///
 /// RTPS 2.5, 8.4.9, 8.4.12.
 pub fn rules_rest_on_claims()
@@ -88,8 +88,8 @@ pub fn rules_rest_on_claims()
     ensures packet { RulesRestOnClaims }
 {}
 
-/// What the rules of the protocol ask a peer to send claims, once it is written, only what is true of the peer's own lists
-/// and places.
+/// What the rules of the protocol ask a peer to send claims, once it is written, only what is true of the peer's own
+/// lists and places.
 ///
 /// RTPS 2.5, 8.4.9, 8.4.12.
 pub fn what_is_due_is_true()
@@ -105,8 +105,8 @@ pub fn what_is_due_is_true()
     ensures told { AssertionsCanBeWritten }
 {}
 
-/// No count of a HEARTBEAT or of an ACKNACK is sent or taken that its sender has not used: so the next one is newer than
-/// all before it.
+/// No count of a HEARTBEAT or of an ACKNACK is sent or taken that its sender has not used: so the next one is newer
+/// than all before it.
 ///
 /// RTPS 2.5, 8.3.8, 8.4.9, 8.4.12.
 pub fn counts_are_fresh()

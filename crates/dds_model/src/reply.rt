@@ -15,7 +15,7 @@ use std::alloc::AllocError;
 
 /// What a delivery moved. Peers, writers and readers are numbered from 1.
 ///
-/// RTPS 2.5, 8.4.12 (WriterProxy), 8.4.9 (ReaderProxy).
+/// RTPS 2.5, 8.4.10 (WriterProxy), 8.4.7 (ReaderProxy).
 #[derive(Debug, Drop, PartialEq, Eq)]
 pub enum Move {
     /// The place of the peer's reader in a writer's list is now `to`: the changes before it came, but for those of the
@@ -80,8 +80,8 @@ pub enum Reply {
     StatusChanges(StatusMask),
     /// What a delivered packet did.
     Reported(Report),
-    /// A refusal, with its cause. Nothing changed, but that `NoData` is entered as the access that it is, and that `Timeout` of
-    /// a look at a WaitSet ends the wait.
+    /// A refusal, with its cause. Nothing changed, but that `NoData` is entered as the access that it is, and that
+    /// `Timeout` of a look at a WaitSet ends the wait.
     Refused(Code),
 }
 

@@ -1,6 +1,6 @@
 -- What a listener keeps of the notices that it is told.
 --
--- DDS 1.4, 2.2.4.2 (listeners).
+-- DDS 1.4, 2.2.4.3 (access through listeners).
 use Rattle.std.specs.Prelude.{ℕ, ◌-◌, List, [], ◌∷◌, ◌++◌, length, drop, ◌||◌, ◌==◌, nat_lt, Option, None, Some, if◌then◌else◌}
 use Rattle.dds_base.specs.declared.code.Code.{Code}
 use Rattle.dds_base.specs.declared.code.Code.TheVariants.{BadParameter}

@@ -1,6 +1,6 @@
 -- What becomes of a listener that stands at an entity.
 --
--- DDS 1.4, 2.2.4.2 (listeners).
+-- DDS 1.4, 2.2.4.3 (access through listeners).
 use Rattle.std.specs.Prelude.{◌≡◌, ℕ, ◌-◌, List, set, Option, None, Some}
 use Rattle.dds_notices.specs.declared.notice.Notice.{Notice}
 use Rattle.dds_notices.specs.Listeners.{Slot, Place, StandsAt, with_notice}

@@ -1,6 +1,6 @@
 //! What holds of the notices that are kept: a function that does nothing, and whose clause is the law.
 //!
-//! DDS 1.4, 2.2.4.2 (Listener).
+//! DDS 1.4, 2.2.4.3 (access through listeners).
 
 ghost use Rattle.std.specs.Prelude.{◌≡◌, ◌++◌, ◌∷◌, [], ℕ, List};
 ghost use Rattle.dds_notices.specs.declared.notice.Notice.{Notice};

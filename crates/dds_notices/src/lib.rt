@@ -1,6 +1,6 @@
 //! What a listener is told and keeps of it, and which listener is told.
 //!
-//! DDS 1.4, 2.2.4.1 (communication statuses), 2.2.4.2 (listeners).
+//! DDS 1.4, 2.2.4.1 (communication statuses), 2.2.4.3 (access through listeners).
 //! Not here: when a status is raised.
 #![tactic(auto)]
 

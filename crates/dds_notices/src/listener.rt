@@ -1,6 +1,6 @@
 //! Whoever is told of statuses.
 //!
-//! DDS 1.4, 2.2.4.2 (Listener).
+//! DDS 1.4, 2.2.4.3 (access through listeners).
 
 ghost use Rattle.std.specs.Prelude.{◌≡◌};
 
@@ -11,7 +11,7 @@ use crate::notice::Notice;
 /// A type of the application's own may be one, and is then handed over in a box. It can't call the peer that tells it,
 /// and can't refuse a notice: the memory for what it keeps is made before.
 ///
-/// DDS 1.4, 2.2.4.2 (Listener).
+/// DDS 1.4, 2.2.4.3 (access through listeners).
 pub trait Listener: Drop {
     ghost use Rattle.std.specs.Prelude.{◌≡◌, ◌↔◌, [], ℕ, List, slice_get, IsTrue};
     ghost use Rattle.dds_notices.specs.declared.notice.Notice.{Notice};
@@ -35,10 +35,10 @@ pub trait Listener: Drop {
     fn held(&self, at: usize) -> Option<Notice>
         ensures notice { result ≡ slice_get (notices self.now) at };
 
-    /// It is told of a status: it keeps the notice, and lets the oldest one go where it has no room for one more. It takes no
-    /// memory and can't refuse.
+    /// It is told of a status: it keeps the notice, and lets the oldest one go where it has no room for one more. It
+    /// takes no memory and can't refuse.
     ///
-    /// DDS 1.4, 2.2.4.2 (listeners: on_data_available and kin).
+    /// DDS 1.4, 2.2.4.3 (listeners: on_data_available and kin).
     fn on_notice(&mut self, notice: &Notice)
         // It keeps the last ones of what it kept, and of this.
         ensures notices { notices self.new

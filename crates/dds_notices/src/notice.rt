@@ -22,7 +22,7 @@ pub enum Status {
 /// That a status of an entity was raised. The values are those of that moment, and their changes count from the last
 /// look at that status, or the last notice of it.
 ///
-/// DDS 1.4, 2.2.4.2 (listeners).
+/// DDS 1.4, 2.2.4.3 (access through listeners).
 #[derive(Clone, Copy, Debug, PartialEq, Eq)]
 pub struct Notice {
     /// Whose status it is: a writer or a reader, also where the participant's listener is told.

@@ -1,6 +1,6 @@
 //! A listener that only keeps what it is told.
 //!
-//! DDS 1.4, 2.2.4.2 (Listener).
+//! DDS 1.4, 2.2.4.3 (access through listeners).
 
 ghost use Rattle.std.specs.Prelude.{◌≡◌, IfOk, IfErr, OnOk, None};
 ghost use Rattle.dds_base.specs.Refusal.{Refuses};
@@ -18,7 +18,7 @@ pub const MAX_ROOM: usize = 65_536;
 
 /// A listener that only keeps what it is told: the last notices, at most as many as it has room for.
 ///
-/// DDS 1.4, 2.2.4.2 (Listener).
+/// DDS 1.4, 2.2.4.3 (access through listeners).
 #[derive(Drop)]
 pub struct Recorder {
     held: HeapCircularBuffer<Notice>,

@@ -1,6 +1,6 @@
 //! One listener, with the statuses that it is told of.
 //!
-//! DDS 1.4, 2.2.2.1 (Entity: set_listener), 2.2.4.2 (Listener).
+//! DDS 1.4, 2.2.2.1 (Entity: set_listener), 2.2.4.3 (access through listeners).
 
 ghost use Rattle.std.specs.Prelude.{◌≡◌, true, Option, is_some};
 ghost use Rattle.std.specs.Option.{option_copied};

@@ -1,6 +1,6 @@
 //! The listeners of a peer's entities.
 //!
-//! DDS 1.4, 2.2.2.1 (Entity: set_listener), 2.2.4.2 (listeners: the one of the entity, or else of what contains
+//! DDS 1.4, 2.2.2.1 (Entity: set_listener), 2.2.4.3 (listeners: the one of the entity, or else of what contains
 //! it).
 
 ghost use Rattle.std.specs.Prelude.{◌≡◌, ◌-◌, true, Option, set, replicate, length, is_some, None, Some, IfOk, IfErr, OnErr};
@@ -21,7 +21,7 @@ use std::mem::replace;
 
 /// The listeners of a peer's entities: at most one at the participant, at each writer and at each reader.
 ///
-/// DDS 1.4, 2.2.2.1 (Entity: set_listener), 2.2.4.2 (listeners).
+/// DDS 1.4, 2.2.2.1 (Entity: set_listener), 2.2.4.3 (access through listeners).
 #[derive(Drop)]
 pub struct Slots<L> {
     participant: Option<Slot<L>>,
@@ -146,7 +146,7 @@ impl<L: Listener> Slots<L> {
 
     /// Whether a listener is told of this status of the entity: its own, or else the participant's.
     ///
-    /// DDS 1.4, 2.2.4.2 (listeners: the one of the entity, or else of what contains it).
+    /// DDS 1.4, 2.2.4.3 (listeners: the one of the entity, or else of what contains it).
     pub fn takes(&self, entity: Entity, status: &Status) -> bool
         // Some listener takes the status.
         ensures taker { (places : Places) → StandsFor L.notices L.capacity self.now places
@@ -169,9 +169,10 @@ impl<L: Listener> Slots<L> {
         }
     }
 
-    /// Tells the listener that takes the status of the notice, if one does: the entity's own, or else the participant's.
+    /// Tells the listener that takes the status of the notice, if one does: the entity's own, or else the
+    /// participant's.
     ///
-    /// DDS 1.4, 2.2.4.2 (listeners: the one of the entity, or else of what contains it).
+    /// DDS 1.4, 2.2.4.3 (listeners: the one of the entity, or else of what contains it).
     pub fn tell(&mut self, notice: &Notice)
         // The one that takes it is told, once.
         ensures told { (places : Places) → StandsFor L.notices L.capacity self.old places
@@ -197,15 +198,15 @@ impl<L: Listener> Slots<L> {
         }
     }
 
-    /// Sets the listener of an entity, with the statuses that it is told of, and hands back the one that was set before;
-    /// `None` takes the listener away. It takes no memory.
+    /// Sets the listener of an entity, with the statuses that it is told of, and hands back the one that was set
+    /// before; `None` takes the listener away. It takes no memory.
     ///
     /// DDS 1.4, 2.2.2.1 (Entity: set_listener).
     ///
     /// # Errors
     ///
-    /// `BadParameter` for an entity that there isn't, else `PreconditionNotMet` for a listener that keeps notices already.
-    /// The listener is handed back with the code.
+    /// `BadParameter` for an entity that there isn't, else `PreconditionNotMet` for a listener that keeps notices
+    /// already. The listener is handed back with the code.
     pub fn set(
         &mut self,
         entity: Entity,

@@ -1,7 +1,7 @@
 //! The program: a network of peers in memory, run from a script.
 //!
-//! Nothing is claimed by contracts here: what is printed is tested. What the network answers is proved in `dds_world`, and
-//! the words of a script and the form of replies stand in `dds_script`.
+//! Nothing is claimed by contracts here: what is printed is tested. What the network answers is proved in `dds_world`,
+//! and the words of a script and the form of replies stand in `dds_script`.
 //! Not here: one peer on its own (`dds_pipe`).
 #![tactic(auto)]
 

@@ -33,7 +33,8 @@ impl NumberedSetup {
         }
     }
 
-    /// The line with the name that it gives: for a peer eleven zeros and its number, for a writer or a reader its number.
+    /// The line with the name that it gives: for a peer eleven zeros and its number, for a writer or a reader its
+    /// number.
     fn named(&mut self, part: SetupPart) -> SetupLine {
         match part {
             SetupPart::Peer => {

@@ -4,7 +4,8 @@ use crate::fault::Fault;
 use std::alloc::Global;
 use std::io::{self, BufRead, BufReader, Read};
 
-/// The lines of an input, read one by one and counted from 1. An input of too many octets is a fault, and is not read on.
+/// The lines of an input, read one by one and counted from 1. An input of too many octets is a fault, and is not read
+/// on.
 #[derive(Drop)]
 pub struct Lines<R: Read + Drop> {
     /// What is looked at, and one octet more, to see that there is one.

@@ -1,6 +1,6 @@
 //! The listeners that lines ask for.
 //!
-//! DDS 1.4, 2.2.4.2 (Listener).
+//! DDS 1.4, 2.2.4.3 (access through listeners).
 
 use crate::number::decimal;
 use crate::operand::{entity, status_mask};

@@ -1,7 +1,7 @@
 -- What an event of one peer does to the network, and how the peers are opened. Inner functions alone cite this: nothing
 -- here has to be believed.
 --
--- The network is this project's own; its peers behave by RTPS 2.5, 8.4, and their listeners by DDS 1.4, 2.2.4.2.
+-- The network is this project's own; its peers behave by RTPS 2.5, 8.4, and their listeners by DDS 1.4, 2.2.4.3.
 use Rattle.std.specs.Prelude.{◌≡◌, ℕ, suc, ◌+◌, ◌-◌, ◌^◌, ◌≤◌, min, List, length, set, get_or, slice_get, Some, None, []}
 use Rattle.dds_base.specs.declared.config.Config.{Config}
 use Rattle.dds_base.specs.Checked.{check_refusal}
@@ -35,9 +35,9 @@ Counts old output new = (lost : ℕ) × (length new.sent + lost ≡ length old.s
 abbrev pub IsQuiet : WorldKept → Output → WorldKept → Type 0
 IsQuiet old output new = SendsNothing output → (new.sent ≡ old.sent) × (new.unsent ≡ old.unsent)
 
--- For each state that a peer's old values stand for, and of which all that is known was claimed, the event is a step which
--- follows the rules of the protocol; the new values stand for the state at its end, once listeners were told, and all that is
--- known of that was claimed.
+-- For each state that a peer's old values stand for, and of which all that is known was claimed, the event is a step
+-- which follows the rules of the protocol; the new values stand for the state at its end, once listeners were told, and
+-- all that is known of that was claimed.
 abbrev pub StepsAt : Tests → PeerKept → ℕ → Slotted Recording → Event → Output → PeerKept → Slotted Recording → Type 0
 StepsAt tests core filters slots event output after left =
     (config : Config) (peer : Peer) → CoreStandsFor core config peer → peer.part.dds.watch.filters ≡ filters

@@ -1,6 +1,6 @@
 -- A network whose peers have filters and listeners of their applications.
 --
--- DDS 1.4, 2.2.2.1 (Entity, set_listener), 2.2.2.5 (QueryCondition), 2.2.4.2 (listeners).
+-- DDS 1.4, 2.2.2.1 (Entity, set_listener), 2.2.2.5 (QueryCondition), 2.2.4.3 (access through listeners).
 use Rattle.std.specs.Prelude.{◌≡◌, ℕ, ◌+◌, ◌⊎◌, Bool, List, [], ◌∷◌, ◌++◌, map, length, Option, None, Some}
 use Rattle.dds_base.specs.declared.code.Code.{Code}
 use Rattle.dds_base.specs.declared.code.Code.TheVariants.{BadParameter}
@@ -78,8 +78,9 @@ tests_by meaning filters peer = tests_of meaning (numbered filters peer [])
 abbrev pub tests_in : {F L : Type 0} → (F → Key → List ℕ → Bool) → Held F L → AllTests
 tests_in meaning held = tests_by meaning (filters_of held)
 
--- The peer of this number has the filter, as the last one. For each state that the old network stands for there is a number for
--- it, and it is this one, and the new network stands for that state with one filter more there, and nothing else.
+-- The peer of this number has the filter, as the last one. For each state that the old network stands for there is a
+-- number for it, and it is this one, and the new network stands for that state with one filter more there, and nothing
+-- else.
 pub record Adds {F L : Type 0} (notices : L → List Notice) (capacity : L → ℕ) (old : Held F L) (peer : ℕ) (filter : F)
     (number : ℕ) (new : Held F L) : Type 0 where
   pub within : HasNumber old.cores peer
@@ -89,8 +90,8 @@ pub record Adds {F L : Type 0} (notices : L → List Notice) (capacity : L → �
       × (number ≡ length (numbered (filters_of old) peer []) + 1)
       × StandsFor (kept_of notices capacity new) config (world_with_filter network peer)
 
--- For each state that the network stands for, a filter is refused so: there is no such peer, or no number is left there, or it
--- is for want of memory.
+-- For each state that the network stands for, a filter is refused so: there is no such peer, or no number is left
+-- there, or it is for want of memory.
 abbrev pub RefusesFilter : {F L : Type 0} → (L → List Notice) → (L → ℕ) → Held F L → ℕ → Code → Type 0
 RefusesFilter notices capacity held peer code =
     ((HasNumber held.cores peer → ⊥) × (code ≡ BadParameter))
@@ -100,9 +101,9 @@ RefusesFilter notices capacity held peer code =
 
 -- ---- listeners
 
--- At a peer that there is a listener was set at an entity, or taken away there. For each state that the old network stands for it
--- is not refused; the listener of before is handed back, with the last ones of all that it was told; and the new network stands
--- for that state with the place of the new one, and nothing else. No filter is added.
+-- At a peer that there is a listener was set at an entity, or taken away there. For each state that the old network
+-- stands for it is not refused; the listener of before is handed back, with the last ones of all that it was told; and
+-- the new network stands for that state with the place of the new one, and nothing else. No filter is added.
 pub record Sets {F L : Type 0} (notices : L → List Notice) (capacity : L → ℕ) (old : Held F L) (peer : ℕ)
     (entity : Entity) (mask : StatusMask)
     (listener handed : Option L) (new : Held F L) : Type 0 where
@@ -114,8 +115,8 @@ pub record Sets {F L : Type 0} (notices : L → List Notice) (capacity : L → �
       × StandsFor (kept_of notices capacity new) config
       (world_with_place network peer entity (listener_place capacity mask listener))
 
--- For each state that the network stands for, a listener is refused so: there is no such peer, or by the first cause that there
--- is at it.
+-- For each state that the network stands for, a listener is refused so: there is no such peer, or by the first cause
+-- that there is at it.
 abbrev pub RefusesListener : {F L : Type 0} → (L → List Notice) → (L → ℕ) → Held F L → ℕ → Entity → Option L → Code
     → Type 0
 RefusesListener notices capacity held peer entity listener code =

@@ -19,8 +19,8 @@ use Rattle.dds_world.specs.Round.{IsStep, AreSteps, IsTo, HasNone, IsFirst, answ
 use Rattle.dds_world.specs.WorldStanding.{WorldKept, StandsFor}
 use Rattle.dds_model.specs.Machine.{AllTests}
 
--- the two are matched, by these entity ids, the reader is behind exactly so, the writer has made so many changes, and the
--- moment is that of its peer
+-- the two are matched, by these entity ids, the reader is behind exactly so, the writer has made so many changes, and
+-- the moment is that of its peer
 pub record Knows (config : Config) (network : WorldState) (m : Matched) : Type 0 where
   pub matched : IsSome (acknowledged_of (writer_at (machine_of network) m.writer).readers m.reader)
   pub writer : m.pair.writer ≡ writer_entity config m.writer.peer m.writer.number

@@ -139,9 +139,9 @@ are_whole replies = list_all (λ (r : RoundReply). is_whole r.reply) replies
 abbrev pub has_unsent : ℕ → List RoundReply → Bool
 has_unsent before replies = list_any (λ (r : RoundReply). nat_lt before r.unsent) replies
 
--- What may keep a round from its end, each shown by its answer: a reply that lacked memory; packets that were not sent, or a
--- count of those that stood at its greatest value; one reply though the reader was behind, which hears nothing, as its writer
--- has no count left for a HEARTBEAT; or two, as the reader has none for an ACKNACK.
+-- What may keep a round from its end, each shown by its answer: a reply that lacked memory; packets that were not sent,
+-- or a count of those that stood at its greatest value; one reply though the reader was behind, which hears nothing, as
+-- its writer has no count left for a HEARTBEAT; or two, as the reader has none for an ACKNACK.
 abbrev pub IsHindered : WorldState → Endpoint → Endpoint → Round → Type 0
 IsHindered network writer reader answer =
     (are_whole answer.replies ≡ false)
@@ -153,11 +153,11 @@ IsHindered network writer reader answer =
 abbrev pub replies_of : List RoundReply → List Reply
 replies_of replies = map (λ (r : RoundReply). r.reply) replies
 
--- A round, from one state that the old network stands for: the events are those of a round, and the replies a run over them
--- by the rules of the protocol, and of the machine, to a state that the new network stands for. The answer says how the pair
--- stood before it, and the reader's place after it. There the reader has gone on by 256 numbers, or to the end of the writer's
--- list, or to a change that has no room, and the writer knows of all that the reader had before, unless something hindered
--- the round.
+-- A round, from one state that the old network stands for: the events are those of a round, and the replies a run over
+-- them by the rules of the protocol, and of the machine, to a state that the new network stands for. The answer says
+-- how the pair stood before it, and the reader's place after it. There the reader has gone on by 256 numbers, or to the
+-- end of the writer's list, or to a change that has no room, and the writer knows of all that the reader had before,
+-- unless something hindered the round.
 pub record RoundFrom (tests : AllTests) (config : Config) (network : WorldState) (old : WorldKept)
     (writer reader : Endpoint)
     (events : List WorldEvent) (answer : Round) (new : WorldKept) : Type 0 where
@@ -174,8 +174,8 @@ pub record RoundFrom (tests : AllTests) (config : Config) (network : WorldState)
   pub to : place_at (machine_of after) reader writer ≡ Some answer.to
   pub caught_up : IsHindered network writer reader answer ⊎ HasCaughtUp after writer reader answer.from answer.last
 
--- One round: each reply is that of a step of the network, with the counts as they stood after it; and from each state that the
--- old network stands for it is a round.
+-- One round: each reply is that of a step of the network, with the counts as they stood after it; and from each state
+-- that the old network stands for it is a round.
 pub record Rounds (tests : AllTests) (old : WorldKept) (writer reader : Endpoint) (answer : Round)
     (new : WorldKept) : Type 0 where
   pub events : List WorldEvent

@@ -1,6 +1,6 @@
 -- What a network stands for, and what its steps and runs promise.
 --
--- The network is this project's own; its peers behave by RTPS 2.5, 8.4, and their listeners by DDS 1.4, 2.2.4.2.
+-- The network is this project's own; its peers behave by RTPS 2.5, 8.4, and their listeners by DDS 1.4, 2.2.4.3.
 use Rattle.std.specs.Prelude.{◌≡◌, ◌≢◌, ◌⊎◌, ℕ, suc, ◌+◌, ◌-◌, ◌^◌, ◌≤◌, min, List, [], ◌∷◌, ◌++◌, length, get_or, slice_get, Some, Contains, AllPairs}
 use Rattle.dds_base.specs.declared.config.Config.{Config}
 use Rattle.dds_notices.specs.Listeners.{Places, Slotted, StandsFor as SlotsStandFor}
@@ -20,8 +20,8 @@ use Rattle.dds_core.specs.Kept.{PeerKept}
 use Rattle.dds_core.specs.Sending.{AreMessages}
 use Rattle.dds_core.specs.Standing.{StandsFor as CoreStandsFor, IsSound}
 
--- the peers, how many filters were added to each, what its listeners keep, every packet that was sent, and how many found no
--- memory
+-- the peers, how many filters were added to each, what its listeners keep, every packet that was sent, and how many
+-- found no memory
 pub record WorldKept : Type 0 where
   pub peers : List PeerKept
   pub filters : List ℕ
@@ -33,10 +33,10 @@ pub record WorldKept : Type 0 where
 abbrev pub AreTold : Slotted Recording → Places → Type 0
 AreTold kept places = SlotsStandFor (λ (r : Recording). r.notices) (λ (r : Recording). r.room) kept places
 
--- A state of the network for which what it keeps stands: so its peers stand, have as many filters, have listeners that keep the
--- last ones of all that they were told, and know what was claimed to them alone; all that packets claim is true, and each packet
--- is a message; what is counted as unsent keeps to its bound; the counts that were sent or taken were used by their senders; and
--- no reader's place is past the end of a list.
+-- A state of the network for which what it keeps stands: so its peers stand, have as many filters, have listeners that
+-- keep the last ones of all that they were told, and know what was claimed to them alone; all that packets claim is
+-- true, and each packet is a message; what is counted as unsent keeps to its bound; the counts that were sent or taken
+-- were used by their senders; and no reader's place is past the end of a list.
 pub record StandsFor (kept : WorldKept) (config : Config) (network : WorldState) : Type 0 where
   pub count : length network.peers ≡ length kept.peers
   pub each : (i : ℕ) (k : PeerKept) → slice_get kept.peers i ≡ Some k
@@ -71,8 +71,8 @@ pub record Posts (old : List Packet) (packets : List Packet) (new : List Packet)
   pub different : AllPairs (λ (a b : Packet). a.to ≢ b.to) packets → AllPairs (λ (a b : Packet). a.to ≢ b.to) posted
 
 -- For each state that the old network stands for, the event is a step of its peers, each of which rests on what was
--- delivered to it; it is a step of the machine that they are the parts of; and the new network stands for the state at its end,
--- once listeners were told.
+-- delivered to it; it is a step of the machine that they are the parts of; and the new network stands for the state at
+-- its end, once listeners were told.
 abbrev pub Steps : AllTests → WorldKept → WorldEvent → Reply → WorldKept → Type 0
 Steps tests old event reply new = (config : Config) (network : WorldState) → StandsFor old config network
     → (after : WorldState) × WorldStep config tests network event reply after
@@ -89,8 +89,9 @@ Announces old event reply new =
     (config : Config) (network : WorldState) → StandsFor old config network
     → Sends config (traffic old) (machine_of network) event reply (traffic new)
 
--- For each state that the old network stands for, the event is a step of its peers by the rules of the protocol, to one at whose
--- end the new network stands for it: they say which messages are due, and of these each is sent, in their order, or counted.
+-- For each state that the old network stands for, the event is a step of its peers by the rules of the protocol, to one
+-- at whose end the new network stands for it: they say which messages are due, and of these each is sent, in their
+-- order, or counted.
 abbrev pub KeepsRules : AllTests → WorldKept → WorldEvent → Reply → WorldKept → Type 0
 KeepsRules tests old event reply new = (config : Config) (network : WorldState) → StandsFor old config network
     → (after : WorldState) × (lost : ℕ) × RuledStep config tests network event reply lost after
@@ -102,8 +103,9 @@ MovesOn old event reply =
     (config : Config) (network : WorldState) → StandsFor old config network
     → Progresses config old.sent (machine_of network) event reply
 
--- For each state that the old network stands for, these replies are a run of its peers by the rules of the protocol, and of
--- its machine, over the events, with what is sent meanwhile, and the new network stands for the state afterwards.
+-- For each state that the old network stands for, these replies are a run of its peers by the rules of the protocol,
+-- and of its machine, over the events, with what is sent meanwhile, and the new network stands for the state
+-- afterwards.
 pub record Runs (tests : AllTests) (old : WorldKept) (events : List WorldEvent) (replies : List Reply)
     (new : WorldKept) : Type 0 where
   pub run : (config : Config) (network : WorldState) → StandsFor old config network

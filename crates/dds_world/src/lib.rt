@@ -1,4 +1,5 @@
-//! Peers in a simulated network, which delivers any packet that was ever sent, at any peer, any number of times or never.
+//! Peers in a simulated network, which delivers any packet that was ever sent, at any peer, any number of times or
+//! never.
 //!
 //! The network is this project's own; its peers behave by RTPS 2.5, 8.4, and answer by DDS 1.4, 2.2.2.4 and
 //! 2.2.2.5.

@@ -29,11 +29,12 @@ pub struct RoundReply {
 
 /// What a round of repair answers, and how the reader and the writer stood when it began, and the reader after it.
 ///
-/// The reader has caught up where `to` is at least the smaller one of `from` + 256 and `last` + 1, as `has_caught_up` says.
-/// Where it has not, one of these is so, and the answer shows which:
+/// The reader has caught up where `to` is at least the smaller one of `from` + 256 and `last` + 1, as `has_caught_up`
+/// says. Where it has not, one of these is so, and the answer shows which:
 ///
 /// - memory lacked: a reply is a refusal, or a report whose `refused` names a submessage;
-/// - a packet was not sent: the `unsent` of a reply is greater than `unsent_before`; or that was 2^64 - 1, where the count
+/// - a packet was not sent: the `unsent` of a reply is greater than `unsent_before`; or that was 2^64 - 1, where the
+/// count
 ///   stays;
 /// - the writer has used up its HEARTBEAT counts, 2^31 - 1: there is one reply, though the reader was behind;
 /// - the reader has used up its ACKNACK counts to the writer, as many: there are two replies;
@@ -57,10 +58,11 @@ pub struct Round {
 }
 
 impl Round {
-    /// Whether the reader's place has gone on by 256 numbers, or past the writer's last change. Where it stands at a change for
-    /// which the reader has no room it has gone as far as it can, and this may be `false`.
+    /// Whether the reader's place has gone on by 256 numbers, or past the writer's last change. Where it stands at a
+    /// change for which the reader has no room it has gone as far as it can, and this may be `false`.
     pub fn has_caught_up(&self) -> bool
-        // It is so where the place is at least the smaller one of 256 more than before and one more than the last number.
+        // It is so where the place is at least the smaller one of 256 more than before and one more than the last
+        // number.
         ensures caught_up { IsTrue result
             ↔ (min (self.now.from + 256) (self.now.last + 1) ≤ self.now.to) }
     {
@@ -90,24 +92,25 @@ fn is_to(packet: &Packet, peer: u8, wanted: &Sought) -> bool
 }
 
 impl<F: Filter, L: Listener> World<F, L> {
-    /// One round of repair: the writer's peer ticks, at its own moment; then the writer's HEARTBEAT that this sent to the
-    /// reader's peer is delivered there, the reader's ACKNACK to the writer that this sent is delivered at the writer's
-    /// peer, and each packet that this sent, up to 32, at the reader's. Where one of them was not sent, the round ends.
+    /// One round of repair: the writer's peer ticks, at its own moment; then the writer's HEARTBEAT that this sent to
+    /// the reader's peer is delivered there, the reader's ACKNACK to the writer that this sent is delivered at the
+    /// writer's peer, and each packet that this sent, up to 32, at the reader's. Where one of them was not sent, the
+    /// round ends.
     ///
-    /// Each packet is delivered once, and no other one is. There are 1 to 35 replies; each of them may lack memory, as one of
-    /// `World::step`. Afterwards the reader has come to the next 256 changes, or to all, or to one for which it has no room,
-    /// unless the answer shows why not (see `Round`).
+    /// Each packet is delivered once, and no other one is. There are 1 to 35 replies; each of them may lack memory, as
+    /// one of `World::step`. Afterwards the reader has come to the next 256 changes, or to all, or to one for which it
+    /// has no room, unless the answer shows why not (see `Round`).
     ///
     /// # Errors
     ///
-    /// `BadParameter` where the writer is not matched with the reader, or there are no such ends; `Memory` where no memory
-    /// was found for the replies. Nothing was done then.
+    /// `BadParameter` where the writer is not matched with the reader, or there are no such ends; `Memory` where no
+    /// memory was found for the replies. Nothing was done then.
     ///
     /// RTPS 2.5, 8.4.9 and 8.4.12.
     pub fn round(&mut self, writer: Endpoint, reader: Endpoint) -> Result<Round, Code>
-        // The replies are a run over the events of a round, with the counts as they stood after each, and the answer says how
-        // the two stood before it, and the reader's place after it. The reader has then caught up, unless the answer shows
-        // what hindered it.
+        // The replies are a run over the events of a round, with the counts as they stood after each, and the answer
+        // says how the two stood before it, and the reader's place after it. The reader has then caught up, unless the
+        // answer shows what hindered it.
         ensures round { IfOk result
             (λ answer. Rounds (tests_in F.meaning self.old)
             (kept_of L.notices L.capacity self.old) writer reader answer

@@ -28,11 +28,11 @@ use dds_notices::{Listener, StatusMask};
 use std::alloc::{AllocError, Global};
 use std::marker::Model;
 
-/// Peers, which are numbered from 1, and all packets that they ever sent. Their filters and their listeners are boxes, unless
-/// `F` and `L` name types of the application's own.
+/// Peers, which are numbered from 1, and all packets that they ever sent. Their filters and their listeners are boxes,
+/// unless `F` and `L` name types of the application's own.
 ///
-/// It keeps each packet, so that it can be delivered at any time and again: its memory grows with what is sent, without a
-/// bound, and is given back when the network is dropped.
+/// It keeps each packet, so that it can be delivered at any time and again: its memory grows with what is sent, without
+/// a bound, and is given back when the network is dropped.
 #[derive(Drop)]
 pub struct World<F = Box<dyn Filter + Send>, L = Box<dyn Listener + Send>> {
     pub(crate) alloc: Global,
@@ -117,7 +117,8 @@ fn open_peers<F: Filter, L: Listener>(
 }
 
 impl<F: Filter, L: Listener> World<F, L> {
-    /// The network of a configuration, at its opening: its peers, 1 to 16, in their order, without filters and listeners.
+    /// The network of a configuration, at its opening: its peers, 1 to 16, in their order, without filters and
+    /// listeners.
     ///
     /// # Errors
     ///
@@ -152,11 +153,13 @@ impl<F: Filter, L: Listener> World<F, L> {
     ///
     /// An event at a peer that does not exist, and the delivery of a packet that was never sent, are refused with
     /// `BadParameter`. A call is answered as `Call` says, and a tick as `Event::Tick`: at it writers die whose lease is
-    /// over. What is refused changes nothing, but for `NoData`: an access that found nothing is entered. At the end of an event
-    /// the listeners of its peer are told what it raised, as `Core::step` says.
+    /// over. What is refused changes nothing, but for `NoData`, which is entered as the access that it is, and `Timeout`
+    /// of a look at a WaitSet, which ends the wait. At the end of an event the listeners of its peer are told what it
+    /// raised, as `Core::step` says.
     pub fn step(&mut self, event: WorldEvent) -> Reply
-        // For each state that the network stands for, the reply is one that the machine without packets gives, by what the
-        // filters mean, and the network stands for the state at the event's end, once listeners were told: this is the theorem.
+        // For each state that the network stands for, the reply is one that the machine without packets gives, by what
+        // the filters mean, and the network stands for the state at the event's end, once listeners were told: this is
+        // the theorem.
         ensures step { Steps (tests_in F.meaning self.old)
             (kept_of L.notices L.capacity self.old) event result
             (kept_of L.notices L.capacity self.new) }
@@ -204,13 +207,13 @@ impl<F: Filter, L: Listener> World<F, L> {
         Ok(Sequence::from_vec(replies))
     }
 
-    /// Adds a filter at a peer, by the next number there, from 1: query conditions of the peer can name it from then on. What
-    /// it answers is what it means, for every key and value.
+    /// Adds a filter at a peer, by the next number there, from 1: query conditions of the peer can name it from then
+    /// on. What it answers is what it means, for every key and value.
     ///
     /// # Errors
     ///
-    /// `BadParameter` where there is no such peer, `OutOfResources` where 2^32 - 1 filters were added there, else `Memory`
-    /// where a growth was refused. The filter comes back, and nothing changes.
+    /// `BadParameter` where there is no such peer, `OutOfResources` where 2^32 - 1 filters were added there, else
+    /// `Memory` where a growth was refused. The filter comes back, and nothing changes.
     ///
     /// DDS 1.4, 2.2.2.5 (QueryCondition).
     pub fn add_filter(&mut self, peer: u8, filter: F) -> Result<u32, (Code, F)>
@@ -230,15 +233,15 @@ impl<F: Filter, L: Listener> World<F, L> {
         }
     }
 
-    /// Sets the listener of an entity of a peer, with the statuses that it is told of, and hands back the one that was set
-    /// before, with the last notices that it was told; `None` takes the listener away. It takes no memory.
+    /// Sets the listener of an entity of a peer, with the statuses that it is told of, and hands back the one that was
+    /// set before, with the last notices that it was told; `None` takes the listener away. It takes no memory.
     ///
     /// # Errors
     ///
-    /// `BadParameter` where there is no such peer, or no such entity at it, else `PreconditionNotMet` where the listener keeps
-    /// notices already. It comes back, and nothing changes.
+    /// `BadParameter` where there is no such peer, or no such entity at it, else `PreconditionNotMet` where the
+    /// listener keeps notices already. It comes back, and nothing changes.
     ///
-    /// DDS 1.4, 2.2.2.1 (Entity, set_listener), 2.2.4.2 (listeners).
+    /// DDS 1.4, 2.2.2.1 (Entity, set_listener), 2.2.4.3 (access through listeners).
     pub fn set_listener(
         &mut self,
         peer: u8,

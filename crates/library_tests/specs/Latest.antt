@@ -1,6 +1,6 @@
 -- What a listener keeps that keeps the latest notice alone.
 --
--- DDS 1.4, 2.2.4.2 (Listener).
+-- DDS 1.4, 2.2.4.3 (access through listeners).
 use Rattle.std.specs.Prelude.{List, [], ◌∷◌, Option, None, Some}
 
 -- the notice, if there is one

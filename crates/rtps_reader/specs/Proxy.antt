@@ -77,7 +77,8 @@ abbrev pub mark_named : ℕ → NumberSet → ℕ → Marks → ℕ → Option M
 mark_named start list to w n = if is_named start list n &&
     ((nat_le (window_place w) n && nat_lt n to) && is_none (mark_of w n)) then Some mark.Irrelevant else mark_of w n
 
--- what any submessage leaves alone, and how it may be refused: at the proxy, and at the sink, as KeepsRest has it of a reader
+-- what any submessage leaves alone, and how it may be refused: at the proxy, and at the sink, as KeepsRest has it of a
+-- reader
 pub record ProxyKeepsRest {S : Type 0} (Stands : S → List Happening → Type 0) (policies : S → ReaderQos) (spare : S → ℕ)
     (old new : WriterProxy) (before after : S) (answer : Result Step Code) : Type 0 where
   pub sound : IsSound new

@@ -68,8 +68,8 @@ pub record TakesHeartbeat (match : Match) (t : Tracked) (h : List Happening) (he
   pub known : Knows new
   pub stands : Stands after
 
--- what any submessage of a writer leaves alone, and how it may be refused: of the reader, and of its sink, which is seen
--- by what it stands for, its policies, and how many more entries can't fail
+-- what any submessage of a writer leaves alone, and how it may be refused: of the reader, and of its sink, which is
+-- seen by what it stands for, its policies, and how many more entries can't fail
 pub record KeepsRest {S : Type 0} (Stands : S → List Happening → Type 0) (policies : S → ReaderQos) (spare : S → ℕ)
     (writer : ℕ) (old new : Proxies) (before after : S) (answer : Result Step Code) : Type 0 where
   -- an ACKNACK that is due can be written

@@ -38,7 +38,8 @@ pub struct AckNackDue {
     pub is_final: bool,
 }
 
-/// What a submessage of a writer did at a reader: how far the reader's place went, over what, and what it then sends back.
+/// What a submessage of a writer did at a reader: how far the reader's place went, over what, and what it then sends
+/// back.
 ///
 /// RTPS 2.5, 8.4.10 (WriterProxy), 8.4.12 (behaviour of a reliable StatefulReader).
 #[derive(Drop)]

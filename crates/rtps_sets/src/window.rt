@@ -166,8 +166,8 @@ impl Window {
         set
     }
 
-    /// Moves the place over marked numbers, as far as they go, but not past `to`, which may be any number: where it is at or
-    /// below the place nothing moves. It takes no memory.
+    /// Moves the place over marked numbers, as far as they go, but not past `to`, which may be any number: where it is
+    /// at or below the place nothing moves. It takes no memory.
     pub fn slide(&mut self, to: Sn)
         // The place does not go back.
         ensures forward { window_place self.old ≤ window_place self.new }
@@ -190,8 +190,8 @@ impl Window {
         self.place = place;
     }
 
-    /// Moves the place to `to` in one step, over numbers whatever is known of them. It takes no memory, and its cost goes
-    /// by the marks, not by the numbers.
+    /// Moves the place to `to` in one step, over numbers whatever is known of them. It takes no memory, and its cost
+    /// goes by the marks, not by the numbers.
     ///
     /// RTPS 2.5, 8.4.10 (WriterProxy: lost_changes_update).
     pub fn pass(&mut self, to: Sn)

@@ -1,5 +1,5 @@
--- The numbers of the protocol, by name: versions, ids, flags and lengths in octets (RTPS 2.5, 9.3, 9.4.4, 9.4.5, 9.6 and
--- 10). `src/names.rt` has the same names for the code.
+-- The numbers of the protocol, by name: versions, ids, flags and lengths in octets (RTPS 2.5, 9.3, 9.4.4, 9.4.5, 9.6
+-- and 10). `src/names.rt` has the same names for the code.
 use Rattle.std.specs.Prelude.{ℕ, List, [], ◌∷◌}
 
 -- ---- the header of a message

@@ -45,7 +45,8 @@ pub record IsSetField (f : SetField) : Type 0 where
   pub enough : length f.words ≡ words_for f.num_bits
   pub each : AllByRecursion (λ w. w < 2 ^ 32) f.words
 
--- The set that it stands for: base + i is a member where bit i is set. Bits from the number of bits on are not looked at.
+-- The set that it stands for: base + i is a member where bit i is set. Bits from the number of bits on are not looked
+-- at.
 unfoldable pub set_of : SetField → NumberSet
 set_of f = record {
   base = f.base;

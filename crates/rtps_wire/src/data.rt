@@ -23,8 +23,8 @@ use dds_base::{
     decode_key, take_octets, take_u16,
 };
 
-/// What is said of an instance: the kind of a change, with a datum or the key alone. The value is lent: by the bytes of a
-/// packet that was read, or by the change that is written. `docs/WIRE.md`, "What a DATA means", has the table.
+/// What is said of an instance: the kind of a change, with a datum or the key alone. The value is lent: by the bytes of
+/// a packet that was read, or by the change that is written. `docs/WIRE.md`, "What a DATA means", has the table.
 ///
 /// RTPS 2.5, 8.2 (ChangeKind_t): a change that is no write carries the key alone.
 #[derive(Debug, Drop)]

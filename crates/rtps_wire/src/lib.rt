@@ -1,8 +1,8 @@
 //! Messages between peers, and their bytes.
 //!
 //! `read_message` gives the one message that bytes are, `write_message` the one written form of a message, and what
-//! is written is read as itself. `DataContent` is what a DATA says of a change. The grammar stands in `specs/`, one file
-//! for each submessage, and in words in `docs/WIRE.md`. Not here: what a peer does at a submessage.
+//! is written is read as itself. `DataContent` is what a DATA says of a change. The grammar stands in `specs/`, one
+//! file for each submessage, and in words in `docs/WIRE.md`. Not here: what a peer does at a submessage.
 //!
 //! RTPS 2.5, 8.3 (messages) and 9.4 (their bytes).
 //!

@@ -1,5 +1,5 @@
--- What is so of each answer to an ACKNACK: a DATA names a kept number, a GAP names numbers that are not kept, and all lie
--- from what the reader has acknowledged to the last number. Each member of the set there is answered.
+-- What is so of each answer to an ACKNACK: a DATA names a kept number, a GAP names numbers that are not kept, and all
+-- lie from what the reader has acknowledged to the last number. Each member of the set there is answered.
 use Rattle.std.proofs.Common.{◌≡◌, ℕ, zero, suc, ◌+◌, ◌-◌, ◌≤◌, ◌<◌, Bool, true, false, not, cond, ◌&&◌, ◌||◌, List, [], ◌∷◌, length, get_or, set, max, ℤ, Option, slice_get, None, refl, ap, sym, subst, ◌∙◌, arith}
 use Rattle.std.specs.Prelude.{nat_le, nat_lt, ◌==◌, is_some, if◌then◌else◌}
 use Rattle.std.specs.List.{All, filter, list_any}
@@ -97,8 +97,8 @@ requested-between set from to =
     ))
     (requested set from to) (filter_passes (is_requested set from to) (numbers_from set.base 256))
 
--- Each answer is right: what a DATA names is kept, what a GAP names is not, and each is a member that lies from what the
--- reader has acknowledged to the last number.
+-- Each answer is right: what a DATA names is kept, what a GAP names is not, and each is a member that lies from what
+-- the reader has acknowledged to the last number.
 pub answers_after-right : (s : WriterState) (reader : ℕ) (set : NumberSet)
     → All (IsRight (λ n. is_kept (history_of s) n) (IsBetween set (acknowledged_by s reader) (last_of s)))
     (answers_after s reader set)
@@ -270,7 +270,8 @@ in_places set from to n true is few =
     (lt-ltb n (set.base + 256) (omega (arith, base, lt, few)))
 in_places set from to n false is few = refl
 
--- a number is answered exactly if it is a member of the set that lies from what the reader has acknowledged to the last number
+-- a number is answered exactly if it is a member of the set that lies from what the reader has acknowledged to the last
+-- number
 pub answers_after-complete : (s : WriterState) (reader : ℕ) (set : NumberSet) (n : ℕ) → length set.members ≤ 256
     → list_any (is_answer_to n) (answers_after s reader set) ≡ is_requested set (acknowledged_by s reader) (last_of s) n
 answers_after-complete s reader set n few =

@@ -1,4 +1,4 @@
--- What an ACKNACK does to a writer, and what it is answered (RTPS 2.5, 8.3.8: AckNack; 8.4.9: ReaderProxy).
+-- What an ACKNACK does to a writer, and what it is answered (RTPS 2.5, 8.3.8: AckNack; 8.4.7: ReaderProxy).
 use Rattle.std.specs.Prelude.{ℕ, ◌+◌, ◌&&◌, Bool, List, [], get_or, slice_set, nat_le, nat_lt, Option, None, Some, ℤ, if◌then◌else◌}
 use Rattle.dds_base.specs.Kept.{acknowledge, is_kept}
 use Rattle.dds_base.specs.Counts.{is_later}
@@ -31,8 +31,8 @@ if_later before after = if nat_lt before after then Some after else None
 abbrev pub newly_acknowledged : WriterState → WriterState → ℕ → Option ℕ
 newly_acknowledged old new reader = if_later (acknowledged_by old reader) (acknowledged_by new reader)
 
--- the answers to an ACKNACK that was applied, after which the writer is this one: to each member of its set from what the
--- reader has acknowledged to the last number
+-- the answers to an ACKNACK that was applied, after which the writer is this one: to each member of its set from what
+-- the reader has acknowledged to the last number
 abbrev pub answers_after : WriterState → ℕ → NumberSet → List Answer
 answers_after s reader set =
     answers_to (λ n. is_kept (history_of s) n) (requested set (acknowledged_by s reader) (last_of s))

@@ -1,4 +1,4 @@
--- What a reader that asks for changes is answered (RTPS 2.5, 8.4.9: ReaderProxy, requested_changes; 8.3.8: Data, Gap).
+-- What a reader that asks for changes is answered (RTPS 2.5, 8.4.7: ReaderProxy, requested_changes; 8.3.8: Data, Gap).
 use Rattle.std.specs.Prelude.{◌≡◌, ◌≤◌, ℕ, ◌+◌, ◌==◌, ◌&&◌, Bool, true, false, List, [], ◌∷◌, filter, nat_le, Option, None, Some, if◌then◌else◌}
 use Rattle.dds_base.specs.Kept.{numbers_from}
 use Rattle.rtps_sets.specs.NumberSet.{NumberSet, has_number}
@@ -32,8 +32,8 @@ abbrev pub answers_to : (ℕ → Bool) → List ℕ → List Answer
 answers_to kept [] = []
 answers_to kept (n ∷ ns) = answer_before (kept n) n (answers_to kept ns)
 
--- the answer is right: the number of a DATA is kept, a GAP has a number at least and none of its numbers is kept, and each of
--- them was asked for
+-- the answer is right: the number of a DATA is kept, a GAP has a number at least and none of its numbers is kept, and
+-- each of them was asked for
 abbrev pub IsRight : (ℕ → Bool) → (ℕ → Type 0) → Answer → Type 0
 IsRight kept IsAsked (Data n) = (kept n ≡ true) × IsAsked n
 IsRight kept IsAsked (Gap first last) = (first ≤ last) × ((n : ℕ) → first ≤ n → n ≤ last → (kept n ≡ false) × IsAsked n)

@@ -1,6 +1,6 @@
 -- What a writer keeps, and the state that it stands for.
 --
--- RTPS 2.5, 8.4.7 (StatefulWriter), 8.4.9 (ReaderProxy); DDS 1.4, 2.2.3 (HISTORY, LIVELINESS).
+-- RTPS 2.5, 8.4.7 (StatefulWriter, ReaderProxy); DDS 1.4, 2.2.3 (HISTORY, LIVELINESS).
 use Rattle.std.specs.Prelude.{◌≡◌, ℕ, ◌-◌, ◌^◌, List, length, min, Option, ℤ}
 use Rattle.dds_base.specs.declared.key.Key.{Key}
 use Rattle.dds_base.specs.Written.{is_key_registered}

@@ -1,5 +1,5 @@
 -- The state of a writer with its matched reliable readers, which are named by an index from 0
--- (RTPS 2.5, 8.4.7: StatefulWriter; 8.4.9: ReaderProxy).
+-- (RTPS 2.5, 8.4.7: StatefulWriter, ReaderProxy).
 use Rattle.std.specs.Prelude.{ℕ, ◌^◌, ◌&&◌, Bool, List, [], ◌∷◌, length, replicate, slice_index, nat_le, nat_lt, Option, None, Some, ℤ, pos, if◌then◌else◌}
 use Rattle.dds_base.specs.declared.qos.HistoryQos.{HistoryQos}
 use Rattle.dds_base.specs.Kept.{WriterHistory, first_kept, is_awaited}

@@ -1,6 +1,6 @@
 //! The answers to a reader that asks for changes.
 //!
-//! RTPS 2.5, 8.4.9 (ReaderProxy, requested_changes), 8.3.8 (AckNack, Data, Gap).
+//! RTPS 2.5, 8.4.7 (ReaderProxy, requested_changes), 8.3.8 (AckNack, Data, Gap).
 
 ghost use Rattle.std.specs.Prelude.{◌≡◌, ◌≤◌, ◌<◌, ◌+◌, ℕ, [], ◌∷◌, vec_len, vec_capacity, length};
 ghost use Rattle.dds_base.specs.Kept.{WriterHistory, is_kept};
@@ -25,7 +25,7 @@ pub enum Answer {
 
 /// What a writer makes of an ACKNACK that it takes: what the reader has acknowledged with it, and what it is answered.
 ///
-/// RTPS 2.5, 8.4.9 (ReaderProxy: acked_changes_set, requested_changes_set).
+/// RTPS 2.5, 8.4.7 (ReaderProxy: acked_changes_set, requested_changes_set).
 #[derive(Debug, Drop)]
 pub struct Answered {
     /// The number below which the reader has acknowledged all, where that is greater than before.

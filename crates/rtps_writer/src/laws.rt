@@ -1,6 +1,6 @@
 //! What holds of the answers to an ACKNACK: functions that do nothing, and whose clauses are the laws.
 //!
-//! RTPS 2.5, 8.4.9 (ReaderProxy, requested_changes, acked_changes_set).
+//! RTPS 2.5, 8.4.7 (ReaderProxy, requested_changes, acked_changes_set).
 
 ghost use Rattle.std.specs.Prelude.{◌≡◌, ◌≤◌, ◌<◌, ℕ, ℤ, Option, length, true};
 ghost use Rattle.std.specs.List.{All, list_any};
@@ -13,7 +13,7 @@ ghost use Rattle.rtps_writer.specs.WriterState.{WriterState, acknowledged_by, hi
 
 /// The answers to an ACKNACK say what the writer keeps, to each member of the set that the reader lacks.
 ///
-/// RTPS 2.5, 8.4.9 (ReaderProxy, requested_changes), 8.3.8 (Data, Gap).
+/// RTPS 2.5, 8.4.7 (ReaderProxy, requested_changes), 8.3.8 (Data, Gap).
 pub fn answers_are_right()
     // A DATA names a kept number, a GAP numbers that are not kept, and each lies among those asked for.
     ensures right { (s : WriterState) (reader : ℕ) (set : NumberSet)
@@ -34,7 +34,7 @@ pub fn answers_are_right()
 
 /// What a reader has acknowledged counts from 1 on, at the opening and after each ACKNACK; nothing else changes it.
 ///
-/// RTPS 2.5, 8.4.9 (ReaderProxy, acked_changes_set).
+/// RTPS 2.5, 8.4.7 (ReaderProxy, acked_changes_set).
 pub fn acknowledgements_count_from_1()
     // At the opening each is 1.
     ensures opening { (policy : HistoryQos) (max_samples lease : Option ℕ) (readers : ℕ)

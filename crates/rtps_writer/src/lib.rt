@@ -1,6 +1,6 @@
 //! The writer's side of reliable RTPS: one writer with its matched reliable readers, named by an index from 0.
 //!
-//! RTPS 2.5, 8.4.7 (StatefulWriter), 8.4.9 (ReaderProxy); DDS 1.4, 2.2.2.4 (DataWriter).
+//! RTPS 2.5, 8.4.7 (StatefulWriter, ReaderProxy); DDS 1.4, 2.2.2.4 (DataWriter).
 //! Not here: who the readers are, and the packets.
 #![tactic(auto)]
 

@@ -1,6 +1,6 @@
 //! A writer with its matched reliable readers.
 //!
-//! RTPS 2.5, 8.4.7 (StatefulWriter), 8.4.9 (ReaderProxy).
+//! RTPS 2.5, 8.4.7 (StatefulWriter, ReaderProxy).
 
 ghost use Rattle.std.specs.Prelude.{◌≡◌, ◌≤◌, ◌<◌, ◌+◌, ◌-◌, ◌^◌, pos, [], nat_lt, length, vec_capacity, None, Some, IfOk, IfErr, OnOk, OnErr};
 ghost use Rattle.std.specs.Option.{option_copied};
@@ -42,7 +42,7 @@ fn if_later(before: Sn, after: Sn) -> Option<Sn>
 
 /// One writer with its matched reliable readers, which are named by an index from 0.
 ///
-/// RTPS 2.5, 8.4.7 (StatefulWriter), 8.4.9 (ReaderProxy).
+/// RTPS 2.5, 8.4.7 (StatefulWriter, ReaderProxy).
 #[derive(Drop)]
 pub struct StatefulWriter {
     alloc: Global,
@@ -233,7 +233,7 @@ impl StatefulWriter {
 
     /// The number below which this reader, by its index from 0, has acknowledged all: 1 at first.
     ///
-    /// RTPS 2.5, 8.4.9 (ReaderProxy, acked_changes_set).
+    /// RTPS 2.5, 8.4.7 (ReaderProxy, acked_changes_set).
     pub fn acknowledged(&self, reader: usize) -> Sn
         // There is such a reader.
         requires reader { reader < reader_count self.now }
@@ -246,7 +246,7 @@ impl StatefulWriter {
 
     /// Whether this reader, by its index from 0, has not acknowledged all changes.
     ///
-    /// RTPS 2.5, 8.4.9 (ReaderProxy, unacked_changes).
+    /// RTPS 2.5, 8.4.7 (ReaderProxy, unacked_changes).
     pub fn is_behind(&self, reader: usize) -> bool
         // There is such a reader.
         requires reader { reader < reader_count self.now }
@@ -275,8 +275,8 @@ impl StatefulWriter {
         }
     }
 
-    /// Asserts the writer's liveliness at this moment, and gives the HEARTBEAT that tells the readers of it, with the next
-    /// count; `None` where no reader is matched.
+    /// Asserts the writer's liveliness at this moment, and gives the HEARTBEAT that tells the readers of it, with the
+    /// next count; `None` where no reader is matched.
     ///
     /// # Errors
     ///
@@ -413,7 +413,7 @@ impl StatefulWriter {
     /// An ACKNACK of this reader, as `on_acknack` has it, with room for the answers, which was made before: it is never
     /// refused.
     ///
-    /// RTPS 2.5, 8.3.8 (AckNack), 8.4.9 (ReaderProxy).
+    /// RTPS 2.5, 8.3.8 (AckNack), 8.4.7 (ReaderProxy).
     pub fn take_acknack(
         &mut self,
         reader: usize,
@@ -464,7 +464,7 @@ impl StatefulWriter {
     ///
     /// `Memory` where a growth was refused; the writer is then as it was.
     ///
-    /// RTPS 2.5, 8.3.8 (AckNack), 8.4.9 (ReaderProxy).
+    /// RTPS 2.5, 8.3.8 (AckNack), 8.4.7 (ReaderProxy).
     pub fn on_acknack(
         &mut self,
         reader: usize,

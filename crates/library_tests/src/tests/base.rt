@@ -175,7 +175,7 @@ impl Subject for Base {
 }
 
 #[test]
-fn base_answers(rt: HostRuntime) {
+fn values_read_back_and_bad_configurations_are_named(rt: HostRuntime) {
     let alloc = rt.alloc();
     expect_rows(&rt, alloc, &mut Base, DATA);
     expect_rows(&rt, alloc, &mut Base, NAMES);

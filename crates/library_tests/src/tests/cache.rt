@@ -210,7 +210,7 @@ impl Subject for Reader {
 }
 
 #[test]
-fn readers_answer(rt: HostRuntime) {
+fn readers_return_what_came_and_was_not_taken(rt: HostRuntime) {
     let alloc = rt.alloc();
     let mut reader = Reader::open(alloc, OwnershipQos::Shared, HistoryQos::KeepAll).expect(
         &rt, "a reader",

@@ -5,9 +5,10 @@ use dds_base::{Change, ChangeKind, Code, HistoryQos, Key, Moment, Octets, Sn};
 use dds_history::History;
 use std::alloc::Global;
 
-/// `open` begins anew, for one matched reader, with a depth or `all`, and with the most that may be kept or `any`: the number of the last change, which `last`
-/// tells too. `append` and `refusal` have the key and the value of a write. `get` has a number: the value of that change. `acked` has the number
-/// below which the reader has acknowledged all: the first number that is kept, which `first` tells too. `kept` and `awaited` have a number.
+/// `open` begins anew, for one matched reader, with a depth or `all`, and with the most that may be kept or `any`: the
+/// number of the last change, which `last` tells too. `append` and `refusal` have the key and the value of a write.
+/// `get` has a number: the value of that change. `acked` has the number below which the reader has acknowledged all:
+/// the first number that is kept, which `first` tells too. `kept` and `awaited` have a number.
 const HISTORIES: &str = "\
 # Under KEEP_ALL every change is kept.
 open all any => 0
@@ -148,7 +149,7 @@ impl Subject for History {
 }
 
 #[test]
-fn histories_answer(rt: HostRuntime) {
+fn histories_keep_what_is_not_acknowledged(rt: HostRuntime) {
     let opened = History::open(rt.alloc(), HistoryQos::KeepAll, None, 1);
     assert!(rt; opened.is_ok(), "no memory");
     if let Ok(mut history) = opened {

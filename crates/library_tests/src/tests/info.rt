@@ -8,9 +8,9 @@ use dds_base::{Handle, InstanceState, Moment, Picked, SampleInfo, SampleState, V
 use dds_info::fill;
 use std::alloc::Global;
 
-/// A collection of four samples, and of each its sample_rank, generation_rank and absolute_generation_rank, as DDS 1.4, 2.2.2.5,
-/// defines them. A sample is the number of its instance, how often that was reborn when the sample came, and how often by now: of
-/// one digit each.
+/// A collection of four samples, and of each its sample_rank, generation_rank and absolute_generation_rank, as DDS 1.4,
+/// 2.2.2.5, defines them. A sample is the number of its instance, how often that was reborn when the sample came, and
+/// how often by now: of one digit each.
 const COLLECTIONS: &str = "\
 # Instance 1 was reborn once after its first two samples, and once more after all of them; a sample of another one stands between.
 rank 102 255 102 112 => (2 1 2)(0 0 0)(1 1 2)(0 0 1)

@@ -8,9 +8,10 @@ use dds_base::{
 use dds_lease::Leases;
 use std::alloc::Global;
 
-/// `open` begins anew, with the lease of each matched writer: how many they are. A word that is no number never ends. `assert` has a writer
-/// and a moment: how many are alive, how many are not, and who turned last, which `counts` tells too. `expire` has the handle that it
-/// begins above, and a moment: who dies. `overdue` has a moment: how many die. `alive` has a writer.
+/// `open` begins anew, with the lease of each matched writer: how many they are. A word that is no number never ends.
+/// `assert` has a writer and a moment: how many are alive, how many are not, and who turned last, which `counts` tells
+/// too. `expire` has the handle that it begins above, and a moment: who dies. `overdue` has a moment: how many die.
+/// `alive` has a writer.
 const LEASES: &str = "\
 # A writer dies once its lease has passed since it was asserted, and not before.
 open 10 10 never => 3

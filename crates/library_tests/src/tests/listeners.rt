@@ -10,10 +10,10 @@ use std::test::Fail;
 
 /// Of a peer with one writer and two readers. An entity is `participant`, `writer` or `reader`, with its number.
 ///
-/// `set` has an entity and a mask: the listener that is at hand is set. `unset` has an entity. Both give what the listener
-/// keeps that is handed back, or `nobody`; that one is then at hand. Where it is handed back with a code, the code stands
-/// before. `data`, `lost`, `changed` and `livelost` tell of an entity, and give whether a listener takes that. `any` gives
-/// whether one is set.
+/// `set` has an entity and a mask: the listener that is at hand is set. `unset` has an entity. Both give what the
+/// listener keeps that is handed back, or `nobody`; that one is then at hand. Where it is handed back with a code, the
+/// code stands before. `data`, `lost`, `changed` and `livelost` tell of an entity, and give whether a listener takes
+/// that. `any` gives whether one is set.
 const SET: &str = "\
 # Nobody takes anything yet.
 any => false

@@ -1,10 +1,10 @@
 //! Rows of text, and how they are tried.
 //!
-//! A row is an operation, its operands and, after ` => `, what must come of it. Other lines are empty, or remarks that begin with
-//! `#`.
+//! A row is an operation, its operands and, after ` => `, what must come of it. Other lines are empty, or remarks that
+//! begin with `#`.
 //!
-//! An answer is a text, so that a test holds one value at a time. Nothing that makes one gives an error: where memory is refused or
-//! a word is misspelt, the text is another, and the row fails.
+//! An answer is a text, so that a test holds one value at a time. Nothing that makes one gives an error: where memory
+//! is refused or a word is misspelt, the text is another, and the row fails.
 
 use std::alloc::Global;
 use std::process::Abort;

@@ -5,8 +5,9 @@ use dds_base::Sn;
 use rtps_sets::{Mark, SnSet, Window};
 use std::alloc::Global;
 
-/// `set` and the base of a new set, `insert` and a number: the set. `open`: the place of a new window. `mark`, a number and what is
-/// known of it; `reserve` and for how many marks; `slide` and how far: the place. `missing` and a bound: the missing numbers.
+/// `set` and the base of a new set, `insert` and a number: the set. `open`: the place of a new window. `mark`, a number
+/// and what is known of it; `reserve` and for how many marks; `slide` and how far: the place. `missing` and a bound:
+/// the missing numbers.
 const SETS: &str = "\
 set 1 => base 1 bits 0 members
 insert 1 => base 1 bits 1 members 1
@@ -136,7 +137,7 @@ impl Subject for Sets {
 }
 
 #[test]
-fn sets_answer(rt: HostRuntime) {
+fn sets_and_windows_keep_what_was_marked(rt: HostRuntime) {
     let mut sets = Sets {
         set: SnSet::new(Sn::new(1)),
         window: Window::open(rt.alloc()),

@@ -235,7 +235,7 @@ impl Subject for Messages {
 }
 
 #[test]
-fn messages_answer(rt: HostRuntime) {
+fn messages_are_read_as_they_were_written(rt: HostRuntime) {
     let alloc = rt.alloc();
     expect_rows(&rt, alloc, &mut Messages, WRITTEN);
     expect_rows(&rt, alloc, &mut Messages, WRITABLE);

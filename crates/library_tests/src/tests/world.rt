@@ -81,8 +81,8 @@ fn config(alloc: Global, max_samples: i32) -> Config {
     config_of(alloc, &[WRITER], reader)
 }
 
-/// A first peer with a writer and a second one with a reader that may hold so many samples, or any number if -1, at their
-/// opening.
+/// A first peer with a writer and a second one with a reader that may hold so many samples, or any number if -1, at
+/// their opening.
 fn open(alloc: Global, max_samples: i32) -> Result<World, Code> {
     let config = config(alloc, max_samples);
     World::open(alloc, &config)

@@ -6,10 +6,11 @@ use rtps_sets::SnSet;
 use rtps_writer::StatefulWriter;
 use std::alloc::Global;
 
-/// `open` begins anew, for two matched readers, with a depth or `all`, with the most that may be kept or `any`, and perhaps with a lease. `write`,
-/// `unregister` and `refusal` have the key and the value of a change, `registered` and `register` a key. `get` has a number: whether it is
-/// kept. `behind` and `acknowledged` have a reader. `tick` and `assert` may have a moment: the HEARTBEAT that is due. `lost` is LIVELINESS_LOST. `acknack` has a reader, the base and the count,
-/// and perhaps the number of a member and one of those after it.
+/// `open` begins anew, for two matched readers, with a depth or `all`, with the most that may be kept or `any`, and
+/// perhaps with a lease. `write`, `unregister` and `refusal` have the key and the value of a change, `registered` and
+/// `register` a key. `get` has a number: whether it is kept. `behind` and `acknowledged` have a reader. `tick` and
+/// `assert` may have a moment: the HEARTBEAT that is due. `lost` is LIVELINESS_LOST. `acknack` has a reader, the base
+/// and the count, and perhaps the number of a member and one of those after it.
 const WRITERS: &str = "\
 # A change is awaited by both readers, until each has acknowledged it.
 open all 2 => 0
@@ -207,7 +208,7 @@ impl Subject for StatefulWriter {
 }
 
 #[test]
-fn writers_answer(rt: HostRuntime) {
+fn writers_send_what_is_asked_for(rt: HostRuntime) {
     let opened = StatefulWriter::open(rt.alloc(), HistoryQos::KeepAll, None, None, 2);
     assert!(rt; opened.is_ok(), "no memory");
     if let Ok(mut writer) = opened {

@@ -1,12 +1,12 @@
 //! What happens at readers of two writers of one strength, and what they answer.
 
-/// `open` begins anew, with the ownership and a depth or `all`. `write` (with a value in hex digits), `dispose`, `unregister` and
-/// `died` (with a moment) name the handle of the writer; all changes are of key 1. `read` and `take` have the most samples that they
-/// may give, or `all`, and whether only those that were not read (`unread`) or `any`.
+/// `open` begins anew, with the ownership and a depth or `all`. `write` (with a value in hex digits), `dispose`,
+/// `unregister` and `died` (with a moment) name the handle of the writer; all changes are of key 1. `read` and `take`
+/// have the most samples that they may give, or `all`, and whether only those that were not read (`unread`) or `any`.
 ///
-/// A sample is its key, its value, and whether that is valid; the states of the sample, of the view and of the instance; the counts
-/// disposed_generation_count and no_writers_generation_count; the ranks sample_rank, generation_rank and absolute_generation_rank;
-/// its moment; the handles of its instance and of its writer.
+/// A sample is its key, its value, and whether that is valid; the states of the sample, of the view and of the
+/// instance; the counts disposed_generation_count and no_writers_generation_count; the ranks sample_rank,
+/// generation_rank and absolute_generation_rank; its moment; the handles of its instance and of its writer.
 pub const READERS: &str = "\
 # A write upon a disposed instance is a rebirth.
 open shared all => opened

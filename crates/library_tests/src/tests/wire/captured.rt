@@ -1,11 +1,12 @@
 //! Packets that other products sent.
 //!
-//! Eclipse Cyclone DDS 0.10.2 and eProsima Fast DDS 2.9.1, as Debian 12 has them, sent these over the loopback interface; each is
-//! the whole of a UDP datagram. Those in big-endian are of Cyclone DDS for s390x, which ran in an emulator. Their topic's type has
-//! a key of 16 octets and a sequence of at most 1,024: its CDR is a datum.
+//! Eclipse Cyclone DDS 0.10.2 and eProsima Fast DDS 2.9.1, as Debian 12 has them, sent these over the loopback
+//! interface; each is the whole of a UDP datagram. Those in big-endian are of Cyclone DDS for s390x, which ran in an
+//! emulator. Their topic's type has a key of 16 octets and a sequence of at most 1,024: its CDR is a datum.
 //!
-//! What is read of them is what tshark 4.0.17 dissects, which `tools/dissect` compares. What is passed over, and how long the
-//! written form is, follows from `docs/WIRE.md`. None is written so, since version and vendor of the header are others.
+//! What is read of them is what tshark 4.0.17 dissects, which `tools/dissect` compares. What is passed over, and how
+//! long the written form is, follows from `docs/WIRE.md`. None is written so, since version and vendor of the header
+//! are others.
 
 /// A whole packet, and what is read of it: where reading ends, the submessages, and how they are written, if they are.
 pub const CAPTURED: &str = "\

@@ -20,8 +20,9 @@ whole 52545053 0205 0000 000000000000000000000001 00x65515 => 65535; OTHER 00
 whole 52545053 0205 0000 000000000000000000000001 00x65516 => no message
 ";
 
-/// What follows the header, and each length of the message at which something else is read of it than at the one before: that
-/// length, where reading ends, and how many submessages there are. Below the first of them it is no message.
+/// What follows the header, and each length of the message at which something else is read of it than at the one
+/// before: that length, where reading ends, and how many submessages there are. Below the first of them it is no
+/// message.
 pub const CUT: &str = "\
 # INFO_DST, INFO_TS and a write.
 cut 0e01 0c00 000000000000000000000002 \

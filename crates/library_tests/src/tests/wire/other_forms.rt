@@ -1,7 +1,8 @@
-//! Forms that are read and that this project doesn't write: in big-endian, with other flags, parameters and versions; and
-//! those that are not valid.
+//! Forms that are read and that this project doesn't write: in big-endian, with other flags, parameters and versions;
+//! and those that are not valid.
 
-/// What follows the header, and what is read of it: where reading ends, the submessages, and how they are written, if they are.
+/// What follows the header, and what is read of it: where reading ends, the submessages, and how they are written, if
+/// they are.
 pub const OTHER_FORMS: &str = "\
 # A dispose by key hash and status info, with no payload.
 read 1503 3400 0000 1000 00000000 00000102 00000000 01000000 \

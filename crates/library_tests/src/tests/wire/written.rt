@@ -2,10 +2,10 @@
 
 /// What follows the header, and what is read of it: where reading ends, the submessages, and that they are written so.
 ///
-/// A submessage is its id, its flags and its length in octets, which counts from there on, and its fields in little-endian. Those
-/// of DATA: extraFlags, octetsToInlineQos, readerId, writerId, writerSN (high half, low half), parameters (id, length, value)
-/// with the flag Q (02), and a payload: with the flag D (04) the representation, options, key, length and octets of the value,
-/// padding; with the flag K (08) the representation, options and key.
+/// A submessage is its id, its flags and its length in octets, which counts from there on, and its fields in
+/// little-endian. Those of DATA: extraFlags, octetsToInlineQos, readerId, writerId, writerSN (high half, low half),
+/// parameters (id, length, value) with the flag Q (02), and a payload: with the flag D (04) the representation,
+/// options, key, length and octets of the value, padding; with the flag K (08) the representation, options and key.
 pub const WRITTEN: &str = "\
 # The packet of a write: INFO_DST, INFO_TS, DATA.
 read 0e01 0c00 000000000000000000000002 \
@@ -46,8 +46,8 @@ read 0101 0000 => 24; PAD; written so
 read 0903 0000 => 24; INFO_TS none; written so
 ";
 
-/// Messages that are made of one submessage so many times: its kind, its number and its value; and how many there are, and whether
-/// the message can be written.
+/// Messages that are made of one submessage so many times: its kind, its number and its value; and how many there are,
+/// and whether the message can be written.
 pub const WRITABLE: &str = "\
 # What is not known is never written.
 make other 1 - 1 => 1 false

@@ -12,10 +12,10 @@ use std::alloc::Global;
 /// A network whose filters and listeners are boxes of any.
 type Boxes = WorldOf;
 
-/// A first peer with a writer, and a second one with a reader. `set` names a peer, an entity there and a mask: the listener that
-/// is at hand is set; `unset` names a peer and an entity. Both give what the listener keeps that is handed back, or `nobody`; that
-/// one is then at hand. Where it is handed back with a code, the code stands before. An event gives how many packets were sent so
-/// far.
+/// A first peer with a writer, and a second one with a reader. `set` names a peer, an entity there and a mask: the
+/// listener that is at hand is set; `unset` names a peer and an entity. Both give what the listener keeps that is
+/// handed back, or `nobody`; that one is then at hand. Where it is handed back with a code, the code stands before. An
+/// event gives how many packets were sent so far.
 const TOLD: &str = "\
 # The peer and the entity have to be there. A refused listener is handed back.
 set 3 reader 1 1024 => BAD_PARAMETER

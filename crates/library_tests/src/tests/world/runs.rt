@@ -8,9 +8,9 @@ use dds_world::{Reply, World, WorldEvent};
 use std::alloc::Global;
 use std::mem::replace;
 
-/// An event, in a script's words, or `run`: what one run over all events before it answers, each reply in brackets; they are then
-/// behind. `open` begins anew, with a writer and a reader of SHARED ownership, or with two writers of one strength and a reader of
-/// EXCLUSIVE ownership.
+/// An event, in a script's words, or `run`: what one run over all events before it answers, each reply in brackets;
+/// they are then behind. `open` begins anew, with a writer and a reader of SHARED ownership, or with two writers of one
+/// strength and a reader of EXCLUSIVE ownership.
 const RUNS: &str = "\
 # The last change of three comes before the first, and the second is repaired.
 open shared

@@ -1,16 +1,17 @@
 //! What is done in a network, and what it answers.
 
-/// An event, and the reply to it with how many packets were sent and not sent so far; or `packet` and a number, and that packet. A
-/// call names its peer and its writer or reader there, and is of key 1; a write has its value in hex digits; a tick is at a peer
-/// and names its moment; a delivery is at a peer and names the packet.
+/// An event, and the reply to it with how many packets were sent and not sent so far; or `packet` and a number, and
+/// that packet. A call names its peer and its writer or reader there, and is of key 1; a write has its value in hex
+/// digits; a tick is at a peer and names its moment; a delivery is at a peer and names the packet.
 ///
-/// `filter` names a peer and how many octets the values have that pass: its number, or why there is none. `query` names a peer, a
-/// reader and a filter, and `trigger` a peer and a condition.
+/// `filter` names a peer and how many octets the values have that pass: its number, or why there is none. `query` names
+/// a peer, a reader and a filter, and `trigger` a peer and a condition.
 ///
-/// `place` names a reader and a writer, each by its peer and its number, and `round` a writer and a reader, for a round of repair.
+/// `place` names a reader and a writer, each by its peer and its number, and `round` a writer and a reader, for a round
+/// of repair.
 ///
-/// `open` begins anew, with a reader that may hold any number of samples, or so many, and `run` does all events since then once
-/// more, in one run.
+/// `open` begins anew, with a reader that may hold any number of samples, or so many, and `run` does all events since
+/// then once more, in one run.
 pub const SCRIPTS: &str = "\
 # A write goes from the writer to the reader, once: a packet that comes again moves nothing, and what was taken is gone.
 open => opened
