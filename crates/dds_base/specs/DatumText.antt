@@ -20,10 +20,14 @@ key_text order options k = representation order ++ options ++ k.0
 abbrev pub datum_text : Endianness → List ℕ → Datum → List ℕ
 datum_text order options d = key_text order options d.key ++ number order w32 (length d.value) ++ d.value
 
--- a key of 16 octets, and a value of at most 1,024
+-- The longest value, in octets. The topic type bounds it; clause 10 has a length of 4 octets, and no other bound.
+abbrev pub max_value : ℕ
+max_value = 1024
+
+-- a key of 16 octets, and a value of at most `max_value`
 pub record IsDatum (d : Datum) : Type 0 where
   pub key : length d.key.0 ≡ 16
-  pub value : length d.value ≤ 1024
+  pub value : length d.value ≤ max_value
 
 -- The bytes begin with the datum, in one of the orders, whatever the two option octets, and whatever follows.
 pub record ReadsDatum (bytes : List ℕ) (d : Datum) : Type 0 where
