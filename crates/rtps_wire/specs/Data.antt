@@ -21,7 +21,7 @@ use Rattle.rtps_wire.specs.declared.data.DataContent.{DataContent}
 use Rattle.rtps_wire.specs.declared.data.DataContent.TheVariants.{Write, Dispose, Unregister, DisposeUnregister}
 use Rattle.rtps_wire.specs.Fields.{has_flag, order_of, sn_text, IsEntityId}
 use Rattle.rtps_wire.specs.Parameters.{Parameter, parameter_text, ReadsParameters, parameter_value, status_of}
-use Rattle.rtps_wire.specs.Names.{extra_flags, flag_data, flag_endianness, flag_inline_qos, flag_key, least_octets_to_inline_qos, len_key, pid_key_hash, pid_sentinel, pid_status_info, status_disposed, status_unregistered}
+use Rattle.rtps_wire.specs.Names.{extra_flags, flag_data, flag_endianness, flag_inline_qos, flag_key, least_octets_to_inline_qos, len_key, max_sn, pid_key_hash, pid_sentinel, pid_status_info, status_disposed, status_unregistered}
 
 -- extraFlags, octetsToInlineQos, readerId, writerId, writerSN
 abbrev pub data_head : Endianness → ℕ → ℕ → EntityId → EntityId → ℕ → List ℕ
@@ -70,12 +70,12 @@ pub record ReadsData (flags : ℕ) (body : List ℕ) (d : Data) : Type 0 where
       ((parameters ≡ []) × (payload ≡ from_parameters))
   pub says : SaysContent flags parameters payload d.content
 
--- The number is from 1 to 2^62.
+-- The number is from 1 to `max_sn`.
 pub record IsData (d : Data) : Type 0 where
   pub reader : IsEntityId d.reader_id
   pub writer : IsEntityId d.writer_id
   pub first : 1 ≤ d.writer_sn
-  pub small : d.writer_sn ≤ 2 ^ 62
+  pub small : d.writer_sn ≤ max_sn
 
 -- what has a written form
 abbrev pub IsContent : DataContent → Type 0

@@ -8,7 +8,7 @@ use Rattle.dds_base.specs.declared.endianness.Endianness.{Endianness}
 use Rattle.dds_base.specs.declared.guid.EntityId.{EntityId}
 use Rattle.dds_base.specs.declared.guid.GuidPrefix.{GuidPrefix}
 use Rattle.dds_base.specs.Fields.{number_at, octets_at, ◌>>=◌}
-use Rattle.rtps_wire.specs.Names.{len_entity_id, len_prefix}
+use Rattle.rtps_wire.specs.Names.{len_entity_id, len_prefix, max_sn}
 
 -- four octets
 unfoldable pub entity_id_at : List ℕ → Option (EntityId × List ℕ)
@@ -22,12 +22,12 @@ prefix_at bytes = do
   x ← octets_at len_prefix bytes
   Some (record { 0 = x.0 }, x.1)
 
--- a sequence number of at most 2^62
+-- a sequence number of at most `max_sn`
 unfoldable pub sn_at : Endianness → List ℕ → Option (ℕ × List ℕ)
 sn_at order bytes = do
   high ← number_at order w32 bytes
   low ← number_at order w32 high.1
-  if nat_lt (2 ^ 62) (high.0 * 2 ^ 32 + low.0) then None else Some (high.0 * 2 ^ 32 + low.0, low.1)
+  if nat_lt max_sn (high.0 * 2 ^ 32 + low.0) then None else Some (high.0 * 2 ^ 32 + low.0, low.1)
 
 -- a count
 unfoldable pub count_at : Endianness → List ℕ → Option (ℤ × List ℕ)

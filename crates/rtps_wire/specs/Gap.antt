@@ -5,11 +5,12 @@
 -- |                           writerId                            |
 -- |                 gapStart: high half, low half                 |
 -- |            gapList: base, number of bits, words               |
-use Rattle.std.specs.Prelude.{◌≡◌, ℕ, ◌≤◌, ◌^◌, List, ◌++◌}
+use Rattle.std.specs.Prelude.{◌≡◌, ℕ, ◌≤◌, List, ◌++◌}
 use Rattle.dds_base.specs.declared.endianness.Endianness.{Endianness}
 use Rattle.dds_base.specs.declared.endianness.Endianness.TheVariants.{Little}
 use Rattle.rtps_wire.specs.declared.gap.Gap.{Gap}
 use Rattle.rtps_wire.specs.Fields.{order_of, sn_text, IsEntityId}
+use Rattle.rtps_wire.specs.Names.{max_sn}
 use Rattle.rtps_wire.specs.Sets.{ReadsSet, text_of_set}
 
 -- readerId, writerId, gapStart
@@ -23,12 +24,12 @@ pub record ReadsGap (flags : ℕ) (body : List ℕ) (g : Gap) : Type 0 where
   pub head : body ≡ gap_head (order_of flags) g ++ from_set
   pub set : ReadsSet (order_of flags) from_set g.gap_list rest
 
--- The start is from 1 to 2^62.
+-- The start is from 1 to `max_sn`.
 pub record IsGap (g : Gap) : Type 0 where
   pub reader : IsEntityId g.reader_id
   pub writer : IsEntityId g.writer_id
   pub first : 1 ≤ g.gap_start
-  pub small : g.gap_start ≤ 2 ^ 62
+  pub small : g.gap_start ≤ max_sn
 
 -- the body as written
 abbrev pub text_of_gap : Gap → List ℕ

@@ -6,12 +6,13 @@
 -- |                  firstSN: high half, low half                 |
 -- |                  lastSN: high half, low half                  |
 -- |                             count                             |
-use Rattle.std.specs.Prelude.{ℕ, ◌+◌, ◌≤◌, ◌^◌, List, ◌++◌, FitsSigned}
+use Rattle.std.specs.Prelude.{ℕ, ◌+◌, ◌≤◌, List, ◌++◌, FitsSigned}
 use Rattle.std.specs.Int.{w32}
 use Rattle.dds_base.specs.declared.endianness.Endianness.{Endianness}
 use Rattle.dds_base.specs.declared.endianness.Endianness.TheVariants.{Little}
 use Rattle.rtps_wire.specs.declared.heartbeat.Heartbeat.{Heartbeat}
 use Rattle.rtps_wire.specs.Fields.{order_of, sn_text, count_text, IsEntityId, BeginsWith}
+use Rattle.rtps_wire.specs.Names.{max_sn}
 
 -- readerId, writerId, firstSN, lastSN, count
 abbrev pub heartbeat_text : Endianness → Heartbeat → List ℕ
@@ -22,14 +23,14 @@ heartbeat_text order h =
 abbrev pub ReadsHeartbeat : ℕ → List ℕ → Heartbeat → Type 0
 ReadsHeartbeat flags body h = BeginsWith body (heartbeat_text (order_of flags) h)
 
--- The first number is from 1 to one more than the last; each is at most 2^62.
+-- The first number is from 1 to one more than the last; each is at most `max_sn`.
 pub record IsHeartbeat (h : Heartbeat) : Type 0 where
   pub reader : IsEntityId h.reader_id
   pub writer : IsEntityId h.writer_id
   pub first : 1 ≤ h.first_sn
   pub not_past : h.first_sn ≤ h.last_sn + 1
-  pub first_small : h.first_sn ≤ 2 ^ 62
-  pub last_small : h.last_sn ≤ 2 ^ 62
+  pub first_small : h.first_sn ≤ max_sn
+  pub last_small : h.last_sn ≤ max_sn
   pub count : FitsSigned w32 h.count
 
 -- the body as written

@@ -12,7 +12,7 @@ use Rattle.rtps_wire.specs.declared.message.Message.{Message}
 use Rattle.rtps_wire.specs.declared.submessage.Submessage.{Submessage}
 use Rattle.rtps_wire.specs.Frames.{IsFrame, IsEnd}
 use Rattle.rtps_wire.specs.Submessages.{Reads, IsSpellable, spelling_of_submessage}
-use Rattle.rtps_wire.specs.Names.{len_prefix, major_version, minor_version, vendor_unknown}
+use Rattle.rtps_wire.specs.Names.{len_prefix, major_version, max_message, minor_version, vendor_unknown}
 
 -- The bytes are these submessages, up to where reading ends, and left is what stands there.
 abbrev pub ReadsAll : List ℕ → List Submessage → List ℕ → Type 0
@@ -29,7 +29,7 @@ header_text minor vendor prefix = codes "RTPS" ++ major_version ∷ minor ∷ []
 abbrev pub HasFrame : List ℕ → Type 0
 HasFrame bytes = (id : ℕ) × (flags : ℕ) × (body : List ℕ) × (rest : List ℕ) × IsFrame bytes id flags body rest
 
--- The bytes are at most 65,535, and begin with the header of a message and a submessage.
+-- The bytes are at most `max_message`, and begin with the header of a message and a submessage.
 pub record HasSubmessage (bytes : List ℕ) : Type 0 where
   pub minor : ℕ
   pub vendor : List ℕ
@@ -39,9 +39,9 @@ pub record HasSubmessage (bytes : List ℕ) : Type 0 where
   pub prefix : length source.0 ≡ len_prefix
   pub header : bytes ≡ header_text minor vendor source ++ body
   pub first : HasFrame body
-  pub short : length bytes ≤ 65535
+  pub short : length bytes ≤ max_message
 
--- The bytes are a message of at most 65,535 octets, of which reading ends at this offset.
+-- The bytes are a message of at most `max_message` octets, of which reading ends at this offset.
 pub record ReadsMessage (bytes : List ℕ) (m : Message) (offset : ℕ) : Type 0 where
   pub minor : ℕ
   pub vendor : List ℕ
@@ -52,7 +52,7 @@ pub record ReadsMessage (bytes : List ℕ) (m : Message) (offset : ℕ) : Type 0
   pub header : bytes ≡ header_text minor vendor m.prefix ++ body
   pub submessages : ReadsAll body m.submessages left
   pub stop : offset + length left ≡ length bytes
-  pub short : length bytes ≤ 65535
+  pub short : length bytes ≤ max_message
 
 -- the one written form: version 2.5, vendor id 0
 abbrev pub spelling_of : Message → List ℕ
@@ -62,4 +62,4 @@ spelling_of m = header_text minor_version vendor_unknown m.prefix ++ flat_map sp
 pub record IsWritable (m : Message) : Type 0 where
   pub prefix : length m.prefix.0 ≡ len_prefix
   pub submessages : AllByRecursion IsSpellable m.submessages
-  pub short : length (spelling_of m) ≤ 65535
+  pub short : length (spelling_of m) ≤ max_message

@@ -1,6 +1,7 @@
--- The numbers of the protocol, by name: versions, ids, flags and lengths in octets (RTPS 2.5, 9.3, 9.4.4, 9.4.5, 9.6
--- and 10). `src/names.rt` has the same names for the code.
-use Rattle.std.specs.Prelude.{ℕ, List, [], ◌∷◌}
+-- The numbers of the protocol, by name: versions, ids, flags, lengths in octets and bounds (RTPS 2.5, 8.3.5, 9.3,
+-- 9.4.4, 9.4.5, 9.5, 9.6 and 10). `src/names.rt` has the same names for the code, but for the bounds: of these `MAX_SN`
+-- stands in `src/field.rt`, `MAX_MESSAGE` in `src/header.rt`, and `MAX_BITS` in the crate `rtps_sets`.
+use Rattle.std.specs.Prelude.{ℕ, ◌^◌, List, [], ◌∷◌}
 
 -- ---- the header of a message
 
@@ -135,3 +136,18 @@ extra_flags = 0
 -- octetsToInlineQos where no octets are skipped: it counts from its own end over readerId, writerId and writerSN
 abbrev pub least_octets_to_inline_qos : ℕ
 least_octets_to_inline_qos = 16
+
+-- ---- bounds
+
+-- The greatest sequence number. The standard's type ends below 2^63 (8.3.5.4), which no sum of a number and a set's
+-- places reaches.
+abbrev pub max_sn : ℕ
+max_sn = 2 ^ 62
+
+-- how many numbers, from its base on, a set can have (8.3.5.5)
+abbrev pub max_bits : ℕ
+max_bits = 256
+
+-- the longest message, in octets: one is a UDP datagram (9.5), and none over IPv4 is longer
+abbrev pub max_message : ℕ
+max_message = 65535

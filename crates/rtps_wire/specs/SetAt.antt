@@ -8,6 +8,7 @@ use Rattle.dds_base.specs.declared.endianness.Endianness.{Endianness}
 use Rattle.dds_base.specs.Fields.{number_at, mapped, ◌>>=◌}
 use Rattle.rtps_sets.specs.NumberSet.{NumberSet}
 use Rattle.rtps_wire.specs.FieldAt.{sn_at}
+use Rattle.rtps_wire.specs.Names.{max_bits}
 use Rattle.rtps_wire.specs.Sets.{SetField, words_for, set_of}
 
 -- as many words
@@ -23,7 +24,7 @@ unfoldable pub set_field_at : Endianness → List ℕ → Option (SetField × Li
 set_field_at order bytes = do
   b ← sn_at order bytes
   c ← number_at order w32 b.1
-  w ← (if nat_lt b.0 1 || nat_lt 256 c.0 then None else words_at order (words_for c.0) c.1)
+  w ← (if nat_lt b.0 1 || nat_lt max_bits c.0 then None else words_at order (words_for c.0) c.1)
   Some (record { base = b.0; num_bits = c.0; words = w.0 }, w.1)
 
 -- the set that it stands for

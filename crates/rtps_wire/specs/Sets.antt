@@ -13,6 +13,7 @@ use Rattle.dds_base.specs.declared.endianness.Endianness.TheVariants.{Little}
 use Rattle.dds_base.specs.Fields.{number}
 use Rattle.rtps_sets.specs.NumberSet.{NumberSet, span}
 use Rattle.rtps_wire.specs.Fields.{sn_text}
+use Rattle.rtps_wire.specs.Names.{max_bits, max_sn}
 
 -- the lowest bits of a word, the highest of them first
 unfoldable pub bits_below : ℕ → ℕ → List Bool
@@ -37,11 +38,11 @@ set_text order f = sn_text order f.base ++ number order w32 f.num_bits ++ flat_m
 abbrev pub words_for : ℕ → ℕ
 words_for num_bits = (num_bits + 31) / 32
 
--- a valid set: a base from 1 to 2^62, at most 256 bits, and their words
+-- a valid set: a base from 1 to `max_sn`, at most `max_bits` bits, and their words
 pub record IsSetField (f : SetField) : Type 0 where
   pub first : 1 ≤ f.base
-  pub small : f.base ≤ 2 ^ 62
-  pub few : f.num_bits ≤ 256
+  pub small : f.base ≤ max_sn
+  pub few : f.num_bits ≤ max_bits
   pub enough : length f.words ≡ words_for f.num_bits
   pub each : AllByRecursion (λ w. w < 2 ^ 32) f.words
 
@@ -51,7 +52,7 @@ unfoldable pub set_of : SetField → NumberSet
 set_of f = record {
   base = f.base;
   members = take f.num_bits (flat_map word_bits f.words)
-      ++ replicate (256 - f.num_bits) false;
+      ++ replicate (max_bits - f.num_bits) false;
 }
 
 -- The bytes begin with a set, in whichever way it stands there.
@@ -64,8 +65,8 @@ pub record ReadsSet (order : Endianness) (bytes : List ℕ) (s : NumberSet) (res
 -- a set that has a written form
 pub record IsSet (s : NumberSet) : Type 0 where
   pub first : 1 ≤ s.base
-  pub small : s.base ≤ 2 ^ 62
-  pub places : length s.members ≡ 256
+  pub small : s.base ≤ max_sn
+  pub places : length s.members ≡ max_bits
 
 -- ---- as written
 
