@@ -33,14 +33,14 @@ info_ts_at flags body = if has_flag flags flag_invalidate then Some None else (d
 -- the HEARTBEAT that a body is: firstSN is at least 1, and at most one more than lastSN
 unfoldable pub heartbeat_at : ℕ → List ℕ → Option Heartbeat
 heartbeat_at flags body = do
-  x ← both (both (both (both entity_id_at entity_id_at) (sn_at (order_of flags))) (sn_at (order_of flags)))
-      (count_at (order_of flags)) body
-  if nat_lt x.0.0.0.1 1 || nat_lt (x.0.0.1 + 1) x.0.0.0.1 then None else Some (record {
-    reader_id = x.0.0.0.0.0;
-    writer_id = x.0.0.0.0.1;
-    first_sn = x.0.0.0.1;
-    last_sn = x.0.0.1;
-    count = x.0.1;
+  (((((reader, writer), first), last), count), rest) ← both (both (both (both entity_id_at entity_id_at)
+      (sn_at (order_of flags))) (sn_at (order_of flags))) (count_at (order_of flags)) body
+  if nat_lt first 1 || nat_lt (last + 1) first then None else Some (record {
+    reader_id = reader;
+    writer_id = writer;
+    first_sn = first;
+    last_sn = last;
+    count = count;
     final_flag = has_flag flags flag_final;
     liveliness_flag = has_flag flags flag_liveliness;
   })
