@@ -13,8 +13,8 @@ ghost use Rattle.rtps_wire.specs.DataAt.{data_head_at, shown_key_at, ended_at, c
 use crate::field::{Ids, MAX_SN, has_flag, order_of, put_ids, put_u16, put_u64, take_ids, take_sn};
 use crate::names::{
     EXTRA_FLAGS, FLAG_DATA, FLAG_ENDIANNESS, FLAG_INLINE_QOS, FLAG_KEY, FLAG_NON_STANDARD,
-    LEAST_OCTETS_TO_INLINE_QOS, LEN_DATUM_HEAD, LEN_KEY_FORM, LEN_PARAMETERS, PID_KEY_HASH,
-    PID_SENTINEL, PID_STATUS_INFO, STATUS_DISPOSED, STATUS_UNREGISTERED,
+    LEAST_OCTETS_TO_INLINE_QOS, LEN_DATUM_HEAD, LEN_KEY_FORM, LEN_PARAMETERS, MAX_CONTENT,
+    PID_KEY_HASH, PID_SENTINEL, PID_STATUS_INFO, STATUS_DISPOSED, STATUS_UNREGISTERED,
 };
 use crate::parameters::{Parameters, put_parameter, take_parameters};
 use crate::payload::{put_datum, put_key_form};
@@ -221,7 +221,7 @@ pub fn put_data(out: &mut Vec<u8>, d: &Data) -> Result<(), Code>
 pub fn content_len(content: &DataContent) -> usize
     requires { IsContent content.now }
     ensures len { result ≡ length (text_of_content content.now) }
-    ensures small { result ≤ 1048 }
+    ensures small { result ≤ MAX_CONTENT }
 {
     match content {
         DataContent::Write(datum) => LEN_DATUM_HEAD + datum.value().len(),

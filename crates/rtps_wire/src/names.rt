@@ -5,6 +5,8 @@
 //!
 //! RTPS 2.5, 9.3 (fields), 9.4.4 (header), 9.4.5 (submessages), 9.6 (parameters) and 10 (payload).
 
+use dds_base::MAX_VALUE;
+
 // ---- the header of a message
 
 /// The major version: messages of another are none.
@@ -157,3 +159,11 @@ pub const LEN_DATUM_HEAD: usize = LEN_KEY_FORM + 4;
 
 /// Key hash, status info and sentinel.
 pub const LEN_PARAMETERS: usize = 3 * LEN_PARAMETER_HEAD + LEN_KEY + LEN_STATUS_INFO;
+
+// ---- the longest that is written
+
+/// The longest content of a DATA: a datum of the longest value.
+pub const MAX_CONTENT: usize = LEN_DATUM_HEAD + MAX_VALUE;
+
+/// The longest fields of a submessage: those of a DATA.
+pub const MAX_FIELDS: usize = LEN_DATA_HEAD + MAX_CONTENT;

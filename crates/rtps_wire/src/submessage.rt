@@ -20,7 +20,7 @@ pub enum Submessage<'a> {
     Pad,
     /// What follows is for the peer with this prefix; the zero prefix names every peer.
     InfoDst(GuidPrefix),
-    /// What follows has this source timestamp, in units of 2^-32 second, or none.
+    /// What follows has this source timestamp, in units of 2^-32 second; with `None`, the invalid time, it has none.
     InfoTs(Option<u64>),
     /// A change of a writer.
     Data(Data<'a>),

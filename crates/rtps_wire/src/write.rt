@@ -2,7 +2,7 @@
 //!
 //! RTPS 2.5, 8.3.2 and 9.4.
 
-ghost use Rattle.std.specs.Prelude.{◌≡◌, ◌<◌, ◌≤◌, [], ◌++◌, length, replicate, OnOk, IfOk, IfErr, IsTrue, ◌↔◌};
+ghost use Rattle.std.specs.Prelude.{◌≡◌, ◌<◌, ◌≤◌, ◌+◌, [], ◌++◌, length, replicate, OnOk, IfOk, IfErr, IsTrue, ◌↔◌};
 ghost use Rattle.rtps_wire.specs.Submessages.{id_of, flags_of, text_of, padding, IsSpellable, spelling_of_submessage};
 ghost use Rattle.rtps_wire.specs.Messages.{IsWritable, header_text, spelling_of};
 ghost use Rattle.rtps_wire.specs.Frames.{frame_text};
@@ -19,7 +19,7 @@ use crate::names::{
     FLAG_ENDIANNESS, FLAG_FINAL, FLAG_INVALIDATE, FLAG_LIVELINESS, ID_ACKNACK, ID_DATA, ID_GAP,
     ID_HEARTBEAT, ID_INFO_DST, ID_INFO_TS, ID_PAD, LEN_ACKNACK_REST, LEN_ALIGNED, LEN_DATA_HEAD,
     LEN_GAP_HEAD, LEN_HEADER, LEN_HEARTBEAT, LEN_MOMENT, LEN_PREFIX, LEN_SUBMESSAGE_HEADER,
-    MAJOR_VERSION, MINOR_VERSION, VENDOR_UNKNOWN,
+    MAJOR_VERSION, MAX_FIELDS, MINOR_VERSION, VENDOR_UNKNOWN,
 };
 use crate::set_field::{is_set, set_len};
 use crate::submessage::Submessage;
@@ -82,7 +82,7 @@ fn put_text(out: &mut Vec<u8>, submessage: &Submessage) -> Result<(), Code>
 fn text_len(submessage: &Submessage) -> usize
     requires { IsSpellable submessage.now }
     ensures len { result ≡ length (text_of submessage.now) }
-    ensures small { result ≤ 1068 }
+    ensures small { result ≤ MAX_FIELDS }
 {
     match submessage {
         Submessage::InfoDst(_) => LEN_PREFIX,
@@ -168,14 +168,14 @@ fn is_spellable(submessage: &Submessage) -> bool
 fn spelling_len(submessage: &Submessage) -> usize
     requires { IsSpellable submessage.now }
     ensures len { result ≡ length (spelling_of_submessage submessage.now) }
-    ensures small { result < 2000 }
+    ensures small { result < LEN_SUBMESSAGE_HEADER + MAX_FIELDS + LEN_ALIGNED }
 {
     let len = text_len(submessage);
     LEN_SUBMESSAGE_HEADER + len + zeros_after(len)
 }
 
 /// Whether a message can be written: it has no `Submessage::Other`, each field is in its range, each value has at most
-/// 1,024 octets, and all of it at most `MAX_MESSAGE`.
+/// `dds_base::MAX_VALUE` octets, and all of it at most `MAX_MESSAGE`.
 pub fn is_writable(message: &Message) -> bool
     ensures writable { IsTrue result ↔ IsWritable message.now }
 {
