@@ -1,3 +1,4 @@
 pub mod Attached
 pub mod Watched
 pub mod Filtered
+pub mod Lent

@@ -2,17 +2,19 @@
 //!
 //! DDS 1.4, 2.2.2.1 (Condition, WaitSet).
 
-ghost use Rattle.std.specs.Prelude.{◌≡◌, ◌⊎◌, ℕ, nat_le, replicate, ◌+◌, ◌-◌, ◌<◌, ◌≤◌, length, map, Bool, None, Some, true, false, OnOk, OnErr, IfOk, IfErr, IfSome, IfNone, is_some};
+ghost use Rattle.std.specs.Prelude.{◌≡◌, ℕ, nat_le, replicate, ◌+◌, ◌-◌, ◌≤◌, length, map, Bool, None, Some, true, false, OnOk, OnErr, IfOk, IfErr, IfSome, IfNone, is_some};
 ghost use Rattle.std.specs.List.{list_any};
 ghost use Rattle.std.specs.Option.{option_copied};
 ghost use Rattle.dds_notices.specs.declared.mask.StatusMask.{StatusMask as Mask};
 ghost use Rattle.std.specs.Fn.{CalledAt};
+ghost use Rattle.std.specs.Borrow.{sem};
 ghost use Rattle.dds_base.specs.declared.code.Code.TheVariants.{Memory};
 ghost use Rattle.dds_base.specs.Refusal.{Refuses};
 ghost use Rattle.dds_conditions.specs.declared.condition.Cond.{Cond as CondOf};
 ghost use Rattle.dds_conditions.specs.declared.condition.Condition.TheVariants.{Guard as IsGuard};
 ghost use Rattle.dds_conditions.specs.Attached.{active_of, is_attached};
 ghost use Rattle.dds_base.specs.Number.{at_number, is_number};
+ghost use Rattle.dds_conditions.specs.Lent.{LendsWaitSet};
 ghost use Rattle.dds_conditions.specs.Watched.{attach_refusal, conditions_in, conditions_of, detaching_refusal, enabled_of, filter_refusal, free_refusal, guard_refusal, has_filter, is_timed_out, knows, knows_entity, every_status, number_refusal, opened, unless_there, use_refusal, with_attached, with_condition, with_condition_at, with_deadline, with_detached, with_enabled, with_filter, with_made, with_wait_set, with_wait_set_at, without, without_condition};
 
 use crate::condition::{Cond, Condition};
@@ -307,11 +309,8 @@ impl Watch {
         // A refusal changes nothing.
         ensures err { OnErr result (self.new ≡ self.old) }
     {
-        let Some(index) = index_of(number, self.wait_sets.len()) else {
-            return Err(Code::BadParameter);
-        };
-        free(&self.wait_sets[index])?;
-        self.wait_sets[index] = None;
+        check_free(self.wait_set(number).ok_or(Code::BadParameter)?)?;
+        self.wait_sets[number as usize - 1] = None;
         Ok(())
     }
 
@@ -337,14 +336,7 @@ impl Watch {
         // A refusal changes nothing.
         ensures err { OnErr result (self.new ≡ self.old) }
     {
-        let is_known = self.knows(condition);
-        let Some(index) = index_of(number, self.wait_sets.len()) else {
-            return Err(Code::BadParameter);
-        };
-        match &mut self.wait_sets[index] {
-            Some(waiting) if is_known => waiting.conditions.attach(condition),
-            _ => Err(Code::BadParameter),
-        }
+        self.known(number, condition)?.conditions.attach(condition)
     }
 
     /// Detaches a condition from a WaitSet.
@@ -366,14 +358,7 @@ impl Watch {
         // A refusal changes nothing.
         ensures err { OnErr result (self.new ≡ self.old) }
     {
-        let is_known = self.knows(condition);
-        let Some(index) = index_of(number, self.wait_sets.len()) else {
-            return Err(Code::BadParameter);
-        };
-        match &mut self.wait_sets[index] {
-            Some(waiting) if is_known => waiting.conditions.detach(condition),
-            _ => Err(Code::BadParameter),
-        }
+        self.known(number, condition)?.conditions.detach(condition)
     }
 
     /// The conditions of a WaitSet, in the order in which they were attached.
@@ -411,6 +396,38 @@ impl Watch {
         }
     }
 
+    /// The WaitSet of this number, to be changed; `BadParameter` where there is none.
+    fn wait_set_mut(&mut self, number: u32) -> Result<&mut Waiting, Code>
+        ensures* writes_back { sem 𝓛 (LendsWaitSet self.entry number result) }
+        ensures there { IfOk result
+            (λ waiting. at_number self.old.wait_sets number ≡ Some waiting.now) }
+        ensures refused { IfErr result
+            (λ code. unless_there (is_some (at_number self.old.wait_sets number)) ≡ Some code) }
+    {
+        if number == 0 {
+            return Err(Code::BadParameter);
+        }
+        match self.wait_sets.get_mut(number as usize - 1) {
+            Some(Some(waiting)) => Ok(waiting),
+            _ => Err(Code::BadParameter),
+        }
+    }
+
+    /// The WaitSet of this number, to be changed, where this condition is known too; `BadParameter` where one is not.
+    fn known(&mut self, number: u32, condition: Cond) -> Result<&mut Waiting, Code>
+        ensures* writes_back { sem 𝓛 (LendsWaitSet self.entry number result) }
+        ensures there { IfOk result
+            (λ waiting. at_number self.old.wait_sets number ≡ Some waiting.now) }
+        ensures taken { OnOk result (attach_refusal self.old number condition ≡ None) }
+        ensures refused { IfErr result
+            (λ code. attach_refusal self.old number condition ≡ Some code) }
+    {
+        if !self.knows(condition) {
+            return Err(Code::BadParameter);
+        }
+        self.wait_set_mut(number)
+    }
+
     /// Somebody waits in a WaitSet, up to this moment.
     ///
     /// # Errors
@@ -430,13 +447,9 @@ impl Watch {
         // A refusal changes nothing.
         ensures err { OnErr result (self.new ≡ self.old) }
     {
-        let Some(place) = index_of(number, self.wait_sets.len()) else {
-            return Err(Code::BadParameter);
-        };
-        free(&self.wait_sets[place])?;
-        if let Some(waiting) = &mut self.wait_sets[place] {
-            waiting.deadline = Some(deadline);
-        }
+        let waiting = self.wait_set_mut(number)?;
+        check_free(waiting)?;
+        waiting.deadline = Some(deadline);
         Ok(())
     }
 
@@ -459,13 +472,8 @@ impl Watch {
         // A refusal changes nothing.
         ensures err { OnErr result (self.new ≡ self.old) }
     {
-        let Some(index) = index_of(number, self.wait_sets.len()) else {
-            return Err(Code::BadParameter);
-        };
-        used(&self.wait_sets[index])?;
-        if let Some(waiting) = &mut self.wait_sets[index] {
-            waiting.deadline = None;
-        }
+        self.deadline(number)?;
+        self.wait_set_mut(number)?.deadline = None;
         Ok(())
     }
 
@@ -590,40 +598,15 @@ impl Watch {
     }
 }
 
-/// The index of what has this number, counted from 1, among so many.
-fn index_of(number: u32, count: usize) -> Option<usize>
-    ensures there { IfSome result (λ index. (number ≡ index + 1) × (index < count)) }
-    ensures none { IfNone result ((number ≡ 0) ⊎ (count < number)) }
+/// That nobody waits in a WaitSet.
+fn check_free(waiting: &Waiting) -> Result<(), Code>
+    ensures ok { OnOk result (free_refusal (Some waiting.now) ≡ None) }
+    ensures refused { IfErr result (λ code. free_refusal (Some waiting.now) ≡ Some code) }
 {
-    if number == 0 || count < number as usize {
-        None
-    } else {
-        Some(number as usize - 1)
+    if waiting.deadline.is_some() {
+        return Err(Code::PreconditionNotMet);
     }
-}
-
-/// That there is a WaitSet, and nobody waits in it.
-fn free(waiting: &Option<Waiting>) -> Result<(), Code>
-    ensures ok { OnOk result (free_refusal waiting.now ≡ None) }
-    ensures refused { IfErr result (λ code. free_refusal waiting.now ≡ Some code) }
-{
-    match waiting {
-        None => Err(Code::BadParameter),
-        Some(waiting) if waiting.deadline.is_some() => Err(Code::PreconditionNotMet),
-        Some(_) => Ok(()),
-    }
-}
-
-/// That there is a WaitSet, and somebody waits in it.
-fn used(waiting: &Option<Waiting>) -> Result<(), Code>
-    ensures ok { OnOk result (use_refusal waiting.now ≡ None) }
-    ensures refused { IfErr result (λ code. use_refusal waiting.now ≡ Some code) }
-{
-    match waiting {
-        None => Err(Code::BadParameter),
-        Some(waiting) if waiting.deadline.is_none() => Err(Code::PreconditionNotMet),
-        Some(_) => Ok(()),
-    }
+    Ok(())
 }
 
 /// Detaches a condition from a WaitSet, if there is one and it is attached there.
