@@ -3,3 +3,4 @@ pub mod Advance
 pub mod Proxy
 pub mod Answer
 pub mod Reader
+pub mod Entering

@@ -2,13 +2,14 @@
 //!
 //! RTPS 2.5, 8.2 (HistoryCache of a reader, add_change).
 
-ghost use Rattle.std.specs.Prelude.{◌≡◌, ℕ, ◌+◌, ◌≤◌, List, ◌∷◌, OnOk, OnErr, IsOk, IfErr};
+ghost use Rattle.std.specs.Prelude.{◌≡◌, ℕ, ◌≤◌, List, ◌∷◌, OnOk, IsOk, IfErr};
 ghost use Rattle.dds_base.specs.declared.code.Code.TheVariants.{Memory};
 ghost use Rattle.dds_base.specs.declared.happening.Happening.{Happening};
 ghost use Rattle.dds_base.specs.declared.happening.Happening.TheVariants.{Came, Passed, Heard};
 ghost use Rattle.dds_base.specs.declared.qos.ReaderQos.{ReaderQos};
 ghost use Rattle.dds_base.specs.Ownership.{IsMatched};
 ghost use Rattle.dds_base.specs.Presence.{has_room};
+ghost use Rattle.rtps_reader.specs.Entering.{SinkKeepsRest};
 
 use dds_base::{Arrival, Code, Handle, Moment, Sn};
 
@@ -63,16 +64,9 @@ pub trait Sink {
         // The change came, and nothing else happened.
         ensures ok { OnOk result ((h : List Happening) → stands self.old h
             → stands self.new (Came arrival ∷ h)) }
-        // A refusal leaves what happened as it was.
-        ensures err { OnErr result ((h : List Happening) → stands self.old h → stands self.new h) }
-        // The policies stay.
-        ensures qos { qos self.new ≡ qos self.old }
-        // It takes the memory of one entry at most.
-        ensures spare { spare self.old ≤ spare self.new + 1 }
-        // Where there is memory for an entry it succeeds.
-        ensures succeeds { 1 ≤ spare self.old → IsOk result }
-        // It is refused for want of memory alone.
-        ensures memory { IfErr result (λ code. code ≡ Memory) };
+        // It is an entry as each is: the policies stay, it takes the memory of one entry at most, where there is that
+        // it succeeds, and it is refused for want of memory alone, and then leaves what happened as it was.
+        ensures keeps { SinkKeepsRest stands qos spare self.old self.new result };
 
     /// Enters that the changes from `first` to `last` of a writer were passed over.
     ///
@@ -85,16 +79,9 @@ pub trait Sink {
         // They were passed over, and nothing else happened.
         ensures ok { OnOk result ((h : List Happening) → stands self.old h
             → stands self.new (Passed writer first last ∷ h)) }
-        // A refusal leaves what happened as it was.
-        ensures err { OnErr result ((h : List Happening) → stands self.old h → stands self.new h) }
-        // The policies stay.
-        ensures qos { qos self.new ≡ qos self.old }
-        // It takes the memory of one entry at most.
-        ensures spare { spare self.old ≤ spare self.new + 1 }
-        // Where there is memory for an entry it succeeds.
-        ensures succeeds { 1 ≤ spare self.old → IsOk result }
-        // It is refused for want of memory alone.
-        ensures memory { IfErr result (λ code. code ≡ Memory) };
+        // It is an entry as each is: the policies stay, it takes the memory of one entry at most, where there is that
+        // it succeeds, and it is refused for want of memory alone, and then leaves what happened as it was.
+        ensures keeps { SinkKeepsRest stands qos spare self.old self.new result };
 
     /// Enters that a writer asserted its liveliness without a change, at a moment of the reader's peer.
     ///
@@ -107,14 +94,7 @@ pub trait Sink {
         // It was heard, and nothing else happened.
         ensures ok { OnOk result ((h : List Happening) → stands self.old h
             → stands self.new (Heard writer moment ∷ h)) }
-        // A refusal leaves what happened as it was.
-        ensures err { OnErr result ((h : List Happening) → stands self.old h → stands self.new h) }
-        // The policies stay.
-        ensures qos { qos self.new ≡ qos self.old }
-        // It takes the memory of one entry at most.
-        ensures spare { spare self.old ≤ spare self.new + 1 }
-        // Where there is memory for an entry it succeeds.
-        ensures succeeds { 1 ≤ spare self.old → IsOk result }
-        // It is refused for want of memory alone.
-        ensures memory { IfErr result (λ code. code ≡ Memory) };
+        // It is an entry as each is: the policies stay, it takes the memory of one entry at most, where there is that
+        // it succeeds, and it is refused for want of memory alone, and then leaves what happened as it was.
+        ensures keeps { SinkKeepsRest stands qos spare self.old self.new result };
 }
