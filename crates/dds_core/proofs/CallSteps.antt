@@ -243,12 +243,15 @@ looks kept i k k' status config peer s at lt tells enters =
       record {
         same_number = refl;
         knows = refl;
-        step = (record {
-          answers =
-              answered_as _ (LivelinessLost (liveliness_lost_at (own_writer peer.part (suc i)))) peer.part.dds
-              peer.part _ known (ap LivelinessLost told);
-          rtps = refl;
-        }, refl);
+        step = (
+          record {
+            answers =
+                answered_as _ (LivelinessLost (liveliness_lost_at (own_writer peer.part (suc i)))) peer.part.dds
+                peer.part _ known (ap LivelinessLost told);
+            rtps = refl;
+          },
+          refl,
+        );
         sent = λ p x m h.
             absurd (omega (arith, m.1));
       },

@@ -203,9 +203,7 @@ fn told_by_data(alloc: Global, receiver: &MessageReceiver, body: &Data) -> Resul
     ensures told { IfOk result (IsToldBy (receiver_at receiver.now) (submessage.Data body.now)) }
     ensures memory { IfErr result (λ code. code ≡ Memory) }
 {
-    let change = body
-        .content
-        .to_change(alloc, receiver.timestamp)?;
+    let change = body.content.to_change(alloc, receiver.timestamp)?;
     Ok(Told::Change {
         number: body.writer_sn,
         change,

@@ -153,9 +153,9 @@ impl<F: Filter, L: Listener> World<F, L> {
     ///
     /// An event at a peer that does not exist, and the delivery of a packet that was never sent, are refused with
     /// `BadParameter`. A call is answered as `Call` says, and a tick as `Event::Tick`: at it writers die whose lease is
-    /// over. What is refused changes nothing, but for `NoData`, which is entered as the access that it is, and `Timeout`
-    /// of a look at a WaitSet, which ends the wait. At the end of an event the listeners of its peer are told what it
-    /// raised, as `Core::step` says.
+    /// over. What is refused changes nothing, but for `NoData`, which is entered as the access that it is, and
+    /// `Timeout` of a look at a WaitSet, which ends the wait. At the end of an event the listeners of its peer are told
+    /// what it raised, as `Core::step` says.
     pub fn step(&mut self, event: WorldEvent) -> Reply
         // For each state that the network stands for, the reply is one that the machine without packets gives, by what
         // the filters mean, and the network stands for the state at the event's end, once listeners were told: this is
