@@ -1,5 +1,9 @@
 -- What a network stands for, and what its steps and runs promise.
 --
+-- To be believed are `Steps`, `Announces`, `MovesOn`, `KeepsRules`, `Runs`, and `WorldKept` and `traffic`, which they
+-- name. What a network stands for is not, since they are said of all of it; and inner functions alone cite `Posts` and
+-- `ArePosted`.
+--
 -- The network is this project's own; its peers behave by RTPS 2.5, 8.4, and their listeners by DDS 1.4, 2.2.4.3.
 use Rattle.std.specs.Prelude.{◌≡◌, ◌≢◌, ◌⊎◌, ℕ, suc, ◌+◌, ◌-◌, ◌^◌, ◌≤◌, min, List, [], ◌∷◌, ◌++◌, length, get_or, slice_get, Some, Contains, AllPairs}
 use Rattle.dds_base.specs.declared.config.Config.{Config}

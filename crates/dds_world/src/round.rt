@@ -33,8 +33,7 @@ pub struct RoundReply {
 /// says. Where it has not, one of these is so, and the answer shows which:
 ///
 /// - memory lacked: a reply is a refusal, or a report whose `refused` names a submessage;
-/// - a packet was not sent: the `unsent` of a reply is greater than `unsent_before`; or that was 2^64 - 1, where the
-/// count
+/// - a packet was not sent: the `unsent` of a reply is greater than `unsent_before`; or that was 2^64 - 1, where it
 ///   stays;
 /// - the writer has used up its HEARTBEAT counts, 2^31 - 1: there is one reply, though the reader was behind;
 /// - the reader has used up its ACKNACK counts to the writer, as many: there are two replies;
