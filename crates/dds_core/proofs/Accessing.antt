@@ -22,18 +22,18 @@ use Rattle.dds_base.specs.Number.{at_number}
 use Rattle.dds_cache.specs.declared.access_kind.AccessKind.{AccessKind}
 use Rattle.dds_cache.specs.declared.access_kind.AccessKind.TheVariants.{Read as Reading, Take as Taking}
 use Rattle.dds_cache.specs.Standing.{Stored, qos_of, StandsFor as CacheStandsFor, entry_of, AccessAnswers, AfterAccess, picked, refusal}
-use Rattle.dds_model.specs.declared.call.Call.{Call}
-use Rattle.dds_model.specs.declared.event.Event.TheVariants as event
-use Rattle.dds_model.specs.declared.event.Output.{Output}
-use Rattle.dds_model.specs.declared.reply.Reply.{Reply}
-use Rattle.dds_model.specs.declared.reply.Reply.TheVariants.{Samples, Refused}
-use Rattle.dds_model.specs.Refusals.{access_refusal}
-use Rattle.dds_model.specs.Calls.{Answers as CallAnswers, AnswersAccess, AnswersByCondition, CallStep, Effect, nothing, effect, effect_of, picked_at, with_happening}
-use Rattle.dds_model.specs.Numbered.{has_element}
+use Rattle.dds_machine.specs.declared.call.Call.{Call}
+use Rattle.dds_protocol.specs.declared.event.Event.TheVariants as event
+use Rattle.dds_protocol.specs.declared.event.Output.{Output}
+use Rattle.dds_machine.specs.declared.reply.Reply.{Reply}
+use Rattle.dds_machine.specs.declared.reply.Reply.TheVariants.{Samples, Refused}
+use Rattle.dds_machine.specs.Refusals.{access_refusal}
+use Rattle.dds_machine.specs.Calls.{Answers as CallAnswers, AnswersAccess, AnswersByCondition, CallStep, Effect, nothing, effect, effect_of, picked_at, with_happening}
+use Rattle.dds_machine.specs.Numbered.{has_element}
 use Rattle.dds_conditions.specs.Watched.{no_filters}
-use Rattle.dds_model.specs.Part.{Part, Dds, Reader, WriterProxy, own_reader, own_proxies, Seen}
-use Rattle.dds_model.specs.Peer.{Peer}
-use Rattle.dds_model.specs.Watching.{Test, Tests, condition_refusal, condition_selection, filter_of, test_of}
+use Rattle.dds_machine.specs.Part.{Part, Dds, Reader, WriterProxy, own_reader, own_proxies, Seen}
+use Rattle.dds_protocol.specs.Peer.{Peer}
+use Rattle.dds_machine.specs.Watching.{Test, Tests, condition_refusal, condition_selection, filter_of, test_of}
 use Rattle.dds_core.specs.Accesses.{access_call, condition_call}
 use Rattle.dds_core.specs.declared.watching.Asked.{Asked}
 use Rattle.dds_core.specs.declared.matching.WriterName.{WriterName}
@@ -41,7 +41,7 @@ use Rattle.rtps_reader.specs.Reader.{Proxies, Tracks}
 use Rattle.rtps_reader.specs.Tracked.{Tracked}
 use Rattle.dds_lease.specs.Standing.{Kept as Leased, StandsFor as LeasesStandFor}
 use Rattle.dds_core.specs.Stored.{StoreKept, Holds}
-use Rattle.dds_model.specs.declared.endpoint.Endpoint.{Endpoint}
+use Rattle.dds_machine.specs.declared.endpoint.Endpoint.{Endpoint}
 use Rattle.dds_core.proofs.Rows.{writers_of}
 use Rattle.dds_core.specs.Kept.{ReaderKept, PeerKept}
 use Rattle.dds_core.specs.Looking.{TakesOnly, access_reply}

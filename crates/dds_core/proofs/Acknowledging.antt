@@ -8,15 +8,15 @@ use Rattle.std.proofs.lemmas.List.Elements.{All-from_recursion, recursion_from_A
 use Rattle.std.proofs.lemmas.Option.{same_Some}
 use Rattle.rtps_writer.specs.Acknack.{applied, is_applied, if_later, newly_acknowledged}
 use Rattle.rtps_writer.specs.WriterState.{WriterState, acknowledged_by}
-use Rattle.dds_model.specs.declared.endpoint.Endpoint.{Endpoint}
+use Rattle.dds_machine.specs.declared.endpoint.Endpoint.{Endpoint}
 use Rattle.std.specs.Option.{option_map}
 use Rattle.dds_base.specs.Counts.{is_later}
-use Rattle.dds_model.specs.declared.reply.Move.TheVariants.{Acknowledged}
-use Rattle.dds_model.specs.Part.{ReaderProxy, Writer, same_endpoint, row_of, acknowledged_of, with_acknowledged, writer_changes}
+use Rattle.dds_machine.specs.declared.reply.Move.TheVariants.{Acknowledged}
+use Rattle.dds_machine.specs.Part.{ReaderProxy, Writer, same_endpoint, row_of, acknowledged_of, with_acknowledged, writer_changes}
 use Rattle.dds_core.specs.Answering.{acknowledged_moves}
-use Rattle.dds_model.specs.Protocol.{acknowledging}
-use Rattle.dds_model.proofs.InOrder.{same_self}
-use Rattle.dds_model.proofs.Tables.{same_is}
+use Rattle.dds_protocol.specs.Protocol.{acknowledging}
+use Rattle.dds_protocol.proofs.InOrder.{same_self}
+use Rattle.dds_machine.proofs.Tables.{same_is}
 use Rattle.dds_core.specs.Standing.{state_of}
 
 -- none of these rows is the reader's

@@ -9,7 +9,7 @@ use Rattle.rtps_wire.specs.declared.submessage.Submessage.TheVariants.{InfoDst}
 use Rattle.rtps_wire.specs.Data.{IsContent}
 use Rattle.rtps_wire.specs.Messages.{IsWritable, spelling_of}
 use Rattle.rtps_wire.proofs.LengthLaws.{short_writable}
-use Rattle.dds_model.specs.declared.event.Packet.{Packet}
+use Rattle.dds_protocol.specs.declared.event.Packet.{Packet}
 use Rattle.dds_core.specs.declared.matching.Destination.{Destination}
 use Rattle.dds_core.specs.declared.sending.Sender.{Sender}
 use Rattle.dds_core.specs.Sending.{announcement, IsAnnouncement, AreAnnouncements, Announces, IsAddressable, AddsPacket}

@@ -2,16 +2,16 @@
 use Rattle.std.proofs.Common.{◌≡◌, ℕ, Bool, true, false, List, sym, subst}
 use Rattle.dds_base.specs.declared.config.Config.{Config}
 use Rattle.dds_conditions.specs.Watched.{no_filters}
-use Rattle.dds_model.specs.declared.call.Call.{Call}
-use Rattle.dds_model.specs.declared.call.Call.TheVariants as call
-use Rattle.dds_model.specs.declared.event.Event.TheVariants as event
-use Rattle.dds_model.specs.declared.event.Output.{Output}
-use Rattle.dds_model.specs.declared.reply.Reply.{Reply}
-use Rattle.dds_model.specs.declared.reply.Reply.TheVariants.{KeyValue, Refused, Reported}
-use Rattle.dds_model.specs.Calls.{Answers}
-use Rattle.dds_model.specs.Part.{Dds, Part}
-use Rattle.dds_model.specs.Peer.{EventStep, Peer}
-use Rattle.dds_model.specs.Watching.{Tests}
+use Rattle.dds_machine.specs.declared.call.Call.{Call}
+use Rattle.dds_machine.specs.declared.call.Call.TheVariants as call
+use Rattle.dds_protocol.specs.declared.event.Event.TheVariants as event
+use Rattle.dds_protocol.specs.declared.event.Output.{Output}
+use Rattle.dds_machine.specs.declared.reply.Reply.{Reply}
+use Rattle.dds_machine.specs.declared.reply.Reply.TheVariants.{KeyValue, Refused, Reported}
+use Rattle.dds_machine.specs.Calls.{Answers}
+use Rattle.dds_machine.specs.Part.{Dds, Part}
+use Rattle.dds_protocol.specs.Peer.{EventStep, Peer}
+use Rattle.dds_machine.specs.Watching.{Tests}
 use Rattle.dds_core.specs.Kept.{PeerKept}
 use Rattle.dds_core.specs.Standing.{SoundSteps, SoundStepsBy, Steps, StepsBy}
 

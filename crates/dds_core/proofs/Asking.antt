@@ -8,14 +8,14 @@ use Rattle.dds_base.specs.declared.key.Key.{Key}
 use Rattle.dds_base.specs.declared.qos.ReaderQos.{ReaderQos}
 use Rattle.dds_base.specs.Access.{instance_of, handle_of}
 use Rattle.dds_cache.specs.Standing.{qos_of}
-use Rattle.dds_model.specs.declared.call.Call.TheVariants as call
-use Rattle.dds_model.specs.declared.event.Event.TheVariants as event
-use Rattle.dds_model.specs.declared.reply.Reply.TheVariants.{KeyValue, InstanceHandle, Refused}
-use Rattle.dds_model.specs.Refusals.{reader_refusal, key_of, key_refusal}
-use Rattle.dds_model.specs.Numbered.{has_element}
-use Rattle.dds_model.specs.Calls.{handle_at}
-use Rattle.dds_model.specs.Part.{Part, own_reader}
-use Rattle.dds_model.specs.Peer.{Peer}
+use Rattle.dds_machine.specs.declared.call.Call.TheVariants as call
+use Rattle.dds_protocol.specs.declared.event.Event.TheVariants as event
+use Rattle.dds_machine.specs.declared.reply.Reply.TheVariants.{KeyValue, InstanceHandle, Refused}
+use Rattle.dds_machine.specs.Refusals.{reader_refusal, key_of, key_refusal}
+use Rattle.dds_machine.specs.Numbered.{has_element}
+use Rattle.dds_machine.specs.Calls.{handle_at}
+use Rattle.dds_machine.specs.Part.{Part, own_reader}
+use Rattle.dds_protocol.specs.Peer.{Peer}
 use Rattle.dds_core.specs.Kept.{ReaderKept, PeerKept}
 use Rattle.dds_core.specs.Standing.{StandsFor}
 use Rattle.dds_core.specs.Stored.{Holds}

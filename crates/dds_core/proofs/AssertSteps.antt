@@ -8,19 +8,19 @@ use Rattle.dds_base.specs.declared.config.Config.{Config}
 use Rattle.dds_base.specs.declared.guid.EntityId.{EntityId}
 use Rattle.dds_base.specs.declared.guid.GuidPrefix.{GuidPrefix}
 use Rattle.dds_base.specs.Written.{Asserted}
-use Rattle.dds_model.specs.declared.call.Call.TheVariants as call
-use Rattle.dds_model.specs.declared.event.Event.TheVariants as event
-use Rattle.dds_model.specs.declared.event.Packet.{Packet}
-use Rattle.dds_model.specs.declared.reply.Reply.TheVariants.{Done, Refused}
-use Rattle.dds_model.specs.Refusals.{assert_refusal}
-use Rattle.dds_model.specs.Calls.{CallStep}
-use Rattle.dds_model.specs.Numbered.{has_element}
+use Rattle.dds_machine.specs.declared.call.Call.TheVariants as call
+use Rattle.dds_protocol.specs.declared.event.Event.TheVariants as event
+use Rattle.dds_protocol.specs.declared.event.Packet.{Packet}
+use Rattle.dds_machine.specs.declared.reply.Reply.TheVariants.{Done, Refused}
+use Rattle.dds_machine.specs.Refusals.{assert_refusal}
+use Rattle.dds_machine.specs.Calls.{CallStep}
+use Rattle.dds_machine.specs.Numbered.{has_element}
 use Rattle.dds_conditions.specs.Watched.{no_filters}
-use Rattle.dds_model.specs.Part.{ReaderProxy, Writer, has_readers, heartbeats_used, own_writer, peers_of}
-use Rattle.dds_model.specs.Peer.{Peer}
-use Rattle.dds_model.specs.DueMessages.{Due, AreSent, assertion_message, assertions_due, writer_entity}
-use Rattle.dds_model.specs.Receipt.{prefix_of}
-use Rattle.dds_model.proofs.DuesAssertions.{assertions_true}
+use Rattle.dds_machine.specs.Part.{ReaderProxy, Writer, has_readers, heartbeats_used, own_writer, peers_of}
+use Rattle.dds_protocol.specs.Peer.{Peer}
+use Rattle.dds_protocol.specs.DueMessages.{Due, AreSent, assertion_message, assertions_due, writer_entity}
+use Rattle.dds_protocol.specs.Receipt.{prefix_of}
+use Rattle.dds_protocol.proofs.DuesAssertions.{assertions_true}
 use Rattle.dds_core.specs.declared.matching.Destination.{Destination}
 use Rattle.dds_core.specs.Beating.{HasNoCount, TellsOf, assertions_of, due_to}
 use Rattle.dds_core.specs.Kept.{WriterKept, PeerKept}

@@ -12,10 +12,10 @@ use Rattle.rtps_writer.specs.Standing.{Kept, StandsFor as RtpsStandsFor}
 use Rattle.rtps_writer.specs.Liveliness.{assert_refusal, asserted, heartbeat_asserted}
 use Rattle.rtps_writer.specs.WriterState.{WriterState, counts_due, last_of, history_of as rtps_history_of}
 use Rattle.rtps_writer.specs.declared.heartbeat.HeartbeatDue.{HeartbeatDue}
-use Rattle.dds_model.specs.declared.endpoint.Endpoint.{Endpoint}
-use Rattle.dds_model.specs.declared.event.Packet.{Packet}
-use Rattle.dds_model.specs.Part.{ReaderProxy, Writer, has_readers, heartbeats_used}
-use Rattle.dds_model.specs.DueMessages.{Due, AreSent, assertion_message}
+use Rattle.dds_machine.specs.declared.endpoint.Endpoint.{Endpoint}
+use Rattle.dds_protocol.specs.declared.event.Packet.{Packet}
+use Rattle.dds_machine.specs.Part.{ReaderProxy, Writer, has_readers, heartbeats_used}
+use Rattle.dds_protocol.specs.DueMessages.{Due, AreSent, assertion_message}
 use Rattle.dds_core.specs.declared.heartbeat.Beat.{Beat}
 use Rattle.dds_core.specs.declared.matching.Destination.{Destination}
 use Rattle.dds_core.specs.Beating.{Adds, IsValid, assertions_of, due_to, message_to, told_to}

@@ -16,10 +16,10 @@ use Rattle.rtps_wire.proofs.SpellingLaws.{message_again}
 use Rattle.rtps_writer.specs.Standing.{Kept, StandsFor as RtpsStandsFor}
 use Rattle.rtps_writer.specs.WriterState.{WriterState, counts_due, heartbeat_due, is_behind, is_reader_behind, last_of, history_of as rtps_history_of, ticked as rtps_ticked}
 use Rattle.rtps_writer.specs.declared.heartbeat.HeartbeatDue.{HeartbeatDue}
-use Rattle.dds_model.specs.declared.endpoint.Endpoint.{Endpoint}
-use Rattle.dds_model.specs.declared.event.Packet.{Packet}
-use Rattle.dds_model.specs.Part.{ReaderProxy, Writer, no_writer, writer_changes, has_readers, history_of}
-use Rattle.dds_model.specs.DueMessages.{Due, AreSent, heartbeat_message}
+use Rattle.dds_machine.specs.declared.endpoint.Endpoint.{Endpoint}
+use Rattle.dds_protocol.specs.declared.event.Packet.{Packet}
+use Rattle.dds_machine.specs.Part.{ReaderProxy, Writer, no_writer, writer_changes, has_readers, history_of}
+use Rattle.dds_protocol.specs.DueMessages.{Due, AreSent, heartbeat_message}
 use Rattle.dds_core.specs.declared.heartbeat.Beat.{Beat}
 use Rattle.dds_core.specs.declared.matching.Destination.{Destination}
 use Rattle.dds_core.specs.declared.matching.ReaderName.{ReaderName}

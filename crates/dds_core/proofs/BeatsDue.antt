@@ -10,20 +10,20 @@ use Rattle.dds_base.specs.declared.config.WriterConfig.{WriterConfig}
 use Rattle.dds_base.specs.declared.guid.GuidPrefix.{GuidPrefix}
 use Rattle.dds_base.specs.Written.{counts_of}
 use Rattle.rtps_wire.specs.Messages.{spelling_of}
-use Rattle.dds_model.specs.declared.endpoint.Endpoint.{Endpoint}
-use Rattle.dds_model.specs.declared.event.Packet.{Packet}
-use Rattle.dds_model.specs.declared.reply.Reply.TheVariants.{Done}
-use Rattle.dds_model.specs.Ticks.{TickStep, tick_refusal, after_tick}
-use Rattle.dds_model.specs.Claims.{Claim, Claims, IsNumbered, every_reader}
-use Rattle.dds_model.specs.Dues.{IsPartOf, AreTruthful}
-use Rattle.dds_model.specs.Part.{Part, ReaderProxy, Writer, no_writer, own_writer, acknowledged_of, has_readers, peers_of, writer_changes, NoLess}
-use Rattle.dds_model.specs.Peer.{Peer, IsTrueAt}
-use Rattle.dds_model.specs.DueMessages.{Due, AreSent, heartbeat_message, heartbeats_of, heartbeats_from, heartbeats_due, readers_behind, writer_entity}
-use Rattle.dds_model.specs.Receipt.{prefix_of}
-use Rattle.dds_model.proofs.DuesGrowth.{true_on}
-use Rattle.dds_model.proofs.DuesHeartbeats.{heartbeats_truthful}
-use Rattle.dds_model.proofs.Growth.{TickStep-acknowledged, TickStep-grows}
-use Rattle.dds_model.proofs.Tables.{no_less_same}
+use Rattle.dds_machine.specs.declared.endpoint.Endpoint.{Endpoint}
+use Rattle.dds_protocol.specs.declared.event.Packet.{Packet}
+use Rattle.dds_machine.specs.declared.reply.Reply.TheVariants.{Done}
+use Rattle.dds_machine.specs.Ticks.{TickStep, tick_refusal, after_tick}
+use Rattle.dds_protocol.specs.Claims.{Claim, Claims, IsNumbered, every_reader}
+use Rattle.dds_protocol.specs.Dues.{IsPartOf, AreTruthful}
+use Rattle.dds_machine.specs.Part.{Part, ReaderProxy, Writer, no_writer, own_writer, acknowledged_of, has_readers, peers_of, writer_changes, NoLess}
+use Rattle.dds_protocol.specs.Peer.{Peer, IsTrueAt}
+use Rattle.dds_protocol.specs.DueMessages.{Due, AreSent, heartbeat_message, heartbeats_of, heartbeats_from, heartbeats_due, readers_behind, writer_entity}
+use Rattle.dds_protocol.specs.Receipt.{prefix_of}
+use Rattle.dds_protocol.proofs.DuesGrowth.{true_on}
+use Rattle.dds_protocol.proofs.DuesHeartbeats.{heartbeats_truthful}
+use Rattle.dds_protocol.proofs.Growth.{TickStep-acknowledged, TickStep-grows}
+use Rattle.dds_machine.proofs.Tables.{no_less_same}
 use Rattle.dds_core.specs.declared.matching.Destination.{Destination}
 use Rattle.dds_core.specs.declared.matching.ReaderName.{ReaderName}
 use Rattle.dds_core.specs.Beating.{BeatsOfAll, beats_of, beats_of_all, due_to, peers_behind}

@@ -12,22 +12,22 @@ use Rattle.dds_base.specs.declared.key.Key.{Key}
 use Rattle.dds_base.specs.declared.status.LivelinessLostStatus.{LivelinessLostStatus}
 use Rattle.dds_base.specs.Refusal.{Refuses}
 use Rattle.dds_base.specs.Written.{Registered, Changed, LookedAt, is_key_registered, liveliness_lost_status}
-use Rattle.dds_model.specs.declared.call.Call.{Call}
-use Rattle.dds_model.specs.declared.call.Call.TheVariants as call
-use Rattle.dds_model.specs.declared.event.Event.{Event}
-use Rattle.dds_model.specs.declared.event.Event.TheVariants as event
-use Rattle.dds_model.specs.declared.event.Output.{Output}
-use Rattle.dds_model.specs.declared.reply.Reply.{Reply}
-use Rattle.dds_model.specs.declared.reply.Reply.TheVariants.{Done, LivelinessLost, Refused}
-use Rattle.dds_model.specs.declared.endpoint.Endpoint.{Endpoint}
-use Rattle.dds_model.specs.Ticks.{tick_refusal, after_tick, is_deadly, RefusesTick, TickStep}
-use Rattle.dds_model.specs.Refusals.{writer_refusal, write_refusal, dispose_refusal, unregister_refusal, change_refusal, change_made, unregister_kind}
-use Rattle.dds_model.specs.Calls.{Effect, nothing, writes, effect, effect_of, liveliness_lost_at, IsAnswered, IsDoneUnless, Answers, CallStep}
-use Rattle.dds_model.specs.Numbered.{has_element}
+use Rattle.dds_machine.specs.declared.call.Call.{Call}
+use Rattle.dds_machine.specs.declared.call.Call.TheVariants as call
+use Rattle.dds_protocol.specs.declared.event.Event.{Event}
+use Rattle.dds_protocol.specs.declared.event.Event.TheVariants as event
+use Rattle.dds_protocol.specs.declared.event.Output.{Output}
+use Rattle.dds_machine.specs.declared.reply.Reply.{Reply}
+use Rattle.dds_machine.specs.declared.reply.Reply.TheVariants.{Done, LivelinessLost, Refused}
+use Rattle.dds_machine.specs.declared.endpoint.Endpoint.{Endpoint}
+use Rattle.dds_machine.specs.Ticks.{tick_refusal, after_tick, is_deadly, RefusesTick, TickStep}
+use Rattle.dds_machine.specs.Refusals.{writer_refusal, write_refusal, dispose_refusal, unregister_refusal, change_refusal, change_made, unregister_kind}
+use Rattle.dds_machine.specs.Calls.{Effect, nothing, writes, effect, effect_of, liveliness_lost_at, IsAnswered, IsDoneUnless, Answers, CallStep}
+use Rattle.dds_machine.specs.Numbered.{has_element}
 use Rattle.dds_conditions.specs.Watched.{no_filters}
-use Rattle.dds_model.specs.Part.{Part, Dds, Writer, own_writer}
-use Rattle.dds_model.specs.Peer.{Peer, PeerStep}
-use Rattle.dds_model.specs.Watching.{Tests}
+use Rattle.dds_machine.specs.Part.{Part, Dds, Writer, own_writer}
+use Rattle.dds_protocol.specs.Peer.{Peer, PeerStep}
+use Rattle.dds_machine.specs.Watching.{Tests}
 use Rattle.dds_core.specs.Kept.{WriterKept, ReaderKept, PeerKept, WriterIdentity, ReaderIdentity, identity_of, reader_identity, writer_identity, IsPeerOf}
 use Rattle.dds_core.specs.Expiring.{AllExpire, HasDeadly}
 use Rattle.dds_core.specs.Readiness.{AreAlike}

@@ -7,10 +7,10 @@ use Rattle.dds_base.specs.declared.guid.GuidPrefix.{GuidPrefix}
 use Rattle.rtps_wire.specs.declared.data.DataContent.{DataContent}
 use Rattle.rtps_wire.specs.Content.{content_of}
 use Rattle.rtps_wire.specs.Messages.{spelling_of}
-use Rattle.dds_model.specs.declared.event.Packet.{Packet}
-use Rattle.dds_model.specs.Part.{Writer}
-use Rattle.dds_model.specs.DueMessages.{Due, AreSent, change_message, changes_due, writer_entity}
-use Rattle.dds_model.specs.Receipt.{prefix_of}
+use Rattle.dds_protocol.specs.declared.event.Packet.{Packet}
+use Rattle.dds_machine.specs.Part.{Writer}
+use Rattle.dds_protocol.specs.DueMessages.{Due, AreSent, change_message, changes_due, writer_entity}
+use Rattle.dds_protocol.specs.Receipt.{prefix_of}
 use Rattle.dds_core.specs.declared.matching.Destination.{Destination}
 use Rattle.dds_core.specs.declared.sending.Sender.{Sender}
 use Rattle.dds_core.specs.Beating.{due_to}

@@ -1,12 +1,12 @@
 -- A delivery is a step of the peer by the rules of the protocol.
 use Rattle.std.proofs.Common.{ℕ, List, ◌∷◌, refl}
-use Rattle.dds_model.specs.declared.event.Event.TheVariants as event
-use Rattle.dds_model.specs.declared.event.Output.{Output}
-use Rattle.dds_model.specs.declared.reply.Report.{Report}
-use Rattle.dds_model.specs.declared.reply.Reply.TheVariants.{Reported}
-use Rattle.dds_model.specs.Peer.{Peer, state_of}
-use Rattle.dds_model.proofs.DuesPackets.{packet_truthful}
-use Rattle.dds_model.proofs.RuledPackets.{takes_packet}
+use Rattle.dds_protocol.specs.declared.event.Event.TheVariants as event
+use Rattle.dds_protocol.specs.declared.event.Output.{Output}
+use Rattle.dds_machine.specs.declared.reply.Report.{Report}
+use Rattle.dds_machine.specs.declared.reply.Reply.TheVariants.{Reported}
+use Rattle.dds_protocol.specs.Peer.{Peer, state_of}
+use Rattle.dds_protocol.proofs.DuesPackets.{packet_truthful}
+use Rattle.dds_protocol.proofs.RuledPackets.{takes_packet}
 use Rattle.dds_core.specs.declared.sending.Announced.{Announced}
 use Rattle.dds_core.specs.Kept.{PeerKept}
 use Rattle.dds_core.specs.Receiving.{with_state, ReceivedPacket, ReceivesPacket}

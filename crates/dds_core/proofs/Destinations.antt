@@ -7,11 +7,11 @@ use Rattle.dds_base.specs.declared.config.Config.{Config}
 use Rattle.dds_base.specs.declared.config.PeerConfig.{PeerConfig}
 use Rattle.dds_base.specs.declared.config.ReaderConfig.{ReaderConfig}
 use Rattle.dds_base.specs.Matched.{same_topic, of_readers_in, of_matched_readers}
-use Rattle.dds_model.specs.declared.endpoint.Endpoint.{Endpoint}
-use Rattle.dds_model.specs.Claims.{IsNumbered}
-use Rattle.dds_model.specs.Part.{ReaderProxy, same_endpoint, row_of, acknowledged_of}
-use Rattle.dds_model.specs.Part.{peers_of}
-use Rattle.dds_model.proofs.Tables.{same_is}
+use Rattle.dds_machine.specs.declared.endpoint.Endpoint.{Endpoint}
+use Rattle.dds_protocol.specs.Claims.{IsNumbered}
+use Rattle.dds_machine.specs.Part.{ReaderProxy, same_endpoint, row_of, acknowledged_of}
+use Rattle.dds_machine.specs.Part.{peers_of}
+use Rattle.dds_machine.proofs.Tables.{same_is}
 use Rattle.dds_core.specs.declared.matching.Destination.{Destination}
 use Rattle.dds_core.specs.declared.matching.ReaderName.{ReaderName}
 use Rattle.dds_core.specs.Matching.{has_reader, destinations, reader_name, reader_names}

@@ -15,11 +15,11 @@ use Rattle.dds_base.specs.StatusFlags.{turned_at}
 use Rattle.dds_cache.specs.Standing.{qos_of, StandsFor as CacheStandsFor}
 use Rattle.dds_lease.specs.Standing.{after_deaths_above, writer_count, StandsFor as LeasesStandFor}
 use Rattle.dds_lease.proofs.DeathLaws.{above_none}
-use Rattle.dds_model.specs.Ticks.{is_deadly, reader_ticked}
+use Rattle.dds_machine.specs.Ticks.{is_deadly, reader_ticked}
 use Rattle.dds_lease.proofs.StandingLaws.{over-live}
-use Rattle.dds_model.specs.Part.{Part, Reader, WriterProxy, no_reader}
-use Rattle.dds_model.specs.Protocol.{Known}
-use Rattle.dds_model.proofs.Tables.{numbered-map}
+use Rattle.dds_machine.specs.Part.{Part, Reader, WriterProxy, no_reader}
+use Rattle.dds_protocol.specs.Protocol.{Known}
+use Rattle.dds_machine.proofs.Tables.{numbered-map}
 use Rattle.dds_core.specs.Expiring.{AllExpire, Expires, HasDeadly, HasRoomForDeaths, HaveRoomForDeaths, IsDeadly}
 use Rattle.dds_core.specs.Kept.{ReaderIdentity, ReaderKept, reader_identity}
 use Rattle.dds_core.specs.Readiness.{AreAlike}

@@ -12,15 +12,16 @@ use Rattle.dds_notices.specs.declared.notice.Notice.{Notice}
 use Rattle.dds_base.specs.Number.{is_number}
 use Rattle.dds_notices.specs.Listeners.{Places, Sets as SlotsSet, Slotted, StandsFor as SlotsStandFor, has_entity, is_any, is_fresh, listener_refusal, nobody}
 use Rattle.dds_notices.proofs.ListenerLaws.{nobody_stands, nobody_takes}
-use Rattle.dds_model.specs.declared.event.Event.{Event}
-use Rattle.dds_model.specs.declared.event.Output.{Output}
-use Rattle.dds_model.specs.Noticing.{at_end, each_told, peer_at_end, reader_told, writer_told}
-use Rattle.dds_model.specs.Numbered.{HasNumber, numbered}
-use Rattle.dds_model.specs.Part.{Part, WriterProxy, heard_of, place_of as reader_place}
-use Rattle.dds_model.specs.Peer.{Peer}
-use Rattle.dds_model.specs.Watching.{Tests}
-use Rattle.dds_model.proofs.AtEnds.{end_rows, end_untold, end_watch}
-use Rattle.dds_model.proofs.FiltersKept.{keeps_listeners, opens_nobody}
+use Rattle.dds_protocol.specs.declared.event.Event.{Event}
+use Rattle.dds_protocol.specs.declared.event.Output.{Output}
+use Rattle.dds_machine.specs.Noticing.{at_end, each_told, reader_told, writer_told}
+use Rattle.dds_protocol.specs.Noticing.{peer_at_end}
+use Rattle.dds_machine.specs.Numbered.{HasNumber, numbered}
+use Rattle.dds_machine.specs.Part.{Part, WriterProxy, heard_of, place_of as reader_place}
+use Rattle.dds_protocol.specs.Peer.{Peer}
+use Rattle.dds_machine.specs.Watching.{Tests}
+use Rattle.dds_protocol.proofs.AtEnds.{end_rows, end_untold, end_watch}
+use Rattle.dds_protocol.proofs.FiltersKept.{keeps_listeners, opens_nobody}
 use Rattle.dds_core.specs.declared.marks.Marks.{Marks}
 use Rattle.dds_core.specs.Filtering.{Adds as FilteredAdds, FilteredKept, RefusesFilter as FilteredRefuses, StandsFor as FilteredStandsFor, Steps as FilteredSteps}
 use Rattle.dds_core.specs.Kept.{PeerKept}

@@ -3,13 +3,13 @@ use Rattle.std.proofs.Common.{◌≡◌, ℕ, zero, suc, List, [], ◌∷◌, ar
 use Rattle.std.specs.Prelude.{ℤ}
 use Rattle.dds_base.specs.declared.config.Config.{Config}
 use Rattle.dds_base.specs.Written.{Written}
-use Rattle.dds_model.specs.declared.endpoint.Endpoint.{Endpoint}
-use Rattle.dds_model.specs.Dues.{AreTellable}
-use Rattle.dds_model.specs.Numbered.{with_numbered}
-use Rattle.dds_model.specs.Part.{Part, Dds, Writer, Reader, ReaderProxy, WriterProxy, no_writer, no_reader, at_writer, own_proxies}
-use Rattle.dds_model.specs.Calls.{writes, effect, with_written}
-use Rattle.dds_model.specs.Peer.{Peer}
-use Rattle.dds_model.specs.Protocol.{Known}
+use Rattle.dds_machine.specs.declared.endpoint.Endpoint.{Endpoint}
+use Rattle.dds_protocol.specs.Dues.{AreTellable}
+use Rattle.dds_machine.specs.Numbered.{with_numbered}
+use Rattle.dds_machine.specs.Part.{Part, Dds, Writer, Reader, ReaderProxy, WriterProxy, no_writer, no_reader, at_writer, own_proxies}
+use Rattle.dds_machine.specs.Calls.{writes, effect, with_written}
+use Rattle.dds_protocol.specs.Peer.{Peer}
+use Rattle.dds_protocol.specs.Protocol.{Known}
 use Rattle.rtps_reader.specs.Tracked.{Tracked}
 use Rattle.rtps_reader.specs.Reader.{Tracks}
 use Rattle.rtps_writer.specs.Standing.{StandsFor as RtpsStandsFor}

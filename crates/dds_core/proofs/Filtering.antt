@@ -6,11 +6,11 @@ use Rattle.dds_base.specs.declared.code.Code.TheVariants.{Memory}
 use Rattle.dds_base.specs.declared.config.Config.{Config}
 use Rattle.dds_base.specs.Refusal.{Refuses}
 use Rattle.dds_conditions.specs.Watched.{Watched, filter_refusal, with_filter}
-use Rattle.dds_model.specs.declared.event.Event.{Event}
-use Rattle.dds_model.specs.declared.event.Output.{Output}
-use Rattle.dds_model.specs.Filters.{peer_with_filter}
-use Rattle.dds_model.specs.Watching.{Tests}
-use Rattle.dds_model.proofs.FiltersKept.{keeps_filters, opens_no_filters}
+use Rattle.dds_protocol.specs.declared.event.Event.{Event}
+use Rattle.dds_protocol.specs.declared.event.Output.{Output}
+use Rattle.dds_protocol.specs.Filters.{peer_with_filter}
+use Rattle.dds_machine.specs.Watching.{Tests}
+use Rattle.dds_protocol.proofs.FiltersKept.{keeps_filters, opens_no_filters}
 use Rattle.dds_core.specs.Kept.{PeerKept}
 use Rattle.dds_core.specs.Filtering.{Adds, FilteredKept, RefusesFilter, StandsFor, Steps}
 use Rattle.dds_core.specs.Opening.{opening_peer}

@@ -8,16 +8,16 @@ use Rattle.dds_base.specs.declared.status.LivelinessChangedStatus.{LivelinessCha
 use Rattle.dds_base.specs.declared.status.SampleLostStatus.{SampleLostStatus}
 use Rattle.dds_base.specs.Liveliness.{alive_count, not_alive_count, liveliness_changed_status}
 use Rattle.dds_base.specs.Statuses.{lost_count, sample_lost_status}
-use Rattle.dds_model.specs.declared.call.Call.{Call}
-use Rattle.dds_model.specs.declared.call.Call.TheVariants as call
-use Rattle.dds_model.specs.declared.event.Event.TheVariants as event
-use Rattle.dds_model.specs.declared.reply.Reply.{Reply}
-use Rattle.dds_model.specs.declared.reply.Reply.TheVariants.{SampleLost, LivelinessChanged}
-use Rattle.dds_model.specs.Refusals.{reader_refusal}
-use Rattle.dds_model.specs.Calls.{Answers, after_look, effect, effect_of, liveliness_at, lost_at, nothing, seen_lost, seen_liveliness}
+use Rattle.dds_machine.specs.declared.call.Call.{Call}
+use Rattle.dds_machine.specs.declared.call.Call.TheVariants as call
+use Rattle.dds_protocol.specs.declared.event.Event.TheVariants as event
+use Rattle.dds_machine.specs.declared.reply.Reply.{Reply}
+use Rattle.dds_machine.specs.declared.reply.Reply.TheVariants.{SampleLost, LivelinessChanged}
+use Rattle.dds_machine.specs.Refusals.{reader_refusal}
+use Rattle.dds_machine.specs.Calls.{Answers, after_look, effect, effect_of, liveliness_at, lost_at, nothing, seen_lost, seen_liveliness}
 use Rattle.dds_conditions.specs.Watched.{no_filters}
-use Rattle.dds_model.specs.Part.{Reader, Seen, own_reader}
-use Rattle.dds_model.specs.Peer.{Peer}
+use Rattle.dds_machine.specs.Part.{Reader, Seen, own_reader}
+use Rattle.dds_protocol.specs.Peer.{Peer}
 use Rattle.dds_core.specs.Kept.{ReaderKept, PeerKept}
 use Rattle.dds_core.specs.Looking.{TellsLost, TellsLiveliness}
 use Rattle.dds_core.specs.Standing.{StandsFor}

@@ -14,17 +14,17 @@ use Rattle.dds_base.specs.Refusal.{Refuses}
 use Rattle.dds_base.specs.Written.{Changed, changes_of}
 use Rattle.rtps_wire.specs.Content.{content_of, change_in}
 use Rattle.rtps_wire.proofs.ContentLaws.{change_in-content_of}
-use Rattle.dds_model.specs.declared.endpoint.Endpoint.{Endpoint}
-use Rattle.dds_model.specs.declared.event.Output.{Output}
-use Rattle.dds_model.specs.declared.event.Packet.{Packet}
-use Rattle.dds_model.specs.declared.reply.Reply.TheVariants.{Done, Refused}
-use Rattle.dds_model.specs.Part.{Writer, ReaderProxy, no_writer, own_writer, history_of, writer_changes}
-use Rattle.dds_model.specs.Refusals.{change_made, change_refusal}
-use Rattle.dds_model.specs.Calls.{with_written}
-use Rattle.dds_model.specs.Claims.{IsWriter}
-use Rattle.dds_model.specs.Peer.{Peer}
-use Rattle.dds_model.specs.DueMessages.{AreSent, changes_due}
-use Rattle.dds_model.proofs.OwnGuids.{one_writer}
+use Rattle.dds_machine.specs.declared.endpoint.Endpoint.{Endpoint}
+use Rattle.dds_protocol.specs.declared.event.Output.{Output}
+use Rattle.dds_protocol.specs.declared.event.Packet.{Packet}
+use Rattle.dds_machine.specs.declared.reply.Reply.TheVariants.{Done, Refused}
+use Rattle.dds_machine.specs.Part.{Writer, ReaderProxy, no_writer, own_writer, history_of, writer_changes}
+use Rattle.dds_machine.specs.Refusals.{change_made, change_refusal}
+use Rattle.dds_machine.specs.Calls.{with_written}
+use Rattle.dds_protocol.specs.Claims.{IsWriter}
+use Rattle.dds_protocol.specs.Peer.{Peer}
+use Rattle.dds_protocol.specs.DueMessages.{AreSent, changes_due}
+use Rattle.dds_protocol.proofs.OwnGuids.{one_writer}
 use Rattle.dds_core.specs.declared.matching.Destination.{Destination}
 use Rattle.dds_core.specs.declared.sending.Sender.{Sender}
 use Rattle.dds_core.specs.Kept.{WriterKept, PeerKept, WriterIdentity, writer_identity, configured_writer, identity_of, IsPeerOf}

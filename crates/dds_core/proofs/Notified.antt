@@ -20,10 +20,10 @@ use Rattle.dds_notices.specs.declared.notice.Notice.{Notice}
 use Rattle.dds_notices.specs.declared.notice.Status.{Status}
 use Rattle.dds_notices.specs.declared.notice.Status.TheVariants.{SampleLost, DataAvailable, LivelinessLost, LivelinessChanged}
 use Rattle.dds_notices.specs.Listeners.{Places, Slotted, StandsFor as SlotsStandFor, after_notice, taker_of}
-use Rattle.dds_model.specs.declared.endpoint.Endpoint.{Endpoint}
-use Rattle.dds_model.specs.Noticing.{each_told, looked_at, loss_raised, losses_of, seen_by, told, told_of, told_to, writer_told}
-use Rattle.dds_model.specs.Part.{Part, Reader, Seen, Writer, no_reader, no_writer, own_proxies, own_reader, own_writer}
-use Rattle.dds_model.specs.Peer.{Peer}
+use Rattle.dds_machine.specs.declared.endpoint.Endpoint.{Endpoint}
+use Rattle.dds_machine.specs.Noticing.{each_told, looked_at, loss_raised, losses_of, seen_by, told, told_of, told_to, writer_told}
+use Rattle.dds_machine.specs.Part.{Part, Reader, Seen, Writer, no_reader, no_writer, own_proxies, own_reader, own_writer}
+use Rattle.dds_protocol.specs.Peer.{Peer}
 use Rattle.dds_core.specs.declared.marks.ReaderMark.{ReaderMark}
 use Rattle.dds_core.specs.Kept.{PeerKept, ReaderKept, WriterKept, reader_identity}
 use Rattle.dds_core.specs.Noticing.{IsMarkOf, MarksPeer, MarksReaders, MarksWriters, RaisesSo, SeesStatus, Tells}

@@ -7,11 +7,12 @@ use Rattle.dds_base.specs.declared.config.WriterConfig.{WriterConfig}
 use Rattle.dds_base.specs.declared.config.ReaderConfig.{ReaderConfig}
 use Rattle.dds_base.specs.Checked.{check_refusal}
 use Rattle.dds_conditions.specs.Watched.{Watched, opened}
-use Rattle.dds_model.specs.Opening.{opening_writer, matched_writers, reader_qos, opening_part, opening_peers}
-use Rattle.dds_model.specs.Part.{Writer, Reader, WriterProxy, no_writer, no_reader, nothing_seen}
+use Rattle.dds_machine.specs.Opening.{opening_writer, matched_writers, reader_qos, opening_part}
+use Rattle.dds_protocol.specs.Opening.{opening_peers}
+use Rattle.dds_machine.specs.Part.{Writer, Reader, WriterProxy, no_writer, no_reader, nothing_seen}
 use Rattle.rtps_reader.specs.Tracked.{fresh}
-use Rattle.dds_model.specs.Protocol.{knows_nothing}
-use Rattle.dds_model.specs.Peer.{Peer, no_peer}
+use Rattle.dds_protocol.specs.Protocol.{knows_nothing}
+use Rattle.dds_protocol.specs.Peer.{Peer, no_peer}
 use Rattle.dds_core.specs.Kept.{WriterKept, ReaderKept, writer_identity, reader_identity, configured_writer, configured_reader}
 use Rattle.dds_core.specs.Opening.{OpensWriter, OpensReader, OpensEach, OpensCore, opening_peer}
 use Rattle.dds_core.specs.Standing.{WriterStands, ReaderStands, WritersStand, ReadersStand, StandsFor}

@@ -9,13 +9,13 @@ use Rattle.dds_base.specs.declared.config.PeerConfig.{PeerConfig}
 use Rattle.dds_base.specs.declared.config.ReaderConfig.{ReaderConfig}
 use Rattle.dds_base.specs.declared.guid.EntityId.{EntityId}
 use Rattle.rtps_reader.specs.Tracked.{Tracked}
-use Rattle.dds_model.specs.declared.endpoint.Endpoint.{Endpoint}
-use Rattle.dds_model.specs.Claims.{every_reader}
-use Rattle.dds_model.specs.Part.{ReaderProxy, Writer, WriterProxy, no_writer, own_proxies, same_endpoint, row_of, acknowledged_of, is_reader_behind, place_of, writer_changes}
-use Rattle.dds_model.specs.Peer.{Peer}
-use Rattle.dds_model.specs.DueMessages.{writer_entity}
-use Rattle.dds_model.proofs.Tables.{same_is}
-use Rattle.dds_model.proofs.InOrder.{same_self}
+use Rattle.dds_machine.specs.declared.endpoint.Endpoint.{Endpoint}
+use Rattle.dds_protocol.specs.Claims.{every_reader}
+use Rattle.dds_machine.specs.Part.{ReaderProxy, Writer, WriterProxy, no_writer, own_proxies, same_endpoint, row_of, acknowledged_of, is_reader_behind, place_of, writer_changes}
+use Rattle.dds_protocol.specs.Peer.{Peer}
+use Rattle.dds_protocol.specs.DueMessages.{writer_entity}
+use Rattle.dds_machine.proofs.Tables.{same_is}
+use Rattle.dds_protocol.proofs.InOrder.{same_self}
 use Rattle.dds_core.specs.declared.matching.ReaderName.{ReaderName}
 use Rattle.dds_core.specs.declared.matching.WriterName.{WriterName}
 use Rattle.dds_core.specs.declared.pairing.Pair.{Pair}

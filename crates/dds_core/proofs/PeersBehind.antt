@@ -6,8 +6,8 @@ use Rattle.std.proofs.lemmas.Bool.Decides.{nat_tests}
 use Rattle.dds_base.specs.declared.config.PeerConfig.{PeerConfig}
 use Rattle.dds_base.specs.declared.config.ReaderConfig.{ReaderConfig}
 use Rattle.dds_base.specs.Matched.{same_topic, of_readers_in, of_matched_readers}
-use Rattle.dds_model.specs.declared.endpoint.Endpoint.{Endpoint}
-use Rattle.dds_model.specs.Part.{ReaderProxy, peers_of}
+use Rattle.dds_machine.specs.declared.endpoint.Endpoint.{Endpoint}
+use Rattle.dds_machine.specs.Part.{ReaderProxy, peers_of}
 use Rattle.dds_core.specs.declared.matching.Destination.{Destination}
 use Rattle.dds_core.specs.Matching.{has_reader, destinations}
 use Rattle.dds_core.proofs.Beating.{other_number}

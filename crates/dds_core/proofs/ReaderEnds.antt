@@ -10,12 +10,12 @@ use Rattle.dds_base.specs.Matched.{same_topic, of_matched_writers}
 use Rattle.dds_cache.specs.Standing.{qos_of}
 use Rattle.rtps_reader.specs.Reader.{Proxies, Tracks, count_of}
 use Rattle.rtps_reader.specs.Tracked.{fresh}
-use Rattle.dds_model.specs.declared.endpoint.Endpoint.{Endpoint}
+use Rattle.dds_machine.specs.declared.endpoint.Endpoint.{Endpoint}
 use Rattle.dds_base.specs.Checked.{limit_of}
-use Rattle.dds_model.proofs.Opened.{writers_in}
-use Rattle.dds_model.specs.Opening.{matched_writers}
-use Rattle.dds_model.specs.Part.{WriterProxy, same_endpoint, row_of, place_of, nothing_seen}
-use Rattle.dds_model.proofs.OwnGuids.{as_many}
+use Rattle.dds_protocol.proofs.Opened.{writers_in}
+use Rattle.dds_machine.specs.Opening.{matched_writers}
+use Rattle.dds_machine.specs.Part.{WriterProxy, same_endpoint, row_of, place_of, nothing_seen}
+use Rattle.dds_protocol.proofs.OwnGuids.{as_many}
 use Rattle.dds_core.specs.declared.matching.WriterName.{WriterName}
 use Rattle.dds_core.specs.Kept.{FitsWriters}
 use Rattle.dds_core.specs.Matching.{writer_name, matched_writer}

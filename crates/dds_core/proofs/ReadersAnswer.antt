@@ -8,7 +8,7 @@ use Rattle.rtps_wire.specs.Messages.{IsWritable}
 use Rattle.rtps_wire.proofs.LengthLaws.{short_writable}
 use Rattle.std.specs.Prelude.{FitsSigned}
 use Rattle.std.specs.Int.{w32}
-use Rattle.dds_model.specs.DueMessages.{acknack_message}
+use Rattle.dds_protocol.specs.DueMessages.{acknack_message}
 
 pub acknack_writable : (own to : GuidPrefix) (reader writer : EntityId) (due : AckNackDue) → length own.0 ≡ 12
     → length to.0 ≡ 12 → length reader.0 ≡ 4 → length writer.0 ≡ 4 → FitsSigned w32 due.count → IsSayable due

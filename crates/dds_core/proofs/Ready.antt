@@ -11,11 +11,11 @@ use Rattle.rtps_reader.specs.declared.step.HeartbeatSeen.{HeartbeatSeen}
 use Rattle.rtps_wire.specs.declared.submessage.Submessage.{Submessage}
 use Rattle.rtps_wire.specs.declared.submessage.Submessage.TheVariants.{Data, Heartbeat, Gap}
 use Rattle.rtps_sets.specs.NumberSet.{NumberSet}
-use Rattle.dds_model.specs.declared.endpoint.Endpoint.{Endpoint}
+use Rattle.dds_machine.specs.declared.endpoint.Endpoint.{Endpoint}
 use Rattle.rtps_reader.specs.declared.step.Step.{Step}
-use Rattle.dds_model.specs.declared.reply.Move.{Move}
-use Rattle.dds_model.specs.Claims.{Receiver}
-use Rattle.dds_model.specs.Part.{WriterProxy, Reader}
+use Rattle.dds_machine.specs.declared.reply.Move.{Move}
+use Rattle.dds_protocol.specs.Claims.{Receiver}
+use Rattle.dds_machine.specs.Part.{WriterProxy, Reader}
 use Rattle.dds_core.specs.declared.matching.WriterName.{WriterName}
 use Rattle.dds_core.specs.declared.reader_end.Ready.{Ready}
 use Rattle.dds_core.specs.declared.reader_end.Told.{Told}
@@ -31,7 +31,7 @@ use Rattle.dds_core.proofs.Rows.{writers_of}
 use Rattle.dds_base.specs.declared.guid.EntityId.{EntityId}
 use Rattle.dds_core.specs.declared.sending.Announced.{Announced}
 use Rattle.dds_core.specs.Beating.{AddsTo}
-use Rattle.dds_model.specs.DueMessages.{acknacks_due}
+use Rattle.dds_protocol.specs.DueMessages.{acknacks_due}
 
 -- after a change of one element, another is as before, and that one is the new one
 pub set-cases : {X : Type 0} (xs : List X) (i : ℕ) (x : X) (j : ℕ) (y : X) → slice_get (set xs i x) j ≡ Some y

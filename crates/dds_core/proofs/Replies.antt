@@ -28,10 +28,10 @@ use Rattle.rtps_writer.specs.Answers.{IsBetween, IsRight, answer_before, answers
 use Rattle.rtps_writer.specs.Standing.{Kept, StandsFor as RtpsStandsFor}
 use Rattle.rtps_writer.specs.WriterState.{WriterState, acknowledged_by, history_of, last_of}
 use Rattle.rtps_writer.proofs.AnswerFacts.{answers_after-right}
-use Rattle.dds_model.specs.Claims.{Receiver}
-use Rattle.dds_model.specs.DueMessages.{Due, data_of, submessages_of}
-use Rattle.dds_model.specs.Protocol.{AreGrouped}
-use Rattle.dds_model.proofs.PairFew.{count_numbers, filter_few}
+use Rattle.dds_protocol.specs.Claims.{Receiver}
+use Rattle.dds_protocol.specs.DueMessages.{Due, data_of, submessages_of}
+use Rattle.dds_protocol.specs.Protocol.{AreGrouped}
+use Rattle.dds_protocol.proofs.PairFew.{count_numbers, filter_few}
 use Rattle.dds_core.specs.declared.answering.Answering.{Answering}
 use Rattle.dds_core.specs.declared.answering.Room.{Room}
 use Rattle.dds_core.specs.declared.matching.ReaderName.{ReaderName}

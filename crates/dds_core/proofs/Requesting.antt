@@ -9,14 +9,14 @@ use Rattle.dds_base.specs.declared.guid.GuidPrefix.{GuidPrefix}
 use Rattle.dds_base.specs.Kept.{numbers_from}
 use Rattle.rtps_wire.specs.declared.acknack.AckNack.{AckNack as AckNackBody}
 use Rattle.rtps_wire.specs.declared.submessage.Submessage.TheVariants.{AckNack}
-use Rattle.dds_model.specs.declared.endpoint.Endpoint.{Endpoint}
-use Rattle.dds_model.specs.declared.reply.Move.{Move}
-use Rattle.dds_model.specs.Claims.{Receiver, IsToWriter}
-use Rattle.dds_model.specs.Part.{ReaderProxy, no_writer, own_writer}
-use Rattle.dds_model.specs.Peer.{Peer, state_of}
-use Rattle.dds_model.specs.DueMessages.{Due}
-use Rattle.dds_model.specs.Protocol.{State, InTurn, WriterTakes}
-use Rattle.dds_model.proofs.OwnGuids.{one_writer}
+use Rattle.dds_machine.specs.declared.endpoint.Endpoint.{Endpoint}
+use Rattle.dds_machine.specs.declared.reply.Move.{Move}
+use Rattle.dds_protocol.specs.Claims.{Receiver, IsToWriter}
+use Rattle.dds_machine.specs.Part.{ReaderProxy, no_writer, own_writer}
+use Rattle.dds_protocol.specs.Peer.{Peer, state_of}
+use Rattle.dds_protocol.specs.DueMessages.{Due}
+use Rattle.dds_protocol.specs.Protocol.{State, InTurn, WriterTakes}
+use Rattle.dds_protocol.proofs.OwnGuids.{one_writer}
 use Rattle.dds_core.specs.declared.answering.Room.{Room}
 use Rattle.dds_core.specs.declared.matching.ReaderName.{ReaderName}
 use Rattle.dds_core.specs.declared.sending.Announced.{Announced}

@@ -2,10 +2,10 @@
 use Rattle.std.proofs.Common.{◌≡◌, ℕ, zero, suc, ◌+◌, ◌<◌, Bool, true, false, cond, List, [], ◌∷◌, Option, Some, None, map, slice_get, refl, ap, sym, ◌∙◌, arith}
 use Rattle.std.specs.Option.{option_map}
 use Rattle.std.proofs.lemmas.Option.{same_Some}
-use Rattle.dds_model.specs.declared.endpoint.Endpoint.{Endpoint}
-use Rattle.dds_model.specs.Part.{WriterProxy, same_endpoint, row_of, with_row, place_of, publication_from, publication_among}
-use Rattle.dds_model.proofs.InOrder.{same_self}
-use Rattle.dds_model.proofs.Tables.{same_is}
+use Rattle.dds_machine.specs.declared.endpoint.Endpoint.{Endpoint}
+use Rattle.dds_machine.specs.Part.{WriterProxy, same_endpoint, row_of, with_row, place_of, publication_from, publication_among}
+use Rattle.dds_protocol.proofs.InOrder.{same_self}
+use Rattle.dds_machine.proofs.Tables.{same_is}
 use Rattle.dds_core.specs.declared.matching.WriterName.{WriterName}
 use Rattle.dds_core.specs.Standing.{IsFirstRow}
 

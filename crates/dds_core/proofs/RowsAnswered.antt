@@ -16,16 +16,16 @@ use Rattle.rtps_writer.specs.Acknack.{acknack_answers, after_acknack, answers_af
 use Rattle.rtps_writer.specs.Answers.{answers_to, requested}
 use Rattle.rtps_writer.specs.Standing.{StandsFor as RtpsStandsFor}
 use Rattle.rtps_writer.specs.WriterState.{WriterState, acknowledged_by}
-use Rattle.dds_model.specs.declared.endpoint.Endpoint.{Endpoint}
-use Rattle.dds_model.specs.declared.reply.Move.{Move}
-use Rattle.dds_model.specs.declared.reply.Move.TheVariants.{Acknowledged}
-use Rattle.dds_model.specs.Claims.{Receiver, IsWriter, IsToWriter, Names}
-use Rattle.dds_model.specs.Part.{Part, ReaderProxy, Writer, no_writer, same_endpoint, history_of, at_writer, writer_changes}
-use Rattle.dds_model.specs.Peer.{Peer, state_of as network_of}
-use Rattle.dds_model.specs.DueMessages.{Due, answer_message}
-use Rattle.dds_model.specs.Protocol.{State, Known, WriterTakes, AreGrouped, TakesAckNack as TakesByRules, acknowledging, is_taken_up, with_answered}
-use Rattle.dds_model.proofs.Framing.{with_same}
-use Rattle.dds_model.proofs.InOrder.{same_self}
+use Rattle.dds_machine.specs.declared.endpoint.Endpoint.{Endpoint}
+use Rattle.dds_machine.specs.declared.reply.Move.{Move}
+use Rattle.dds_machine.specs.declared.reply.Move.TheVariants.{Acknowledged}
+use Rattle.dds_protocol.specs.Claims.{Receiver, IsWriter, IsToWriter, Names}
+use Rattle.dds_machine.specs.Part.{Part, ReaderProxy, Writer, no_writer, same_endpoint, history_of, at_writer, writer_changes}
+use Rattle.dds_protocol.specs.Peer.{Peer, state_of as network_of}
+use Rattle.dds_protocol.specs.DueMessages.{Due, answer_message}
+use Rattle.dds_protocol.specs.Protocol.{State, Known, WriterTakes, AreGrouped, TakesAckNack as TakesByRules, acknowledging, is_taken_up, with_answered}
+use Rattle.dds_protocol.proofs.Framing.{with_same}
+use Rattle.dds_protocol.proofs.InOrder.{same_self}
 use Rattle.dds_core.specs.declared.answering.Answering.{Answering}
 use Rattle.dds_core.specs.declared.matching.ReaderName.{ReaderName}
 use Rattle.dds_core.specs.declared.sending.Announced.{Announced}

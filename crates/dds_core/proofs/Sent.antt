@@ -21,14 +21,14 @@ use Rattle.rtps_wire.specs.declared.submessage.Submessage.TheVariants.{InfoDst, 
 use Rattle.rtps_wire.specs.Content.{change_in}
 use Rattle.rtps_wire.specs.Messages.{ReadsMessage, HasSubmessage, spelling_of}
 use Rattle.rtps_wire.proofs.SpellingLaws.{message_again}
-use Rattle.dds_model.specs.declared.endpoint.Endpoint.{Endpoint}
-use Rattle.dds_model.specs.declared.event.Packet.{Packet}
-use Rattle.dds_model.specs.declared.event.Output.{Output}
-use Rattle.dds_model.specs.Part.{Part, ReaderProxy, own_writer, writer_changes}
-use Rattle.dds_model.specs.Claims.{Claim, ChangeIs, MayPass, PlaceReached, Asserts, Receiver, receiver_of, every_peer, every_reader, is_for, stamp_of, after_submessage, StandsAt, StandsIn, IsWriter, IsReader, IsToReader, Says, Claims}
-use Rattle.dds_model.specs.Peer.{IsTrueAt}
-use Rattle.dds_model.proofs.Dues.{stands_in, told, dst_says, ts_says}
-use Rattle.dds_model.specs.DueMessages.{AreSent, changes_due}
+use Rattle.dds_machine.specs.declared.endpoint.Endpoint.{Endpoint}
+use Rattle.dds_protocol.specs.declared.event.Packet.{Packet}
+use Rattle.dds_protocol.specs.declared.event.Output.{Output}
+use Rattle.dds_machine.specs.Part.{Part, ReaderProxy, own_writer, writer_changes}
+use Rattle.dds_protocol.specs.Claims.{Claim, ChangeIs, MayPass, PlaceReached, Asserts, Receiver, receiver_of, every_peer, every_reader, is_for, stamp_of, after_submessage, StandsAt, StandsIn, IsWriter, IsReader, IsToReader, Says, Claims}
+use Rattle.dds_protocol.specs.Peer.{IsTrueAt}
+use Rattle.dds_protocol.proofs.Dues.{stands_in, told, dst_says, ts_says}
+use Rattle.dds_protocol.specs.DueMessages.{AreSent, changes_due}
 use Rattle.dds_core.specs.declared.matching.Destination.{Destination}
 use Rattle.dds_core.specs.declared.sending.Sender.{Sender}
 use Rattle.dds_core.specs.Matching.{has_reader, destinations}

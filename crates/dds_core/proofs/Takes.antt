@@ -19,18 +19,18 @@ use Rattle.rtps_reader.specs.Advance.{Advances}
 use Rattle.rtps_reader.specs.Answer.{AnswersHeartbeat, answered, heard_after}
 use Rattle.rtps_reader.specs.Reader.{Tracks, OthersStay, match_at, MovesOn, TakesHeartbeat as HeartbeatTold}
 use Rattle.rtps_wire.specs.declared.heartbeat.Heartbeat.{Heartbeat as HeartbeatBody}
-use Rattle.dds_model.specs.declared.endpoint.Endpoint.{Endpoint}
-use Rattle.dds_model.specs.declared.reply.Move.{Move}
-use Rattle.dds_model.specs.declared.reply.Move.TheVariants.{Place, Heard}
-use Rattle.dds_model.specs.Numbered.{with_numbered, HasNumber}
-use Rattle.dds_model.specs.Part.{Part, Reader, WriterProxy, no_reader, own_proxies, own_reader, place_of, with_place, with_heard, at_reader}
-use Rattle.dds_model.specs.Moves.{IsMatchedAt, match_of}
-use Rattle.dds_model.specs.Claims.{Receiver}
-use Rattle.dds_model.specs.Peer.{Peer, state_of}
-use Rattle.dds_model.specs.DueMessages.{acknacks_due}
-use Rattle.dds_model.specs.Protocol.{Known, State, Goes, Asserting, TakesHeartbeat, with_tracked}
-use Rattle.dds_model.proofs.Framing.{tracked_here, tracked_elsewhere, pair_or_not}
-use Rattle.dds_model.proofs.Tables.{numbered-same, place-cases, place-hits, place-heard}
+use Rattle.dds_machine.specs.declared.endpoint.Endpoint.{Endpoint}
+use Rattle.dds_machine.specs.declared.reply.Move.{Move}
+use Rattle.dds_machine.specs.declared.reply.Move.TheVariants.{Place, Heard}
+use Rattle.dds_machine.specs.Numbered.{with_numbered, HasNumber}
+use Rattle.dds_machine.specs.Part.{Part, Reader, WriterProxy, no_reader, own_proxies, own_reader, place_of, with_place, with_heard, at_reader}
+use Rattle.dds_machine.specs.Moves.{IsMatchedAt, match_of}
+use Rattle.dds_protocol.specs.Claims.{Receiver}
+use Rattle.dds_protocol.specs.Peer.{Peer, state_of}
+use Rattle.dds_protocol.specs.DueMessages.{acknacks_due}
+use Rattle.dds_protocol.specs.Protocol.{Known, State, Goes, Asserting, TakesHeartbeat, with_tracked}
+use Rattle.dds_protocol.proofs.Framing.{tracked_here, tracked_elsewhere, pair_or_not}
+use Rattle.dds_machine.proofs.Tables.{numbered-same, place-cases, place-hits, place-heard}
 use Rattle.dds_core.specs.declared.matching.WriterName.{WriterName}
 use Rattle.dds_core.specs.Kept.{ReaderKept, PeerKept, reader_identity}
 use Rattle.dds_core.specs.Readiness.{SameReader, moves_of}

@@ -19,23 +19,23 @@ use Rattle.rtps_wire.specs.Sets.{set_of}
 use Rattle.rtps_wire.specs.Submessages.{Reads}
 use Rattle.dds_conditions.specs.Watched.{Watched}
 use Rattle.dds_notices.specs.Listeners.{Places}
-use Rattle.dds_model.specs.declared.event.Event.TheVariants as event
-use Rattle.dds_model.specs.declared.event.Output.{Output}
-use Rattle.dds_model.specs.declared.event.Packet.{Packet}
-use Rattle.dds_model.specs.declared.reply.Move.{Move}
-use Rattle.dds_model.specs.declared.reply.Report.{Report}
-use Rattle.dds_model.specs.declared.reply.Reply.{Reply}
-use Rattle.dds_model.specs.declared.call.Call.{Call}
-use Rattle.dds_model.specs.Numbered.{numbered, HasNumber}
-use Rattle.dds_model.specs.Backed.{IsBacked}
-use Rattle.dds_model.specs.Ticks.{TickStep}
-use Rattle.dds_model.specs.Calls.{Effect, nothing, writes, effect, effect_of}
-use Rattle.dds_model.specs.Claims.{Receiver, receiver_of, after_submessage, IsNumbered}
-use Rattle.dds_model.specs.Part.{Rtps, place_of, heard_of}
-use Rattle.dds_model.specs.Peer.{Peer, packets_of, state_of, Delivery}
-use Rattle.dds_model.specs.DueMessages.{Due, AreSent}
-use Rattle.dds_model.specs.Protocol.{State, InTurn, ReaderTakes, Takes, FollowsMessage}
-use Rattle.dds_model.specs.Receipt.{prefix_of, IsNotTaken}
+use Rattle.dds_protocol.specs.declared.event.Event.TheVariants as event
+use Rattle.dds_protocol.specs.declared.event.Output.{Output}
+use Rattle.dds_protocol.specs.declared.event.Packet.{Packet}
+use Rattle.dds_machine.specs.declared.reply.Move.{Move}
+use Rattle.dds_machine.specs.declared.reply.Report.{Report}
+use Rattle.dds_machine.specs.declared.reply.Reply.{Reply}
+use Rattle.dds_machine.specs.declared.call.Call.{Call}
+use Rattle.dds_machine.specs.Numbered.{numbered, HasNumber}
+use Rattle.dds_protocol.specs.Backed.{IsBacked}
+use Rattle.dds_machine.specs.Ticks.{TickStep}
+use Rattle.dds_machine.specs.Calls.{Effect, nothing, writes, effect, effect_of}
+use Rattle.dds_protocol.specs.Claims.{Receiver, receiver_of, after_submessage, IsNumbered}
+use Rattle.dds_machine.specs.Part.{Rtps, place_of, heard_of}
+use Rattle.dds_protocol.specs.Peer.{Peer, packets_of, state_of, Delivery}
+use Rattle.dds_protocol.specs.DueMessages.{Due, AreSent}
+use Rattle.dds_protocol.specs.Protocol.{State, InTurn, ReaderTakes, Takes, FollowsMessage}
+use Rattle.dds_protocol.specs.Receipt.{prefix_of, IsNotTaken}
 use Rattle.dds_core.specs.declared.sending.Announced.{Announced}
 use Rattle.dds_core.specs.Beating.{AddsTo}
 use Rattle.dds_core.specs.Kept.{PeerKept}
@@ -43,8 +43,8 @@ use Rattle.dds_core.specs.Readiness.{IsBounded, AreBounded}
 use Rattle.dds_core.specs.Receiving.{with_state, StandsAsWell, ReadersTook, TookSubmessage, TellsReaders, TakesOneMore, TookMessage, TakesMessage, TakenTo, TakesTo, ReceivesPacket}
 use Rattle.dds_core.specs.Sending.{AreMessages}
 use Rattle.dds_core.specs.Standing.{StandsFor, IsSound, Steps, StepsBy, SoundSteps, SoundStepsBy}
-use Rattle.dds_model.specs.Watching.{Tests}
-use Rattle.dds_model.proofs.Growth.{TickStep-rows}
+use Rattle.dds_machine.specs.Watching.{Tests}
+use Rattle.dds_protocol.proofs.Growth.{TickStep-rows}
 use Rattle.dds_core.proofs.Beating.{written_on}
 
 -- ---- what a peer is, said again

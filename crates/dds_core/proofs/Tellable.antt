@@ -9,13 +9,13 @@ use Rattle.dds_base.specs.declared.config.PeerConfig.{PeerConfig}
 use Rattle.dds_base.specs.declared.config.WriterConfig.{WriterConfig}
 use Rattle.dds_base.specs.Kept.{change_at}
 use Rattle.dds_base.specs.Written.{Written, Registered, Changed}
-use Rattle.dds_model.specs.Ticks.{ticked, after_tick}
-use Rattle.dds_model.specs.Calls.{with_written}
-use Rattle.dds_model.specs.Dues.{IsTellable, AreTellable}
-use Rattle.dds_model.specs.Opening.{opening_writer, opening_part}
-use Rattle.dds_model.specs.Part.{Part, Writer, no_writer, own_writer, at_writer, writer_changes}
-use Rattle.dds_model.specs.Peer.{Peer}
-use Rattle.dds_model.proofs.Tables.{numbered-cases}
+use Rattle.dds_machine.specs.Ticks.{ticked, after_tick}
+use Rattle.dds_machine.specs.Calls.{with_written}
+use Rattle.dds_protocol.specs.Dues.{IsTellable, AreTellable}
+use Rattle.dds_machine.specs.Opening.{opening_writer, opening_part}
+use Rattle.dds_machine.specs.Part.{Part, Writer, no_writer, own_writer, at_writer, writer_changes}
+use Rattle.dds_protocol.specs.Peer.{Peer}
+use Rattle.dds_machine.proofs.Tables.{numbered-cases}
 use Rattle.dds_core.proofs.Ends.{entered_at}
 
 -- each of these changes is such a one

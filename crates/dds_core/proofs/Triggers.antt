@@ -14,14 +14,14 @@ use Rattle.dds_base.specs.Number.{at_number}
 use Rattle.dds_conditions.specs.declared.condition.Cond.{Cond}
 use Rattle.dds_conditions.specs.Attached.{active_of}
 use Rattle.dds_conditions.specs.Watched.{Watched, conditions_of, is_timed_out, use_refusal, with_deadline}
-use Rattle.dds_model.specs.declared.call.Call.TheVariants as call
-use Rattle.dds_model.specs.declared.event.Event.TheVariants as event
-use Rattle.dds_model.specs.declared.reply.Reply.{Reply}
-use Rattle.dds_model.specs.declared.reply.Reply.TheVariants.{Active, Refused, Waiting}
-use Rattle.dds_model.specs.Calls.{AnswersByCondition, AnswersLook, IsAnsweredWatching, IsAnsweredInMemory}
-use Rattle.dds_model.specs.Part.{Part, Dds}
-use Rattle.dds_model.specs.Peer.{Peer}
-use Rattle.dds_model.specs.Watching.{Test, Tests, condition_refusal, condition_selection, condition_test, trigger_value}
+use Rattle.dds_machine.specs.declared.call.Call.TheVariants as call
+use Rattle.dds_protocol.specs.declared.event.Event.TheVariants as event
+use Rattle.dds_machine.specs.declared.reply.Reply.{Reply}
+use Rattle.dds_machine.specs.declared.reply.Reply.TheVariants.{Active, Refused, Waiting}
+use Rattle.dds_machine.specs.Calls.{AnswersByCondition, AnswersLook, IsAnsweredWatching, IsAnsweredInMemory}
+use Rattle.dds_machine.specs.Part.{Part, Dds}
+use Rattle.dds_protocol.specs.Peer.{Peer}
+use Rattle.dds_machine.specs.Watching.{Test, Tests, condition_refusal, condition_selection, condition_test, trigger_value}
 use Rattle.dds_cache.specs.declared.access_kind.AccessKind.{AccessKind}
 use Rattle.dds_cache.specs.declared.access_kind.AccessKind.TheVariants.{Read as Reading, Take as Taking}
 use Rattle.dds_core.specs.Accesses.{condition_call}

@@ -18,13 +18,13 @@ use Rattle.rtps_reader.specs.Reader.{Tracks, OthersStay, match_at, MovesOn}
 use Rattle.rtps_wire.specs.declared.submessage.Submessage.{Submessage}
 use Rattle.rtps_wire.specs.declared.submessage.Submessage.TheVariants.{Data, Heartbeat, Gap}
 use Rattle.rtps_wire.specs.Content.{change_in}
-use Rattle.dds_model.specs.declared.endpoint.Endpoint.{Endpoint}
-use Rattle.dds_model.specs.declared.reply.Move.{Move}
-use Rattle.dds_model.specs.declared.reply.Move.TheVariants.{Place, Heard}
-use Rattle.dds_model.specs.Claims.{Receiver, IsToReader, Names}
-use Rattle.dds_model.specs.Peer.{Peer, state_of}
-use Rattle.dds_model.specs.DueMessages.{Due, acknacks_due}
-use Rattle.dds_model.specs.Protocol.{State, InTurn, TakesHeartbeat, ReaderTakes}
+use Rattle.dds_machine.specs.declared.endpoint.Endpoint.{Endpoint}
+use Rattle.dds_machine.specs.declared.reply.Move.{Move}
+use Rattle.dds_machine.specs.declared.reply.Move.TheVariants.{Place, Heard}
+use Rattle.dds_protocol.specs.Claims.{Receiver, IsToReader, Names}
+use Rattle.dds_protocol.specs.Peer.{Peer, state_of}
+use Rattle.dds_protocol.specs.DueMessages.{Due, acknacks_due}
+use Rattle.dds_protocol.specs.Protocol.{State, InTurn, TakesHeartbeat, ReaderTakes}
 use Rattle.dds_core.specs.declared.matching.WriterName.{WriterName}
 use Rattle.dds_core.specs.declared.sending.Announced.{Announced}
 use Rattle.dds_core.specs.declared.reader_end.Ready.{Ready}
@@ -41,9 +41,9 @@ use Rattle.dds_core.proofs.Ends.{with_reader, with_read}
 use Rattle.dds_core.proofs.Lists.{element, left_at, left_more, drop_set}
 use Rattle.dds_core.proofs.Named.{first_row, is_to, row_of_writer}
 use Rattle.std.proofs.lemmas.Bool.Decides.{nat_tests}
-use Rattle.dds_model.specs.Numbered.{with_numbered}
-use Rattle.dds_model.specs.Part.{no_reader}
-use Rattle.dds_model.proofs.Framing.{with_same}
+use Rattle.dds_machine.specs.Numbered.{with_numbered}
+use Rattle.dds_machine.specs.Part.{no_reader}
+use Rattle.dds_protocol.proofs.Framing.{with_same}
 use Rattle.dds_core.proofs.Takes.{Telling, known_of, proxies_of, reader_of, part_of, stood, stands_after, moves_on, heartbeat_on, after_step}
 
 -- what one reader did, by the rules, and what was then due

@@ -4,14 +4,14 @@ use Rattle.dds_base.specs.declared.code.Code.{Code}
 use Rattle.dds_base.specs.declared.config.Config.{Config}
 use Rattle.dds_base.specs.Refusal.{Refuses}
 use Rattle.dds_conditions.specs.Watched.{Watched, no_filters}
-use Rattle.dds_model.specs.declared.call.Call.{Call}
-use Rattle.dds_model.specs.declared.event.Event.TheVariants as event
-use Rattle.dds_model.specs.declared.reply.Reply.{Reply}
-use Rattle.dds_model.specs.declared.reply.Reply.TheVariants.{Done, Refused}
-use Rattle.dds_model.specs.Calls.{Effect, nothing, effect, effect_of, Answers, IsAnsweredWatching, IsAnsweredInMemory}
-use Rattle.dds_model.specs.Part.{Part, Dds}
-use Rattle.dds_model.specs.Peer.{Peer}
-use Rattle.dds_model.specs.Watching.{Tests}
+use Rattle.dds_machine.specs.declared.call.Call.{Call}
+use Rattle.dds_protocol.specs.declared.event.Event.TheVariants as event
+use Rattle.dds_machine.specs.declared.reply.Reply.{Reply}
+use Rattle.dds_machine.specs.declared.reply.Reply.TheVariants.{Done, Refused}
+use Rattle.dds_machine.specs.Calls.{Effect, nothing, effect, effect_of, Answers, IsAnsweredWatching, IsAnsweredInMemory}
+use Rattle.dds_machine.specs.Part.{Part, Dds}
+use Rattle.dds_protocol.specs.Peer.{Peer}
+use Rattle.dds_machine.specs.Watching.{Tests}
 use Rattle.dds_core.specs.Kept.{PeerKept}
 use Rattle.dds_core.specs.Standing.{StandsFor}
 use Rattle.dds_core.specs.Watching.{done_reply}

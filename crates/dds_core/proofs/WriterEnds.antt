@@ -13,9 +13,9 @@ use Rattle.dds_base.specs.Refusal.{Refuses}
 use Rattle.dds_base.specs.Written.{Written, Ticked}
 use Rattle.rtps_writer.specs.Standing.{Kept, StandsFor as RtpsStandsFor}
 use Rattle.rtps_writer.specs.WriterState.{WriterState, entering, history_of, is_behind, last_of, opening, ticked}
-use Rattle.dds_model.specs.declared.endpoint.Endpoint.{Endpoint}
-use Rattle.dds_model.specs.Opening.{matched_readers}
-use Rattle.dds_model.specs.Part.{Writer, ReaderProxy, writer_changes, history_of as writer_history, is_behind as is_writer_behind}
+use Rattle.dds_machine.specs.declared.endpoint.Endpoint.{Endpoint}
+use Rattle.dds_machine.specs.Opening.{matched_readers}
+use Rattle.dds_machine.specs.Part.{Writer, ReaderProxy, writer_changes, history_of as writer_history, is_behind as is_writer_behind}
 use Rattle.dds_base.specs.Checked.{limit_of}
 use Rattle.dds_core.specs.declared.matching.Destination.{Destination}
 use Rattle.dds_core.specs.declared.matching.ReaderName.{ReaderName}

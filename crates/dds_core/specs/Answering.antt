@@ -19,13 +19,13 @@ use Rattle.rtps_writer.specs.declared.answer.Answer.TheVariants.{Data, Gap}
 use Rattle.rtps_writer.specs.Acknack.{acknack_answers, after_acknack, newly_acknowledged}
 use Rattle.rtps_writer.specs.Standing.{Kept, StandsFor as RtpsStandsFor}
 use Rattle.rtps_writer.specs.WriterState.{WriterState, history_of}
-use Rattle.dds_model.specs.declared.endpoint.Endpoint.{Endpoint}
-use Rattle.dds_model.specs.declared.reply.Move.{Move}
-use Rattle.dds_model.specs.declared.reply.Move.TheVariants.{Acknowledged}
-use Rattle.dds_model.specs.Claims.{Receiver, is_for, Names}
-use Rattle.dds_model.specs.Peer.{Peer, state_of}
-use Rattle.dds_model.specs.DueMessages.{Due, answer_message}
-use Rattle.dds_model.specs.Protocol.{State, InTurn, WriterTakes, AreGrouped}
+use Rattle.dds_machine.specs.declared.endpoint.Endpoint.{Endpoint}
+use Rattle.dds_machine.specs.declared.reply.Move.{Move}
+use Rattle.dds_machine.specs.declared.reply.Move.TheVariants.{Acknowledged}
+use Rattle.dds_protocol.specs.Claims.{Receiver, is_for, Names}
+use Rattle.dds_protocol.specs.Peer.{Peer, state_of}
+use Rattle.dds_protocol.specs.DueMessages.{Due, answer_message}
+use Rattle.dds_protocol.specs.Protocol.{State, InTurn, WriterTakes, AreGrouped}
 use Rattle.dds_core.specs.declared.answering.Answering.{Answering}
 use Rattle.dds_core.specs.declared.answering.Room.{Room}
 use Rattle.dds_core.specs.declared.matching.ReaderName.{ReaderName}

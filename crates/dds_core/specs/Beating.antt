@@ -9,11 +9,11 @@ use Rattle.rtps_wire.specs.declared.message.Message.{Message}
 use Rattle.rtps_wire.specs.declared.submessage.Submessage.TheVariants.{InfoDst, Heartbeat}
 use Rattle.rtps_writer.specs.declared.heartbeat.HeartbeatDue.{HeartbeatDue}
 use Rattle.rtps_writer.specs.Standing.{Kept, StandsFor as RtpsStandsFor}
-use Rattle.dds_model.specs.declared.endpoint.Endpoint.{Endpoint}
-use Rattle.dds_model.specs.declared.event.Packet.{Packet}
-use Rattle.dds_model.specs.Part.{ReaderProxy, Writer, writer_changes, has_readers, heartbeats_used}
-use Rattle.dds_model.specs.Claims.{every_reader}
-use Rattle.dds_model.specs.DueMessages.{Due, AreSent, assertion_message, heartbeat_message}
+use Rattle.dds_machine.specs.declared.endpoint.Endpoint.{Endpoint}
+use Rattle.dds_protocol.specs.declared.event.Packet.{Packet}
+use Rattle.dds_machine.specs.Part.{ReaderProxy, Writer, writer_changes, has_readers, heartbeats_used}
+use Rattle.dds_protocol.specs.Claims.{every_reader}
+use Rattle.dds_protocol.specs.DueMessages.{Due, AreSent, assertion_message, heartbeat_message}
 use Rattle.dds_core.specs.declared.heartbeat.Beat.{Beat}
 use Rattle.dds_core.specs.declared.matching.Destination.{Destination}
 use Rattle.dds_core.specs.declared.matching.ReaderName.{ReaderName}

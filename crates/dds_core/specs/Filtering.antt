@@ -7,11 +7,11 @@ use Rattle.dds_base.specs.declared.code.Code.{Code}
 use Rattle.dds_base.specs.declared.config.Config.{Config}
 use Rattle.dds_base.specs.Refusal.{Refuses}
 use Rattle.dds_conditions.specs.Watched.{filter_refusal}
-use Rattle.dds_model.specs.declared.event.Event.{Event}
-use Rattle.dds_model.specs.declared.event.Output.{Output}
-use Rattle.dds_model.specs.Filters.{peer_with_filter}
-use Rattle.dds_model.specs.Peer.{Peer, PeerStep}
-use Rattle.dds_model.specs.Watching.{Tests}
+use Rattle.dds_protocol.specs.declared.event.Event.{Event}
+use Rattle.dds_protocol.specs.declared.event.Output.{Output}
+use Rattle.dds_protocol.specs.Filters.{peer_with_filter}
+use Rattle.dds_protocol.specs.Peer.{Peer, PeerStep}
+use Rattle.dds_machine.specs.Watching.{Tests}
 use Rattle.dds_core.specs.Kept.{PeerKept}
 use Rattle.dds_core.specs.Standing.{IsSound, KeepsRules, StandsFor as PeerStandsFor}
 

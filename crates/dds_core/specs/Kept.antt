@@ -16,8 +16,8 @@ use Rattle.dds_conditions.specs.Watched.{Watched}
 use Rattle.rtps_reader.specs.Reader.{Proxies, count_of}
 use Rattle.rtps_writer.specs.Standing.{Kept}
 use Rattle.dds_core.specs.Stored.{StoreKept}
-use Rattle.dds_model.specs.Claims.{IsNumbered}
-use Rattle.dds_model.specs.Part.{Seen}
+use Rattle.dds_protocol.specs.Claims.{IsNumbered}
+use Rattle.dds_machine.specs.Part.{Seen}
 use Rattle.dds_core.specs.declared.matching.Destination.{Destination}
 use Rattle.dds_core.specs.declared.matching.ReaderName.{ReaderName}
 use Rattle.dds_core.specs.declared.matching.WriterName.{WriterName}

@@ -8,12 +8,12 @@ use Rattle.dds_base.specs.declared.entity.Entity.{Entity}
 use Rattle.dds_notices.specs.declared.mask.StatusMask.{StatusMask}
 use Rattle.dds_notices.specs.declared.notice.Notice.{Notice}
 use Rattle.dds_notices.specs.Listeners.{HandedBack, Slotted, StandsFor as SlotsStandFor, at_entity, listener_refusal, listener_place}
-use Rattle.dds_model.specs.declared.event.Event.{Event}
-use Rattle.dds_model.specs.declared.event.Output.{Output}
-use Rattle.dds_model.specs.Filters.{peer_with_filter}
-use Rattle.dds_model.specs.Noticing.{peer_at_end, peer_with_place}
-use Rattle.dds_model.specs.Peer.{Peer, PeerStep}
-use Rattle.dds_model.specs.Watching.{Tests}
+use Rattle.dds_protocol.specs.declared.event.Event.{Event}
+use Rattle.dds_protocol.specs.declared.event.Output.{Output}
+use Rattle.dds_protocol.specs.Filters.{peer_with_filter}
+use Rattle.dds_protocol.specs.Noticing.{peer_at_end, peer_with_place}
+use Rattle.dds_protocol.specs.Peer.{Peer, PeerStep}
+use Rattle.dds_machine.specs.Watching.{Tests}
 use Rattle.dds_conditions.specs.Watched.{filter_refusal}
 use Rattle.dds_base.specs.Refusal.{Refuses}
 use Rattle.dds_core.specs.Filtering.{FilteredKept, StandsFor as FilteredStandsFor}

@@ -16,11 +16,11 @@ use Rattle.dds_base.specs.Statuses.{sample_lost_status}
 use Rattle.dds_cache.specs.Standing.{qos_of}
 use Rattle.rtps_reader.specs.Tracked.{Tracked}
 use Rattle.dds_notices.specs.declared.mask.StatusMask.{StatusMask}
-use Rattle.dds_model.specs.declared.endpoint.Endpoint.{Endpoint}
-use Rattle.dds_model.specs.declared.reply.Reply.{Reply}
-use Rattle.dds_model.specs.declared.reply.Reply.TheVariants.{Samples, Refused}
-use Rattle.dds_model.specs.Part.{Reader, Seen, WriterProxy}
-use Rattle.dds_model.specs.Watching.{reader_statuses}
+use Rattle.dds_machine.specs.declared.endpoint.Endpoint.{Endpoint}
+use Rattle.dds_machine.specs.declared.reply.Reply.{Reply}
+use Rattle.dds_machine.specs.declared.reply.Reply.TheVariants.{Samples, Refused}
+use Rattle.dds_machine.specs.Part.{Reader, Seen, WriterProxy}
+use Rattle.dds_machine.specs.Watching.{reader_statuses}
 use Rattle.dds_core.specs.Kept.{ReaderKept}
 use Rattle.dds_core.specs.Stored.{Holds}
 use Rattle.dds_core.specs.Standing.{ReaderStands}

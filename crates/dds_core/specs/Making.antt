@@ -11,14 +11,14 @@ use Rattle.dds_base.specs.declared.config.Config.{Config}
 use Rattle.dds_base.specs.declared.key.Key.{Key}
 use Rattle.dds_base.specs.Refusal.{Refuses}
 use Rattle.dds_base.specs.Written.{Changed}
-use Rattle.dds_model.specs.declared.event.Output.{Output}
-use Rattle.dds_model.specs.declared.event.Packet.{Packet}
-use Rattle.dds_model.specs.declared.reply.Reply.TheVariants.{Done, Refused}
-use Rattle.dds_model.specs.Part.{Part}
-use Rattle.dds_model.specs.Refusals.{change_made, change_refusal}
-use Rattle.dds_model.specs.Calls.{writes, effect}
-use Rattle.dds_model.specs.Claims.{Claim, Claims}
-use Rattle.dds_model.specs.Peer.{Peer, IsTrueAt}
+use Rattle.dds_protocol.specs.declared.event.Output.{Output}
+use Rattle.dds_protocol.specs.declared.event.Packet.{Packet}
+use Rattle.dds_machine.specs.declared.reply.Reply.TheVariants.{Done, Refused}
+use Rattle.dds_machine.specs.Part.{Part}
+use Rattle.dds_machine.specs.Refusals.{change_made, change_refusal}
+use Rattle.dds_machine.specs.Calls.{writes, effect}
+use Rattle.dds_protocol.specs.Claims.{Claim, Claims}
+use Rattle.dds_protocol.specs.Peer.{Peer, IsTrueAt}
 use Rattle.dds_core.specs.Kept.{PeerKept}
 use Rattle.dds_core.specs.Standing.{StandsFor}
 use Rattle.dds_core.specs.Sending.{SendsFor}

@@ -9,10 +9,10 @@ use Rattle.dds_notices.specs.declared.notice.Notice.{Notice}
 use Rattle.dds_notices.specs.declared.notice.Status.{Status}
 use Rattle.dds_notices.specs.Listeners.{Slotted, StandsFor as SlotsStandFor}
 use Rattle.rtps_reader.specs.Tracked.{Tracked}
-use Rattle.dds_model.specs.declared.endpoint.Endpoint.{Endpoint}
-use Rattle.dds_model.specs.Noticing.{losses_of, seen_by}
-use Rattle.dds_model.specs.Part.{Part, Reader, Writer, WriterProxy, own_reader, own_writer}
-use Rattle.dds_model.specs.Peer.{Peer}
+use Rattle.dds_machine.specs.declared.endpoint.Endpoint.{Endpoint}
+use Rattle.dds_machine.specs.Noticing.{losses_of, seen_by}
+use Rattle.dds_machine.specs.Part.{Part, Reader, Writer, WriterProxy, own_reader, own_writer}
+use Rattle.dds_protocol.specs.Peer.{Peer}
 use Rattle.dds_core.specs.declared.marks.Marks.{Marks}
 use Rattle.dds_core.specs.declared.marks.ReaderMark.{ReaderMark}
 use Rattle.dds_core.specs.Kept.{PeerKept, ReaderKept, WriterKept}

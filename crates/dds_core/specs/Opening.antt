@@ -11,11 +11,12 @@ use Rattle.dds_base.specs.declared.config.WriterConfig.{WriterConfig}
 use Rattle.dds_base.specs.declared.config.ReaderConfig.{ReaderConfig}
 use Rattle.dds_base.specs.Checked.{check_refusal}
 use Rattle.rtps_reader.specs.Tracked.{fresh}
-use Rattle.dds_model.specs.Numbered.{has_element}
-use Rattle.dds_model.specs.Opening.{opening_writer, matched_writers, reader_qos, opening_world}
-use Rattle.dds_model.specs.Part.{nothing_seen}
-use Rattle.dds_model.specs.Peer.{Peer}
-use Rattle.dds_model.specs.World.{peer_at}
+use Rattle.dds_machine.specs.Numbered.{has_element}
+use Rattle.dds_machine.specs.Opening.{opening_writer, matched_writers, reader_qos}
+use Rattle.dds_protocol.specs.Opening.{opening_world}
+use Rattle.dds_machine.specs.Part.{nothing_seen}
+use Rattle.dds_protocol.specs.Peer.{Peer}
+use Rattle.dds_protocol.specs.World.{peer_at}
 use Rattle.dds_core.specs.Kept.{WriterKept, ReaderKept, PeerKept, writer_identity, reader_identity, configured_writer, configured_reader}
 use Rattle.dds_core.specs.Standing.{WriterStands, ReaderStands, StandsFor}
 

@@ -5,11 +5,11 @@ use Rattle.dds_base.specs.declared.config.Config.{Config}
 use Rattle.dds_base.specs.declared.config.PeerConfig.{PeerConfig}
 use Rattle.dds_base.specs.declared.config.ReaderConfig.{ReaderConfig}
 use Rattle.dds_base.specs.declared.guid.EntityId.{EntityId}
-use Rattle.dds_model.specs.declared.endpoint.Endpoint.{Endpoint}
-use Rattle.dds_model.specs.Claims.{every_reader}
-use Rattle.dds_model.specs.Part.{own_writer, acknowledged_of, is_reader_behind, writer_changes}
-use Rattle.dds_model.specs.Peer.{Peer}
-use Rattle.dds_model.specs.DueMessages.{writer_entity}
+use Rattle.dds_machine.specs.declared.endpoint.Endpoint.{Endpoint}
+use Rattle.dds_protocol.specs.Claims.{every_reader}
+use Rattle.dds_machine.specs.Part.{own_writer, acknowledged_of, is_reader_behind, writer_changes}
+use Rattle.dds_protocol.specs.Peer.{Peer}
+use Rattle.dds_protocol.specs.DueMessages.{writer_entity}
 use Rattle.dds_core.specs.declared.pairing.Pair.{Pair}
 
 -- the entity id of a peer's reader, by the configuration

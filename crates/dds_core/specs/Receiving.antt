@@ -14,12 +14,12 @@ use Rattle.rtps_reader.specs.Tracked.{Tracked}
 use Rattle.rtps_reader.specs.Reader.{Tracks}
 use Rattle.rtps_wire.specs.declared.message.Message.{Message}
 use Rattle.rtps_wire.specs.declared.submessage.Submessage.{Submessage}
-use Rattle.dds_model.specs.declared.reply.Move.{Move}
-use Rattle.dds_model.specs.declared.reply.Report.{Report}
-use Rattle.dds_model.specs.Claims.{Receiver, receiver_of}
-use Rattle.dds_model.specs.Peer.{Peer, state_of}
-use Rattle.dds_model.specs.DueMessages.{Due, AreSent, acknacks_due}
-use Rattle.dds_model.specs.Protocol.{State, InTurn, ReaderTakes, Takes, FollowsMessage, TakesPacket}
+use Rattle.dds_machine.specs.declared.reply.Move.{Move}
+use Rattle.dds_machine.specs.declared.reply.Report.{Report}
+use Rattle.dds_protocol.specs.Claims.{Receiver, receiver_of}
+use Rattle.dds_protocol.specs.Peer.{Peer, state_of}
+use Rattle.dds_protocol.specs.DueMessages.{Due, AreSent, acknacks_due}
+use Rattle.dds_protocol.specs.Protocol.{State, InTurn, ReaderTakes, Takes, FollowsMessage, TakesPacket}
 use Rattle.dds_core.specs.declared.matching.WriterName.{WriterName}
 use Rattle.dds_core.specs.declared.reader_end.Ready.{Ready}
 use Rattle.dds_core.specs.declared.sending.Announced.{Announced}

@@ -13,19 +13,19 @@ use Rattle.rtps_wire.specs.declared.data.DataContent.{DataContent}
 use Rattle.rtps_wire.specs.declared.message.Message.{Message}
 use Rattle.rtps_wire.specs.declared.submessage.Submessage.TheVariants.{InfoDst, InfoTs, Data}
 use Rattle.rtps_wire.specs.Messages.{IsWritable, HasSubmessage, spelling_of}
-use Rattle.dds_model.specs.declared.endpoint.Endpoint.{Endpoint}
-use Rattle.dds_model.specs.declared.event.Event.{Event}
-use Rattle.dds_model.specs.declared.event.Event.TheVariants as event
-use Rattle.dds_model.specs.declared.event.Output.{Output}
-use Rattle.dds_model.specs.declared.event.Packet.{Packet}
-use Rattle.dds_model.specs.Part.{ReaderProxy, Writer, history_of, own_writer, acknowledged_of, writer_changes}
-use Rattle.dds_model.specs.Calls.{Effect, writes, effect_of}
-use Rattle.dds_model.specs.Claims.{ChangeIs, Claims, every_reader}
-use Rattle.dds_model.specs.Peer.{Peer}
-use Rattle.dds_model.specs.Part.{peers_of}
-use Rattle.dds_model.specs.declared.reply.Reply.{Reply}
-use Rattle.dds_model.specs.declared.reply.Reply.TheVariants.{Done}
-use Rattle.dds_model.specs.DueMessages.{Due, AreSent, changes_due, heartbeats_due, assertions_due}
+use Rattle.dds_machine.specs.declared.endpoint.Endpoint.{Endpoint}
+use Rattle.dds_protocol.specs.declared.event.Event.{Event}
+use Rattle.dds_protocol.specs.declared.event.Event.TheVariants as event
+use Rattle.dds_protocol.specs.declared.event.Output.{Output}
+use Rattle.dds_protocol.specs.declared.event.Packet.{Packet}
+use Rattle.dds_machine.specs.Part.{ReaderProxy, Writer, history_of, own_writer, acknowledged_of, writer_changes}
+use Rattle.dds_machine.specs.Calls.{Effect, writes, effect_of}
+use Rattle.dds_protocol.specs.Claims.{ChangeIs, Claims, every_reader}
+use Rattle.dds_protocol.specs.Peer.{Peer}
+use Rattle.dds_machine.specs.Part.{peers_of}
+use Rattle.dds_machine.specs.declared.reply.Reply.{Reply}
+use Rattle.dds_machine.specs.declared.reply.Reply.TheVariants.{Done}
+use Rattle.dds_protocol.specs.DueMessages.{Due, AreSent, changes_due, heartbeats_due, assertions_due}
 use Rattle.dds_core.specs.declared.matching.Destination.{Destination}
 use Rattle.dds_core.specs.declared.sending.Sender.{Sender}
 use Rattle.dds_core.specs.Kept.{PeerKept, WriterKept}

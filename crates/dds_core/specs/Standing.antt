@@ -15,22 +15,22 @@ use Rattle.rtps_reader.specs.Tracked.{Tracked}
 use Rattle.rtps_reader.specs.Reader.{Tracks}
 use Rattle.rtps_writer.specs.Standing.{Kept, reader_count, StandsFor as RtpsStandsFor}
 use Rattle.rtps_writer.specs.WriterState.{WriterState}
-use Rattle.dds_model.specs.declared.endpoint.Endpoint.{Endpoint}
-use Rattle.dds_model.specs.declared.event.Event.{Event}
-use Rattle.dds_model.specs.declared.event.Event.TheVariants as event
-use Rattle.dds_model.specs.declared.event.Output.{Output}
-use Rattle.dds_model.specs.declared.reply.Reply.TheVariants.{Reported}
-use Rattle.dds_model.specs.declared.reply.Report.{Report}
-use Rattle.dds_model.specs.Backed.{IsBacked}
-use Rattle.dds_model.specs.Dues.{AreTellable}
-use Rattle.dds_model.specs.Part.{Writer, Reader, ReaderProxy, WriterProxy, no_writer, no_reader, place_of}
-use Rattle.dds_model.specs.Ticks.{ticked}
-use Rattle.dds_model.specs.Calls.{with_written}
-use Rattle.dds_model.specs.Watching.{Tests}
+use Rattle.dds_machine.specs.declared.endpoint.Endpoint.{Endpoint}
+use Rattle.dds_protocol.specs.declared.event.Event.{Event}
+use Rattle.dds_protocol.specs.declared.event.Event.TheVariants as event
+use Rattle.dds_protocol.specs.declared.event.Output.{Output}
+use Rattle.dds_machine.specs.declared.reply.Reply.TheVariants.{Reported}
+use Rattle.dds_machine.specs.declared.reply.Report.{Report}
+use Rattle.dds_protocol.specs.Backed.{IsBacked}
+use Rattle.dds_protocol.specs.Dues.{AreTellable}
+use Rattle.dds_machine.specs.Part.{Writer, Reader, ReaderProxy, WriterProxy, no_writer, no_reader, place_of}
+use Rattle.dds_machine.specs.Ticks.{ticked}
+use Rattle.dds_machine.specs.Calls.{with_written}
+use Rattle.dds_machine.specs.Watching.{Tests}
 use Rattle.dds_conditions.specs.Watched.{no_filters}
-use Rattle.dds_model.specs.Peer.{Peer, PeerStep, packets_of, state_of as network_of}
-use Rattle.dds_model.specs.DueMessages.{Due, AreSent}
-use Rattle.dds_model.specs.Protocol.{Known, TakesPacket}
+use Rattle.dds_protocol.specs.Peer.{Peer, PeerStep, packets_of, state_of as network_of}
+use Rattle.dds_protocol.specs.DueMessages.{Due, AreSent}
+use Rattle.dds_protocol.specs.Protocol.{Known, TakesPacket}
 use Rattle.dds_core.specs.declared.matching.Destination.{Destination}
 use Rattle.dds_core.specs.declared.matching.ReaderName.{ReaderName}
 use Rattle.dds_core.specs.declared.matching.WriterName.{WriterName}

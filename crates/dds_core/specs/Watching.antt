@@ -17,14 +17,14 @@ use Rattle.dds_conditions.specs.declared.condition.Condition.TheVariants.{Guard,
 use Rattle.std.specs.List.{list_any}
 use Rattle.dds_conditions.specs.Attached.{active_of}
 use Rattle.dds_conditions.specs.Watched.{conditions_of}
-use Rattle.dds_model.specs.declared.reply.Reply.{Reply}
-use Rattle.dds_model.specs.declared.reply.Reply.TheVariants.{Done, Created, Conditions, Refused}
-use Rattle.dds_model.specs.Peer.{Peer}
-use Rattle.dds_model.specs.Watching.{Tests, condition_refusal, condition_selection, filter_of, status_changes, trigger_value, condition_value}
+use Rattle.dds_machine.specs.declared.reply.Reply.{Reply}
+use Rattle.dds_machine.specs.declared.reply.Reply.TheVariants.{Done, Created, Conditions, Refused}
+use Rattle.dds_protocol.specs.Peer.{Peer}
+use Rattle.dds_machine.specs.Watching.{Tests, condition_refusal, condition_selection, filter_of, status_changes, trigger_value, condition_value}
 use Rattle.dds_core.specs.declared.watching.Asked.{Asked}
 use Rattle.dds_core.specs.Kept.{PeerKept}
 use Rattle.dds_core.specs.Standing.{StandsFor}
-use Rattle.dds_model.specs.Part.{Part}
+use Rattle.dds_machine.specs.Part.{Part}
 
 -- the reply to a call that is done or refused
 abbrev pub done_reply : Result (Unit {0}) Code → Reply

@@ -3,8 +3,8 @@
 //! DDS 1.4, 2.2.2.5 (DataReader).
 
 ghost use Rattle.std.specs.Prelude.{◌≡◌};
-ghost use Rattle.dds_model.specs.declared.call.Call.TheVariants as call;
-ghost use Rattle.dds_model.specs.declared.event.Event.TheVariants as event;
+ghost use Rattle.dds_machine.specs.declared.call.Call.TheVariants as call;
+ghost use Rattle.dds_protocol.specs.declared.event.Event.TheVariants as event;
 ghost use Rattle.dds_core.specs.Accesses.{access_call};
 ghost use Rattle.dds_core.specs.Standing.{Steps};
 ghost use Rattle.dds_core.specs.Sending.{SendsNothing};
@@ -13,7 +13,8 @@ use crate::output::{answered, reply_to_access};
 use crate::peer::Peer;
 use dds_base::{Code, Handle, Key, Selection, index_of};
 use dds_cache::{AccessKind, Everything};
-use dds_model::{Output, Reply};
+use dds_machine::Reply;
+use dds_protocol::Output;
 
 impl Peer {
     pub(crate) fn access(&mut self, kind: AccessKind, reader: u8, selection: Selection) -> Output

@@ -5,7 +5,7 @@
 ghost use Rattle.std.specs.Prelude.{◌≡◌, ◌+◌, ◌^◌, ◌<◌, ◌≤◌, length, IfOk, IfSome};
 ghost use Rattle.rtps_reader.specs.Answer.{IsSayable};
 ghost use Rattle.rtps_wire.specs.Messages.{IsWritable};
-ghost use Rattle.dds_model.specs.DueMessages.{acknack_message, acknacks_due};
+ghost use Rattle.dds_protocol.specs.DueMessages.{acknack_message, acknacks_due};
 ghost use Rattle.dds_core.specs.Beating.{AddsTo};
 ghost use Rattle.dds_core.specs.Sending.{AreMessages};
 

@@ -8,7 +8,7 @@ ghost use Rattle.rtps_writer.specs.declared.answer.Answer.TheVariants as answer;
 ghost use Rattle.rtps_writer.specs.Standing.{StandsFor as RtpsStandsFor};
 ghost use Rattle.rtps_writer.specs.WriterState.{WriterState};
 ghost use Rattle.dds_base.specs.Written.{changes_of};
-ghost use Rattle.dds_model.specs.DueMessages.{data_of, answer_message, submessages_of};
+ghost use Rattle.dds_protocol.specs.DueMessages.{data_of, answer_message, submessages_of};
 ghost use Rattle.dds_core.specs.Answering.{SpellsMore, IsFrom, HasRoom, AreRooms, AreAnswerable, CanAnswer, SendsAnswers};
 ghost use Rattle.dds_core.specs.Readiness.{receiver_at};
 ghost use Rattle.dds_core.specs.Sending.{AreMessages};

@@ -14,7 +14,7 @@ pub struct ByFilter<'a, T> {
 }
 
 impl<'a, T: Filters> Test for ByFilter<'a, T> {
-    ghost use Rattle.dds_model.specs.Watching.{test_of};
+    ghost use Rattle.dds_machine.specs.Watching.{test_of};
 
     ghost meaning = { λ b. test_of (T.meaning b.filters.now) b.filter };
 

@@ -3,9 +3,9 @@
 //! DDS 1.4, 2.2.2.4 (DataWriter).
 
 ghost use Rattle.std.specs.Prelude.{◌≡◌, ◌+◌, ◌^◌, ◌<◌, ◌≤◌, length, true, []};
-ghost use Rattle.dds_model.specs.declared.reply.Reply.TheVariants.{Done, Refused};
-ghost use Rattle.dds_model.specs.declared.call.Call.TheVariants as call;
-ghost use Rattle.dds_model.specs.declared.event.Event.TheVariants as event;
+ghost use Rattle.dds_machine.specs.declared.reply.Reply.TheVariants.{Done, Refused};
+ghost use Rattle.dds_machine.specs.declared.call.Call.TheVariants as call;
+ghost use Rattle.dds_protocol.specs.declared.event.Event.TheVariants as event;
 ghost use Rattle.dds_core.specs.Standing.{Steps, StepsBy};
 ghost use Rattle.dds_core.specs.Making.{Makes, IsValueOf};
 ghost use Rattle.dds_core.specs.Sending.{Sends, SendsNothing, AnnouncesAll, AreMessages};
@@ -16,7 +16,8 @@ use crate::sending::Announced;
 use dds_base::{Change, ChangeKind, Code, Key, MAX_VALUE, Octets, Sequence, Sn, index_of};
 use dds_cache::AccessKind;
 use dds_conditions::Filters;
-use dds_model::{Call, Output, Reply};
+use dds_machine::{Call, Reply};
+use dds_protocol::Output;
 
 impl Peer {
     pub(crate) fn call<T: Filters>(&mut self, filters: &T, call: Call) -> Output

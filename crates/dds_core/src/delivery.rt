@@ -5,7 +5,7 @@
 
 ghost use Rattle.std.specs.Prelude.{◌≡◌, ◌++◌, ◌+◌, ◌*◌, ◌^◌, ◌<◌, ◌≤◌, [], length, vec_len, vec_capacity, IfOk, IfErr, OnOk};
 ghost use Rattle.dds_base.specs.declared.code.Code.TheVariants.{Memory};
-ghost use Rattle.dds_model.specs.declared.event.Event.TheVariants as event;
+ghost use Rattle.dds_protocol.specs.declared.event.Event.TheVariants as event;
 ghost use Rattle.dds_core.specs.Standing.{SoundSteps};
 ghost use Rattle.dds_core.specs.Sending.{AreMessages};
 ghost use Rattle.dds_core.specs.Readiness.{receiver_at, IsBounded, AreBounded, AreReady, AreAlike, moves_of};
@@ -18,7 +18,8 @@ use crate::reader_end::{ReaderEnd, Ready};
 use crate::receiver::{MessageReceiver, receiver_after, receiver_for};
 use crate::sending::Announced;
 use dds_base::{Code, GuidPrefix, Octets, Sequence, Sn};
-use dds_model::{Endpoint, Move, Output, Reply, Report};
+use dds_machine::{Endpoint, Move, Reply, Report};
+use dds_protocol::Output;
 use rtps_reader::Step;
 use rtps_wire::{Message, Submessage, read_message};
 use std::alloc::Global;

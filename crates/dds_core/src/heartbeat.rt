@@ -6,9 +6,9 @@
 ghost use Rattle.std.specs.Prelude.{◌≡◌, ◌+◌, ◌≤◌, ℤ, Option, length, map, IfOk};
 ghost use Rattle.rtps_wire.specs.Messages.{IsWritable};
 ghost use Rattle.rtps_writer.specs.Standing.{reader_count, StandsFor as RtpsStandsFor};
-ghost use Rattle.dds_model.specs.declared.endpoint.Endpoint.{Endpoint};
-ghost use Rattle.dds_model.specs.Part.{ReaderProxy, Writer};
-ghost use Rattle.dds_model.specs.DueMessages.{AreSent};
+ghost use Rattle.dds_machine.specs.declared.endpoint.Endpoint.{Endpoint};
+ghost use Rattle.dds_machine.specs.Part.{ReaderProxy, Writer};
+ghost use Rattle.dds_protocol.specs.DueMessages.{AreSent};
 ghost use Rattle.dds_core.specs.declared.matching.ReaderName.{ReaderName as NameOf};
 ghost use Rattle.dds_core.specs.Beating.{IsValid, message_to, told_to, is_peer_behind, Beats};
 ghost use Rattle.dds_core.specs.Sending.{AreMessages};

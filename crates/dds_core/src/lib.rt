@@ -10,7 +10,8 @@
 //! ```rust
 //! use dds_base::{Key, Masks, Octets, Selection};
 //! use dds_core::Core;
-//! use dds_model::{Call, Event};
+//! use dds_machine::Call;
+//! use dds_protocol::Event;
 //!
 //! let mut writers: Core = Core::open(alloc, &config, 1)?;
 //! let mut readers: Core = Core::open(alloc, &config, 2)?;

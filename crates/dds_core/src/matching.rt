@@ -8,7 +8,7 @@ ghost use Rattle.dds_base.specs.Matched.{of_readers_in, of_writers_in, of_matche
 ghost use Rattle.dds_core.specs.Matching.{has_reader, destinations, reader_name, reader_names, writer_name, matched_writer};
 
 use dds_base::{Guid, GuidPrefix, MatchedWriter, PeerConfig};
-use dds_model::Endpoint;
+use dds_machine::Endpoint;
 use std::alloc::{AllocError, Global};
 
 /// A peer with a reader that a writer is matched with, by its number and by its name.

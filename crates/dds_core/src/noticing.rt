@@ -4,8 +4,8 @@
 
 ghost use Rattle.std.specs.Prelude.{◌≡◌, ◌≤◌, length};
 ghost use Rattle.dds_base.specs.declared.entity.Entity.TheVariants as entity;
-ghost use Rattle.dds_model.specs.Noticing.{at_end, each_told, losses_of, reader_told, told, writer_told};
-ghost use Rattle.dds_model.specs.Part.{Part, own_reader, own_writer};
+ghost use Rattle.dds_machine.specs.Noticing.{at_end, each_told, losses_of, reader_told, told, writer_told};
+ghost use Rattle.dds_machine.specs.Part.{Part, own_reader, own_writer};
 ghost use Rattle.dds_core.specs.Noticing.{AreMarksOf, IsMarkOf, MarksPeer, Tells};
 
 use crate::marks::{Marks, ReaderMark, mark_readers, mark_writers};

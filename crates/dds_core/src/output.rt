@@ -6,7 +6,8 @@ ghost use Rattle.std.specs.Prelude.{◌≡◌, []};
 ghost use Rattle.dds_core.specs.Looking.{access_reply};
 
 use dds_base::{Code, Sample, Sequence};
-use dds_model::{Output, Reply, Report};
+use dds_machine::{Reply, Report};
+use dds_protocol::Output;
 use std::alloc::Global;
 
 /// An answer with nothing to send.

@@ -5,8 +5,8 @@
 
 ghost use Rattle.std.specs.Prelude.{◌≡◌, ℕ, slice_get, Some, MatchOption};
 ghost use Rattle.dds_base.specs.declared.config.Config.{Config};
-ghost use Rattle.dds_model.specs.Part.{own_proxies, place_of};
-ghost use Rattle.dds_model.specs.Peer.{Peer as PeerState};
+ghost use Rattle.dds_machine.specs.Part.{own_proxies, place_of};
+ghost use Rattle.dds_protocol.specs.Peer.{Peer as PeerState};
 ghost use Rattle.dds_core.specs.declared.matching.ReaderName.{ReaderName as NameOf};
 ghost use Rattle.dds_core.specs.declared.matching.WriterName.{WriterName as WriterNameOf};
 ghost use Rattle.dds_core.specs.Pairs.{IsPair};
@@ -15,7 +15,7 @@ ghost use Rattle.dds_core.specs.Standing.{StandsFor, IsFirstReader, IsFirstRow};
 use crate::matching::{ReaderName, WriterName};
 use crate::peer::Peer;
 use dds_base::{EntityId, Moment, Sn, index_of};
-use dds_model::Endpoint;
+use dds_machine::Endpoint;
 
 /// A writer and a reader that it is matched with, by their entity ids.
 #[derive(Clone, Copy)]

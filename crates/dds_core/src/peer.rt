@@ -3,7 +3,7 @@
 //! DDS 1.4, 2.2.2.4 and 2.2.2.5 (DataWriter, DataReader); RTPS 2.5, 8.4 (behaviour).
 
 ghost use Rattle.std.specs.Prelude.{◌≡◌};
-ghost use Rattle.dds_model.specs.declared.event.Event.TheVariants as event;
+ghost use Rattle.dds_protocol.specs.declared.event.Event.TheVariants as event;
 ghost use Rattle.dds_core.specs.Standing.{Steps, SoundStepsBy};
 ghost use Rattle.dds_core.specs.Sending.{Sends, AreMessages};
 
@@ -15,7 +15,8 @@ use crate::sending::Announced;
 use crate::writer_end::{WriterEnd, tick_all};
 use dds_base::{Code, GuidPrefix, Moment, Sequence};
 use dds_conditions::{Filters, Watch};
-use dds_model::{Event, Output, Reply};
+use dds_machine::Reply;
+use dds_protocol::{Event, Output};
 use std::alloc::Global;
 use std::marker::Model;
 

@@ -19,8 +19,8 @@ ghost use Rattle.dds_core.specs.Readiness.{receiver_at, IsFirstName, IsNamedFor,
 ghost use Rattle.dds_core.specs.Looking.{TakesOnly, TellsFlags, TellsLost, TellsLiveliness, TellsMatch};
 ghost use Rattle.dds_core.specs.Stored.{Holds};
 ghost use Rattle.dds_cache.specs.Standing.{qos_of, AccessAnswers, AfterAccess};
-ghost use Rattle.dds_model.specs.Claims.{is_for, Names};
-ghost use Rattle.dds_model.specs.Noticing.{data_raised, lost_raised, turn_raised};
+ghost use Rattle.dds_protocol.specs.Claims.{is_for, Names};
+ghost use Rattle.dds_machine.specs.Noticing.{data_raised, lost_raised, turn_raised};
 
 use crate::limits::limit_of;
 use crate::marks::ReaderMark;

@@ -3,7 +3,7 @@
 //! RTPS 2.5, 8.3.4 (the message receiver), 9.4.5 (InfoDestination, InfoTimestamp).
 
 ghost use Rattle.std.specs.Prelude.{◌≡◌};
-ghost use Rattle.dds_model.specs.Claims.{receiver_of, is_for, stamp_of, after_submessage};
+ghost use Rattle.dds_protocol.specs.Claims.{receiver_of, is_for, stamp_of, after_submessage};
 ghost use Rattle.dds_core.specs.Readiness.{receiver_at};
 
 use dds_base::{GuidPrefix, Moment};

@@ -16,7 +16,7 @@ use crate::receiver::MessageReceiver;
 use crate::sending::Announced;
 use crate::writer_end::WriterEnd;
 use dds_base::{Code, EntityId};
-use dds_model::Move;
+use dds_machine::Move;
 use rtps_wire::AckNack;
 
 /// Whether the writer has this entity.

@@ -23,7 +23,7 @@ pub struct Seen {
 }
 
 impl Model for Seen {
-    ghost use Rattle.dds_model.specs.Part.{Seen as SeenOf};
+    ghost use Rattle.dds_machine.specs.Part.{Seen as SeenOf};
 
     ghost Value = { SeenOf };
 

@@ -13,7 +13,7 @@ ghost use Rattle.dds_core.specs.Sending.{Announces, AreAnnouncements, AddsPacket
 
 use crate::matching::Destination;
 use dds_base::{EntityId, GuidPrefix, Moment, Octets, Sn};
-use dds_model::Packet;
+use dds_protocol::Packet;
 use rtps_wire::{Data, DataContent, Message, Submessage, Submessages, write_message};
 use std::alloc::{AllocError, Global};
 

@@ -3,7 +3,7 @@
 //! DDS 1.4, 2.3.3 (SAMPLE_LOST_STATUS and kin).
 
 ghost use Rattle.std.specs.Prelude.{◌≡◌, ◌≤◌};
-ghost use Rattle.dds_model.specs.Watching.{bit_if};
+ghost use Rattle.dds_machine.specs.Watching.{bit_if};
 
 /// SAMPLE_LOST_STATUS, of a reader.
 pub const SAMPLE_LOST: u32 = 128;

@@ -8,8 +8,8 @@ ghost use Rattle.dds_base.specs.Checked.{is_maximum};
 ghost use Rattle.dds_base.specs.Selection.{max_in};
 ghost use Rattle.dds_base.specs.Number.{at_number};
 ghost use Rattle.dds_conditions.specs.Watched.{filter_refusal, use_refusal, with_filter};
-ghost use Rattle.dds_model.specs.declared.call.Call.TheVariants as call;
-ghost use Rattle.dds_model.specs.declared.event.Event.TheVariants as event;
+ghost use Rattle.dds_machine.specs.declared.call.Call.TheVariants as call;
+ghost use Rattle.dds_protocol.specs.declared.event.Event.TheVariants as event;
 ghost use Rattle.dds_core.specs.Accesses.{condition_call};
 ghost use Rattle.dds_core.specs.Standing.{Steps, StepsBy};
 ghost use Rattle.dds_core.specs.Sending.{SendsNothing};
@@ -22,7 +22,8 @@ use bitflags::Flags;
 use dds_base::{Code, Entity, Masks, Moment, Scope, Selection, Sequence, index_of};
 use dds_cache::AccessKind;
 use dds_conditions::{Cond, Condition, Filters};
-use dds_model::{Output, Reply};
+use dds_machine::Reply;
+use dds_protocol::Output;
 use dds_notices::StatusMask;
 
 /// The reply to a call that is done or refused.

@@ -8,10 +8,10 @@ ghost use Rattle.dds_base.specs.declared.code.Code.TheVariants.{Memory, OutOfRes
 ghost use Rattle.dds_base.specs.Kept.{append_refusal};
 ghost use Rattle.dds_base.specs.Refusal.{Refuses};
 ghost use Rattle.dds_base.specs.Written.{Asserted, Registered, Changed, LookedAt, is_key_registered, liveliness_lost_status};
-ghost use Rattle.dds_model.specs.declared.endpoint.Endpoint.{Endpoint as EndpointOf};
-ghost use Rattle.dds_model.specs.Watching.{writer_statuses};
-ghost use Rattle.dds_model.specs.Refusals.{unregister_kind};
-ghost use Rattle.dds_model.specs.Part.{ReaderProxy, Writer, history_of, writer_changes};
+ghost use Rattle.dds_machine.specs.declared.endpoint.Endpoint.{Endpoint as EndpointOf};
+ghost use Rattle.dds_machine.specs.Watching.{writer_statuses};
+ghost use Rattle.dds_machine.specs.Refusals.{unregister_kind};
+ghost use Rattle.dds_machine.specs.Part.{ReaderProxy, Writer, history_of, writer_changes};
 ghost use Rattle.dds_core.specs.declared.matching.ReaderName.{ReaderName as NameOf};
 ghost use Rattle.dds_core.specs.Answering.{HasRoom, AreRooms, TakesAckNack};
 ghost use Rattle.dds_core.specs.Beating.{BeatsOf, BeatsOfAll, HasNoCount, TellsOf};
@@ -34,7 +34,7 @@ use dds_base::{
     Change, ChangeKind, Code, EntityId, GuidPrefix, Key, LivelinessLostStatus, Moment, PeerConfig,
     Sn, WriterConfig,
 };
-use dds_model::Endpoint;
+use dds_machine::Endpoint;
 use dds_notices::StatusMask;
 use rtps_wire::{AckNack, DataContent};
 use rtps_writer::{Answered, StatefulWriter};

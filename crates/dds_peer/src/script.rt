@@ -2,7 +2,7 @@
 
 use crate::setup::SetupPart;
 use dds_base::{Moment, Octets};
-use dds_model::{Endpoint, WorldEvent};
+use dds_machine::{Endpoint, WorldEvent};
 use dds_script::{
     ListenerLine, call_of, decimal, decimal_u8, listener_line, reader_number, reader_options,
     value, words_of, writer_number, writer_options,

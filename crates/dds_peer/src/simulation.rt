@@ -4,7 +4,7 @@ use crate::script::Line;
 use crate::setup::{NumberedSetup, SetupPart};
 use crate::stream::Script;
 use dds_base::{Code, Octets};
-use dds_model::{Endpoint, Reply, WorldEvent};
+use dds_machine::{Endpoint, Reply, WorldEvent};
 use dds_notices::Recorder;
 use dds_script::{Fault, ListenerLine, Prefix, Status, Traffic, TranscriptLine, print};
 use dds_world::World as WorldOf;

@@ -1,7 +1,7 @@
 //! The lines that a peer is given.
 
 use dds_base::{Moment, Octets};
-use dds_model::Event;
+use dds_protocol::Event;
 use dds_script::{
     ListenerLine, SetupLine, call_of, decimal, decimal_u8, entity_id, guid_prefix, listener_line,
     reader_options, value, words_of, writer_options,

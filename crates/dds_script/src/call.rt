@@ -4,7 +4,7 @@ use crate::number::{decimal_i32, key, value};
 use crate::operand::{handle, masks, reader_number, writer_number};
 use crate::watching::watching_call;
 use dds_base::{Key, Masks, Selection};
-use dds_model::Call;
+use dds_machine::Call;
 use std::alloc::{AllocError, Global};
 
 /// How many samples at most, and which: all of them where nothing is said.

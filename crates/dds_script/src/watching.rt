@@ -3,7 +3,7 @@
 use crate::number::{decimal, decimal_i32, decimal_u32};
 use crate::operand::{condition, entity, handle, masks, reader_number, status_mask};
 use dds_base::{Moment, Scope};
-use dds_model::Call;
+use dds_machine::Call;
 
 /// A read of samples that a condition asks for.
 fn read(scope: Scope, reader: &str, number: &str) -> Option<Call> {

@@ -15,34 +15,34 @@ use Rattle.std.specs.Option.{option_map_or, unwrap_or}
 use Rattle.rtps_wire.specs.declared.seek.Sought.{Sought}
 use Rattle.rtps_wire.specs.declared.seek.Sought.TheVariants as sought
 use Rattle.rtps_wire.specs.Sought.{Has}
-use Rattle.dds_model.specs.Noticing.{world_ended}
-use Rattle.dds_model.specs.declared.endpoint.Endpoint.{Endpoint}
-use Rattle.dds_model.specs.declared.event.Packet.{Packet}
-use Rattle.dds_model.specs.declared.event.WorldEvent.{WorldEvent}
-use Rattle.dds_model.specs.declared.event.WorldEvent.TheVariants as world
-use Rattle.dds_model.specs.declared.reply.Reply.{Reply}
-use Rattle.dds_model.specs.declared.reply.Reply.TheVariants.{Done}
-use Rattle.dds_model.specs.Claims.{IsReader, every_reader}
-use Rattle.dds_model.specs.Dues.{IsPartOf}
-use Rattle.dds_model.specs.Fresh.{HasHeartbeat, HasAckNack, heartbeats_used_at, acknacks_used_at}
-use Rattle.dds_model.specs.Machine.{AllTests, place_at, writer_at}
-use Rattle.dds_model.specs.Numbered.{numbered, HasNumber}
-use Rattle.dds_model.specs.Part.{Part, ReaderProxy, Writer, WriterProxy, NoLess, IsAtMost, own_writer, acknowledged_of, place_of, writer_changes}
-use Rattle.dds_model.specs.DueMessages.{writer_entity}
-use Rattle.dds_model.specs.Protocol.{Known}
-use Rattle.dds_model.specs.Repair.{AsksInRound, BeginsRound, Delivers, DeliversAll, HasCaughtUp, IsRepairRound, StandsAt}
-use Rattle.dds_model.specs.Rules.{RuledStep, RuledRun}
-use Rattle.dds_model.specs.World.{WorldState, peer_at, machine_of}
-use Rattle.dds_model.proofs.PairAsked.{has_writer}
-use Rattle.dds_model.proofs.PairAsks.{asks_found}
-use Rattle.dds_model.proofs.PairBeats.{beats_are_sent}
-use Rattle.dds_model.proofs.PairBegun.{Begun, the_begun, writer_is, place_is}
-use Rattle.dds_model.proofs.PairCaughtUp.{pair_catches_up, answers_are_few}
-use Rattle.dds_model.proofs.PairEnded.{leaves_ended}
-use Rattle.dds_model.proofs.PairFound.{beat_found, beat_sought, ask_found_among}
-use Rattle.dds_model.proofs.PairNamed.{PairOf, pair_named}
-use Rattle.dds_model.proofs.PairTicked.{TickLeaves, tick_leaves, ticks_there}
-use Rattle.dds_model.proofs.DuesMatched.{own_name}
+use Rattle.dds_protocol.specs.Noticing.{world_ended}
+use Rattle.dds_machine.specs.declared.endpoint.Endpoint.{Endpoint}
+use Rattle.dds_protocol.specs.declared.event.Packet.{Packet}
+use Rattle.dds_machine.specs.declared.event.WorldEvent.{WorldEvent}
+use Rattle.dds_machine.specs.declared.event.WorldEvent.TheVariants as world
+use Rattle.dds_machine.specs.declared.reply.Reply.{Reply}
+use Rattle.dds_machine.specs.declared.reply.Reply.TheVariants.{Done}
+use Rattle.dds_protocol.specs.Claims.{IsReader, every_reader}
+use Rattle.dds_protocol.specs.Dues.{IsPartOf}
+use Rattle.dds_protocol.specs.Fresh.{HasHeartbeat, HasAckNack, heartbeats_used_at, acknacks_used_at}
+use Rattle.dds_machine.specs.Machine.{AllTests, place_at, writer_at}
+use Rattle.dds_machine.specs.Numbered.{numbered, HasNumber}
+use Rattle.dds_machine.specs.Part.{Part, ReaderProxy, Writer, WriterProxy, NoLess, IsAtMost, own_writer, acknowledged_of, place_of, writer_changes}
+use Rattle.dds_protocol.specs.DueMessages.{writer_entity}
+use Rattle.dds_protocol.specs.Protocol.{Known}
+use Rattle.dds_protocol.specs.Repair.{AsksInRound, BeginsRound, Delivers, DeliversAll, HasCaughtUp, IsRepairRound, StandsAt}
+use Rattle.dds_protocol.specs.Rules.{RuledStep, RuledRun}
+use Rattle.dds_protocol.specs.World.{WorldState, peer_at, machine_of}
+use Rattle.dds_protocol.proofs.PairAsked.{has_writer}
+use Rattle.dds_protocol.proofs.PairAsks.{asks_found}
+use Rattle.dds_protocol.proofs.PairBeats.{beats_are_sent}
+use Rattle.dds_protocol.proofs.PairBegun.{Begun, the_begun, writer_is, place_is}
+use Rattle.dds_protocol.proofs.PairCaughtUp.{pair_catches_up, answers_are_few}
+use Rattle.dds_protocol.proofs.PairEnded.{leaves_ended}
+use Rattle.dds_protocol.proofs.PairFound.{beat_found, beat_sought, ask_found_among}
+use Rattle.dds_protocol.proofs.PairNamed.{PairOf, pair_named}
+use Rattle.dds_protocol.proofs.PairTicked.{TickLeaves, tick_leaves, ticks_there}
+use Rattle.dds_protocol.proofs.DuesMatched.{own_name}
 use Rattle.dds_core.specs.Pairs.{reader_entity}
 use Rattle.dds_world.specs.declared.round.Matched.{Matched}
 use Rattle.dds_world.specs.declared.round.Round.{Round}

@@ -6,31 +6,31 @@ use Rattle.std.specs.Prelude.{nat_lt}
 use Rattle.std.proofs.lemmas.Bool.Decides.{nat_tests}
 use Rattle.dds_base.specs.declared.config.Config.{Config}
 use Rattle.dds_base.specs.Kept.{numbers_from}
-use Rattle.dds_model.specs.Noticing.{world_ended}
-use Rattle.dds_model.proofs.EndsBeside.{world_beside}
-use Rattle.dds_model.proofs.SameBeside.{place_is as beside_place}
-use Rattle.dds_model.specs.declared.endpoint.Endpoint.{Endpoint}
-use Rattle.dds_model.specs.declared.event.Event.TheVariants as event
-use Rattle.dds_model.specs.declared.event.Packet.{Packet}
-use Rattle.dds_model.specs.declared.event.WorldEvent.{WorldEvent}
-use Rattle.dds_model.specs.declared.event.WorldEvent.TheVariants as world
-use Rattle.dds_model.specs.declared.reply.Reply.{Reply}
-use Rattle.dds_model.specs.declared.reply.Reply.TheVariants.{Done, Reported}
-use Rattle.dds_model.specs.declared.reply.Report.{Report}
-use Rattle.dds_model.specs.Numbered.{numbered, HasNumber}
-use Rattle.dds_model.specs.Machine.{AllTests, place_at}
-use Rattle.dds_model.specs.Part.{NoLess, own_writer, own_proxies, place_of, writer_changes}
-use Rattle.dds_model.specs.Ticks.{TickStep}
-use Rattle.dds_model.specs.Peer.{Peer, EventStep, no_peer}
-use Rattle.dds_model.specs.Repair.{Delivers, DeliversAll}
-use Rattle.dds_model.specs.Rules.{RuledStep, RuledRun}
-use Rattle.dds_model.specs.World.{WorldState, WorldStep, peer_at, machine_of}
-use Rattle.dds_model.specs.Fresh.{tracked_at}
-use Rattle.dds_model.proofs.Composed.{contains_at, front_or_rest}
-use Rattle.dds_model.proofs.Framing.{has_reader}
-use Rattle.dds_model.proofs.FreshCounts.{stays_same, steps_stays}
-use Rattle.dds_model.proofs.PairBegun.{place_is}
-use Rattle.dds_model.proofs.Tables.{no_less_on, no_less_same, slice_get-append}
+use Rattle.dds_protocol.specs.Noticing.{world_ended}
+use Rattle.dds_protocol.proofs.EndsBeside.{world_beside}
+use Rattle.dds_protocol.proofs.SameBeside.{place_is as beside_place}
+use Rattle.dds_machine.specs.declared.endpoint.Endpoint.{Endpoint}
+use Rattle.dds_protocol.specs.declared.event.Event.TheVariants as event
+use Rattle.dds_protocol.specs.declared.event.Packet.{Packet}
+use Rattle.dds_machine.specs.declared.event.WorldEvent.{WorldEvent}
+use Rattle.dds_machine.specs.declared.event.WorldEvent.TheVariants as world
+use Rattle.dds_machine.specs.declared.reply.Reply.{Reply}
+use Rattle.dds_machine.specs.declared.reply.Reply.TheVariants.{Done, Reported}
+use Rattle.dds_machine.specs.declared.reply.Report.{Report}
+use Rattle.dds_machine.specs.Numbered.{numbered, HasNumber}
+use Rattle.dds_machine.specs.Machine.{AllTests, place_at}
+use Rattle.dds_machine.specs.Part.{NoLess, own_writer, own_proxies, place_of, writer_changes}
+use Rattle.dds_machine.specs.Ticks.{TickStep}
+use Rattle.dds_protocol.specs.Peer.{Peer, EventStep, no_peer}
+use Rattle.dds_protocol.specs.Repair.{Delivers, DeliversAll}
+use Rattle.dds_protocol.specs.Rules.{RuledStep, RuledRun}
+use Rattle.dds_protocol.specs.World.{WorldState, WorldStep, peer_at, machine_of}
+use Rattle.dds_protocol.specs.Fresh.{tracked_at}
+use Rattle.dds_protocol.proofs.Composed.{contains_at, front_or_rest}
+use Rattle.dds_protocol.proofs.Framing.{has_reader}
+use Rattle.dds_protocol.proofs.FreshCounts.{stays_same, steps_stays}
+use Rattle.dds_protocol.proofs.PairBegun.{place_is}
+use Rattle.dds_machine.proofs.Tables.{no_less_on, no_less_same, slice_get-append}
 use Rattle.dds_core.specs.Kept.{PeerKept}
 use Rattle.dds_core.specs.Standing.{StandsFor as CoreStandsFor, IsSound}
 use Rattle.dds_core.proofs.Lists.{element}

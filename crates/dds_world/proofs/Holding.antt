@@ -13,21 +13,21 @@ use Rattle.dds_notices.specs.declared.mask.StatusMask.{StatusMask}
 use Rattle.dds_notices.specs.declared.notice.Notice.{Notice}
 use Rattle.dds_notices.specs.Listeners.{Slotted, listener_place}
 use Rattle.dds_notices.specs.Notices.{Recording}
-use Rattle.dds_model.specs.declared.event.Event.{Event}
-use Rattle.dds_model.specs.declared.event.Event.TheVariants as event
-use Rattle.dds_model.specs.declared.event.WorldEvent.{WorldEvent}
-use Rattle.dds_model.specs.declared.event.WorldEvent.TheVariants as world
-use Rattle.dds_model.specs.declared.event.Output.{Output}
-use Rattle.dds_model.specs.declared.reply.Reply.{Reply}
-use Rattle.dds_model.specs.declared.reply.Reply.TheVariants.{Refused, Reported}
-use Rattle.dds_model.specs.Filters.{peer_with_filter}
-use Rattle.dds_model.specs.Machine.{AllTests}
-use Rattle.dds_model.specs.Noticing.{peer_at_end, peer_with_place}
-use Rattle.dds_model.specs.Peer.{Peer, no_peer}
-use Rattle.dds_model.specs.Watching.{Tests}
-use Rattle.dds_model.specs.World.{WorldState}
-use Rattle.dds_model.proofs.Tables.{numbered-map}
-use Rattle.dds_model.proofs.SameBeside.{SameBeside, bounded_beside, filter_beside, place_beside, sound_beside, used_beside}
+use Rattle.dds_protocol.specs.declared.event.Event.{Event}
+use Rattle.dds_protocol.specs.declared.event.Event.TheVariants as event
+use Rattle.dds_machine.specs.declared.event.WorldEvent.{WorldEvent}
+use Rattle.dds_machine.specs.declared.event.WorldEvent.TheVariants as world
+use Rattle.dds_protocol.specs.declared.event.Output.{Output}
+use Rattle.dds_machine.specs.declared.reply.Reply.{Reply}
+use Rattle.dds_machine.specs.declared.reply.Reply.TheVariants.{Refused, Reported}
+use Rattle.dds_protocol.specs.Filters.{peer_with_filter}
+use Rattle.dds_machine.specs.Machine.{AllTests}
+use Rattle.dds_protocol.specs.Noticing.{peer_at_end, peer_with_place}
+use Rattle.dds_protocol.specs.Peer.{Peer, no_peer}
+use Rattle.dds_machine.specs.Watching.{Tests}
+use Rattle.dds_protocol.specs.World.{WorldState}
+use Rattle.dds_machine.proofs.Tables.{numbered-map}
+use Rattle.dds_protocol.proofs.SameBeside.{SameBeside, bounded_beside, filter_beside, place_beside, sound_beside, used_beside}
 use Rattle.dds_core.specs.Kept.{PeerKept}
 use Rattle.dds_core.specs.Listening.{Adds as CoreAdds, CoreKept, RefusesFilter as CoreRefuses, RefusesListener as CoreRefusesListener, Sets as CoreSets, StandsFor as CoreStands, Steps as CoreSteps}
 use Rattle.dds_core.specs.Sending.{AreMessages, Sends as CoreSends}

@@ -14,19 +14,19 @@ use Rattle.dds_base.specs.Refusal.{Refuses}
 use Rattle.dds_notices.specs.declared.notice.Notice.{Notice}
 use Rattle.dds_notices.specs.Listeners.{Slotted}
 use Rattle.dds_notices.specs.Notices.{Recording}
-use Rattle.dds_model.specs.declared.event.Packet.{Packet}
-use Rattle.dds_model.specs.Numbered.{has_element, numbered}
-use Rattle.dds_model.specs.Opening.{opening_peers, opening_world}
-use Rattle.dds_model.specs.Peer.{no_peer}
-use Rattle.dds_model.proofs.Bounded.{opens_bounded}
-use Rattle.dds_model.proofs.CountsOpened.{opens_used}
-use Rattle.dds_model.proofs.Opened.{opens_sound}
-use Rattle.dds_model.proofs.OpenedPeers.{opens_known}
+use Rattle.dds_protocol.specs.declared.event.Packet.{Packet}
+use Rattle.dds_machine.specs.Numbered.{has_element, numbered}
+use Rattle.dds_protocol.specs.Opening.{opening_peers, opening_world}
+use Rattle.dds_protocol.specs.Peer.{no_peer}
+use Rattle.dds_protocol.proofs.Bounded.{opens_bounded}
+use Rattle.dds_protocol.proofs.CountsOpened.{opens_used}
+use Rattle.dds_protocol.proofs.Opened.{opens_sound}
+use Rattle.dds_protocol.proofs.OpenedPeers.{opens_known}
 use Rattle.dds_core.specs.Kept.{PeerKept}
 use Rattle.dds_core.specs.Opening.{core_refusal, opening_peer}
 use Rattle.dds_core.specs.Listening.{CoreKept, StandsFor as CoreStands}
 use Rattle.dds_core.specs.Standing.{StandsFor as PeerStandsFor}
-use Rattle.dds_model.proofs.FiltersKept.{opens_no_filters_at}
+use Rattle.dds_protocol.proofs.FiltersKept.{opens_no_filters_at}
 use Rattle.dds_world.specs.Holding.{Held, filters_of, kept_of, recordings}
 use Rattle.dds_world.specs.WorldStanding.{AreTold, StandsFor}
 use Rattle.dds_world.specs.Acting.{OpensFirst}

@@ -1,8 +1,8 @@
 -- What of the packets of a peer is sent in a network, and how many are lost on the way.
 use Rattle.std.proofs.Common.{◌≡◌, ℕ, ◌+◌, ◌-◌, ◌^◌, min, List, [], ◌∷◌, inl, inr, ⊎_elim, length, subst, ap, ◌∙◌, arith, length-append}
-use Rattle.dds_model.specs.declared.event.Output.{Output}
-use Rattle.dds_model.specs.declared.event.Packet.{Packet}
-use Rattle.dds_model.specs.DueMessages.{Due, AreSent}
+use Rattle.dds_protocol.specs.declared.event.Output.{Output}
+use Rattle.dds_protocol.specs.declared.event.Packet.{Packet}
+use Rattle.dds_protocol.specs.DueMessages.{Due, AreSent}
 use Rattle.dds_world.specs.WorldStanding.{WorldKept, ArePosted, Posts}
 use Rattle.dds_world.specs.Acting.{Counts}
 

@@ -7,7 +7,7 @@ use Rattle.dds_base.specs.Number.{at_number}
 use Rattle.dds_notices.specs.declared.notice.Notice.{Notice}
 use Rattle.dds_notices.specs.Listeners.{Place, Places, Slot, Slotted, StandsAt, StandsFor as SlotsStandFor, at_entity}
 use Rattle.dds_notices.specs.Notices.{Recording}
-use Rattle.dds_model.proofs.Tables.{numbered-map}
+use Rattle.dds_machine.proofs.Tables.{numbered-map}
 use Rattle.dds_world.specs.Holding.{recorded, recordings}
 use Rattle.dds_world.specs.WorldStanding.{AreTold}
 

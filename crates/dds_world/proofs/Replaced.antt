@@ -3,14 +3,15 @@ use Rattle.std.proofs.Common.{◌≡◌, ℕ, zero, suc, ◌-◌, ◌^◌, ◌<�
 use Rattle.dds_base.specs.declared.config.Config.{Config}
 use Rattle.dds_notices.specs.Listeners.{Slotted}
 use Rattle.dds_notices.specs.Notices.{Recording}
-use Rattle.dds_model.specs.declared.event.Packet.{Packet}
-use Rattle.dds_model.specs.declared.event.WorldEvent.{WorldEvent}
-use Rattle.dds_model.specs.Bounds.{IsBounded}
-use Rattle.dds_model.specs.Fresh.{HasUsedCounts}
-use Rattle.dds_model.specs.Noticing.{peer_at_end, peer_of, world_ended}
-use Rattle.dds_model.specs.Numbered.{with_numbered}
-use Rattle.dds_model.specs.Peer.{Peer, no_peer}
-use Rattle.dds_model.specs.World.{Sound, WorldState, machine_of, peer_at}
+use Rattle.dds_protocol.specs.declared.event.Packet.{Packet}
+use Rattle.dds_machine.specs.declared.event.WorldEvent.{WorldEvent}
+use Rattle.dds_protocol.specs.Bounds.{IsBounded}
+use Rattle.dds_protocol.specs.Fresh.{HasUsedCounts}
+use Rattle.dds_machine.specs.Noticing.{peer_of}
+use Rattle.dds_protocol.specs.Noticing.{peer_at_end, world_ended}
+use Rattle.dds_machine.specs.Numbered.{with_numbered}
+use Rattle.dds_protocol.specs.Peer.{Peer, no_peer}
+use Rattle.dds_protocol.specs.World.{Sound, WorldState, machine_of, peer_at}
 use Rattle.dds_core.specs.Kept.{PeerKept}
 use Rattle.dds_core.specs.Sending.{AreMessages}
 use Rattle.dds_core.specs.Standing.{StandsFor as CoreStandsFor, IsSound}

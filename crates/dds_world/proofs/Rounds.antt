@@ -9,18 +9,18 @@ use Rattle.dds_base.specs.Refusal.{Refuses}
 use Rattle.dds_base.specs.Kept.{numbers_from}
 use Rattle.rtps_wire.specs.declared.seek.Sought.{Sought}
 use Rattle.rtps_wire.specs.declared.seek.Sought.TheVariants as sought
-use Rattle.dds_model.specs.Noticing.{world_ended}
-use Rattle.dds_model.specs.declared.endpoint.Endpoint.{Endpoint}
-use Rattle.dds_model.specs.declared.event.Packet.{Packet}
-use Rattle.dds_model.specs.declared.event.WorldEvent.{WorldEvent}
-use Rattle.dds_model.specs.declared.event.WorldEvent.TheVariants as world
-use Rattle.dds_model.specs.declared.reply.Reply.{Reply}
-use Rattle.dds_model.specs.Machine.{AllTests, part_at, place_at, writer_at}
-use Rattle.dds_model.specs.Part.{NoLess, Part, own_proxies, own_writer, acknowledged_of, is_reader_behind, place_of, writer_changes}
-use Rattle.dds_model.specs.Peer.{Peer, no_peer}
-use Rattle.dds_model.specs.DueMessages.{writer_entity}
-use Rattle.dds_model.specs.World.{WorldState, WorldStep, machine_of}
-use Rattle.dds_model.proofs.Tables.{numbered-map, slice_get-append}
+use Rattle.dds_protocol.specs.Noticing.{world_ended}
+use Rattle.dds_machine.specs.declared.endpoint.Endpoint.{Endpoint}
+use Rattle.dds_protocol.specs.declared.event.Packet.{Packet}
+use Rattle.dds_machine.specs.declared.event.WorldEvent.{WorldEvent}
+use Rattle.dds_machine.specs.declared.event.WorldEvent.TheVariants as world
+use Rattle.dds_machine.specs.declared.reply.Reply.{Reply}
+use Rattle.dds_machine.specs.Machine.{AllTests, part_at, place_at, writer_at}
+use Rattle.dds_machine.specs.Part.{NoLess, Part, own_proxies, own_writer, acknowledged_of, is_reader_behind, place_of, writer_changes}
+use Rattle.dds_protocol.specs.Peer.{Peer, no_peer}
+use Rattle.dds_protocol.specs.DueMessages.{writer_entity}
+use Rattle.dds_protocol.specs.World.{WorldState, WorldStep, machine_of}
+use Rattle.dds_machine.proofs.Tables.{numbered-map, slice_get-append}
 use Rattle.dds_core.specs.declared.pairing.Pair.{Pair}
 use Rattle.dds_core.specs.Kept.{PeerKept}
 use Rattle.dds_core.specs.Pairs.{IsPair}

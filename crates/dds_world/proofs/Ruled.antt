@@ -3,23 +3,23 @@ use Rattle.std.proofs.Common.{◌≡◌, ℕ, suc, ◌+◌, ◌-◌, ◌<◌, Li
 use Rattle.dds_base.specs.declared.config.Config.{Config}
 use Rattle.dds_base.specs.Written.{Registered, Changed, Asserted, LookedAt, Ticked}
 use Rattle.rtps_wire.specs.Messages.{HasSubmessage}
-use Rattle.dds_model.specs.declared.call.Call.{Call}
-use Rattle.dds_model.specs.declared.event.Event.TheVariants as event
-use Rattle.dds_model.specs.declared.event.Output.{Output}
-use Rattle.dds_model.specs.declared.event.Packet.{Packet}
-use Rattle.dds_model.specs.declared.event.WorldEvent.{WorldEvent}
-use Rattle.dds_model.specs.declared.event.WorldEvent.TheVariants as world
-use Rattle.dds_model.specs.declared.reply.Reply.{Reply}
-use Rattle.dds_model.specs.declared.reply.Reply.TheVariants.{Done, Reported}
-use Rattle.dds_model.specs.declared.reply.Report.{Report}
-use Rattle.dds_model.specs.Part.{Part}
-use Rattle.dds_model.specs.Calls.{Effect, nothing, writes, effect_of}
-use Rattle.dds_model.specs.Peer.{Peer, no_peer, state_of}
-use Rattle.dds_model.specs.DueMessages.{Due, AreSent, heartbeats_due}
-use Rattle.dds_model.specs.Protocol.{State, TakesPacket}
-use Rattle.dds_model.specs.Rules.{AreDue, announcements_due}
-use Rattle.dds_model.specs.World.{WorldState, peer_at}
-use Rattle.dds_model.proofs.Composed.{contains_at}
+use Rattle.dds_machine.specs.declared.call.Call.{Call}
+use Rattle.dds_protocol.specs.declared.event.Event.TheVariants as event
+use Rattle.dds_protocol.specs.declared.event.Output.{Output}
+use Rattle.dds_protocol.specs.declared.event.Packet.{Packet}
+use Rattle.dds_machine.specs.declared.event.WorldEvent.{WorldEvent}
+use Rattle.dds_machine.specs.declared.event.WorldEvent.TheVariants as world
+use Rattle.dds_machine.specs.declared.reply.Reply.{Reply}
+use Rattle.dds_machine.specs.declared.reply.Reply.TheVariants.{Done, Reported}
+use Rattle.dds_machine.specs.declared.reply.Report.{Report}
+use Rattle.dds_machine.specs.Part.{Part}
+use Rattle.dds_machine.specs.Calls.{Effect, nothing, writes, effect_of}
+use Rattle.dds_protocol.specs.Peer.{Peer, no_peer, state_of}
+use Rattle.dds_protocol.specs.DueMessages.{Due, AreSent, heartbeats_due}
+use Rattle.dds_protocol.specs.Protocol.{State, TakesPacket}
+use Rattle.dds_protocol.specs.Rules.{AreDue, announcements_due}
+use Rattle.dds_protocol.specs.World.{WorldState, peer_at}
+use Rattle.dds_protocol.proofs.Composed.{contains_at}
 use Rattle.dds_core.specs.Sending.{SendsFor, due_at_tick}
 use Rattle.dds_core.proofs.CallSteps.{number_is}
 use Rattle.dds_core.proofs.Lists.{element}
@@ -27,7 +27,7 @@ use Rattle.dds_world.specs.WorldStanding.{WorldKept, Steps, KeepsRules, MovesOn}
 use Rattle.dds_world.specs.Acting.{Acts, IsCopy, RuledSteps}
 use Rattle.dds_world.proofs.Sends.{numbered_so}
 use Rattle.dds_world.proofs.WorldSteps.{SendsItsDues, acts_ruled, calls_at, comes_to_nothing, delivers_at, found_at, nothing_moved, posts_none, progresses, set_same, ticks_at}
-use Rattle.dds_model.specs.Machine.{AllTests}
+use Rattle.dds_machine.specs.Machine.{AllTests}
 
 -- a step by the rules is a step
 pub steps_at : {tests : AllTests} (old new : WorldKept) (ev : WorldEvent) (reply : Reply)

@@ -1,15 +1,15 @@
 -- Runs of a network, one step after another.
 use Rattle.std.proofs.Common.{◌≡◌, ℕ, List, [], ◌∷◌, ◌++◌, refl, subst, ap, sym}
 use Rattle.dds_base.specs.declared.config.Config.{Config}
-use Rattle.dds_model.specs.Noticing.{world_ended}
-use Rattle.dds_model.specs.declared.event.WorldEvent.{WorldEvent}
-use Rattle.dds_model.specs.declared.event.Packet.{Packet}
-use Rattle.dds_model.specs.declared.reply.Reply.{Reply}
-use Rattle.dds_model.specs.Machine.{AllTests}
-use Rattle.dds_model.specs.Rules.{CountedStep, RuledRun, traffic_of}
-use Rattle.dds_model.specs.Runs.{Traffic, Sends, Run}
-use Rattle.dds_model.specs.World.{WorldState, machine_of}
-use Rattle.dds_model.proofs.RunLaws.{composes_runs, run_by_rules}
+use Rattle.dds_protocol.specs.Noticing.{world_ended}
+use Rattle.dds_machine.specs.declared.event.WorldEvent.{WorldEvent}
+use Rattle.dds_protocol.specs.declared.event.Packet.{Packet}
+use Rattle.dds_machine.specs.declared.reply.Reply.{Reply}
+use Rattle.dds_machine.specs.Machine.{AllTests}
+use Rattle.dds_protocol.specs.Rules.{CountedStep, RuledRun, traffic_of}
+use Rattle.dds_protocol.specs.Runs.{Traffic, Sends, Run}
+use Rattle.dds_protocol.specs.World.{WorldState, machine_of}
+use Rattle.dds_protocol.proofs.RunLaws.{composes_runs, run_by_rules}
 use Rattle.dds_world.specs.WorldStanding.{WorldKept, StandsFor, KeepsRules, Announces, Runs, traffic}
 
 -- a run with one more step

@@ -3,25 +3,25 @@ use Rattle.std.proofs.Common.{◌≡◌, ℕ, suc, ◌+◌, List, Some, inl, inr
 use Rattle.dds_base.specs.declared.change.Change.{Change}
 use Rattle.dds_base.specs.declared.config.Config.{Config}
 use Rattle.dds_base.specs.Written.{Registered, Changed, Asserted, LookedAt, Ticked}
-use Rattle.dds_model.specs.declared.call.Call.{Call}
-use Rattle.dds_model.specs.declared.endpoint.Endpoint.{Endpoint}
-use Rattle.dds_model.specs.declared.event.Event.TheVariants as event
-use Rattle.dds_model.specs.declared.event.Output.{Output}
-use Rattle.dds_model.specs.declared.event.Packet.{Packet}
-use Rattle.dds_model.specs.declared.event.WorldEvent.TheVariants as world
-use Rattle.dds_model.specs.declared.reply.Reply.{Reply}
-use Rattle.dds_model.specs.declared.reply.Report.{Report}
-use Rattle.dds_model.specs.declared.reply.Reply.TheVariants.{Done, Refused, Reported}
+use Rattle.dds_machine.specs.declared.call.Call.{Call}
+use Rattle.dds_machine.specs.declared.endpoint.Endpoint.{Endpoint}
+use Rattle.dds_protocol.specs.declared.event.Event.TheVariants as event
+use Rattle.dds_protocol.specs.declared.event.Output.{Output}
+use Rattle.dds_protocol.specs.declared.event.Packet.{Packet}
+use Rattle.dds_machine.specs.declared.event.WorldEvent.TheVariants as world
+use Rattle.dds_machine.specs.declared.reply.Reply.{Reply}
+use Rattle.dds_machine.specs.declared.reply.Report.{Report}
+use Rattle.dds_machine.specs.declared.reply.Reply.TheVariants.{Done, Refused, Reported}
 use Rattle.dds_base.specs.declared.code.Code.TheVariants.{BadParameter}
-use Rattle.dds_model.specs.Part.{Part, ReaderProxy, own_writer, writer_changes}
-use Rattle.dds_model.specs.Calls.{Effect, nothing, writes, effect_of}
-use Rattle.dds_model.specs.Machine.{AllTests, part_at}
-use Rattle.dds_model.specs.Peer.{Peer, no_peer}
-use Rattle.dds_model.specs.DueMessages.{Due, AreSent, assertions_due, changes_due, heartbeats_due}
-use Rattle.dds_model.specs.Runs.{Traffic, Announced, Sends, SendsDues, SendsOf}
-use Rattle.dds_model.specs.Part.{peers_of}
-use Rattle.dds_model.specs.World.{WorldState, machine_of}
-use Rattle.dds_model.proofs.Tables.{numbered-map}
+use Rattle.dds_machine.specs.Part.{Part, ReaderProxy, own_writer, writer_changes}
+use Rattle.dds_machine.specs.Calls.{Effect, nothing, writes, effect_of}
+use Rattle.dds_machine.specs.Machine.{AllTests, part_at}
+use Rattle.dds_protocol.specs.Peer.{Peer, no_peer}
+use Rattle.dds_protocol.specs.DueMessages.{Due, AreSent, assertions_due, changes_due, heartbeats_due}
+use Rattle.dds_protocol.specs.Runs.{Traffic, Announced, Sends, SendsDues, SendsOf}
+use Rattle.dds_machine.specs.Part.{peers_of}
+use Rattle.dds_protocol.specs.World.{WorldState, machine_of}
+use Rattle.dds_machine.proofs.Tables.{numbered-map}
 use Rattle.dds_core.specs.Kept.{PeerKept}
 use Rattle.dds_core.specs.Sending.{SendsNothing, SendsChange, SendsFor, due_at_tick}
 use Rattle.dds_core.proofs.CallSteps.{number_is, refused_nothing}

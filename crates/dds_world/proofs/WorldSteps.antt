@@ -12,35 +12,36 @@ use Rattle.dds_base.specs.declared.config.Config.{Config}
 use Rattle.rtps_wire.specs.Messages.{HasSubmessage}
 use Rattle.dds_notices.specs.Listeners.{Slotted}
 use Rattle.dds_notices.specs.Notices.{Recording}
-use Rattle.dds_model.specs.Bounds.{IsBounded}
-use Rattle.dds_model.specs.Fresh.{HasUsedCounts}
-use Rattle.dds_model.specs.Noticing.{peer_at_end, peer_of, world_ended}
-use Rattle.dds_model.specs.Part.{Part}
-use Rattle.dds_model.proofs.AtEnds.{end_same}
-use Rattle.dds_model.proofs.EndsBeside.{ended_same, ended_sound, ended_used, world_bounded}
-use Rattle.dds_model.specs.declared.call.Call.{Call}
-use Rattle.dds_model.specs.declared.event.Event.{Event}
-use Rattle.dds_model.specs.declared.event.Event.TheVariants as event
-use Rattle.dds_model.specs.declared.event.Output.{Output}
-use Rattle.dds_model.specs.declared.event.Packet.{Packet}
-use Rattle.dds_model.specs.declared.event.WorldEvent.{WorldEvent}
-use Rattle.dds_model.specs.declared.event.WorldEvent.TheVariants as world
-use Rattle.dds_model.specs.declared.reply.Reply.{Reply}
-use Rattle.dds_model.specs.declared.reply.Reply.TheVariants.{Reported, Refused}
-use Rattle.dds_model.specs.Watching.{Tests}
-use Rattle.dds_model.specs.Machine.{AllTests, Step}
-use Rattle.dds_model.specs.Numbered.{HasNumber}
-use Rattle.dds_model.specs.Peer.{Peer, Delivery, PeerStep, no_peer, state_of}
-use Rattle.dds_model.specs.Progress.{Progresses}
-use Rattle.dds_model.specs.Calls.{Effect}
-use Rattle.dds_model.specs.DueMessages.{Due, AreSent}
-use Rattle.dds_model.specs.Rules.{RuledStep, AreDue, announcements_due}
-use Rattle.dds_model.specs.World.{Sound, WorldState, WorldStep, PeerSteps, machine_of, peer_at}
-use Rattle.dds_model.proofs.Bounded.{steps_bounded}
-use Rattle.dds_model.proofs.Composed.{composes}
-use Rattle.dds_model.proofs.FreshCounts.{steps_used}
-use Rattle.dds_model.proofs.RuledPackets.{unread_backed}
-use Rattle.dds_model.proofs.Tables.{append_nothing}
+use Rattle.dds_protocol.specs.Bounds.{IsBounded}
+use Rattle.dds_protocol.specs.Fresh.{HasUsedCounts}
+use Rattle.dds_machine.specs.Noticing.{peer_of}
+use Rattle.dds_protocol.specs.Noticing.{peer_at_end, world_ended}
+use Rattle.dds_machine.specs.Part.{Part}
+use Rattle.dds_protocol.proofs.AtEnds.{end_same}
+use Rattle.dds_protocol.proofs.EndsBeside.{ended_same, ended_sound, ended_used, world_bounded}
+use Rattle.dds_machine.specs.declared.call.Call.{Call}
+use Rattle.dds_protocol.specs.declared.event.Event.{Event}
+use Rattle.dds_protocol.specs.declared.event.Event.TheVariants as event
+use Rattle.dds_protocol.specs.declared.event.Output.{Output}
+use Rattle.dds_protocol.specs.declared.event.Packet.{Packet}
+use Rattle.dds_machine.specs.declared.event.WorldEvent.{WorldEvent}
+use Rattle.dds_machine.specs.declared.event.WorldEvent.TheVariants as world
+use Rattle.dds_machine.specs.declared.reply.Reply.{Reply}
+use Rattle.dds_machine.specs.declared.reply.Reply.TheVariants.{Reported, Refused}
+use Rattle.dds_machine.specs.Watching.{Tests}
+use Rattle.dds_machine.specs.Machine.{AllTests, Step}
+use Rattle.dds_machine.specs.Numbered.{HasNumber}
+use Rattle.dds_protocol.specs.Peer.{Peer, Delivery, PeerStep, no_peer, state_of}
+use Rattle.dds_protocol.specs.Progress.{Progresses}
+use Rattle.dds_machine.specs.Calls.{Effect}
+use Rattle.dds_protocol.specs.DueMessages.{Due, AreSent}
+use Rattle.dds_protocol.specs.Rules.{RuledStep, AreDue, announcements_due}
+use Rattle.dds_protocol.specs.World.{Sound, WorldState, WorldStep, PeerSteps, machine_of, peer_at}
+use Rattle.dds_protocol.proofs.Bounded.{steps_bounded}
+use Rattle.dds_protocol.proofs.Composed.{composes}
+use Rattle.dds_protocol.proofs.FreshCounts.{steps_used}
+use Rattle.dds_protocol.proofs.RuledPackets.{unread_backed}
+use Rattle.dds_machine.proofs.Tables.{append_nothing}
 use Rattle.dds_core.specs.Kept.{PeerKept}
 use Rattle.dds_core.specs.Standing.{StandsFor as CoreStandsFor, IsSound, KeepsRules as CoreKeepsRules}
 use Rattle.dds_core.proofs.CallSteps.{refused_nothing}

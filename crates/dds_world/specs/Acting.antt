@@ -8,17 +8,17 @@ use Rattle.dds_base.specs.Checked.{check_refusal}
 use Rattle.dds_notices.specs.declared.notice.Notice.{Notice}
 use Rattle.dds_notices.specs.Listeners.{Slotted}
 use Rattle.dds_notices.specs.Notices.{Recording}
-use Rattle.dds_model.specs.Noticing.{peer_at_end, world_ended}
-use Rattle.dds_model.specs.Peer.{Peer, PeerStep}
-use Rattle.dds_model.specs.Watching.{Tests}
-use Rattle.dds_model.specs.declared.event.Event.{Event}
-use Rattle.dds_model.specs.declared.event.Output.{Output}
-use Rattle.dds_model.specs.declared.event.Packet.{Packet}
-use Rattle.dds_model.specs.declared.event.WorldEvent.{WorldEvent}
-use Rattle.dds_model.specs.declared.reply.Reply.{Reply}
-use Rattle.dds_model.specs.Machine.{AllTests, Step}
-use Rattle.dds_model.specs.Rules.{RuledStep}
-use Rattle.dds_model.specs.World.{WorldState, machine_of}
+use Rattle.dds_protocol.specs.Noticing.{peer_at_end, world_ended}
+use Rattle.dds_protocol.specs.Peer.{Peer, PeerStep}
+use Rattle.dds_machine.specs.Watching.{Tests}
+use Rattle.dds_protocol.specs.declared.event.Event.{Event}
+use Rattle.dds_protocol.specs.declared.event.Output.{Output}
+use Rattle.dds_protocol.specs.declared.event.Packet.{Packet}
+use Rattle.dds_machine.specs.declared.event.WorldEvent.{WorldEvent}
+use Rattle.dds_machine.specs.declared.reply.Reply.{Reply}
+use Rattle.dds_machine.specs.Machine.{AllTests, Step}
+use Rattle.dds_protocol.specs.Rules.{RuledStep}
+use Rattle.dds_protocol.specs.World.{WorldState, machine_of}
 use Rattle.dds_core.specs.Kept.{PeerKept}
 use Rattle.dds_core.specs.Opening.{opening_peer}
 use Rattle.dds_core.specs.Sending.{Sends as CoreSends, SendsNothing, AreMessages}

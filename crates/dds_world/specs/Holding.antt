@@ -14,17 +14,17 @@ use Rattle.dds_notices.specs.declared.mask.StatusMask.{StatusMask}
 use Rattle.dds_notices.specs.declared.notice.Notice.{Notice}
 use Rattle.dds_notices.specs.Listeners.{HandedBack, Slot, Slotted, at_entity, listener_refusal, listener_place}
 use Rattle.dds_notices.specs.Notices.{Recording}
-use Rattle.dds_model.specs.declared.event.Event.{Event}
-use Rattle.dds_model.specs.declared.event.Event.TheVariants.{Call, Tick}
-use Rattle.dds_model.specs.declared.event.Packet.{Packet}
-use Rattle.dds_model.specs.declared.event.WorldEvent.{WorldEvent}
-use Rattle.dds_model.specs.declared.event.WorldEvent.TheVariants as world
-use Rattle.dds_model.specs.declared.reply.Reply.{Reply}
-use Rattle.dds_model.specs.Filters.{world_with_filter}
-use Rattle.dds_model.specs.Machine.{AllTests}
-use Rattle.dds_model.specs.Noticing.{world_with_place}
-use Rattle.dds_model.specs.Numbered.{numbered, with_numbered, HasNumber}
-use Rattle.dds_model.specs.World.{WorldState, peer_at}
+use Rattle.dds_protocol.specs.declared.event.Event.{Event}
+use Rattle.dds_protocol.specs.declared.event.Event.TheVariants.{Call, Tick}
+use Rattle.dds_protocol.specs.declared.event.Packet.{Packet}
+use Rattle.dds_machine.specs.declared.event.WorldEvent.{WorldEvent}
+use Rattle.dds_machine.specs.declared.event.WorldEvent.TheVariants as world
+use Rattle.dds_machine.specs.declared.reply.Reply.{Reply}
+use Rattle.dds_protocol.specs.Filters.{world_with_filter}
+use Rattle.dds_machine.specs.Machine.{AllTests}
+use Rattle.dds_protocol.specs.Noticing.{world_with_place}
+use Rattle.dds_machine.specs.Numbered.{numbered, with_numbered, HasNumber}
+use Rattle.dds_protocol.specs.World.{WorldState, peer_at}
 use Rattle.dds_core.specs.Listening.{CoreKept}
 use Rattle.dds_world.specs.Acting.{Acts, RuledSteps}
 use Rattle.dds_world.specs.WorldStanding.{Announces, WorldKept, StandsFor}

@@ -4,20 +4,20 @@
 use Rattle.std.specs.Prelude.{◌≡◌, ◌⊎◌, ℕ, List, [], ◌∷◌, ◌++◌, length, IsSome, None}
 use Rattle.dds_base.specs.declared.config.Config.{Config}
 use Rattle.rtps_wire.specs.declared.seek.Sought.TheVariants as sought
-use Rattle.dds_model.specs.declared.endpoint.Endpoint.{Endpoint}
-use Rattle.dds_model.specs.declared.event.Packet.{Packet}
-use Rattle.dds_model.specs.declared.event.WorldEvent.{WorldEvent}
-use Rattle.dds_model.specs.declared.event.WorldEvent.TheVariants.{Deliver}
-use Rattle.dds_model.specs.Machine.{part_at, writer_at}
-use Rattle.dds_model.specs.Part.{acknowledged_of, is_reader_behind, writer_changes}
-use Rattle.dds_model.specs.DueMessages.{writer_entity}
-use Rattle.dds_model.specs.World.{WorldState, machine_of}
+use Rattle.dds_machine.specs.declared.endpoint.Endpoint.{Endpoint}
+use Rattle.dds_protocol.specs.declared.event.Packet.{Packet}
+use Rattle.dds_machine.specs.declared.event.WorldEvent.{WorldEvent}
+use Rattle.dds_machine.specs.declared.event.WorldEvent.TheVariants.{Deliver}
+use Rattle.dds_machine.specs.Machine.{part_at, writer_at}
+use Rattle.dds_machine.specs.Part.{acknowledged_of, is_reader_behind, writer_changes}
+use Rattle.dds_protocol.specs.DueMessages.{writer_entity}
+use Rattle.dds_protocol.specs.World.{WorldState, machine_of}
 use Rattle.dds_core.specs.Pairs.{reader_entity}
 use Rattle.dds_world.specs.declared.round.Matched.{Matched}
 use Rattle.dds_world.specs.declared.round.RoundReply.{RoundReply}
 use Rattle.dds_world.specs.Round.{IsStep, AreSteps, IsTo, HasNone, IsFirst, answers_at}
 use Rattle.dds_world.specs.WorldStanding.{WorldKept, StandsFor}
-use Rattle.dds_model.specs.Machine.{AllTests}
+use Rattle.dds_machine.specs.Machine.{AllTests}
 
 -- the two are matched, by these entity ids, the reader is behind exactly so, the writer has made so many changes, and
 -- the moment is that of its peer

@@ -12,21 +12,21 @@ use Rattle.dds_base.specs.Refusal.{Refuses}
 use Rattle.rtps_wire.specs.declared.seek.Sought.{Sought}
 use Rattle.rtps_wire.specs.declared.seek.Sought.TheVariants as sought
 use Rattle.rtps_wire.specs.Sought.{Has}
-use Rattle.dds_model.specs.declared.endpoint.Endpoint.{Endpoint}
-use Rattle.dds_model.specs.declared.event.Packet.{Packet}
-use Rattle.dds_model.specs.declared.event.WorldEvent.{WorldEvent}
-use Rattle.dds_model.specs.declared.event.WorldEvent.TheVariants.{Tick, Deliver}
-use Rattle.dds_model.specs.Claims.{IsNumbered}
-use Rattle.dds_model.specs.declared.reply.Reply.{Reply}
-use Rattle.dds_model.specs.declared.reply.Reply.TheVariants.{Done, Reported}
-use Rattle.dds_model.specs.Fresh.{heartbeats_used_at, acknacks_used_at}
-use Rattle.dds_model.specs.Machine.{Machine, AllTests, part_at, place_at, writer_at}
-use Rattle.dds_model.specs.Part.{acknowledged_of, is_reader_behind, writer_changes}
-use Rattle.dds_model.specs.Repair.{HasCaughtUp}
-use Rattle.dds_model.specs.Rules.{RuledRun}
-use Rattle.dds_model.specs.Runs.{Run}
-use Rattle.dds_model.specs.DueMessages.{writer_entity}
-use Rattle.dds_model.specs.World.{WorldState, machine_of}
+use Rattle.dds_machine.specs.declared.endpoint.Endpoint.{Endpoint}
+use Rattle.dds_protocol.specs.declared.event.Packet.{Packet}
+use Rattle.dds_machine.specs.declared.event.WorldEvent.{WorldEvent}
+use Rattle.dds_machine.specs.declared.event.WorldEvent.TheVariants.{Tick, Deliver}
+use Rattle.dds_protocol.specs.Claims.{IsNumbered}
+use Rattle.dds_machine.specs.declared.reply.Reply.{Reply}
+use Rattle.dds_machine.specs.declared.reply.Reply.TheVariants.{Done, Reported}
+use Rattle.dds_protocol.specs.Fresh.{heartbeats_used_at, acknacks_used_at}
+use Rattle.dds_machine.specs.Machine.{Machine, AllTests, part_at, place_at, writer_at}
+use Rattle.dds_machine.specs.Part.{acknowledged_of, is_reader_behind, writer_changes}
+use Rattle.dds_protocol.specs.Repair.{HasCaughtUp}
+use Rattle.dds_protocol.specs.Rules.{RuledRun}
+use Rattle.dds_protocol.specs.Runs.{Run}
+use Rattle.dds_protocol.specs.DueMessages.{writer_entity}
+use Rattle.dds_protocol.specs.World.{WorldState, machine_of}
 use Rattle.dds_core.specs.Pairs.{reader_entity}
 use Rattle.dds_world.specs.declared.round.Round.{Round}
 use Rattle.dds_world.specs.declared.round.RoundReply.{RoundReply}

@@ -9,17 +9,17 @@ use Rattle.std.specs.Prelude.{◌≡◌, ◌≢◌, ◌⊎◌, ℕ, suc, ◌+◌
 use Rattle.dds_base.specs.declared.config.Config.{Config}
 use Rattle.dds_notices.specs.Listeners.{Places, Slotted, StandsFor as SlotsStandFor}
 use Rattle.dds_notices.specs.Notices.{Recording}
-use Rattle.dds_model.specs.Noticing.{world_ended}
-use Rattle.dds_model.specs.declared.event.Packet.{Packet}
-use Rattle.dds_model.specs.declared.event.WorldEvent.{WorldEvent}
-use Rattle.dds_model.specs.declared.reply.Reply.{Reply}
-use Rattle.dds_model.specs.Machine.{AllTests, Step}
-use Rattle.dds_model.specs.Progress.{Progresses}
-use Rattle.dds_model.specs.Bounds.{IsBounded}
-use Rattle.dds_model.specs.Fresh.{HasUsedCounts}
-use Rattle.dds_model.specs.Rules.{RuledStep, RuledRun}
-use Rattle.dds_model.specs.Runs.{Traffic, Sends, Run}
-use Rattle.dds_model.specs.World.{WorldState, WorldStep, machine_of, peer_at, Sound}
+use Rattle.dds_protocol.specs.Noticing.{world_ended}
+use Rattle.dds_protocol.specs.declared.event.Packet.{Packet}
+use Rattle.dds_machine.specs.declared.event.WorldEvent.{WorldEvent}
+use Rattle.dds_machine.specs.declared.reply.Reply.{Reply}
+use Rattle.dds_machine.specs.Machine.{AllTests, Step}
+use Rattle.dds_protocol.specs.Progress.{Progresses}
+use Rattle.dds_protocol.specs.Bounds.{IsBounded}
+use Rattle.dds_protocol.specs.Fresh.{HasUsedCounts}
+use Rattle.dds_protocol.specs.Rules.{RuledStep, RuledRun}
+use Rattle.dds_protocol.specs.Runs.{Traffic, Sends, Run}
+use Rattle.dds_protocol.specs.World.{WorldState, WorldStep, machine_of, peer_at, Sound}
 use Rattle.dds_core.specs.Kept.{PeerKept}
 use Rattle.dds_core.specs.Sending.{AreMessages}
 use Rattle.dds_core.specs.Standing.{StandsFor as CoreStandsFor, IsSound}

@@ -34,9 +34,7 @@
 mod round;
 mod world;
 
-pub use dds_model::{
-    Call, Endpoint, Event, LivelinessChangedStatus, LivelinessLostStatus, Move, Output, Packet,
-    PassedRun, Reply, Report, SampleLostStatus, WorldEvent,
-};
+pub use dds_machine::{Call, Endpoint, LivelinessChangedStatus, LivelinessLostStatus, Move, PassedRun, Reply, Report, SampleLostStatus, WorldEvent};
+pub use dds_protocol::{Event, Output, Packet};
 pub use round::{Round, RoundReply};
 pub use world::World;

@@ -12,7 +12,8 @@ use crate::world::World;
 use dds_base::{Code, Moment, Sequence, Sn, index_of};
 use dds_conditions::Filter;
 use dds_core::Pair;
-use dds_model::{Endpoint, Packet, Reply, WorldEvent};
+use dds_machine::{Endpoint, Reply, WorldEvent};
+use dds_protocol::Packet;
 use dds_notices::Listener;
 use rtps_wire::{Sought, has_submessage};
 

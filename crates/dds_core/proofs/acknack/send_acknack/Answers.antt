@@ -1,6 +1,6 @@
 use Rattle.std.proofs.Common.{Option, sym, subst}
 use Rattle.rtps_reader.specs.declared.step.AckNackDue.{AckNackDue}
-use Rattle.dds_model.specs.DueMessages.{acknacks_due}
+use Rattle.dds_protocol.specs.DueMessages.{acknacks_due}
 use Rattle.dds_core.specs.Beating.{AddsTo}
 use Rattle.dds_core.proofs.Beating.{adds_none}
 use Rattle.dds_core.proofs.acknack.send_acknack.Goals as goal

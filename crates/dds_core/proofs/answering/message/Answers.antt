@@ -3,7 +3,7 @@ use Rattle.rtps_wire.specs.declared.submessage.Submessage.{Submessage}
 use Rattle.rtps_wire.specs.declared.submessage.Submessage.TheVariants.{InfoDst}
 use Rattle.rtps_wire.specs.Messages.{IsWritable}
 use Rattle.dds_base.specs.Written.{changes_of}
-use Rattle.dds_model.specs.DueMessages.{submessages_of}
+use Rattle.dds_protocol.specs.DueMessages.{submessages_of}
 use Rattle.dds_core.proofs.Replies.{answers_writable, stands_more}
 use Rattle.dds_core.proofs.answering.message.Goals as goal
 

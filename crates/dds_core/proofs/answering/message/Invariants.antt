@@ -5,7 +5,7 @@ use Rattle.rtps_wire.specs.declared.submessage.Submessage.TheVariants.{InfoDst}
 use Rattle.rtps_wire.specs.Submessages.{IsSpellable}
 use Rattle.rtps_writer.specs.Standing.{StandsFor as RtpsStandsFor}
 use Rattle.rtps_writer.specs.WriterState.{WriterState}
-use Rattle.dds_model.specs.DueMessages.{submessages_of}
+use Rattle.dds_protocol.specs.DueMessages.{submessages_of}
 use Rattle.dds_core.proofs.answering.message.Given as goal
 
 -- the answers so far stand in the message

@@ -1,8 +1,8 @@
 use Rattle.std.proofs.Common.{◌≡◌, drop, map, Option}
 use Rattle.std.specs.Prelude.{ℤ}
 use Rattle.rtps_writer.specs.Standing.{StandsFor as RtpsStandsFor}
-use Rattle.dds_model.specs.declared.endpoint.Endpoint.{Endpoint}
-use Rattle.dds_model.specs.Part.{ReaderProxy, Writer}
+use Rattle.dds_machine.specs.declared.endpoint.Endpoint.{Endpoint}
+use Rattle.dds_machine.specs.Part.{ReaderProxy, Writer}
 use Rattle.dds_core.specs.declared.matching.ReaderName.{ReaderName}
 use Rattle.dds_core.specs.Beating.{is_peer_behind}
 use Rattle.dds_core.specs.Standing.{state_of}

@@ -1,5 +1,5 @@
 use Rattle.std.proofs.Common.{◌≤◌, take}
-use Rattle.dds_model.specs.DueMessages.{AreSent}
+use Rattle.dds_protocol.specs.DueMessages.{AreSent}
 use Rattle.dds_core.specs.Beating.{told_to}
 use Rattle.dds_core.specs.Sending.{AreMessages}
 use Rattle.dds_core.proofs.heartbeat.send_to_all.Given as goal

@@ -1,5 +1,5 @@
 use Rattle.std.proofs.Common.{subst}
-use Rattle.dds_model.specs.Noticing.{at_end}
+use Rattle.dds_machine.specs.Noticing.{at_end}
 use Rattle.dds_core.specs.Filtering.{FilteredKept}
 use Rattle.dds_core.specs.Noticing.{Tells}
 use Rattle.dds_core.proofs.filtered_peer.FilteredPeer.end.Goals as goal

@@ -6,8 +6,8 @@ use Rattle.dds_base.specs.declared.config.Config.{Config}
 use Rattle.dds_conditions.specs.declared.condition.Cond.{Cond}
 use Rattle.dds_conditions.specs.Attached.{active_of}
 use Rattle.dds_conditions.specs.Watched.{Watched, conditions_of}
-use Rattle.dds_model.specs.Peer.{Peer}
-use Rattle.dds_model.specs.Watching.{Tests, trigger_value}
+use Rattle.dds_protocol.specs.Peer.{Peer}
+use Rattle.dds_machine.specs.Watching.{Tests, trigger_value}
 use Rattle.dds_core.specs.Watching.{AreActive}
 use Rattle.dds_core.proofs.peer.Peer.active.Goals as goal
 

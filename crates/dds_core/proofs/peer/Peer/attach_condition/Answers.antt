@@ -1,5 +1,5 @@
 use Rattle.std.proofs.Common.{◌≡◌, Bool, true, false, not, refl}
-use Rattle.dds_model.specs.declared.call.Call.TheVariants as call
+use Rattle.dds_machine.specs.declared.call.Call.TheVariants as call
 use Rattle.dds_core.proofs.CallSteps.{follows_as, still_stands}
 use Rattle.dds_conditions.specs.Attached.{is_attached}
 use Rattle.dds_conditions.specs.Watched.{attach_refusal, conditions_of, with_attached}

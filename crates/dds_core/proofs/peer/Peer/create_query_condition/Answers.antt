@@ -1,14 +1,14 @@
 use Rattle.std.proofs.Common.{◌≡◌, ◌∙◌, ◌+◌, ◌<◌, Bool, true, not, Option, Some, length, refl, sym, subst, ap, rules}
-use Rattle.dds_model.specs.declared.call.Call.TheVariants as call
+use Rattle.dds_machine.specs.declared.call.Call.TheVariants as call
 use Rattle.std.specs.Prelude.{if◌then◌else◌}
 use Rattle.dds_base.specs.declared.code.Code.{Code}
 use Rattle.dds_base.specs.declared.code.Code.TheVariants.{BadParameter}
 use Rattle.dds_conditions.specs.declared.condition.Condition.TheVariants.{Samples}
 use Rattle.dds_conditions.specs.Watched.{Watched, has_filter, number_refusal, with_condition}
-use Rattle.dds_model.specs.declared.reply.Reply.TheVariants.{Created}
-use Rattle.dds_model.specs.Calls.{IsAnsweredInMemory}
-use Rattle.dds_model.specs.Numbered.{has_element}
-use Rattle.dds_model.specs.Watching.{query_condition_refusal, read_condition_refusal}
+use Rattle.dds_machine.specs.declared.reply.Reply.TheVariants.{Created}
+use Rattle.dds_machine.specs.Calls.{IsAnsweredInMemory}
+use Rattle.dds_machine.specs.Numbered.{has_element}
+use Rattle.dds_machine.specs.Watching.{query_condition_refusal, read_condition_refusal}
 use Rattle.dds_core.specs.Watching.{made_reply}
 use Rattle.dds_core.proofs.CallSteps.{follows_as, known_end, still_stands}
 use Rattle.dds_core.proofs.Watched.{given_in_memory}

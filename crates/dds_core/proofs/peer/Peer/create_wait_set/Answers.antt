@@ -1,8 +1,8 @@
 use Rattle.std.proofs.Common.{◌+◌, length, refl}
-use Rattle.dds_model.specs.declared.call.Call.TheVariants as call
+use Rattle.dds_machine.specs.declared.call.Call.TheVariants as call
 use Rattle.dds_core.proofs.CallSteps.{follows_as, still_stands}
 use Rattle.dds_conditions.specs.Watched.{number_refusal, with_wait_set}
-use Rattle.dds_model.specs.declared.reply.Reply.TheVariants.{Created}
+use Rattle.dds_machine.specs.declared.reply.Reply.TheVariants.{Created}
 use Rattle.dds_core.specs.Watching.{made_reply}
 use Rattle.dds_core.proofs.Watched.{given_in_memory}
 use Rattle.dds_core.proofs.peer.Peer.create_wait_set.Goals as goal

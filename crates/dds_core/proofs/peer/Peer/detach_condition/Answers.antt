@@ -1,5 +1,5 @@
 use Rattle.std.proofs.Common.{refl}
-use Rattle.dds_model.specs.declared.call.Call.TheVariants as call
+use Rattle.dds_machine.specs.declared.call.Call.TheVariants as call
 use Rattle.dds_core.proofs.CallSteps.{follows_as, still_stands}
 use Rattle.dds_conditions.specs.Watched.{detaching_refusal, with_detached}
 use Rattle.dds_core.proofs.Watched.{done_call}

@@ -1,8 +1,8 @@
 use Rattle.std.proofs.Common.{sym, subst, rules}
-use Rattle.dds_model.specs.declared.call.Call.TheVariants as call
-use Rattle.dds_model.specs.declared.event.Event.TheVariants as event
+use Rattle.dds_machine.specs.declared.call.Call.TheVariants as call
+use Rattle.dds_protocol.specs.declared.event.Event.TheVariants as event
 use Rattle.dds_base.specs.declared.code.Code.{Code}
-use Rattle.dds_model.specs.declared.reply.Reply.TheVariants.{Refused}
+use Rattle.dds_machine.specs.declared.reply.Reply.TheVariants.{Refused}
 use Rattle.dds_core.proofs.CallSteps.{FollowsBy, follows_as, still_stands}
 use Rattle.dds_core.proofs.Taking.{silent}
 use Rattle.dds_core.proofs.Triggers.{is_over_with, lacks_memory}

@@ -1,12 +1,12 @@
 use Rattle.std.proofs.Common.{refl, subst}
-use Rattle.dds_model.specs.declared.call.Call.TheVariants as call
-use Rattle.dds_model.specs.declared.event.Event.TheVariants as event
+use Rattle.dds_machine.specs.declared.call.Call.TheVariants as call
+use Rattle.dds_protocol.specs.declared.event.Event.TheVariants as event
 use Rattle.dds_core.specs.Kept.{PeerKept}
 use Rattle.dds_core.proofs.CallSteps.{Follows, follows_as, still_stands}
 use Rattle.std.specs.Prelude.{is_some}
 use Rattle.dds_base.specs.Number.{at_number}
 use Rattle.dds_conditions.specs.Watched.{conditions_of, unless_there}
-use Rattle.dds_model.specs.declared.reply.Reply.TheVariants.{Conditions}
+use Rattle.dds_machine.specs.declared.reply.Reply.TheVariants.{Conditions}
 use Rattle.dds_core.specs.Watching.{conditions_reply}
 use Rattle.dds_core.proofs.Watched.{given_in_memory, on_err, on_ok}
 use Rattle.dds_core.proofs.peer.Peer.get_conditions.Goals as goal

@@ -1,7 +1,7 @@
 use Rattle.std.proofs.Common.{◌<◌, length, subst, rules, refl}
 use Rattle.std.proofs.lemmas.Option.{slice_get_read}
-use Rattle.dds_model.specs.declared.call.Call.TheVariants as call
-use Rattle.dds_model.specs.declared.event.Event.TheVariants as event
+use Rattle.dds_machine.specs.declared.call.Call.TheVariants as call
+use Rattle.dds_protocol.specs.declared.event.Event.TheVariants as event
 use Rattle.dds_core.specs.Kept.{PeerKept}
 use Rattle.dds_core.proofs.CallSteps.{Follows, follows_as, still_stands}
 use Rattle.dds_core.proofs.Asking.{key_told, key_not_told}

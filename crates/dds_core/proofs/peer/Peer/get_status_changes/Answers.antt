@@ -1,9 +1,9 @@
 use Rattle.std.proofs.Common.{refl, ap, rules, ◌∙◌}
-use Rattle.dds_model.specs.declared.call.Call.TheVariants as call
+use Rattle.dds_machine.specs.declared.call.Call.TheVariants as call
 use Rattle.dds_notices.specs.declared.mask.StatusMask.{StatusMask}
 use Rattle.dds_conditions.specs.Watched.{Watched, knows_entity, unless_there}
-use Rattle.dds_model.specs.declared.reply.Reply.TheVariants.{StatusChanges}
-use Rattle.dds_model.specs.Watching.{status_changes}
+use Rattle.dds_machine.specs.declared.reply.Reply.TheVariants.{StatusChanges}
+use Rattle.dds_machine.specs.Watching.{status_changes}
 use Rattle.dds_core.proofs.CallSteps.{follows_as}
 use Rattle.dds_core.proofs.Watched.{told_call}
 use Rattle.dds_core.proofs.peer.Peer.get_status_changes.Goals as goal

@@ -1,8 +1,8 @@
 use Rattle.std.proofs.Common.{Bool, refl, ap, rules, ◌∙◌}
-use Rattle.dds_model.specs.declared.call.Call.TheVariants as call
+use Rattle.dds_machine.specs.declared.call.Call.TheVariants as call
 use Rattle.dds_conditions.specs.Watched.{Watched, knows, unless_there}
-use Rattle.dds_model.specs.declared.reply.Reply.TheVariants.{TriggerValue}
-use Rattle.dds_model.specs.Watching.{trigger_value}
+use Rattle.dds_machine.specs.declared.reply.Reply.TheVariants.{TriggerValue}
+use Rattle.dds_machine.specs.Watching.{trigger_value}
 use Rattle.dds_core.proofs.CallSteps.{follows_as}
 use Rattle.dds_core.proofs.Watched.{told_call}
 use Rattle.dds_core.proofs.peer.Peer.get_trigger_value.Goals as goal

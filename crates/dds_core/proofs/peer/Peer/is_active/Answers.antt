@@ -3,7 +3,7 @@ use Rattle.dds_core.specs.Kept.{PeerKept}
 use Rattle.std.specs.List.{list_any}
 use Rattle.dds_conditions.specs.declared.condition.Cond.{Cond}
 use Rattle.dds_conditions.specs.Watched.{Watched, conditions_of}
-use Rattle.dds_model.specs.Watching.{trigger_value}
+use Rattle.dds_machine.specs.Watching.{trigger_value}
 use Rattle.dds_core.proofs.peer.Peer.is_active.Goals as goal
 
 pub returns : goal.returns

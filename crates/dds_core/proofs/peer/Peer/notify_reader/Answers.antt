@@ -1,5 +1,5 @@
 use Rattle.std.proofs.Common.{ℕ, ◌-◌, arith}
-use Rattle.dds_model.specs.Noticing.{data_raised, data_told, lost_raised, lost_told, turn_raised, turn_told}
+use Rattle.dds_machine.specs.Noticing.{data_raised, data_told, lost_raised, lost_told, turn_raised, turn_told}
 use Rattle.dds_core.specs.Kept.{PeerKept}
 use Rattle.dds_core.proofs.Notified.{end_found, tells_raised, tells_then}
 use Rattle.dds_core.proofs.peer.Peer.notify_reader.Goals as goal

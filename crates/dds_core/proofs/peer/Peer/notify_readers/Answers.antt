@@ -1,6 +1,6 @@
 use Rattle.std.proofs.Common.{length, arith, rules, refl, ap, ◌∙◌}
-use Rattle.dds_model.specs.Noticing.{reader_told}
-use Rattle.dds_model.specs.Part.{own_reader}
+use Rattle.dds_machine.specs.Noticing.{reader_told}
+use Rattle.dds_machine.specs.Part.{own_reader}
 use Rattle.dds_core.specs.Kept.{PeerKept}
 use Rattle.dds_core.specs.Noticing.{IsMarkOf}
 use Rattle.dds_core.proofs.Notified.{tells_all, tells_first, tells_marked}

@@ -1,6 +1,6 @@
 use Rattle.std.proofs.Common.{◌≡◌, length}
-use Rattle.dds_model.specs.Noticing.{each_told, reader_told}
-use Rattle.dds_model.specs.Part.{Part}
+use Rattle.dds_machine.specs.Noticing.{each_told, reader_told}
+use Rattle.dds_machine.specs.Part.{Part}
 use Rattle.dds_core.specs.Noticing.{AreMarksOf, Tells}
 use Rattle.dds_core.proofs.peer.Peer.notify_readers.Given as goal
 

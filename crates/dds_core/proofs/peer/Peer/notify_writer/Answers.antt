@@ -2,8 +2,8 @@ use Rattle.std.proofs.Common.{◌≡◌, ℕ, ◌-◌, Some, None, slice_get, re
 use Rattle.std.proofs.lemmas.Option.{slice_get_read}
 use Rattle.dds_base.specs.declared.entity.Entity.TheVariants as entity
 use Rattle.dds_notices.specs.declared.notice.Status.TheVariants.{LivelinessLost}
-use Rattle.dds_model.specs.Noticing.{writer_told}
-use Rattle.dds_model.specs.Part.{own_writer}
+use Rattle.dds_machine.specs.Noticing.{writer_told}
+use Rattle.dds_machine.specs.Part.{own_writer}
 use Rattle.dds_core.specs.Kept.{PeerKept}
 use Rattle.dds_core.specs.Noticing.{Tells}
 use Rattle.dds_core.proofs.Ends.{with_writer}

@@ -1,6 +1,6 @@
 use Rattle.std.proofs.Common.{◌≡◌, length, arith, rules, refl, ap, ◌∙◌}
-use Rattle.dds_model.specs.Noticing.{losses_of, writer_told}
-use Rattle.dds_model.specs.Part.{own_writer}
+use Rattle.dds_machine.specs.Noticing.{losses_of, writer_told}
+use Rattle.dds_machine.specs.Part.{own_writer}
 use Rattle.dds_core.specs.Kept.{PeerKept}
 use Rattle.dds_core.proofs.Notified.{tells_all, tells_first, tells_marked}
 use Rattle.dds_core.proofs.peer.Peer.notify_writers.Goals as goal

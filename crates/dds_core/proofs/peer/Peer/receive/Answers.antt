@@ -1,6 +1,6 @@
 use Rattle.std.proofs.Common.{ℕ, List, sym, subst}
 use Rattle.rtps_wire.specs.Messages.{ReadsMessage, HasSubmessage}
-use Rattle.dds_model.specs.declared.reply.Report.{Report}
+use Rattle.dds_machine.specs.declared.reply.Report.{Report}
 use Rattle.dds_core.specs.Receiving.{ReceivesPacket}
 use Rattle.dds_core.proofs.Taking.{message_bounded, receives_message, receives_nothing, reads_nothing}
 use Rattle.dds_core.proofs.peer.Peer.receive.Goals as goal

@@ -1,8 +1,8 @@
 use Rattle.std.proofs.Common.{ℕ, suc, ◌<◌, length, sym, ◌∙◌, ap, rules, refl}
 use Rattle.std.proofs.lemmas.Option.{slice_get_read}
 use Rattle.dds_base.specs.declared.entity.Entity.{Entity}
-use Rattle.dds_model.specs.Part.{own_reader, own_writer}
-use Rattle.dds_model.specs.Watching.{reader_statuses, status_changes, writer_statuses}
+use Rattle.dds_machine.specs.Part.{own_reader, own_writer}
+use Rattle.dds_machine.specs.Watching.{reader_statuses, status_changes, writer_statuses}
 use Rattle.dds_core.proofs.CallSteps.{number_is, still_stands}
 use Rattle.dds_core.proofs.peer.Peer.statuses_of.Goals as goal
 

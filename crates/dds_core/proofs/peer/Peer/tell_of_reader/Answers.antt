@@ -1,6 +1,6 @@
 use Rattle.std.proofs.Common.{◌-◌, Option, sym, subst}
 use Rattle.dds_notices.specs.declared.notice.Status.{Status}
-use Rattle.dds_model.specs.Noticing.{told}
+use Rattle.dds_machine.specs.Noticing.{told}
 use Rattle.dds_base.specs.declared.entity.Entity.TheVariants as entity
 use Rattle.dds_core.specs.Kept.{PeerKept}
 use Rattle.dds_core.specs.Noticing.{Tells}

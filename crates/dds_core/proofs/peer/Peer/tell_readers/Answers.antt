@@ -1,5 +1,5 @@
 use Rattle.std.proofs.Common.{List, subst}
-use Rattle.dds_model.specs.declared.reply.Move.{Move}
+use Rattle.dds_machine.specs.declared.reply.Move.{Move}
 use Rattle.dds_core.specs.Readiness.{receiver_at}
 use Rattle.dds_core.specs.Receiving.{TellsReaders}
 use Rattle.dds_core.proofs.Ready.{all_can}

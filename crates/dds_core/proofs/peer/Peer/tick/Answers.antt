@@ -1,6 +1,6 @@
 use Rattle.std.proofs.Common.{◌∙◌, List, refl, sym, subst, rules}
 use Rattle.std.proofs.lemmas.List.{with_items_is}
-use Rattle.dds_model.specs.declared.event.Packet.{Packet}
+use Rattle.dds_protocol.specs.declared.event.Packet.{Packet}
 use Rattle.dds_core.specs.Beating.{BeatsOfAll}
 use Rattle.dds_core.specs.Expiring.{AllExpire, HasDeadly}
 use Rattle.dds_core.specs.Kept.{ReaderKept, WriterKept}

@@ -5,7 +5,7 @@ use Rattle.dds_notices.specs.declared.mask.StatusMask.{StatusMask}
 use Rattle.dds_conditions.specs.declared.condition.Cond.{Cond}
 use Rattle.dds_conditions.specs.declared.condition.Condition.{Condition}
 use Rattle.dds_conditions.specs.Watched.{Watched, enabled_of, knows_entity}
-use Rattle.dds_model.specs.Watching.{meet, status_changes, trigger_value, condition_value}
+use Rattle.dds_machine.specs.Watching.{meet, status_changes, trigger_value, condition_value}
 use Rattle.dds_core.proofs.peer.Peer.trigger_of.Goals as goal
 
 -- of an entity that there is

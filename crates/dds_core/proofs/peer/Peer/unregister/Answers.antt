@@ -2,9 +2,9 @@ use Rattle.std.proofs.Common.{◌≡◌, ◌<◌, Some, List, length, slice_get,
 use Rattle.std.specs.Prelude.{ℕ}
 use Rattle.std.proofs.lemmas.Option.{same_Some, slice_get_read}
 use Rattle.dds_base.specs.declared.config.Config.{Config}
-use Rattle.dds_model.specs.declared.call.Call.TheVariants as call
-use Rattle.dds_model.specs.declared.event.Event.TheVariants as event
-use Rattle.dds_model.specs.Peer.{Peer}
+use Rattle.dds_machine.specs.declared.call.Call.TheVariants as call
+use Rattle.dds_protocol.specs.declared.event.Event.TheVariants as event
+use Rattle.dds_protocol.specs.Peer.{Peer}
 use Rattle.dds_core.specs.Kept.{WriterKept, PeerKept}
 use Rattle.dds_core.specs.Making.{Makes}
 use Rattle.dds_core.specs.Sending.{Sends}

@@ -3,8 +3,8 @@ use Rattle.std.proofs.lemmas.Option.{slice_get_read}
 use Rattle.dds_base.specs.Access.{has_match}
 use Rattle.dds_conditions.specs.declared.condition.Condition.{Condition}
 use Rattle.dds_conditions.specs.declared.condition.Condition.TheVariants.{Samples}
-use Rattle.dds_model.specs.Part.{own_reader}
-use Rattle.dds_model.specs.Watching.{test_of, condition_value}
+use Rattle.dds_machine.specs.Part.{own_reader}
+use Rattle.dds_machine.specs.Watching.{test_of, condition_value}
 use Rattle.dds_core.proofs.CallSteps.{number_is, still_stands}
 use Rattle.dds_core.proofs.peer.Peer.value_of.Goals as goal
 

@@ -1,5 +1,5 @@
 use Rattle.std.proofs.Common.{rules}
-use Rattle.dds_model.specs.declared.call.Call.TheVariants as call
+use Rattle.dds_machine.specs.declared.call.Call.TheVariants as call
 use Rattle.dds_core.proofs.CallSteps.{write_at, made_steps, made_sends}
 use Rattle.dds_core.proofs.peer.Peer.write.Goals as goal
 

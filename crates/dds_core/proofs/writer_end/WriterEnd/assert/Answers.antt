@@ -2,7 +2,7 @@ use Rattle.std.proofs.Common.{◌≡◌, true, List, Some, ap, sym, subst, ◌�
 use Rattle.std.specs.Prelude.{Ok}
 use Rattle.dds_base.specs.Written.{Asserted}
 use Rattle.rtps_writer.specs.Liveliness.{heartbeat_asserted}
-use Rattle.dds_model.specs.DueMessages.{Due, AreSent}
+use Rattle.dds_protocol.specs.DueMessages.{Due, AreSent}
 use Rattle.dds_core.specs.declared.heartbeat.Beat.{Beat}
 use Rattle.dds_core.specs.declared.matching.Destination.{Destination}
 use Rattle.dds_core.specs.Beating.{assertions_of, told_to}

@@ -1,7 +1,7 @@
 use Rattle.std.proofs.Common.{◌≡◌, false, List, Some, map, ap, sym, subst, ◌∙◌}
 use Rattle.rtps_writer.specs.WriterState.{heartbeat_due}
-use Rattle.dds_model.specs.Ticks.{ticked}
-use Rattle.dds_model.specs.DueMessages.{Due}
+use Rattle.dds_machine.specs.Ticks.{ticked}
+use Rattle.dds_protocol.specs.DueMessages.{Due}
 use Rattle.dds_core.specs.declared.heartbeat.Beat.{Beat}
 use Rattle.dds_core.specs.declared.matching.Destination.{Destination}
 use Rattle.dds_core.specs.declared.matching.ReaderName.{ReaderName}

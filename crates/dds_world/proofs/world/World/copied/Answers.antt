@@ -1,6 +1,6 @@
 use Rattle.std.proofs.Common.{◌≡◌, ◌<◌, List, Some, length, slice_get, subst, sym, ◌∙◌, ap, arith}
 use Rattle.std.proofs.lemmas.Option.{slice_get-get_or}
-use Rattle.dds_model.specs.declared.event.Packet.{Packet}
+use Rattle.dds_protocol.specs.declared.event.Packet.{Packet}
 use Rattle.dds_world.specs.Holding.{Held}
 use Rattle.dds_world.proofs.world.World.copied.Goals as goal
 

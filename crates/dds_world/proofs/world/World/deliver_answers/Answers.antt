@@ -1,6 +1,6 @@
 use Rattle.std.proofs.Common.{◌≡◌, ℕ, ◌+◌, ◌-◌, min, List, [], ◌∷◌, ◌++◌, map, length, refl, ap, ◌∙◌, subst, append_assoc, length-append, arith}
 use Rattle.dds_base.specs.Kept.{numbers_from}
-use Rattle.dds_model.specs.declared.event.WorldEvent.TheVariants as world
+use Rattle.dds_machine.specs.declared.event.WorldEvent.TheVariants as world
 use Rattle.dds_world.specs.declared.round.RoundReply.{RoundReply}
 use Rattle.dds_world.specs.Holding.{kept_of, tests_in}
 use Rattle.dds_world.specs.Round.{AreSteps, IsStep}

@@ -1,7 +1,7 @@
 use Rattle.std.proofs.Common.{◌≡◌, ◌+◌, ◌≤◌, List, ◌++◌, map, vec_len}
 use Rattle.std.specs.Prelude.{vec_capacity}
 use Rattle.dds_base.specs.Kept.{numbers_from}
-use Rattle.dds_model.specs.declared.event.WorldEvent.TheVariants as world
+use Rattle.dds_machine.specs.declared.event.WorldEvent.TheVariants as world
 use Rattle.dds_world.specs.declared.round.RoundReply.{RoundReply}
 use Rattle.dds_world.specs.Holding.{filters_of, kept_of, tests_in}
 use Rattle.dds_world.specs.Round.{AreSteps}

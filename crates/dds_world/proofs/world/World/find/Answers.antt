@@ -1,5 +1,5 @@
 use Rattle.std.proofs.Common.{◌≡◌, ◌≤◌, false, true, List, length, refl, ap, arith}
-use Rattle.dds_model.specs.declared.event.Packet.{Packet}
+use Rattle.dds_protocol.specs.declared.event.Packet.{Packet}
 use Rattle.dds_world.specs.Round.{IsTo}
 use Rattle.dds_world.specs.Holding.{Held}
 use Rattle.dds_world.proofs.Rounds.{none_yet, none_within, none_more, found_here, packet_read}

@@ -1,5 +1,5 @@
 use Rattle.std.proofs.Common.{refl}
-use Rattle.dds_model.specs.declared.event.WorldEvent.TheVariants as world
+use Rattle.dds_machine.specs.declared.event.WorldEvent.TheVariants as world
 use Rattle.dds_world.proofs.Holding.{steps_as}
 use Rattle.dds_world.proofs.world.World.happen.Goals as goal
 

@@ -1,6 +1,6 @@
 use Rattle.std.proofs.Common.{◌≡◌, List, [], ◌∷◌, ◌++◌, sym, subst, ◌∙◌, arith}
 use Rattle.std.proofs.lemmas.Grind.{common_steps}
-use Rattle.dds_model.specs.declared.reply.Reply.{Reply}
+use Rattle.dds_machine.specs.declared.reply.Reply.{Reply}
 use Rattle.dds_world.specs.Holding.{kept_of, tests_in}
 use Rattle.dds_world.specs.WorldStanding.{KeepsRules, Runs}
 use Rattle.dds_world.proofs.Holding.{same_tests}

@@ -1,0 +1,11 @@
+pub mod Numbered
+pub mod Part
+pub mod Moves
+pub mod Watching
+pub mod Refusals
+pub mod Calls
+pub mod Ticks
+pub mod Machine
+pub mod Opening
+pub mod Filters
+pub mod Noticing

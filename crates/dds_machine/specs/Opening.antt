@@ -1,0 +1,81 @@
+-- The opening of a configuration: writers and readers of equal topic are matched, nothing has happened, each place is 1
+-- and nothing is acknowledged.
+--
+-- DDS 1.4, 2.2.2.3, 2.2.3 (policies of matched entities); RTPS 2.5, 8.4.7 (matched_readers), 8.4.10
+-- (matched_writers).
+use Rattle.std.specs.Prelude.{ℕ, List, [], length, map, None}
+use Rattle.dds_base.specs.declared.config.Config.{Config}
+use Rattle.dds_base.specs.declared.config.PeerConfig.{PeerConfig}
+use Rattle.dds_base.specs.declared.config.WriterConfig.{WriterConfig}
+use Rattle.dds_base.specs.declared.config.ReaderConfig.{ReaderConfig}
+use Rattle.dds_base.specs.declared.qos.MatchedWriter.{MatchedWriter}
+use Rattle.dds_base.specs.declared.qos.ReaderQos.{ReaderQos}
+use Rattle.dds_conditions.specs.Watched.{opened as nothing_watched}
+use Rattle.dds_notices.specs.Listeners.{nobody}
+use Rattle.dds_base.specs.Matched.{of_matched_writers, of_matched_readers}
+use Rattle.dds_machine.specs.Part.{ReaderProxy, WriterProxy, Writer, Part, nothing_seen}
+use Rattle.dds_base.specs.Checked.{limit_of}
+use Rattle.dds_machine.specs.Machine.{Machine}
+
+-- what a writer of the topic has of its matched readers; the first of these peers has this number
+abbrev pub matched_readers : ℕ → ℕ → List PeerConfig → List ReaderProxy
+matched_readers topic peer ps =
+    of_matched_readers (λ i p n r. record { reader = record { peer = i; number = n }; acknowledged = 1 }) topic peer ps
+
+-- what a reader of the topic has of its matched writers, in the order of publication handles; the first of these peers
+-- has this number
+abbrev pub matched_writers : ℕ → ℕ → List PeerConfig → List WriterProxy
+matched_writers topic peer ps =
+    of_matched_writers (λ i p n w. record
+    { writer = record { peer = i; number = n }; place = 1; heard = None }) topic peer ps
+
+-- what a reader's QoS says of the matched writers of the topic
+abbrev pub writer_qos : ℕ → List PeerConfig → List MatchedWriter
+writer_qos topic ps = of_matched_writers
+    (λ i p n w. record {
+      guid = record { prefix = p.prefix; entity = w.entity };
+      strength = w.strength;
+      lease = w.lease;
+    }) topic 1 ps
+
+-- a reader's policies, as its configuration has them, with its matched writers among these peers
+abbrev pub reader_qos : List PeerConfig → ReaderConfig → ReaderQos
+reader_qos peers r = record {
+  ownership = r.ownership;
+  history = r.history;
+  max_samples = limit_of r.max_samples;
+  max_instances = limit_of r.max_instances;
+  writers = writer_qos r.topic peers;
+}
+
+-- a writer that has done nothing, with its matched readers, each of which has acknowledged nothing
+abbrev pub opening_writer : List PeerConfig → WriterConfig → Writer
+opening_writer peers w =
+    record {
+      policy = w.history;
+      max_samples = limit_of w.max_samples;
+      lease = w.lease;
+      autodispose = w.autodispose;
+      written = [];
+      readers = matched_readers w.topic 1 peers;
+    }
+
+-- the part of a peer to which nothing has happened: at moment 0, with nothing watched and no listener
+abbrev pub opening_part : List PeerConfig → PeerConfig → Part
+opening_part peers p = record {
+  rtps = record {
+    writers = map (opening_writer peers) p.writers;
+    readers = map (λ (r : ReaderConfig). matched_writers r.topic 1 peers) p.readers;
+  };
+  dds = record {
+    moment = 0;
+    readers = map (λ (r : ReaderConfig). record
+        { qos = reader_qos peers r; happened = []; seen = nothing_seen }) p.readers;
+    watch = nothing_watched (length p.writers) (length p.readers);
+    listeners = nobody (length p.writers) (length p.readers);
+  };
+}
+
+-- the machine at its opening
+abbrev pub opening : Config → Machine
+opening config = record { parts = map (opening_part config.peers) config.peers }

@@ -1,0 +1,49 @@
+-- What a tick does: the time of a peer goes on, and whoever was not heard of for as long as its lease dies at its
+-- readers.
+--
+-- DDS 1.4, 2.2.3 (LIVELINESS: lease_duration).
+use Rattle.std.specs.Prelude.{◌≡◌, ℕ, ◌^◌, ◌||◌, Bool, true, map, length, Option, Some, None, nat_le, nat_lt, if◌then◌else◌}
+use Rattle.std.specs.List.{list_any}
+use Rattle.dds_base.specs.declared.code.Code.{Code}
+use Rattle.dds_base.specs.declared.code.Code.TheVariants.{BadParameter, Memory}
+use Rattle.dds_base.specs.Liveliness.{after_deaths, dead_at}
+use Rattle.dds_base.specs.Refusal.{Refuses}
+use Rattle.dds_base.specs.Written.{Ticked}
+use Rattle.dds_machine.specs.declared.reply.Reply.{Reply}
+use Rattle.dds_machine.specs.declared.reply.Reply.TheVariants.{Done, Refused}
+use Rattle.dds_machine.specs.Part.{Part, Reader, Writer, is_behind}
+use Rattle.dds_machine.specs.Calls.{with_written}
+
+-- why a moment is refused: it lies before the peer's, or is none, from 2^63 on
+abbrev pub tick_refusal : Part → ℕ → Option Code
+tick_refusal part now = if nat_lt now part.dds.moment || nat_le (2 ^ 63) now then Some BadParameter else None
+
+-- a writer, after its peer's time went on to this moment
+abbrev pub ticked : ℕ → Writer → Writer
+ticked now w = with_written w (Ticked now (is_behind w))
+
+-- a reader, after its peer's time went on to this moment: the writers whose leases are then over have died there
+abbrev pub reader_ticked : ℕ → Reader → Reader
+reader_ticked now r = record r { happened = after_deaths r.qos now r.happened }
+
+-- The part of a peer whose time went on to this moment: first writers die at its readers; then it enters so at each of
+-- its writers, and whether a reader was behind.
+abbrev pub after_tick : Part → ℕ → Part
+after_tick old now = record {
+  rtps = record old.rtps { writers = map (ticked now) old.rtps.writers };
+  dds = record old.dds { moment = now; readers = map (reader_ticked now) old.dds.readers };
+}
+
+-- at some reader of the peer a writer dies at this moment
+abbrev pub is_deadly : Part → ℕ → Bool
+is_deadly part now = list_any (λ (r : Reader). nat_lt 0 (length (dead_at r.qos now r.happened))) part.dds.readers
+
+-- why a tick is refused: for its moment, or for want of memory, where somebody dies: a death may leave markers
+abbrev pub RefusesTick : Part → ℕ → Code → Type 0
+RefusesTick old now code = Refuses (tick_refusal old now) code × (code ≡ Memory → is_deadly old now ≡ true)
+
+-- the time of a peer goes on to this moment, exactly unless that is refused
+abbrev pub TickStep : Part → ℕ → Reply → Part → Type 0
+TickStep old now Done new = (tick_refusal old now ≡ None) × (new ≡ after_tick old now)
+TickStep old now (Refused code) new = RefusesTick old now code × (new ≡ old)
+TickStep old now reply new = ⊥

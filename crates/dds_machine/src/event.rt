@@ -1,0 +1,18 @@
+//! What happens to a network of peers.
+//!
+//! DDS 1.4, 2.2.2.4 and 2.2.2.5 (calls). Peers, and packets by their numbers, are this project's own.
+
+use crate::call::Call;
+use dds_base::Moment;
+
+/// What happens to a network of peers, which are numbered from 1.
+#[derive(Debug, Drop)]
+pub enum WorldEvent {
+    /// A call at a peer, as `Call` says.
+    Call { peer: u8, call: Call },
+    /// The time of a peer goes on to this moment: those whose lease is over die at its readers. `BadParameter` where
+    /// it would go back, or to 2^63 units of 2^-32 second and beyond; `Memory` only where somebody dies.
+    Tick { peer: u8, now: Moment },
+    /// The packet of this number, counted from 1 among all that were ever sent, comes at a peer.
+    Deliver { peer: u8, packet: u64 },
+}

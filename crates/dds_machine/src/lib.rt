@@ -1,0 +1,19 @@
+//! The machine without packets: what an application asks of its peer and what it is answered, and which answers are
+//! right, where each writer is a list of changes, and each matched reader has a place in it.
+//!
+//! DDS 1.4, 2.2.2.4 and 2.2.2.5 (calls), 2.2.4.1 (communication statuses); RTPS 2.5, 8.4 (behaviour).
+//! `specs/` holds the definitions of the machine, to which nobody needs a packet: no crate of the protocol stands below.
+//! Not here: code that runs, but for the copies of calls and replies; bytes, messages and what they claim
+//! (`dds_protocol`).
+#![tactic(auto)]
+
+mod call;
+mod endpoint;
+mod event;
+mod reply;
+
+pub use call::Call;
+pub use dds_base::{LivelinessChangedStatus, LivelinessLostStatus, PassedRun, SampleLostStatus};
+pub use endpoint::Endpoint;
+pub use event::WorldEvent;
+pub use reply::{Move, Reply, Report};

@@ -1,5 +1,0 @@
-use Rattle.dds_model.proofs.Bounded.{opens_bounded, steps_bounded, runs_bounded}
-use Rattle.dds_model.proofs.laws.places_are_bounded.Goals as goal
-
-pub returns : goal.returns
-returns c = record { opening = opens_bounded; step = steps_bounded; run = runs_bounded }

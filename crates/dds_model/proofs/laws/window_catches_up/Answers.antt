@@ -1,5 +1,0 @@
-use Rattle.dds_model.proofs.CaughtUp.{window_catches_up}
-use Rattle.dds_model.proofs.laws.window_catches_up.Goals as goal
-
-pub returns : goal.returns
-returns c = record { window = window_catches_up }

@@ -1,0 +1,561 @@
+-- Steps of peers, on claims that are true, are steps of the machine, and leave the claims true.
+use Rattle.std.proofs.Common.{◌≡◌, ◌⊎◌, ℕ, ℤ, zero, suc, ◌+◌, ◌-◌, ◌<◌, ◌≤◌, List, [], ◌∷◌, ◌++◌, Option, Some, true, Contains, subst, ap, sym, refl, ◌∙◌, inl, inr, ⊎_elim, arith, length, slice_get}
+use Rattle.std.specs.Prelude.{slice_index_or}
+use Rattle.std.proofs.lemmas.List.{length-map}
+use Rattle.std.proofs.lemmas.Option.{same_Some, slice_get_within}
+use Rattle.std.proofs.lemmas.List.Elements.{Contains-append_cases}
+use Rattle.dds_base.specs.declared.change.Change.{Change}
+use Rattle.dds_base.specs.declared.config.Config.{Config}
+use Rattle.dds_base.specs.Kept.{change_at, is_dropped}
+use Rattle.dds_machine.specs.declared.endpoint.Endpoint.{Endpoint}
+use Rattle.dds_protocol.specs.declared.event.Event.{Event}
+use Rattle.dds_protocol.specs.declared.event.Event.TheVariants as event
+use Rattle.dds_protocol.specs.declared.event.Output.{Output}
+use Rattle.dds_protocol.specs.declared.event.Packet.{Packet}
+use Rattle.dds_machine.specs.declared.event.WorldEvent.{WorldEvent}
+use Rattle.dds_machine.specs.declared.event.WorldEvent.TheVariants as world
+use Rattle.dds_machine.specs.declared.reply.Move.{Move}
+use Rattle.dds_machine.specs.declared.reply.Move.TheVariants.{Place, Acknowledged, Heard}
+use Rattle.dds_base.specs.declared.guid.GuidPrefix.{GuidPrefix}
+use Rattle.rtps_wire.specs.declared.submessage.Submessage.{Submessage}
+use Rattle.dds_machine.specs.declared.reply.Report.{Report}
+use Rattle.dds_machine.specs.declared.reply.Reply.{Reply}
+use Rattle.dds_machine.specs.declared.reply.Reply.TheVariants.{Reported}
+use Rattle.dds_machine.specs.Numbered.{with_numbered, HasNumber}
+use Rattle.dds_machine.specs.Part.{ReaderProxy, Writer, Part, no_part, no_writer, own_writer, own_proxies, acknowledged_of, with_acknowledged, place_of, writer_changes, history_of, is_assertion, IsBelow, IsAtMost, NoLess}
+use Rattle.dds_base.proofs.PlaceLaws.{SayAsMuch, goes_on}
+use Rattle.dds_machine.specs.Moves.{Grounds, as_to, match_of, position_at, IsMove, AreMoves, DeliveryStep}
+use Rattle.dds_protocol.specs.Receipt.{HasNoRoom, MovesOver, TakesUp, Receives, prefix_of}
+use Rattle.dds_protocol.specs.Progress.{ReceivesIn, Progresses}
+use Rattle.dds_machine.specs.Ticks.{TickStep}
+use Rattle.dds_machine.specs.Calls.{CallStep}
+use Rattle.dds_machine.specs.Watching.{Tests}
+use Rattle.dds_protocol.specs.Claims.{Receiver, after_submessage, receiver_of, Claim, ChangeIs, MayPass, PlaceReached, Asserts, Claims, Claimed}
+use Rattle.dds_protocol.specs.Peer.{Peer, Delivery, PeerStep, EventStep, no_peer, claimed, packets_of, IsTrueAt}
+use Rattle.dds_machine.specs.Machine.{Machine, AllTests, part_at, writer_at, place_at, grounds_of, AtPeer, Step, IsRefused}
+use Rattle.dds_protocol.specs.World.{WorldState, peer_at, machine_of, PeerSteps, IsRefusedIn, WorldStep, Holds, Sound}
+use Rattle.dds_machine.proofs.Tables.{numbered-cases, numbered-map, numbered-same, map-with_numbered, length-with_numbered, acknowledged-cases, no_less_same, no_less_on, below_on}
+use Rattle.dds_protocol.proofs.Growth.{Grows, IsMove-grows, AreMoves-grows, DeliveryStep-grows, CallStep-grows, CallStep-readers, TickStep-acknowledged, TickStep-grows, MachineGrows, with_part, with_part-grows, Holds-grows}
+
+abbrev pub AllHold : Config → Machine → List (List ℕ) → Type 0
+AllHold config m packets =
+    (bytes : List ℕ) (claim : Claim) → Contains packets bytes → Claims config bytes claim → Holds m claim
+
+abbrev at : ℕ → ℕ → Endpoint
+at peer number = record { peer = peer; number = number }
+
+holds_claimed : (config : Config) (m : Machine) (packets : List (List ℕ)) → AllHold config m packets → (c : Claim)
+    → Claimed config packets c → Holds m c
+holds_claimed config m packets all c h = all h.packet c h.among h.claims
+
+-- what a delivery rests on at the peer of this number is true
+record AreTrue (m : Machine) (i : ℕ) (g : Grounds) : Type 0 where
+  change : (w : Endpoint) (r n : ℕ) (c : Change) → g.is_change w r n c → Holds m (ChangeIs w (at i r) n c)
+  pass : (w : Endpoint) (r n : ℕ) → g.may_pass w r n → Holds m (MayPass w (at i r) n)
+  place : (w : ℕ) (r : Endpoint) (base : ℕ) → g.has_place w r base → Holds m (PlaceReached (at i w) r base)
+  hear : (w : Endpoint) (r : ℕ) (count : ℤ) → g.may_hear w r count → Holds m (Asserts w (at i r) count)
+
+claimed-true : (config : Config) (m : Machine) (i : ℕ) (before : List Delivery) (packet : List ℕ) (index : ℕ)
+    → AllHold config m (packet ∷ packets_of before) → AreTrue m i (claimed config before packet i index)
+claimed-true config m i before packet index all = record {
+  change = λ w r n c h. holds_claimed config m (packet ∷ packets_of before) all (ChangeIs w (at i r) n c) h;
+  pass = λ w r n h. holds_claimed config m (packet ∷ packets_of before) all (MayPass w (at i r) n) h;
+  place = λ w r base h. holds_claimed config m (packet ∷ packets_of before) all (PlaceReached (at i w) r base) h;
+  hear = λ w r count h. holds_claimed config m (packet ∷ packets_of before) all (Asserts w (at i r) count) h.0;
+}
+
+-- a place goes on over true claims as the machine's does
+
+-- from the reader's place on, what is true says as much as what a delivery rests on: a change that it may pass over
+-- is not one that it has passed
+says_as_much : (m : Machine) (i : ℕ) (g : Grounds) → AreTrue m i g → (w : Endpoint) (r place : ℕ)
+    → NoLess (place_at m (at i r) w) (Some place) → SayAsMuch (as_to g w r) (as_to (grounds_of m i) w r) place
+says_as_much m i g t w r place low = record {
+  is_change = λ n c above h. t.change w r n c h;
+  may_pass = λ n above h.
+      ⊎_elim (λ d. d)
+      (λ past. let under : n < place = below_on n (place_at m (at i r) w)
+      (Some place) past low in absurd (omega (arith, under, above)))
+      (t.pass w r n h);
+}
+
+-- moves on true claims are moves of the machine
+abbrev IsAbove : Machine → ℕ → Part → Type 0
+IsAbove m i part = (r : ℕ) (w : Endpoint) → NoLess (place_at m (at i r) w) (place_of (own_proxies part r) w)
+
+sound_move : (m : Machine) (i : ℕ) (g : Grounds) → AreTrue m i g → (old : Part) (mv : Move) (new : Part)
+    → IsAbove m i old → IsMove g old mv new → IsMove (grounds_of m i) old mv new
+sound_move m i g t old (Place w r to passed) new low h =
+    let from : NoLess (place_at m (at i r) w) (Some h.place) =
+    subst (λ (o : Option ℕ). NoLess (place_at m (at i r) w) o) h.matched.at (low r w) in
+    record {
+      publication = h.publication;
+      place = h.place;
+      matched = h.matched;
+      forward = h.forward;
+      end = h.end;
+      goes =
+          goes_on (as_to g w r) (as_to (grounds_of m i) w r) h.place (says_as_much m i g t w r h.place from)
+          (match_of old r h.publication) (position_at old r h.place) passed to h.end (omega arith) h.goes;
+      after = h.after;
+    }
+sound_move m i g t old (Acknowledged w r to) new low h = record {
+  acknowledged = h.acknowledged;
+  matched = h.matched;
+  forward = h.forward;
+  has_place = t.place w r to h.has_place;
+  after = h.after;
+}
+sound_move m i g t old (Heard w r) new low h = record {
+  publication = h.publication;
+  matched = h.matched;
+  heard = h.heard;
+  last = h.last;
+  count = h.count;
+  later = h.later;
+  may_hear = t.hear w r h.count h.may_hear;
+  after = h.after;
+}
+
+above_grown : (m : Machine) (i : ℕ) (old new : Part) → IsAbove m i old → Grows old.rtps new.rtps → IsAbove m i new
+above_grown m i old new low g r w =
+    no_less_on (place_at m (at i r) w) (place_of (own_proxies old r) w) (place_of (own_proxies new r) w) (low r w)
+    (g.places r w)
+
+sound_moves : (m : Machine) (i : ℕ) (g : Grounds) → AreTrue m i g → (old : Part) (ms : List Move) (new : Part)
+    → IsAbove m i old → AreMoves g old ms new → AreMoves (grounds_of m i) old ms new
+sound_moves m i g t old [] new low h = h
+sound_moves m i g t old (mv ∷ ms) new low h = (
+  h.0,
+  sound_move m i g t old mv h.0 low h.1,
+  sound_moves m i g t h.0 ms new
+      (above_grown m i old h.0 low (IsMove-grows g old mv h.0 h.1)) h.2,
+)
+
+-- submessages that are taken up on true claims
+
+pub moves_on : (g : Grounds) (old : Part) (made : List Move) (mid : Part) (later : List Move) (new : Part)
+    → AreMoves g old made mid → AreMoves g mid later new → AreMoves g old (made ++ later) new
+moves_on g old [] mid later new h k = subst (λ (q : Part). AreMoves g q later new) h k
+moves_on g old (mv ∷ ms) mid later new h k = (h.0, h.1, moves_on g h.0 ms mid later new h.2 k)
+
+no_room-sound : (m : Machine) (i : ℕ) (g : Grounds) → AreTrue m i g → (part : Part) (w : Endpoint) (r p n : ℕ)
+    → HasNoRoom g part w r p n → HasNoRoom (grounds_of m i) part w r p n
+no_room-sound m i g t part w r p n h =
+    record { change = h.change; is_change = t.change w r n h.change h.is_change; no_room = h.no_room }
+
+abbrev InMachine : Config → Machine → ℕ → GuidPrefix → ℕ → Receiver → List Submessage → Part → List Move → Option ℕ
+    → Part → Type 0
+InMachine config m i own index at ss old moves refused new =
+    TakesUp config (λ k. grounds_of m i) i own index at ss old moves refused new
+    × AreMoves (grounds_of m i) old moves new
+
+takes_up-sound : (config : Config) (m : Machine) (i : ℕ) (gs : ℕ → Grounds) → ((k : ℕ) → AreTrue m i (gs k))
+    → (own : GuidPrefix) (index : ℕ) (receiver : Receiver) (ss : List Submessage) (old : Part) (moves : List Move)
+    (refused : Option ℕ) (new : Part) → IsAbove m i old
+    → TakesUp config gs i own index receiver ss old moves refused new
+    → InMachine config m i own index receiver ss old moves refused new
+takes_up-sound config m i gs t own index receiver [] old moves refused new low h =
+    (h, subst (λ (ms : List Move). AreMoves (grounds_of m i) old ms new) (sym h.0) h.2)
+takes_up-sound config m i gs t own index receiver (s ∷ ss) old moves refused new low (inl h) =
+    (inl h, subst (λ (ms : List Move). AreMoves (grounds_of m i) old ms new) (sym h.0) h.2)
+takes_up-sound config m i gs t own index receiver (s ∷ ss) old moves refused new low (inr h) =
+    let mid : Part = h.2 in
+    let own_moves : AreMoves (grounds_of m i) old h.0 mid = sound_moves m i (gs index) (t index) old h.0 mid low h.4 in
+    let rest : InMachine config m i own (index + 1) (after_submessage own receiver s) ss mid h.1 refused new =
+    takes_up-sound config m i gs t own (index + 1) (after_submessage own receiver s) ss mid h.1 refused new
+    (above_grown m i old mid low (AreMoves-grows (gs index) old h.0 mid h.4)) h.6 in
+    let over : MovesOver config (grounds_of m i) i own receiver s old h.0 =
+    λ w r p n c says here matched least most. ⊎_elim (λ o. inl o)
+    (λ o. inr (no_room-sound m i (gs index) (t index) old w r.number p n o))
+    (h.5 w r p n c says here matched least most) in (
+      inr (h.0, h.1, mid, h.3, own_moves, over, rest.0),
+      subst (λ (ms : List Move). AreMoves (grounds_of m i) old ms new) (sym h.3)
+          (moves_on (grounds_of m i) old h.0 mid h.1 new own_moves rest.1),
+    )
+
+receives-sound : (config : Config) (m : Machine) (i : ℕ) (gs : ℕ → Grounds) → ((k : ℕ) → AreTrue m i (gs k))
+    → (bytes : List ℕ) (old : Part) (report : Report) (new : Part) → IsAbove m i old
+    → Receives config gs i bytes old report new → Receives config (λ k. grounds_of m i) i bytes old report new
+    × AreMoves (grounds_of m i) old report.moves new
+receives-sound config m i gs t bytes old report new low (inl h) =
+    let r =
+    takes_up-sound config m i gs t (prefix_of config i) 0
+    (receiver_of h.message.prefix) h.message.submessages old report.moves report.refused new low h.taken in
+    (inl (record { message = h.message; offset = h.offset; is_read = h.is_read; taken = r.0 }), r.1)
+receives-sound config m i gs t bytes old report new low (inr h) =
+    (inr h, subst (λ (ms : List Move). AreMoves (grounds_of m i) old ms new) (sym h.moves) h.after)
+
+-- no reader has acknowledged more than it has
+abbrev AckedBelow : Machine → ℕ → Part → Type 0
+AckedBelow m i part =
+    (w : ℕ) (r : Endpoint) → NoLess (acknowledged_of (own_writer part w).readers r) (place_at m r (at i w))
+
+acked_row : (m : Machine) (i : ℕ) (rows : List ReaderProxy) (w : ℕ) (r : Endpoint) (from to : ℕ) (v : Endpoint)
+    → acknowledged_of rows r ≡ Some from → IsAtMost to (place_at m r (at i w))
+    → NoLess (acknowledged_of rows v) (place_at m v (at i w))
+    → NoLess (acknowledged_of (with_acknowledged rows r to) v) (place_at m v (at i w))
+acked_row m i rows w r from to v is has le =
+    ⊎_elim (λ e. subst (λ (o : Option ℕ). NoLess o (place_at m v (at i w))) (sym e) le)
+    (λ s. subst (λ (o : Option ℕ). NoLess o (place_at m v (at i w))) (sym s.1)
+    (subst (λ (x : Endpoint). IsAtMost to (place_at m x (at i w))) (sym s.0) has))
+    (acknowledged-cases rows r from to v is)
+
+acked_move : (m : Machine) (i : ℕ) (old : Part) (mv : Move) (new : Part) → IsMove (grounds_of m i) old mv new
+    → AckedBelow m i old → AckedBelow m i new
+acked_move m i old (Place w r to passed) new h le = subst (λ (q : Part). AckedBelow m i q) (sym h.after) le
+acked_move m i old (Heard w r) new h le = subst (λ (q : Part). AckedBelow m i q) (sym h.after) le
+acked_move m i old (Acknowledged w r to) new h le =
+    let before = own_writer old w in
+    let after : Writer = record before { readers = with_acknowledged before.readers r to } in
+    subst (λ (q : Part). AckedBelow m i q) (sym h.after)
+    (λ k v.
+    ⊎_elim (λ e. subst (λ (x : Writer). NoLess (acknowledged_of x.readers v) (place_at m v (at i k))) (sym e) (le k v))
+    (λ s.
+    subst (λ (x : Writer). NoLess (acknowledged_of x.readers v) (place_at m v (at i k))) (sym s.1)
+    (subst (λ (j : ℕ). NoLess (acknowledged_of after.readers v) (place_at m v (at i j))) (sym s.0)
+    (acked_row m i before.readers w r h.acknowledged to v h.matched h.has_place (le w v))))
+    (numbered-cases old.rtps.writers w after k no_writer))
+
+acked_moves : (m : Machine) (i : ℕ) (old : Part) (ms : List Move) (new : Part) → AreMoves (grounds_of m i) old ms new
+    → AckedBelow m i old → AckedBelow m i new
+acked_moves m i old [] new h le = subst (λ (q : Part). AckedBelow m i q) (sym h) le
+acked_moves m i old (mv ∷ ms) new h le = acked_moves m i h.0 ms new h.2 (acked_move m i old mv h.0 h.1 le)
+
+-- what an event at a peer does to its part of the machine, whatever packet it delivers
+abbrev pub PartStep : Tests → Machine → ℕ → Event → Reply → Part → Type 0
+PartStep tests m peer (event.Call call) reply after = CallStep tests (part_at m peer) call reply after
+PartStep tests m peer (event.Tick now) reply after = TickStep (part_at m peer) now reply after
+PartStep tests m peer (event.Deliver packet) reply after = DeliveryStep (grounds_of m peer) (part_at m peer) reply after
+
+-- and how a packet is taken up there
+abbrev pub EventProgresses : Config → Machine → ℕ → Event → Reply → Type 0
+EventProgresses config m peer (event.Deliver packet) reply = ReceivesIn config m peer packet reply
+EventProgresses config m peer ev reply = Unit {0}
+
+pub PartStep-grows : (tests : Tests) (m : Machine) (i : ℕ) (ev : Event) (reply : Reply) (after : Part)
+    → PartStep tests m i ev reply after → Grows (part_at m i).rtps after.rtps
+PartStep-grows tests m i (event.Call call) reply after h = CallStep-grows tests (part_at m i) call reply after h
+PartStep-grows tests m i (event.Tick now) reply after h = TickStep-grows (part_at m i) now reply after h
+PartStep-grows tests m i (event.Deliver packet) reply after h =
+    DeliveryStep-grows (grounds_of m i) (part_at m i) reply after h
+
+acked_delivery : (m : Machine) (i : ℕ) (old : Part) (reply : Reply) (new : Part)
+    → DeliveryStep (grounds_of m i) old reply new → AckedBelow m i old → AckedBelow m i new
+acked_delivery m i old (Reported report) new h le = acked_moves m i old report.moves new h le
+acked_delivery m i old reply new h le = absurd h
+
+acked_as : (m : Machine) (i : ℕ) (old new : Part) → ((k : ℕ) → (own_writer new k).readers ≡ (own_writer old k).readers)
+    → AckedBelow m i old → AckedBelow m i new
+acked_as m i old new same le w r =
+    subst (λ (rows : List ReaderProxy). NoLess (acknowledged_of rows r) (place_at m r (at i w))) (sym (same w)) (le w r)
+
+PartStep-acked : (tests : Tests) (m : Machine) (i : ℕ) (ev : Event) (reply : Reply) (after : Part)
+    → PartStep tests m i ev reply after → AckedBelow m i (part_at m i) → AckedBelow m i after
+PartStep-acked tests m i (event.Call call) reply after h le =
+    acked_as m i (part_at m i) after (CallStep-readers tests (part_at m i) call reply after h) le
+PartStep-acked tests m i (event.Tick now) reply after h le =
+    acked_as m i (part_at m i) after (TickStep-acknowledged (part_at m i) now reply after h) le
+PartStep-acked tests m i (event.Deliver packet) reply after h le = acked_delivery m i (part_at m i) reply after h le
+
+-- what a peer sends is true of the machine
+true_holds : (m : Machine) (i : ℕ) (part : Part) → part_at m i ≡ part → AckedBelow m i part → (c : Claim)
+    → IsTrueAt i part c → Holds m c
+true_holds m i part is le (ChangeIs w r n c) h =
+    let same : part_at m w.peer ≡ part =
+    ap (λ (j : ℕ). part_at m j) h.0 ∙ is in subst
+    (λ (q : Part). change_at (writer_changes (own_writer q w.number)) n ≡ Some c) (sym same) h.1
+true_holds m i part is le (MayPass w r n) h =
+    let same : part_at m w.peer ≡ part = ap (λ (j : ℕ). part_at m j) h.0 ∙ is in
+    ⊎_elim (λ d. inl (subst (λ (q : Part). is_dropped (history_of (own_writer q w.number)) n ≡ true) (sym same) d))
+    (λ b.
+    inr
+    (subst (λ (j : ℕ). IsBelow n (place_at m r (at j w.number))) (sym h.0)
+    (below_on n (acknowledged_of (own_writer part w.number).readers r) (place_at m r (at i w.number)) b
+    (le w.number r)))) h.1
+true_holds m i part is le (PlaceReached w r base) h =
+    let same : part_at m r.peer ≡ part =
+    ap (λ (j : ℕ). part_at m j) h.0 ∙ is in subst
+    (λ (q : Part). IsAtMost base (place_of (own_proxies q r.number) w)) (sym same) h.1
+true_holds m i part is le (Asserts w r count) h =
+    let same : part_at m w.peer ≡ part =
+    ap (λ (j : ℕ). part_at m j) h.0 ∙ is in subst (λ (q : Part). is_assertion (own_writer q w.number) count ≡ true)
+    (sym same) h.1
+
+-- the step of a peer, on packets that were sent, is one of the machine's part, and what was delivered stays true
+abbrev EventHolds : Config → Machine → Event → Type 0
+EventHolds config m (event.Call call) = Unit {0}
+EventHolds config m (event.Tick now) = Unit {0}
+EventHolds config m (event.Deliver packet) = (c : Claim) → Claims config packet c → Holds m c
+
+abbrev DeliveredHold : Config → Machine → List Delivery → Type 0
+DeliveredHold config m deliveries =
+    (delivery : Delivery) (claim : Claim) → Contains deliveries delivery → Claims config delivery.packet claim
+    → Holds m claim
+
+-- an element of a list with one more in front
+pub front_or_rest : {X : Type 0} (x : X) (xs : List X) (y : X) (k : ℕ) → k < length (x ∷ xs)
+    → slice_index_or (x ∷ xs) k y ≡ y → (x ≡ y) ⊎ Contains xs y
+front_or_rest x xs y zero lt is = inl is
+front_or_rest x xs y (suc k) lt is = inr (k, omega (arith, lt), is)
+
+-- what is in a list of one is that one
+pub is_alone : {X : Type 0} (x y : X) → Contains (x ∷ []) y → x ≡ y
+is_alone x y among =
+    ⊎_elim (λ e. e) (λ (o : Contains [] y). let lt = o.1 in absurd (omega (arith, lt)))
+    (front_or_rest x [] y among.0 among.1 among.2)
+
+pub later_in : {X : Type 0} (x : X) (xs : List X) (y : X) → Contains xs y → Contains (x ∷ xs) y
+later_in x xs y c = (suc c.0, omega (arith, c.1), c.2)
+
+packets_hold : (config : Config) (m : Machine) (ds : List Delivery) → DeliveredHold config m ds
+    → AllHold config m (packets_of ds)
+packets_hold config m [] all bytes claim c s = absurd (omega (arith, c.1))
+packets_hold config m (d ∷ ds) all bytes claim c s =
+    ⊎_elim (λ e. all d claim (0, omega arith, refl) (subst (λ (b : List ℕ). Claims config b claim) (sym e) s))
+    (λ r. packets_hold config m ds (λ x y o t. all x y (later_in d ds x o) t) bytes claim r s)
+    (front_or_rest d.packet (packets_of ds) bytes c.0 c.1 c.2)
+
+with_packet : (config : Config) (m : Machine) (packet : List ℕ) (packets : List (List ℕ))
+    → EventHolds config m (event.Deliver packet) → AllHold config m packets → AllHold config m (packet ∷ packets)
+with_packet config m packet packets sent all bytes claim c s =
+    ⊎_elim (λ e. sent claim (subst (λ (b : List ℕ). Claims config b claim) (sym e) s)) (λ r. all bytes claim r s)
+    (front_or_rest packet packets bytes c.0 c.1 c.2)
+
+with_delivery : (config : Config) (m : Machine) (d : Delivery) (ds : List Delivery)
+    → EventHolds config m (event.Deliver d.packet) → DeliveredHold config m ds → DeliveredHold config m (d ∷ ds)
+with_delivery config m d ds sent all x claim c s =
+    ⊎_elim (λ e. sent claim (subst (λ (y : Delivery). Claims config y.packet claim) (sym e) s)) (λ r. all x claim r s)
+    (front_or_rest d ds x c.0 c.1 c.2)
+
+above_self : (m : Machine) (i : ℕ) → IsAbove m i (part_at m i)
+above_self m i r w = no_less_same (place_at m (at i r) w)
+
+part_delivery : (config : Config) (m : Machine) (i : ℕ) (packet : List ℕ) (before : Peer) (report : Report) (new : Part)
+    → before.number ≡ i → part_at m i ≡ before.part → AllHold config m (packet ∷ packets_of before.delivered)
+    → Receives config (claimed config before.delivered packet before.number) before.number packet before.part report new
+    → Receives config (λ k. grounds_of m i) i packet (part_at m i) report new
+    × AreMoves (grounds_of m i) (part_at m i) report.moves new
+part_delivery config m i packet before report new is at_i hold h =
+    let here : Receives config (claimed config before.delivered packet i) i packet (part_at m i) report new =
+    subst (λ (q : Part). Receives config (claimed config before.delivered packet i) i packet q report new) (sym at_i)
+    (subst (λ (j : ℕ). Receives config (claimed config before.delivered packet j) j packet before.part report new) is h)
+    in
+    receives-sound config m i (claimed config before.delivered packet i)
+    (λ k. claimed-true config m i before.delivered packet k hold) packet (part_at m i) report new
+    (above_self m i) here
+
+abbrev EventSteps : Config → Tests → Machine → ℕ → Event → Reply → Peer → Type 0
+EventSteps config tests m i ev reply after =
+    PartStep tests m i ev reply after.part × EventProgresses config m i ev reply
+    × DeliveredHold config m after.delivered
+
+part_step : (config : Config) (tests : Tests) (m : Machine) (i : ℕ) (ev : Event) (before : Peer) (reply : Reply)
+    (after : Peer) → before.number ≡ i → part_at m i ≡ before.part
+    → EventHolds config m ev → DeliveredHold config m before.delivered → EventStep config tests before ev reply after
+    → EventSteps config tests m i ev reply after
+part_step config tests m i (event.Call call) before reply after is at_i sent all h = (
+  subst (λ (q : Part). CallStep tests q call reply after.part) (sym at_i) h.0,
+  tt,
+  subst
+      (λ (ds : List Delivery). DeliveredHold config m ds) (sym h.1) all,
+)
+part_step config tests m i (event.Tick now) before reply after is at_i sent all h = (
+  subst (λ (q : Part). TickStep q now reply after.part) (sym at_i) h.0,
+  tt,
+  subst
+      (λ (ds : List Delivery). DeliveredHold config m ds) (sym h.1) all,
+)
+part_step config tests m i (event.Deliver packet) before (Reported report) after is at_i sent all h =
+    let hold : AllHold config m (packet ∷ packets_of before.delivered) =
+    with_packet config m packet (packets_of before.delivered) sent (packets_hold config m before.delivered all) in
+    let r = part_delivery config m i packet before report after.part is at_i hold h.0 in (
+      r.1,
+      (after.part, r.0),
+      subst (λ (ds : List Delivery). DeliveredHold config m ds) (sym h.1)
+          (with_delivery config m (record { packet = packet; report = report }) before.delivered sent all),
+    )
+part_step config tests m i (event.Deliver packet) before reply after is at_i sent all h = absurd h
+
+pub parts_at : (ws : WorldState) (i : ℕ) → part_at (machine_of ws) i ≡ (peer_at ws i).part
+parts_at ws i = numbered-map (λ (p : Peer). p.part) ws.peers i no_peer
+
+abbrev pub world_after : WorldState → ℕ → Peer → List Packet → WorldState
+world_after ws i after posted = record { peers = with_numbered ws.peers i after; sent = ws.sent ++ posted }
+
+pub machine_after : (ws : WorldState) (i : ℕ) (after : Peer) (posted : List Packet)
+    → machine_of (world_after ws i after posted) ≡ with_part (machine_of ws) i after.part
+machine_after ws i after posted =
+    ap (λ (ps : List Part). let m : Machine = record { parts = ps } in m)
+    (map-with_numbered (λ (p : Peer). p.part) ws.peers i after)
+
+-- numbers of parts are numbers of peers
+pub part_number : (ws : WorldState) (i : ℕ) → HasNumber ws.peers i → HasNumber (machine_of ws).parts i
+part_number ws i h =
+    let count = length-map ws.peers (λ (p : Peer). p.part) in let low = h.0 in let high = h.1 in
+    (omega (arith, low), omega (arith, high, count))
+
+pub peer_number : (ws : WorldState) (i : ℕ) → HasNumber (machine_of ws).parts i → HasNumber ws.peers i
+peer_number ws i h =
+    let count = length-map ws.peers (λ (p : Peer). p.part) in let low = h.0 in let high = h.1 in
+    (omega (arith, low), omega (arith, high, count))
+
+pub happens : (config : Config) (tests : Tests) (ws : WorldState) (i : ℕ) (ev : Event) (output : Output) (after : Peer)
+    (posted : List Packet)
+    → Sound config ws → HasNumber ws.peers i → PeerStep config tests (peer_at ws i) ev output after
+    → EventHolds config (machine_of ws) ev → ((p : Packet) → Contains posted p → Contains output.packets p)
+    → PartStep tests (machine_of ws) i ev output.reply after.part
+    × EventProgresses config (machine_of ws) i ev output.reply × Sound config (world_after ws i after posted)
+happens config tests ws i ev output after posted sound within step is_sent of_packets =
+    let m : Machine = machine_of ws in
+    let m' : Machine = with_part m i after.part in
+    let new : WorldState = world_after ws i after posted in
+    let is_m' : machine_of new ≡ m' = machine_after ws i after posted in
+    let is_number : (peer_at ws i).number ≡ i = sound.number i within in
+    let s : EventSteps config tests m i ev output.reply after =
+    part_step config tests m i ev (peer_at ws i) output.reply after is_number (parts_at ws i) is_sent
+    (λ d c o h. sound.delivered i d c o h) step.step in
+    let grows : MachineGrows m m' =
+    with_part-grows m i after.part (PartStep-grows tests m i ev output.reply after.part s.0) in
+    let still : (c : Claim) → Holds m c → Holds m' c = Holds-grows m m' grows in
+    let to_new : (c : Claim) → Holds m' c → Holds (machine_of new) c =
+    λ c h. subst (λ (x : Machine). Holds x c) (sym is_m') h in
+    let here : part_at m' i ≡ after.part = numbered-same m.parts i after.part no_part (part_number ws i within) in
+    let mine : AckedBelow m i after.part =
+    PartStep-acked tests m i ev output.reply after.part s.0 (λ w r. sound.acknowledged (at i w) r) in
+    let mine' : AckedBelow m' i after.part =
+    λ w r. no_less_on (acknowledged_of (own_writer after.part w).readers r) (place_at m r (at i w))
+    (place_at m' r (at i w)) (mine w r) (grows.places r (at i w)) in
+    let same_length : length new.peers ≡ length ws.peers = length-with_numbered ws.peers i after in
+    let own_number : after.number ≡ i = step.same_number ∙ is_number in (
+      s.0,
+      s.1,
+      record {
+        number = λ p lt.
+            let low = lt.0 in
+            let high = lt.1 in
+            ⊎_elim (λ e. ap (λ (q : Peer). q.number) e
+            ∙ sound.number p (omega (arith, low), omega (arith, high, same_length)))
+            (λ o. ap (λ (q : Peer). q.number) o.1 ∙ (own_number ∙ sym o.0)) (numbered-cases ws.peers i after p no_peer);
+        sent = λ p c d h.
+            ⊎_elim (λ o. to_new c (still c (sound.sent p c o h)))
+            (λ n. to_new c (true_holds m' i after.part here mine' c
+            (subst (λ (j : ℕ). IsTrueAt j after.part c) own_number (step.sent p c (of_packets p n) h))))
+            (Contains-append_cases ws.sent posted p d);
+        delivered = λ j d c o h.
+            ⊎_elim (λ e. to_new c
+            (still c (sound.delivered j d c (subst (λ (q : Peer). Contains q.delivered d) e o) h)))
+            (λ e. to_new c (still c (s.2 d c (subst (λ (q : Peer). Contains q.delivered d) e.1 o) h)))
+            (numbered-cases ws.peers i after j no_peer);
+        acknowledged = λ w r.
+            subst (λ (x : Machine). NoLess (acknowledged_of (writer_at x w).readers r) (place_at x r w)) (sym is_m')
+            (⊎_elim
+            (λ e.
+            subst (λ (q : Part). NoLess (acknowledged_of (own_writer q w.number).readers r) (place_at m' r w)) (sym e)
+            (no_less_on (acknowledged_of (writer_at m w).readers r) (place_at m r w) (place_at m' r w)
+            (sound.acknowledged w r) (grows.places r w)))
+            (λ o.
+            subst (λ (q : Part). NoLess (acknowledged_of (own_writer q w.number).readers r) (place_at m' r w)) (sym o.1)
+            (subst (λ (j : ℕ). NoLess (acknowledged_of (own_writer after.part w.number).readers r)
+            (place_at m' r (at j w.number))) (sym o.0) (mine' w.number r)))
+            (numbered-cases m.parts i after.part w.peer no_part));
+      },
+    )
+
+abbrev pub Composed : Config → AllTests → WorldState → WorldEvent → Reply → WorldState → Type 0
+Composed config tests old event reply new =
+    Step tests (length old.sent) (machine_of old) event reply (machine_of new)
+    × Progresses config old.sent (machine_of old) event reply × Sound config new
+
+pub contains_at : (xs : List Packet) (i : ℕ) (x : Packet) → slice_get xs i ≡ Some x → Contains xs x
+contains_at [] i x h = cc
+contains_at (y ∷ ys) zero x h = (0, omega arith, same_Some y x h)
+contains_at (y ∷ ys) (suc i) x h = let r = contains_at ys i x h in (suc r.0, omega (arith, r.1), r.2)
+
+-- an event of one peer
+composed : (config : Config) (tests : AllTests) (old new : WorldState) (peer : ℕ) (ev : Event) (whole : WorldEvent)
+    (reply : Reply) → Sound config old → EventHolds config (machine_of old) ev
+    → PeerSteps config (tests peer) old peer ev reply new
+    → ((m : Machine) → AtPeer (machine_of old) peer
+    (λ after. PartStep (tests peer) (machine_of old) peer ev reply after) m
+    → Step tests (length old.sent) (machine_of old) whole reply m)
+    → (EventProgresses config (machine_of old) peer ev reply → Progresses config old.sent (machine_of old) whole reply)
+    → Composed config tests old whole reply new
+composed config tests old new peer ev whole reply sound holds h step progress =
+    let r =
+    happens config (tests peer) old peer ev h.output h.after h.posted sound h.within h.step holds h.of_packets in
+    let s : PartStep (tests peer) (machine_of old) peer ev reply h.after.part =
+    subst (λ (x : Reply). PartStep (tests peer) (machine_of old) peer ev x h.after.part) h.replies r.0 in
+    let t : EventProgresses config (machine_of old) peer ev reply =
+    subst (λ (x : Reply). EventProgresses config (machine_of old) peer ev x) h.replies r.1 in
+    subst (λ (w : WorldState). Composed config tests old whole reply w) (sym h.changed) (
+      step (machine_of (world_after old peer h.after h.posted))
+          (record {
+            within = part_number old peer h.within;
+            after = h.after.part;
+            step = s;
+            changed = machine_after old
+                peer h.after h.posted;
+          }),
+      progress t,
+      r.2,
+    )
+
+composed_delivery : (config : Config) (tests : AllTests) (old new : WorldState) (peer number : ℕ) (packet : Packet)
+    (reply : Reply) → Sound config old → 1 ≤ number → slice_get old.sent (number - 1) ≡ Some packet
+    → PeerSteps config (tests peer) old peer (event.Deliver packet.bytes) reply new
+    → Composed config tests old (world.Deliver peer number) reply new
+composed_delivery config tests old new peer number packet reply sound low found h =
+    let within = slice_get_within old.sent (number - 1) packet found in
+    composed config tests old new peer (event.Deliver packet.bytes) (world.Deliver peer number) reply sound
+    (λ c s. sound.sent packet c (contains_at old.sent (number - 1) packet found) s) h
+    (λ m at. inl (
+      low,
+      omega (arith, within),
+      record { within = at.within; after = at.after; step = at.step; changed = at.changed },
+    ))
+    (λ t other least is there. subst (λ (p : Packet). ReceivesIn config (machine_of old) peer p.bytes reply)
+    (same_Some packet other (sym found ∙ is)) t)
+
+no_part_number : (ws : WorldState) (i : ℕ) → (HasNumber ws.peers i → ⊥) → HasNumber (machine_of ws).parts i → ⊥
+no_part_number ws i none h = none (peer_number ws i h)
+
+-- a packet that was sent, and a peer, are no reason to refuse a delivery
+not_refused : (config : Config) (old : WorldState) (peer number : ℕ) (reply : Reply)
+    → (number ≡ 0) ⊎ (length old.sent < number) ⊎ (HasNumber old.peers peer → ⊥)
+    → Progresses config old.sent (machine_of old) (world.Deliver peer number) reply
+not_refused config old peer number reply (inl z) packet least is there = absurd (omega (arith, z, least))
+not_refused config old peer number reply (inr (inl over)) packet least is there =
+    let within = slice_get_within old.sent (number - 1) packet is in absurd (omega (arith, over, within, least))
+not_refused config old peer number reply (inr (inr none)) packet least is there =
+    absurd (none (peer_number old peer there))
+
+-- what the world refuses, the machine refuses, and the world is as sound as it was
+refused : (config : Config) (old new : WorldState) (reply : Reply) → Sound config old → IsRefusedIn old reply new
+    → IsRefused (machine_of old) reply (machine_of new) × Sound config new
+refused config old new reply sound h =
+    ((h.is_refused, ap machine_of h.after), subst (λ (w : WorldState). Sound config w) (sym h.after) sound)
+
+pub composes : (config : Config) (tests : AllTests) (old new : WorldState) (ev : WorldEvent) (reply : Reply)
+    → Sound config old → WorldStep config tests old ev reply new → Composed config tests old ev reply new
+composes config tests old new (world.Call peer call) reply sound (inl h) =
+    composed config tests old new peer (event.Call call) (world.Call peer call) reply sound tt h (λ m at. inl at)
+    (λ t. tt)
+composes config tests old new (world.Call peer call) reply sound (inr h) =
+    let r = refused config old new reply sound h.1 in (inr (no_part_number old peer h.0, r.0), tt, r.1)
+composes config tests old new (world.Tick peer now) reply sound (inl h) =
+    composed config tests old new peer (event.Tick now) (world.Tick peer now) reply sound tt h (λ m at. inl at)
+    (λ t. tt)
+composes config tests old new (world.Tick peer now) reply sound (inr h) =
+    let r = refused config old new reply sound h.1 in (inr (no_part_number old peer h.0, r.0), tt, r.1)
+composes config tests old new (world.Deliver peer number) reply sound (inl h) =
+    composed_delivery config tests old new peer number h.0 reply sound h.1 h.2 h.3
+composes config tests old new (world.Deliver peer number) reply sound (inr h) =
+    let r = refused config old new reply sound h.1 in (
+      inr (
+        ⊎_elim (λ z. inl z) (λ o. ⊎_elim (λ s. inr (inl s)) (λ p. inr (inr (no_part_number old peer p))) o) h.0,
+        r.0,
+      ),
+      not_refused config old peer number reply h.0,
+      r.1,
+    )

@@ -1,0 +1,200 @@
+-- The HEARTBEATs that tell a writer's assertion claim only what is true of the writer that has entered it, and can be
+-- written.
+use Rattle.std.proofs.Common.{◌≡◌, ℕ, suc, ◌+◌, ◌-◌, ◌^◌, ◌<◌, Bool, true, false, not, List, [], ◌∷◌, ◌++◌, length, get_or, map}
+use Rattle.std.proofs.Common.{refl, subst, ap, sym, ◌∙◌, ⊎_elim, arith, nat_le}
+use Rattle.std.specs.Prelude.{if◌then◌else◌, pos, Option, Some, None}
+use Rattle.std.specs.List.{All}
+use Rattle.std.proofs.lemmas.Bool.Decides.{nat_tests}
+use Rattle.std.proofs.lemmas.List.Elements.{All-map, All-nil}
+use Rattle.dds_base.specs.declared.code.Code.{Code}
+use Rattle.dds_base.specs.declared.code.Code.TheVariants.{BadParameter, OutOfResources}
+use Rattle.dds_base.specs.declared.config.Config.{Config}
+use Rattle.dds_base.specs.declared.guid.EntityId.{EntityId}
+use Rattle.dds_base.specs.declared.guid.GuidPrefix.{GuidPrefix}
+use Rattle.dds_base.specs.Checked.{check_refusal}
+use Rattle.dds_base.specs.Written.{Asserted, counts_of}
+use Rattle.rtps_wire.specs.declared.submessage.Submessage.TheVariants.{Heartbeat}
+use Rattle.dds_machine.specs.declared.call.Call.TheVariants.{AssertLiveliness}
+use Rattle.dds_machine.specs.declared.endpoint.Endpoint.{Endpoint}
+use Rattle.dds_machine.specs.declared.reply.Reply.TheVariants.{Done}
+use Rattle.dds_machine.specs.Numbered.{numbered, HasNumber, has_element}
+use Rattle.dds_machine.specs.Part.{Dds, Part, ReaderProxy, Rtps, Writer, acknowledged_of, has_readers, heartbeats_used, is_assertion, no_writer, own_writer, peers_of, NoLess}
+use Rattle.dds_machine.specs.Calls.{CallStep, IsAnswered, effect, with_written, writes}
+use Rattle.dds_machine.specs.Refusals.{assert_refusal}
+use Rattle.dds_machine.specs.Watching.{Tests}
+use Rattle.dds_protocol.specs.Claims.{Claim, ChangeIs, MayPass, PlaceReached, Asserts, Says}
+use Rattle.dds_protocol.specs.Receipt.{prefix_of}
+use Rattle.dds_protocol.specs.Peer.{IsTrueAt}
+use Rattle.dds_protocol.specs.DueMessages.{Due, assertion_message, assertions_due, writer_entity}
+use Rattle.dds_protocol.specs.Dues.{IsPartOf, IsTruthful, AreTruthful, IsSized, HasSmallChanges, CanBeWritten}
+use Rattle.dds_protocol.proofs.Dues.{addressed, told_alone}
+use Rattle.dds_protocol.proofs.DuesGrowth.{true_on}
+use Rattle.dds_protocol.proofs.DuesHeartbeats.{Beating, all_of, beat, first_says, prefix_octets}
+use Rattle.dds_protocol.proofs.DuesMatched.{OwnName, own_name}
+use Rattle.dds_protocol.proofs.DuesWritable.{heartbeat_writable}
+use Rattle.dds_protocol.proofs.DuesWritten.{writer_octets}
+use Rattle.dds_protocol.proofs.Growth.{CallStep-grows, CallStep-readers}
+use Rattle.dds_protocol.proofs.OwnGuids.{one_writer}
+use Rattle.dds_machine.proofs.Tables.{no_less_same, number_there, numbered-same}
+
+-- the message that tells an assertion of the peer's writer to the peer of this number
+abbrev pub assertion_due : Config → ℕ → Part → ℕ → ℕ → Due
+assertion_due config peer part number to = record {
+  to = to;
+  message = assertion_message (prefix_of config peer) (prefix_of config to) (writer_entity config peer number)
+      (own_writer part number);
+}
+
+-- it is so of each message that tells an assertion of a writer that is there and has readers
+abbrev pub OfEachTold : Config → ℕ → Part → ℕ → (Due → Type 0) → Type 0
+OfEachTold config peer part number P =
+    HasNumber part.rtps.writers number → has_readers (own_writer part number) ≡ true → (to : ℕ)
+    → P (assertion_due config peer part number to)
+
+pub told_each : (config : Config) (peer : ℕ) (part : Part) (number : ℕ) (P : Due → Type 0)
+    → OfEachTold config peer part number P
+    → All P (assertions_due config (record { peer = peer; number = number }) (own_writer part number))
+told_each config peer part number P each = by (own_writer part number).readers refl
+  where
+    tell : ℕ → Due
+    tell = assertion_due config peer part number
+
+    there : (p : ReaderProxy) (ps : List ReaderProxy) → (own_writer part number).readers ≡ p ∷ ps
+        → HasNumber part.rtps.writers number
+    there p ps some =
+        ⊎_elim (λ h. h)
+        (λ none.
+        let empty : (own_writer part number).readers ≡ [] = ap (λ (w : Writer). w.readers) none in
+        let lengths = ap (λ (rows : List ReaderProxy). length rows) (sym some ∙ empty) in
+        absurd (omega (arith, lengths)))
+        (number_there part.rtps.writers number no_writer)
+
+    by : (rows : List ReaderProxy) → (own_writer part number).readers ≡ rows
+        → All P (map (assertion_due config peer part number) (peers_of (own_writer part number).readers))
+    by [] none =
+        subst (λ (rows : List ReaderProxy). All P (map (assertion_due config peer part number) (peers_of rows)))
+        (sym none) (All-nil P)
+    by (p ∷ ps) some =
+        let lengths = ap (λ (rows : List ReaderProxy). length rows) some in
+        let matched : has_readers (own_writer part number) ≡ true = grind (arith, nat_tests, lengths) in
+        All-map P (assertion_due config peer part number) (peers_of (own_writer part number).readers)
+        (all_of (λ to. P (assertion_due config peer part number to)) (λ to. each (there p ps some) matched to)
+        (peers_of (own_writer part number).readers))
+
+-- ---- the count of an assertion
+
+last_is : (xs : List Bool) (x d : Bool) → get_or (xs ++ x ∷ []) (length xs) d ≡ x
+last_is [] x d = refl
+last_is (y ∷ xs) x d = last_is xs x d
+
+last_numbered : (xs : List Bool) (n : ℕ) → n ≡ suc (length xs) → numbered (xs ++ true ∷ []) n false ≡ true
+last_numbered xs n is =
+    ap (λ (k : ℕ). numbered (xs ++ true ∷ []) k false) is ∙ last_is xs true false
+
+-- the next count of a writer with readers is that of its assertion
+pub next_asserts : (w : Writer) (moment : ℕ) → has_readers w ≡ true
+    → is_assertion (with_written w (Asserted moment)) (pos (heartbeats_used w + 1)) ≡ true
+next_asserts w moment matched =
+    ap (λ (b : Bool). numbered (if b then counts_of (has_readers w) w.written ++ true
+    ∷ [] else counts_of (has_readers w) w.written)
+    (heartbeats_used w + 1) false) matched
+    ∙ last_numbered (counts_of (has_readers w) w.written) (heartbeats_used w + 1) (omega arith)
+
+-- the writer of a peer that has asserted
+pub asserted_writer : (old new : Part) (number moment : ℕ) → HasNumber old.rtps.writers number
+    → new.rtps ≡ effect old.rtps (writes number (Asserted moment))
+    → own_writer new number ≡ with_written (own_writer old number) (Asserted moment)
+asserted_writer old new number moment there after =
+    ap (λ (r : Rtps). numbered r.writers number no_writer) after
+    ∙ numbered-same old.rtps.writers number (with_written (own_writer old number) (Asserted moment)) no_writer there
+
+-- ---- what it claims
+
+-- a writer of a peer that asserts, and its part afterwards
+record HasAsserted (b : Beating) (tests : Tests) (new : Part) : Type 0 where
+  there : HasNumber b.part.rtps.writers b.number
+  matched : has_readers (own_writer b.part b.number) ≡ true
+  step : CallStep tests b.part (AssertLiveliness b.number) Done new
+
+told_says : (b : Beating) (tests : Tests) (new : Part) → HasAsserted b tests new
+    → (far to : GuidPrefix) (claim : Claim)
+    → Says b.config far (addressed (prefix_of b.config b.peer) to) (Heartbeat (beat b true true)) claim
+    → IsTrueAt b.peer new claim
+told_says b tests new t far to (ChangeIs v r n c) h = absurd h
+told_says b tests new t far to (PlaceReached v r base) h = absurd h
+told_says b tests new t far to (MayPass v r n) h =
+    true_on b.peer b.part new (CallStep-grows tests b.part (AssertLiveliness b.number) Done new t.step)
+    (λ w e.
+    subst (λ (rows : List ReaderProxy). NoLess (acknowledged_of (own_writer b.part w).readers e)
+    (acknowledged_of rows e))
+    (sym (CallStep-readers tests b.part (AssertLiveliness b.number) Done new t.step w))
+    (no_less_same (acknowledged_of (own_writer b.part w).readers e)))
+    (MayPass v r n) (first_says b true true far to v r n h)
+told_says b tests new t far to (Asserts v r k) h =
+    let me : Endpoint = record { peer = b.peer; number = b.number } in
+    let same : v ≡ me =
+    one_writer b.config (prefix_of b.config b.peer) (writer_entity b.config b.peer b.number) v me b.checked h.0.from
+    b.own.name in
+    let w : Writer = own_writer b.part b.number in
+    let after = asserted_writer b.part new b.number b.part.dds.moment t.there t.step.rtps in
+    let asserts : is_assertion (own_writer new b.number) k ≡ true =
+    ap (λ c. is_assertion (own_writer new b.number) c) h.2
+    ∙ (ap (λ (x : Writer). is_assertion x (pos (heartbeats_used w + 1))) after
+    ∙ next_asserts w b.part.dds.moment t.matched) in (
+      ap (λ (e : Endpoint). e.peer) same,
+      ap (λ (e : Endpoint). is_assertion (own_writer new e.number) k) same ∙ asserts,
+    )
+
+pub assertions_true : (config : Config) (tests : Tests) (peer writer : ℕ) (old new : Part)
+    → check_refusal config.peers ≡ None → IsPartOf config peer old
+    → CallStep tests old (AssertLiveliness writer) Done new
+    → AreTruthful config peer new
+    (assertions_due config (record { peer = peer; number = writer }) (own_writer old writer))
+assertions_true config tests peer writer old new checked of step =
+    told_each config peer old writer (IsTruthful config peer new)
+    (λ there matched to claim writable says.
+    let own : OwnName config peer old writer = own_name config peer old of writer there in
+    let b : Beating =
+    record { config = config; checked = checked; peer = peer; part = old; number = writer; own = own } in
+    let t =
+    told_alone config (prefix_of config peer) (prefix_of config to)
+    (Heartbeat (beat b true true)) claim writable says in
+    told_says b tests new (record { there = there; matched = matched; step = step }) t.0
+    (prefix_of config to) claim t.1)
+
+-- ---- its written form
+
+-- what is done, and needs no memory, has no cause to be refused
+none_if_done : (refusal : Option Code) (after : Dds) (old : Part) (dds : Dds)
+    → IsAnswered refusal Done after old Done dds → refusal ≡ None
+none_if_done None after old dds h = refl
+none_if_done (Some code) after old dds h = let is = h.0 in absurd cc
+
+left_if_done : (a b : Bool)
+    → (if not a then Some BadParameter else (if b then Some OutOfResources else None)) ≡ None → b ≡ false
+left_if_done true true h = cc
+left_if_done true false h = refl
+left_if_done false b h = cc
+
+pub assertions_writable : (config : Config) (tests : Tests) (peer writer : ℕ) (old new : Part)
+    → IsPartOf config peer old
+    → CallStep tests old (AssertLiveliness writer) Done new → IsSized config → HasSmallChanges old
+    → All CanBeWritten (assertions_due config (record { peer = peer; number = writer }) (own_writer old writer))
+assertions_writable config tests peer writer old new of step sized small =
+    told_each config peer old writer CanBeWritten
+    (λ there matched to places.
+    let me : Endpoint = record { peer = peer; number = writer } in
+    let entity : EntityId = writer_entity config peer writer in
+    let name = (own_name config peer old of writer there).name in
+    heartbeat_writable true true (prefix_of config peer) (prefix_of config to) entity (own_writer old writer)
+    (prefix_octets config sized peer) (prefix_octets config sized to)
+    (writer_octets config sized (prefix_of config peer) entity me name).1 (small writer).few left)
+  where
+    used : nat_le (2 ^ 31 - 1) (heartbeats_used (own_writer old writer)) ≡ false
+    used =
+        left_if_done (has_element old.rtps.writers writer)
+        (nat_le (2 ^ 31 - 1) (heartbeats_used (own_writer old writer)))
+        (none_if_done (assert_refusal old writer) old.dds old new.dds step.answers)
+
+    left : heartbeats_used (own_writer old writer) < 2 ^ 31 - 1
+    left = grind (arith, nat_tests, used)

@@ -1,0 +1,166 @@
+-- A writer of a configuration has its name there, and each reader of its topic has a row at it.
+use Rattle.std.proofs.Common.{◌≡◌, ◌⊎◌, ℕ, zero, suc, ◌+◌, ◌-◌, ◌<◌, Bool, true, false, cond, List, [], ◌∷◌, Option}
+use Rattle.std.proofs.Common.{Some, Contains, map, length, slice_get, refl, subst, ap, sym, ◌∙◌, inl, inr, ⊎_elim}
+use Rattle.std.proofs.Common.{arith, eq-eqb}
+use Rattle.std.specs.Option.{option_map, option_map_or}
+use Rattle.std.proofs.lemmas.List.Elements.{Contains-append_left, Contains-append_right}
+use Rattle.std.proofs.lemmas.Option.{same_Some}
+use Rattle.dds_base.specs.declared.config.Config.{Config}
+use Rattle.dds_base.specs.declared.config.PeerConfig.{PeerConfig}
+use Rattle.dds_base.specs.declared.config.ReaderConfig.{ReaderConfig}
+use Rattle.dds_base.specs.declared.config.WriterConfig.{WriterConfig}
+use Rattle.dds_base.specs.declared.guid.EntityId.{EntityId}
+use Rattle.dds_base.specs.declared.guid.GuidPrefix.{GuidPrefix}
+use Rattle.dds_base.specs.Matched.{same_topic, of_readers_in, of_matched_readers}
+use Rattle.dds_machine.specs.declared.endpoint.Endpoint.{Endpoint}
+use Rattle.dds_machine.specs.Numbered.{HasNumber}
+use Rattle.dds_machine.specs.Part.{Part, ReaderProxy, same_endpoint, row_of, own_writer, acknowledged_of}
+use Rattle.dds_protocol.specs.Claims.{IsNumbered, IsWriter, IsReader, every_reader}
+use Rattle.dds_protocol.specs.Receipt.{prefix_of}
+use Rattle.dds_protocol.specs.DueMessages.{writer_entity}
+use Rattle.dds_protocol.specs.Dues.{IsPartOf}
+use Rattle.dds_protocol.proofs.Composed.{front_or_rest, later_in}
+use Rattle.dds_protocol.proofs.InOrder.{same_self}
+use Rattle.dds_protocol.proofs.OwnGuids.{same_endpoints}
+use Rattle.dds_protocol.proofs.RuledPackets.{numbered_is}
+
+-- ---- rows
+
+abbrev IsAcknowledged : List ReaderProxy → Endpoint → Type 0
+IsAcknowledged rows r = (a : ℕ) × (acknowledged_of rows r ≡ Some a)
+
+-- what a row says is acknowledged
+abbrev acknowledgement : Option ReaderProxy → Option ℕ
+acknowledgement o = option_map (λ (q : ReaderProxy). q.acknowledged) o
+
+row_here : (p : ReaderProxy) (ps : List ReaderProxy) (r : Endpoint) (b : Bool) → same_endpoint p.reader r ≡ b
+    → (p.reader ≡ r) ⊎ IsAcknowledged ps r
+    → (a : ℕ) × (acknowledgement (cond b (Some p) (row_of (λ (q : ReaderProxy). q.reader) ps r)) ≡ Some a)
+row_here p ps r true is h = (p.acknowledged, refl)
+row_here p ps r false is (inl e) = let self = ap (λ (x : Endpoint). same_endpoint x r) e ∙ same_self r in absurd cc
+row_here p ps r false is (inr later) = later
+
+-- a reader that is named has a row
+row_found : (rows : List ReaderProxy) (r : Endpoint) → Contains (map (λ (p : ReaderProxy). p.reader) rows) r
+    → IsAcknowledged rows r
+row_found [] r among = let lt = among.1 in absurd (omega (arith, lt))
+row_found (p ∷ ps) r among =
+    row_here p ps r (same_endpoint p.reader r) refl
+    (⊎_elim (λ e. inl e) (λ later. inr (row_found ps r later))
+    (front_or_rest p.reader (map (λ (q : ReaderProxy). q.reader) ps) r among.0 among.1 among.2))
+
+-- ---- the readers of a topic
+
+abbrev pub name_at : ℕ → ℕ → Endpoint
+name_at peer number = record { peer = peer; number = number }
+
+abbrev pub names_in : ℕ → ℕ → ℕ → List ReaderConfig → List Endpoint
+names_in topic peer number rs = of_readers_in (λ k r. name_at peer k) topic number rs
+
+abbrev pub names : ℕ → ℕ → List PeerConfig → List Endpoint
+names topic peer ps = of_matched_readers (λ i p k r. name_at i k) topic peer ps
+
+named_first : (b : Bool) (e : Endpoint) (es : List Endpoint) → b ≡ true → Contains (cond b (e ∷ es) es) e
+named_first true e es is = (0, omega arith, refl)
+named_first false e es is = cc
+
+named_later : (b : Bool) (e x : Endpoint) (es : List Endpoint) → Contains es x → Contains (cond b (e ∷ es) es) x
+named_later true e x es h = later_in e es x h
+named_later false e x es h = h
+
+in_ends : (topic peer n : ℕ) (rs : List ReaderConfig) (k : ℕ) (r : ReaderConfig) → slice_get rs k ≡ Some r
+    → r.topic ≡ topic → Contains (names_in topic peer n rs) (name_at peer (n + k))
+in_ends topic peer n [] k r at of = cc
+in_ends topic peer n (x ∷ xs) zero r at of =
+    let here : n ≡ n + 0 = omega arith in
+    let is : same_topic x.topic topic ≡ true =
+    eq-eqb x.topic topic (ap (λ (y : ReaderConfig). y.topic) (same_Some x r at) ∙ of) in
+    subst (λ (m : ℕ). Contains (names_in topic peer n (x ∷ xs)) (name_at peer m)) here
+    (named_first (same_topic x.topic topic) (name_at peer n) (names_in topic peer (n + 1) xs) is)
+in_ends topic peer n (x ∷ xs) (suc k) r at of =
+    let over : n + 1 + k ≡ n + suc k = omega arith in
+    subst (λ (m : ℕ). Contains (names_in topic peer n (x ∷ xs)) (name_at peer m)) over
+    (named_later (same_topic x.topic topic) (name_at peer n) (name_at peer (n + 1 + k))
+    (names_in topic peer (n + 1) xs) (in_ends topic peer (n + 1) xs k r at of))
+
+in_peers : (topic n : ℕ) (ps : List PeerConfig) (i : ℕ) (p : PeerConfig) (k : ℕ) (r : ReaderConfig)
+    → slice_get ps i ≡ Some p → slice_get p.readers k ≡ Some r → r.topic ≡ topic
+    → Contains (names topic n ps) (name_at (n + i) (1 + k))
+in_peers topic n [] i p k r at within of = cc
+in_peers topic n (x ∷ xs) zero p k r at within of =
+    let here : n ≡ n + 0 = omega arith in
+    let found : slice_get x.readers k ≡ Some r =
+    subst (λ (q : PeerConfig). slice_get q.readers k ≡ Some r) (sym (same_Some x p at)) within in
+    Contains-append_left (names_in topic n 1 x.readers) (names topic (n + 1) xs) (name_at (n + 0) (1 + k))
+    (subst (λ (m : ℕ). Contains (names_in topic n 1 x.readers) (name_at m (1 + k))) here
+    (in_ends topic n 1 x.readers k r found of))
+in_peers topic n (x ∷ xs) (suc i) p k r at within of =
+    let over : n + 1 + i ≡ n + suc i = omega arith in
+    Contains-append_right (names_in topic n 1 x.readers) (names topic (n + 1) xs) (name_at (n + suc i) (1 + k))
+    (subst (λ (m : ℕ). Contains (names topic (n + 1) xs) (name_at m (1 + k))) over
+    (in_peers topic (n + 1) xs i p k r at within of))
+
+-- a reader of the configuration is among those of its topic
+reader_named : (config : Config) (prefix : GuidPrefix) (entity : EntityId) (r : Endpoint)
+    (is : IsReader config prefix entity r) (topic : ℕ) → is.end.topic ≡ topic → Contains (names topic 1 config.peers) r
+reader_named config prefix entity r is topic of =
+    let peer = is.at_peer.0 in
+    let number = is.at_reader.0 in
+    let here : name_at (1 + (r.peer - 1)) (1 + (r.number - 1)) ≡ r =
+    same_endpoints (name_at (1 + (r.peer - 1)) (1 + (r.number - 1))) r (omega (arith, peer)) (omega (arith, number)) in
+    subst (λ (e : Endpoint). Contains (names topic 1 config.peers) e) here
+    (in_peers topic 1 config.peers (r.peer - 1) is.peer (r.number - 1) is.end is.at_peer.1 is.at_reader.1 of)
+
+-- ---- a peer's writers
+
+-- a writer of the peer, as the configuration has it
+pub record OwnName (config : Config) (peer : ℕ) (part : Part) (number : ℕ) : Type 0 where
+  pub name : IsWriter config (prefix_of config peer) (writer_entity config peer number) (name_at peer number)
+  pub rows : (prefix : GuidPrefix) (entity : EntityId) (r : Endpoint) (is : IsReader config prefix entity r)
+      → is.end.topic ≡ name.end.topic → (a : ℕ) × (acknowledged_of (own_writer part number).readers r ≡ Some a)
+  pub lists : map (λ (p : ReaderProxy). p.reader) (own_writer part number).readers ≡ names name.end.topic 1 config.peers
+
+get_some : {X : Type 0} (xs : List X) (i : ℕ) → i < length xs → (x : X) × (slice_get xs i ≡ Some x)
+get_some [] i lt = absurd (omega (arith, lt))
+get_some (x ∷ xs) zero lt = (x, refl)
+get_some (x ∷ xs) (suc i) lt = get_some xs i (omega (arith, lt))
+
+pub own_name : (config : Config) (peer : ℕ) (part : Part) → IsPartOf config peer part → (number : ℕ)
+    → HasNumber part.rtps.writers number → OwnName config peer part number
+own_name config peer part of number there =
+    let low = there.0 in
+    let high = there.1 in
+    let count = of.writers in
+    let found = get_some of.here.writers (number - 1) (omega (arith, low, high, count)) in
+    let at : IsNumbered of.here.writers number found.0 = (low, found.1) in
+    record {
+      name = record {
+        peer = of.here;
+        at_peer = of.at;
+        same_prefix = ap (λ (p : PeerConfig). p.prefix) (sym (numbered_is config.peers peer of.here _ of.at.0 of.at.1));
+        end = found.0;
+        at_writer = at;
+        same_entity =
+            sym (ap (λ (o : Option PeerConfig). option_map_or
+            (λ (p : PeerConfig). option_map_or (λ (w : WriterConfig). w.entity)
+            (slice_get p.writers (number - 1)) every_reader) o every_reader) of.at.1
+            ∙ ap (λ (o : Option WriterConfig). option_map_or (λ (w : WriterConfig). w.entity) o every_reader) found.1);
+      };
+      rows = λ prefix entity r is topic.
+          row_found (own_writer part number).readers r
+          (subst (λ (es : List Endpoint). Contains es r) (sym (of.readers number found.0 at))
+          (reader_named config prefix entity r is found.0.topic topic));
+      lists = of.readers number found.0 at;
+    }
+
+-- two names of one writer are told of one entry
+pub same_end : (config : Config) (p q : GuidPrefix) (d e : EntityId) (v w : Endpoint) (x : IsWriter config p d v)
+    (y : IsWriter config q e w) → v ≡ w → x.end ≡ y.end
+same_end config p q d e v w x y same =
+    let at : slice_get config.peers (w.peer - 1) ≡ Some x.peer =
+    subst (λ (u : Endpoint). slice_get config.peers (u.peer - 1) ≡ Some x.peer) same x.at_peer.1 in
+    let peer : x.peer ≡ y.peer = same_Some x.peer y.peer (sym at ∙ y.at_peer.1) in
+    let within : slice_get y.peer.writers (w.number - 1) ≡ Some x.end =
+    subst (λ (z : PeerConfig). slice_get z.writers (w.number - 1) ≡ Some x.end) peer
+    (subst (λ (u : Endpoint). slice_get x.peer.writers (u.number - 1) ≡ Some x.end) same x.at_writer.1) in
+    same_Some x.end y.end (sym within ∙ y.at_writer.1)

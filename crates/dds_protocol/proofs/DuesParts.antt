@@ -1,0 +1,80 @@
+-- What the truth of messages rests on stays so: calls and ticks leave a peer's part that of its configuration, and a
+-- tick leaves the changes.
+use Rattle.std.proofs.Common.{◌≡◌, ℕ, List, map, length, refl, subst, ap, sym, ◌∙◌, ⊎_elim}
+use Rattle.std.proofs.lemmas.List.{length-map}
+use Rattle.dds_base.specs.declared.change.Change.{Change}
+use Rattle.dds_base.specs.declared.config.Config.{Config}
+use Rattle.dds_base.specs.Kept.{change_at}
+use Rattle.dds_machine.specs.declared.call.Call.{Call}
+use Rattle.dds_machine.specs.declared.reply.Reply.{Reply}
+use Rattle.dds_machine.specs.declared.reply.Reply.TheVariants.{Done, Refused}
+use Rattle.dds_machine.specs.Numbered.{numbered}
+use Rattle.dds_machine.specs.Part.{Part, ReaderProxy, Rtps, Writer, no_writer, own_writer, writer_changes}
+use Rattle.dds_machine.specs.Ticks.{ticked, TickStep}
+use Rattle.dds_machine.specs.Calls.{Effect, nothing, writes, effect, effect_of, with_written, CallStep}
+use Rattle.dds_machine.specs.Watching.{Tests}
+use Rattle.dds_protocol.specs.Dues.{AreTellable, AreSmall, HasSmallChanges, IsPartOf}
+use Rattle.dds_protocol.proofs.DuesGrowth.{SameNames, names_of, is_part_kept}
+use Rattle.dds_protocol.proofs.Growth.{CallStep-readers, TickStep-acknowledged}
+use Rattle.dds_machine.proofs.Tables.{length-with_numbered, numbered-map-cases}
+
+-- ---- a call
+
+effect_count : (old : Rtps) (e : Effect) → length (effect old e).writers ≡ length old.writers
+effect_count old nothing = refl
+effect_count old (writes w entry) =
+    length-with_numbered old.writers w (with_written (numbered old.writers w no_writer) entry)
+
+-- a call leaves the writers, and their matched readers
+pub call_part : (config : Config) (peer : ℕ) (tests : Tests) (old : Part) (call : Call) (reply : Reply) (new : Part)
+    → CallStep tests old call reply new → IsPartOf config peer old → IsPartOf config peer new
+call_part config peer tests old call reply new h of =
+    let same : SameNames old new = record {
+      count = ap (λ (r : Rtps). length r.writers) h.rtps ∙ effect_count old.rtps (effect_of old call reply);
+      names = λ w. ap (λ (rows : List ReaderProxy). names_of rows) (CallStep-readers tests old call reply new h w);
+    } in
+    is_part_kept config peer old new same of
+
+-- ---- a tick
+
+tick_count : (old : Part) (now : ℕ) (reply : Reply) (new : Part) → TickStep old now reply new
+    → length new.rtps.writers ≡ length old.rtps.writers
+tick_count old now Done new h = ap (λ (p : Part). length p.rtps.writers) h.1 ∙ length-map old.rtps.writers (ticked now)
+tick_count old now (Refused code) new h = ap (λ (p : Part). length p.rtps.writers) h.1
+tick_count old now reply new h = absurd h
+
+-- so does a tick
+pub tick_part : (config : Config) (peer : ℕ) (old : Part) (now : ℕ) (reply : Reply) (new : Part)
+    → TickStep old now reply new → IsPartOf config peer old → IsPartOf config peer new
+tick_part config peer old now reply new h of =
+    let same : SameNames old new = record {
+      count = tick_count old now reply new h;
+      names = λ w. ap (λ (rows : List ReaderProxy). names_of rows) (TickStep-acknowledged old now reply new h w);
+    } in
+    is_part_kept config peer old new same of
+
+ticked_changes : (now : ℕ) (ws : List Writer) (w : ℕ)
+    → writer_changes (numbered (map (ticked now) ws) w no_writer) ≡ writer_changes (numbered ws w no_writer)
+ticked_changes now ws w =
+    ⊎_elim (λ e. ap (λ (x : Writer). writer_changes x) e) (λ n. ap (λ (x : Writer). writer_changes x) (n.0 ∙ sym n.1))
+    (numbered-map-cases (ticked now) ws w no_writer)
+
+-- and it leaves the changes
+pub tick_changes : (old : Part) (now : ℕ) (reply : Reply) (new : Part) → TickStep old now reply new → (w : ℕ)
+    → writer_changes (own_writer new w) ≡ writer_changes (own_writer old w)
+tick_changes old now Done new h w =
+    ap (λ (p : Part). writer_changes (own_writer p w)) h.1 ∙ ticked_changes now old.rtps.writers w
+tick_changes old now (Refused code) new h w = ap (λ (p : Part). writer_changes (own_writer p w)) h.1
+tick_changes old now reply new h w = absurd h
+
+-- which can be told as before
+pub tick_tellable : (old : Part) (now : ℕ) (reply : Reply) (new : Part) → TickStep old now reply new → AreTellable old
+    → AreTellable new
+tick_tellable old now reply new h all w n c at =
+    all w n c (ap (λ (cs : List Change). change_at cs n) (sym (tick_changes old now reply new h w)) ∙ at)
+
+-- and are as small
+pub tick_small : (old : Part) (now : ℕ) (reply : Reply) (new : Part) → TickStep old now reply new → HasSmallChanges old
+    → HasSmallChanges new
+tick_small old now reply new h all w =
+    subst (λ (cs : List Change). AreSmall cs) (sym (tick_changes old now reply new h w)) (all w)

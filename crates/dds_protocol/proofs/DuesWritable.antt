@@ -1,0 +1,220 @@
+-- The messages that are due can be written: their numbers are small, and they are short.
+use Rattle.std.proofs.Common.{◌≡◌, ℕ, zero, suc, ◌+◌, ◌-◌, ◌*◌, ◌^◌, ◌<◌, ◌≤◌, Bool, true, false, cond, List, [], ◌∷◌}
+use Rattle.std.proofs.Common.{◌++◌, Option, Some, None, length, length-append, nat_lt, refl, subst, sym, arith}
+use Rattle.std.specs.Prelude.{FitsSigned, find, if◌then◌else◌, pos, slice_get}
+use Rattle.std.specs.Int.{w32}
+use Rattle.std.specs.List.{All, AllByRecursion, flat_map}
+use Rattle.std.specs.Option.{unwrap_or}
+use Rattle.std.proofs.lemmas.Bool.Decides.{nat_tests}
+use Rattle.std.proofs.lemmas.Int.{fits_signed_from_abs}
+use Rattle.std.proofs.lemmas.List.Elements.{All-head, All-tail}
+use Rattle.dds_base.specs.declared.change.Change.{Change}
+use Rattle.dds_base.specs.declared.guid.EntityId.{EntityId}
+use Rattle.dds_base.specs.declared.guid.GuidPrefix.{GuidPrefix}
+use Rattle.dds_base.specs.Kept.{WriterHistory, change_at, is_kept, first_kept, numbers_from}
+use Rattle.rtps_reader.specs.declared.step.AckNackDue.{AckNackDue}
+use Rattle.rtps_reader.specs.Answer.{AnswersHeartbeat}
+use Rattle.rtps_reader.specs.Tracked.{Tracked}
+use Rattle.rtps_wire.specs.declared.data.Data.{Data as DataBody}
+use Rattle.rtps_wire.specs.declared.submessage.Submessage.{Submessage}
+use Rattle.rtps_wire.specs.Content.{content_of}
+use Rattle.rtps_wire.specs.Data.{IsContent, IsData}
+use Rattle.rtps_wire.specs.Fields.{IsEntityId}
+use Rattle.rtps_wire.specs.Messages.{IsWritable}
+use Rattle.rtps_wire.specs.Sets.{IsSet}
+use Rattle.rtps_wire.specs.Submessages.{IsSpellable}
+use Rattle.rtps_wire.proofs.LengthLaws.{short_writable}
+use Rattle.rtps_writer.specs.declared.answer.Answer.{Answer}
+use Rattle.rtps_writer.specs.declared.answer.Answer.TheVariants.{Data as AnswersData, Gap as AnswersGap}
+use Rattle.dds_machine.specs.Part.{Writer, writer_changes, heartbeats_used, history_of}
+use Rattle.dds_protocol.specs.DueMessages.{acknack_message, answer_message, data_of, submessages_of, heartbeat_with}
+use Rattle.dds_protocol.proofs.Growth.{change_at-within}
+
+-- a count from 1 to 2^31 - 1
+count_fits : (n : ℕ) → n < 2 ^ 31 - 1 → FitsSigned w32 (pos (n + 1))
+count_fits n less = fits_signed_from_abs w32 (pos (n + 1)) (omega (arith, less))
+
+-- whom a message is from, and whom it is for
+pub record Ends (own to : GuidPrefix) (reader writer : EntityId) : Type 0 where
+  pub own_octets : length own.0 ≡ 12
+  pub to_octets : length to.0 ≡ 12
+  pub reader_octets : IsEntityId reader
+  pub writer_octets : IsEntityId writer
+
+-- ---- an ACKNACK
+
+-- One that tells what is known can be written, where its set has all its places.
+pub acknack_writable : (own to : GuidPrefix) (reader writer : EntityId) → Ends own to reader writer
+    → (t : Tracked) (last : ℕ) (is_final : Bool) (due : AckNackDue) → AnswersHeartbeat t last is_final (Some due)
+    → 1 ≤ t.place
+    → length due.missing.members ≡ 256 → IsWritable (acknack_message own to reader writer due)
+acknack_writable own to reader writer ends t last is_final due a low places =
+    let base = a.3.set_base in
+    let most = a.0 in
+    let count : FitsSigned w32 due.count = subst (λ z. FitsSigned w32 z) (sym a.3.count) (count_fits t.acknacks a.1) in
+    let set : IsSet due.missing =
+    record { first = omega (arith, base, low); small = omega (arith, base, most); places = places } in
+    short_writable (acknack_message own to reader writer due) ends.own_octets
+    (ends.to_octets, ((record { reader = ends.reader_octets; writer = ends.writer_octets; count = count }, set), tt))
+    (omega arith)
+
+-- ---- a HEARTBEAT
+
+found_here : (p : ℕ → Bool) (from count : ℕ) (b : Bool) (rest : Option ℕ)
+    → (from + 1 ≤ unwrap_or rest ((from + 1) + count)) × (unwrap_or rest ((from + 1) + count) ≤ (from + 1) + count)
+    → (from ≤ unwrap_or (cond b (Some from) rest) ((from + 1) + count))
+    × (unwrap_or (cond b (Some from) rest) ((from + 1) + count) ≤ (from + 1) + count)
+found_here p from count true rest h = (omega arith, omega arith)
+found_here p from count false rest h = let low = h.0 in (omega (arith, low), h.1)
+
+-- the first number that passes is one of them, or the one past the last
+found_within : (p : ℕ → Bool) (from count : ℕ)
+    → (from ≤ unwrap_or (find p (numbers_from from count)) (from + count))
+    × (unwrap_or (find p (numbers_from from count)) (from + count) ≤ from + count)
+found_within p from zero = (omega arith, omega arith)
+found_within p from (suc count) =
+    let over : (from + 1) + count ≡ from + suc count = omega arith in
+    subst (λ (n : ℕ). (from ≤ unwrap_or (find p (numbers_from from (suc count))) n) × (unwrap_or
+    (find p (numbers_from from (suc count))) n ≤ n)) over
+    (found_here p from count (p from) (find p (numbers_from (from + 1) count)) (found_within p (from + 1) count))
+
+first_within : (w : WriterHistory) → (1 ≤ first_kept w) × (first_kept w ≤ length w.changes + 1)
+first_within w =
+    let count : 1 + length w.changes ≡ length w.changes + 1 = omega arith in
+    let test : ℕ → Bool = λ n. is_kept w n in
+    subst (λ (n : ℕ). (1 ≤ unwrap_or (find test (numbers_from 1 (length w.changes))) n) × (unwrap_or
+    (find test (numbers_from 1 (length w.changes))) n ≤ n)) count (found_within test 1 (length w.changes))
+
+-- That of a writer with fewer than 2^62 changes can be written, while there are counts left.
+pub heartbeat_writable : (final liveliness : Bool) (own to : GuidPrefix) (writer : EntityId) (w : Writer)
+    → length own.0 ≡ 12 → length to.0 ≡ 12 → IsEntityId writer → length (writer_changes w) < 2 ^ 62
+    → heartbeats_used w < 2 ^ 31 - 1 → IsWritable (heartbeat_with final liveliness own to writer w)
+heartbeat_writable final liveliness own to writer w own_octets to_octets writer_octets few left =
+    let first = first_within (history_of w) in
+    let low = first.0 in
+    let high = first.1 in
+    short_writable (heartbeat_with final liveliness own to writer w) own_octets (
+      to_octets,
+      (
+        record {
+          reader = refl;
+          writer = writer_octets;
+          first = low;
+          not_past = high;
+          first_small = omega (arith, high, few);
+          last_small = omega (arith, few);
+          count = count_fits (heartbeats_used w) left;
+        },
+        tt,
+      ),
+    ) (omega arith)
+
+-- ---- answers
+
+-- a change that a DATA can be written for
+pub record IsDatable (c : Change) : Type 0 where
+  pub content : IsContent (content_of c)
+  pub moment : c.source_timestamp < 2 ^ 64
+
+-- a GAP's numbers lie from 1 on, below 2^62
+abbrev pub HasSmallGap : Answer → Type 0
+HasSmallGap (AnswersData n) = Unit {0}
+HasSmallGap (AnswersGap first last) = (1 ≤ first) × (first ≤ last) × (last < 2 ^ 62)
+
+-- these submessages can be written, and are no more than so many
+record AreShort (ss : List Submessage) (most : ℕ) : Type 0 where
+  each : AllByRecursion IsSpellable ss
+  few : length ss ≤ most
+
+both_spellable : (xs ys : List Submessage) → AllByRecursion IsSpellable xs → AllByRecursion IsSpellable ys
+    → AllByRecursion IsSpellable (xs ++ ys)
+both_spellable [] ys h k = k
+both_spellable (x ∷ xs) ys h k = (h.0, both_spellable xs ys h.1 k)
+
+both_short : (xs ys : List Submessage) (m n : ℕ) → AreShort xs m → AreShort ys n → AreShort (xs ++ ys) (m + n)
+both_short xs ys m n h k =
+    let all = length-append xs ys in
+    let first = h.few in
+    let second = k.few in
+    record { each = both_spellable xs ys h.each k.each; few = omega (arith, all, first, second) }
+
+-- a number of a change is from 1 on
+positive_number : (changes : List Change) (n : ℕ) (c : Change) → change_at changes n ≡ Some c → 1 ≤ n
+positive_number changes n c h = by (nat_lt 0 n) refl h
+  where
+    by : (b : Bool) → nat_lt 0 n ≡ b → (if b then slice_get changes (n - 1) else None) ≡ Some c → 1 ≤ n
+    by true e k = grind (arith, nat_tests)
+    by false e k = absurd cc
+
+data_short : (reader writer : EntityId) (changes : List Change) (n : ℕ) (o : Option Change) → IsEntityId reader
+    → IsEntityId writer → length changes < 2 ^ 62 → ((c : Change) → change_at changes n ≡ Some c → IsDatable c)
+    → change_at changes n ≡ o → AreShort (data_of reader writer n o) 2
+data_short reader writer changes n None of_reader of_writer few datable at = record { each = tt; few = omega arith }
+data_short reader writer changes n (Some c) of_reader of_writer few datable at =
+    let d = datable c at in
+    let within = change_at-within changes n c at in
+    let body : DataBody = record { reader_id = reader; writer_id = writer; writer_sn = n; content = content_of c } in
+    let valid : IsData body = record {
+      reader = of_reader;
+      writer = of_writer;
+      first = positive_number changes n c at;
+      small = omega (arith, within, few);
+    } in
+    record {
+      each = (d.moment, ((valid, d.content), tt));
+      few = omega arith;
+    }
+
+gap_short : (reader writer : EntityId) (first last : ℕ) → IsEntityId reader → IsEntityId writer
+    → (1 ≤ first) × (first ≤ last) × (last < 2 ^ 62)
+    → AreShort (submessages_of [] reader writer (AnswersGap first last)) 2
+gap_short reader writer first last of_reader of_writer h =
+    let low = h.0 in
+    let order = h.1 in
+    let high = h.2 in
+    record {
+      each = (
+        (
+          record { reader = of_reader; writer = of_writer; first = low; small = omega (arith, order, high) },
+          record { first = omega arith; small = omega (arith, high); places = refl },
+        ),
+        tt,
+      );
+      few = omega arith;
+    }
+
+answers_short : (reader writer : EntityId) (changes : List Change) → IsEntityId reader → IsEntityId writer
+    → length changes < 2 ^ 62 → ((n : ℕ) (c : Change) → change_at changes n ≡ Some c → IsDatable c)
+    → (answers : List Answer) → All HasSmallGap answers
+    → AreShort (flat_map (submessages_of changes reader writer) answers) (2 * length answers)
+answers_short reader writer changes of_reader of_writer few datable [] small = record { each = tt; few = omega arith }
+answers_short reader writer changes of_reader of_writer few datable (AnswersData n ∷ rest) small =
+    let count : 2 + 2 * length rest ≡ 2 * suc (length rest) = omega arith in
+    subst (λ (m : ℕ). AreShort (data_of reader writer n (change_at changes n) ++ flat_map
+    (submessages_of changes reader writer) rest) m) count
+    (both_short (data_of reader writer n (change_at changes n))
+    (flat_map (submessages_of changes reader writer) rest) 2 (2 * length rest)
+    (data_short reader writer changes n (change_at changes n) of_reader of_writer few (λ c at. datable n c at) refl)
+    (answers_short reader writer changes of_reader of_writer few datable rest
+    (All-tail HasSmallGap (AnswersData n) rest small)))
+answers_short reader writer changes of_reader of_writer few datable (AnswersGap first last ∷ rest) small =
+    let count : 2 + 2 * length rest ≡ 2 * suc (length rest) = omega arith in
+    subst (λ (m : ℕ). AreShort (submessages_of changes reader writer (AnswersGap first last) ++ flat_map
+    (submessages_of changes reader writer) rest) m) count
+    (both_short (submessages_of changes reader writer (AnswersGap first last))
+    (flat_map (submessages_of changes reader writer) rest) 2 (2 * length rest)
+    (gap_short reader writer first last of_reader of_writer (All-head HasSmallGap (AnswersGap first last) rest small))
+    (answers_short reader writer changes of_reader of_writer few datable rest
+    (All-tail HasSmallGap (AnswersGap first last) rest small)))
+
+-- Eight answers or fewer can be written, where the changes can.
+pub answers_writable : (own to : GuidPrefix) (reader writer : EntityId) → Ends own to reader writer
+    → (changes : List Change) → length changes < 2 ^ 62
+    → ((n : ℕ) (c : Change) → change_at changes n ≡ Some c → IsDatable c)
+    → (answers : List Answer) → All HasSmallGap answers → length answers ≤ 8
+    → IsWritable (answer_message own to reader writer changes answers)
+answers_writable own to reader writer ends changes few datable answers small eight =
+    let short = answers_short reader writer changes ends.reader_octets ends.writer_octets few datable answers small in
+    let count = short.few in
+    short_writable (answer_message own to reader writer changes answers) ends.own_octets (ends.to_octets, short.each)
+    (omega (arith, count, eight))

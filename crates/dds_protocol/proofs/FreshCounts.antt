@@ -1,0 +1,662 @@
+-- An event of a network by the rules sends and takes no count that its sender has not used.
+use Rattle.std.proofs.Common.{◌≡◌, ◌⊎◌, ℕ, ℤ, pos, ◌+◌, ◌-◌, ◌≤◌, ◌≤ℤ◌, Bool, true, false, List, [], ◌∷◌, ◌++◌, Option, Some, None, Contains}
+use Rattle.std.proofs.Common.{length, length-append, refl, subst, ap, sym, ◌∙◌, inl, inr, ⊎_elim, arith}
+use Rattle.std.specs.Prelude.{if◌then◌else◌, nat_lt}
+use Rattle.std.specs.List.{All}
+use Rattle.std.proofs.lemmas.Int.{ints}
+use Rattle.std.proofs.lemmas.List.Elements.{All-contains, Contains-append_cases}
+use Rattle.dds_base.specs.declared.change.Change.{Change}
+use Rattle.dds_base.specs.declared.config.Config.{Config}
+use Rattle.dds_base.specs.declared.guid.EntityId.{EntityId}
+use Rattle.dds_base.specs.declared.guid.GuidPrefix.{GuidPrefix}
+use Rattle.dds_base.specs.Checked.{check_refusal}
+use Rattle.dds_base.specs.Written.{Written, Registered, Changed, Asserted, LookedAt, Ticked, counts_of}
+use Rattle.rtps_wire.specs.declared.submessage.Submessage.{Submessage}
+use Rattle.rtps_wire.specs.Messages.{IsWritable, spelling_of}
+use Rattle.dds_machine.specs.declared.call.Call.{Call}
+use Rattle.dds_machine.specs.declared.endpoint.Endpoint.{Endpoint}
+use Rattle.dds_protocol.specs.declared.event.Event.{Event}
+use Rattle.dds_protocol.specs.declared.event.Event.TheVariants as event
+use Rattle.dds_protocol.specs.declared.event.Packet.{Packet}
+use Rattle.dds_machine.specs.declared.event.WorldEvent.{WorldEvent}
+use Rattle.dds_machine.specs.declared.event.WorldEvent.TheVariants as world
+use Rattle.dds_machine.specs.declared.reply.Move.{Move}
+use Rattle.dds_machine.specs.declared.reply.Report.{Report}
+use Rattle.dds_machine.specs.declared.reply.Reply.{Reply}
+use Rattle.dds_machine.specs.declared.reply.Reply.TheVariants.{Done, Reported}
+use Rattle.dds_machine.specs.Numbered.{HasNumber}
+use Rattle.dds_machine.specs.Part.{Part, Writer, no_writer, own_writer, writer_changes, has_readers, is_behind, peers_of, heartbeats_used}
+use Rattle.dds_machine.specs.Moves.{Grounds}
+use Rattle.dds_machine.specs.Ticks.{ticked, after_tick, TickStep}
+use Rattle.dds_machine.specs.Calls.{Effect, nothing, writes, effect, effect_of, with_written}
+use Rattle.dds_machine.specs.Watching.{Tests}
+use Rattle.dds_protocol.specs.Claims.{Receiver, receiver_of, after_submessage, every_reader}
+use Rattle.dds_protocol.specs.Receipt.{TakesUp, Receives, prefix_of}
+use Rattle.dds_protocol.specs.Dues.{IsPartOf}
+use Rattle.dds_machine.specs.Machine.{Machine, AllTests, part_at, writer_at}
+use Rattle.dds_protocol.specs.Peer.{Peer, EventStep, no_peer, claimed, state_of}
+use Rattle.dds_protocol.specs.DueMessages.{Due, writer_entity, change_message, heartbeat_with, assertions_due, heartbeats_due}
+use Rattle.dds_protocol.specs.Protocol.{Known, TakesPacket}
+use Rattle.dds_protocol.specs.World.{WorldState, WorldStep, PeerSteps, peer_at, machine_of}
+use Rattle.dds_protocol.specs.Rules.{announcements_due, AreDue, RuledStep}
+use Rattle.dds_protocol.specs.Fresh.{HasHeartbeat, HasAckNack, heartbeats_used_at, tracked_at, acknacks_used_at, HasUsedCounts}
+use Rattle.dds_protocol.proofs.Composed.{parts_at, machine_after, contains_at}
+use Rattle.dds_protocol.proofs.CountsTaken.{Counting, Counts, packet_counts}
+use Rattle.dds_protocol.proofs.CountsWritten.{plain_beats, plain_asks, plain_data, one_beat, one_beat_asks, each_of}
+use Rattle.dds_protocol.proofs.DuesAssertions.{OfEachTold, told_each, asserted_writer}
+use Rattle.dds_protocol.proofs.DuesGrowth.{Gains, gains_same, gains_on, AreMoves-gains, is_part_kept}
+use Rattle.dds_protocol.proofs.DuesHeartbeats.{beat_body, of_all}
+use Rattle.dds_protocol.proofs.DuesMatched.{own_name}
+use Rattle.dds_protocol.proofs.DuesPackets.{IsOfDue, sent_is_due}
+use Rattle.dds_protocol.proofs.DuesParts.{call_part, tick_part}
+use Rattle.dds_protocol.proofs.Framing.{number_or_not}
+use Rattle.dds_protocol.proofs.Growth.{WriterGrows, writer_same, Grows, CallStep-grows, TickStep-grows, MachineGrows, with_part-grows, counts-more}
+use Rattle.dds_protocol.proofs.OwnGuids.{one_writer}
+use Rattle.dds_machine.proofs.Tables.{numbered-cases, numbered-same, numbered-map-cases, number_there, length-with_numbered, no_less_same}
+
+-- the packet is the written form of one of these messages, which has one
+pub record IsWrittenOf (dues : List Due) (packet : Packet) : Type 0 where
+  pub due : Due
+  pub among : Contains dues due
+  pub writable : IsWritable due.message
+  pub is : packet ≡ record { to = due.to; bytes = spelling_of due.message }
+
+-- so is each packet that an event by the rules sends
+pub sent_written : (config : Config) (tests : AllTests) (old : WorldState) (ev : WorldEvent) (reply : Reply) (lost : ℕ)
+    (new : WorldState) → (h : RuledStep config tests old ev reply lost new)
+    → (packet : Packet) → Contains h.packets packet → IsWrittenOf h.dues packet
+sent_written config tests old ev reply lost new h packet among =
+    let d : IsOfDue h.dues packet = sent_is_due h.dues h.packets lost h.are_sent packet among in
+    record {
+      due = d.due;
+      among = d.among;
+      writable = d.writable;
+      is = d.is;
+    }
+
+-- ---- what an event makes of a peer's part
+
+takes_up_gains : (config : Config) (gs : ℕ → Grounds) (peer : ℕ) (own : GuidPrefix) (index : ℕ) (at : Receiver)
+    (ss : List Submessage) (old : Part) (moves : List Move) (refused : Option ℕ) (new : Part)
+    → TakesUp config gs peer own index at ss old moves refused new → Gains old new
+takes_up_gains config gs peer own index at [] old moves refused new h =
+    subst (λ (p : Part). Gains old p) (sym h.2) (gains_same old)
+takes_up_gains config gs peer own index at (s ∷ ss) old moves refused new (inl h) =
+    subst (λ (p : Part). Gains old p) (sym h.2) (gains_same old)
+takes_up_gains config gs peer own index at (s ∷ ss) old moves refused new (inr h) =
+    gains_on old h.2 new (AreMoves-gains (gs index) old h.0 h.2 h.4)
+    (takes_up_gains config gs peer own (index + 1) (after_submessage own at s) ss h.2 h.1 refused new h.6)
+
+pub receives_gains : (config : Config) (gs : ℕ → Grounds) (peer : ℕ) (bytes : List ℕ) (old : Part) (report : Report)
+    (new : Part) → Receives config gs peer bytes old report new → Gains old new
+receives_gains config gs peer bytes old report new (inl h) =
+    takes_up_gains config gs peer (prefix_of config peer) 0
+    (receiver_of h.message.prefix) h.message.submessages old report.moves report.refused new h.taken
+receives_gains config gs peer bytes old report new (inr h) =
+    subst (λ (p : Part). Gains old p) (sym h.after) (gains_same old)
+
+-- it grows, and stays that of the configuration
+record Lasts (config : Config) (peer : ℕ) (old new : Part) : Type 0 where
+  grows : Grows old.rtps new.rtps
+  part : IsPartOf config peer old → IsPartOf config peer new
+
+event_lasts : (config : Config) (tests : Tests) (peer : ℕ) (before : Peer) (ev : Event) (reply : Reply) (after : Peer)
+    → EventStep config tests before ev reply after → Lasts config peer before.part after.part
+event_lasts config tests peer before (event.Call call) reply after h = record {
+  grows = CallStep-grows tests before.part call reply after.part h.0;
+  part = call_part config peer tests before.part call reply after.part h.0;
+}
+event_lasts config tests peer before (event.Tick now) reply after h = record {
+  grows = TickStep-grows before.part now reply after.part h.0;
+  part = tick_part config peer before.part now reply after.part h.0;
+}
+event_lasts config tests peer before (event.Deliver packet) (Reported report) after h =
+    let g : Gains before.part after.part =
+    receives_gains config (claimed config before.delivered packet before.number) before.number packet before.part
+    report after.part h.0 in
+    record { grows = g.grows; part = is_part_kept config peer before.part after.part g.same }
+event_lasts config tests peer before (event.Deliver packet) reply after h = absurd h
+
+-- ---- what it makes of the network
+
+-- lists grow, the peers stay those of the configuration, and all but one are as they were
+pub record Stays (config : Config) (old : WorldState) (peer : ℕ) (new : WorldState) : Type 0 where
+  pub grows : MachineGrows (machine_of old) (machine_of new)
+  pub parts : ((p : ℕ) → HasNumber old.peers p → IsPartOf config p (peer_at old p).part) → (p : ℕ)
+      → HasNumber new.peers p → IsPartOf config p (peer_at new p).part
+  pub others : (p : ℕ) → (p ≡ peer → ⊥) → peer_at new p ≡ peer_at old p
+
+pub stays_same : (config : Config) (old : WorldState) (peer : ℕ) (new : WorldState) → new ≡ old
+    → Stays config old peer new
+stays_same config old peer new same = record {
+  grows = subst (λ (x : WorldState). MachineGrows (machine_of old) (machine_of x)) (sym same)
+      (record { writers = λ w. writer_same (writer_at (machine_of old) w); places = λ r w. no_less_same _ });
+  parts =
+      λ of p has. subst (λ (x : WorldState). IsPartOf config p (peer_at x p).part) (sym same)
+      (of p (subst (λ (x : WorldState). HasNumber x.peers p) same has));
+  others = λ p apart. ap (λ (x : WorldState). peer_at x p) same;
+}
+
+pub steps_stays : (config : Config) (tests : Tests) (old : WorldState) (peer : ℕ) (ev : Event) (reply : Reply)
+    (new : WorldState) → PeerSteps config tests old peer ev reply new → Stays config old peer new
+steps_stays config tests old peer ev reply new h = record {
+  grows =
+      subst (λ (x : Machine). MachineGrows (machine_of old) x)
+      (sym (ap machine_of h.changed ∙ machine_after old peer h.after h.posted))
+      (with_part-grows (machine_of old) peer h.after.part
+      (subst (λ (p : Part). Grows p.rtps h.after.part.rtps) (sym (parts_at old peer)) lasts.grows));
+  parts = λ of p has.
+      subst (λ (x : WorldState). IsPartOf config p (peer_at x p).part) (sym h.changed)
+      (⊎_elim (λ e. subst (λ (x : Peer). IsPartOf config p x.part) (sym e) (of p (before p has)))
+      (λ s.
+      subst (λ (x : Peer). IsPartOf config p x.part) (sym s.1)
+      (subst (λ (n : ℕ). IsPartOf config n h.after.part) (sym s.0) (lasts.part (of peer h.within))))
+      (numbered-cases old.peers peer h.after p no_peer));
+  others = λ p apart.
+      ap (λ (x : WorldState). peer_at x p) h.changed
+      ∙ ⊎_elim (λ e. e) (λ s. absurd (apart s.0)) (numbered-cases old.peers peer h.after p no_peer);
+}
+  where
+    lasts : Lasts config peer (peer_at old peer).part h.after.part
+    lasts = event_lasts config tests peer (peer_at old peer) ev h.output.reply h.after h.step.step
+
+    before : (p : ℕ) → HasNumber new.peers p → HasNumber old.peers p
+    before p has =
+        let low = has.0 in
+        let high = has.1 in
+        let same = ap (λ (x : WorldState). length x.peers) h.changed in
+        let count = length-with_numbered old.peers peer h.after in
+        (omega (arith, low), omega (arith, high, same, count))
+
+-- a writer that grows has used no fewer counts
+used_more : (old new : Writer) → WriterGrows old new → heartbeats_used old ≤ heartbeats_used new
+used_more old new g =
+    let matched : has_readers new ≡ has_readers old = ap (λ (k : ℕ). nat_lt 0 k) g.readers in
+    let r = counts-more (has_readers old) g.more old.written in
+    let is : counts_of (has_readers new) new.written ≡ counts_of (has_readers old) old.written ++ r.0 =
+    ap (λ (b : Bool). counts_of b new.written) matched
+    ∙ (ap (λ (c : List Written). counts_of (has_readers old) c) g.written ∙ r.1) in
+    let longer = ap (λ (xs : List Bool). length xs) is in
+    let sum = length-append (counts_of (has_readers old) old.written) r.0 in
+    omega (arith, longer, sum)
+
+-- what an event does to counts
+record Uses (config : Config) (old : WorldState) (packets : List Packet) (new : WorldState) : Type 0 where
+  parts : (p : ℕ) → HasNumber new.peers p → IsPartOf config p (peer_at new p).part
+  grows : MachineGrows (machine_of old) (machine_of new)
+  asked : (w r : Endpoint) → acknacks_used_at old w r ≤ acknacks_used_at new w r
+  taken : (w r : Endpoint) (count : ℤ) → (tracked_at new w r).count ≡ Some count
+      → ((tracked_at old w r).count ≡ Some count) ⊎ (count ≤ℤ pos (heartbeats_used_at old w))
+  answered : (w r : Endpoint) (count : ℤ) → (peer_at new w.peer).known.answered w.number r ≡ Some count
+      → ((peer_at old w.peer).known.answered w.number r ≡ Some count) ⊎ (count ≤ℤ pos (acknacks_used_at old w r))
+  beats : (p : Packet) (w : Endpoint) (count : ℤ) → Contains packets p → HasHeartbeat config p.bytes w count
+      → count ≤ℤ pos (heartbeats_used_at new w)
+  asks : (p : Packet) (w r : Endpoint) (count : ℤ) → Contains packets p → HasAckNack config p.bytes w r count
+      → count ≤ℤ pos (acknacks_used_at new w r)
+
+uses_used : (config : Config) (old : WorldState) (packets : List Packet) (new : WorldState)
+    → new.sent ≡ old.sent ++ packets → HasUsedCounts config old → Uses config old packets new → HasUsedCounts config new
+uses_used config old packets new sent h u = record {
+  of_config = u.parts;
+  heartbeat_sent = λ p w count among has.
+      ⊎_elim (λ o. beat_on w count (h.heartbeat_sent p w count o has)) (λ n. u.beats p w count n has)
+      (Contains-append_cases old.sent packets p (subst (λ (ps : List Packet). Contains ps p) sent among));
+  acknack_sent = λ p w r count among has.
+      ⊎_elim (λ o. ask_on w r count (h.acknack_sent p w r count o has)) (λ n. u.asks p w r count n has)
+      (Contains-append_cases old.sent packets p (subst (λ (ps : List Packet). Contains ps p) sent among));
+  heartbeat_taken =
+      λ w r count e. beat_on w count (⊎_elim (λ o. h.heartbeat_taken w r count o) (λ n. n) (u.taken w r count e));
+  acknack_taken =
+      λ w r count e. ask_on w r count (⊎_elim (λ o. h.acknack_taken w r count o) (λ n. n) (u.answered w r count e));
+}
+  where
+    beat_on : (w : Endpoint) (count : ℤ) → count ≤ℤ pos (heartbeats_used_at old w)
+        → count ≤ℤ pos (heartbeats_used_at new w)
+    beat_on w count low =
+        let more = used_more (writer_at (machine_of old) w) (writer_at (machine_of new) w)
+        (u.grows.writers w) in omega (arith, ints, low, more)
+
+    ask_on : (w r : Endpoint) (count : ℤ) → count ≤ℤ pos (acknacks_used_at old w r)
+        → count ≤ℤ pos (acknacks_used_at new w r)
+    ask_on w r count low = let more = u.asked w r in omega (arith, ints, low, more)
+
+-- ---- a call or a tick: what is known is as it was
+
+uses_knowing : (config : Config) (old : WorldState) (packets : List Packet) (new : WorldState) (peer : ℕ)
+    → Stays config old peer new → HasUsedCounts config old
+    → ((p : ℕ) → (peer_at new p).known ≡ (peer_at old p).known)
+    → ((p : Packet) (w : Endpoint) (count : ℤ) → Contains packets p → HasHeartbeat config p.bytes w count
+    → count ≤ℤ pos (heartbeats_used_at new w))
+    → ((p : Packet) (w r : Endpoint) (count : ℤ) → Contains packets p → HasAckNack config p.bytes w r count → ⊥)
+    → Uses config old packets new
+uses_knowing config old packets new peer s h same beats asks = record {
+  parts = s.parts h.of_config;
+  grows = s.grows;
+  asked = λ w r. let e = ap (λ (k : Known). (k.tracked w r.number).acknacks) (same r.peer) in omega (arith, e);
+  taken = λ w r count e. inl (sym (ap (λ (k : Known). (k.tracked w r.number).count) (same r.peer)) ∙ e);
+  answered = λ w r count e. inl (sym (ap (λ (k : Known). k.answered w.number r) (same w.peer)) ∙ e);
+  beats = beats;
+  asks = λ p w r count among has. absurd (asks p w r count among has);
+}
+
+pub known_of : (config : Config) (tests : Tests) (old : WorldState) (peer : ℕ) (ev : Event) (reply : Reply)
+    (new : WorldState) (h : PeerSteps config tests old peer ev reply new)
+    → h.after.known ≡ (peer_at old peer).known → (p : ℕ) → (peer_at new p).known ≡ (peer_at old p).known
+known_of config tests old peer ev reply new h same p =
+    ap (λ (x : WorldState). (peer_at x p).known) h.changed
+    ∙ ⊎_elim (λ e. ap (λ (x : Peer). x.known) e)
+    (λ s. ap (λ (x : Peer). x.known) s.1 ∙ (same ∙ ap (λ (n : ℕ). (peer_at old n).known) (sym s.0)))
+    (numbered-cases old.peers peer h.after p no_peer)
+
+-- a change that is announced has neither a HEARTBEAT nor an ACKNACK
+record IsSilent (config : Config) (due : Due) : Type 0 where
+  beat : (w : Endpoint) (count : ℤ) → IsWritable due.message → HasHeartbeat config (spelling_of due.message) w count → ⊥
+  ask : (w r : Endpoint) (count : ℤ) → IsWritable due.message → HasAckNack config (spelling_of due.message) w r count
+      → ⊥
+
+change_silent : (config : Config) (own to : GuidPrefix) (writer : EntityId) (number : ℕ) (change : Change) (n : ℕ)
+    → IsSilent config (record { to = n; message = change_message own to writer number change })
+change_silent config own to writer number change n = record {
+  beat =
+      λ w count writable has. plain_beats config (change_message own to writer number change) w count writable
+      (tt, plain_data every_reader writer number (Some change)) has;
+  ask =
+      λ w r count writable has. plain_asks config (change_message own to writer number change) w r count writable
+      (tt, plain_data every_reader writer number (Some change)) has;
+}
+
+-- What is so of silent messages, and of those that tell an assertion, is so of what is due for what a call enters.
+announced : (config : Config) (peer : ℕ) (part : Part) (e : Effect) (P : Due → Type 0)
+    → ((due : Due) → IsSilent config due → P due)
+    → ((writer moment : ℕ) → e ≡ writes writer (Asserted moment) → OfEachTold config peer part writer P)
+    → (due : Due) → Contains (announcements_due config peer part e) due → P due
+announced config peer part (writes writer (Changed change)) P silent told due among =
+    let number : ℕ = length (writer_changes (own_writer part writer)) + 1 in
+    let entity : EntityId = writer_entity config peer writer in
+    each_of P
+    (λ to. record {
+      to = to;
+      message = change_message (prefix_of config peer)
+          (prefix_of config to) entity number change;
+    })
+    (λ to.
+    silent (record {
+      to = to;
+      message = change_message (prefix_of config peer)
+          (prefix_of config to) entity number change;
+    })
+    (change_silent config (prefix_of config peer) (prefix_of config to) entity number change to))
+    (peers_of (own_writer part writer).readers) due among
+announced config peer part (writes writer (Asserted moment)) P silent told due among =
+    All-contains P (assertions_due config (record { peer = peer; number = writer }) (own_writer part writer)) due
+    (told_each config peer part writer P (told writer moment refl)) among
+announced config peer part (writes writer (Registered key)) P silent told due among =
+    let lt = among.1 in absurd (omega (arith, lt))
+announced config peer part (writes writer LookedAt) P silent told due among =
+    let lt = among.1 in absurd (omega (arith, lt))
+announced config peer part (writes writer (Ticked now behind)) P silent told due among =
+    let lt = among.1 in absurd (omega (arith, lt))
+announced config peer part nothing P silent told due among = let lt = among.1 in absurd (omega (arith, lt))
+
+-- packets that are written forms of silent messages
+silent_beats : (config : Config) (dues : List Due) (packets : List Packet)
+    → ((p : Packet) → Contains packets p → IsWrittenOf dues p) → ((due : Due) → Contains dues due → IsSilent config due)
+    → (p : Packet) (w : Endpoint) (count : ℤ) → Contains packets p → HasHeartbeat config p.bytes w count → ⊥
+silent_beats config dues packets written silent p w count among has =
+    let d =
+    written p among in (silent d.due d.among).beat w count d.writable
+    (subst (λ (x : Packet). HasHeartbeat config x.bytes w count) d.is has)
+
+silent_asks : (config : Config) (dues : List Due) (packets : List Packet)
+    → ((p : Packet) → Contains packets p → IsWrittenOf dues p) → ((due : Due) → Contains dues due → IsSilent config due)
+    → (p : Packet) (w r : Endpoint) (count : ℤ) → Contains packets p → HasAckNack config p.bytes w r count → ⊥
+silent_asks config dues packets written silent p w r count among has =
+    let d =
+    written p among in (silent d.due d.among).ask w r count d.writable
+    (subst (λ (x : Packet). HasAckNack config x.bytes w r count) d.is has)
+
+uses_silent : (config : Config) (old : WorldState) (dues : List Due) (packets : List Packet) (new : WorldState)
+    (peer : ℕ) → Stays config old peer new → HasUsedCounts config old
+    → ((p : ℕ) → (peer_at new p).known ≡ (peer_at old p).known)
+    → ((p : Packet) → Contains packets p → IsWrittenOf dues p)
+    → ((due : Due) → Contains dues due → IsSilent config due) → Uses config old packets new
+uses_silent config old dues packets new peer s h same written silent =
+    uses_knowing config old packets new peer s h same
+    (λ p w count among has. absurd (silent_beats config dues packets written silent p w count among has))
+    (silent_asks config dues packets written silent)
+
+none_silent : (config : Config) (dues : List Due) → dues ≡ [] → (due : Due) → Contains dues due → IsSilent config due
+none_silent config dues none due among =
+    let empty = ap (λ (ds : List Due). length ds) none in let lt = among.1 in absurd (omega (arith, empty, lt))
+
+-- ---- HEARTBEATs
+
+-- a HEARTBEAT that is due has a count that the event uses
+record IsBeat (config : Config) (peer : ℕ) (after : Part) (due : Due) : Type 0 where
+  beat : (w : Endpoint) (count : ℤ) → IsWritable due.message → HasHeartbeat config (spelling_of due.message) w count
+      → (w.peer ≡ peer) × (count ≤ℤ pos (heartbeats_used (own_writer after w.number)))
+  ask : (w r : Endpoint) (count : ℤ) → IsWritable due.message → HasAckNack config (spelling_of due.message) w r count
+      → ⊥
+
+-- one without a HEARTBEAT too
+silent_beat : (config : Config) (peer : ℕ) (after : Part) (due : Due) → IsSilent config due
+    → IsBeat config peer after due
+silent_beat config peer after due h = record {
+  beat = λ w count writable has. absurd (h.beat w count writable has);
+  ask = h.ask;
+}
+
+-- the next HEARTBEAT of the peer's writer is such a one where one count more is used afterwards
+next_beat : (config : Config) (peer : ℕ) (part after : Part) (number to : ℕ) (final liveliness : Bool)
+    → check_refusal config.peers ≡ None → IsPartOf config peer part → HasNumber part.rtps.writers number
+    → heartbeats_used (own_writer after number) ≡ heartbeats_used (own_writer part number) + 1
+    → IsBeat config peer after
+    (record {
+      to = to;
+      message = heartbeat_with final liveliness (prefix_of config peer) (prefix_of config to)
+          (writer_entity config peer number) (own_writer part number);
+    })
+next_beat config peer part after number to final liveliness checked of there more = record {
+  beat = λ w count writable has.
+      let me : Endpoint = record { peer = peer; number = number } in
+      let found =
+      one_beat config (prefix_of config peer) (prefix_of config to)
+      (beat_body config peer part number final liveliness) w count writable has in
+      let same : w ≡ me =
+      one_writer config (prefix_of config peer) (writer_entity config peer number) w me checked found.0
+      (own_name config peer part of number there).name in
+      let at : count ≤ℤ pos (heartbeats_used (own_writer after number)) =
+      subst (λ (z : ℤ). z ≤ℤ pos (heartbeats_used (own_writer after number))) (sym found.1) (omega (arith, ints, more))
+      in (
+        ap (λ (e : Endpoint). e.peer) same,
+        subst
+            (λ (e : Endpoint). count ≤ℤ pos (heartbeats_used (own_writer after e.number))) (sym same) at,
+      );
+  ask =
+      λ w r count writable has. one_beat_asks config (prefix_of config peer) (prefix_of config to)
+      (beat_body config peer part number final liveliness) w r count writable has;
+}
+
+-- an event at which such messages are due, and nothing is learned
+uses_beats : (config : Config) (tests : Tests) (old : WorldState) (peer : ℕ) (ev : Event) (reply : Reply)
+    (dues : List Due) (packets : List Packet) (new : WorldState) → HasUsedCounts config old
+    → (step : PeerSteps config tests old peer ev reply new) → step.after.known ≡ (peer_at old peer).known
+    → ((due : Due) → Contains dues due → IsBeat config peer step.after.part due)
+    → ((p : Packet) → Contains packets p → IsWrittenOf dues p) → Uses config old packets new
+uses_beats config tests old peer ev reply dues packets new h step same all written =
+    uses_knowing config old packets new peer (steps_stays config tests old peer ev reply new step) h
+    (known_of config tests old peer ev reply new step same)
+    (λ p w count among has.
+    let d = written p among in
+    let one =
+    (all d.due d.among).beat w count d.writable
+    (subst (λ (x : Packet). HasHeartbeat config x.bytes w count) d.is has) in
+    subst (λ (q : Part). count ≤ℤ pos (heartbeats_used (own_writer q w.number))) (sym (here w.peer one.0)) one.1)
+    (λ p w r count among has. let d = written p among in (all d.due d.among).ask w r count d.writable
+    (subst (λ (x : Packet). HasAckNack config x.bytes w r count) d.is has))
+  where
+    here : (p : ℕ) → p ≡ peer → part_at (machine_of new) p ≡ step.after.part
+    here p e =
+        ap (λ (n : ℕ). part_at (machine_of new) n) e
+        ∙ (parts_at new peer
+        ∙ (ap (λ (x : WorldState). (peer_at x peer).part) step.changed
+        ∙ ap (λ (x : Peer). x.part) (numbered-same old.peers peer step.after no_peer step.within)))
+
+-- ---- a tick
+
+used_ticked : (now : ℕ) (w : Writer) (b : Bool) → is_behind w ≡ b → b ≡ true
+    → heartbeats_used (ticked now w) ≡ heartbeats_used w + 1
+used_ticked now w true is so =
+    let longer =
+    ap (λ (c : Bool). length (if c then counts_of (has_readers w) w.written ++ false
+    ∷ [] else counts_of (has_readers w) w.written)) is in
+    let sum = length-append (counts_of (has_readers w) w.written) (false ∷ []) in
+    omega (arith, longer, sum)
+used_ticked now w false is so = cc
+
+used_after_tick : (part : Part) (now number : ℕ) → is_behind (own_writer part number) ≡ true
+    → heartbeats_used (own_writer (after_tick part now) number) ≡ heartbeats_used (own_writer part number) + 1
+used_after_tick part now number behind =
+    ⊎_elim (λ e. ap (λ (x : Writer). heartbeats_used x) e
+    ∙ used_ticked now (own_writer part number) (is_behind (own_writer part number)) refl behind)
+    (λ n. let none : is_behind (own_writer part number) ≡ false = ap (λ (x : Writer). is_behind x) n.1 in absurd cc)
+    (numbered-map-cases (ticked now) part.rtps.writers number no_writer)
+
+beats_are : (config : Config) (peer : ℕ) (part : Part) (now : ℕ) → check_refusal config.peers ≡ None
+    → IsPartOf config peer part → All (IsBeat config peer (after_tick part now)) (heartbeats_due config peer part)
+beats_are config peer part now checked of =
+    of_all config peer part (IsBeat config peer (after_tick part now))
+    (λ number to there left behind. next_beat config peer part
+    (after_tick part now) number to false false checked of there (used_after_tick part now number behind))
+
+uses_tick : (config : Config) (tests : Tests) (old : WorldState) (peer now : ℕ) (dues : List Due)
+    (packets : List Packet) (new : WorldState) → check_refusal config.peers ≡ None → HasUsedCounts config old
+    → PeerSteps config tests old peer (event.Tick now) Done new
+    → dues ≡ heartbeats_due config peer (peer_at old peer).part
+    → ((p : Packet) → Contains packets p → IsWrittenOf dues p) → Uses config old packets new
+uses_tick config tests old peer now dues packets new checked h step are written =
+    uses_beats config tests old peer (event.Tick now) Done dues packets new h step step.step.knows all written
+  where
+    part : Part
+    part = (peer_at old peer).part
+
+    ticks : TickStep part now Done step.after.part
+    ticks = subst (λ (r : Reply). TickStep part now r step.after.part) step.replies step.step.step.0
+
+    all : (due : Due) → Contains dues due → IsBeat config peer step.after.part due
+    all due among =
+        subst (λ (q : Part). IsBeat config peer q due) (sym ticks.1)
+        (All-contains (IsBeat config peer (after_tick part now)) (heartbeats_due config peer part) due
+        (beats_are config peer part now checked (h.of_config peer step.within))
+        (subst (λ (ds : List Due). Contains ds due) are among))
+
+-- ---- a call
+
+-- the writer that asserted has used one count more, where it has readers
+used_asserted : (w : Writer) (moment : ℕ) → has_readers w ≡ true
+    → heartbeats_used (with_written w (Asserted moment)) ≡ heartbeats_used w + 1
+used_asserted w moment matched =
+    let longer =
+    ap (λ (b : Bool). length (if b then counts_of (has_readers w) w.written ++ true
+    ∷ [] else counts_of (has_readers w) w.written)) matched in
+    let sum = length-append (counts_of (has_readers w) w.written) (true ∷ []) in
+    omega (arith, longer, sum)
+
+uses_call : (config : Config) (tests : Tests) (old : WorldState) (peer : ℕ) (call : Call) (reply : Reply)
+    (dues : List Due) (packets : List Packet) (new : WorldState) → check_refusal config.peers ≡ None
+    → HasUsedCounts config old
+    → PeerSteps config tests old peer (event.Call call) reply new
+    → dues ≡ announcements_due config peer (peer_at old peer).part (effect_of (peer_at old peer).part call reply)
+    → ((p : Packet) → Contains packets p → IsWrittenOf dues p) → Uses config old packets new
+uses_call config tests old peer call reply dues packets new checked h step are written =
+    uses_beats config tests old peer (event.Call call) reply dues packets new h step step.step.knows
+    (λ due among.
+    announced config peer part (effect_of part call reply) (IsBeat config peer step.after.part)
+    (silent_beat config peer step.after.part) told due
+    (subst (λ (ds : List Due). Contains ds due) are among)) written
+  where
+    part : Part
+    part = (peer_at old peer).part
+
+    entered : step.after.part.rtps ≡ effect part.rtps (effect_of part call reply)
+    entered = step.step.step.0.rtps ∙ ap (λ (r : Reply). effect part.rtps (effect_of part call r)) step.replies
+
+    told : (writer moment : ℕ) → effect_of part call reply ≡ writes writer (Asserted moment)
+        → OfEachTold config peer part writer (IsBeat config peer step.after.part)
+    told writer moment is there matched to =
+        let after =
+        asserted_writer part step.after.part writer moment there
+        (entered ∙ ap (λ (e : Effect). effect part.rtps e) is) in
+        next_beat config peer part step.after.part writer to true true checked (h.of_config peer step.within) there
+        (ap (λ (w : Writer). heartbeats_used w) after ∙ used_asserted (own_writer part writer) moment matched)
+
+-- at no peer
+uses_no_call : (config : Config) (old : WorldState) (peer : ℕ) (e : Effect) (dues : List Due) (packets : List Packet)
+    (new : WorldState) → HasUsedCounts config old → (HasNumber old.peers peer → ⊥) → new ≡ old
+    → dues ≡ announcements_due config peer (peer_at old peer).part e
+    → ((p : Packet) → Contains packets p → IsWrittenOf dues p) → Uses config old packets new
+uses_no_call config old peer e dues packets new h never same are written =
+    uses_silent config old dues packets new peer (stays_same config old peer new same) h
+    (λ p. ap (λ (x : WorldState). (peer_at x p).known) same) written
+    (λ due among.
+    announced config peer (peer_at old peer).part e (IsSilent config) (λ d s. s)
+    (λ writer moment is there. absurd (nobody writer there))
+    due (subst (λ (ds : List Due). Contains ds due) are among))
+  where
+    nobody : (writer : ℕ) → HasNumber (peer_at old peer).part.rtps.writers writer → ⊥
+    nobody writer there =
+        ⊎_elim (λ has. never has)
+        (λ none.
+        let empty = ap (λ (x : Peer). length x.part.rtps.writers) none in
+        let low = there.0 in let high = there.1 in absurd (omega (arith, empty, low, high)))
+        (number_there old.peers peer no_peer)
+
+-- ---- a delivery
+
+uses_delivery : (config : Config) (old : WorldState) (peer : ℕ) (packet : Packet) (report : Report) (dues : List Due)
+    (packets : List Packet) (new : WorldState) → check_refusal config.peers ≡ None → HasUsedCounts config old
+    → Stays config old peer new → Contains old.sent packet
+    → TakesPacket config peer packet.bytes (state_of (peer_at old peer)) report dues (state_of (peer_at new peer))
+    → ((p : Packet) → Contains packets p → IsWrittenOf dues p) → Uses config old packets new
+uses_delivery config old peer packet report dues packets new checked h s among takes written = record {
+  parts = s.parts h.of_config;
+  grows = s.grows;
+  asked =
+      λ w r. ⊎_elim (λ e. asked_here w r e)
+      (λ n. let same = ap (λ (x : Peer). (x.known.tracked w r.number).acknacks)
+      (s.others r.peer n) in omega (arith, same)) (number_or_not r.peer peer);
+  taken = λ w r count e.
+      ⊎_elim (λ is. taken_here w r count is e)
+      (λ n. inl (sym (ap (λ (x : Peer). (x.known.tracked w r.number).count) (s.others r.peer n)) ∙ e))
+      (number_or_not r.peer peer);
+  answered = λ w r count e.
+      ⊎_elim (λ is. answered_here w r count is e)
+      (λ n. inl (sym (ap (λ (x : Peer). x.known.answered w.number r) (s.others w.peer n)) ∙ e))
+      (number_or_not w.peer peer);
+  beats = λ p w count among has.
+      let d = written p among in
+      absurd ((counts.counted d.due d.among).beat w count d.writable
+      (subst (λ (x : Packet). HasHeartbeat config x.bytes w count) d.is has));
+  asks = λ p w r count among has.
+      let d = written p among in
+      let one =
+      (counts.counted d.due d.among).ask w r count d.writable
+      (subst (λ (x : Packet). HasAckNack config x.bytes w r count) d.is has) in
+      subst (λ (n : ℕ). count ≤ℤ pos ((peer_at new n).known.tracked w r.number).acknacks) (sym one.0) one.1;
+}
+  where
+    c : Counting
+    c = record {
+      config = config;
+      checked = checked;
+      peer = peer;
+      own = prefix_of config peer;
+      beats = λ w. heartbeats_used_at old w;
+      asks = λ w r. acknacks_used_at old w r;
+    }
+
+    counts : Counts c (state_of (peer_at old peer)) dues (state_of (peer_at new peer))
+    counts =
+        packet_counts c packet.bytes refl (λ w count has. h.heartbeat_sent packet w count among has)
+        (λ w r count has. h.acknack_sent packet w r count among has)
+        (state_of (peer_at old peer)) report dues (state_of (peer_at new peer)) takes
+
+    asked_here : (w r : Endpoint) → r.peer ≡ peer → acknacks_used_at old w r ≤ acknacks_used_at new w r
+    asked_here w r e =
+        subst (λ (n : ℕ). ((peer_at old n).known.tracked w r.number).acknacks
+        ≤ ((peer_at new n).known.tracked w r.number).acknacks) (sym e) (counts.asked w r.number)
+
+    taken_here : (w r : Endpoint) (count : ℤ) → r.peer ≡ peer → (tracked_at new w r).count ≡ Some count
+        → ((tracked_at old w r).count ≡ Some count) ⊎ (count ≤ℤ pos (heartbeats_used_at old w))
+    taken_here w r count is e =
+        subst (λ (n : ℕ). (((peer_at old n).known.tracked w r.number).count ≡ Some count)
+        ⊎ (count ≤ℤ pos (heartbeats_used_at old w))) (sym is)
+        (counts.taken w r.number count
+        (subst (λ (n : ℕ). ((peer_at new n).known.tracked w r.number).count ≡ Some count) is e))
+
+    answered_here : (w r : Endpoint) (count : ℤ) → w.peer ≡ peer
+        → (peer_at new w.peer).known.answered w.number r ≡ Some count
+        → ((peer_at old w.peer).known.answered w.number r ≡ Some count) ⊎ (count ≤ℤ pos (acknacks_used_at old w r))
+    answered_here w r count is e =
+        let at : (peer_at new peer).known.answered w.number r ≡ Some count =
+        subst (λ (n : ℕ). (peer_at new n).known.answered w.number r ≡ Some count) is e in
+        let me : record { peer = peer; number = w.number } ≡ w = ap (λ (n : ℕ). endpoint_of n w.number) (sym is) in
+        ⊎_elim (λ o. inl (subst (λ (n : ℕ). (peer_at old n).known.answered w.number r ≡ Some count) (sym is) o))
+        (λ n. inr (subst (λ (x : Endpoint). count ≤ℤ pos (acknacks_used_at old x r)) me n))
+        (counts.answered w.number r count at)
+      where
+        endpoint_of : ℕ → ℕ → Endpoint
+        endpoint_of peer number = record { peer = peer; number = number }
+
+-- ---- an event
+
+-- one at which nothing is due, and nothing is learned
+uses_nothing : (config : Config) (old : WorldState) (dues : List Due) (packets : List Packet) (new : WorldState)
+    (peer : ℕ) → Stays config old peer new → HasUsedCounts config old
+    → ((p : ℕ) → (peer_at new p).known ≡ (peer_at old p).known)
+    → ((p : Packet) → Contains packets p → IsWrittenOf dues p) → dues ≡ [] → Uses config old packets new
+uses_nothing config old dues packets new peer s used same written none =
+    uses_silent config old dues packets new peer s used same written (none_silent config dues none)
+
+known_same : (old new : WorldState) → new ≡ old → (p : ℕ) → (peer_at new p).known ≡ (peer_at old p).known
+known_same old new same p = ap (λ (x : WorldState). (peer_at x p).known) same
+
+-- a tick that is not done
+uses_no_tick : (config : Config) (tests : Tests) (old : WorldState) (peer now : ℕ) (reply : Reply) (dues : List Due)
+    (packets : List Packet) (new : WorldState) → HasUsedCounts config old
+    → PeerSteps config tests old peer (event.Tick now) reply new
+    → ((p : Packet) → Contains packets p → IsWrittenOf dues p) → dues ≡ [] → Uses config old packets new
+uses_no_tick config tests old peer now reply dues packets new used s written none =
+    uses_nothing config old dues packets new peer (steps_stays config tests old peer (event.Tick now) reply new s) used
+    (known_of config tests old peer (event.Tick now) reply new s s.step.knows) written none
+
+-- a delivery that is not reported
+uses_no_report : (config : Config) (tests : AllTests) (old : WorldState) (peer number : ℕ) (reply : Reply)
+    (dues : List Due) (packets : List Packet) (new : WorldState) → HasUsedCounts config old
+    → WorldStep config tests old (world.Deliver peer number) reply new
+    → ((before : Peer) (bytes : List ℕ) (after : Peer)
+    → EventStep config (tests peer) before (event.Deliver bytes) reply after → ⊥)
+    → ((p : Packet) → Contains packets p → IsWrittenOf dues p) → dues ≡ [] → Uses config old packets new
+uses_no_report config tests old peer number reply dues packets new used (inl s) never written none =
+    absurd (never (peer_at old peer) s.0.bytes s.3.after
+    (subst (λ (r : Reply). EventStep config (tests peer) (peer_at old peer) (event.Deliver s.0.bytes) r s.3.after)
+    s.3.replies s.3.step.step))
+uses_no_report config tests old peer number reply dues packets new used (inr s) never written none =
+    uses_nothing config old dues packets new peer (stays_same config old peer new s.1.after) used
+    (known_same old new s.1.after) written none
+
+uses_step : (config : Config) (tests : AllTests) (old : WorldState) (ev : WorldEvent) (reply : Reply) (dues : List Due)
+    (packets : List Packet) (new : WorldState) → check_refusal config.peers ≡ None → HasUsedCounts config old
+    → ((p : Packet) → Contains packets p → IsWrittenOf dues p) → WorldStep config tests old ev reply new
+    → AreDue config old ev reply new dues → Uses config old packets new
+uses_step config tests old (world.Call peer call) reply dues packets new checked used written (inl s) are =
+    uses_call config (tests peer) old peer call reply dues packets new checked used s are written
+uses_step config tests old (world.Call peer call) reply dues packets new checked used written (inr s) are =
+    uses_no_call config old peer (effect_of (peer_at old peer).part call reply) dues packets new used s.0 s.1.after are
+    written
+uses_step config tests old (world.Tick peer now) Done dues packets new checked used written (inl s) are =
+    uses_tick config (tests peer) old peer now dues packets new checked used s are written
+uses_step config tests old (world.Tick peer now) Done dues packets new checked used written (inr s) are =
+    let r = s.1.is_refused in absurd cc
+uses_step config tests old (world.Tick peer now) reply dues packets new checked used written (inl s) are =
+    uses_no_tick config (tests peer) old peer now reply dues packets new used s written are
+uses_step config tests old (world.Tick peer now) reply dues packets new checked used written (inr s) are =
+    uses_nothing config old dues packets new peer (stays_same config old peer new s.1.after) used
+    (known_same old new s.1.after) written are
+uses_step config tests old (world.Deliver peer number) (Reported report) dues packets new checked used written
+    (inl s) are =
+    uses_delivery config old peer are.0 report dues packets new checked used
+    (steps_stays config (tests peer) old peer (event.Deliver s.0.bytes) (Reported report) new s.3)
+    (contains_at old.sent (number - 1) are.0 are.1) are.2 written
+uses_step config tests old (world.Deliver peer number) (Reported report) dues packets new checked used written
+    (inr s) are = let r = s.1.is_refused in absurd cc
+uses_step config tests old (world.Deliver peer number) reply dues packets new checked used written s are =
+    uses_no_report config tests old peer number reply dues packets new used s (λ p b q h. h) written are
+
+pub steps_used : (config : Config) (tests : AllTests) (old : WorldState) (ev : WorldEvent) (reply : Reply) (lost : ℕ)
+    (new : WorldState) → check_refusal config.peers ≡ None → HasUsedCounts config old
+    → RuledStep config tests old ev reply lost new → HasUsedCounts config new
+steps_used config tests old ev reply lost new checked used h =
+    uses_used config old h.packets new h.sent used
+    (uses_step config tests old ev reply h.dues h.packets new checked used
+    (sent_written config tests old ev reply lost new h) h.step h.due)

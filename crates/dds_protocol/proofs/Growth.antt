@@ -1,0 +1,383 @@
+-- Lists and places grow, and what is claimed stays true.
+use Rattle.std.proofs.Common.{◌≡◌, ℕ, ◌+◌, ◌-◌, ◌≤◌, Bool, true, false, cond, Option, ℤ, pos, negsuc, zero, suc, ◌⊎◌, List, [], ◌∷◌, ◌++◌, Some, None, map, get_or, refl, subst, ap, sym, ◌∙◌, inl, inr, ⊎_elim, arith, length, drop, count_by, slice_get, append_assoc}
+use Rattle.std.specs.Prelude.{if◌then◌else◌, nat_lt, nat_le}
+use Rattle.std.specs.Option.{option_map_or}
+use Rattle.std.proofs.lemmas.Bool.Decides.{nat_tests}
+use Rattle.std.proofs.lemmas.List.{drop-append-le, length-map}
+use Rattle.std.proofs.lemmas.List.Sums.{sum_by-append}
+use Rattle.std.proofs.lemmas.Option.{slice_get_within}
+use Rattle.dds_base.specs.declared.change.Change.{Change}
+use Rattle.dds_base.specs.declared.qos.HistoryQos.{HistoryQos}
+use Rattle.dds_base.specs.declared.qos.HistoryQos.TheVariants.{KeepAll, KeepLast}
+use Rattle.dds_base.specs.Happening.{same_key}
+use Rattle.dds_base.specs.Written.{Written, Registered, Changed, Asserted, LookedAt, Ticked, changes_of, counts_of}
+use Rattle.dds_base.specs.Kept.{change_at, is_dropped, is_dropped_by, later_changes}
+use Rattle.dds_machine.specs.declared.call.Call.{Call}
+use Rattle.dds_machine.specs.declared.endpoint.Endpoint.{Endpoint}
+use Rattle.dds_machine.specs.declared.reply.Move.{Move}
+use Rattle.dds_machine.specs.declared.reply.Move.TheVariants.{Place, Acknowledged, Heard}
+use Rattle.dds_machine.specs.declared.reply.Reply.{Reply}
+use Rattle.dds_machine.specs.declared.reply.Reply.TheVariants.{Done, Refused, Reported}
+use Rattle.dds_machine.specs.Numbered.{numbered, with_numbered}
+use Rattle.dds_machine.specs.Part.{WriterProxy, ReaderProxy, Writer, Rtps, Part, no_writer, no_part, own_writer, own_proxies, place_of, with_place, with_heard, with_acknowledged, writer_changes, history_of, has_readers, is_behind, is_assertion, NoLess}
+use Rattle.dds_machine.specs.Moves.{Grounds, IsMove, AreMoves, DeliveryStep}
+use Rattle.dds_machine.specs.Ticks.{ticked, reader_ticked, TickStep}
+use Rattle.dds_machine.specs.Calls.{Effect, nothing, writes, effect, effect_of, with_written, CallStep}
+use Rattle.dds_machine.specs.Watching.{Tests}
+use Rattle.dds_protocol.specs.Claims.{Claim, ChangeIs, MayPass, PlaceReached, Asserts}
+use Rattle.dds_machine.specs.Machine.{Machine, part_at, writer_at, place_at}
+use Rattle.dds_protocol.specs.World.{Holds}
+use Rattle.dds_machine.proofs.Tables.{numbered-cases, numbered-map-cases, append_nothing, slice_get-append, length-with_row, place-cases, place-heard, no_less_same, no_less_on, at_most_on, below_on}
+
+pub record WriterGrows (old new : Writer) : Type 0 where
+  pub policy : new.policy ≡ old.policy
+  pub readers : length new.readers ≡ length old.readers
+  pub more : List Written
+  pub written : new.written ≡ more ++ old.written
+
+pub record Grows (old new : Rtps) : Type 0 where
+  pub writers : (w : ℕ) → WriterGrows (numbered old.writers w no_writer) (numbered new.writers w no_writer)
+  pub places : (r : ℕ) (w : Endpoint)
+      → NoLess (place_of (numbered old.readers r []) w) (place_of (numbered new.readers r []) w)
+
+pub writer_same : (w : Writer) → WriterGrows w w
+writer_same w = record { policy = refl; readers = refl; more = []; written = refl }
+
+pub writer_on : (a b c : Writer) → WriterGrows a b → WriterGrows b c → WriterGrows a c
+writer_on a b c f g = record {
+  policy = g.policy ∙ f.policy;
+  readers = g.readers ∙ f.readers;
+  more = g.more ++ f.more;
+  written =
+      g.written ∙ (ap (λ (xs : List Written). g.more ++ xs) f.written ∙ sym (append_assoc g.more f.more a.written));
+}
+
+pub grows_same : (r : Rtps) → Grows r r
+grows_same r =
+    record {
+      writers = λ w. writer_same (numbered r.writers w no_writer);
+      places = λ k w. no_less_same
+          (place_of (numbered r.readers k []) w);
+    }
+
+pub grows_on : (a b c : Rtps) → Grows a b → Grows b c → Grows a c
+grows_on a b c f g = record {
+  writers =
+      λ w. writer_on (numbered a.writers w no_writer) (numbered b.writers w no_writer) (numbered c.writers w no_writer)
+      (f.writers w) (g.writers w);
+  places =
+      λ r w. no_less_on (place_of (numbered a.readers r []) w) (place_of (numbered b.readers r []) w)
+      (place_of (numbered c.readers r []) w) (f.places r w) (g.places r w);
+}
+
+pub set_writer-grows : (old : Rtps) (w : ℕ) (after : Writer) → WriterGrows (numbered old.writers w no_writer) after
+    → Grows old (record old { writers = with_numbered old.writers w after })
+set_writer-grows old w after h = record {
+  writers = λ k.
+      ⊎_elim (λ e. subst (λ (x : Writer). WriterGrows (numbered old.writers k no_writer) x) (sym e)
+      (writer_same (numbered old.writers k no_writer)))
+      (λ s. subst (λ (x : Writer). WriterGrows (numbered old.writers k no_writer) x) (sym s.1)
+      (subst (λ (j : ℕ). WriterGrows (numbered old.writers j no_writer) after) (sym s.0) h))
+      (numbered-cases old.writers w after k no_writer);
+  places = λ r v. no_less_same (place_of (numbered old.readers r []) v);
+}
+
+-- what is there of one list and another, where one element has changed
+no_less_at : (old : List (List WriterProxy)) (r : ℕ) (after : List WriterProxy) (k : ℕ) (w : Endpoint)
+    → NoLess (place_of (numbered old r []) w) (place_of after w)
+    → (numbered (with_numbered old r after) k [] ≡ numbered old k [])
+    ⊎ ((k ≡ r) × (numbered (with_numbered old r after) k [] ≡ after))
+    → NoLess (place_of (numbered old k []) w) (place_of (numbered (with_numbered old r after) k []) w)
+no_less_at old r after k w h (inl e) =
+    subst (λ (rows : List WriterProxy). NoLess (place_of (numbered old k []) w) (place_of rows w)) (sym e)
+    (no_less_same (place_of (numbered old k []) w))
+no_less_at old r after k w h (inr s) =
+    subst (λ (rows : List WriterProxy). NoLess (place_of (numbered old k []) w) (place_of rows w)) (sym s.1)
+    (subst (λ (j : ℕ). NoLess (place_of (numbered old j []) w) (place_of after w)) (sym s.0) h)
+
+pub set_reader-grows : (old : Rtps) (r : ℕ) (after : List WriterProxy)
+    → ((w : Endpoint) → NoLess (place_of (numbered old.readers r []) w) (place_of after w))
+    → Grows old (record old { readers = with_numbered old.readers r after })
+set_reader-grows old r after h = record {
+  writers = λ k. writer_same (numbered old.writers k no_writer);
+  places = λ k w. no_less_at old.readers r after k w (h w) (numbered-cases old.readers r after k []);
+}
+
+place_forward : (rows : List WriterProxy) (w : Endpoint) (from to : ℕ) → place_of rows w ≡ Some from → from ≤ to
+    → (v : Endpoint) → NoLess (place_of rows v) (place_of (with_place rows w to) v)
+place_forward rows w from to is le v =
+    ⊎_elim (λ e. subst (λ (o : Option ℕ). NoLess (place_of rows v) o) (sym e) (no_less_same (place_of rows v)))
+    (λ s.
+    subst (λ (o : Option ℕ). NoLess (place_of rows v) o) (sym s.1)
+    (subst (λ (o : Option ℕ). NoLess o (Some to)) (sym (ap (λ (x : Endpoint). place_of rows x) s.0 ∙ is)) le))
+    (place-cases rows w from to v is)
+
+place_still : (rows : List WriterProxy) (w : Endpoint) (count : ℤ) (v : Endpoint)
+    → NoLess (place_of rows v) (place_of (with_heard rows w count) v)
+place_still rows w count v =
+    subst (λ (o : Option ℕ). NoLess (place_of rows v) o) (sym (place-heard rows w count v))
+    (no_less_same (place_of rows v))
+
+pub IsMove-grows : (g : Grounds) (old : Part) (m : Move) (new : Part) → IsMove g old m new → Grows old.rtps new.rtps
+IsMove-grows g old (Place w r to passed) new h =
+    let forward = h.forward in
+    subst (λ (q : Part). Grows old.rtps q.rtps) (sym h.after)
+    (set_reader-grows old.rtps r (with_place (own_proxies old r) w to)
+    (place_forward (own_proxies old r) w h.place to h.matched.at (omega (arith, forward))))
+IsMove-grows g old (Acknowledged w r to) new h =
+    let before = own_writer old w in
+    let after : Writer = record before { readers = with_acknowledged before.readers r to } in
+    subst (λ (q : Part). Grows old.rtps q.rtps) (sym h.after) (set_writer-grows old.rtps w after (record {
+      policy = refl;
+      readers =
+          length-with_row (λ (p : ReaderProxy). p.reader)
+          (λ (p : ReaderProxy). record p { acknowledged = to }) before.readers r;
+      more = [];
+      written = refl;
+    }))
+IsMove-grows g old (Heard w r) new h =
+    subst (λ (q : Part). Grows old.rtps q.rtps) (sym h.after)
+    (set_reader-grows old.rtps r (with_heard (own_proxies old r) w h.count)
+    (place_still (own_proxies old r) w h.count))
+
+pub AreMoves-grows : (g : Grounds) (old : Part) (ms : List Move) (new : Part) → AreMoves g old ms new
+    → Grows old.rtps new.rtps
+AreMoves-grows g old [] new h = subst (λ (q : Part). Grows old.rtps q.rtps) (sym h) (grows_same old.rtps)
+AreMoves-grows g old (m ∷ ms) new h =
+    grows_on old.rtps h.0.rtps new.rtps (IsMove-grows g old m h.0 h.1) (AreMoves-grows g h.0 ms new h.2)
+
+pub DeliveryStep-grows : (g : Grounds) (old : Part) (reply : Reply) (new : Part) → DeliveryStep g old reply new
+    → Grows old.rtps new.rtps
+DeliveryStep-grows g old (Reported report) new h = AreMoves-grows g old report.moves new h
+DeliveryStep-grows g old reply new h = absurd h
+
+-- what a call does: lists grow by one entry, and no acknowledgement changes
+pub effect-grows : (old : Rtps) (e : Effect) → Grows old (effect old e)
+effect-grows old nothing = grows_same old
+effect-grows old (writes w entry) =
+    set_writer-grows old w (with_written (numbered old.writers w no_writer) entry)
+    (record { policy = refl; readers = refl; more = entry ∷ []; written = refl })
+
+readers_set : (writers : List Writer) (w : ℕ) (after : Writer) → after.readers ≡ (numbered writers w no_writer).readers
+    → (k : ℕ) → (numbered (with_numbered writers w after) k no_writer).readers ≡ (numbered writers k no_writer).readers
+readers_set writers w after h k =
+    ⊎_elim (λ e. ap (λ (x : Writer). x.readers) e)
+    (λ s. ap (λ (x : Writer). x.readers) s.1
+    ∙ (h ∙ ap (λ (j : ℕ). (numbered writers j no_writer).readers) (sym s.0)))
+    (numbered-cases writers w after k no_writer)
+
+pub effect-readers : (old : Rtps) (e : Effect) (k : ℕ) → (numbered (effect old e).writers k no_writer).readers
+    ≡ (numbered old.writers k no_writer).readers
+effect-readers old nothing k = refl
+effect-readers old (writes w entry) k =
+    readers_set old.writers w (with_written (numbered old.writers w no_writer) entry) refl k
+
+pub CallStep-grows : (tests : Tests) (old : Part) (call : Call) (reply : Reply) (new : Part)
+    → CallStep tests old call reply new → Grows old.rtps new.rtps
+CallStep-grows tests old call reply new h =
+    subst (λ (r : Rtps). Grows old.rtps r) (sym h.rtps) (effect-grows old.rtps (effect_of old call reply))
+
+pub CallStep-readers : (tests : Tests) (old : Part) (call : Call) (reply : Reply) (new : Part)
+    → CallStep tests old call reply new → (k : ℕ) → (own_writer new k).readers ≡ (own_writer old k).readers
+CallStep-readers tests old call reply new h k =
+    ap (λ (r : Rtps). (numbered r.writers k no_writer).readers) h.rtps
+    ∙ effect-readers old.rtps (effect_of old call reply) k
+
+-- what a tick does: each writer's list grows by one entry, and readers, places and acknowledgements stay
+
+ticked-grows : (now : ℕ) (w : Writer) → WriterGrows w (ticked now w)
+ticked-grows now w = record { policy = refl; readers = refl; more = Ticked now (is_behind w) ∷ []; written = refl }
+
+all_ticked-grows : (now : ℕ) (old : Rtps) → Grows old (record old { writers = map (ticked now) old.writers })
+all_ticked-grows now old = record {
+  writers = λ k.
+      ⊎_elim (λ e. subst (λ (x : Writer). WriterGrows (numbered old.writers k no_writer) x) (sym e)
+      (ticked-grows now (numbered old.writers k no_writer)))
+      (λ n. subst (λ (x : Writer). WriterGrows (numbered old.writers k no_writer) x) (n.1 ∙ sym n.0)
+      (writer_same (numbered old.writers k no_writer)))
+      (numbered-map-cases (ticked now) old.writers k no_writer);
+  places = λ r v. no_less_same (place_of (numbered old.readers r []) v);
+}
+
+pub TickStep-grows : (old : Part) (now : ℕ) (reply : Reply) (new : Part) → TickStep old now reply new
+    → Grows old.rtps new.rtps
+TickStep-grows old now Done new h =
+    subst (λ (p : Part). Grows old.rtps p.rtps) (sym h.1) (all_ticked-grows now old.rtps)
+TickStep-grows old now (Refused code) new h =
+    subst (λ (p : Part). Grows old.rtps p.rtps) (sym h.1) (grows_same old.rtps)
+TickStep-grows old now reply new h = absurd h
+
+-- a tick leaves the rows of readers, and what happened there
+pub TickStep-rows : (old : Part) (now : ℕ) (reply : Reply) (new : Part) → TickStep old now reply new
+    → new.rtps.readers ≡ old.rtps.readers
+TickStep-rows old now Done new h = ap (λ (p : Part). p.rtps.readers) h.1
+TickStep-rows old now (Refused code) new h = ap (λ (p : Part). p.rtps.readers) h.1
+TickStep-rows old now reply new h = absurd h
+
+pub TickStep-readers : (old : Part) (now : ℕ) (reply : Reply) (new : Part) → TickStep old now reply new
+    → length new.dds.readers ≡ length old.dds.readers
+TickStep-readers old now Done new h =
+    ap (λ (p : Part). length p.dds.readers) h.1 ∙ length-map old.dds.readers (reader_ticked now)
+TickStep-readers old now (Refused code) new h = ap (λ (p : Part). length p.dds.readers) h.1
+TickStep-readers old now reply new h = absurd h
+
+ticked-readers : (now : ℕ) (ws : List Writer) (k : ℕ) → (numbered (map (ticked now) ws) k no_writer).readers
+    ≡ (numbered ws k no_writer).readers
+ticked-readers now ws k =
+    ⊎_elim (λ e. ap (λ (x : Writer). x.readers) e) (λ n. ap (λ (x : Writer). x.readers) (n.0 ∙ sym n.1))
+    (numbered-map-cases (ticked now) ws k no_writer)
+
+-- a tick leaves what each writer's readers have acknowledged
+pub TickStep-acknowledged : (old : Part) (now : ℕ) (reply : Reply) (new : Part) → TickStep old now reply new → (k : ℕ)
+    → (own_writer new k).readers ≡ (own_writer old k).readers
+TickStep-acknowledged old now Done new h k =
+    ap (λ (p : Part). (own_writer p k).readers) h.1 ∙ ticked-readers now old.rtps.writers k
+TickStep-acknowledged old now (Refused code) new h k = ap (λ (p : Part). (own_writer p k).readers) h.1
+TickStep-acknowledged old now reply new h k = absurd h
+
+-- changes grow at their end
+
+pub changes-more : (more written : List Written) → (later : List Change)
+    × (changes_of (more ++ written) ≡ changes_of written ++ later)
+changes-more [] written = ([], sym (append_nothing (changes_of written)))
+changes-more (Registered key ∷ more) written = changes-more more written
+changes-more (Asserted moment ∷ more) written = changes-more more written
+changes-more (LookedAt ∷ more) written = changes-more more written
+changes-more (Ticked now behind ∷ more) written = changes-more more written
+changes-more (Changed change ∷ more) written =
+    let r = changes-more more written in (
+      r.0 ++ change ∷ [],
+      ap (λ (cs : List Change). cs ++ change ∷ []) r.1
+          ∙ append_assoc (changes_of written) r.0 (change ∷ []),
+    )
+
+pub writer-changes : (old new : Writer) → WriterGrows old new
+    → (later : List Change) × (writer_changes new ≡ writer_changes old ++ later)
+writer-changes old new g = let r = changes-more g.more old.written in (r.0, ap changes_of g.written ∙ r.1)
+
+change_at-cases : (b : Bool) (xs ys : List Change) (i : ℕ) (c : Change) → (if b then slice_get xs i else None) ≡ Some c
+    → (if b then slice_get (xs ++ ys) i else None) ≡ Some c
+change_at-cases true xs ys i c h = slice_get-append xs ys i c h
+change_at-cases false xs ys i c h = cc
+
+pub change_at-append : (xs ys : List Change) (n : ℕ) (c : Change) → change_at xs n ≡ Some c
+    → change_at (xs ++ ys) n ≡ Some c
+change_at-append xs ys n c h = change_at-cases (nat_lt 0 n) xs ys (n - 1) c h
+
+-- a change that is there has a number from 1 to the last
+within-cases : (b : Bool) (xs : List Change) (n : ℕ) (c : Change) → nat_lt 0 n ≡ b
+    → (if b then slice_get xs (n - 1) else None) ≡ Some c → n ≤ length xs
+within-cases true xs n c e h = let lt = slice_get_within xs (n - 1) c h in omega (arith, lt)
+within-cases false xs n c e h = cc
+
+pub change_at-within : (xs : List Change) (n : ℕ) (c : Change) → change_at xs n ≡ Some c → n ≤ length xs
+change_at-within xs n c h = within-cases (nat_lt 0 n) xs n c refl h
+
+-- what is dropped stays dropped
+dropped-found : (depth : ℕ) (xs ys : List Change) (n : ℕ) (o : Option Change) → change_at xs n ≡ o
+    → option_map_or (λ (c : Change). nat_le depth (later_changes xs n c.key)) o false ≡ true
+    → is_dropped_by (KeepLast depth) (xs ++ ys) n ≡ true
+dropped-found depth xs ys n None found h = cc
+dropped-found depth xs ys n (Some c) found h =
+    let within : n ≤ length xs = change_at-within xs n c found in
+    let later : later_changes (xs ++ ys) n c.key
+    ≡ later_changes xs n c.key + count_by (λ (x : Change). same_key x.key c.key) ys =
+    rw drop-append-le (sum_by-append (λ (x : Change). cond (same_key x.key c.key) 1 0) (drop n xs) ys) in
+    let still : nat_le depth (later_changes (xs ++ ys) n c.key) ≡ true = grind (arith, nat_tests, later, h) in
+    ap (λ (o : Option Change). option_map_or (λ (x : Change). nat_le depth (later_changes (xs ++ ys) n x.key)) o false)
+    (change_at-append xs ys n c found) ∙ still
+
+pub dropped-append : (policy : HistoryQos) (xs ys : List Change) (n : ℕ) → is_dropped_by policy xs n ≡ true
+    → is_dropped_by policy (xs ++ ys) n ≡ true
+dropped-append KeepAll xs ys n h = h
+dropped-append (KeepLast depth) xs ys n h = dropped-found depth xs ys n (change_at xs n) refl h
+
+pub dropped-grows : (old new : Writer) (n : ℕ) → WriterGrows old new → is_dropped (history_of old) n ≡ true
+    → is_dropped (history_of new) n ≡ true
+dropped-grows old new n g h =
+    let c = writer-changes old new g in
+    ap (λ (k : HistoryQos). is_dropped_by k (writer_changes new) n) g.policy
+    ∙ (ap (λ (xs : List Change). is_dropped_by old.policy xs n) c.1
+    ∙ dropped-append old.policy (writer_changes old) c.0 n h)
+
+-- HEARTBEAT counts grow at their end
+
+if_more : (b c : Bool) (xs ys zs : List Bool) → ys ≡ xs ++ zs
+    → (later : List Bool) × ((if b then ys ++ c ∷ [] else ys) ≡ xs ++ later)
+if_more true c xs ys zs h = (zs ++ c ∷ [], ap (λ (us : List Bool). us ++ c ∷ []) h ∙ append_assoc xs zs (c ∷ []))
+if_more false c xs ys zs h = (zs, h)
+
+pub counts-more : (matched : Bool) (more written : List Written)
+    → (later : List Bool) × (counts_of matched (more ++ written) ≡ counts_of matched written ++ later)
+counts-more matched [] written = ([], sym (append_nothing (counts_of matched written)))
+counts-more matched (Registered key ∷ more) written = counts-more matched more written
+counts-more matched (LookedAt ∷ more) written = counts-more matched more written
+counts-more matched (Changed change ∷ more) written = counts-more matched more written
+counts-more matched (Asserted moment ∷ more) written =
+    let r =
+    counts-more matched more written in if_more matched true (counts_of matched written)
+    (counts_of matched (more ++ written)) r.0 r.1
+counts-more matched (Ticked now behind ∷ more) written =
+    let r =
+    counts-more matched more written in if_more behind false (counts_of matched written)
+    (counts_of matched (more ++ written)) r.0 r.1
+
+get-append : (xs ys : List Bool) (i : ℕ) → get_or xs i false ≡ true → get_or (xs ++ ys) i false ≡ true
+get-append [] ys i h = cc
+get-append (x ∷ xs) ys zero h = h
+get-append (x ∷ xs) ys (suc i) h = get-append xs ys i h
+
+numbered-append : (xs ys : List Bool) (n : ℕ) → numbered xs n false ≡ true → numbered (xs ++ ys) n false ≡ true
+numbered-append xs ys zero h = h
+numbered-append xs ys (suc n) h = get-append xs ys n h
+
+pub assertion-grows : (old new : Writer) (count : ℤ) → WriterGrows old new → is_assertion old count ≡ true
+    → is_assertion new count ≡ true
+assertion-grows old new (pos n) g h =
+    let matched : has_readers new ≡ has_readers old = ap (λ (k : ℕ). nat_lt 0 k) g.readers in
+    let r = counts-more (has_readers old) g.more old.written in
+    let is : counts_of (has_readers new) new.written ≡ counts_of (has_readers old) old.written ++ r.0 =
+    ap (λ (b : Bool). counts_of b new.written) matched
+    ∙ (ap (λ (c : List Written). counts_of (has_readers old) c) g.written ∙ r.1) in
+    ap (λ (xs : List Bool). numbered xs n false) is ∙ numbered-append (counts_of (has_readers old) old.written) r.0 n h
+assertion-grows old new (negsuc n) g h = cc
+
+-- the machine grows
+
+pub record MachineGrows (old new : Machine) : Type 0 where
+  pub writers : (w : Endpoint) → WriterGrows (writer_at old w) (writer_at new w)
+  pub places : (r w : Endpoint) → NoLess (place_at old r w) (place_at new r w)
+
+abbrev pub with_part : Machine → ℕ → Part → Machine
+with_part m peer after = record { parts = with_numbered m.parts peer after }
+
+pub with_part-grows : (m : Machine) (peer : ℕ) (after : Part) → Grows (part_at m peer).rtps after.rtps
+    → MachineGrows m (with_part m peer after)
+with_part-grows m peer after g = record {
+  writers = λ w.
+      ⊎_elim (λ e. subst (λ (q : Part). WriterGrows (writer_at m w) (own_writer q w.number)) (sym e)
+      (writer_same (writer_at m w)))
+      (λ s. subst (λ (q : Part). WriterGrows (writer_at m w) (own_writer q w.number)) (sym s.1)
+      (subst (λ (j : ℕ). WriterGrows (own_writer (part_at m j) w.number) (own_writer after w.number)) (sym s.0)
+      (g.writers w.number)))
+      (numbered-cases m.parts peer after w.peer no_part);
+  places = λ r w.
+      ⊎_elim (λ e. subst (λ (q : Part). NoLess (place_at m r w) (place_of (own_proxies q r.number) w)) (sym e)
+      (no_less_same (place_at m r w)))
+      (λ s.
+      subst (λ (q : Part). NoLess (place_at m r w) (place_of (own_proxies q r.number) w)) (sym s.1)
+      (subst (λ (j : ℕ). NoLess (place_of (own_proxies (part_at m j) r.number) w)
+      (place_of (own_proxies after r.number) w)) (sym s.0) (g.places r.number w)))
+      (numbered-cases m.parts peer after r.peer no_part);
+}
+
+pub Holds-grows : (old new : Machine) → MachineGrows old new → (c : Claim) → Holds old c → Holds new c
+Holds-grows old new g (ChangeIs w r n c) h =
+    let later = writer-changes (writer_at old w) (writer_at new w) (g.writers w) in
+    ap (λ (xs : List Change). change_at xs n) later.1
+    ∙ change_at-append (writer_changes (writer_at old w)) later.0 n c h
+Holds-grows old new g (MayPass w r n) h =
+    ⊎_elim (λ d. inl (dropped-grows (writer_at old w) (writer_at new w) n (g.writers w) d))
+    (λ b. inr (below_on n (place_at old r w) (place_at new r w) b (g.places r w))) h
+Holds-grows old new g (PlaceReached w r base) h = at_most_on base (place_at old r w) (place_at new r w) h (g.places r w)
+Holds-grows old new g (Asserts w r count) h = assertion-grows (writer_at old w) (writer_at new w) count (g.writers w) h

@@ -1,0 +1,694 @@
+-- In every run, the changes that came at a reader are the first ones of the list of a writer that keeps all.
+use Rattle.std.proofs.Common.{◌≡◌, ℕ, zero, suc, ◌+◌, ◌≤◌, ◌==◌, ◌⊎◌, Bool, true, false, List, [], ◌∷◌, ◌++◌, refl, subst, ap, sym, ◌∙◌, inl, inr, ⊎_elim, arith, length, get_or, map, cond, eq-eqb, eqb-true, append_assoc, Option, Some, None}
+use Rattle.std.specs.Prelude.{ℤ, IsSome, is_some}
+use Rattle.std.specs.Option.{option_map}
+use Rattle.std.proofs.lemmas.Option.{same_Some}
+use Rattle.std.proofs.lemmas.List.{length-map}
+use Rattle.dds_base.specs.declared.change.Change.{Change}
+use Rattle.dds_base.specs.declared.code.Code.{Code}
+use Rattle.dds_base.specs.declared.code.Code.TheVariants as code
+use Rattle.dds_base.specs.declared.config.Config.{Config}
+use Rattle.dds_base.specs.declared.config.PeerConfig.{PeerConfig}
+use Rattle.dds_base.specs.declared.config.WriterConfig.{WriterConfig}
+use Rattle.dds_base.specs.declared.config.ReaderConfig.{ReaderConfig}
+use Rattle.dds_base.specs.declared.happening.Happening.{Happening}
+use Rattle.dds_base.specs.declared.happening.Happening.TheVariants.{Read as HasRead, Took, Heard as WasHeard, Died}
+use Rattle.dds_base.specs.declared.happening.SamplePosition.{SamplePosition}
+use Rattle.dds_base.specs.declared.selection.Selection.{Selection}
+use Rattle.dds_base.specs.declared.qos.HistoryQos.TheVariants.{KeepAll}
+use Rattle.dds_base.specs.Liveliness.{dead_at, with_deaths}
+use Rattle.dds_conditions.specs.declared.condition.Cond.{Cond}
+use Rattle.dds_conditions.specs.Watched.{Watched}
+use Rattle.dds_machine.specs.declared.call.Call.{Call}
+use Rattle.dds_machine.specs.declared.call.Call.TheVariants.{Register, Write, Dispose, Unregister, AssertLiveliness, Read, Take, GetKeyValue, LookupInstance, GetSampleLost, GetLivelinessChanged, GetLivelinessLost, ReadByCondition, TakeByCondition, CreateReadCondition, CreateQueryCondition, CreateGuardCondition, SetTriggerValue, DeleteCondition, GetTriggerValue, CreateWaitSet, DeleteWaitSet, AttachCondition, DetachCondition, GetConditions, WaitBegin, WaitLook, WaitEnd, SetEnabledStatuses, GetStatusChanges}
+use Rattle.dds_machine.specs.declared.endpoint.Endpoint.{Endpoint}
+use Rattle.dds_machine.specs.declared.event.WorldEvent.{WorldEvent}
+use Rattle.dds_machine.specs.declared.event.WorldEvent.TheVariants as world
+use Rattle.dds_machine.specs.declared.reply.Move.{Move}
+use Rattle.dds_machine.specs.declared.reply.Move.TheVariants.{Place, Acknowledged, Heard}
+use Rattle.dds_base.specs.declared.happening.PassedRun.{PassedRun}
+use Rattle.dds_machine.specs.declared.reply.Reply.{Reply}
+use Rattle.dds_machine.specs.declared.reply.Reply.TheVariants.{Done, Samples, KeyValue, Reported, Refused}
+use Rattle.dds_machine.specs.Numbered.{numbered, with_numbered, HasNumber}
+use Rattle.dds_machine.specs.Part.{same_endpoint, WriterProxy, Reader, Dds, Part, no_reader, no_part, own_writer, own_proxies, own_reader, at_reader, at_writer, row_of, place_of, with_place, with_heard, with_acknowledged, publication_among, writer_changes, nothing_seen, Seen}
+use Rattle.dds_machine.specs.Moves.{Grounds, as_to, match_of, IsMatchedAt, position_at, AreMoves, Places, Hears, DeliveryStep}
+use Rattle.dds_machine.specs.Ticks.{TickStep, reader_ticked}
+use Rattle.dds_machine.specs.Refusals.{writer_refusal, write_refusal, dispose_refusal, unregister_refusal}
+use Rattle.dds_machine.specs.Calls.{Effect, nothing, writes, effect, effect_of, after_look, seen_lost, seen_liveliness, with_happening, IsDoneUnless, AnswersAccess, AnswersByCondition, AnswersLook, IsAnswered, IsAnsweredWatching, IsAnsweredInMemory, Answers, CallStep}
+use Rattle.dds_machine.specs.Watching.{Test, Tests}
+use Rattle.dds_machine.specs.Machine.{Machine, AllTests, part_at, writer_at, place_at, grounds_of, Step}
+use Rattle.dds_protocol.specs.Runs.{Traffic, Run}
+use Rattle.dds_protocol.specs.InOrder.{came_from, CameInOrder, no_traffic}
+use Rattle.dds_protocol.proofs.Opened.{writers_in}
+use Rattle.dds_machine.specs.Opening.{matched_writers, reader_qos, opening_part, opening}
+use Rattle.dds_protocol.specs.Opening.{opening_peers}
+use Rattle.dds_protocol.specs.Peer.{Peer}
+use Rattle.dds_machine.proofs.Tables.{numbered-cases, numbered-map-cases, numbered-same, length-with_numbered, place-cases, place-hits, place-heard, same_is}
+use Rattle.dds_protocol.proofs.Growth.{CallStep-grows, TickStep-rows, TickStep-readers, TickStep-grows, DeliveryStep-grows, MachineGrows, with_part-grows, writer-changes}
+use Rattle.dds_protocol.proofs.RunLaws.{keeps_all, Step-policy}
+use Rattle.dds_machine.specs.Noticing.{machine_ended}
+use Rattle.dds_protocol.proofs.EndsBeside.{ended_alike, ended_policy, ended_writer}
+use Rattle.dds_protocol.proofs.InOrder.{same_self, publication_kept, publication_there, Along, along_as, RestsOn, goes_along, others_go, different}
+
+has_with : {X : Type 0} (xs : List X) (i : ℕ) (x : X) (j : ℕ) → HasNumber xs j → HasNumber (with_numbered xs i x) j
+has_with xs i x j h =
+    let e = length-with_numbered xs i x in let low = h.0 in let high = h.1 in
+    (omega (arith, low), omega (arith, e, high))
+
+numbered-other : {X : Type 0} (xs : List X) (i : ℕ) (x : X) (j : ℕ) (d : X) → (j ≡ i → ⊥)
+    → numbered (with_numbered xs i x) j d ≡ numbered xs j d
+numbered-other xs i x j d f = ⊎_elim (λ s. s) (λ o. absurd (f o.0)) (numbered-cases xs i x j d)
+
+-- what came at a peer's reader from a matched writer with these changes
+record Lane (changes : List Change) (part : Part) (w : Endpoint) (r : ℕ) : Type 0 where
+  rows : HasNumber part.rtps.readers r
+  own : HasNumber part.dds.readers r
+  publication : ℕ
+  place : ℕ
+  matched : IsMatchedAt part w r publication place
+  along : Along changes publication (position_at part r place)
+
+-- the reader has the same writers and places as before, and was entered what did not come
+lane_as : (changes : List Change) (old new : Part) (w : Endpoint) (r : ℕ) → (l : Lane changes old w r)
+    → HasNumber new.rtps.readers r → HasNumber new.dds.readers r
+    → publication_among (own_proxies new r) w ≡ publication_among (own_proxies old r) w
+    → place_of (own_proxies new r) w ≡ place_of (own_proxies old r) w
+    → came_from l.publication (own_reader new r).happened ≡ came_from l.publication (own_reader old r).happened
+    → Lane changes new w r
+lane_as changes old new w r l rows own handles places came = record {
+  rows = rows;
+  own = own;
+  publication = l.publication;
+  place = l.place;
+  matched = record { handle = handles ∙ l.matched.handle; at = places ∙ l.matched.at };
+  along =
+      along_as changes l.publication l.publication (position_at old r l.place)
+      (position_at new r l.place) l.along came refl;
+}
+
+-- a delivery
+
+moved_other : (changes : List Change) (old : Part) (w : Endpoint) (r k : ℕ) (rows : List WriterProxy)
+    (happened : List Happening) → (r ≡ k → ⊥) → Lane changes old w r → Lane changes (at_reader old k rows happened) w r
+moved_other changes old w r k rows happened f l =
+    let reader : Reader = record (own_reader old k) { happened = happened } in
+    let same : numbered (with_numbered old.rtps.readers k rows) r [] ≡ numbered old.rtps.readers r [] =
+    numbered-other old.rtps.readers k rows r [] f in
+    lane_as changes old (at_reader old k rows happened) w r l (has_with old.rtps.readers k rows r l.rows)
+    (has_with old.dds.readers k reader r l.own)
+    (ap (λ (x : List WriterProxy). publication_among x w) same) (ap (λ (x : List WriterProxy). place_of x w) same)
+    (ap (λ (x : Reader). came_from l.publication x.happened) (numbered-other old.dds.readers k reader r no_reader f))
+
+-- the reader itself has these rows now, and this happened there
+moved_here : (changes : List Change) (old : Part) (w : Endpoint) (r publication place : ℕ) (rows : List WriterProxy)
+    (happened : List Happening) → Lane changes old w r → publication_among rows w ≡ Some publication
+    → place_of rows w ≡ Some place → Along changes publication (record { place = place; happened = happened })
+    → Lane changes (at_reader old r rows happened) w r
+moved_here changes old w r publication place rows happened l handle at a =
+    let reader : Reader = record (own_reader old r) { happened = happened } in
+    let new = at_reader old r rows happened in
+    let proxies : own_proxies new r ≡ rows = numbered-same old.rtps.readers r rows [] l.rows in
+    let reads : (own_reader new r).happened ≡ happened =
+    ap (λ (x : Reader). x.happened) (numbered-same old.dds.readers r reader no_reader l.own) in
+    record {
+      rows = has_with old.rtps.readers r rows r l.rows;
+      own = has_with old.dds.readers r reader r l.own;
+      publication = publication;
+      place = place;
+      matched =
+          record {
+            handle = ap (λ (x : List WriterProxy). publication_among x w) proxies
+                ∙ handle;
+            at = ap (λ (x : List WriterProxy). place_of x w) proxies ∙ at;
+          };
+      along =
+          along_as changes publication publication (record { place = place; happened = happened })
+          (position_at new r place) a (ap (λ (x : List Happening). came_from publication x) reads) refl;
+    }
+
+same_writer : (changes : List Change) (g : Grounds) (old : Part) (w : Endpoint) (r to : ℕ) (passed : List PassedRun)
+    (new : Part) → RestsOn changes (as_to g w r) → Lane changes old w r → (h : Places g old w r to passed new)
+    → Lane changes (at_reader old r (with_place (own_proxies old r) w to) h.end.happened) w r
+same_writer changes g old w r to passed new f l h =
+    let rows = with_place (own_proxies old r) w to in
+    let same_handle : l.publication ≡ h.publication =
+    same_Some l.publication h.publication (sym l.matched.handle ∙ h.matched.handle) in
+    let same_place : l.place ≡ h.place = same_Some l.place h.place (sym l.matched.at ∙ h.matched.at) in
+    let begins : Along changes h.publication (position_at old r h.place) =
+    along_as changes l.publication h.publication (position_at old r l.place) (position_at old r h.place) l.along
+    (ap (λ (x : ℕ). came_from x (own_reader old r).happened) (sym same_handle)) (sym same_place) in
+    let end =
+    goes_along changes (as_to g w r) (match_of old r h.publication)
+    (position_at old r h.place) passed to h.end f h.goes begins in
+    moved_here changes old w r h.publication to rows h.end.happened l
+    (publication_kept (λ (p : WriterProxy). record p { place = to }) (λ p. refl) (own_proxies old r) w w
+    ∙ h.matched.handle) (place-hits (own_proxies old r) w h.place to h.matched.at)
+    (along_as changes h.publication h.publication h.end
+    (record { place = to; happened = h.end.happened }) end.0 refl (sym end.1))
+
+other_writer : (changes : List Change) (g : Grounds) (old : Part) (w v : Endpoint) (r to : ℕ) (passed : List PassedRun)
+    (new : Part) → (w ≡ v → ⊥) → Lane changes old w r → (h : Places g old v r to passed new)
+    → Lane changes (at_reader old r (with_place (own_proxies old r) v to) h.end.happened) w r
+other_writer changes g old w v r to passed new f l h =
+    let rows = with_place (own_proxies old r) v to in
+    let same : place_of rows w ≡ place_of (own_proxies old r) w =
+    ⊎_elim (λ s. s) (λ o. absurd (f o.0)) (place-cases (own_proxies old r) v h.place to w h.matched.at) in
+    let apart : h.publication ≡ l.publication → ⊥ =
+    different (own_proxies old r) v w h.publication l.publication h.matched.handle l.matched.handle (λ e. f (sym e))
+    in
+    moved_here changes old w r l.publication l.place rows h.end.happened l
+    (publication_kept (λ (p : WriterProxy). record p { place = to }) (λ p. refl) (own_proxies old r) v w
+    ∙ l.matched.handle) (same ∙ l.matched.at)
+    (along_as changes l.publication l.publication (position_at old r l.place)
+    (record { place = l.place; happened = h.end.happened }) l.along
+    (others_go l.publication (as_to g v r) (match_of old r h.publication)
+    (position_at old r h.place) passed to h.end apart h.goes) refl)
+
+either_writer : (changes : List Change) (g : Grounds) (old : Part) (w v : Endpoint) (r to : ℕ) (passed : List PassedRun)
+    (new : Part) (b : Bool) → same_endpoint v w ≡ b → RestsOn changes (as_to g w r) → Lane changes old w r
+    → (h : Places g old v r to passed new)
+    → Lane changes (at_reader old r (with_place (own_proxies old r) v to) h.end.happened) w r
+either_writer changes g old w v r to passed new true e f l h =
+    subst (λ (x : Endpoint). (k : Places g old x r to passed new)
+    → Lane changes (at_reader old r (with_place (own_proxies old r) x to) k.end.happened) w r) (sym (same_is v w e))
+    (λ k. same_writer changes g old w r to passed new f l k) h
+either_writer changes g old w v r to passed new false e f l h =
+    other_writer changes g old w v r to passed new
+    (λ q. let s = ap (λ (x : Endpoint). same_endpoint x w) q in let t = same_self w in cc) l h
+
+lane_here : (changes : List Change) (g : Grounds) (old : Part) (w v : Endpoint) (r to : ℕ) (passed : List PassedRun)
+    (new : Part) → RestsOn changes (as_to g w r) → Lane changes old w r → Places g old v r to passed new
+    → Lane changes new w r
+lane_here changes g old w v r to passed new f l h =
+    subst (λ (x : Part). Lane changes x w r) (sym h.after)
+    (either_writer changes g old w v r to passed new (same_endpoint v w) refl f l h)
+
+lane_place : (changes : List Change) (g : Grounds) (old : Part) (w v : Endpoint) (r k to : ℕ) (passed : List PassedRun)
+    (new : Part) (b : Bool) → (k == r) ≡ b → RestsOn changes (as_to g w r) → Lane changes old w r
+    → Places g old v k to passed new → Lane changes new w r
+lane_place changes g old w v r k to passed new true e f l h =
+    subst (λ (j : ℕ). Places g old v j to passed new → Lane changes new w r) (sym (eqb-true k r e))
+    (λ p. lane_here changes g old w v r to passed new f l p) h
+lane_place changes g old w v r k to passed new false e f l h =
+    subst (λ (x : Part). Lane changes x w r) (sym h.after)
+    (moved_other changes old w r k (with_place (own_proxies old k) v to) h.end.happened
+    (λ q. let s = eq-eqb k r (sym q) in cc) l)
+
+-- a hearing changes neither handles nor places, and nothing comes by it
+heard_here : (changes : List Change) (old : Part) (w v : Endpoint) (r publication : ℕ) (count : ℤ)
+    → Lane changes old w r
+    → Lane changes (at_reader old r (with_heard (own_proxies old r) v count)
+    (WasHeard publication old.dds.moment ∷ (own_reader old r).happened)) w r
+heard_here changes old w v r publication count l =
+    let rows = with_heard (own_proxies old r) v count in
+    let happened = WasHeard publication old.dds.moment ∷ (own_reader old r).happened in
+    moved_here changes old w r l.publication l.place rows happened l
+    (publication_kept (λ (p : WriterProxy). record p { heard = Some count }) (λ p. refl) (own_proxies old r) v w
+    ∙ l.matched.handle) (place-heard (own_proxies old r) v count w ∙ l.matched.at)
+    (along_as changes l.publication l.publication (position_at old r l.place)
+    (record { place = l.place; happened = happened }) l.along refl refl)
+
+lane_heard : (changes : List Change) (g : Grounds) (old : Part) (w v : Endpoint) (r k : ℕ) (new : Part) (b : Bool)
+    → (k == r) ≡ b → Lane changes old w r → Hears g old v k new → Lane changes new w r
+lane_heard changes g old w v r k new true e l h =
+    subst (λ (j : ℕ). Hears g old v j new → Lane changes new w r) (sym (eqb-true k r e))
+    (λ x. subst (λ (p : Part). Lane changes p w r) (sym x.after) (heard_here changes old w v r x.publication x.count l))
+    h
+lane_heard changes g old w v r k new false e l h =
+    subst (λ (x : Part). Lane changes x w r) (sym h.after)
+    (moved_other changes old w r k (with_heard (own_proxies old k) v h.count)
+    (WasHeard h.publication old.dds.moment ∷ (own_reader old k).happened) (λ q. let s = eq-eqb k r (sym q) in cc) l)
+
+lane_moves : (changes : List Change) (g : Grounds) (old : Part) (w : Endpoint) (r : ℕ) (ms : List Move) (new : Part)
+    → RestsOn changes (as_to g w r) → Lane changes old w r → AreMoves g old ms new → Lane changes new w r
+lane_moves changes g old w r [] new f l h = subst (λ (x : Part). Lane changes x w r) (sym h) l
+lane_moves changes g old w r (Place v k to passed ∷ ms) new f l h =
+    lane_moves changes g h.0 w r ms new f (lane_place changes g old w v r k to passed h.0 (k == r) refl f l h.1) h.2
+lane_moves changes g old w r (Acknowledged v k to ∷ ms) new f l h =
+    lane_moves changes g h.0 w r ms new f
+    (subst (λ (x : Part). Lane changes x w r) (sym h.1.after)
+    (lane_as changes old
+    (at_writer old v (record (own_writer old v) { readers = with_acknowledged (own_writer old v).readers k to })) w
+    r l l.rows l.own refl refl refl)) h.2
+lane_moves changes g old w r (Heard v k ∷ ms) new f l h =
+    lane_moves changes g h.0 w r ms new f (lane_heard changes g old w v r k h.0 (k == r) refl l h.1) h.2
+
+lane_delivery : (changes : List Change) (g : Grounds) (old : Part) (w : Endpoint) (r : ℕ) (reply : Reply) (new : Part)
+    → RestsOn changes (as_to g w r) → Lane changes old w r → DeliveryStep g old reply new → Lane changes new w r
+lane_delivery changes g old w r (Reported report) new f l h = lane_moves changes g old w r report.moves new f l h
+lane_delivery changes g old w r reply new f l h = absurd h
+
+-- a call
+
+-- the reader of this number has the same changes that came
+abbrev SameCame : Dds → Dds → ℕ → Type 0
+SameCame old new r =
+    HasNumber new.readers r × ((p : ℕ) → came_from p (numbered new.readers r no_reader).happened
+    ≡ came_from p (numbered old.readers r no_reader).happened)
+
+same_came : (old new : Dds) (r : ℕ) → HasNumber old.readers r → new ≡ old → SameCame old new r
+same_came old new r h e = (
+  subst (λ (d : Dds). HasNumber d.readers r)
+      (sym e) h,
+  λ p. ap (λ (d : Dds). came_from p (numbered d.readers r no_reader).happened) e,
+)
+
+-- the reader of number k has changed, but the same changes came at it
+changed_reader : (old : Part) (new : Dds) (k : ℕ) (reader : Reader) (r : ℕ) → HasNumber old.dds.readers r
+    → ((p : ℕ) → came_from p reader.happened ≡ came_from p (own_reader old k).happened)
+    → new ≡ record old.dds { readers = with_numbered old.dds.readers k reader } → SameCame old.dds new r
+changed_reader old new k reader r h same e = (
+  subst (λ (d : Dds). HasNumber d.readers r) (sym e) (has_with old.dds.readers k reader r h),
+  λ p.
+      ap (λ (d : Dds). came_from p (numbered d.readers r no_reader).happened) e
+      ∙ ⊎_elim (λ s. ap (λ (x : Reader). came_from p x.happened) s)
+      (λ o. ap (λ (x : Reader). came_from p x.happened) o.1
+      ∙ (same p ∙ ap (λ (j : ℕ). came_from p (own_reader old j).happened) (sym o.0)))
+      (numbered-cases old.dds.readers k reader r no_reader),
+)
+
+-- an access enters nothing that came
+abbrev EntersNothingThatCame : (List SamplePosition → Happening) → Type 0
+EntersNothingThatCame entry =
+    (samples : List SamplePosition) (p : ℕ) (h : List Happening) → came_from p (entry samples ∷ h) ≡ came_from p h
+
+entered : (entry : List SamplePosition → Happening) → EntersNothingThatCame entry
+    → (old : Part) (new : Dds) (k : ℕ) (samples : List SamplePosition) (r : ℕ) → HasNumber old.dds.readers r
+    → new ≡ with_happening old k (entry samples) → SameCame old.dds new r
+entered entry same old new k samples r h e =
+    changed_reader old new k (record (own_reader old k) { happened = entry samples ∷ (own_reader old k).happened }) r h
+    (λ p. same samples p (own_reader old k).happened) e
+
+looked : (old : Part) (new : Dds) (k : ℕ) (seen : Seen) (r : ℕ) → HasNumber old.dds.readers r
+    → new ≡ after_look old k seen → SameCame old.dds new r
+looked old new k seen r h e = changed_reader old new k (record (own_reader old k) { seen = seen }) r h (λ p. refl) e
+
+accessed : (entry : List SamplePosition → Happening) → EntersNothingThatCame entry
+    → (test : Test) (old : Part) (k : ℕ) (selection : Selection) (reply : Reply) (new : Dds) (r : ℕ)
+    → HasNumber old.dds.readers r → AnswersAccess entry test old k selection reply new → SameCame old.dds new r
+accessed entry same test old k selection (Samples samples) new r h a = entered entry same old new k _ r h a.3
+accessed entry same test old k selection (Refused code.NoData) new r h a = entered entry same old new k [] r h a.2
+accessed entry same test old k selection (Refused code) new r h a = same_came old.dds new r h a.1
+accessed entry same test old k selection reply new r h a = absurd a
+
+done_or_not : (refusal : Option Code) (reply : Reply) (old new : Dds) (r : ℕ) → HasNumber old.readers r
+    → IsDoneUnless refusal reply old old new → SameCame old new r
+done_or_not refusal Done old new r h a = same_came old new r h a.1
+done_or_not refusal (Refused code) old new r h a = same_came old new r h a.1
+done_or_not refusal reply old new r h a = absurd a
+
+-- what is watched is not what came
+watch_came : (old new : Dds) (after : Watched) (r : ℕ) → HasNumber old.readers r → new ≡ record old { watch = after }
+    → SameCame old new r
+watch_came old new after r h e = (
+  subst (λ (d : Dds). HasNumber d.readers r) (sym e) h,
+  λ p. ap (λ (d : Dds). came_from p (numbered d.readers r no_reader).happened) e,
+)
+
+answered_came : (refusal : Option Code) (answer : Reply) (after : Dds) (old : Part) (reply : Reply) (new : Dds) (r : ℕ)
+    → HasNumber old.dds.readers r → (new ≡ after → SameCame old.dds new r)
+    → IsAnswered refusal answer after old reply new → SameCame old.dds new r
+answered_came (Some code) answer after old reply new r h came a = same_came old.dds new r h a.1
+answered_came None answer after old reply new r h came a = came a.1
+
+watching_came : (refusal : Option Code) (answer : Reply) (after : Watched) (old : Part) (reply : Reply) (new : Dds)
+    (r : ℕ)
+    → HasNumber old.dds.readers r → IsAnsweredWatching refusal answer after old reply new → SameCame old.dds new r
+watching_came refusal answer after old reply new r h a =
+    answered_came refusal answer (record old.dds { watch = after }) old reply new r h
+    (watch_came old.dds new after r h) a
+
+in_memory_came : (needs : Bool) (refusal : Option Code) (answer : Reply) (after : Watched) (old : Part) (reply : Reply)
+    (new : Dds) (r : ℕ)
+    → HasNumber old.dds.readers r → IsAnsweredInMemory needs refusal answer after old reply new → SameCame old.dds new r
+in_memory_came needs refusal answer after old reply new r h (inl a) =
+    watching_came refusal answer after old reply new r h a
+in_memory_came needs refusal answer after old reply new r h (inr a) = same_came old.dds new r h a.3
+
+look_came : (active : List Cond) (timed_out : Bool) (old : Part) (wait_set : ℕ) (reply : Reply) (new : Dds) (r : ℕ)
+    → HasNumber old.dds.readers r → AnswersLook active timed_out old wait_set reply new → SameCame old.dds new r
+look_came [] true old wait_set reply new r h a = watching_came _ _ _ old reply new r h a
+look_came [] false old wait_set reply new r h a = watching_came _ _ _ old reply new r h a
+look_came (c ∷ cs) timed_out old wait_set reply new r h a = in_memory_came _ _ _ _ old reply new r h a
+
+by_condition : (entry : List SamplePosition → Happening) → EntersNothingThatCame entry
+    → (refusal : Option Code) (test : Test) (old : Part) (k : ℕ) (selection : Selection) (reply : Reply) (new : Dds)
+    (r : ℕ)
+    → HasNumber old.dds.readers r → AnswersByCondition entry refusal test old k selection reply new
+    → SameCame old.dds new r
+by_condition entry same (Some code) test old k selection reply new r h a = same_came old.dds new r h a.1
+by_condition entry same None test old k selection reply new r h a =
+    accessed entry same test old k selection reply new r h a
+
+answers_came : (tests : Tests) (old : Part) (c : Call) (reply : Reply) (new : Dds) (r : ℕ) → HasNumber old.dds.readers r
+    → Answers tests old c reply new → SameCame old.dds new r
+answers_came tests old (Register v key) reply new r h a = done_or_not (writer_refusal old v) reply old.dds new r h a
+answers_came tests old (Write v key value) reply new r h a =
+    done_or_not (write_refusal old v key value) reply old.dds new r h a
+answers_came tests old (Dispose v key) reply new r h a = done_or_not (dispose_refusal old v key) reply old.dds new r h a
+answers_came tests old (Unregister v key) reply new r h a =
+    done_or_not (unregister_refusal old v key) reply old.dds new r h a
+answers_came tests old (AssertLiveliness v) reply new r h a =
+    answered_came _ _ old.dds old reply new r h (same_came old.dds new r h) a
+answers_came tests old (Read v selection) reply new r h a =
+    accessed HasRead (λ samples p past. refl) _ old v selection reply new r h a
+answers_came tests old (Take v selection) reply new r h a =
+    accessed Took (λ samples p past. refl) _ old v selection reply new r h a
+answers_came tests old (GetKeyValue v instance) (KeyValue key) new r h a = same_came old.dds new r h a.2
+answers_came tests old (GetKeyValue v instance) (Refused code) new r h a = same_came old.dds new r h a.1
+answers_came tests old (GetKeyValue v instance) reply new r h a = absurd a
+answers_came tests old (LookupInstance v key) reply new r h a =
+    answered_came _ _ old.dds old reply new r h (same_came old.dds new r h) a
+answers_came tests old (GetSampleLost v) reply new r h a =
+    answered_came _ _ _ old reply new r h (looked old new v (seen_lost (own_reader old v)) r h) a
+answers_came tests old (GetLivelinessChanged v) reply new r h a =
+    answered_came _ _ _ old reply new r h (looked old new v (seen_liveliness (own_reader old v)) r h) a
+answers_came tests old (GetLivelinessLost v) reply new r h a =
+    answered_came _ _ old.dds old reply new r h (same_came old.dds new r h) a
+answers_came tests old (ReadByCondition v scope c) reply new r h a =
+    by_condition HasRead (λ samples p past. refl) _ _ old v _ reply new r h a
+answers_came tests old (TakeByCondition v scope c) reply new r h a =
+    by_condition Took (λ samples p past. refl) _ _ old v _ reply new r h a
+answers_came tests old (CreateReadCondition v masks) reply new r h a = in_memory_came _ _ _ _ old reply new r h a
+answers_came tests old (CreateQueryCondition v masks filter) reply new r h a =
+    in_memory_came _ _ _ _ old reply new r h a
+answers_came tests old CreateGuardCondition reply new r h a = in_memory_came _ _ _ _ old reply new r h a
+answers_came tests old (SetTriggerValue c value) reply new r h a = watching_came _ _ _ old reply new r h a
+answers_came tests old (DeleteCondition c) reply new r h a = watching_came _ _ _ old reply new r h a
+answers_came tests old (GetTriggerValue c) reply new r h a = watching_came _ _ _ old reply new r h a
+answers_came tests old CreateWaitSet reply new r h a = in_memory_came _ _ _ _ old reply new r h a
+answers_came tests old (DeleteWaitSet s) reply new r h a = watching_came _ _ _ old reply new r h a
+answers_came tests old (AttachCondition s c) reply new r h a = in_memory_came _ _ _ _ old reply new r h a
+answers_came tests old (DetachCondition s c) reply new r h a = watching_came _ _ _ old reply new r h a
+answers_came tests old (GetConditions s) reply new r h a = in_memory_came _ _ _ _ old reply new r h a
+answers_came tests old (WaitBegin s deadline) reply new r h a = watching_came _ _ _ old reply new r h a
+answers_came tests old (WaitLook s) reply new r h a = look_came _ _ old s reply new r h a
+answers_came tests old (WaitEnd s) reply new r h a = watching_came _ _ _ old reply new r h a
+answers_came tests old (SetEnabledStatuses e mask) reply new r h a = watching_came _ _ _ old reply new r h a
+answers_came tests old (GetStatusChanges e) reply new r h a = watching_came _ _ _ old reply new r h a
+
+effect_rows : (old : Part) (new : Part) (e : Effect) → new.rtps ≡ effect old.rtps e
+    → new.rtps.readers ≡ old.rtps.readers
+effect_rows old new nothing h = ap (λ x. x.readers) h
+effect_rows old new (writes v entry) h = ap (λ x. x.readers) h
+
+-- the rows of all readers are as before
+lane_same : (changes : List Change) (old new : Part) (w : Endpoint) (r : ℕ) → (l : Lane changes old w r)
+    → new.rtps.readers ≡ old.rtps.readers → HasNumber new.dds.readers r
+    → came_from l.publication (own_reader new r).happened ≡ came_from l.publication (own_reader old r).happened
+    → Lane changes new w r
+lane_same changes old new w r l rows own came =
+    lane_as changes old new w r l (subst (λ (x : List (List WriterProxy)). HasNumber x r) (sym rows) l.rows) own
+    (ap (λ (x : List (List WriterProxy)). publication_among (numbered x r []) w) rows)
+    (ap (λ (x : List (List WriterProxy)). place_of (numbered x r []) w) rows) came
+
+lane_call : (changes : List Change) (tests : Tests) (old : Part) (w : Endpoint) (r : ℕ) (c : Call) (reply : Reply)
+    (new : Part) → Lane changes old w r → CallStep tests old c reply new → Lane changes new w r
+lane_call changes tests old w r c reply new l h =
+    let rows : new.rtps.readers ≡ old.rtps.readers = effect_rows old new (effect_of old c reply) h.rtps in
+    let came = answers_came tests old c reply new.dds r l.own h.answers in
+    lane_same changes old new w r l rows came.0 (came.1 l.publication)
+
+-- a tick: by deaths nothing comes
+
+deaths_came : (now : ℕ) (ws : List ℕ) (h : List Happening) (p : ℕ) → came_from p (with_deaths now ws h) ≡ came_from p h
+deaths_came now [] h p = refl
+deaths_came now (w ∷ ws) h p = deaths_came now ws (Died w now ∷ h) p
+
+ticked_came : (now : ℕ) (rs : List Reader) (r p : ℕ)
+    → came_from p (numbered (map (reader_ticked now) rs) r no_reader).happened
+    ≡ came_from p (numbered rs r no_reader).happened
+ticked_came now rs r p =
+    let old : Reader = numbered rs r no_reader in
+    ⊎_elim (λ e. ap (λ (x : Reader). came_from p x.happened) e
+    ∙ deaths_came now (dead_at old.qos now old.happened) old.happened p)
+    (λ n. ap (λ (x : Reader). came_from p x.happened) (n.0 ∙ sym n.1))
+    (numbered-map-cases (reader_ticked now) rs r no_reader)
+
+tick_came : (old : Part) (now : ℕ) (reply : Reply) (new : Part) → TickStep old now reply new → (r p : ℕ)
+    → came_from p (own_reader new r).happened ≡ came_from p (own_reader old r).happened
+tick_came old now Done new h r p =
+    ap (λ (x : Part). came_from p (own_reader x r).happened) h.1 ∙ ticked_came now old.dds.readers r p
+tick_came old now (Refused code) new h r p = ap (λ (x : Part). came_from p (own_reader x r).happened) h.1
+tick_came old now reply new h r p = absurd h
+
+lane_tick : (changes : List Change) (old : Part) (w : Endpoint) (r now : ℕ) (reply : Reply) (new : Part)
+    → Lane changes old w r → TickStep old now reply new → Lane changes new w r
+lane_tick changes old w r now reply new l h =
+    let count : length new.dds.readers ≡ length old.dds.readers = TickStep-readers old now reply new h in
+    lane_same changes old new w r l (TickStep-rows old now reply new h)
+    (subst (λ (n : ℕ). (1 ≤ r) × (r ≤ n)) (sym count) l.own) (tick_came old now reply new h r l.publication)
+
+-- more changes are written
+lane_longer : (changes later : List Change) (part : Part) (w : Endpoint) (r : ℕ) → Lane changes part w r
+    → Lane (changes ++ later) part w r
+lane_longer changes later part w r l =
+    let came = came_from l.publication (own_reader part r).happened in
+    let a = l.along in
+    record {
+      rows = l.rows;
+      own = l.own;
+      publication = l.publication;
+      place = l.place;
+      matched = l.matched;
+      along =
+          record {
+            rest = a.rest ++ later;
+            first = ap (λ (xs : List Change). xs ++ later) a.first
+                ∙ append_assoc came a.rest later;
+            count = a.count;
+          };
+    }
+
+-- the machine
+
+record InOrder (m : Machine) (w r : Endpoint) : Type 0 where
+  all : (writer_at m w).policy ≡ KeepAll
+  lane : Lane (writer_changes (writer_at m w)) (part_at m r.peer) w r.number
+
+rests_on : (m : Machine) (peer : ℕ) (w : Endpoint) (r : ℕ) → (writer_at m w).policy ≡ KeepAll
+    → RestsOn (writer_changes (writer_at m w)) (as_to (grounds_of m peer) w r)
+rests_on m peer w r all = (λ n c h. h, λ n h. keeps_all (writer_at m w).policy m w n refl all h)
+
+-- one part has changed
+at_peer : (m : Machine) (peer : ℕ) (after : Part) (new : Machine) (w r : Endpoint)
+    → new ≡ record { parts = with_numbered m.parts peer after }
+    → MachineGrows m (record { parts = with_numbered m.parts peer after })
+    → (writer_at new w).policy ≡ (writer_at m w).policy
+    → ((k : ℕ) → Lane (writer_changes (writer_at m w)) (part_at m peer) w k
+    → Lane (writer_changes (writer_at m w)) after w k) → InOrder m w r → InOrder new w r
+at_peer m peer after new w r changed grows policy f o =
+    let with : Machine = record { parts = with_numbered m.parts peer after } in
+    let longer = writer-changes (writer_at m w) (writer_at with w) (grows.writers w) in
+    let written : writer_changes (writer_at new w) ≡ writer_changes (writer_at m w) ++ longer.0 =
+    ap (λ (x : Machine). writer_changes (writer_at x w)) changed ∙ longer.1 in
+    let lane : Lane (writer_changes (writer_at m w)) (part_at with r.peer) w r.number =
+    ⊎_elim (λ s. subst (λ (x : Part). Lane (writer_changes (writer_at m w)) x w r.number) (sym s) o.lane)
+    (λ h. subst (λ (x : Part). Lane (writer_changes (writer_at m w)) x w r.number) (sym h.1)
+    (f r.number (subst (λ (j : ℕ). Lane (writer_changes (writer_at m w)) (part_at m j) w r.number) h.0 o.lane)))
+    (numbered-cases m.parts peer after r.peer no_part) in
+    record {
+      all = policy ∙ o.all;
+      lane = subst (λ (xs : List Change). Lane xs (part_at new r.peer) w r.number) (sym written)
+          (subst (λ (x : Machine). Lane (writer_changes (writer_at m w) ++ longer.0) (part_at x r.peer) w r.number)
+          (sym changed) (lane_longer (writer_changes (writer_at m w)) longer.0
+          (part_at with r.peer) w r.number lane));
+    }
+
+step_in_order : (tests : AllTests) (sent : ℕ) (m : Machine) (ev : WorldEvent) (reply : Reply) (new : Machine)
+    (w r : Endpoint) → Step tests sent m ev reply new → InOrder m w r → InOrder new w r
+step_in_order tests sent m (world.Call peer c) reply new w r (inl h) o =
+    at_peer m peer h.after new w r h.changed
+    (with_part-grows m peer h.after (CallStep-grows (tests peer) (part_at m peer) c reply h.after h.step))
+    (Step-policy w tests sent m (world.Call peer c) reply new (inl h))
+    (λ k l. lane_call (writer_changes (writer_at m w)) (tests peer) (part_at m peer) w k c reply h.after l h.step) o
+step_in_order tests sent m (world.Call peer c) reply new w r (inr h) o =
+    subst (λ (x : Machine). InOrder x w r) (sym h.1.1) o
+step_in_order tests sent m (world.Tick peer now) reply new w r (inl h) o =
+    at_peer m peer h.after new w r h.changed
+    (with_part-grows m peer h.after (TickStep-grows (part_at m peer) now reply h.after h.step))
+    (Step-policy w tests sent m (world.Tick peer now) reply new (inl h))
+    (λ k l. lane_tick (writer_changes (writer_at m w)) (part_at m peer) w k now reply h.after l h.step) o
+step_in_order tests sent m (world.Tick peer now) reply new w r (inr h) o =
+    subst (λ (x : Machine). InOrder x w r) (sym h.1.1) o
+step_in_order tests sent m (world.Deliver peer packet) reply new w r (inl h) o =
+    at_peer m peer h.2.after new w r h.2.changed
+    (with_part-grows m peer h.2.after
+    (DeliveryStep-grows (grounds_of m peer) (part_at m peer) reply h.2.after h.2.step))
+    (Step-policy w tests sent m (world.Deliver peer packet) reply new (inl h))
+    (λ k l. lane_delivery (writer_changes (writer_at m w)) (grounds_of m peer) (part_at m peer) w k reply h.2.after
+    (rests_on m peer w k o.all) l h.2.step) o
+step_in_order tests sent m (world.Deliver peer packet) reply new w r (inr h) o =
+    subst (λ (x : Machine). InOrder x w r) (sym h.1.1) o
+
+-- the end of an event
+ended_in_order : (before : Machine) (e : WorldEvent) (m : Machine) (w r : Endpoint) → InOrder m w r
+    → InOrder (machine_ended before e m) w r
+ended_in_order before e m w r o =
+    let old : Part = part_at m r.peer in
+    let new : Part = part_at (machine_ended before e m) r.peer in
+    let alike = ended_alike before e m r.peer in
+    let rows : own_proxies new r.number ≡ own_proxies old r.number =
+    ap (λ (xs : List (List WriterProxy)). numbered xs r.number []) alike.rows in
+    record {
+      all = ended_policy before e m w ∙ o.all;
+      lane = subst (λ (changes : List Change). Lane changes new w r.number) (sym (ended_writer before e m w).changes)
+          (lane_as (writer_changes (writer_at m w)) old new w r.number o.lane
+          (subst (λ (xs : List (List WriterProxy)). HasNumber xs r.number) (sym alike.rows) o.lane.rows)
+          (subst (λ (n : ℕ). (1 ≤ r.number) × (r.number ≤ n)) (sym alike.readers) o.lane.own)
+          (ap (λ (xs : List WriterProxy). publication_among xs w) rows)
+          (ap (λ (xs : List WriterProxy). place_of xs w) rows)
+          (ap (λ (h : List Happening). came_from o.lane.publication h) (alike.happened r.number)));
+    }
+
+run_in_order : (config : Config) (tests : AllTests) (m after : Machine) (events : List WorldEvent)
+    (replies : List Reply) (sent last : Traffic) (w r : Endpoint) → Run config tests sent m events replies last after
+    → InOrder m w r → InOrder after w r
+run_in_order config tests m after [] [] sent last w r run o = subst (λ (x : Machine). InOrder x w r) (sym run.0) o
+run_in_order config tests m after (e ∷ es) (p ∷ ps) sent last w r run o =
+    run_in_order config tests (machine_ended m e run.0) after es ps run.1 last w r run.5
+    (ended_in_order m e run.0 w r (step_in_order tests (length sent.sent) m e p run.0 w r run.2 o))
+run_in_order config tests m after [] (p ∷ ps) sent last w r run o = absurd run
+run_in_order config tests m after (e ∷ es) [] sent last w r run o = absurd run
+
+-- the opening: a reader's place in a writer's list is 1 where they are matched, and nothing has happened
+
+abbrev FirstOrNone : List WriterProxy → Endpoint → Type 0
+FirstOrNone rows w = (place_of rows w ≡ None) ⊎ (place_of rows w ≡ Some 1)
+
+abbrev begun : ℕ → ℕ → WriterProxy
+begun peer n = record { writer = record { peer = peer; number = n }; place = 1; heard = None }
+
+first_or_none : (c : Bool) (peer n : ℕ) (rest : Option WriterProxy)
+    → (option_map (λ (p : WriterProxy). p.place) rest ≡ None)
+    ⊎ (option_map (λ (p : WriterProxy). p.place) rest ≡ Some 1)
+    → (option_map (λ (p : WriterProxy). p.place) (cond c (Some (begun peer n)) rest) ≡ None)
+    ⊎ (option_map (λ (p : WriterProxy). p.place) (cond c (Some (begun peer n)) rest) ≡ Some 1)
+first_or_none true peer n rest h = inr refl
+first_or_none false peer n rest h = h
+
+row_or_none : (b : Bool) (peer n : ℕ) (rows : List WriterProxy) (w : Endpoint) → FirstOrNone rows w
+    → FirstOrNone (cond b (begun peer n ∷ rows) rows) w
+row_or_none true peer n rows w h =
+    first_or_none (same_endpoint (record { peer = peer; number = n }) w) peer n
+    (row_of (λ (p : WriterProxy). p.writer) rows w) h
+row_or_none false peer n rows w h = h
+
+rows_append : (b : Bool) (peer n : ℕ) (rows ys : List WriterProxy)
+    → cond b (begun peer n ∷ rows) rows ++ ys ≡ cond b (begun peer n ∷ (rows ++ ys)) (rows ++ ys)
+rows_append true peer n rows ys = refl
+rows_append false peer n rows ys = refl
+
+writers_first : (topic peer n : ℕ) (ws : List WriterConfig) (ys : List WriterProxy) (w : Endpoint) → FirstOrNone ys w
+    → FirstOrNone (writers_in topic peer n ws ++ ys) w
+writers_first topic peer n [] ys w h = h
+writers_first topic peer n (x ∷ ws) ys w h =
+    subst (λ (rows : List WriterProxy). FirstOrNone rows w)
+    (sym (rows_append (x.topic == topic) peer n (writers_in topic peer (n + 1) ws) ys))
+    (row_or_none (x.topic == topic) peer n (writers_in topic peer (n + 1) ws ++ ys) w
+    (writers_first topic peer (n + 1) ws ys w h))
+
+matched_first : (topic peer : ℕ) (ps : List PeerConfig) (w : Endpoint) → FirstOrNone (matched_writers topic peer ps) w
+matched_first topic peer [] w = inl refl
+matched_first topic peer (p ∷ ps) w =
+    writers_first topic peer 1 p.writers (matched_writers topic (peer + 1) ps) w (matched_first topic (peer + 1) ps w)
+
+own_first : (peers : List PeerConfig) (rs : List ReaderConfig) (k : ℕ) (w : Endpoint)
+    → FirstOrNone (get_or (map (λ (r : ReaderConfig). matched_writers r.topic 1 peers) rs) k []) w
+own_first peers [] k w = inl refl
+own_first peers (r ∷ rs) zero w = matched_first r.topic 1 peers w
+own_first peers (r ∷ rs) (suc k) w = own_first peers rs k w
+
+own_quiet : (peers : List PeerConfig) (rs : List ReaderConfig) (k : ℕ)
+    → (get_or (map (λ (r : ReaderConfig). record { qos = reader_qos peers r; happened = []; seen = nothing_seen }) rs) k
+    no_reader).happened ≡ []
+own_quiet peers [] k = refl
+own_quiet peers (r ∷ rs) zero = refl
+own_quiet peers (r ∷ rs) (suc k) = own_quiet peers rs k
+
+-- what a peer's reader is at the opening
+record Begins (part : Part) (k : ℕ) (w : Endpoint) : Type 0 where
+  first : FirstOrNone (own_proxies part (suc k)) w
+  quiet : (own_reader part (suc k)).happened ≡ []
+  alike : length part.dds.readers ≡ length part.rtps.readers
+
+begins_part : (peers : List PeerConfig) (p : PeerConfig) (k : ℕ) (w : Endpoint) → Begins (opening_part peers p) k w
+begins_part peers p k w = record {
+  first = own_first peers p.readers k w;
+  quiet = own_quiet peers p.readers k;
+  alike =
+      length-map p.readers
+      (λ (r : ReaderConfig). record { qos = reader_qos peers r; happened = []; seen = nothing_seen })
+      ∙ sym (length-map p.readers (λ (r : ReaderConfig). matched_writers r.topic 1 peers));
+}
+
+begins : (peers : List PeerConfig) (n : ℕ) (ps : List PeerConfig) (i k : ℕ) (w : Endpoint)
+    → Begins (get_or (map (λ (p : Peer). p.part) (opening_peers peers n ps)) i no_part) k w
+begins peers n [] i k w = record { first = inl refl; quiet = refl; alike = refl }
+begins peers n (p ∷ ps) zero k w = begins_part peers p k w
+begins peers n (p ∷ ps) (suc i) k w = begins peers (n + 1) ps i k w
+
+within : (rows : List (List WriterProxy)) (k : ℕ) (w : Endpoint) (place : ℕ)
+    → place_of (get_or rows k []) w ≡ Some place → k + 1 ≤ length rows
+within [] k w place h = cc
+within (row ∷ rows) zero w place h = omega arith
+within (row ∷ rows) (suc k) w place h = let e = within rows k w place h in omega (arith, e)
+
+is_first : (o : Option ℕ) → IsSome o → (o ≡ None) ⊎ (o ≡ Some 1) → o ≡ Some 1
+is_first o h (inl e) = let no = ap (λ (x : Option ℕ). is_some x) e in cc
+is_first o h (inr e) = e
+
+begins_in_order : (changes : List Change) (part : Part) (w : Endpoint) (k : ℕ)
+    → IsSome (place_of (own_proxies part (suc k)) w) → Begins part k w → Lane changes part w (suc k)
+begins_in_order changes part w k placed b =
+    let alike = b.alike in
+    let one : place_of (own_proxies part (suc k)) w ≡ Some 1 =
+    is_first (place_of (own_proxies part (suc k)) w) placed b.first in
+    let inside = within part.rtps.readers k w 1 one in
+    let handle = publication_there 1 1 (own_proxies part (suc k)) w one in
+    let came : came_from handle.0 (own_reader part (suc k)).happened ≡ [] =
+    ap (λ (xs : List Happening). came_from handle.0 xs) b.quiet in
+    let none = ap (λ (xs : List Change). length xs) came in
+    record {
+      rows = (omega arith, omega (arith, inside));
+      own = (omega arith, omega (arith, inside, alike));
+      publication = handle.0;
+      place = 1;
+      matched = record { handle = handle.1; at = one };
+      along =
+          record {
+            rest = changes;
+            first = ap (λ (xs : List Change). xs ++ changes)
+                (sym came);
+            count = omega (arith, none);
+          };
+    }
+
+lane_begins : (config : Config) (w : Endpoint) (changes : List Change) (peer number : ℕ)
+    → IsSome (place_of (own_proxies (part_at (opening config) peer) number) w)
+    → Lane changes (part_at (opening config) peer) w number
+lane_begins config w changes zero zero h = cc
+lane_begins config w changes zero (suc k) h = cc
+lane_begins config w changes (suc i) zero h = cc
+lane_begins config w changes (suc i) (suc k) h =
+    begins_in_order changes (part_at (opening config) (suc i)) w k h (begins config.peers 1 config.peers i k w)
+
+pub changes_come_in_order : (config : Config) (tests : AllTests) (w r : Endpoint) (events : List WorldEvent)
+    (replies : List Reply) (last : Traffic) (after : Machine) → (writer_at (opening config) w).policy ≡ KeepAll
+    → IsSome (place_at (opening config) r w) → Run config tests no_traffic (opening config) events replies last after
+    → CameInOrder after w r
+changes_come_in_order config tests w r events replies last after all placed run =
+    let lane = lane_begins config w (writer_changes (writer_at (opening config) w)) r.peer r.number placed in
+    let o =
+    run_in_order config tests (opening config) after events replies no_traffic last w r run
+    (record { all = all; lane = lane }) in
+    let l = o.lane in
+    record {
+      publication = l.publication;
+      matched = l.matched.handle;
+      came = came_from l.publication (own_reader (part_at after r.peer) r.number).happened;
+      came_at = refl;
+      rest = l.along.rest;
+      first = l.along.first;
+      place = l.matched.at ∙ ap (λ (n : ℕ). Some n) (sym l.along.count);
+    }

@@ -1,0 +1,65 @@
+pub mod Growth
+pub mod Composed
+pub mod RunLaws
+pub mod InOrder
+pub mod InOrderRuns
+pub mod Opened
+pub mod OpenedPeers
+pub mod Bounded
+mod WorkedReceivers
+mod WorkedExamples
+mod WorkedPackets
+mod WorkedMoves
+mod WorkedPeers
+mod WorkedReceipt
+mod WorkedTicks
+pub mod OwnGuids
+pub mod Knowing
+pub mod Framing
+pub mod Ruled
+pub mod RuledReaders
+pub mod RuledTurns
+pub mod RuledWriters
+pub mod RuledPackets
+pub mod Dues
+pub mod DuesGrowth
+pub mod DuesAcknacks
+pub mod DuesUnkept
+pub mod DuesMatched
+pub mod DuesHeartbeats
+pub mod DuesAssertions
+pub mod DuesAnswers
+pub mod DuesTurns
+pub mod DuesPackets
+pub mod DuesWritable
+pub mod DuesWritten
+pub mod DuesParts
+pub mod Learning
+pub mod CountsWritten
+pub mod Turns
+pub mod CountsTaken
+pub mod CountsOpened
+pub mod FreshCounts
+pub mod CaughtUp
+pub mod PairTurns
+pub mod PairPackets
+pub mod PairAsked
+pub mod PairReader
+pub mod PairMessages
+pub mod PairTicked
+pub mod PairHeard
+pub mod PairAnswered
+pub mod PairBegun
+pub mod PairFew
+pub mod PairCaughtUp
+pub mod PairBeats
+pub mod PairAsks
+pub mod PairNamed
+pub mod PairFound
+pub mod Compared
+pub mod FiltersKept
+pub mod AtEnds
+pub mod Alike
+pub mod SameBeside
+pub mod EndsBeside
+pub mod PairEnded

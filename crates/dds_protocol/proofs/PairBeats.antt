@@ -1,0 +1,193 @@
+-- A tick sends a HEARTBEAT to the peer of each reader that is behind.
+use Rattle.std.proofs.Common.{◌≡◌, ℕ, zero, suc, ◌+◌, ◌-◌, ◌^◌, ◌<◌, ◌≤◌, ◌==◌, ◌||◌, Bool, true, false, cond, nat_lt, nat_le, List, [], ◌∷◌, Some, None, Contains, length, map, filter, get_or}
+use Rattle.std.proofs.Common.{refl, subst, ap, sym, arith, eqb-true}
+use Rattle.std.specs.Prelude.{if◌then◌else◌}
+use Rattle.std.specs.List.{list_any}
+use Rattle.std.specs.Option.{option_map}
+use Rattle.std.proofs.lemmas.Bool.Decides.{nat_tests}
+use Rattle.std.proofs.lemmas.List.Elements.{Contains-append_left, Contains-append_right}
+use Rattle.std.proofs.lemmas.Option.{same_Some}
+use Rattle.dds_base.specs.declared.config.Config.{Config}
+use Rattle.dds_base.specs.Checked.{check_refusal}
+use Rattle.rtps_wire.specs.declared.submessage.Submessage.TheVariants.{Heartbeat}
+use Rattle.rtps_wire.specs.Messages.{IsWritable}
+use Rattle.dds_machine.specs.declared.endpoint.Endpoint.{Endpoint}
+use Rattle.dds_protocol.specs.declared.event.Packet.{Packet}
+use Rattle.dds_machine.specs.declared.event.WorldEvent.TheVariants as world
+use Rattle.dds_machine.specs.declared.reply.Reply.TheVariants.{Done}
+use Rattle.dds_machine.specs.Numbered.{HasNumber}
+use Rattle.dds_machine.specs.Part.{Part, ReaderProxy, Writer, no_writer, same_endpoint, row_of, own_writer, acknowledged_of, peers_of, writer_changes, heartbeats_used}
+use Rattle.dds_protocol.specs.Receipt.{prefix_of}
+use Rattle.dds_protocol.specs.Dues.{IsPartOf}
+use Rattle.dds_machine.specs.Machine.{AllTests, writer_at}
+use Rattle.dds_protocol.specs.DueMessages.{Due, readers_behind, heartbeats_of, heartbeats_from, heartbeats_due}
+use Rattle.dds_protocol.specs.World.{WorldState, peer_at, machine_of}
+use Rattle.dds_protocol.specs.Fresh.{HasUsedCounts, heartbeats_used_at}
+use Rattle.dds_protocol.specs.Repair.{HasBeatTo}
+use Rattle.dds_protocol.specs.Rules.{RuledStep}
+use Rattle.dds_protocol.proofs.Composed.{later_in, parts_at}
+use Rattle.dds_protocol.proofs.CountsWritten.{contains_map}
+use Rattle.dds_protocol.proofs.Dues.{addressed, stands_in}
+use Rattle.dds_protocol.proofs.DuesHeartbeats.{heartbeat_due}
+use Rattle.dds_protocol.proofs.DuesMatched.{own_name}
+use Rattle.dds_protocol.proofs.PairAnswered.{post, all_sent, due_writable}
+use Rattle.dds_protocol.proofs.PairAsked.{has_writer}
+use Rattle.dds_protocol.proofs.PairTicked.{beat_of, beat_message, ticks_there}
+use Rattle.dds_machine.proofs.Tables.{same_is}
+
+-- ---- the peers of these readers
+
+any_is : (x : ℕ) (xs : List ℕ) → list_any (λ y. y == x) xs ≡ true → Contains xs x
+any_is x [] h = cc
+any_is x (y ∷ ys) h = by (y == x) refl h (λ later. any_is x ys later)
+  where
+    by : (b : Bool) → (y == x) ≡ b → (b || list_any (λ z. z == x) ys) ≡ true
+        → (list_any (λ z. z == x) ys ≡ true → Contains ys x) → Contains (y ∷ ys) x
+    by true e k later = (0, omega arith, eqb-true y x e)
+    by false e k later = later_in y ys x (later k)
+
+-- the peer of the first row is among them, and so are those of the others
+peer_first : (x : ℕ) (xs : List ℕ) (b : Bool) → list_any (λ y. y == x) xs ≡ b → Contains (if b then xs else x ∷ xs) x
+peer_first x xs true e = any_is x xs e
+peer_first x xs false e = (0, omega arith, refl)
+
+peer_later : (x y : ℕ) (xs : List ℕ) (b : Bool) → Contains xs y → Contains (if b then xs else x ∷ xs) y
+peer_later x y xs true h = h
+peer_later x y xs false h = later_in x xs y h
+
+-- a reader that is behind is among those that are
+behind_peer : (n : ℕ) (rows : List ReaderProxy) (r : Endpoint) (a : ℕ) → acknowledged_of rows r ≡ Some a → a ≤ n
+    → Contains (peers_of (filter (λ (p : ReaderProxy). nat_le p.acknowledged n) rows)) r.peer
+behind_peer n [] r a h low = cc
+behind_peer n (p ∷ ps) r a h low = by (same_endpoint p.reader r) refl h (λ k. behind_peer n ps r a k low)
+  where
+    rest : List ReaderProxy
+    rest = filter (λ (q : ReaderProxy). nat_le q.acknowledged n) ps
+
+    kept : (t : Bool) → Contains (peers_of rest) r.peer → Contains (peers_of (cond t (p ∷ rest) rest)) r.peer
+    kept true k = peer_later p.reader.peer r.peer (peers_of rest) (list_any (λ y. y == p.reader.peer) (peers_of rest)) k
+    kept false k = k
+
+    here : p.reader ≡ r → (t : Bool) → t ≡ true → Contains (peers_of (cond t (p ∷ rest) rest)) r.peer
+    here e true is =
+        subst (λ (x : Endpoint). Contains (peers_of (p ∷ rest)) x.peer) e
+        (peer_first p.reader.peer (peers_of rest) (list_any (λ y. y == p.reader.peer) (peers_of rest)) refl)
+    here e false is = cc
+
+    by : (b : Bool) → same_endpoint p.reader r ≡ b
+        → option_map (λ (q : ReaderProxy). q.acknowledged)
+        (cond b (Some p) (row_of (λ (q : ReaderProxy). q.reader) ps r)) ≡ Some a
+        → (acknowledged_of ps r ≡ Some a → Contains (peers_of rest) r.peer)
+        → Contains (peers_of (cond (nat_le p.acknowledged n) (p ∷ rest) rest)) r.peer
+    by true e k later =
+        let is = same_Some p.acknowledged a k in
+        let small : nat_le p.acknowledged n ≡ true = grind (arith, nat_tests, is, low) in
+        here (same_is p.reader r e) (nat_le p.acknowledged n) small
+    by false e k later = kept (nat_le p.acknowledged n) (later k)
+
+-- ---- what is due
+
+due_of : (config : Config) (peer : ℕ) (part : Part) (number to : ℕ)
+    → heartbeats_used (own_writer part number) < 2 ^ 31 - 1
+    → Contains (peers_of (readers_behind (own_writer part number))) to
+    → Contains (heartbeats_of config peer number (own_writer part number)) (heartbeat_due config peer part number to)
+due_of config peer part number to low among = by (nat_lt (heartbeats_used (own_writer part number)) (2 ^ 31 - 1)) left
+  where
+    left : nat_lt (heartbeats_used (own_writer part number)) (2 ^ 31 - 1) ≡ true
+    left = grind (arith, nat_tests)
+
+    by : (b : Bool) → b ≡ true
+        → Contains (if b then map (heartbeat_due config peer part number)
+        (peers_of (readers_behind (own_writer part number))) else []) (heartbeat_due config peer part number to)
+    by true e =
+        contains_map (heartbeat_due config peer part number)
+        (peers_of (readers_behind (own_writer part number))) to among
+    by false e = cc
+
+among_all : (config : Config) (peer number : ℕ) (ws : List Writer) (k : ℕ) (d : Due) → k < length ws
+    → Contains (heartbeats_of config peer (number + k) (get_or ws k no_writer)) d
+    → Contains (heartbeats_from config peer number ws) d
+among_all config peer number [] k d lt h = absurd (omega (arith, lt))
+among_all config peer number (w ∷ ws) zero d lt h =
+    let here : number + 0 ≡ number = omega arith in
+    Contains-append_left (heartbeats_of config peer number w) (heartbeats_from config peer (number + 1) ws) d
+    (subst (λ (n : ℕ). Contains (heartbeats_of config peer n w) d) here h)
+among_all config peer number (w ∷ ws) (suc k) d lt h =
+    let over : number + suc k ≡ number + 1 + k = omega arith in
+    Contains-append_right (heartbeats_of config peer number w) (heartbeats_from config peer (number + 1) ws) d
+    (among_all config peer (number + 1) ws k d (omega (arith, lt))
+    (subst (λ (n : ℕ). Contains (heartbeats_of config peer n (get_or ws k no_writer)) d) over h))
+
+among_dues : (config : Config) (peer : ℕ) (part : Part) (number : ℕ) (d : Due) → HasNumber part.rtps.writers number
+    → Contains (heartbeats_of config peer number (own_writer part number)) d
+    → Contains (heartbeats_due config peer part) d
+among_dues config peer part zero d has h = let low = has.0 in absurd (omega (arith, low))
+among_dues config peer part (suc i) d has h =
+    let high = has.1 in
+    let number : suc i ≡ 1 + i = omega arith in
+    among_all config peer 1 part.rtps.writers i d (omega (arith, high))
+    (subst (λ (n : ℕ). Contains (heartbeats_of config peer n (get_or part.rtps.writers i no_writer)) d) number h)
+
+-- ---- what is sent
+
+pub beats_are_sent : (config : Config) (tests : AllTests) (writer reader : Endpoint) (acknowledged now : ℕ)
+    (old new : WorldState) → check_refusal config.peers ≡ None → HasUsedCounts config old
+    → acknowledged_of (writer_at (machine_of old) writer).readers reader ≡ Some acknowledged
+    → acknowledged ≤ length (writer_changes (writer_at (machine_of old) writer))
+    → heartbeats_used_at old writer < 2 ^ 31 - 1
+    → (step : RuledStep config tests old (world.Tick writer.peer now) Done 0 new)
+    → HasBeatTo config writer reader.peer step.packets
+beats_are_sent config tests writer reader acknowledged now old new checked used row behind left step = record {
+  packet = post due;
+  among =
+      subst (λ (ps : List Packet). Contains ps (post due)) (sym (all_sent step.dues step.packets 0 refl step.are_sent))
+      (contains_map post step.dues due is_due);
+  to = refl;
+  count = (beat_of config writer.peer part writer.number).count;
+  has = record {
+    own = prefix_of config reader.peer;
+    at = addressed (prefix_of config writer.peer) (prefix_of config reader.peer);
+    heartbeat = beat_of config writer.peer part writer.number;
+    there =
+        stands_in (beat_message config writer.peer part writer.number reader.peer) (prefix_of config reader.peer) 1
+        (addressed (prefix_of config writer.peer) (prefix_of config reader.peer))
+        (Heartbeat (beat_of config writer.peer part writer.number)) writable (refl, refl);
+    from = (own_name config writer.peer part of writer.number here).name;
+    same_count = refl;
+  };
+}
+  where
+    part : Part
+    part = (peer_at old writer.peer).part
+
+    same : writer_at (machine_of old) writer ≡ own_writer part writer.number
+    same = ap (λ (p : Part). own_writer p writer.number) (parts_at old writer.peer)
+
+    row' : acknowledged_of (own_writer part writer.number).readers reader ≡ Some acknowledged
+    row' = subst (λ (w : Writer). acknowledged_of w.readers reader ≡ Some acknowledged) same row
+
+    behind' : acknowledged ≤ length (writer_changes (own_writer part writer.number))
+    behind' = subst (λ (w : Writer). acknowledged ≤ length (writer_changes w)) same behind
+
+    left' : heartbeats_used (own_writer part writer.number) < 2 ^ 31 - 1
+    left' = subst (λ (w : Writer). heartbeats_used w < 2 ^ 31 - 1) same left
+
+    of : IsPartOf config writer.peer part
+    of = used.of_config writer.peer (ticks_there config tests old writer.peer now new step.step)
+
+    here : HasNumber part.rtps.writers writer.number
+    here = has_writer part writer.number reader (acknowledged, row')
+
+    due : Due
+    due = heartbeat_due config writer.peer part writer.number reader.peer
+
+    is_due : Contains step.dues due
+    is_due =
+        subst (λ (ds : List Due). Contains ds due) (sym step.due)
+        (among_dues config writer.peer part writer.number due here
+        (due_of config writer.peer part writer.number reader.peer left'
+        (behind_peer (length (writer_changes (own_writer part writer.number)))
+        (own_writer part writer.number).readers reader acknowledged row' behind')))
+
+    writable : IsWritable due.message
+    writable = due_writable step.dues step.packets 0 due refl step.are_sent is_due

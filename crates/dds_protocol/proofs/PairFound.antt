@@ -1,0 +1,184 @@
+-- The HEARTBEAT and the ACKNACK of a round, as they are looked for among the packets that were sent.
+use Rattle.std.proofs.Common.{◌≡◌, ℕ, zero, suc, ℤ, List, [], ◌∷◌, Option, Some, None, Contains}
+use Rattle.std.proofs.Common.{refl, subst, ap, sym, ◌∙◌, ⊎_elim, arith}
+use Rattle.std.specs.List.{All}
+use Rattle.std.proofs.lemmas.List.Elements.{All-contains}
+use Rattle.dds_base.specs.declared.config.Config.{Config}
+use Rattle.dds_base.specs.declared.config.WriterConfig.{WriterConfig}
+use Rattle.dds_base.specs.declared.guid.EntityId.{EntityId}
+use Rattle.dds_base.specs.declared.guid.GuidPrefix.{GuidPrefix}
+use Rattle.rtps_reader.specs.declared.step.AckNackDue.{AckNackDue}
+use Rattle.rtps_wire.specs.declared.message.Message.{Message}
+use Rattle.rtps_wire.specs.declared.seek.Sought.{Sought}
+use Rattle.rtps_wire.specs.declared.seek.Sought.TheVariants as sought
+use Rattle.rtps_wire.specs.declared.submessage.Submessage.{Submessage}
+use Rattle.rtps_wire.specs.declared.submessage.Submessage.TheVariants.{Heartbeat}
+use Rattle.rtps_wire.specs.Messages.{IsWritable, spelling_of}
+use Rattle.rtps_wire.specs.Sought.{HasSought, Has}
+use Rattle.dds_machine.specs.declared.endpoint.Endpoint.{Endpoint}
+use Rattle.dds_protocol.specs.declared.event.Packet.{Packet}
+use Rattle.dds_machine.specs.declared.event.WorldEvent.TheVariants as world
+use Rattle.dds_machine.specs.declared.reply.Reply.TheVariants.{Done, Reported}
+use Rattle.dds_machine.specs.Part.{Part}
+use Rattle.dds_protocol.specs.Claims.{Receiver, receiver_of, after_submessage, StandsAt, IsWriter}
+use Rattle.dds_protocol.specs.Receipt.{prefix_of}
+use Rattle.dds_protocol.specs.Dues.{IsPartOf}
+use Rattle.dds_machine.specs.Machine.{AllTests}
+use Rattle.dds_machine.specs.Numbered.{HasNumber}
+use Rattle.dds_protocol.specs.DueMessages.{Due, writer_entity, heartbeats_due, acknacks_due}
+use Rattle.dds_protocol.specs.World.{WorldState, peer_at}
+use Rattle.dds_protocol.specs.Backed.{reader_at}
+use Rattle.dds_protocol.specs.Fresh.{HasHeartbeat, HasAckNack}
+use Rattle.dds_protocol.specs.Rules.{RuledStep}
+use Rattle.dds_protocol.proofs.Composed.{is_alone, later_in}
+use Rattle.dds_protocol.proofs.CountsWritten.{one_sought}
+use Rattle.dds_protocol.proofs.Dues.{addressed, read_again, stands_in}
+use Rattle.dds_protocol.proofs.DuesHeartbeats.{of_all}
+use Rattle.dds_protocol.proofs.DuesMatched.{own_name, same_end}
+use Rattle.dds_protocol.proofs.FreshCounts.{IsWrittenOf, sent_written}
+use Rattle.dds_protocol.proofs.OwnGuids.{one_reader}
+use Rattle.dds_protocol.proofs.PairAsks.{ask_due, is_ask}
+use Rattle.dds_protocol.proofs.PairBegun.{noted_tick, Begun, pairing, body, hears, packet}
+use Rattle.dds_protocol.proofs.PairHeard.{writer_prefix, reader_prefix, reader_host}
+use Rattle.dds_protocol.proofs.PairTicked.{beat_of, beat_message}
+use Rattle.dds_protocol.proofs.PairTurns.{OfOther}
+
+-- what is looked for in a written message is among its submessages
+sought_again : (wanted : Sought) (message : Message) → IsWritable message → Has (spelling_of message) wanted
+    → HasSought wanted message.submessages
+sought_again wanted message writable h =
+    subst (λ (m : Message). HasSought wanted m.submessages)
+    (read_again message h.message h.offset writable h.is_read) h.has
+
+-- ---- the HEARTBEAT
+
+-- a message in which a HEARTBEAT of this writer is looked for has one of it
+record IsFoundBeat (config : Config) (writer : Endpoint) (due : Due) : Type 0 where
+  found : IsWritable due.message
+      → HasSought (sought.Heartbeat (writer_entity config writer.peer writer.number)) due.message.submessages
+      → (count : ℤ) × HasHeartbeat config (spelling_of due.message) writer count
+
+beats_found : (config : Config) (part : Part) (writer : Endpoint) → IsPartOf config writer.peer part
+    → HasNumber part.rtps.writers writer.number
+    → All (IsFoundBeat config writer) (heartbeats_due config writer.peer part)
+beats_found config part writer of here =
+    of_all config writer.peer part (IsFoundBeat config writer)
+    (λ number to there left behind. record {
+      found = λ writable has.
+          let same : writer_entity config writer.peer number ≡ writer_entity config writer.peer writer.number =
+          one_sought (sought.Heartbeat (writer_entity config writer.peer writer.number)) (prefix_of config to)
+          (Heartbeat (beat_of config writer.peer part number)) (λ none. none) has in (
+            (beat_of config writer.peer part number).count,
+            record {
+              own = prefix_of config to;
+              at = addressed (prefix_of config writer.peer) (prefix_of config to);
+              heartbeat = beat_of config writer.peer part number;
+              there =
+                  stands_in (beat_message config writer.peer part number to) (prefix_of config to) 1
+                  (addressed (prefix_of config writer.peer) (prefix_of config to))
+                  (Heartbeat (beat_of config writer.peer part number)) writable (refl, refl);
+              from =
+                  subst (λ (i : EntityId). IsWriter config (prefix_of config writer.peer) i writer) (sym same)
+                  (own_name config writer.peer part of writer.number here).name;
+              same_count = refl;
+            },
+          );
+    })
+
+-- one that a tick sent is that of the writer
+pub beat_found : (config : Config) (tests : AllTests) (old : WorldState) (now lost : ℕ) (new : WorldState)
+    (writer : Endpoint) (packet : Packet)
+    → IsPartOf config writer.peer (peer_at old writer.peer).part
+    → HasNumber (peer_at old writer.peer).part.rtps.writers writer.number
+    → (h : RuledStep config tests old (world.Tick writer.peer now) Done lost new) → Contains h.packets packet
+    → Has packet.bytes (sought.Heartbeat (writer_entity config writer.peer writer.number))
+    → (count : ℤ) × HasHeartbeat config packet.bytes writer count
+beat_found config tests old now lost new writer packet of here h among has =
+    let r =
+    each.found d.writable
+    (sought_again (sought.Heartbeat (writer_entity config writer.peer writer.number)) d.due.message d.writable
+    (subst (λ (p : Packet). Has p.bytes (sought.Heartbeat (writer_entity config writer.peer writer.number))) d.is
+    has)) in
+    (r.0, subst (λ (p : Packet). HasHeartbeat config p.bytes writer r.0) (sym d.is) r.1)
+  where
+    d : IsWrittenOf h.dues packet
+    d = sent_written config tests old (world.Tick writer.peer now) Done lost new h packet among
+
+    each : IsFoundBeat config writer d.due
+    each =
+        All-contains (IsFoundBeat config writer)
+        (heartbeats_due config writer.peer (peer_at old writer.peer).part) d.due
+        (beats_found config (peer_at old writer.peer).part writer of here)
+        (subst (λ (ds : List Due). Contains ds d.due) h.due d.among)
+
+-- a packet with a HEARTBEAT of the writer is found where it is looked for by the entity id
+pub beat_sought : (config : Config) (writer : Endpoint) (bytes : List ℕ) (count : ℤ) (prefix : GuidPrefix)
+    (entity : EntityId) → IsWriter config prefix entity writer → HasHeartbeat config bytes writer count
+    → Has bytes (sought.Heartbeat entity)
+beat_sought config writer bytes count prefix entity name h = record {
+  message = h.there.message;
+  offset = h.there.offset;
+  is_read = h.there.is_read;
+  has = (
+    Heartbeat h.heartbeat,
+    stands_among h.own (receiver_of h.there.message.prefix) h.there.message.submessages h.there.index h.at
+        (Heartbeat h.heartbeat) h.there.stands,
+    sym h.from.same_entity
+        ∙ (ap (λ (w : WriterConfig). w.entity)
+        (same_end config h.at.source_guid_prefix prefix h.heartbeat.writer_id entity writer writer h.from name refl)
+        ∙ name.same_entity),
+  );
+}
+  where
+    stands_among : (own : GuidPrefix) (from : Receiver) (ss : List Submessage) (index : ℕ) (at : Receiver)
+        (x : Submessage) → StandsAt own from ss index at x → Contains ss x
+    stands_among own from [] index at x k = absurd k
+    stands_among own from (y ∷ ys) zero at x k = (0, omega arith, sym k.1)
+    stands_among own from (y ∷ ys) (suc index) at x k =
+        later_in y ys x (stands_among own (after_submessage own from y) ys index at x k)
+
+-- ---- the ACKNACK
+
+-- One in which an ACKNACK of the reader is looked for, of those that are sent when the HEARTBEAT is taken, has one of
+-- it to the writer.
+pub ask_found_among : (c : Begun) (ask : Packet) → Contains c.begins.hears.step.packets ask
+    → Has ask.bytes (sought.AckNack c.pair.reader_entity (writer_entity c.config c.writer.peer c.writer.number))
+    → (count : ℤ) × HasAckNack c.config ask.bytes c.writer c.reader count
+ask_found_among c ask among has = ⊎_elim (λ o. own o) (λ o. absurd (not_other o)) ((packet c).each d.due d.among)
+  where
+    wanted : Sought
+    wanted = sought.AckNack c.pair.reader_entity (writer_entity c.config c.writer.peer c.writer.number)
+
+    d : IsWrittenOf c.begins.hears.step.dues ask
+    d = sent_written c.config c.tests (noted_tick c) (world.Deliver c.reader.peer c.begins.hears.number)
+        (Reported c.begins.hears.report) c.begins.lost_asks c.heard c.begins.hears.step ask among
+
+    there : HasSought wanted d.due.message.submessages
+    there = sought_again wanted d.due.message d.writable (subst (λ (p : Packet). Has p.bytes wanted) d.is has)
+
+    not_other : OfOther (reader_host (pairing c)) c.reader.number d.due → ⊥
+    not_other o =
+        let one =
+        one_reader c.config (reader_prefix (pairing c)) c.pair.reader_entity
+        (reader_at c.reader.peer o.reader) c.reader c.checked
+        (o.asks.named c.pair.reader_entity (writer_entity c.config c.writer.peer c.writer.number) there)
+        c.pair.is_reader in
+        o.other (ap (λ (e : Endpoint). e.number) one)
+
+    by : (a : Option AckNackDue)
+        → Contains (acknacks_due (reader_prefix (pairing c)) (writer_prefix (pairing c)) c.writer.peer
+        (hears c).is.entity (body c).writer_id a) d.due
+        → (count : ℤ) × HasAckNack c.config ask.bytes c.writer c.reader count
+    by None among = let lt = among.1 in absurd (omega (arith, lt))
+    by (Some x) among =
+        let due : Due = ask_due c x in
+        let message : due.message ≡ d.due.message = ap (λ (y : Due). y.message) (is_alone due d.due among) in
+        let bytes : ask.bytes ≡ spelling_of due.message =
+        ap (λ (q : Packet). q.bytes) d.is ∙ ap (λ (m : Message). spelling_of m) (sym message) in (
+          x.count,
+          subst (λ (b : List ℕ). HasAckNack c.config b c.writer c.reader x.count) (sym bytes)
+              (is_ask c x (subst (λ (m : Message). IsWritable m) (sym message) d.writable)),
+        )
+
+    own : Contains (packet c).due d.due → (count : ℤ) × HasAckNack c.config ask.bytes c.writer c.reader count
+    own o = by (hears c).answer (subst (λ (ds : List Due). Contains ds d.due) (hears c).dues_are o)

@@ -1,0 +1,234 @@
+-- The HEARTBEAT of a round at the reader's peer, and the ACKNACK that the reader sends.
+use Rattle.std.proofs.Common.{◌≡◌, ℕ, ℤ, ◌-◌, ◌||◌, Bool, true, List, [], ◌∷◌, Option, Some, None, Contains, length, slice_get}
+use Rattle.std.proofs.Common.{refl, subst, ap, sym, ◌∙◌, inl, inr, ⊎_elim, arith}
+use Rattle.std.proofs.lemmas.Option.{same_Some}
+use Rattle.dds_base.specs.declared.config.Config.{Config}
+use Rattle.dds_base.specs.declared.config.PeerConfig.{PeerConfig}
+use Rattle.dds_base.specs.declared.config.ReaderConfig.{ReaderConfig}
+use Rattle.dds_base.specs.declared.config.WriterConfig.{WriterConfig}
+use Rattle.dds_base.specs.declared.guid.EntityId.{EntityId}
+use Rattle.dds_base.specs.declared.guid.GuidPrefix.{GuidPrefix}
+use Rattle.dds_base.specs.Checked.{check_refusal, same_prefix}
+use Rattle.dds_base.specs.Places.{Match}
+use Rattle.dds_base.specs.Counts.{is_later}
+use Rattle.rtps_reader.specs.declared.step.AckNackDue.{AckNackDue}
+use Rattle.rtps_wire.specs.declared.heartbeat.Heartbeat.{Heartbeat as HeartbeatBody}
+use Rattle.rtps_wire.specs.declared.message.Message.{Message}
+use Rattle.rtps_wire.specs.declared.submessage.Submessage.TheVariants.{AckNack, Heartbeat}
+use Rattle.rtps_wire.specs.Messages.{IsWritable, spelling_of}
+use Rattle.dds_machine.specs.declared.endpoint.Endpoint.{Endpoint}
+use Rattle.dds_protocol.specs.declared.event.Event.TheVariants as event
+use Rattle.dds_protocol.specs.declared.event.Packet.{Packet}
+use Rattle.dds_machine.specs.declared.event.WorldEvent.{WorldEvent}
+use Rattle.dds_machine.specs.declared.event.WorldEvent.TheVariants as world
+use Rattle.dds_machine.specs.declared.reply.Reply.{Reply}
+use Rattle.dds_machine.specs.declared.reply.Reply.TheVariants.{Reported}
+use Rattle.dds_machine.specs.Part.{Part}
+use Rattle.dds_protocol.specs.Claims.{Receiver, is_for, every_peer, Names, IsWriter, IsReader, IsToReader}
+use Rattle.dds_protocol.specs.Receipt.{prefix_of}
+use Rattle.dds_machine.specs.Machine.{AllTests}
+use Rattle.dds_protocol.specs.Peer.{state_of}
+use Rattle.dds_protocol.specs.DueMessages.{Due, writer_entity, acknacks_due}
+use Rattle.dds_protocol.specs.Protocol.{State, TakesPacket}
+use Rattle.dds_protocol.specs.World.{WorldState, WorldStep, peer_at, machine_of, Sound}
+use Rattle.dds_protocol.specs.Bounds.{IsBounded}
+use Rattle.dds_protocol.specs.Fresh.{HasAckNack}
+use Rattle.dds_protocol.specs.Repair.{Delivers, IsPair}
+use Rattle.dds_protocol.specs.Rules.{RuledStep}
+use Rattle.dds_protocol.proofs.Bounded.{steps_bounded}
+use Rattle.dds_protocol.proofs.Composed.{composes, is_alone}
+use Rattle.dds_protocol.proofs.Dues.{addressed, message_to}
+use Rattle.dds_protocol.proofs.DuesAcknacks.{ask_body}
+use Rattle.dds_protocol.proofs.DuesMatched.{same_end}
+use Rattle.dds_protocol.proofs.FreshCounts.{IsWrittenOf, steps_stays}
+use Rattle.dds_protocol.proofs.OwnGuids.{prefix-Decides}
+use Rattle.dds_protocol.proofs.PairMessages.{HeardPacket, heartbeat_packet}
+use Rattle.dds_protocol.proofs.PairReader.{Seat}
+use Rattle.dds_protocol.proofs.PairTicked.{beat_of, beat_message}
+use Rattle.dds_protocol.proofs.PairTurns.{Host, OfOther}
+
+-- ---- a packet that is delivered
+
+-- it is taken up by the rules
+pub delivered_takes : (config : Config) (tests : AllTests) (old : WorldState) (peer : ℕ) (packet : Packet) (lost : ℕ)
+    (new : WorldState) → (h : Delivers config tests old peer packet lost new)
+    → TakesPacket config peer packet.bytes (state_of (peer_at old peer)) h.report h.step.dues
+    (state_of (peer_at new peer))
+delivered_takes config tests old peer packet lost new h =
+    let due = h.step.due in
+    subst (λ (p : Packet). TakesPacket config peer p.bytes (state_of (peer_at old peer)) h.report h.step.dues
+    (state_of (peer_at new peer))) (same_Some due.0 packet (sym due.1 ∙ h.at)) due.2
+
+-- other peers are as they were
+pub delivered_others : (config : Config) (tests : AllTests) (old : WorldState) (peer : ℕ) (packet : Packet) (lost : ℕ)
+    (new : WorldState) → Delivers config tests old peer packet lost new
+    → (p : ℕ) → (p ≡ peer → ⊥) → peer_at new p ≡ peer_at old p
+delivered_others config tests old peer packet lost new h p apart = by h.step.step
+  where
+    by : WorldStep config tests old (world.Deliver peer h.number) (Reported h.report) new
+        → peer_at new p ≡ peer_at old p
+    by (inl s) =
+        (steps_stays config (tests peer) old peer (event.Deliver s.0.bytes) (Reported h.report) new s.3).others p apart
+    by (inr s) = let r = s.1.is_refused in absurd cc
+
+-- claims stay true, and places within the lists
+pub stays_sound : (config : Config) (tests : AllTests) (old : WorldState) (ev : WorldEvent) (reply : Reply) (lost : ℕ)
+    (new : WorldState) → RuledStep config tests old ev reply lost new → Sound config old → IsBounded (machine_of old)
+    → Sound config new × IsBounded (machine_of new)
+stays_sound config tests old ev reply lost new h sound bounded =
+    let c = composes config tests old new ev reply sound h.step in
+    (c.2, steps_bounded tests (length old.sent) (machine_of old) ev reply (machine_of new) bounded c.0)
+
+-- ---- a writer and a reader
+
+pub record Pairing : Type 0 where
+  pub config : Config
+  pub checked : check_refusal config.peers ≡ None
+  pub writer : Endpoint
+  pub reader : Endpoint
+  pub pair : IsPair config writer reader
+  pub name : IsWriter config (prefix_of config writer.peer) (writer_entity config writer.peer writer.number) writer
+
+abbrev pub writer_prefix : Pairing → GuidPrefix
+writer_prefix p = prefix_of p.config p.writer.peer
+
+abbrev pub reader_prefix : Pairing → GuidPrefix
+reader_prefix p = prefix_of p.config p.reader.peer
+
+abbrev pub writer_id : Pairing → EntityId
+writer_id p = writer_entity p.config p.writer.peer p.writer.number
+
+-- the reader's peer, and the writer's
+abbrev pub reader_host : Pairing → Host
+reader_host p = record { config = p.config; checked = p.checked; peer = p.reader.peer; own = reader_prefix p }
+
+abbrev pub writer_host : Pairing → Host
+writer_host p = record { config = p.config; checked = p.checked; peer = p.writer.peer; own = writer_prefix p }
+
+-- a message from the writer's peer to the reader's, and one back
+abbrev pub there : Pairing → Receiver
+there p = addressed (writer_prefix p) (reader_prefix p)
+
+abbrev pub back : Pairing → Receiver
+back p = addressed (reader_prefix p) (writer_prefix p)
+
+pub for_itself : (own from : GuidPrefix) → is_for (addressed from own) own ≡ true
+for_itself own from = ap (λ (b : Bool). b || same_prefix own every_peer) ((prefix-Decides own own).1 refl)
+
+-- the topic of the two
+pub topic_is : (p : Pairing) → p.name.end.topic ≡ p.pair.is_reader.end.topic
+topic_is p =
+    ap (λ (w : WriterConfig). w.topic)
+    (same_end p.config (writer_prefix p) (writer_prefix p)
+    (writer_id p) p.pair.writer_entity p.writer p.writer p.name p.pair.is_writer refl)
+    ∙ p.pair.matched
+
+-- a submessage of the writer to this reader
+pub to_reader : (p : Pairing) (id : EntityId) → Names id p.pair.reader_entity
+    → IsToReader p.config (reader_prefix p) (there p) id (writer_id p) p.writer p.reader
+to_reader p id named = record {
+  from = p.name;
+  is_for = for_itself (reader_prefix p) (writer_prefix p);
+  entity = p.pair.reader_entity;
+  to = p.pair.is_reader;
+  named = named;
+  matched = topic_is p;
+}
+
+-- two names of one reader are told of one entry, and have one entity id
+pub reader_ends : (config : Config) (p q : GuidPrefix) (d e : EntityId) (r : Endpoint) (x : IsReader config p d r)
+    (y : IsReader config q e r) → x.end ≡ y.end
+reader_ends config p q d e r x y =
+    let peer : x.peer ≡ y.peer = same_Some x.peer y.peer (sym x.at_peer.1 ∙ y.at_peer.1) in
+    let within : slice_get y.peer.readers (r.number - 1) ≡ Some x.end =
+    subst (λ (z : PeerConfig). slice_get z.readers (r.number - 1) ≡ Some x.end) peer x.at_reader.1 in
+    same_Some x.end y.end (sym within ∙ y.at_reader.1)
+
+pub reader_entities : (config : Config) (p q : GuidPrefix) (d e : EntityId) (r : Endpoint) (x : IsReader config p d r)
+    (y : IsReader config q e r) → d ≡ e
+reader_entities config p q d e r x y =
+    sym x.same_entity ∙ (ap (λ (z : ReaderConfig). z.entity) (reader_ends config p q d e r x y) ∙ y.same_entity)
+
+-- ---- the HEARTBEAT is heard
+
+abbrev pub ask_message : Pairing → EntityId → AckNackDue → Message
+ask_message p entity x = message_to (reader_prefix p) (writer_prefix p) (AckNack (ask_body entity (writer_id p) x) ∷ [])
+
+-- what the reader and others did with the HEARTBEAT, of whose answers this is the reader's ACKNACK
+abbrev pub Heard : Pairing → HeartbeatBody → Match → State → List Due → State → Type 0
+Heard p h m old dues new = HeardPacket (reader_host p) (there p) h m p.writer p.reader.number old dues new
+
+pub record HasAsked (p : Pairing) (h : HeartbeatBody) (m : Match) (old new : State) (dues : List Due)
+    (hp : Heard p h m old dues new) (ask : Packet) : Type 0 where
+  pub x : AckNackDue
+  pub answer : hp.hears.answer ≡ Some x
+  pub writable : IsWritable (ask_message p hp.hears.is.entity x)
+  pub bytes : ask.bytes ≡ spelling_of (ask_message p hp.hears.is.entity x)
+
+-- of the messages that are due, one with an ACKNACK of the reader is its own
+pub ask_found : (p : Pairing) (h : HeartbeatBody) → h.writer_id ≡ writer_id p
+    → (m : Match) (old new : State) (dues : List Due) (hp : Heard p h m old dues new)
+    → (ask : Packet) (count : ℤ) → HasAckNack p.config ask.bytes p.writer p.reader count → (d : IsWrittenOf dues ask)
+    → HasAsked p h m old new dues hp ask
+ask_found p h id m old new dues hp ask count of d =
+    ⊎_elim (λ o. own o) (λ o. absurd (not_other o)) (hp.each d.due d.among)
+  where
+    has : HasAckNack p.config (spelling_of d.due.message) p.writer p.reader count
+    has = subst (λ (q : Packet). HasAckNack p.config q.bytes p.writer p.reader count) d.is of
+
+    not_other : OfOther (reader_host p) p.reader.number d.due → ⊥
+    not_other o = o.other (sym (ap (λ (e : Endpoint). e.number) (o.asks.is p.writer p.reader count d.writable has)))
+
+    by : (a : Option AckNackDue) → hp.hears.answer ≡ a
+        → Contains (acknacks_due (reader_prefix p) (writer_prefix p) p.writer.peer hp.hears.is.entity h.writer_id a)
+        d.due → HasAsked p h m old new dues hp ask
+    by None e among = let lt = among.1 in absurd (omega (arith, lt))
+    by (Some x) e among =
+        let the : Due =
+        record {
+          to = p.writer.peer;
+          message = message_to (reader_prefix p) (writer_prefix p)
+              (AckNack (ask_body hp.hears.is.entity h.writer_id x) ∷ []);
+        } in
+        let one : the ≡ d.due = is_alone the d.due among in
+        let message : d.due.message ≡ ask_message p hp.hears.is.entity x =
+        ap (λ (y : Due). y.message) (sym one)
+        ∙ ap (λ (i : EntityId). message_to (reader_prefix p) (writer_prefix p)
+        (AckNack (ask_body hp.hears.is.entity i x) ∷ [])) id in
+        record {
+          x = x;
+          answer = e;
+          writable = subst (λ (y : Message). IsWritable y) message d.writable;
+          bytes = ap (λ (q : Packet). q.bytes) d.is ∙ ap (λ (y : Message). spelling_of y) message;
+        }
+
+    own : Contains hp.due d.due → HasAsked p h m old new dues hp ask
+    own among = by hp.hears.answer refl (subst (λ (ds : List Due). Contains ds d.due) hp.hears.dues_are among)
+
+-- a HEARTBEAT that is new is heard
+pub hears_beat : (p : Pairing) (tests : AllTests) (part : Part) (m : Match) (old : WorldState) (beat : Packet)
+    (lost : ℕ) (new : WorldState)
+    → IsWritable (beat_message p.config p.writer.peer part p.writer.number p.reader.peer)
+    → beat.bytes ≡ spelling_of (beat_message p.config p.writer.peer part p.writer.number p.reader.peer)
+    → (h : Delivers p.config tests old p.reader.peer beat lost new)
+    → Seat m p.writer p.reader.number (state_of (peer_at old p.reader.peer))
+    → is_later ((peer_at old p.reader.peer).known.tracked p.writer p.reader.number).count
+    (beat_of p.config p.writer.peer part p.writer.number).count ≡ true
+    → Heard p (beat_of p.config p.writer.peer part p.writer.number) m (state_of (peer_at old p.reader.peer)) h.step.dues
+    (state_of (peer_at new p.reader.peer))
+hears_beat p tests part m old beat lost new writable bytes h seat later =
+    heartbeat_packet (reader_host p) refl (writer_prefix p)
+    (reader_prefix p) body m p.writer p.reader.number refl (to_reader p body.reader_id (inr refl))
+    (state_of (peer_at old p.reader.peer)) h.report h.step.dues
+    (state_of (peer_at new p.reader.peer)) seat later writable h.whole takes
+  where
+    body : HeartbeatBody
+    body = beat_of p.config p.writer.peer part p.writer.number
+
+    takes : TakesPacket p.config p.reader.peer
+        (spelling_of (message_to (writer_prefix p) (reader_prefix p) (Heartbeat body ∷ [])))
+        (state_of (peer_at old p.reader.peer)) h.report h.step.dues (state_of (peer_at new p.reader.peer))
+    takes =
+        subst (λ (b : List ℕ). TakesPacket p.config p.reader.peer b
+        (state_of (peer_at old p.reader.peer)) h.report h.step.dues (state_of (peer_at new p.reader.peer))) bytes
+        (delivered_takes p.config tests old p.reader.peer beat lost new h)

@@ -1,0 +1,108 @@
+-- A written message is taken up as it was meant: submessage by submessage, where memory is not lacking.
+use Rattle.std.proofs.Common.{◌≡◌, ℕ, ◌+◌, List, [], ◌∷◌, ◌++◌, Option, Some, None, length, subst, ap, sym, ◌∙◌, inl, inr, ⊎_elim}
+use Rattle.dds_base.specs.declared.config.Config.{Config}
+use Rattle.dds_base.specs.declared.guid.GuidPrefix.{GuidPrefix}
+use Rattle.dds_base.specs.Kept.{numbers_from}
+use Rattle.rtps_wire.specs.declared.message.Message.{Message}
+use Rattle.rtps_wire.specs.declared.submessage.Submessage.{Submessage}
+use Rattle.rtps_wire.specs.declared.submessage.Submessage.TheVariants.{InfoDst, InfoTs}
+use Rattle.rtps_wire.specs.Messages.{IsWritable, HasSubmessage, spelling_of}
+use Rattle.rtps_wire.proofs.SpellingLaws.{message_again}
+use Rattle.dds_machine.specs.declared.reply.Move.{Move}
+use Rattle.dds_machine.specs.declared.reply.Report.{Report}
+use Rattle.dds_protocol.specs.Claims.{Receiver, receiver_of, after_submessage}
+use Rattle.dds_protocol.specs.Receipt.{prefix_of}
+use Rattle.dds_protocol.specs.DueMessages.{Due}
+use Rattle.dds_protocol.specs.Protocol.{State, InTurn, Idles, ReaderTakes, Takes, FollowsMessage, TakesPacket}
+use Rattle.dds_protocol.proofs.Dues.{read_again}
+use Rattle.dds_machine.proofs.Tables.{append_nothing}
+
+-- the packet is that message, all of which is taken up
+pub read_whole : (config : Config) (peer : ℕ) (message : Message) (old : State) (report : Report) (dues : List Due)
+    (new : State)
+    → IsWritable message → report.refused ≡ None → TakesPacket config peer (spelling_of message) old report dues new
+    → FollowsMessage config (prefix_of config peer) peer 0
+    (receiver_of message.prefix) message.submessages old report.moves None dues new
+read_whole config peer message old report dues new writable whole (inl h) =
+    subst (λ (o : Option ℕ). FollowsMessage config (prefix_of config peer) peer 0
+    (receiver_of message.prefix) message.submessages old report.moves o dues new) whole
+    (subst (λ (m : Message). FollowsMessage config (prefix_of config peer) peer 0
+    (receiver_of m.prefix) m.submessages old report.moves report.refused dues new)
+    (read_again message h.message h.offset writable h.is_read) h.follows)
+read_whole config peer message old report dues new writable whole (inr h) =
+    ⊎_elim (λ none. absurd (none.1 message (length (spelling_of message)) (message_again message writable)))
+    (λ (some : (report.refused ≡ Some 0) × HasSubmessage (spelling_of message)). let both = sym whole
+    ∙ some.0 in absurd cc) h.0.cause
+
+-- steps that all do nothing
+pub idle_turns : {X : Type 0} (step : X → State → List Move → List Due → State → Type 0)
+    → ((x : X) (old : State) (moves : List Move) (dues : List Due) (new : State) → step x old moves dues new
+    → Idles old moves dues new)
+    → (xs : List X) (old : State) (moves : List Move) (dues : List Due) (new : State)
+    → InTurn step xs old moves dues new → Idles old moves dues new
+idle_turns step each [] old moves dues new h = h
+idle_turns step each (x ∷ xs) old moves dues new h =
+    let one = each x old h.0 h.2 h.4 h.7 in
+    let rest = idle_turns step each xs h.4 h.1 h.3 new h.8 in (
+      h.5 ∙ (ap (λ (ms : List Move). ms ++ h.1) one.0 ∙ rest.0),
+      h.6 ∙ (ap (λ (ds : List Due). ds ++ h.3) one.1 ∙ rest.1),
+      rest.2 ∙ one.2,
+    )
+
+-- what follows a submessage that does nothing, with some moves
+pub record FollowsOn (config : Config) (own : GuidPrefix) (peer index : ℕ) (at : Receiver) (ss : List Submessage)
+    (old : State) (dues : List Due) (new : State) : Type 0 where
+  pub moves : List Move
+  pub follows : FollowsMessage config own peer index at ss old moves None dues new
+
+pub idle_head : (config : Config) (own : GuidPrefix) (peer index : ℕ) (at : Receiver) (s : Submessage)
+    (ss : List Submessage) (old : State) (moves : List Move) (dues : List Due) (new : State)
+    → ((made : List Move) (first : List Due) (mid : State) → Takes config own peer at s old made first mid
+    → Idles old made first mid)
+    → FollowsMessage config own peer index at (s ∷ ss) old moves None dues new
+    → FollowsOn config own peer (index + 1) (after_submessage own at s) ss old dues new
+idle_head config own peer index at s ss old moves dues new idle (inl h) = let none = h.0 in absurd cc
+idle_head config own peer index at s ss old moves dues new idle (inr h) =
+    let nothing = idle h.0 h.2 h.4 h.7 in
+    record {
+      moves = h.1;
+      follows =
+          subst (λ (ds : List Due). FollowsMessage config own peer (index + 1)
+          (after_submessage own at s) ss old h.1 None ds new)
+          (sym (h.6 ∙ ap (λ (ds : List Due). ds ++ h.3) nothing.1))
+          (subst (λ (x : State). FollowsMessage config own peer (index + 1)
+          (after_submessage own at s) ss x h.1 None h.3 new) nothing.2 h.8);
+    }
+
+pub dst_idle : (config : Config) (own : GuidPrefix) (peer : ℕ) (at : Receiver) (to : GuidPrefix) (old : State)
+    (made : List Move) (first : List Due) (mid : State)
+    → Takes config own peer at (InfoDst to) old made first mid → Idles old made first mid
+dst_idle config own peer at to old made first mid h =
+    idle_turns (ReaderTakes config own peer at (InfoDst to)) (λ x o m d n k. k)
+    (numbers_from 1 (length old.part.rtps.readers)) old made first mid h
+
+pub ts_idle : (config : Config) (own : GuidPrefix) (peer : ℕ) (at : Receiver) (moment : Option ℕ) (old : State)
+    (made : List Move) (first : List Due) (mid : State)
+    → Takes config own peer at (InfoTs moment) old made first mid → Idles old made first mid
+ts_idle config own peer at moment old made first mid h =
+    idle_turns (ReaderTakes config own peer at (InfoTs moment)) (λ x o m d n k. k)
+    (numbers_from 1 (length old.part.rtps.readers)) old made first mid h
+
+-- a submessage that stands alone at the end
+pub record TakesLast (config : Config) (own : GuidPrefix) (peer : ℕ) (at : Receiver) (s : Submessage) (old : State)
+    (dues : List Due) (new : State) : Type 0 where
+  pub moves : List Move
+  pub takes : Takes config own peer at s old moves dues new
+
+pub last_head : (config : Config) (own : GuidPrefix) (peer index : ℕ) (at : Receiver) (s : Submessage) (old : State)
+    (moves : List Move) (dues : List Due) (new : State)
+    → FollowsMessage config own peer index at (s ∷ []) old moves None dues new
+    → TakesLast config own peer at s old dues new
+last_head config own peer index at s old moves dues new (inl h) = let none = h.0 in absurd cc
+last_head config own peer index at s old moves dues new (inr h) = record {
+  moves = h.0;
+  takes =
+      subst (λ (ds : List Due). Takes config own peer at s old h.0 ds new)
+      (sym (h.6 ∙ (ap (λ (ds : List Due). h.2 ++ ds) h.8.1.1 ∙ append_nothing h.2)))
+      (subst (λ (x : State). Takes config own peer at s old h.0 h.2 x) (sym h.8.1.2) h.7);
+}

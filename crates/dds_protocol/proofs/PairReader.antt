@@ -1,0 +1,286 @@
+-- What a reader does with the submessages of one of its matched writers: its place goes on as far as it can.
+use Rattle.std.proofs.Common.{◌≡◌, ℕ, ℤ, Bool, true, false, List, Option, Some, length}
+use Rattle.std.proofs.Common.{subst, ap, sym, ◌∙◌, inl, inr, ⊎_elim, arith}
+use Rattle.std.proofs.lemmas.Option.{same_Some}
+use Rattle.dds_base.specs.declared.happening.Happening.{Happening}
+use Rattle.dds_base.specs.declared.qos.ReaderQos.{ReaderQos}
+use Rattle.dds_base.specs.Places.{Match}
+use Rattle.dds_base.specs.Counts.{is_later}
+use Rattle.rtps_reader.specs.declared.step.AckNackDue.{AckNackDue}
+use Rattle.rtps_reader.specs.Tracked.{Tracked, with_data, with_gap, with_heartbeat}
+use Rattle.rtps_reader.specs.Advance.{Advances}
+use Rattle.rtps_reader.specs.Answer.{AnswersHeartbeat, answered}
+use Rattle.rtps_wire.specs.declared.data.Data.{Data as DataBody}
+use Rattle.rtps_wire.specs.declared.gap.Gap.{Gap as GapBody}
+use Rattle.rtps_wire.specs.declared.heartbeat.Heartbeat.{Heartbeat as HeartbeatBody}
+use Rattle.rtps_wire.specs.declared.submessage.Submessage.TheVariants.{Data, Heartbeat, Gap}
+use Rattle.rtps_wire.specs.Content.{change_in}
+use Rattle.dds_machine.specs.declared.endpoint.Endpoint.{Endpoint}
+use Rattle.dds_machine.specs.declared.reply.Move.{Move}
+use Rattle.dds_machine.specs.Numbered.{HasNumber}
+use Rattle.dds_machine.specs.Part.{Part, Reader, WriterProxy, no_reader, own_proxies, own_reader, place_of, publication_among}
+use Rattle.dds_machine.specs.Moves.{match_of}
+use Rattle.dds_protocol.specs.Claims.{Receiver, IsToReader}
+use Rattle.dds_protocol.specs.DueMessages.{Due, acknacks_due}
+use Rattle.dds_protocol.specs.Protocol.{State, Goes, Asserting, TakesHeartbeat, ReaderTakes}
+use Rattle.dds_protocol.specs.Backed.{reader_at}
+use Rattle.dds_protocol.specs.CatchUp.{Standing, GoesOn}
+use Rattle.dds_protocol.proofs.DuesAcknacks.{goes_there}
+use Rattle.dds_protocol.proofs.Framing.{tracked_here}
+use Rattle.dds_protocol.proofs.Knowing.{answered_same}
+use Rattle.dds_protocol.proofs.Learning.{goes_learns}
+use Rattle.dds_protocol.proofs.OwnGuids.{one_writer}
+use Rattle.dds_protocol.proofs.PairTurns.{Host, Keeps}
+use Rattle.dds_protocol.proofs.Ruled.{goes_frames}
+use Rattle.dds_protocol.proofs.RuledTurns.{SameAt}
+use Rattle.dds_machine.proofs.Tables.{numbered-same, length-with_numbered}
+
+-- what a reader of the peer knows of a writer, and what happened there
+abbrev pub standing : Tracked → List Happening → Standing
+standing t h = record { tracked = t; happened = h }
+
+abbrev pub standing_of : State → Endpoint → ℕ → Standing
+standing_of s w r = standing (s.known.tracked w r) (own_reader s.part r).happened
+
+-- the reader is there, and matched with the writer
+pub record Seat (m : Match) (w : Endpoint) (r : ℕ) (s : State) : Type 0 where
+  pub rows : HasNumber s.part.rtps.readers r
+  pub there : HasNumber s.part.dds.readers r
+  pub handle : publication_among (own_proxies s.part r) w ≡ Some m.publication
+  pub qos : (own_reader s.part r).qos ≡ m.qos
+  pub moment : s.part.dds.moment ≡ m.moment
+  pub place : place_of (own_proxies s.part r) w ≡ Some (s.known.tracked w r).place
+
+has_as : {X : Type 0} (xs ys : List X) (n : ℕ) → length ys ≡ length xs → HasNumber xs n → HasNumber ys n
+has_as xs ys n e h = let low = h.0 in let high = h.1 in (low, omega (arith, high, e))
+
+pub seat_as : (m : Match) (w : Endpoint) (r : ℕ) (old new : State) → SameAt old new r
+    → HasNumber new.part.rtps.readers r → HasNumber new.part.dds.readers r → Seat m w r old → Seat m w r new
+seat_as m w r old new same rows there s = record {
+  rows = rows;
+  there = there;
+  handle = ap (λ (xs : List WriterProxy). publication_among xs w) same.proxies ∙ s.handle;
+  qos = ap (λ (x : Reader). x.qos) same.reader ∙ s.qos;
+  moment = same.moment ∙ s.moment;
+  place = ap (λ (xs : List WriterProxy). place_of xs w) same.proxies
+      ∙ (s.place ∙ ap (λ (t : Tracked). Some t.place) (sym (same.tracked w)));
+}
+
+-- the same, of a peer of which all readers are still there
+pub seat_kept : (m : Match) (w : Endpoint) (r : ℕ) (old new : State) → SameAt old new r → Keeps old new → Seat m w r old
+    → Seat m w r new
+seat_kept m w r old new same k s =
+    seat_as m w r old new same (has_as old.part.rtps.readers new.part.rtps.readers r k.rows s.rows)
+    (has_as old.part.dds.readers new.part.dds.readers r k.readers s.there) s
+
+pub standing_as : (w : Endpoint) (r : ℕ) (old new : State) → SameAt old new r
+    → standing_of new w r ≡ standing_of old w r
+standing_as w r old new same =
+    ap (λ (t : Tracked). standing t (own_reader new.part r).happened) (same.tracked w)
+    ∙ ap (λ (x : Reader). standing (old.known.tracked w r) x.happened) same.reader
+
+-- the reader learned this of the writer, and its place went on as far as it can
+pub record MovesBy (m : Match) (w : Endpoint) (r : ℕ) (mark : Tracked → Tracked) (old new : State) : Type 0 where
+  pub seat : Seat m w r new
+  pub goes : GoesOn m (mark (old.known.tracked w r)) (own_reader old.part r).happened (standing_of new w r)
+
+abbrev match_with : ReaderQos → ℕ → ℕ → Match
+match_with q p t = record { qos = q; publication = p; moment = t }
+
+pub goes_by : (m : Match) (w : Endpoint) (r : ℕ) (mark : Tracked → Tracked) (old : State) (moves : List Move)
+    (new : State) → Seat m w r old → Goes old w r (mark (old.known.tracked w r)) moves new → MovesBy m w r mark old new
+goes_by m w r mark old moves new s g = record {
+  seat = record {
+    rows = has_as old.part.rtps.readers new.part.rtps.readers r (goes_frames old w r t moves new g).count s.rows;
+    there = has_as old.part.dds.readers new.part.dds.readers r
+        (ap (λ (x : State). length x.part.dds.readers) g.after
+        ∙ length-with_numbered old.part.dds.readers r (record (own_reader old.part r) { happened = g.happened }))
+        s.there;
+    handle = (goes_frames old w r t moves new g).handles w ∙ s.handle;
+    qos = ap (λ (x : Reader). x.qos) reader ∙ s.qos;
+    moment = (goes_frames old w r t moves new g).moment ∙ s.moment;
+    place = goes_there old w r t moves new g;
+  };
+  goes = (
+    g.to,
+    g.passed,
+    subst (λ (h : List Happening). Advances m t (own_reader old.part r).happened g.to g.passed
+        (new.known.tracked w r) h) (sym (ap (λ (x : Reader). x.happened) reader))
+        (subst (λ (x : Tracked). Advances m t (own_reader old.part r).happened g.to g.passed x g.happened)
+        (sym (goes_learns old w r t moves new g).here)
+        (subst (λ (x : Match). Advances x t (own_reader old.part r).happened g.to g.passed g.known g.happened) match
+        g.advances)),
+  );
+}
+  where
+    t : Tracked
+    t = mark (old.known.tracked w r)
+
+    reader : own_reader new.part r ≡ record (own_reader old.part r) { happened = g.happened }
+    reader =
+        ap (λ (x : State). own_reader x.part r) g.after
+        ∙ numbered-same old.part.dds.readers r
+        (record (own_reader old.part r) { happened = g.happened }) no_reader s.there
+
+    match : match_of old.part r g.publication ≡ m
+    match =
+        ap (λ (q : ReaderQos). match_with q g.publication old.part.dds.moment) s.qos
+        ∙ (ap (λ (p : ℕ). match_with m.qos p old.part.dds.moment)
+        (same_Some g.publication m.publication (sym g.matched.handle ∙ s.handle))
+        ∙ ap (λ (n : ℕ). match_with m.qos m.publication n) s.moment)
+
+-- it is so whatever other readers did before and after
+pub moves_between : (m : Match) (w : Endpoint) (r : ℕ) (mark : Tracked → Tracked) (old before after new : State)
+    → SameAt old before r → SameAt after new r → Keeps old new
+    → Seat m w r old → MovesBy m w r mark before after → MovesBy m w r mark old new
+moves_between m w r mark old before after new first last k s h = record {
+  seat =
+      seat_as m w r after new last (has_as old.part.rtps.readers new.part.rtps.readers r k.rows s.rows)
+      (has_as old.part.dds.readers new.part.dds.readers r k.readers s.there) h.seat;
+  goes =
+      subst (λ (x : Standing). GoesOn m (mark (old.known.tracked w r)) (own_reader old.part r).happened x)
+      (sym (standing_as w r after new last))
+      (subst (λ (t : Tracked). GoesOn m (mark t) (own_reader old.part r).happened (standing_of after w r))
+      (first.tracked w)
+      (subst (λ (x : Reader). GoesOn m (mark (before.known.tracked w r)) x.happened (standing_of after w r))
+      first.reader h.goes));
+}
+
+-- ---- a DATA, or a GAP
+
+pub data_moves : (c : Host) (at : Receiver) (d : DataBody) (m : Match) (w : Endpoint) (r : ℕ)
+    → IsToReader c.config c.own at d.reader_id d.writer_id w (reader_at c.peer r)
+    → (old : State) (moves : List Move) (dues : List Due) (new : State) → Seat m w r old
+    → ReaderTakes c.config c.own c.peer at (Data d) r old moves dues new
+    → MovesBy m w r (with_data d.writer_sn (change_in d.content at.timestamp)) old new
+data_moves c at d m w r to old moves dues new s (inl h) =
+    let same : h.0 ≡ w = one_writer c.config at.source_guid_prefix d.writer_id h.0 w c.checked h.1.from to.from in
+    goes_by m w r (with_data d.writer_sn (change_in d.content at.timestamp)) old moves new s
+    (subst (λ (x : Endpoint). Goes old x r
+    (with_data d.writer_sn (change_in d.content at.timestamp) (old.known.tracked x r)) moves new) same h.2.0)
+data_moves c at d m w r to old moves dues new s (inr h) = absurd (h.0 w to)
+
+pub gap_moves : (c : Host) (at : Receiver) (g : GapBody) (m : Match) (w : Endpoint) (r : ℕ)
+    → IsToReader c.config c.own at g.reader_id g.writer_id w (reader_at c.peer r)
+    → (old : State) (moves : List Move) (dues : List Due) (new : State) → Seat m w r old
+    → ReaderTakes c.config c.own c.peer at (Gap g) r old moves dues new
+    → MovesBy m w r (with_gap g.gap_start g.gap_list) old new
+gap_moves c at g m w r to old moves dues new s (inl h) =
+    let same : h.0 ≡ w = one_writer c.config at.source_guid_prefix g.writer_id h.0 w c.checked h.1.from to.from in
+    goes_by m w r (with_gap g.gap_start g.gap_list) old moves new s
+    (subst (λ (x : Endpoint). Goes old x r (with_gap g.gap_start g.gap_list (old.known.tracked x r)) moves new) same
+    h.2.0)
+gap_moves c at g m w r to old moves dues new s (inr h) = absurd (h.0 w to)
+
+-- ---- a HEARTBEAT
+
+-- the reader took it: its place went on, and this ACKNACK is due, if any is
+pub record HearsBy (c : Host) (at : Receiver) (h : HeartbeatBody) (m : Match) (w : Endpoint) (r : ℕ) (old : State)
+    (dues : List Due) (new : State) : Type 0 where
+  pub is : IsToReader c.config c.own at h.reader_id h.writer_id w (reader_at c.peer r)
+  pub heard : State
+  pub moves : MovesBy m w r (with_heartbeat h.first_sn h.count) old heard
+  pub answer : Option AckNackDue
+  pub answers : AnswersHeartbeat (heard.known.tracked w r) h.last_sn h.final_flag answer
+  pub dues_are : dues ≡ acknacks_due c.own at.source_guid_prefix w.peer is.entity h.writer_id answer
+  pub seat : Seat m w r new
+  pub after : standing_of new w r ≡ standing (answered answer (heard.known.tracked w r))
+      (own_reader heard.part r).happened
+
+-- no assertion
+not_asserting : (flag : Bool) → flag ≡ false
+    → (old : State) (w : Endpoint) (r : ℕ) (count : ℤ) (moves : List Move) (new : State)
+    → Asserting flag old w r count moves new → new ≡ old
+not_asserting false none old w r count moves new h = h.1
+not_asserting true none old w r count moves new h = cc
+
+heartbeat_heard : (c : Host) (at : Receiver) (h : HeartbeatBody) (m : Match) (w : Endpoint) (r : ℕ)
+    → h.liveliness_flag ≡ false → (is : IsToReader c.config c.own at h.reader_id h.writer_id w (reader_at c.peer r))
+    → (old : State) (moves : List Move) (dues : List Due) (new : State) → Seat m w r old
+    → TakesHeartbeat c.own at old w r is.entity h moves dues new → HearsBy c at h m w r old dues new
+heartbeat_heard c at h m w r quiet is old moves dues new s k = record {
+  is = is;
+  heard = k.there;
+  moves = moved;
+  answer = k.answer;
+  answers = k.answers;
+  dues_are = k.dues_are;
+  seat = record {
+    rows = subst (λ (p : Part). HasNumber p.rtps.readers r) (sym part) moved.seat.rows;
+    there = subst (λ (p : Part). HasNumber p.dds.readers r) (sym part) moved.seat.there;
+    handle = ap (λ (p : Part). publication_among (own_proxies p r) w) part ∙ moved.seat.handle;
+    qos = ap (λ (p : Part). (own_reader p r).qos) part ∙ moved.seat.qos;
+    moment = ap (λ (p : Part). p.dds.moment) part ∙ moved.seat.moment;
+    place = ap (λ (p : Part). place_of (own_proxies p r) w) part
+        ∙ (moved.seat.place ∙ ap (λ (n : ℕ). Some n)
+        (sym (ap (λ (t : Tracked). t.place) known ∙ (answered_same k.answer (k.there.known.tracked w r)).0)));
+  };
+  after = ap (λ (t : Tracked). standing t (own_reader new.part r).happened) known
+      ∙ ap (λ (p : Part). standing (answered k.answer (k.there.known.tracked w r)) (own_reader p r).happened) part;
+}
+  where
+    same : k.heard ≡ old
+    same = not_asserting h.liveliness_flag quiet old w r h.count k.hearing k.heard k.asserts
+
+    moved : MovesBy m w r (with_heartbeat h.first_sn h.count) old k.there
+    moved =
+        goes_by m w r (with_heartbeat h.first_sn h.count) old k.going k.there s
+        (subst (λ (x : State). Goes x w r (with_heartbeat h.first_sn h.count (old.known.tracked w r)) k.going k.there)
+        same k.goes)
+
+    part : new.part ≡ k.there.part
+    part = ap (λ (x : State). x.part) k.after
+
+    known : new.known.tracked w r ≡ answered k.answer (k.there.known.tracked w r)
+    known =
+        ap (λ (x : State). x.known.tracked w r) k.after
+        ∙ tracked_here k.there.known w r (answered k.answer (k.there.known.tracked w r))
+
+-- one with a new count, and without flag L, is taken
+pub heartbeat_moves : (c : Host) (at : Receiver) (h : HeartbeatBody) (m : Match) (w : Endpoint) (r : ℕ)
+    → h.liveliness_flag ≡ false → IsToReader c.config c.own at h.reader_id h.writer_id w (reader_at c.peer r)
+    → (old : State) (moves : List Move) (dues : List Due) (new : State) → Seat m w r old
+    → is_later (old.known.tracked w r).count h.count ≡ true
+    → ReaderTakes c.config c.own c.peer at (Heartbeat h) r old moves dues new → HearsBy c at h m w r old dues new
+heartbeat_moves c at h m w r quiet to old moves dues new s later (inl k) =
+    ⊎_elim (λ t. at_writer k.0 same k.1 t)
+    (λ n. let no : is_later (old.known.tracked w r).count h.count
+    ≡ false = subst (λ (x : Endpoint). is_later (old.known.tracked x r).count h.count
+    ≡ false) same n.0 in absurd cc) k.2
+  where
+    same : k.0 ≡ w
+    same = one_writer c.config at.source_guid_prefix h.writer_id k.0 w c.checked k.1.from to.from
+
+    at_writer : (v : Endpoint) → v ≡ w
+        → (is : IsToReader c.config c.own at h.reader_id h.writer_id v (reader_at c.peer r))
+        → TakesHeartbeat c.own at old v r is.entity h moves dues new → HearsBy c at h m w r old dues new
+    at_writer v e is t =
+        subst (λ (x : Endpoint). HearsBy c at h m x r old dues new) e
+        (heartbeat_heard c at h m v r quiet is old moves dues new
+        (subst (λ (x : Endpoint). Seat m x r old) (sym e) s) t)
+heartbeat_moves c at h m w r quiet to old moves dues new s later (inr k) = absurd (k.0 w to)
+
+-- the same, whatever other readers did before and after
+pub hears_between : (c : Host) (at : Receiver) (h : HeartbeatBody) (m : Match) (w : Endpoint) (r : ℕ)
+    (old before after new : State) (dues : List Due) → SameAt old before r → SameAt after new r → Keeps old before
+    → Keeps old new
+    → Seat m w r old → HearsBy c at h m w r before dues after → HearsBy c at h m w r old dues new
+hears_between c at h m w r old before after new dues first last kb k s x = record {
+  is = x.is;
+  heard = x.heard;
+  moves = record {
+    seat = x.moves.seat;
+    goes =
+        subst (λ (t : Tracked). GoesOn m (with_heartbeat h.first_sn h.count t) (own_reader old.part r).happened
+        (standing_of x.heard w r)) (first.tracked w)
+        (subst (λ (y : Reader). GoesOn m (with_heartbeat h.first_sn h.count (before.known.tracked w r)) y.happened
+        (standing_of x.heard w r)) first.reader x.moves.goes);
+  };
+  answer = x.answer;
+  answers = x.answers;
+  dues_are = x.dues_are;
+  seat =
+      seat_as m w r after new last (has_as old.part.rtps.readers new.part.rtps.readers r k.rows s.rows)
+      (has_as old.part.dds.readers new.part.dds.readers r k.readers s.there) x.seat;
+  after = standing_as w r after new last ∙ x.after;
+}

@@ -1,0 +1,167 @@
+-- A tick sends each HEARTBEAT of a writer as one message, and leaves what its readers have and know.
+use Rattle.std.proofs.Common.{◌≡◌, ◌⊎◌, ℕ, ℤ, pos, ◌+◌, ◌≤ℤ◌, Bool, true, false, List, [], ◌∷◌, Option, Some, None, Contains, length}
+use Rattle.std.proofs.Common.{refl, subst, ap, sym, ◌∙◌, inl, inr, ⊎_elim, arith, int_lt}
+use Rattle.std.specs.List.{All}
+use Rattle.std.proofs.lemmas.Int.{ints}
+use Rattle.std.proofs.lemmas.List.Elements.{All-contains}
+use Rattle.dds_base.specs.declared.config.Config.{Config}
+use Rattle.dds_base.specs.Checked.{check_refusal}
+use Rattle.dds_base.specs.Counts.{is_later}
+use Rattle.rtps_wire.specs.declared.heartbeat.Heartbeat.{Heartbeat as HeartbeatBody}
+use Rattle.rtps_wire.specs.declared.message.Message.{Message}
+use Rattle.rtps_wire.specs.declared.submessage.Submessage.TheVariants.{Heartbeat}
+use Rattle.rtps_wire.specs.Messages.{IsWritable, spelling_of}
+use Rattle.dds_machine.specs.declared.endpoint.Endpoint.{Endpoint}
+use Rattle.dds_protocol.specs.declared.event.Event.TheVariants as event
+use Rattle.dds_protocol.specs.declared.event.Packet.{Packet}
+use Rattle.dds_machine.specs.declared.event.WorldEvent.TheVariants as world
+use Rattle.dds_machine.specs.declared.reply.Reply.{Reply}
+use Rattle.dds_machine.specs.declared.reply.Reply.TheVariants.{Done}
+use Rattle.dds_machine.specs.Part.{Part, own_writer, writer_changes}
+use Rattle.dds_machine.specs.Ticks.{TickStep}
+use Rattle.dds_protocol.specs.Receipt.{prefix_of}
+use Rattle.dds_protocol.specs.Dues.{IsPartOf}
+use Rattle.dds_machine.specs.Machine.{AllTests}
+use Rattle.dds_protocol.specs.Peer.{Peer, no_peer}
+use Rattle.dds_protocol.specs.DueMessages.{Due, writer_entity, heartbeats_due}
+use Rattle.dds_machine.specs.Numbered.{HasNumber}
+use Rattle.dds_protocol.specs.World.{WorldState, WorldStep, PeerSteps, peer_at}
+use Rattle.dds_protocol.specs.Fresh.{HasHeartbeat}
+use Rattle.dds_protocol.specs.Rules.{RuledStep}
+use Rattle.dds_protocol.proofs.CountsWritten.{one_beat}
+use Rattle.dds_protocol.proofs.Dues.{message_to}
+use Rattle.dds_protocol.proofs.DuesHeartbeats.{beat_body, of_all}
+use Rattle.dds_protocol.proofs.DuesMatched.{own_name}
+use Rattle.dds_protocol.proofs.DuesParts.{tick_changes}
+use Rattle.dds_protocol.proofs.FreshCounts.{IsWrittenOf, sent_written, known_of}
+use Rattle.dds_protocol.proofs.Growth.{TickStep-rows, TickStep-readers, TickStep-acknowledged}
+use Rattle.dds_protocol.proofs.OwnGuids.{one_writer}
+use Rattle.dds_machine.proofs.Tables.{numbered-cases}
+
+-- a count that is above all that were taken is new
+pub new_count : (o : Option ℤ) (n : ℕ) → ((count : ℤ) → o ≡ Some count → count ≤ℤ pos n)
+    → is_later o (pos (n + 1)) ≡ true
+new_count None n used = refl
+new_count (Some last) n used = by (int_lt last (pos (n + 1))) refl
+  where
+    by : (b : Bool) → int_lt last (pos (n + 1)) ≡ b → int_lt last (pos (n + 1)) ≡ true
+    by true e = e
+    by false e = let low = used last refl in absurd (omega (arith, ints, low))
+
+-- the HEARTBEAT of the peer's writer of this number
+abbrev pub beat_of : Config → ℕ → Part → ℕ → HeartbeatBody
+beat_of config peer part number = beat_body config peer part number false false
+
+abbrev pub beat_message : Config → ℕ → Part → ℕ → ℕ → Message
+beat_message config peer part number to =
+    message_to (prefix_of config peer) (prefix_of config to) (Heartbeat (beat_of config peer part number) ∷ [])
+
+-- a message with a HEARTBEAT of a writer is that of the peer's writer
+record IsBeatOf (config : Config) (peer : ℕ) (part : Part) (due : Due) : Type 0 where
+  is : (w : Endpoint) (count : ℤ) → IsWritable due.message → HasHeartbeat config (spelling_of due.message) w count
+      → due.message ≡ beat_message config peer part w.number due.to
+
+beats_of : (config : Config) (peer : ℕ) (part : Part) → check_refusal config.peers ≡ None → IsPartOf config peer part
+    → All (IsBeatOf config peer part) (heartbeats_due config peer part)
+beats_of config peer part checked of =
+    of_all config peer part (IsBeatOf config peer part)
+    (λ number to there left behind. record {
+      is = λ w count writable has.
+          let me : Endpoint = record { peer = peer; number = number } in
+          let found =
+          one_beat config (prefix_of config peer) (prefix_of config to)
+          (beat_of config peer part number) w count writable has in
+          let same : w ≡ me =
+          one_writer config (prefix_of config peer) (writer_entity config peer number) w me checked found.0
+          (own_name config peer part of number there).name in
+          ap (λ (e : Endpoint). beat_message config peer part e.number to) (sym same);
+    })
+
+-- a packet with a HEARTBEAT of the writer, as it is written
+pub record BeatPacket (config : Config) (part : Part) (writer : Endpoint) (packet : Packet) : Type 0 where
+  pub writable : IsWritable (beat_message config writer.peer part writer.number packet.to)
+  pub bytes : packet.bytes ≡ spelling_of (beat_message config writer.peer part writer.number packet.to)
+
+pub beat_packet : (config : Config) (tests : AllTests) (old : WorldState) (now lost : ℕ) (new : WorldState)
+    (writer : Endpoint) (packet : Packet) (count : ℤ) → check_refusal config.peers ≡ None
+    → IsPartOf config writer.peer (peer_at old writer.peer).part
+    → (h : RuledStep config tests old (world.Tick writer.peer now) Done lost new)
+    → Contains h.packets packet → HasHeartbeat config packet.bytes writer count
+    → BeatPacket config (peer_at old writer.peer).part writer packet
+beat_packet config tests old now lost new writer packet count checked of h among has =
+    record {
+      writable = subst (λ (m : Message). IsWritable m) message d.writable;
+      bytes = ap (λ (p : Packet). p.bytes) d.is ∙ ap (λ (m : Message). spelling_of m) message;
+    }
+  where
+    part : Part
+    part = (peer_at old writer.peer).part
+
+    d : IsWrittenOf h.dues packet
+    d = sent_written config tests old (world.Tick writer.peer now) Done lost new h packet among
+
+    is_beat : IsBeatOf config writer.peer part d.due
+    is_beat =
+        All-contains (IsBeatOf config writer.peer part) (heartbeats_due config writer.peer part) d.due
+        (beats_of config writer.peer part checked of)
+        (subst (λ (ds : List Due). Contains ds d.due) h.due d.among)
+
+    message : d.due.message ≡ beat_message config writer.peer part writer.number packet.to
+    message =
+        is_beat.is writer count d.writable (subst (λ (p : Packet). HasHeartbeat config p.bytes writer count) d.is has)
+        ∙ ap (λ (p : Packet). beat_message config writer.peer part writer.number p.to) (sym d.is)
+
+-- what a tick leaves at each peer
+pub record TickLeaves (old new : WorldState) (p : ℕ) : Type 0 where
+  pub known : (peer_at new p).known ≡ (peer_at old p).known
+  pub rows : (peer_at new p).part.rtps.readers ≡ (peer_at old p).part.rtps.readers
+  pub readers : length (peer_at new p).part.dds.readers ≡ length (peer_at old p).part.dds.readers
+  pub changes : (k : ℕ) → writer_changes (own_writer (peer_at new p).part k)
+      ≡ writer_changes (own_writer (peer_at old p).part k)
+  pub acknowledged : (k : ℕ) → (own_writer (peer_at new p).part k).readers ≡ (own_writer (peer_at old p).part k).readers
+
+leaves_all : (old new : WorldState) (p : ℕ) → peer_at new p ≡ peer_at old p → TickLeaves old new p
+leaves_all old new p same = record {
+  known = ap (λ (x : Peer). x.known) same;
+  rows = ap (λ (x : Peer). x.part.rtps.readers) same;
+  readers = ap (λ (x : Peer). length x.part.dds.readers) same;
+  changes = λ k. ap (λ (x : Peer). writer_changes (own_writer x.part k)) same;
+  acknowledged = λ k. ap (λ (x : Peer). (own_writer x.part k).readers) same;
+}
+
+steps_leave : (config : Config) (tests : AllTests) (old : WorldState) (peer now : ℕ) (new : WorldState)
+    → (h : PeerSteps config (tests peer) old peer (event.Tick now) Done new) → (p : ℕ)
+    → (peer_at new p ≡ peer_at old p) ⊎ ((p ≡ peer) × (peer_at new p ≡ h.after)) → TickLeaves old new p
+steps_leave config tests old peer now new h p (inl e) = leaves_all old new p e
+steps_leave config tests old peer now new h p (inr s) =
+    let step : TickStep (peer_at old p).part now Done h.after.part =
+    subst (λ (n : ℕ). TickStep (peer_at old n).part now Done h.after.part) (sym s.0)
+    (subst (λ (r : Reply). TickStep (peer_at old peer).part now r h.after.part) h.replies h.step.step.0) in
+    record {
+      known = known_of config (tests peer) old peer (event.Tick now) Done new h h.step.knows p;
+      rows = ap (λ (x : Peer). x.part.rtps.readers) s.1 ∙ TickStep-rows (peer_at old p).part now Done h.after.part step;
+      readers =
+          ap (λ (x : Peer). length x.part.dds.readers) s.1
+          ∙ TickStep-readers (peer_at old p).part now Done h.after.part step;
+      changes =
+          λ k. ap (λ (x : Peer). writer_changes (own_writer x.part k)) s.1
+          ∙ tick_changes (peer_at old p).part now Done h.after.part step k;
+      acknowledged =
+          λ k. ap (λ (x : Peer). (own_writer x.part k).readers) s.1
+          ∙ TickStep-acknowledged (peer_at old p).part now Done h.after.part step k;
+    }
+
+pub tick_leaves : (config : Config) (tests : AllTests) (old : WorldState) (peer now : ℕ) (new : WorldState)
+    → WorldStep config tests old (world.Tick peer now) Done new → (p : ℕ) → TickLeaves old new p
+tick_leaves config tests old peer now new (inl h) p =
+    steps_leave config tests old peer now new h p
+    (⊎_elim (λ e. inl (ap (λ (x : WorldState). peer_at x p) h.changed ∙ e))
+    (λ s. inr (s.0, ap (λ (x : WorldState). peer_at x p) h.changed ∙ s.1))
+    (numbered-cases old.peers peer h.after p no_peer))
+tick_leaves config tests old peer now new (inr h) p = let r = h.1.is_refused in absurd cc
+
+-- the peer that ticks is there
+pub ticks_there : (config : Config) (tests : AllTests) (old : WorldState) (peer now : ℕ) (new : WorldState)
+    → WorldStep config tests old (world.Tick peer now) Done new → HasNumber old.peers peer
+ticks_there config tests old peer now new (inl h) = h.within
+ticks_there config tests old peer now new (inr h) = let r = h.1.is_refused in absurd cc

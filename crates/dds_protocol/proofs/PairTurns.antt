@@ -1,0 +1,326 @@
+-- The readers of a peer take a submessage up in turn: what one of them does, the others leave as it is.
+use Rattle.std.proofs.Common.{◌≡◌, ◌⊎◌, ℕ, ℤ, zero, suc, ◌+◌, ◌<◌, ◌≤◌, Bool, true, false, List, [], Option, Some, None, Contains, length}
+use Rattle.std.proofs.Common.{refl, subst, ap, sym, ◌∙◌, inl, inr, ⊎_elim, arith}
+use Rattle.std.proofs.lemmas.Bool.{cases_lt}
+use Rattle.std.proofs.lemmas.List.Elements.{Contains-append_cases, Contains-append_left, Contains-append_right}
+use Rattle.dds_base.specs.declared.config.Config.{Config}
+use Rattle.dds_base.specs.declared.guid.EntityId.{EntityId}
+use Rattle.dds_base.specs.declared.guid.GuidPrefix.{GuidPrefix}
+use Rattle.dds_base.specs.Checked.{check_refusal}
+use Rattle.dds_base.specs.Kept.{numbers_from}
+use Rattle.rtps_reader.specs.declared.step.AckNackDue.{AckNackDue}
+use Rattle.rtps_reader.specs.Tracked.{Tracked, with_data, with_gap, with_heartbeat}
+use Rattle.rtps_reader.specs.Answer.{answered}
+use Rattle.rtps_wire.specs.declared.acknack.AckNack.{AckNack as AckNackBody}
+use Rattle.rtps_wire.specs.declared.heartbeat.Heartbeat.{Heartbeat as HeartbeatBody}
+use Rattle.rtps_wire.specs.declared.submessage.Submessage.{Submessage}
+use Rattle.rtps_wire.specs.declared.submessage.Submessage.TheVariants.{Pad, InfoDst, InfoTs, Data, Heartbeat, AckNack, Gap, Other}
+use Rattle.rtps_wire.specs.Content.{change_in}
+use Rattle.rtps_wire.specs.declared.seek.Sought.TheVariants as sought
+use Rattle.rtps_wire.specs.Messages.{IsWritable, spelling_of}
+use Rattle.rtps_wire.specs.Sought.{HasSought}
+use Rattle.dds_machine.specs.declared.endpoint.Endpoint.{Endpoint}
+use Rattle.dds_machine.specs.declared.reply.Move.{Move}
+use Rattle.dds_machine.specs.Part.{WriterProxy, own_proxies, own_reader, with_heard}
+use Rattle.dds_protocol.specs.Claims.{Receiver, IsReader, IsToReader}
+use Rattle.dds_protocol.specs.DueMessages.{Due, acknack_message, acknacks_due}
+use Rattle.dds_protocol.specs.Protocol.{State, InTurn, Goes, Asserting, TakesHeartbeat, Idles, ReaderTakes, with_tracked}
+use Rattle.dds_protocol.specs.Backed.{reader_at}
+use Rattle.dds_protocol.specs.Fresh.{HasAckNack}
+use Rattle.dds_protocol.proofs.Composed.{is_alone}
+use Rattle.dds_protocol.proofs.CountsWritten.{one_ask, one_sought}
+use Rattle.dds_protocol.proofs.DuesAcknacks.{ask_body, answer_names}
+use Rattle.dds_protocol.proofs.Framing.{Frames, frames_at, frames_known, has_handle, number_or_not}
+use Rattle.dds_protocol.proofs.Learning.{goes_learns}
+use Rattle.dds_protocol.proofs.Ruled.{goes_frames}
+use Rattle.dds_protocol.proofs.RuledTurns.{SameAt, same_on, same_by}
+use Rattle.dds_machine.proofs.Tables.{length-with_numbered}
+use Rattle.dds_protocol.proofs.Turns.{in_turn}
+
+-- a peer of a configuration
+pub record Host : Type 0 where
+  pub config : Config
+  pub checked : check_refusal config.peers ≡ None
+  pub peer : ℕ
+  pub own : GuidPrefix
+
+-- what the peer's writers have is as it was, and no reader is gone
+pub record Keeps (old new : State) : Type 0 where
+  pub writers : new.part.rtps.writers ≡ old.part.rtps.writers
+  pub answered : (v : ℕ) (x : Endpoint) → new.known.answered v x ≡ old.known.answered v x
+  pub rows : length new.part.rtps.readers ≡ length old.part.rtps.readers
+  pub readers : length new.part.dds.readers ≡ length old.part.dds.readers
+
+pub keeps_same : (s : State) → Keeps s s
+keeps_same s = record { writers = refl; answered = λ v x. refl; rows = refl; readers = refl }
+
+pub keeps_on : (a b c : State) → Keeps a b → Keeps b c → Keeps a c
+keeps_on a b c f g = record {
+  writers = g.writers ∙ f.writers;
+  answered = λ v x. g.answered v x ∙ f.answered v x;
+  rows = g.rows ∙ f.rows;
+  readers = g.readers ∙ f.readers;
+}
+
+pub at_same : (s : State) (r : ℕ) → SameAt s s r
+at_same s r = record { moment = refl; proxies = refl; reader = refl; tracked = λ w. refl }
+
+-- so is each reader but this one
+pub record Leaves (old : State) (k : ℕ) (new : State) : Type 0 where
+  pub same : (r : ℕ) → (r ≡ k → ⊥) → SameAt old new r
+  pub keeps : Keeps old new
+
+leaves_same : (s : State) (k : ℕ) → Leaves s k s
+leaves_same s k = record { same = λ r n. at_same s r; keeps = keeps_same s }
+
+leaves_on : (a b c : State) (k : ℕ) → Leaves a k b → Leaves b k c → Leaves a k c
+leaves_on a b c k f g =
+    record { same = λ r n. same_on a b c r (f.same r n) (g.same r n); keeps = keeps_on a b c f.keeps g.keeps }
+
+leaves_idle : (old : State) (k : ℕ) (moves : List Move) (dues : List Due) (new : State) → Idles old moves dues new
+    → Leaves old k new
+leaves_idle old k moves dues new h = subst (λ (s : State). Leaves old k s) (sym h.2) (leaves_same old k)
+
+leaves_by : (old new : State) (w : Endpoint) (k : ℕ) → Frames old w k new → Keeps old new → Leaves old k new
+leaves_by old new w k f h = record { same = λ r n. same_by old new w k r f n; keeps = h }
+
+goes_leaves : (old : State) (w : Endpoint) (r : ℕ) (t : Tracked) (moves : List Move) (new : State)
+    → Goes old w r t moves new → Leaves old r new
+goes_leaves old w r t moves new g = leaves_by old new w r frames (record {
+  writers = frames.writers;
+  answered = (goes_learns old w r t moves new g).answered;
+  rows = frames.count;
+  readers = ap (λ (s : State). length s.part.dds.readers) g.after
+      ∙ length-with_numbered old.part.dds.readers r (record (own_reader old.part r) { happened = g.happened });
+})
+  where
+    frames : Frames old w r new
+    frames = goes_frames old w r t moves new g
+
+asserting_leaves : (flag : Bool) (old : State) (w : Endpoint) (r : ℕ) (count : ℤ) (moves : List Move) (new : State)
+    → Asserting flag old w r count moves new → Leaves old r new
+asserting_leaves true old w r count moves new h =
+    leaves_by old new w r
+    (subst (λ (s : State). Frames old w r s) (sym h.0.after)
+    (frames_at old w r (λ (p : WriterProxy). record p { heard = Some count }) (λ p. refl) _ old.known
+    (has_handle old.part r h.0.publication w h.0.handle) (λ v k apart. refl)))
+    (record {
+      writers = ap (λ (s : State). s.part.rtps.writers) h.0.after;
+      answered = λ v x. ap (λ (s : State). s.known.answered v x) h.0.after;
+      rows = ap (λ (s : State). length s.part.rtps.readers) h.0.after
+          ∙ length-with_numbered old.part.rtps.readers r (with_heard (own_proxies old.part r) w count);
+      readers = ap (λ (s : State). length s.part.dds.readers) h.0.after ∙ length-with_numbered old.part.dds.readers r _;
+    })
+asserting_leaves false old w r count moves new h = subst (λ (s : State). Leaves old r s) (sym h.1) (leaves_same old r)
+
+heartbeat_leaves : (own : GuidPrefix) (at : Receiver) (old : State) (w : Endpoint) (r : ℕ) (entity : EntityId)
+    (h : HeartbeatBody) (moves : List Move) (dues : List Due) (new : State)
+    → TakesHeartbeat own at old w r entity h moves dues new → Leaves old r new
+heartbeat_leaves own at old w r entity h moves dues new k =
+    leaves_on old k.there new r
+    (leaves_on old k.heard k.there r (asserting_leaves h.liveliness_flag old w r h.count k.hearing k.heard k.asserts)
+    (goes_leaves k.heard w r (with_heartbeat h.first_sn h.count (old.known.tracked w r)) k.going k.there k.goes))
+    (subst (λ (s : State). Leaves k.there r s) (sym k.after)
+    (leaves_by k.there
+    (record k.there { known = with_tracked k.there.known w r (answered k.answer (k.there.known.tracked w r)) }) w r
+    (frames_known k.there w r (answered k.answer (k.there.known.tracked w r)))
+    (record { writers = refl; answered = λ v x. refl; rows = refl; readers = refl })))
+
+-- what a reader does leaves all else at the peer
+pub reader_leaves : (c : Host) (at : Receiver) (s : Submessage) (k : ℕ) (old : State) (moves : List Move)
+    (dues : List Due) (new : State)
+    → ReaderTakes c.config c.own c.peer at s k old moves dues new → Leaves old k new
+reader_leaves c at (Data d) k old moves dues new (inl h) =
+    goes_leaves old h.0 k (with_data d.writer_sn (change_in d.content at.timestamp) (old.known.tracked h.0 k)) moves new
+    h.2.0
+reader_leaves c at (Data d) k old moves dues new (inr h) = leaves_idle old k moves dues new h.1
+reader_leaves c at (Gap g) k old moves dues new (inl h) =
+    goes_leaves old h.0 k (with_gap g.gap_start g.gap_list (old.known.tracked h.0 k)) moves new h.2.0
+reader_leaves c at (Gap g) k old moves dues new (inr h) = leaves_idle old k moves dues new h.1
+reader_leaves c at (Heartbeat b) k old moves dues new (inl h) =
+    ⊎_elim (λ t. heartbeat_leaves c.own at old h.0 k h.1.entity b moves dues new t)
+    (λ n. leaves_idle old k moves dues new n.1) h.2
+reader_leaves c at (Heartbeat b) k old moves dues new (inr h) = leaves_idle old k moves dues new h.1
+reader_leaves c at (AckNack a) k old moves dues new h = leaves_idle old k moves dues new h
+reader_leaves c at Pad k old moves dues new h = leaves_idle old k moves dues new h
+reader_leaves c at (InfoDst x) k old moves dues new h = leaves_idle old k moves dues new h
+reader_leaves c at (InfoTs x) k old moves dues new h = leaves_idle old k moves dues new h
+reader_leaves c at (Other x) k old moves dues new h = leaves_idle old k moves dues new h
+
+-- ---- whose ACKNACK is due
+
+-- an ACKNACK there is that of this reader of the peer, and its readerId names that
+pub record Asks (c : Host) (k : ℕ) (due : Due) : Type 0 where
+  pub named : (reader writer : EntityId) → HasSought (sought.AckNack reader writer) due.message.submessages
+      → IsReader c.config c.own reader (reader_at c.peer k)
+  pub is : (w x : Endpoint) (count : ℤ) → IsWritable due.message
+      → HasAckNack c.config (spelling_of due.message) w x count → x ≡ reader_at c.peer k
+
+none_asks : (c : Host) (k : ℕ) (dues : List Due) → dues ≡ [] → (due : Due) → Contains dues due → Asks c k due
+none_asks c k dues none due among =
+    let empty = ap (λ (ds : List Due). length ds) none in let lt = among.1 in absurd (omega (arith, empty, lt))
+
+due_asks : (c : Host) (at : Receiver) (reader_id writer_id : EntityId) (w : Endpoint) (k : ℕ)
+    (is : IsToReader c.config c.own at reader_id writer_id w (reader_at c.peer k))
+    (answer : Option AckNackDue) (due : Due)
+    → Contains (acknacks_due c.own at.source_guid_prefix w.peer is.entity writer_id answer) due → Asks c k due
+due_asks c at reader_id writer_id w k is None due among = let lt = among.1 in absurd (omega (arith, lt))
+due_asks c at reader_id writer_id w k is (Some x) due among =
+    subst (λ (d : Due). Asks c k d) (is_alone the due among) (record {
+      named = λ reader writer has.
+          subst (λ (i : EntityId). IsReader c.config c.own i (reader_at c.peer k))
+          (one_sought (sought.AckNack reader writer) at.source_guid_prefix (AckNack body) (λ none. none) has).0
+          is.to;
+      is = λ v y count writable has.
+          let found = one_ask c.config c.own at.source_guid_prefix body v y count writable has in
+          (answer_names c.config c.checked c.own at reader_id writer_id w
+          (reader_at c.peer k) is found.0 v y found.1).1;
+    })
+  where
+    body : AckNackBody
+    body = ask_body is.entity writer_id x
+
+    the : Due
+    the = record { to = w.peer; message = acknack_message c.own at.source_guid_prefix is.entity writer_id x }
+
+pub reader_asks : (c : Host) (at : Receiver) (s : Submessage) (k : ℕ) (old : State) (moves : List Move)
+    (dues : List Due) (new : State)
+    → ReaderTakes c.config c.own c.peer at s k old moves dues new → (due : Due) → Contains dues due → Asks c k due
+reader_asks c at (Data d) k old moves dues new h = none_asks c k dues (⊎_elim (λ t. t.2.1) (λ n. n.1.1) h)
+reader_asks c at (Gap g) k old moves dues new h = none_asks c k dues (⊎_elim (λ t. t.2.1) (λ n. n.1.1) h)
+reader_asks c at (Heartbeat b) k old moves dues new (inl h) =
+    ⊎_elim
+    (λ (t : TakesHeartbeat c.own at old h.0 k h.1.entity b moves dues new). λ due among.
+    due_asks c at b.reader_id b.writer_id h.0 k h.1 t.answer due
+    (subst (λ (ds : List Due). Contains ds due) t.dues_are among))
+    (λ n. none_asks c k dues n.1.1) h.2
+reader_asks c at (Heartbeat b) k old moves dues new (inr h) = none_asks c k dues h.1.1
+reader_asks c at (AckNack a) k old moves dues new h = none_asks c k dues h.1
+reader_asks c at Pad k old moves dues new h = none_asks c k dues h.1
+reader_asks c at (InfoDst x) k old moves dues new h = none_asks c k dues h.1
+reader_asks c at (InfoTs x) k old moves dues new h = none_asks c k dues h.1
+reader_asks c at (Other x) k old moves dues new h = none_asks c k dues h.1
+
+-- ---- readers in turn
+
+-- the due message is of another reader than this one
+pub record OfOther (c : Host) (r : ℕ) (due : Due) : Type 0 where
+  pub reader : ℕ
+  pub other : reader ≡ r → ⊥
+  pub asks : Asks c reader due
+
+-- what one reader did, when its turn came
+pub record TurnOf (c : Host) (at : Receiver) (s : Submessage) (r : ℕ) (old : State) (dues : List Due)
+    (new : State) : Type 0 where
+  pub before : State
+  pub after : State
+  pub made : List Move
+  pub due : List Due
+  pub same_before : SameAt old before r
+  pub keeps_before : Keeps old before
+  pub takes : ReaderTakes c.config c.own c.peer at s r before made due after
+  pub same_after : SameAt after new r
+  pub each : (d : Due) → Contains dues d → Contains due d ⊎ OfOther c r d
+  pub among : (d : Due) → Contains due d → Contains dues d
+
+abbrev Turns : Host → Receiver → Submessage → ℕ → ℕ → State → List Move → List Due → State → Type 0
+Turns c at s first count old moves dues new =
+    InTurn (ReaderTakes c.config c.own c.peer at s) (numbers_from first count) old moves dues new
+
+pub turns_keep : (c : Host) (at : Receiver) (s : Submessage) (first count : ℕ) (old : State) (moves : List Move)
+    (dues : List Due) (new : State) → Turns c at s first count old moves dues new → Keeps old new
+turns_keep c at s first count old moves dues new h =
+    in_turn (λ a ds b. Keeps a b) keeps_same (λ a b d ds es f g. keeps_on a b d f g)
+    (ReaderTakes c.config c.own c.peer at s)
+    (λ k a ms ds b t. (reader_leaves c at s k a ms ds b t).keeps) (numbers_from first count) old moves dues new h
+
+-- those after it
+record Later (c : Host) (r : ℕ) (old : State) (dues : List Due) (new : State) : Type 0 where
+  same : SameAt old new r
+  others : (d : Due) → Contains dues d → OfOther c r d
+
+later_turns : (c : Host) (at : Receiver) (s : Submessage) (r first count : ℕ) (old : State) (moves : List Move)
+    (dues : List Due) (new : State) → r < first → Turns c at s first count old moves dues new → Later c r old dues new
+later_turns c at s r first zero old moves dues new past h = record {
+  same = subst (λ (x : State). SameAt old x r) (sym h.2) (at_same old r);
+  others =
+      λ d among. let empty = ap (λ (ds : List Due). length ds) h.1 in let lt = among.1 in
+      absurd (omega (arith, empty, lt));
+}
+later_turns c at s r first (suc count) old moves dues new past h =
+    let rest : Later c r h.4 h.3 new =
+    later_turns c at s r (first + 1) count h.4 h.1 h.3 new (omega (arith, past)) h.8 in
+    let not_r : r ≡ first → ⊥ = λ e. omega (arith, past, e) in
+    record {
+      same = same_on old h.4 new r ((reader_leaves c at s first old h.0 h.2 h.4 h.7).same r not_r) rest.same;
+      others = λ d among.
+          ⊎_elim (λ f. record {
+            reader = first;
+            other = λ e. not_r
+                (sym e);
+            asks = reader_asks c at s first old h.0 h.2 h.4 h.7 d f;
+          }) (λ l. rest.others d l)
+          (Contains-append_cases h.2 h.3 d (subst (λ (ds : List Due). Contains ds d) h.6 among));
+    }
+
+turn_first : (c : Host) (at : Receiver) (s : Submessage) (r count : ℕ) (old : State) (moves : List Move)
+    (dues : List Due) (new : State) → Turns c at s r (suc count) old moves dues new → TurnOf c at s r old dues new
+turn_first c at s r count old moves dues new h =
+    let rest : Later c r h.4 h.3 new = later_turns c at s r (r + 1) count h.4 h.1 h.3 new (omega arith) h.8 in
+    record {
+      before = old;
+      after = h.4;
+      made = h.0;
+      due = h.2;
+      same_before = at_same old r;
+      keeps_before = keeps_same old;
+      takes = h.7;
+      same_after = rest.same;
+      each =
+          λ d among. ⊎_elim (λ f. inl f) (λ l. inr (rest.others d l))
+          (Contains-append_cases h.2 h.3 d (subst (λ (ds : List Due). Contains ds d) h.6 among));
+      among = λ d own. subst (λ (ds : List Due). Contains ds d) (sym h.6) (Contains-append_left h.2 h.3 d own);
+    }
+
+turn_later : (c : Host) (at : Receiver) (s : Submessage) (r first count : ℕ) (old : State) (moves : List Move)
+    (dues : List Due) (new : State) → (r ≡ first → ⊥)
+    → (h : Turns c at s first (suc count) old moves dues new) → TurnOf c at s r h.4 h.3 new
+    → TurnOf c at s r old dues new
+turn_later c at s r first count old moves dues new not_r h t = record {
+  before = t.before;
+  after = t.after;
+  made = t.made;
+  due = t.due;
+  same_before = same_on old h.4 t.before r (left.same r not_r) t.same_before;
+  keeps_before = keeps_on old h.4 t.before left.keeps t.keeps_before;
+  takes = t.takes;
+  same_after = t.same_after;
+  each = λ d among.
+      ⊎_elim (λ f. inr (record {
+        reader = first;
+        other = λ e. not_r
+            (sym e);
+        asks = reader_asks c at s first old h.0 h.2 h.4 h.7 d f;
+      })) (λ l. t.each d l)
+      (Contains-append_cases h.2 h.3 d (subst (λ (ds : List Due). Contains ds d) h.6 among));
+  among = λ d own. subst (λ (ds : List Due). Contains ds d) (sym h.6) (Contains-append_right h.2 h.3 d (t.among d own));
+}
+  where
+    left : Leaves old first h.4
+    left = reader_leaves c at s first old h.0 h.2 h.4 h.7
+
+-- another number that is no less is greater
+pub above : (r first : ℕ) → first ≤ r → (r ≡ first → ⊥) → first + 1 ≤ r
+above r first low apart =
+    ⊎_elim (λ lt. omega (arith, lt)) (λ ge. absurd (apart (omega (arith, low, ge)))) (cases_lt first r)
+
+pub turn_of : (c : Host) (at : Receiver) (s : Submessage) (r first count : ℕ) (old : State) (moves : List Move)
+    (dues : List Due) (new : State) → first ≤ r → r < first + count
+    → Turns c at s first count old moves dues new → TurnOf c at s r old dues new
+turn_of c at s r first zero old moves dues new low high h = absurd (omega (arith, low, high))
+turn_of c at s r first (suc count) old moves dues new low high h =
+    ⊎_elim (λ e. turn_first c at s r count old moves dues new
+    (subst (λ (n : ℕ). Turns c at s n (suc count) old moves dues new) (sym e) h))
+    (λ n. turn_later c at s r first count old moves dues new n h
+    (turn_of c at s r (first + 1) count h.4 h.1 h.3 new (above r first low n) (omega (arith, high)) h.8))
+    (number_or_not r first)

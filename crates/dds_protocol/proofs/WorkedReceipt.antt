@@ -1,0 +1,344 @@
+-- What the submessages of one packet do, computed for a packet of two changes from a writer w1 at peer 1 to a reader r1
+-- at peer 2: which moves there must be, and where a submessage that finds no memory may stand.
+use Rattle.std.proofs.Common.{◌≡◌, ◌≢◌, ◌⊎◌, ℕ, zero, suc, ◌+◌, ◌-◌, ◌≤◌, ◌<◌, false, Option, Some, None, List, [], ◌∷◌, ◌++◌, refl, sym, ◌∙◌, ap, subst, inl, inr, ⊎_elim, arith, slice_get, length}
+use Rattle.std.specs.Prelude.{slice_index}
+use Rattle.dds_base.specs.declared.change.Change.{Change}
+use Rattle.dds_base.specs.declared.config.Config.{Config}
+use Rattle.dds_base.specs.declared.config.PeerConfig.{PeerConfig}
+use Rattle.dds_base.specs.declared.guid.EntityId.{EntityId}
+use Rattle.dds_base.specs.declared.guid.GuidPrefix.{GuidPrefix}
+use Rattle.dds_base.specs.declared.happening.Happening.{Happening}
+use Rattle.dds_base.specs.declared.happening.Happening.TheVariants.{Took}
+use Rattle.dds_base.specs.declared.qos.HistoryQos.TheVariants.{KeepAll}
+use Rattle.dds_base.specs.Presence.{has_room}
+use Rattle.dds_base.specs.Written.{Changed}
+use Rattle.rtps_wire.specs.declared.data.Data.{Data as DataBody}
+use Rattle.rtps_wire.specs.declared.data.DataContent.TheVariants.{Write}
+use Rattle.rtps_wire.specs.declared.submessage.Submessage.{Submessage}
+use Rattle.rtps_wire.specs.declared.submessage.Submessage.TheVariants.{InfoDst, InfoTs, Data}
+use Rattle.dds_conditions.specs.Watched.{opened as nothing_watched}
+use Rattle.dds_notices.specs.Listeners.{nobody}
+use Rattle.dds_machine.specs.declared.endpoint.Endpoint.{Endpoint}
+use Rattle.dds_machine.specs.declared.reply.Move.{Move}
+use Rattle.dds_machine.specs.declared.reply.Move.TheVariants.{Place, Acknowledged}
+use Rattle.dds_machine.specs.Part.{Part, Writer, own_reader, nothing_seen}
+use Rattle.dds_base.specs.Places.{coming}
+use Rattle.dds_machine.specs.Moves.{Grounds, match_of, position_at, AreMoves}
+use Rattle.dds_protocol.specs.Claims.{Receiver, receiver_of, after_submessage, IsNumbered, IsWriter, IsReader, IsToReader}
+use Rattle.dds_machine.specs.Machine.{grounds_of}
+use Rattle.dds_protocol.specs.Receipt.{GoesOver, HasNoRoom, MovesOver, TakesUp}
+use Rattle.dds_protocol.proofs.WorkedReceivers.{prefix_1, prefix_2, w1_id, r1_id, writer, reader, w1, r1, to_2, w1_named, reader_named, some_is}
+use Rattle.dds_protocol.proofs.WorkedExamples.{key}
+use Rattle.dds_protocol.proofs.WorkedMoves.{peer_1, peer_2, pair, writing, part_2, machine, write_of, came, came_1, comes_next}
+
+-- ---- what goes over a place
+
+goes_over-1 : GoesOver w1 1 1 (Place w1 1 2 [] ∷ [])
+goes_over-1 = inl (refl, refl, omega arith)
+
+goes_over-by_a_later_move : GoesOver w1 1 2 (Place w1 1 2 [] ∷ Acknowledged 1 r1 5 ∷ Place w1 1 3 [] ∷ [])
+goes_over-by_a_later_move = inr (inl (refl, refl, omega arith))
+
+-- the place stands at 2, and not beyond it
+goes_over-not_2 : GoesOver w1 1 2 (Place w1 1 2 [] ∷ []) → ⊥
+goes_over-not_2 h = ⊎_elim (λ here. let beyond = here.2 in absurd (omega arith)) (λ later. later) h
+
+-- another reader's place is another place
+goes_over-not_of_2 : GoesOver w1 2 1 (Place w1 1 2 [] ∷ []) → ⊥
+goes_over-not_of_2 h = ⊎_elim (λ here. let same = here.1 in absurd (omega arith)) (λ later. later) h
+
+-- ---- a packet of two changes
+
+-- w1 has written 1 and 2, and r1 is at 1
+abbrev both : Writer
+both = writing KeepAll None (Changed (write_of 1 2) ∷ Changed (write_of 1 1) ∷ []) 1
+
+abbrev begun : Part
+begun = part_2 1 None []
+
+abbrev came_2 : List Happening
+came_2 = came 2 (write_of 1 2) ∷ came_1
+
+abbrev grounds : Grounds
+grounds = grounds_of (machine both begun) 2
+
+-- the change of this number and value, to r1
+abbrev data_of : ℕ → DataBody
+data_of number =
+    record {
+      reader_id = r1_id;
+      writer_id = w1_id;
+      writer_sn = number;
+      content = Write
+          (record { key = key 1; value = number ∷ [] });
+    }
+
+abbrev from_data_1 : List Submessage
+from_data_1 = Data (data_of 1) ∷ InfoTs (Some 0) ∷ Data (data_of 2) ∷ []
+
+abbrev packet : List Submessage
+packet = InfoDst prefix_2 ∷ InfoTs (Some 0) ∷ from_data_1
+
+-- the submessages from this index on are taken up with these moves, and this one found no memory
+abbrev TakenFrom : ℕ → Receiver → List Submessage → Part → List Move → Option ℕ → Part → Type 0
+TakenFrom index at rest old moves refused new =
+    TakesUp (pair KeepAll) (λ index. grounds) 2 prefix_2 index at rest old moves refused new
+
+-- so is the whole packet
+abbrev TakenUp : List Move → Option ℕ → Part → Type 0
+TakenUp moves refused new = TakenFrom 0 (receiver_of prefix_1) packet begun moves refused new
+
+-- the submessage moves each place that it must
+abbrev MovesItsPlaces : Receiver → Submessage → Part → List Move → Type 0
+MovesItsPlaces at submessage old moves = MovesOver (pair KeepAll) grounds 2 prefix_2 at submessage old moves
+
+-- whom a DATA of the packet can be for
+
+one_of : {X : Type 0} (a : X) (n : ℕ) (x : X) → IsNumbered (a ∷ []) n x → (n ≡ 1) × (a ≡ x)
+one_of a zero x h = absurd (omega (arith, h.0))
+one_of a (suc zero) x h = (refl, some_is a x h.1)
+one_of a (suc (suc n)) x h =
+    let below : suc (suc n) - 1 ≡ suc n = omega arith in
+    let none = subst (λ (i : ℕ). slice_get (a ∷ []) i ≡ Some x) below h.1 in
+    absurd cc
+
+two_of : {X : Type 0} (a b : X) (n : ℕ) (x : X) → IsNumbered (a ∷ b ∷ []) n x
+    → ((n ≡ 1) × (a ≡ x)) ⊎ ((n ≡ 2) × (b ≡ x))
+two_of a b zero x h = absurd (omega (arith, h.0))
+two_of a b (suc zero) x h = inl (refl, some_is a x h.1)
+two_of a b (suc (suc zero)) x h = inr (refl, some_is b x h.1)
+two_of a b (suc (suc (suc n))) x h =
+    let below : suc (suc (suc n)) - 1 ≡ suc (suc n) = omega arith in
+    let none = subst (λ (i : ℕ). slice_get (a ∷ b ∷ []) i ≡ Some x) below h.1 in
+    absurd cc
+
+named : ℕ → ℕ → Endpoint
+named peer number = record { peer = peer; number = number }
+
+writer-is : (entity : EntityId) (w : Endpoint) → IsWriter (pair KeepAll) prefix_1 entity w → w1 ≡ w
+unfolding named
+writer-is entity w h =
+    ⊎_elim
+    (λ one.
+    let at = subst (λ (p : PeerConfig). IsNumbered p.writers w.number h.end) (sym one.1) h.at_writer in
+    let number = one_of (writer KeepAll) w.number h.end at in
+    ap (λ (n : ℕ). named n 1) (sym one.0) ∙ ap (λ (n : ℕ). named w.peer n) (sym number.0))
+    (λ two.
+    let last = ap (λ (p : GuidPrefix). slice_index p.0 11) (ap (λ (p : PeerConfig). p.prefix) two.1 ∙ h.same_prefix) in
+    absurd (omega arith))
+    (two_of (peer_1 KeepAll) peer_2 w.peer h.peer h.at_peer)
+
+reader-is_1 : (prefix : GuidPrefix) (entity : EntityId) (r : Endpoint) → r.peer ≡ 2
+    → IsReader (pair KeepAll) prefix entity r → 1 ≡ r.number
+reader-is_1 prefix entity r two h =
+    let peer : Some peer_2 ≡ Some h.peer =
+    subst (λ (n : ℕ). slice_get (pair KeepAll).peers (n - 1) ≡ Some h.peer) two h.at_peer.1 in
+    let at =
+    subst (λ (p : PeerConfig). IsNumbered p.readers r.number h.end) (sym (some_is peer_2 h.peer peer)) h.at_reader
+    in
+    let number = one_of (reader r1_id 0) r.number h.end at in
+    sym number.0
+
+to_r1 : IsToReader (pair KeepAll) prefix_2 to_2 r1_id w1_id w1 r1
+to_r1 = record {
+  from = w1_named;
+  is_for = refl;
+  entity = r1_id;
+  to = reader_named r1_id 1 0 (omega arith, refl);
+  named = inl refl;
+  matched = refl;
+}
+
+-- a submessage without a change need move no place, and a DATA moves that of the one reader that it is for
+info-moves_nothing : (at : Receiver) (part : Part) (stamp : Option ℕ) → MovesItsPlaces at (InfoTs stamp) part []
+info-moves_nothing at part stamp = λ w r publication number change says. absurd says
+
+data-moves_its_place : (part : Part) (number : ℕ)
+    → MovesItsPlaces to_2 (Data (data_of number)) part (Place w1 1 (number + 1) [] ∷ [])
+data-moves_its_place part number = λ w r publication n change says same matched low high.
+    let its_number = says.1 in
+    inl (inl (writer-is w1_id w says.0.from, reader-is_1 prefix_2 says.0.entity r same says.0.to, omega arith))
+
+-- each DATA moves the place by one
+moves-1 : AreMoves grounds begun (Place w1 1 2 [] ∷ []) (part_2 2 None came_1)
+moves-1 = comes_next grounds 1 (write_of 1 1) [] refl refl
+
+moves-2 : AreMoves grounds (part_2 2 None came_1) (Place w1 1 3 [] ∷ []) (part_2 3 None came_2)
+moves-2 = comes_next grounds 2 (write_of 1 2) came_1 refl refl
+
+behind_the_infos : (moves : List Move) (refused : Option ℕ) (new : Part)
+    → TakenFrom 2 to_2 from_data_1 begun moves refused new → TakenUp moves refused new
+behind_the_infos moves refused new rest =
+    inr (
+      [],
+      moves,
+      begun,
+      refl,
+      refl,
+      λ w r publication number change says. absurd says,
+      inr ([], moves, begun, refl, refl, info-moves_nothing to_2 begun (Some 0), rest),
+    )
+
+behind_data_1 : (moves : List Move) (refused : Option ℕ) (new : Part)
+    → TakenFrom 4 to_2 (Data (data_of 2) ∷ []) (part_2 2 None came_1) moves refused new
+    → TakenFrom 2 to_2 from_data_1 begun (Place w1 1 2 [] ∷ moves) refused new
+behind_data_1 moves refused new rest =
+    let info = info-moves_nothing to_2 (part_2 2 None came_1) (Some 0) in
+    inr (
+      Place w1 1 2 [] ∷ [],
+      moves,
+      part_2 2 None came_1,
+      refl,
+      moves-1,
+      data-moves_its_place begun 1,
+      inr ([], moves, part_2 2 None came_1, refl, refl, info, rest),
+    )
+
+-- with memory both come
+taken_up-all : TakenUp (Place w1 1 2 [] ∷ Place w1 1 3 [] ∷ []) None (part_2 3 None came_2)
+taken_up-all =
+    behind_the_infos (Place w1 1 2 [] ∷ Place w1 1 3 [] ∷ []) None (part_2 3 None came_2)
+    (behind_data_1 (Place w1 1 3 [] ∷ []) None (part_2 3 None came_2)
+    (inr (
+      Place w1 1 3 [] ∷ [],
+      [],
+      part_2 3 None came_2,
+      refl,
+      moves-2,
+      data-moves_its_place (part_2 2 None came_1) 2,
+      (refl, refl, refl),
+    )))
+
+-- where the message, the first DATA or the second one finds no memory, what stands before it was done, and nothing else
+taken_up-refused_0 : TakenUp [] (Some 0) begun
+taken_up-refused_0 = inl (refl, refl, refl)
+
+taken_up-refused_2 : TakenUp [] (Some 2) begun
+taken_up-refused_2 = behind_the_infos [] (Some 2) begun (inl (refl, refl, refl))
+
+taken_up-refused_4 : TakenUp (Place w1 1 2 [] ∷ []) (Some 4) (part_2 2 None came_1)
+taken_up-refused_4 =
+    behind_the_infos (Place w1 1 2 [] ∷ []) (Some 4) (part_2 2 None came_1)
+    (behind_data_1 [] (Some 4) (part_2 2 None came_1) (inl (refl, refl, refl)))
+
+-- ---- what excuses nothing
+
+-- a refusal stands at a submessage of the packet
+refused-within : (config : Config) (ground : ℕ → Grounds) (peer : ℕ) (own : GuidPrefix) (ss : List Submessage)
+    (index : ℕ) (at : Receiver) (old : Part) (moves : List Move) (refused : ℕ) (new : Part)
+    → TakesUp config ground peer own index at ss old moves (Some refused) new
+    → (index ≤ refused) × (refused < index + length ss)
+refused-within config ground peer own [] index at old moves refused new h = let none = h.1 in absurd cc
+refused-within config ground peer own (s ∷ ss) index at old moves refused new h =
+    ⊎_elim (λ stop. let here = some_is refused index stop.1 in (omega arith, omega arith))
+    (λ on. let later = refused-within config ground peer own ss (index + 1)
+    (after_submessage own at s) on.2 on.1 refused new on.6 in (omega arith, omega arith)) h
+
+refused-in : (index refused : ℕ) (at : Receiver) (ss : List Submessage) (old new : Part) (moves : List Move)
+    → TakenFrom index at ss old moves (Some refused) new
+    → (index ≤ refused) × (refused < index + length ss)
+refused-in index refused at ss old new moves h =
+    refused-within (pair KeepAll) (λ index. grounds) 2 prefix_2 ss index at old moves refused new h
+
+taken_up-not_refused_5 : (moves : List Move) (new : Part) → TakenUp moves (Some 5) new → ⊥
+taken_up-not_refused_5 moves new h =
+    let within = refused-in 0 5 (receiver_of prefix_1) packet begun new moves h in let high = within.1 in
+    absurd (omega arith)
+
+-- what is refused at its first submessage does nothing
+taken_up-nothing_at_0 : (moves : List Move) (new : Part) → TakenUp moves (Some 0) new → moves ≡ []
+taken_up-nothing_at_0 moves new h =
+    ⊎_elim (λ stop. stop.0)
+    (λ on. let within = refused-in 1 0 to_2
+    (InfoTs (Some 0) ∷ from_data_1) on.2 new on.1 on.6 in absurd (omega arith)) h
+
+-- what is taken up without a move, and is not refused at its first submessage, need move nothing there
+no_moves : (made later : List Move) → [] ≡ made ++ later → (made ≡ []) × (later ≡ [])
+no_moves [] later none = (refl, sym none)
+no_moves (m ∷ made) later none = absurd cc
+
+goes_on : (index : ℕ) (at : Receiver) (s : Submessage) (ss : List Submessage) (refused : Option ℕ) (new : Part)
+    → refused ≢ Some index → TakenFrom index at (s ∷ ss) begun [] refused new
+    → MovesItsPlaces at s begun [] × TakenFrom (index + 1) (after_submessage prefix_2 at s) ss begun [] refused new
+goes_on index at s ss refused new elsewhere h =
+    ⊎_elim (λ stop. absurd (elsewhere stop.1))
+    (λ on.
+    let none = no_moves on.0 on.1 on.3 in
+    let same = subst (λ (moves : List Move). AreMoves grounds begun moves on.2) none.0 on.4 in
+    let moved = subst (λ (moves : List Move). MovesItsPlaces at s begun moves) none.0 on.5 in
+    let rest =
+    subst (λ (moves : List Move). TakenFrom (index + 1) (after_submessage prefix_2 at s) ss on.2 moves refused new)
+    none.1 on.6 in (
+      moved,
+      subst (λ (part : Part). TakenFrom (index + 1) (after_submessage prefix_2 at s) ss part [] refused new) same
+          rest,
+    )) h
+
+has_room-for_1 : HasNoRoom grounds begun w1 1 1 1 → ⊥
+has_room-for_1 h =
+    let change = some_is (write_of 1 1) h.change h.is_change in
+    let no_room =
+    subst (λ (c : Change). has_room (own_reader begun 1).qos []
+    (coming (match_of begun 1 1) (position_at begun 1 1) c) ≡ false) (sym change) h.no_room in
+    absurd cc
+
+-- the first DATA, which has the change at the place, moves it, unless it or one before it is refused
+taken_up-must_move : (refused : Option ℕ) (new : Part) → refused ≢ Some 0 → refused ≢ Some 1 → refused ≢ Some 2
+    → TakenUp [] refused new → ⊥
+taken_up-must_move refused new not_0 not_1 not_2 h =
+    let from_1 =
+    goes_on 0 (receiver_of prefix_1) (InfoDst prefix_2) (InfoTs (Some 0) ∷ from_data_1) refused new not_0 h in
+    let from_2 = goes_on 1 to_2 (InfoTs (Some 0)) from_data_1 refused new not_1 from_1.1 in
+    let from_3 =
+    goes_on 2 to_2 (Data (data_of 1)) (InfoTs (Some 0) ∷ Data (data_of 2) ∷ []) refused new not_2 from_2.1 in
+    ⊎_elim (λ none. none) has_room-for_1
+    (from_3.0 w1 r1 1 1 (write_of 1 1) (to_r1, refl, refl) refl (record { handle = refl; at = refl }) (omega arith)
+    (omega arith))
+
+taken_up-not_without_moves : (new : Part) → TakenUp [] None new → ⊥
+taken_up-not_without_moves new h = taken_up-must_move None new (λ e. cc) (λ e. cc) (λ e. cc) h
+
+taken_up-not_excused_by_3 : (new : Part) → TakenUp [] (Some 3) new → ⊥
+taken_up-not_excused_by_3 new h =
+    taken_up-must_move (Some 3) new (λ e. omega (arith, some_is 3 0 e)) (λ e. omega (arith, some_is 3 1 e))
+    (λ e. omega (arith, some_is 3 2 e)) h
+
+-- ---- room
+
+-- a reader that takes up to one sample has no room for the second change while the first is present, so the place need
+-- not move
+abbrev limited : List Happening → Part
+limited happened = record (part_2 2 None []) {
+  dds =
+      record {
+        moment = 0;
+        readers = record {
+          qos = record (own_reader begun 1).qos
+              { max_samples = Some 1 };
+          happened = happened;
+          seen = nothing_seen;
+        }
+            ∷ [];
+        watch = nothing_watched 0 1;
+        listeners = nobody 0 1;
+      };
+}
+
+abbrev full : Part
+full = limited came_1
+
+abbrev taken : Part
+taken = limited (Took (record { key = key 1; position = 1 } ∷ []) ∷ came_1)
+
+full-has_no_room : HasNoRoom (grounds_of (machine both full) 2) full w1 1 1 2
+full-has_no_room = record { change = write_of 1 2; is_change = refl; no_room = refl }
+
+-- once it is taken there is room
+full-has_room_after_a_take : HasNoRoom (grounds_of (machine both taken) 2) taken w1 1 1 2 → ⊥
+full-has_room_after_a_take h =
+    let change = some_is (write_of 1 2) h.change h.is_change in
+    let at = own_reader taken 1 in
+    let no_room =
+    subst (λ (c : Change). has_room at.qos at.happened (coming (match_of taken 1 1) (position_at taken 1 2) c)
+    ≡ false) (sym change) h.no_room in
+    absurd cc

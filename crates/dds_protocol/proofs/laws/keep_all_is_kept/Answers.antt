@@ -1,0 +1,5 @@
+use Rattle.dds_protocol.proofs.RunLaws.{keep_all_is_kept}
+use Rattle.dds_protocol.proofs.laws.keep_all_is_kept.Goals as goal
+
+pub returns : goal.returns
+returns c = record { kept = keep_all_is_kept }

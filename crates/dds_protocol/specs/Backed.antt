@@ -1,0 +1,45 @@
+-- What a peer knows is what the packets that came to it claim.
+--
+-- A notion of this project, of what a reader knows by RTPS 2.5, 8.4.10 (WriterProxy, ChangeFromWriter), and a
+-- packet says by 8.3.8.
+use Rattle.std.specs.Prelude.{◌≡◌, ℕ, ◌≤◌, true, false, List, Some, ℤ, Contains}
+use Rattle.dds_base.specs.declared.change.Change.{Change}
+use Rattle.dds_base.specs.declared.config.Config.{Config}
+use Rattle.dds_base.specs.Counts.{is_later}
+use Rattle.rtps_reader.specs.Tracked.{Held, Tracked, is_passable}
+use Rattle.dds_machine.specs.declared.endpoint.Endpoint.{Endpoint}
+use Rattle.dds_protocol.specs.Claims.{ChangeIs, MayPass, Claimed}
+use Rattle.dds_machine.specs.Numbered.{HasNumber}
+use Rattle.dds_machine.specs.Part.{own_proxies, place_of, heard_of}
+use Rattle.dds_protocol.specs.Peer.{Delivery, IsApplied}
+use Rattle.dds_protocol.specs.Protocol.{State}
+
+-- the peer's reader of this number
+abbrev pub reader_at : ℕ → ℕ → Endpoint
+reader_at peer reader = record { peer = peer; number = reader }
+
+-- from its place on, these packets claim what a reader holds of a writer, and what it may pass over
+pub record IsClaimed (config : Config) (peer : ℕ) (packets : List (List ℕ)) (writer : Endpoint) (reader : ℕ)
+    (t : Tracked) : Type 0 where
+  pub from : 1 ≤ t.place
+  pub change : (n : ℕ) (c : Change) → t.place ≤ n → t.slot n ≡ Held c
+      → Claimed config packets (ChangeIs writer (reader_at peer reader) n c)
+  pub pass : (n : ℕ) → t.place ≤ n → is_passable t n ≡ true
+      → Claimed config packets (MayPass writer (reader_at peer reader) n)
+
+-- the reader took no HEARTBEAT of a greater count of the writer, by these deliveries
+abbrev pub TookNone : Config → ℕ → List Delivery → Endpoint → ℕ → Tracked → Type 0
+TookNone config peer deliveries writer reader t =
+    (delivery : Delivery) (count : ℤ) → Contains deliveries delivery
+    → IsApplied config delivery writer (reader_at peer reader) count → is_later t.count count ≡ false
+
+-- all that a peer knows is claimed by these packets, and these deliveries told nothing newer
+pub record IsBacked (config : Config) (peer : ℕ) (packets : List (List ℕ)) (deliveries : List Delivery)
+    (state : State) : Type 0 where
+  pub place : (w : Endpoint) (r p : ℕ) → place_of (own_proxies state.part r) w ≡ Some p
+      → (state.known.tracked w r).place ≡ p
+  pub claimed : (w : Endpoint) (r : ℕ) → IsClaimed config peer packets w r (state.known.tracked w r)
+  pub newest : (w : Endpoint) (r : ℕ) → HasNumber state.part.rtps.readers r
+      → TookNone config peer deliveries w r (state.known.tracked w r)
+  pub heard : (w : Endpoint) (r : ℕ) (count : ℤ) → heard_of (own_proxies state.part r) w ≡ Some (Some count)
+      → is_later (state.known.tracked w r).count count ≡ false

@@ -1,0 +1,32 @@
+-- No reader's place goes past the end of a writer's list.
+--
+-- A law of this project, of RTPS 2.5, 8.4.10 (WriterProxy).
+use Rattle.std.specs.Prelude.{◌≡◌, ℕ, ◌+◌, ◌≤◌, Some, List, length}
+use Rattle.dds_base.specs.declared.config.Config.{Config}
+use Rattle.dds_machine.specs.declared.endpoint.Endpoint.{Endpoint}
+use Rattle.dds_machine.specs.declared.event.WorldEvent.{WorldEvent}
+use Rattle.dds_machine.specs.declared.reply.Reply.{Reply}
+use Rattle.dds_machine.specs.Part.{writer_changes}
+use Rattle.dds_machine.specs.Machine.{Machine, AllTests, writer_at, place_at, Step}
+use Rattle.dds_protocol.specs.InOrder.{no_traffic}
+use Rattle.dds_machine.specs.Opening.{opening}
+use Rattle.dds_protocol.specs.Runs.{Traffic, Run}
+
+-- a reader's place in the list of a matched writer is at most one past the number of the last change
+abbrev pub IsBounded : Machine → Type 0
+IsBounded m = (reader writer : Endpoint) (place : ℕ) → place_at m reader writer ≡ Some place
+    → place ≤ length (writer_changes (writer_at m writer)) + 1
+
+-- so it is at the opening of every configuration
+abbrev pub OpensBounded : Type 0
+OpensBounded = (config : Config) → IsBounded (opening config)
+
+-- no step changes that
+abbrev pub StepsBounded : Type 0
+StepsBounded = (tests : AllTests) (sent : ℕ) (old : Machine) (event : WorldEvent) (reply : Reply) (new : Machine)
+    → IsBounded old → Step tests sent old event reply new → IsBounded new
+
+-- so it is after every run
+abbrev pub RunsBounded : Type 0
+RunsBounded = (config : Config) (tests : AllTests) (events : List WorldEvent) (replies : List Reply) (last : Traffic)
+    (after : Machine) → Run config tests no_traffic (opening config) events replies last after → IsBounded after

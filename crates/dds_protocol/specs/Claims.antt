@@ -1,0 +1,162 @@
+-- What packets claim. Bytes enter here alone, by their reading.
+--
+-- RTPS 2.5, 8.3.4 (the receiver of a message), 8.3.8 (what each submessage means).
+use Rattle.std.specs.Prelude.{◌≡◌, ◌⊎◌, ℕ, zero, suc, ◌-◌, ◌^◌, ◌<◌, ◌≤◌, Bool, true, ◌||◌, Option, Some, None, ℤ, List, [], ◌∷◌, replicate, slice_get, nat_lt, if◌then◌else◌, Contains}
+use Rattle.dds_base.specs.declared.change.Change.{Change}
+use Rattle.dds_base.specs.declared.config.Config.{Config}
+use Rattle.dds_base.specs.declared.config.PeerConfig.{PeerConfig}
+use Rattle.dds_base.specs.declared.config.WriterConfig.{WriterConfig}
+use Rattle.dds_base.specs.declared.config.ReaderConfig.{ReaderConfig}
+use Rattle.dds_base.specs.declared.guid.GuidPrefix.{GuidPrefix}
+use Rattle.dds_base.specs.declared.guid.EntityId.{EntityId}
+use Rattle.dds_base.specs.Checked.{unknown_prefix, same_prefix}
+use Rattle.rtps_sets.specs.NumberSet.{has_number}
+use Rattle.rtps_wire.specs.declared.gap.Gap.{Gap as GapBody}
+use Rattle.rtps_wire.specs.declared.message.Message.{Message}
+use Rattle.rtps_wire.specs.declared.submessage.Submessage.{Submessage}
+use Rattle.rtps_wire.specs.declared.submessage.Submessage.TheVariants.{InfoDst, InfoTs, Data, Heartbeat, AckNack, Gap}
+use Rattle.rtps_wire.specs.Content.{change_in}
+use Rattle.rtps_wire.specs.Messages.{ReadsMessage}
+use Rattle.dds_machine.specs.declared.endpoint.Endpoint.{Endpoint}
+
+-- one thing that a packet says of far lists and places
+pub data Claim : Type 0 where
+  -- the writer's change of this number, which is for the reader, is this
+  ChangeIs : (writer reader : Endpoint) (number : ℕ) (change : Change) → Claim
+  -- the change of this number is dropped, or the reader is past it
+  MayPass : (writer reader : Endpoint) (number : ℕ) → Claim
+  -- the reader's place in the writer's list is at least this
+  PlaceReached : (writer reader : Endpoint) (base : ℕ) → Claim
+  -- this HEARTBEAT count numbers an assertion of the writer, of which the reader may learn
+  Asserts : (writer reader : Endpoint) (count : ℤ) → Claim
+
+-- the element of this number, counted from 1
+abbrev pub IsNumbered : {X : Type 0} → List X → ℕ → X → Type 0
+IsNumbered xs n x = (1 ≤ n) × (slice_get xs (n - 1) ≡ Some x)
+
+-- the configuration has the writer, with this name
+pub record IsWriter (config : Config) (prefix : GuidPrefix) (entity : EntityId) (writer : Endpoint) : Type 0 where
+  pub peer : PeerConfig
+  pub at_peer : IsNumbered config.peers writer.peer peer
+  pub same_prefix : peer.prefix ≡ prefix
+  pub end : WriterConfig
+  pub at_writer : IsNumbered peer.writers writer.number end
+  pub same_entity : end.entity ≡ entity
+
+-- the configuration has the reader, with this name
+pub record IsReader (config : Config) (prefix : GuidPrefix) (entity : EntityId) (reader : Endpoint) : Type 0 where
+  pub peer : PeerConfig
+  pub at_peer : IsNumbered config.peers reader.peer peer
+  pub same_prefix : peer.prefix ≡ prefix
+  pub end : ReaderConfig
+  pub at_reader : IsNumbered peer.readers reader.number end
+  pub same_entity : end.entity ≡ entity
+
+-- what a receiver knows when it comes to a submessage: whom the message is from, whom this part of it is for, and when
+-- what follows was made
+pub record Receiver : Type 0 where
+  pub source_guid_prefix : GuidPrefix
+  pub dest_guid_prefix : GuidPrefix
+  pub timestamp : ℕ
+
+-- the prefix that names every peer: GUIDPREFIX_UNKNOWN
+abbrev pub every_peer : GuidPrefix
+every_peer = unknown_prefix
+
+-- the receiver at the begin of a message of this prefix: what follows is for every peer, at moment 0
+abbrev pub receiver_of : GuidPrefix → Receiver
+receiver_of prefix = record { source_guid_prefix = prefix; dest_guid_prefix = every_peer; timestamp = 0 }
+
+-- this part of the message is for the peer of this prefix
+abbrev pub is_for : Receiver → GuidPrefix → Bool
+is_for receiver own = same_prefix receiver.dest_guid_prefix own || same_prefix receiver.dest_guid_prefix every_peer
+
+-- the moment that an INFO_TS gives: 0 where it gives none, or one from 2^63 on
+abbrev pub stamp_of : Option ℕ → ℕ
+stamp_of None = 0
+stamp_of (Some moment) = if nat_lt moment (2 ^ 63) then moment else 0
+
+-- what a submessage leaves, at the peer of this prefix, for those that follow: an INFO_TS counts where it is for the
+-- peer
+abbrev pub after_submessage : GuidPrefix → Receiver → Submessage → Receiver
+after_submessage own receiver (InfoDst prefix) = record receiver { dest_guid_prefix = prefix }
+after_submessage own receiver (InfoTs stamp) =
+    if is_for receiver own then record receiver { timestamp = stamp_of stamp } else receiver
+after_submessage own receiver submessage = receiver
+
+-- the submessage of this index, counted from 0, stands among these, and the receiver is so when it comes to it
+abbrev pub StandsAt : GuidPrefix → Receiver → List Submessage → ℕ → Receiver → Submessage → Type 0
+StandsAt own receiver [] index at submessage = ⊥
+StandsAt own receiver (s ∷ ss) zero at submessage = (at ≡ receiver) × (submessage ≡ s)
+StandsAt own receiver (s ∷ ss) (suc index) at submessage =
+    StandsAt own (after_submessage own receiver s) ss index at submessage
+
+-- the entity id that names all matched readers: ENTITYID_UNKNOWN
+abbrev pub every_reader : EntityId
+every_reader = record { 0 = replicate 4 0 }
+
+-- the readerId names the reader of this entity id
+abbrev pub Names : EntityId → EntityId → Type 0
+Names reader_id entity = (reader_id ≡ entity) ⊎ (reader_id ≡ every_reader)
+
+-- the submessage is from the writer, in a part that is for the peer of the reader, and its readerId names the reader,
+-- which is matched with the writer: both are of one topic
+pub record IsToReader (config : Config) (own : GuidPrefix) (at : Receiver) (reader_id writer_id : EntityId)
+    (writer reader : Endpoint) : Type 0 where
+  pub from : IsWriter config at.source_guid_prefix writer_id writer
+  pub is_for : is_for at own ≡ true
+  pub entity : EntityId
+  pub to : IsReader config own entity reader
+  pub named : Names reader_id entity
+  pub matched : from.end.topic ≡ to.end.topic
+
+-- the submessage is from the reader, which its readerId names, for the writer, with which it is matched
+pub record IsToWriter (config : Config) (own : GuidPrefix) (at : Receiver) (reader_id writer_id : EntityId)
+    (writer reader : Endpoint) : Type 0 where
+  pub entity : EntityId
+  pub from : IsReader config at.source_guid_prefix entity reader
+  pub named : Names reader_id entity
+  pub is_for : is_for at own ≡ true
+  pub to : IsWriter config own writer_id writer
+  pub matched : to.end.topic ≡ from.end.topic
+
+-- the number is one that a GAP names: from gapStart to below the set's base, or in the set
+abbrev pub IsInGap : GapBody → ℕ → Type 0
+IsInGap g number = ((g.gap_start ≤ number) × (number < g.gap_list.base)) ⊎ (has_number g.gap_list number ≡ true)
+
+-- what a submessage claims to the peer of this prefix, where the receiver is so
+abbrev pub Says : Config → GuidPrefix → Receiver → Submessage → Claim → Type 0
+Says config own at (Data d) (ChangeIs writer reader number change) =
+    IsToReader config own at d.reader_id d.writer_id writer reader × (number ≡ d.writer_sn)
+    × (change ≡ change_in d.content at.timestamp)
+Says config own at (Gap g) (MayPass writer reader number) =
+    IsToReader config own at g.reader_id g.writer_id writer reader × (1 ≤ number) × IsInGap g number
+Says config own at (Heartbeat h) (MayPass writer reader number) =
+    IsToReader config own at h.reader_id h.writer_id writer reader × (1 ≤ number) × (number < h.first_sn)
+Says config own at (Heartbeat h) (Asserts writer reader count) =
+    IsToReader config own at h.reader_id h.writer_id writer reader × (h.liveliness_flag ≡ true) × (count ≡ h.count)
+Says config own at (AckNack a) (PlaceReached writer reader base) =
+    IsToWriter config own at a.reader_id a.writer_id writer reader × (base ≡ a.reader_sn_state.base)
+Says config own at submessage claim = ⊥
+
+-- the submessage stands in the message that these bytes are, and the receiver is so when it comes to it
+pub record StandsIn (bytes : List ℕ) (own : GuidPrefix) (at : Receiver) (submessage : Submessage) : Type 0 where
+  pub message : Message
+  pub offset : ℕ
+  pub is_read : ReadsMessage bytes message offset
+  pub index : ℕ
+  pub stands : StandsAt own (receiver_of message.prefix) message.submessages index at submessage
+
+-- a packet's claims, by its bytes
+pub record Claims (config : Config) (bytes : List ℕ) (claim : Claim) : Type 0 where
+  pub own : GuidPrefix
+  pub at : Receiver
+  pub submessage : Submessage
+  pub there : StandsIn bytes own at submessage
+  pub says : Says config own at submessage claim
+
+-- one of these packets claims it
+pub record Claimed (config : Config) (packets : List (List ℕ)) (claim : Claim) : Type 0 where
+  pub packet : List ℕ
+  pub among : Contains packets packet
+  pub claims : Claims config packet claim

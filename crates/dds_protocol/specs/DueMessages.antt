@@ -1,0 +1,159 @@
+-- The messages of the reliable protocol that a peer has to send, and when each is due; of an announced change, an
+-- assertion and a HEARTBEAT also to whom.
+--
+-- RTPS 2.5, 8.4.9 (reliable StatefulWriter), 8.4.12 (reliable StatefulReader), 8.3.8 (AckNack, Data, Gap, Heartbeat).
+use Rattle.std.specs.Prelude.{◌≡◌, ◌⊎◌, ℕ, ◌+◌, ◌-◌, ◌^◌, Bool, true, false, if◌then◌else◌, nat_lt, nat_le, List, [], ◌∷◌, ◌++◌, length, map, filter, Option, Some, None, pos, slice_get}
+use Rattle.std.specs.List.{flat_map}
+use Rattle.std.specs.Option.{option_map_or}
+use Rattle.dds_base.specs.declared.change.Change.{Change}
+use Rattle.dds_base.specs.declared.config.Config.{Config}
+use Rattle.dds_base.specs.declared.config.PeerConfig.{PeerConfig}
+use Rattle.dds_base.specs.declared.config.WriterConfig.{WriterConfig}
+use Rattle.dds_base.specs.declared.guid.EntityId.{EntityId}
+use Rattle.dds_base.specs.declared.guid.GuidPrefix.{GuidPrefix}
+use Rattle.dds_base.specs.Kept.{change_at, first_kept}
+use Rattle.rtps_wire.specs.declared.message.Message.{Message}
+use Rattle.rtps_wire.specs.declared.submessage.Submessage.{Submessage}
+use Rattle.rtps_wire.specs.declared.submessage.Submessage.TheVariants.{InfoDst, InfoTs, Data, Heartbeat, AckNack, Gap}
+use Rattle.rtps_wire.specs.Content.{content_of}
+use Rattle.rtps_wire.specs.Messages.{IsWritable, spelling_of}
+use Rattle.rtps_reader.specs.declared.step.AckNackDue.{AckNackDue}
+use Rattle.rtps_sets.specs.NumberSet.{empty_from}
+use Rattle.rtps_writer.specs.declared.answer.Answer.{Answer}
+use Rattle.rtps_writer.specs.declared.answer.Answer.TheVariants.{Data as AnswersData, Gap as AnswersGap}
+use Rattle.dds_machine.specs.declared.endpoint.Endpoint.{Endpoint}
+use Rattle.dds_protocol.specs.declared.event.Packet.{Packet}
+use Rattle.dds_machine.specs.Part.{Part, ReaderProxy, Writer, peers_of, writer_changes, heartbeats_used, history_of}
+use Rattle.dds_protocol.specs.Claims.{every_reader}
+use Rattle.dds_protocol.specs.Receipt.{prefix_of}
+
+-- a message that is due to the peer of this number
+pub record Due : Type 0 where
+  pub to : ℕ
+  pub message : Message
+
+-- a message with one ACKNACK
+abbrev pub acknack_message : (own to : GuidPrefix) (reader writer : EntityId) → AckNackDue → Message
+acknack_message own to reader writer due = record {
+  prefix = own;
+  submessages = InfoDst to ∷ AckNack
+      (record {
+        reader_id = reader;
+        writer_id = writer;
+        reader_sn_state = due.missing;
+        count = due.count;
+        final_flag = due.is_final;
+      }) ∷ [];
+}
+
+-- an ACKNACK to a peer, if one is due
+abbrev pub acknacks_due : (own to : GuidPrefix) (peer : ℕ) (reader writer : EntityId) → Option AckNackDue → List Due
+acknacks_due own to peer reader writer None = []
+acknacks_due own to peer reader writer (Some due) =
+    record { to = peer; message = acknack_message own to reader writer due } ∷ []
+
+-- what stands in a message for the change of a number: its moment in an INFO_TS, then the DATA; nothing where there is
+-- no such change (RTPS 2.5, 8.3.8)
+abbrev pub data_of : EntityId → EntityId → ℕ → Option Change → List Submessage
+data_of reader writer number None = []
+data_of reader writer number (Some change) =
+    InfoTs (Some change.source_timestamp) ∷ Data
+    (record { reader_id = reader; writer_id = writer; writer_sn = number; content = content_of change }) ∷ []
+
+-- what an answer to an ACKNACK puts into a message: the change of its number, or the GAP from its first number to its
+-- last
+abbrev pub submessages_of : List Change → EntityId → EntityId → Answer → List Submessage
+submessages_of changes reader writer (AnswersData number) = data_of reader writer number (change_at changes number)
+submessages_of changes reader writer (AnswersGap first last) =
+    Gap (record { reader_id = reader; writer_id = writer; gap_start = first; gap_list = empty_from (last + 1) }) ∷ []
+
+-- a message with these answers
+abbrev pub answer_message : (own to : GuidPrefix) (reader writer : EntityId) → List Change → List Answer → Message
+answer_message own to reader writer changes answers =
+    record { prefix = own; submessages = InfoDst to ∷ flat_map (submessages_of changes reader writer) answers }
+
+-- the entity id of a peer's writer, by the configuration
+abbrev pub writer_entity : Config → ℕ → ℕ → EntityId
+writer_entity config peer number =
+    option_map_or (λ (p : PeerConfig). option_map_or (λ (w : WriterConfig). w.entity)
+    (slice_get p.writers (number - 1)) every_reader) (slice_get config.peers (peer - 1)) every_reader
+
+-- a change is announced at once to each peer with a matched reader, for all of its readers
+abbrev pub change_message : (own to : GuidPrefix) (writer : EntityId) → ℕ → Change → Message
+change_message own to writer number change =
+    record { prefix = own; submessages = InfoDst to ∷ data_of every_reader writer number (Some change) }
+
+-- what is due once a writer has made the change of this number: a message to each peer with one of these readers
+abbrev pub changes_due : Config → Endpoint → List ReaderProxy → ℕ → Change → List Due
+changes_due config writer readers number change =
+    map (λ to. record {
+      to = to;
+      message = change_message (prefix_of config writer.peer) (prefix_of config to)
+          (writer_entity config writer.peer writer.number) number change;
+    }) (peers_of readers)
+
+-- the matched readers that have not acknowledged all changes of a writer
+abbrev pub readers_behind : Writer → List ReaderProxy
+readers_behind w = filter (λ (p : ReaderProxy). nat_le p.acknowledged (length (writer_changes w))) w.readers
+
+-- a HEARTBEAT of a writer with these flags: from its first kept number to its last, with the next count
+abbrev pub heartbeat_with : (final liveliness : Bool) (own to : GuidPrefix) (writer : EntityId) → Writer → Message
+heartbeat_with final liveliness own to writer w = record {
+  prefix = own;
+  submessages = InfoDst to ∷ Heartbeat (record {
+    reader_id = every_reader;
+    writer_id = writer;
+    first_sn = first_kept (history_of w);
+    last_sn = length (writer_changes w);
+    count = pos (heartbeats_used w + 1);
+    final_flag = final;
+    liveliness_flag = liveliness;
+  }) ∷ [];
+}
+
+-- the HEARTBEAT of a tick, which asks for an answer
+abbrev pub heartbeat_message : (own to : GuidPrefix) (writer : EntityId) → Writer → Message
+heartbeat_message own to writer w = heartbeat_with false false own to writer w
+
+-- the HEARTBEAT of an assertion, which asks for none (RTPS 2.5, 8.3.8: FinalFlag, LivelinessFlag)
+abbrev pub assertion_message : (own to : GuidPrefix) (writer : EntityId) → Writer → Message
+assertion_message own to writer w = heartbeat_with true true own to writer w
+
+-- at a tick, one to each peer with a reader that is behind, while there are counts left
+abbrev pub heartbeats_of : Config → ℕ → ℕ → Writer → List Due
+heartbeats_of config peer number w =
+    if nat_lt (heartbeats_used w) (2 ^ 31 - 1)
+    then map (λ to. record {
+      to = to;
+      message = heartbeat_message (prefix_of config peer) (prefix_of config to) (writer_entity config peer number) w;
+    })
+    (peers_of (readers_behind w))
+    else []
+
+-- the HEARTBEATs that are due at a tick from these writers, the first of which has this number
+abbrev pub heartbeats_from : Config → ℕ → ℕ → List Writer → List Due
+heartbeats_from config peer number [] = []
+heartbeats_from config peer number (w ∷ ws) =
+    heartbeats_of config peer number w ++ heartbeats_from config peer (number + 1) ws
+
+-- what is due at a tick of a peer: the HEARTBEATs of its writers, in their order
+abbrev pub heartbeats_due : Config → ℕ → Part → List Due
+heartbeats_due config peer part = heartbeats_from config peer 1 part.rtps.writers
+
+-- a writer's assertion is told at once to each peer with a matched reader
+abbrev pub assertions_due : Config → Endpoint → Writer → List Due
+assertions_due config writer w =
+    map (λ to. record {
+      to = to;
+      message = assertion_message (prefix_of config writer.peer) (prefix_of config to)
+          (writer_entity config writer.peer writer.number) w;
+    }) (peers_of w.readers)
+
+-- of the messages that are due these packets are sent, in their order, each in the one written form that it has; so
+-- many more found no memory
+abbrev pub AreSent : List Due → List Packet → ℕ → Type 0
+AreSent [] packets unsent = (packets ≡ []) × (unsent ≡ 0)
+AreSent (due ∷ dues) packets unsent =
+    ((rest : List Packet) × (packets ≡ record { to = due.to; bytes = spelling_of due.message } ∷ rest)
+    × IsWritable due.message × AreSent dues rest unsent)
+    ⊎ ((fewer : ℕ) × (unsent ≡ fewer + 1) × AreSent dues packets fewer)

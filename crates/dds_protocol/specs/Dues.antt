@@ -1,0 +1,78 @@
+-- What the messages that are due to other peers claim is true of the peer that sends them.
+--
+-- A notion of this project, of the messages of RTPS 2.5, 8.4.9 (reliable StatefulWriter) and 8.4.12 (reliable
+-- StatefulReader); 8.3.8 has what each submessage means.
+use Rattle.std.specs.Prelude.{◌≡◌, ℕ, ◌^◌, ◌<◌, ◌≤◌, List, length, map, Some}
+use Rattle.std.specs.List.{All, AllByRecursion}
+use Rattle.dds_base.specs.declared.change.Change.{Change}
+use Rattle.dds_base.specs.declared.config.Config.{Config}
+use Rattle.dds_base.specs.declared.config.PeerConfig.{PeerConfig}
+use Rattle.dds_base.specs.declared.config.ReaderConfig.{ReaderConfig}
+use Rattle.dds_base.specs.declared.config.WriterConfig.{WriterConfig}
+use Rattle.dds_base.specs.Kept.{change_at}
+use Rattle.dds_base.specs.Matched.{of_matched_readers}
+use Rattle.rtps_wire.specs.declared.submessage.Submessage.{Submessage}
+use Rattle.rtps_wire.specs.declared.submessage.Submessage.TheVariants.{AckNack}
+use Rattle.rtps_wire.specs.Content.{IsEmptyUnlessWrite}
+use Rattle.rtps_wire.specs.Fields.{IsEntityId}
+use Rattle.rtps_wire.specs.Messages.{IsWritable, spelling_of}
+use Rattle.dds_machine.specs.Part.{Part, ReaderProxy, own_writer, writer_changes}
+use Rattle.dds_protocol.specs.Claims.{IsNumbered, Claim, Claims}
+use Rattle.dds_protocol.specs.Peer.{IsTrueAt}
+use Rattle.dds_protocol.specs.DueMessages.{Due}
+
+-- a change that an INFO_TS and a DATA tell whole: only a write has a value, and its moment is below 2^63
+pub record IsTellable (change : Change) : Type 0 where
+  pub empty : IsEmptyUnlessWrite change
+  pub early : change.source_timestamp < 2 ^ 63
+
+-- each change of the peer's writers is such a one
+abbrev pub AreTellable : Part → Type 0
+AreTellable part = (writer number : ℕ) (change : Change)
+    → change_at (writer_changes (own_writer part writer)) number ≡ Some change → IsTellable change
+
+-- the part is that of the configuration's peer of this number: it has the writers of the peer, and each of them has the
+-- readers of its topic for its matched readers, in the order of the configuration
+pub record IsPartOf (config : Config) (peer : ℕ) (part : Part) : Type 0 where
+  pub here : PeerConfig
+  pub at : IsNumbered config.peers peer here
+  pub writers : length part.rtps.writers ≡ length here.writers
+  pub readers : (number : ℕ) (w : WriterConfig) → IsNumbered here.writers number w
+      → map (λ (p : ReaderProxy). p.reader) (own_writer part number).readers
+      ≡ of_matched_readers (λ i p k r. record { peer = i; number = k }) w.topic 1 config.peers
+
+-- what the message claims, once it is written, is true of the peer's own lists and places
+abbrev pub IsTruthful : Config → ℕ → Part → Due → Type 0
+IsTruthful config peer part due = (claim : Claim) → IsWritable due.message
+    → Claims config (spelling_of due.message) claim → IsTrueAt peer part claim
+
+-- each of the messages is so
+abbrev pub AreTruthful : Config → ℕ → Part → List Due → Type 0
+AreTruthful config peer part dues = All (IsTruthful config peer part) dues
+
+-- the octets of a configuration's names: 12 of each peer's prefix, and 4 of each writer's and reader's entity id
+pub record IsSized (config : Config) : Type 0 where
+  pub prefix : (n : ℕ) (p : PeerConfig) → IsNumbered config.peers n p → length p.prefix.0 ≡ 12
+  pub writer : (n k : ℕ) (p : PeerConfig) (w : WriterConfig) → IsNumbered config.peers n p
+      → IsNumbered p.writers k w → IsEntityId w.entity
+  pub reader : (n k : ℕ) (p : PeerConfig) (r : ReaderConfig) → IsNumbered config.peers n p
+      → IsNumbered p.readers k r → IsEntityId r.entity
+
+-- there are fewer than 2^62 changes, each with a key of 16 octets, and a value of at most 1,024
+pub record AreSmall (changes : List Change) : Type 0 where
+  pub few : length changes < 2 ^ 62
+  pub key : (number : ℕ) (change : Change) → change_at changes number ≡ Some change → length change.key.0 ≡ 16
+  pub value : (number : ℕ) (change : Change) → change_at changes number ≡ Some change → length change.value ≤ 1024
+
+-- so are the changes of each of the peer's writers
+abbrev pub HasSmallChanges : Part → Type 0
+HasSmallChanges part = (writer : ℕ) → AreSmall (writer_changes (own_writer part writer))
+
+-- the set of an ACKNACK has its 256 places
+abbrev pub HasPlaces : Submessage → Type 0
+HasPlaces (AckNack a) = length a.reader_sn_state.members ≡ 256
+HasPlaces other = Unit {0}
+
+-- the message can be written, where the sets of its ACKNACKs have their places
+abbrev pub CanBeWritten : Due → Type 0
+CanBeWritten due = AllByRecursion HasPlaces due.message.submessages → IsWritable due.message

@@ -1,0 +1,166 @@
+-- What holds of every network and every run, by the definitions of the machine, of claims and of the protocol.
+--
+-- The laws are this project's own; what they speak of is in RTPS 2.5, 8.3.8 and 8.4 (behaviour), and DDS 1.4,
+-- 2.2.3 (HISTORY: KEEP_ALL; OWNERSHIP).
+use Rattle.std.specs.Prelude.{◌≡◌, ◌≢◌, ℕ, ◌≤◌, Some, None, IsSome, List, [], ◌∷◌, length, Contains}
+use Rattle.std.specs.List.{All}
+use Rattle.dds_base.specs.declared.config.Config.{Config}
+use Rattle.dds_base.specs.declared.config.PeerConfig.{PeerConfig}
+use Rattle.dds_base.specs.declared.config.ReaderConfig.{ReaderConfig}
+use Rattle.dds_base.specs.declared.happening.Happening.{Happening}
+use Rattle.dds_base.specs.declared.key.Key.{Key}
+use Rattle.dds_base.specs.declared.qos.HistoryQos.TheVariants.{KeepAll}
+use Rattle.dds_base.specs.Checked.{check_refusal}
+use Rattle.dds_base.specs.Ownership.{IsMatched, HaveOwnGuids, registered_writers, owner_of}
+use Rattle.dds_protocol.specs.Noticing.{world_ended}
+use Rattle.dds_machine.specs.declared.call.Call.TheVariants.{AssertLiveliness}
+use Rattle.dds_machine.specs.declared.endpoint.Endpoint.{Endpoint}
+use Rattle.dds_machine.specs.declared.event.WorldEvent.{WorldEvent}
+use Rattle.dds_machine.specs.declared.reply.Move.{Move}
+use Rattle.dds_machine.specs.declared.reply.Move.TheVariants.{Place}
+use Rattle.dds_machine.specs.declared.reply.Reply.{Reply}
+use Rattle.dds_machine.specs.declared.reply.Report.{Report}
+use Rattle.dds_machine.specs.declared.reply.Reply.TheVariants.{Done, Reported}
+use Rattle.dds_machine.specs.Numbered.{numbered}
+use Rattle.dds_protocol.specs.Receipt.{Receives}
+use Rattle.dds_protocol.specs.Peer.{Delivery, no_peer, state_of, packets_of, claimed}
+use Rattle.dds_protocol.specs.DueMessages.{Due, assertions_due, heartbeats_due}
+use Rattle.dds_protocol.specs.Protocol.{State, TakesPacket}
+use Rattle.dds_protocol.specs.Backed.{IsBacked}
+use Rattle.dds_protocol.specs.Dues.{AreTellable, IsPartOf, AreTruthful, IsSized, HasSmallChanges, CanBeWritten}
+use Rattle.dds_machine.specs.Ticks.{TickStep}
+use Rattle.dds_machine.specs.Calls.{CallStep}
+use Rattle.dds_machine.specs.Watching.{Tests}
+use Rattle.dds_machine.specs.Machine.{Machine, AllTests, writer_at, Step}
+use Rattle.dds_protocol.specs.World.{WorldState, WorldStep, machine_of, Sound}
+use Rattle.dds_protocol.specs.Progress.{Progresses}
+use Rattle.dds_protocol.specs.Runs.{Traffic, Sends, Run}
+use Rattle.dds_machine.specs.Part.{Part, own_writer, publication_among}
+use Rattle.dds_machine.specs.Opening.{matched_writers, reader_qos}
+use Rattle.dds_protocol.specs.Opening.{opening_world}
+
+-- a step of peers, on packets that were sent, is a step of the machine, which takes up what is delivered, and leaves
+-- all claims true
+abbrev pub Composes : Type 0
+Composes = (config : Config) (tests : AllTests) (old new : WorldState) (event : WorldEvent) (reply : Reply)
+    → Sound config old → WorldStep config tests old event reply new
+    → Step tests (length old.sent) (machine_of old) event reply (machine_of new)
+    × Progresses config old.sent (machine_of old) event reply × Sound config new
+
+-- all claims are true at the opening of every configuration
+abbrev pub OpensSound : Type 0
+OpensSound = (config : Config) → Sound config (opening_world config)
+
+-- a run of peers, with what they send
+abbrev pub WorldRun : Config → AllTests → WorldState → ℕ → List WorldEvent → List Reply → WorldState → ℕ → Type 0
+WorldRun config tests old unsent [] [] new last = (new ≡ old) × (last ≡ unsent)
+WorldRun config tests old unsent (event ∷ events) (reply ∷ replies) new last =
+    (mid : WorldState) × (next : ℕ) × WorldStep config tests old event reply mid
+    × Sends config (record { sent = old.sent; unsent = unsent }) (machine_of old) event reply
+    (record { sent = mid.sent; unsent = next })
+    × WorldRun config tests (world_ended old event mid) next events replies new last
+WorldRun config tests old unsent [] (reply ∷ replies) new last = ⊥
+WorldRun config tests old unsent (event ∷ events) [] new last = ⊥
+
+-- a run of peers is a run of the machine
+abbrev pub ComposesRuns : Type 0
+ComposesRuns = (config : Config) (tests : AllTests) (old new : WorldState) (unsent last : ℕ) (events : List WorldEvent)
+    (replies : List Reply) → Sound config old → WorldRun config tests old unsent events replies new last
+    → Run config tests (record { sent = old.sent; unsent = unsent }) (machine_of old) events replies
+    (record { sent = new.sent; unsent = last }) (machine_of new) × Sound config new
+
+-- no change of this writer is passed over
+abbrev pub PassesNone : Endpoint → List Move → Type 0
+PassesNone writer [] = Unit {0}
+PassesNone writer (Place w reader to [] ∷ moves) = PassesNone writer moves
+PassesNone writer (Place w reader to (run ∷ runs) ∷ moves) = (w ≡ writer → ⊥) × PassesNone writer moves
+PassesNone writer (m ∷ moves) = PassesNone writer moves
+
+-- no reply reports that a change of this writer was passed over
+abbrev pub LosesNone : Endpoint → List Reply → Type 0
+LosesNone writer [] = Unit {0}
+LosesNone writer (Reported report ∷ replies) = PassesNone writer report.moves × LosesNone writer replies
+LosesNone writer (reply ∷ replies) = LosesNone writer replies
+
+-- in no run is a change of a KEEP_ALL writer passed over
+abbrev pub KeepAllIsKept : Type 0
+KeepAllIsKept = (config : Config) (tests : AllTests) (writer : Endpoint) (m after : Machine) (events : List WorldEvent)
+    (replies : List Reply) (sent last : Traffic)
+    → (writer_at m writer).policy ≡ KeepAll → Run config tests sent m events replies last after
+    → LosesNone writer replies
+
+-- A reader of these peers tells its matched writers apart: no two have one GUID, and each publication handle, from 1
+-- on, is that of one.
+pub record TellsWritersApart (peers : List PeerConfig) (reader : ReaderConfig) : Type 0 where
+  pub own_guids : HaveOwnGuids (reader_qos peers reader)
+  pub each_handle : (handle : ℕ) → 1 ≤ handle → handle ≤ length (matched_writers reader.topic 1 peers)
+      → IsMatched (reader_qos peers reader) handle
+  pub each_writer : (writer : Endpoint) (handle : ℕ)
+      → publication_among (matched_writers reader.topic 1 peers) writer ≡ Some handle
+      → IsMatched (reader_qos peers reader) handle
+
+-- so does each reader of a configuration that is not refused
+abbrev pub ReadersTellWritersApart : Type 0
+ReadersTellWritersApart =
+    (config : Config) (peer : PeerConfig) (reader : ReaderConfig) → check_refusal config.peers ≡ None
+    → Contains config.peers peer → Contains peer.readers reader
+    → TellsWritersApart config.peers reader
+
+-- at each of its readers an instance has an owner wherever a writer is registered for it
+abbrev pub OwnersExist : Type 0
+OwnersExist = (config : Config) (peer : PeerConfig) (reader : ReaderConfig) (i : Key) (h : List Happening)
+    → check_refusal config.peers ≡ None → Contains config.peers peer
+    → Contains peer.readers reader → registered_writers (reader_qos config.peers reader) i h ≢ []
+    → IsSome (owner_of (reader_qos config.peers reader) (registered_writers (reader_qos config.peers reader) i h))
+
+-- what a peer does with a packet by the rules of the protocol rests on what that packet and earlier ones claim, and
+-- what it knows then is what they claim
+abbrev pub RulesRestOnClaims : Type 0
+RulesRestOnClaims = (config : Config) (peer : ℕ) (before : List Delivery) (bytes : List ℕ) (old : State)
+    (report : Report) (dues : List Due) (new : State) → check_refusal config.peers ≡ None
+    → IsBacked config peer (packets_of before) before old → TakesPacket config peer bytes old report dues new
+    → Receives config (claimed config before bytes peer) peer bytes old.part report new.part
+    × IsBacked config peer (bytes ∷ packets_of before) (record { packet = bytes; report = report } ∷ before) new
+
+-- at the opening a peer knows nothing, so all that it knows is what was claimed
+abbrev pub OpensBacked : Type 0
+OpensBacked = (config : Config) (peer : ℕ)
+    → IsBacked config peer [] [] (state_of (numbered (opening_world config).peers peer no_peer))
+
+-- what is due once a peer took a packet up by the rules claims only what is true of the peer's own lists and places
+abbrev pub AnswersAreTrue : Type 0
+AnswersAreTrue = (config : Config) (peer : ℕ) (before : List Delivery) (bytes : List ℕ) (old : State) (report : Report)
+    (dues : List Due) (new : State) → check_refusal config.peers ≡ None
+    → IsBacked config peer (packets_of before) before old → AreTellable old.part
+    → TakesPacket config peer bytes old report dues new
+    → AreTruthful config peer new.part dues
+
+-- Each of these messages can be written, in a configuration whose names have their octets, where the changes are small
+-- and the sets of ACKNACKs have their places: so a peer that has memory sends it.
+abbrev pub AnswersCanBeWritten : Type 0
+AnswersCanBeWritten = (config : Config) (peer : ℕ) (before : List Delivery) (bytes : List ℕ) (old : State)
+    (report : Report) (dues : List Due) (new : State) → check_refusal config.peers ≡ None
+    → IsBacked config peer (packets_of before) before old → AreTellable old.part
+    → TakesPacket config peer bytes old report dues new → IsSized config → HasSmallChanges old.part
+    → All CanBeWritten dues
+
+-- so do the HEARTBEATs that are due at a tick
+abbrev pub HeartbeatsAreTrue : Type 0
+HeartbeatsAreTrue = (config : Config) (peer : ℕ) (old : Part) (now : ℕ) (reply : Reply) (new : Part)
+    → check_refusal config.peers ≡ None → IsPartOf config peer old → TickStep old now reply new
+    → AreTruthful config peer new (heartbeats_due config peer old)
+
+-- and the HEARTBEATs that tell an assertion are true of the peer that has entered it
+abbrev pub AssertionsAreTrue : Type 0
+AssertionsAreTrue = (config : Config) (tests : Tests) (peer writer : ℕ) (old new : Part)
+    → check_refusal config.peers ≡ None
+    → IsPartOf config peer old → CallStep tests old (AssertLiveliness writer) Done new
+    → AreTruthful config peer new
+    (assertions_due config (record { peer = peer; number = writer }) (own_writer old writer))
+
+-- each HEARTBEAT that tells an assertion can be written, in a configuration whose names have their octets, where the
+-- changes are small
+abbrev pub AssertionsCanBeWritten : Type 0
+AssertionsCanBeWritten = (config : Config) (tests : Tests) (peer writer : ℕ) (old new : Part) → IsPartOf config peer old
+    → CallStep tests old (AssertLiveliness writer) Done new → IsSized config → HasSmallChanges old
+    → All CanBeWritten (assertions_due config (record { peer = peer; number = writer }) (own_writer old writer))

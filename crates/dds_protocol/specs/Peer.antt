@@ -1,0 +1,130 @@
+-- One peer: what it keeps to, its part of the machine, and what was delivered to it. Its step rests on what delivered
+-- packets claim, and what it sends claims only what is true of its own lists and places.
+--
+-- RTPS 2.5, 8.2 (Participant), 8.4 (behaviour). That packets make claims, on which a step rests, is a notion of
+-- this project.
+use Rattle.std.specs.Prelude.{◌≡◌, ◌⊎◌, ℕ, ◌<◌, true, List, [], ◌∷◌, map, Option, Some, None, ℤ, ◌<ℤ◌, Contains}
+use Rattle.dds_base.specs.declared.config.Config.{Config}
+use Rattle.dds_base.specs.declared.guid.GuidPrefix.{GuidPrefix}
+use Rattle.dds_base.specs.Kept.{change_at, is_dropped}
+use Rattle.rtps_wire.specs.declared.heartbeat.Heartbeat.{Heartbeat as HeartbeatBody}
+use Rattle.rtps_wire.specs.declared.submessage.Submessage.TheVariants.{Heartbeat}
+use Rattle.dds_machine.specs.declared.endpoint.Endpoint.{Endpoint}
+use Rattle.dds_protocol.specs.declared.event.Event.{Event}
+use Rattle.dds_protocol.specs.declared.event.Event.TheVariants as event
+use Rattle.dds_protocol.specs.declared.event.Output.{Output}
+use Rattle.dds_protocol.specs.declared.event.Packet.{Packet}
+use Rattle.dds_machine.specs.declared.reply.Reply.{Reply}
+use Rattle.dds_machine.specs.declared.reply.Reply.TheVariants.{Reported}
+use Rattle.dds_machine.specs.declared.reply.Report.{Report}
+use Rattle.dds_machine.specs.Part.{Part, no_part, own_writer, own_proxies, acknowledged_of, place_of, writer_changes, history_of, is_assertion, IsBelow, IsAtMost}
+use Rattle.dds_machine.specs.Moves.{Grounds}
+use Rattle.dds_machine.specs.Ticks.{TickStep}
+use Rattle.dds_machine.specs.Calls.{CallStep}
+use Rattle.dds_machine.specs.Watching.{Tests}
+use Rattle.dds_protocol.specs.Claims.{Receiver, StandsIn, IsToReader, Claim, ChangeIs, MayPass, PlaceReached, Asserts, Claims, Claimed}
+use Rattle.dds_protocol.specs.Receipt.{Receives}
+use Rattle.dds_protocol.specs.Protocol.{Known, State, knows_nothing}
+
+-- a packet that was delivered, and what it did
+pub record Delivery : Type 0 where
+  pub packet : List ℕ
+  pub report : Report
+
+-- a peer, by its number, with its part, what it knows beside that, and the packets that were delivered to it, the
+-- newest first
+pub record Peer : Type 0 where
+  pub number : ℕ
+  pub part : Part
+  pub known : Known
+  pub delivered : List Delivery
+
+-- in the place of a peer that is not there: its number is 0
+abbrev pub no_peer : Peer
+no_peer = record { number = 0; part = no_part; known = knows_nothing; delivered = [] }
+
+-- its part, and what it knows
+abbrev pub state_of : Peer → State
+state_of p = record { part = p.part; known = p.known }
+
+-- the octets of each packet that was delivered
+abbrev pub packets_of : List Delivery → List (List ℕ)
+packets_of ds = map (λ (d : Delivery). d.packet) ds
+
+-- the index lies before that of a submessage which found no memory, if there is one
+abbrev pub IsBefore : ℕ → Option ℕ → Type 0
+IsBefore index None = Unit {0}
+IsBefore index (Some refused) = index < refused
+
+-- a HEARTBEAT of this count from the writer was applied at the reader: it stands in the packet, before what found no
+-- memory
+pub record IsApplied (config : Config) (delivery : Delivery) (writer reader : Endpoint) (count : ℤ) : Type 0 where
+  pub own : GuidPrefix
+  pub at : Receiver
+  pub heartbeat : HeartbeatBody
+  pub there : StandsIn delivery.packet own at (Heartbeat heartbeat)
+  pub before : IsBefore there.index delivery.report.refused
+  pub is_to : IsToReader config own at heartbeat.reader_id heartbeat.writer_id writer reader
+  pub same_count : heartbeat.count ≡ count
+
+-- the count is above those of all HEARTBEATs of the writer that were applied at the reader by these deliveries
+abbrev pub IsNewest : Config → List Delivery → Endpoint → Endpoint → ℤ → Type 0
+IsNewest config deliveries writer reader count =
+    (delivery : Delivery) (earlier : ℤ) → Contains deliveries delivery → IsApplied config delivery writer reader earlier
+    → earlier <ℤ count
+
+-- the packet, as far as the submessage of this index
+abbrev pub delivered_to : List ℕ → ℕ → Delivery
+delivered_to packet index = record { packet = packet; report = record { moves = []; refused = Some index } }
+
+-- what a packet claims to the peer of this number when it comes to the submessage of this index, with what was
+-- delivered before
+abbrev pub claimed : Config → List Delivery → List ℕ → ℕ → ℕ → Grounds
+claimed config before packet peer index = record {
+  is_change = λ writer reader number change. Claimed config (packet ∷ packets_of before)
+      (ChangeIs writer (record { peer = peer; number = reader }) number change);
+  may_pass = λ writer reader number. Claimed config (packet ∷ packets_of before)
+      (MayPass writer (record { peer = peer; number = reader }) number);
+  has_place = λ writer reader base. Claimed config (packet ∷ packets_of before)
+      (PlaceReached (record { peer = peer; number = writer }) reader base);
+  may_hear = λ writer reader count.
+      Claimed config (packet ∷ packets_of before) (Asserts writer (record { peer = peer; number = reader }) count)
+      × IsNewest config (delivered_to packet index ∷ before) writer (record { peer = peer; number = reader }) count;
+}
+
+-- the claim is true of the peer's own lists and places
+abbrev pub IsTrueAt : ℕ → Part → Claim → Type 0
+IsTrueAt peer part (ChangeIs writer reader number change) =
+    (writer.peer ≡ peer) × (change_at (writer_changes (own_writer part writer.number)) number ≡ Some change)
+IsTrueAt peer part (MayPass writer reader number) =
+    (writer.peer ≡ peer) × ((is_dropped (history_of (own_writer part writer.number)) number ≡ true)
+    ⊎ IsBelow number (acknowledged_of (own_writer part writer.number).readers reader))
+IsTrueAt peer part (PlaceReached writer reader base) =
+    (reader.peer ≡ peer) × IsAtMost base (place_of (own_proxies part reader.number) writer)
+IsTrueAt peer part (Asserts writer reader count) =
+    (writer.peer ≡ peer) × (is_assertion (own_writer part writer.number) count ≡ true)
+
+-- an event of a peer: a delivery rests on the claims of this and of earlier packets
+abbrev pub EventStep : Config → Tests → Peer → Event → Reply → Peer → Type 0
+EventStep config tests old (event.Call call) reply new =
+    CallStep tests old.part call reply new.part × (new.delivered ≡ old.delivered)
+EventStep config tests old (event.Tick now) reply new =
+    TickStep old.part now reply new.part × (new.delivered ≡ old.delivered)
+EventStep config tests old (event.Deliver packet) (Reported report) new =
+    Receives config (claimed config old.delivered packet old.number) old.number packet old.part report new.part
+    × (new.delivered ≡ record { packet = packet; report = report } ∷ old.delivered)
+EventStep config tests old (event.Deliver packet) reply new = ⊥
+
+-- what a peer knows changes by deliveries alone
+abbrev pub Knows : Peer → Event → Peer → Type 0
+Knows old (event.Deliver packet) new = Unit {0}
+Knows old other new = new.known ≡ old.known
+
+-- one step of a peer, and what it sends is true
+pub record PeerStep (config : Config) (tests : Tests) (old : Peer) (event : Event) (output : Output)
+    (new : Peer) : Type 0 where
+  pub same_number : new.number ≡ old.number
+  pub knows : Knows old event new
+  pub step : EventStep config tests old event output.reply new
+  pub sent : (packet : Packet) (claim : Claim) → Contains output.packets packet → Claims config packet.bytes claim
+      → IsTrueAt new.number new.part claim

@@ -1,0 +1,251 @@
+-- The reliable protocol of one peer: what it does with each submessage of a packet, and which messages are then due.
+--
+-- RTPS 2.5, 8.4.9 (reliable StatefulWriter), 8.4.12 (reliable StatefulReader).
+use Rattle.std.specs.Prelude.{◌≡◌, ◌≢◌, ◌⊎◌, ℕ, ◌+◌, ◌≤◌, ◌==◌, ◌&&◌, Bool, true, false, if◌then◌else◌, nat_lt, nat_le, max, List, [], ◌∷◌, ◌++◌, length, map, Option, Some, None, ℤ}
+use Rattle.dds_base.specs.declared.config.Config.{Config}
+use Rattle.dds_base.specs.declared.guid.EntityId.{EntityId}
+use Rattle.dds_base.specs.declared.guid.GuidPrefix.{GuidPrefix}
+use Rattle.dds_base.specs.declared.happening.Happening.{Happening}
+use Rattle.dds_base.specs.declared.happening.Happening.TheVariants.{Heard as WasHeard}
+use Rattle.dds_base.specs.declared.happening.PassedRun.{PassedRun}
+use Rattle.dds_base.specs.Kept.{numbers_from, is_kept}
+use Rattle.dds_base.specs.Counts.{is_later}
+use Rattle.rtps_wire.specs.declared.acknack.AckNack.{AckNack as AckNackBody}
+use Rattle.rtps_wire.specs.declared.heartbeat.Heartbeat.{Heartbeat as HeartbeatBody}
+use Rattle.rtps_wire.specs.declared.message.Message.{Message}
+use Rattle.rtps_wire.specs.declared.submessage.Submessage.{Submessage}
+use Rattle.rtps_wire.specs.declared.submessage.Submessage.TheVariants.{Data, Heartbeat, AckNack, Gap}
+use Rattle.rtps_wire.specs.Content.{change_in}
+use Rattle.rtps_wire.specs.Messages.{ReadsMessage}
+use Rattle.rtps_reader.specs.declared.step.AckNackDue.{AckNackDue}
+use Rattle.rtps_reader.specs.Tracked.{Tracked, fresh, with_data, with_gap, with_heartbeat}
+use Rattle.rtps_reader.specs.Advance.{Advances}
+use Rattle.rtps_reader.specs.Answer.{AnswersHeartbeat, answered}
+use Rattle.rtps_writer.specs.declared.answer.Answer.{Answer}
+use Rattle.rtps_writer.specs.Answers.{answers_to, requested}
+use Rattle.dds_machine.specs.declared.endpoint.Endpoint.{Endpoint}
+use Rattle.dds_machine.specs.declared.reply.Report.{Report}
+use Rattle.dds_machine.specs.declared.reply.Move.{Move}
+use Rattle.dds_machine.specs.declared.reply.Move.TheVariants.{Place, Acknowledged, Heard}
+use Rattle.dds_machine.specs.Part.{Part, ReaderProxy, Writer, same_endpoint, own_writer, own_proxies, own_reader, acknowledged_of, with_acknowledged, with_place, with_heard, publication_among, at_reader, at_writer, writer_changes, history_of}
+use Rattle.dds_machine.specs.Moves.{IsMatchedAt, match_of}
+use Rattle.dds_protocol.specs.Claims.{Receiver, receiver_of, after_submessage, IsToReader, IsToWriter}
+use Rattle.dds_protocol.specs.Receipt.{prefix_of, IsNotTaken}
+use Rattle.dds_protocol.specs.DueMessages.{Due, answer_message, acknacks_due}
+
+-- What a peer knows beside its part of the machine: what each of its readers has heard of a matched writer's changes,
+-- and for each of its writers the count of the last ACKNACK that it took of a matched reader.
+pub record Known : Type 0 where
+  pub tracked : Endpoint → ℕ → Tracked
+  pub answered : ℕ → Endpoint → Option ℤ
+
+-- at the opening nothing is known
+abbrev pub knows_nothing : Known
+knows_nothing = record { tracked = λ w r. fresh; answered = λ w r. None }
+
+-- a peer's part, and what it knows
+pub record State : Type 0 where
+  pub part : Part
+  pub known : Known
+
+-- what a reader has heard of a writer is now this
+abbrev pub with_tracked : Known → Endpoint → ℕ → Tracked → Known
+with_tracked known writer reader t =
+    record known {
+      tracked = λ w r. if same_endpoint w writer && (r == reader) then t else known.tracked w r;
+    }
+
+-- the count of the last ACKNACK that a writer took of a reader is now this
+abbrev pub with_answered : Known → ℕ → Endpoint → ℤ → Known
+with_answered known writer reader count =
+    record known {
+      answered = λ w r. if (w == writer) && same_endpoint r reader then Some count else known.answered w r;
+    }
+
+-- Steps of a peer in turn, with what each of them moves and what is then due.
+abbrev pub InTurn : {X : Type 0} → (X → State → List Move → List Due → State → Type 0) → List X → State → List Move
+    → List Due → State → Type 0
+InTurn step [] old moves dues new = (moves ≡ []) × (dues ≡ []) × (new ≡ old)
+InTurn step (x ∷ xs) old moves dues new =
+    (made later : List Move) × (first rest : List Due) × (mid : State) × (moves ≡ made ++ later)
+    × (dues ≡ first ++ rest)
+    × step x old made first mid × InTurn step xs mid later rest new
+
+-- nothing is done
+abbrev pub Idles : State → List Move → List Due → State → Type 0
+Idles old moves dues new = (moves ≡ []) × (dues ≡ []) × (new ≡ old)
+
+-- The place of one of the peer's readers goes as far as it can in the list of a matched writer, of which the reader
+-- knows this by now.
+pub record Goes (old : State) (writer : Endpoint) (reader : ℕ) (t : Tracked) (moves : List Move)
+    (new : State) : Type 0 where
+  pub publication : ℕ
+  pub place : ℕ
+  pub matched : IsMatchedAt old.part writer reader publication place
+  pub to : ℕ
+  pub passed : List PassedRun
+  pub known : Tracked
+  pub happened : List Happening
+  pub advances : Advances (match_of old.part reader publication) t
+      (own_reader old.part reader).happened to passed known happened
+  pub moves_are : moves ≡ (if nat_lt place to then Place writer reader to passed ∷ [] else [])
+  pub after : new ≡ record {
+    part = at_reader old.part reader (with_place (own_proxies old.part reader) writer to) happened;
+    known = with_tracked old.known writer reader known;
+  }
+
+-- a reader hears that a matched writer has asserted its liveliness
+pub record HearsOf (old : State) (writer : Endpoint) (reader : ℕ) (count : ℤ) (new : State) : Type 0 where
+  pub publication : ℕ
+  pub handle : publication_among (own_proxies old.part reader) writer ≡ Some publication
+  pub after : new ≡ record old {
+    part = at_reader old.part reader (with_heard (own_proxies old.part reader) writer count)
+        (WasHeard publication old.part.dds.moment ∷ (own_reader old.part reader).happened);
+  }
+
+-- a HEARTBEAT is an assertion of the writer where its flag L is set (RTPS 2.5, 8.3.8, 8.7.2.2)
+abbrev pub Asserting : Bool → State → Endpoint → ℕ → ℤ → List Move → State → Type 0
+Asserting true old writer reader count moves new =
+    HearsOf old writer reader count new × (moves ≡ Heard writer reader ∷ [])
+Asserting false old writer reader count moves new = (moves ≡ []) × (new ≡ old)
+
+-- a HEARTBEAT whose count is greater than that of the last one that the reader took of the writer is taken: the reader
+-- hears the writer, its place goes on, and it answers
+pub record TakesHeartbeat (own : GuidPrefix) (at : Receiver) (old : State) (writer : Endpoint) (reader : ℕ)
+    (entity : EntityId) (h : HeartbeatBody) (moves : List Move) (dues : List Due) (new : State) : Type 0 where
+  pub later : is_later (old.known.tracked writer reader).count h.count ≡ true
+  pub hearing : List Move
+  pub heard : State
+  pub asserts : Asserting h.liveliness_flag old writer reader h.count hearing heard
+  pub going : List Move
+  pub there : State
+  pub goes : Goes heard writer reader (with_heartbeat h.first_sn h.count (old.known.tracked writer reader)) going there
+  pub moves_are : moves ≡ hearing ++ going
+  pub answer : Option AckNackDue
+  pub answers : AnswersHeartbeat (there.known.tracked writer reader) h.last_sn h.final_flag answer
+  pub dues_are : dues ≡ acknacks_due own at.source_guid_prefix writer.peer entity h.writer_id answer
+  pub after : new ≡ record there
+      { known = with_tracked there.known writer reader (answered answer (there.known.tracked writer reader)) }
+
+-- one that is not taken does nothing
+abbrev pub TakesOrNot : GuidPrefix → Receiver → State → Endpoint → ℕ → EntityId → HeartbeatBody → List Move → List Due
+    → State → Type 0
+TakesOrNot own at old writer reader entity h moves dues new =
+    TakesHeartbeat own at old writer reader entity h moves dues new
+    ⊎ ((is_later (old.known.tracked writer reader).count h.count ≡ false) × Idles old moves dues new)
+
+-- the submessage names the peer's reader, and is of a writer that is matched with it, which takes it so; else it is
+-- nothing to the reader
+abbrev pub WhereMatched : Config → GuidPrefix → Receiver → EntityId → EntityId → Endpoint
+    → (Endpoint → EntityId → Type 0) → Type 0 → Type 0
+WhereMatched config own at reader_id writer_id reader Takes Idle =
+    ((writer : Endpoint) × (is : IsToReader config own at reader_id writer_id writer reader) × Takes writer is.entity)
+    ⊎ (((writer : Endpoint) → IsToReader config own at reader_id writer_id writer reader → ⊥) × Idle)
+
+-- what the peer's reader of this number does with a submessage
+abbrev pub ReaderTakes : Config → GuidPrefix → ℕ → Receiver → Submessage → ℕ → State → List Move → List Due → State
+    → Type 0
+ReaderTakes config own peer at (Data d) reader old moves dues new =
+    WhereMatched config own at d.reader_id d.writer_id (record { peer = peer; number = reader })
+    (λ writer entity. Goes old writer reader
+    (with_data d.writer_sn (change_in d.content at.timestamp) (old.known.tracked writer reader)) moves new
+    × (dues ≡ []))
+    (Idles old moves dues new)
+ReaderTakes config own peer at (Gap g) reader old moves dues new =
+    WhereMatched config own at g.reader_id g.writer_id (record { peer = peer; number = reader })
+    (λ writer entity. Goes old writer reader
+    (with_gap g.gap_start g.gap_list (old.known.tracked writer reader)) moves new × (dues ≡ []))
+    (Idles old moves dues new)
+ReaderTakes config own peer at (Heartbeat h) reader old moves dues new =
+    WhereMatched config own at h.reader_id h.writer_id (record { peer = peer; number = reader })
+    (λ writer entity. TakesOrNot own at old writer reader entity h moves dues new)
+    (Idles old moves dues new)
+ReaderTakes config own peer at submessage reader old moves dues new = Idles old moves dues new
+
+-- the answers in order, eight in each group but the last, which has no more than that
+abbrev pub AreGrouped : List Answer → List (List Answer) → Type 0
+AreGrouped answers [] = answers ≡ []
+AreGrouped answers (group ∷ groups) =
+    (rest : List Answer) × (answers ≡ group ++ rest) × (1 ≤ length group) × (length group ≤ 8)
+    × (rest ≢ [] → length group ≡ 8) × AreGrouped rest groups
+
+-- a writer's matched readers, of which one has acknowledged all numbers below this one, and does not go back
+abbrev pub acknowledging : Writer → Endpoint → ℕ → Writer
+acknowledging w reader to = record w { readers = with_acknowledged w.readers reader to }
+
+-- An ACKNACK whose count is greater than that of the last one that the writer took of the reader, and whose base is not
+-- past the next number, is taken: the reader has acknowledged all below the base, and gets each change that it asks
+-- for, or a GAP where the change is not kept.
+pub record TakesAckNack (own : GuidPrefix) (at : Receiver) (old : State) (writer : ℕ) (reader : Endpoint)
+    (entity : EntityId) (a : AckNackBody) (moves : List Move) (dues : List Due) (new : State) : Type 0 where
+  pub acknowledged : ℕ
+  pub matched : acknowledged_of (own_writer old.part writer).readers reader ≡ Some acknowledged
+  pub moves_are : moves ≡ (if nat_lt acknowledged a.reader_sn_state.base
+      then Acknowledged writer reader a.reader_sn_state.base ∷ [] else [])
+  pub there : Writer
+  pub there_is : there ≡ acknowledging (own_writer old.part writer) reader (max acknowledged a.reader_sn_state.base)
+  pub groups : List (List Answer)
+  pub grouped : AreGrouped
+      (answers_to (is_kept (history_of there))
+      (requested a.reader_sn_state (max acknowledged a.reader_sn_state.base) (length (writer_changes there)))) groups
+  pub dues_are : dues ≡ map
+      (λ group. record {
+        to = reader.peer;
+        message = answer_message own at.source_guid_prefix entity a.writer_id (writer_changes there) group;
+      }) groups
+  pub after : new ≡ record
+      { part = at_writer old.part writer there; known = with_answered old.known writer reader a.count }
+
+-- the ACKNACK is one that the writer takes
+abbrev pub is_taken_up : State → ℕ → Endpoint → AckNackBody → Bool
+is_taken_up old writer reader a =
+    is_later (old.known.answered writer reader) a.count
+    && nat_le a.reader_sn_state.base (length (writer_changes (own_writer old.part writer)) + 1)
+
+-- what the peer's writer of this number does with an ACKNACK as to one of its matched readers, which may have sent it
+abbrev pub WriterTakes : Config → GuidPrefix → ℕ → Receiver → AckNackBody → ℕ → Endpoint → State → List Move → List Due
+    → State → Type 0
+WriterTakes config own peer at a writer reader old moves dues new =
+    ((is : IsToWriter config own at a.reader_id a.writer_id (record { peer = peer; number = writer }) reader)
+    × (is_taken_up old writer reader a ≡ true) × TakesAckNack own at old writer reader is.entity a moves dues new)
+    ⊎ ((IsToWriter config own at a.reader_id a.writer_id (record { peer = peer; number = writer }) reader
+    → is_taken_up old writer reader a ≡ false) × Idles old moves dues new)
+
+-- a submessage is taken up: an ACKNACK by each of the peer's writers, as to each of its matched readers; any other one
+-- by each of its readers
+abbrev pub Takes : Config → GuidPrefix → ℕ → Receiver → Submessage → State → List Move → List Due → State → Type 0
+Takes config own peer at (AckNack a) old moves dues new =
+    InTurn (λ (writer : ℕ). InTurn (λ (p : ReaderProxy). WriterTakes config own peer at a writer p.reader)
+    (own_writer old.part writer).readers)
+    (numbers_from 1 (length old.part.rtps.writers)) old moves dues new
+Takes config own peer at submessage old moves dues new =
+    InTurn (ReaderTakes config own peer at submessage)
+    (numbers_from 1 (length old.part.rtps.readers)) old moves dues new
+
+-- The submessages from this index on are taken up in turn. Either one finds no memory, and nothing is done from it on,
+-- or it is taken up, and those that follow are.
+abbrev pub FollowsMessage : Config → GuidPrefix → ℕ → ℕ → Receiver → List Submessage → State → List Move → Option ℕ
+    → List Due → State → Type 0
+FollowsMessage config own peer index at [] old moves refused dues new = (refused ≡ None) × Idles old moves dues new
+FollowsMessage config own peer index at (submessage ∷ rest) old moves refused dues new =
+    ((refused ≡ Some index) × Idles old moves dues new)
+    ⊎ ((made later : List Move) × (first last : List Due) × (mid : State) × (moves ≡ made ++ later)
+    × (dues ≡ first ++ last)
+    × Takes config own peer at submessage old made first mid
+    × FollowsMessage config own peer (index + 1) (after_submessage own at submessage) rest mid later refused last new)
+
+-- the bytes are a message, whose submessages are taken up
+pub record TakesMessage (config : Config) (peer : ℕ) (bytes : List ℕ) (old : State) (report : Report) (dues : List Due)
+    (new : State) : Type 0 where
+  pub message : Message
+  pub offset : ℕ
+  pub is_read : ReadsMessage bytes message offset
+  pub follows : FollowsMessage config (prefix_of config peer) peer 0
+      (receiver_of message.prefix) message.submessages old report.moves report.refused dues new
+
+-- what the peer of this number does with a packet: else the bytes are no message, or one for whose reading there was no
+-- memory
+abbrev pub TakesPacket : Config → ℕ → List ℕ → State → Report → List Due → State → Type 0
+TakesPacket config peer bytes old report dues new =
+    TakesMessage config peer bytes old report dues new
+    ⊎ (IsNotTaken bytes old.part report new.part × (new.known ≡ old.known) × (dues ≡ []))

@@ -1,0 +1,78 @@
+-- A network whose peers keep the rules of the reliable protocol: which messages are due at an event, and which packets
+-- are sent of them.
+--
+-- RTPS 2.5, 8.4.9 (reliable StatefulWriter), 8.4.12 (reliable StatefulReader).
+use Rattle.std.specs.Prelude.{◌≡◌, ℕ, ◌+◌, ◌-◌, ◌^◌, min, List, [], ◌∷◌, ◌++◌, length, slice_get, Some}
+use Rattle.dds_base.specs.declared.config.Config.{Config}
+use Rattle.dds_base.specs.Written.{Changed, Asserted}
+use Rattle.dds_protocol.specs.Noticing.{world_ended}
+use Rattle.dds_protocol.specs.declared.event.Packet.{Packet}
+use Rattle.dds_machine.specs.declared.event.WorldEvent.{WorldEvent}
+use Rattle.dds_machine.specs.declared.event.WorldEvent.TheVariants.{Call, Tick, Deliver}
+use Rattle.dds_machine.specs.declared.reply.Reply.{Reply}
+use Rattle.dds_machine.specs.declared.reply.Reply.TheVariants.{Done, Reported}
+use Rattle.dds_machine.specs.Part.{Part, own_writer, writer_changes}
+use Rattle.dds_machine.specs.Calls.{Effect, writes, effect_of}
+use Rattle.dds_machine.specs.Machine.{AllTests}
+use Rattle.dds_protocol.specs.Peer.{state_of}
+use Rattle.dds_protocol.specs.DueMessages.{Due, AreSent, assertions_due, changes_due, heartbeats_due}
+use Rattle.dds_protocol.specs.Protocol.{TakesPacket}
+use Rattle.dds_protocol.specs.Runs.{Traffic, Sends}
+use Rattle.dds_protocol.specs.World.{WorldState, WorldStep, peer_at, machine_of}
+
+-- what is due for what a call enters at a writer of the peer: a change is announced, with the next number, and an
+-- assertion is told
+abbrev pub announcements_due : Config → ℕ → Part → Effect → List Due
+announcements_due config peer part (writes writer (Changed change)) =
+    changes_due config (record { peer = peer; number = writer }) (own_writer part writer).readers
+    (length (writer_changes (own_writer part writer)) + 1) change
+announcements_due config peer part (writes writer (Asserted moment)) =
+    assertions_due config (record { peer = peer; number = writer }) (own_writer part writer)
+announcements_due config peer part other = []
+
+-- These messages are due at an event: for a call what announces its change or tells its assertion, at a tick that is
+-- done the HEARTBEATs of the peer, for a delivered packet what the rules say once it was taken up; where the event is
+-- refused, none.
+abbrev pub AreDue : Config → WorldState → WorldEvent → Reply → WorldState → List Due → Type 0
+AreDue config old (Call peer call) reply new dues =
+    dues ≡ announcements_due config peer (peer_at old peer).part (effect_of (peer_at old peer).part call reply)
+AreDue config old (Tick peer now) Done new dues = dues ≡ heartbeats_due config peer (peer_at old peer).part
+AreDue config old (Deliver peer number) (Reported report) new dues =
+    (packet : Packet) × (slice_get old.sent (number - 1) ≡ Some packet)
+    × TakesPacket config peer packet.bytes (state_of (peer_at old peer)) report dues (state_of (peer_at new peer))
+AreDue config old event reply new dues = dues ≡ []
+
+-- One event of a network by the rules: it is a step of the peers, and of the messages that are due these packets are
+-- sent, in their order; so many are not.
+pub record RuledStep (config : Config) (tests : AllTests) (old : WorldState) (event : WorldEvent) (reply : Reply)
+    (lost : ℕ) (new : WorldState) : Type 0 where
+  pub step : WorldStep config tests old event reply new
+  pub dues : List Due
+  pub due : AreDue config old event reply new dues
+  pub packets : List Packet
+  pub sent : new.sent ≡ old.sent ++ packets
+  pub are_sent : AreSent dues packets lost
+
+-- what a network sent so far, where so many packets were counted as unsent
+abbrev pub traffic_of : WorldState → ℕ → Traffic
+traffic_of world unsent = record { sent = world.sent; unsent = unsent }
+
+-- One event of a network by the rules, and how many packets are counted as unsent before it and after it: to the
+-- greatest number that has 64 bits, those that are due and not sent besides.
+pub record CountedStep (config : Config) (tests : AllTests) (old : WorldState) (unsent : ℕ) (event : WorldEvent)
+    (reply : Reply)
+    (new : WorldState) (next : ℕ) : Type 0 where
+  pub lost : ℕ
+  pub ruled : RuledStep config tests old event reply lost new
+  pub counted : next ≡ min (unsent + lost) (2 ^ 64 - 1)
+  pub sends : Sends config (traffic_of old unsent) (machine_of old) event reply (traffic_of new next)
+
+-- Replies to a list of events of a network by the rules, one after another, each to its end, at which listeners are
+-- told; with the counts of unsent packets before and after.
+abbrev pub RuledRun : Config → AllTests → WorldState → ℕ → List WorldEvent → List Reply → WorldState → ℕ → Type 0
+RuledRun config tests old unsent [] [] new last = (new ≡ old) × (last ≡ unsent)
+RuledRun config tests old unsent (event ∷ events) (reply ∷ replies) new last =
+    (mid : WorldState) × (next : ℕ) × CountedStep config tests old unsent event reply mid next
+    × RuledRun config tests (world_ended old event mid) next events replies new last
+RuledRun config tests old unsent [] (reply ∷ replies) new last = ⊥
+RuledRun config tests old unsent (event ∷ events) [] new last = ⊥

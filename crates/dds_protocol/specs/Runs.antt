@@ -1,0 +1,85 @@
+-- Runs: replies to lists of events, with the packets that are sent meanwhile.
+--
+-- Runs are this project's own. What is sent in them is in RTPS 2.5, 8.4.7 (StatefulWriter), 8.4.9 and 8.4.12.
+use Rattle.std.specs.Prelude.{◌≡◌, ◌≢◌, ◌⊎◌, ℕ, ◌+◌, ◌-◌, ◌^◌, List, [], ◌∷◌, ◌++◌, length, min, IsSome, Contains, AllPairs}
+use Rattle.dds_base.specs.declared.change.Change.{Change}
+use Rattle.dds_base.specs.declared.config.Config.{Config}
+use Rattle.dds_base.specs.Written.{Changed, Asserted}
+use Rattle.dds_machine.specs.declared.endpoint.Endpoint.{Endpoint}
+use Rattle.dds_machine.specs.declared.event.WorldEvent.{WorldEvent}
+use Rattle.dds_machine.specs.declared.event.WorldEvent.TheVariants as world
+use Rattle.dds_protocol.specs.declared.event.Packet.{Packet}
+use Rattle.dds_machine.specs.declared.reply.Reply.{Reply}
+use Rattle.dds_machine.specs.declared.reply.Reply.TheVariants.{Done, Reported}
+use Rattle.dds_machine.specs.Part.{ReaderProxy, peers_of, acknowledged_of, writer_changes}
+use Rattle.dds_machine.specs.Calls.{Effect, writes, effect_of}
+use Rattle.dds_protocol.specs.Claims.{ChangeIs, Claims}
+use Rattle.dds_machine.specs.Machine.{Machine, AllTests, part_at, writer_at, Step}
+use Rattle.dds_machine.specs.Noticing.{machine_ended}
+use Rattle.dds_protocol.specs.DueMessages.{Due, AreSent, assertions_due, changes_due, heartbeats_due}
+use Rattle.dds_protocol.specs.Progress.{Progresses}
+
+-- the packets that were sent, and how many found no memory, which stays at its greatest value
+pub record Traffic : Type 0 where
+  pub sent : List Packet
+  pub unsent : ℕ
+
+-- A change of a writer is announced: each peer with a matched reader is sent one packet, in its one written form, in
+-- which the change is for each such reader, or the packet is counted as unsent.
+pub record Announced (config : Config) (old : Traffic) (writer : Endpoint) (readers : List ReaderProxy) (number : ℕ)
+    (change : Change) (new : Traffic) : Type 0 where
+  pub packets : List Packet
+  pub sent : new.sent ≡ old.sent ++ packets
+  pub to_peers : (packet : Packet) → Contains packets packet → Contains (peers_of readers) packet.to
+  pub says : (packet : Packet) (reader : Endpoint) → Contains packets packet → reader.peer ≡ packet.to
+      → IsSome (acknowledged_of readers reader) → Claims config packet.bytes (ChangeIs writer reader number change)
+  pub different : AllPairs (λ (a b : Packet). a.to ≢ b.to) packets
+  pub lost : ℕ
+  pub counted : length packets + lost ≡ length (peers_of readers)
+  pub are_sent : AreSent (changes_due config writer readers number change) packets lost
+  pub unsent : new.unsent ≡ min (old.unsent + lost) (2 ^ 64 - 1)
+
+-- Of the messages that are due some are sent, in their order, each in its one written form; the others found no memory,
+-- and are counted.
+pub record SendsDues (dues : List Due) (old new : Traffic) : Type 0 where
+  pub packets : List Packet
+  pub sent : new.sent ≡ old.sent ++ packets
+  pub lost : ℕ
+  pub are_sent : AreSent dues packets lost
+  pub unsent : new.unsent ≡ min (old.unsent + lost) (2 ^ 64 - 1)
+
+-- what a call with this effect sends: a change is announced, with the next number, and an assertion told; else nothing
+-- is sent
+abbrev pub SendsOf : Config → Traffic → Machine → ℕ → Effect → Traffic → Type 0
+SendsOf config old m peer (writes writer (Changed change)) new =
+    Announced config old (record { peer = peer; number = writer })
+    (writer_at m (record { peer = peer; number = writer })).readers
+    (length (writer_changes (writer_at m (record { peer = peer; number = writer }))) + 1) change new
+SendsOf config old m peer (writes writer (Asserted moment)) new =
+    SendsDues (assertions_due config (record { peer = peer; number = writer })
+    (writer_at m (record { peer = peer; number = writer }))) old new
+SendsOf config old m peer other new = new ≡ old
+
+-- What is sent at an event: an accepted change is announced, an assertion is told, a tick that is done sends the
+-- HEARTBEATs that are due at the peer, and a delivery the ACKNACKs and the answers that are then due there, of which
+-- the machine without packets does not know, or nothing where its own bytes found no memory; another call and what is
+-- refused send nothing, and lose nothing.
+abbrev pub Sends : Config → Traffic → Machine → WorldEvent → Reply → Traffic → Type 0
+Sends config old m (world.Call peer call) reply new =
+    SendsOf config old m peer (effect_of (part_at m peer) call reply) new
+Sends config old m (world.Tick peer now) Done new = SendsDues (heartbeats_due config peer (part_at m peer)) old new
+Sends config old m (world.Tick peer now) reply new = new ≡ old
+Sends config old m (world.Deliver peer packet) (Reported report) new =
+    ((dues : List Due) × SendsDues dues old new) ⊎ (new ≡ old)
+Sends config old m (world.Deliver peer packet) reply new = new ≡ old
+
+-- Replies to a list of events, one step after another, each to its end, at which listeners are told; with the packets
+-- before and after.
+abbrev pub Run : Config → AllTests → Traffic → Machine → List WorldEvent → List Reply → Traffic → Machine → Type 0
+Run config tests sent old [] [] last new = (new ≡ old) × (last ≡ sent)
+Run config tests sent old (event ∷ events) (reply ∷ replies) last new =
+    (mid : Machine) × (next : Traffic) × Step tests (length sent.sent) old event reply mid
+    × Sends config sent old event reply next × Progresses config sent.sent old event reply
+    × Run config tests next (machine_ended old event mid) events replies last new
+Run config tests sent old [] (reply ∷ replies) last new = ⊥
+Run config tests sent old (event ∷ events) [] last new = ⊥

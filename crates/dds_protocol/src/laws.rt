@@ -1,0 +1,141 @@
+//! What holds of every network and every run.
+//!
+//! The laws are this project's own; what they speak of is in RTPS 2.5, 8.3.8 and 8.4 (behaviour), and DDS 1.4,
+//! 2.2.3.
+
+ghost use Rattle.std.specs.Prelude.{◌≡◌, ◌↔◌, IsTrue};
+ghost use Rattle.dds_protocol.specs.Bounds.{OpensBounded, RunsBounded, StepsBounded};
+ghost use Rattle.dds_protocol.specs.CatchUp.{WindowCatchesUp};
+ghost use Rattle.dds_protocol.specs.Fresh.{OpensUsed, StepsUsed};
+ghost use Rattle.dds_protocol.specs.InOrder.{ChangesComeInOrder};
+ghost use Rattle.dds_protocol.specs.Laws.{AnswersAreTrue, AnswersCanBeWritten, AssertionsAreTrue, AssertionsCanBeWritten, Composes, ComposesRuns, HeartbeatsAreTrue, KeepAllIsKept, OpensBacked, OpensSound, OwnersExist, ReadersTellWritersApart, RulesRestOnClaims};
+ghost use Rattle.dds_protocol.specs.Repair.{AnswersAreFew, AsksAreSent, BeatsAreSent, PairCatchesUp};
+
+use crate::event::{Event, Output};
+use dds_base::laws::owner_is_found;
+
+/// All that packets claim is true at the opening of every configuration.
+pub fn opens_sound()
+    ensures opening { OpensSound }
+{}
+
+/// A step of a network's peers, on packets that were sent, is a step of the machine, and leaves all claims true.
+pub fn composes()
+    ensures step { Composes }
+{}
+
+/// A run of a network's peers is a run of the machine.
+pub fn composes_runs()
+    ensures run { ComposesRuns }
+{}
+
+/// No run passes over a change of a writer that keeps all.
+pub fn keep_all_is_kept()
+    ensures kept { KeepAllIsKept }
+{}
+
+/// After every run, the changes of a writer that keeps all that came at a matched reader are the first ones of its
+/// list, as many as lie before the reader's place there.
+pub fn changes_come_in_order()
+    ensures order { ChangesComeInOrder }
+{}
+
+/// After every run, a reader's place in the list of a matched writer is at most one past the number of the last change.
+///
+/// RTPS 2.5, 8.4.10.
+pub fn places_are_bounded()
+    // It is so at the opening of every configuration.
+    ensures opening { OpensBounded }
+    // No step of the machine changes that.
+    ensures step { StepsBounded }
+    // So it is after every run.
+    ensures run { RunsBounded }
+{}
+
+/// `==` says of two events whether they are equal.
+pub fn events_are_compared(event: &Event, other: &Event) -> bool
+    ensures equal { IsTrue result ↔ (event.now ≡ other.now) }
+{
+    event == other
+}
+
+/// `==` says of two outputs whether they are equal.
+pub fn outputs_are_compared(output: &Output, other: &Output) -> bool
+    ensures equal { IsTrue result ↔ (output.now ≡ other.now) }
+{
+    output == other
+}
+
+/// Each reader of a configuration that is not refused tells its matched writers apart, by GUIDs and by publication
+/// handles: so an instance has an owner wherever a writer is registered for it.
+pub fn owners_exist()
+    // Each reader tells its matched writers apart.
+    ensures apart { ReadersTellWritersApart }
+    // Wherever a writer is registered for an instance, the instance has an owner.
+    ensures owner { OwnersExist }
+{
+    owner_is_found();
+}
+
+/// What a peer does with a packet by the rules of the protocol rests on what that packet and earlier ones claim. What
+/// it knows beside its part of the machine is claimed by them too, at the opening and after each packet.
+///
+/// RTPS 2.5, 8.4.9, 8.4.12.
+pub fn rules_rest_on_claims()
+    // At the opening a peer knows nothing.
+    ensures opening { OpensBacked }
+    // A packet that is taken up by the rules moves what it may move, and leaves known what is claimed.
+    ensures packet { RulesRestOnClaims }
+{}
+
+/// What the rules of the protocol ask a peer to send claims, once it is written, only what is true of the peer's own
+/// lists and places.
+///
+/// RTPS 2.5, 8.4.9, 8.4.12.
+pub fn what_is_due_is_true()
+    // So do the ACKNACKs and the answers that are due to a packet.
+    ensures packet { AnswersAreTrue }
+    // So do the HEARTBEATs that are due at a tick.
+    ensures tick { HeartbeatsAreTrue }
+    // What is due to a packet has a written form, whatever the packet asked for.
+    ensures written { AnswersCanBeWritten }
+    // So do the HEARTBEATs that tell an assertion.
+    ensures assertion { AssertionsAreTrue }
+    // They have a written form too.
+    ensures told { AssertionsCanBeWritten }
+{}
+
+/// No count of a HEARTBEAT or of an ACKNACK is sent or taken that its sender has not used: so the next one is newer
+/// than all before it.
+///
+/// RTPS 2.5, 8.3.8, 8.4.9, 8.4.12.
+pub fn counts_are_fresh()
+    // At the opening none was sent.
+    ensures opening { OpensUsed }
+    // An event of a network by the rules leaves it so.
+    ensures step { StepsUsed }
+{}
+
+/// A reader that takes a HEARTBEAT, and then an answer to each number that its ACKNACK asked for, has gone on by 256
+/// numbers, or to the end of the writer's list, or to a change that has no room.
+///
+/// RTPS 2.5, 8.4.9, 8.4.12.
+pub fn window_catches_up()
+    ensures window { WindowCatchesUp }
+{}
+
+/// After a round of repair of a writer and a matched reader, in a network by the rules, the reader has gone on by 256
+/// numbers, or to the end of the writer's list, or to a change that has no room; and the writer knows of all that the
+/// reader had before. So it is also where both are at one peer, and whatever other writers and readers do meanwhile.
+///
+/// RTPS 2.5, 8.4.9, 8.4.12.
+pub fn pair_catches_up()
+    // After the round.
+    ensures round { PairCatchesUp }
+    // It begins with a HEARTBEAT where the reader is behind.
+    ensures beat { BeatsAreSent }
+    // The reader answers that with an ACKNACK.
+    ensures ask { AsksAreSent }
+    // The answers to that go in 32 packets at most.
+    ensures answers { AnswersAreFew }
+{}
