@@ -9,3 +9,4 @@ pub mod Machine
 pub mod Opening
 pub mod Filters
 pub mod Noticing
+pub mod Runs

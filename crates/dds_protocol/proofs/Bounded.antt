@@ -25,14 +25,15 @@ use Rattle.dds_machine.specs.Numbered.{numbered, with_numbered}
 use Rattle.dds_protocol.specs.Peer.{Peer, no_peer}
 use Rattle.dds_machine.specs.Opening.{opening}
 use Rattle.dds_protocol.specs.Opening.{opening_world}
-use Rattle.dds_protocol.specs.Runs.{Traffic, Run}
-use Rattle.dds_protocol.specs.InOrder.{no_traffic}
+use Rattle.dds_machine.specs.Runs.{Run}
 use Rattle.dds_protocol.specs.Bounds.{IsBounded}
 use Rattle.dds_machine.proofs.Tables.{numbered-cases, place-cases, place-heard}
 use Rattle.dds_protocol.proofs.Growth.{MachineGrows, with_part, with_part-grows, CallStep-grows, TickStep-grows, TickStep-rows, DeliveryStep-grows, writer-changes, change_at-within}
 use Rattle.dds_protocol.proofs.Composed.{parts_at}
 use Rattle.dds_machine.specs.Noticing.{machine_ended}
 use Rattle.dds_protocol.proofs.EndsBeside.{ended_bounded}
+use Rattle.dds_protocol.proofs.Opened.{opening_is}
+use Rattle.dds_protocol.specs.World.{machine_of}
 use Rattle.dds_protocol.proofs.OpenedPeers.{IsFresh, fresh_place, none_is_fresh, peer_is_fresh}
 
 -- what is dropped is there
@@ -193,25 +194,27 @@ pub opened_is_fresh : (config : Config) (i : ℕ) → IsFresh (numbered (opening
 opened_is_fresh config zero = none_is_fresh
 opened_is_fresh config (suc i) = peer_is_fresh config.peers 1 config.peers i
 
-pub opens_bounded : (config : Config) → IsBounded (opening config)
-opens_bounded config r w p h =
+opened_bounded : (config : Config) → IsBounded (machine_of (opening_world config))
+opened_bounded config r w p h =
     let here = ap (λ (q : Part). place_of (own_proxies q r.number) w) (parts_at (opening_world config) r.peer) in
     let one =
     fresh_bounded (opening_world config).peers r.peer r.number w p (opened_is_fresh config r.peer) (sym here ∙ h) in
     omega (arith, one)
 
-run_bounded : (config : Config) (tests : AllTests) (m after : Machine) (events : List WorldEvent) (replies : List Reply)
-    (sent last : Traffic)
-    → Run config tests sent m events replies last after → IsBounded m → IsBounded after
-run_bounded config tests m after [] [] sent last run b = subst (λ (x : Machine). IsBounded x) (sym run.0) b
-run_bounded config tests m after (e ∷ es) (p ∷ ps) sent last run b =
-    run_bounded config tests (machine_ended m e run.0) after es ps run.1 last run.5
-    (ended_bounded m e run.0 (steps_bounded tests (length sent.sent) m e p run.0 b run.2))
-run_bounded config tests m after [] (p ∷ ps) sent last run b = absurd run
-run_bounded config tests m after (e ∷ es) [] sent last run b = absurd run
+pub opens_bounded : (config : Config) → IsBounded (opening config)
+opens_bounded config = subst (λ (m : Machine). IsBounded m) (opening_is config) (opened_bounded config)
+
+run_bounded : (tests : AllTests) (m after : Machine) (events : List WorldEvent) (replies : List Reply) (sent last : ℕ)
+    → Run tests sent m events replies last after → IsBounded m → IsBounded after
+run_bounded tests m after [] [] sent last run b = subst (λ (x : Machine). IsBounded x) (sym run.0) b
+run_bounded tests m after (e ∷ es) (p ∷ ps) sent last run b =
+    run_bounded tests (machine_ended m e run.0) after es ps run.1 last run.4
+    (ended_bounded m e run.0 (steps_bounded tests sent m e p run.0 b run.2))
+run_bounded tests m after [] (p ∷ ps) sent last run b = absurd run
+run_bounded tests m after (e ∷ es) [] sent last run b = absurd run
 
 pub runs_bounded : (config : Config) (tests : AllTests) (events : List WorldEvent) (replies : List Reply)
-    (last : Traffic) (after : Machine)
-    → Run config tests no_traffic (opening config) events replies last after → IsBounded after
+    (last : ℕ) (after : Machine)
+    → Run tests 0 (opening config) events replies last after → IsBounded after
 runs_bounded config tests events replies last after run =
-    run_bounded config tests (opening config) after events replies no_traffic last run (opens_bounded config)
+    run_bounded tests (opening config) after events replies 0 last run (opens_bounded config)

@@ -8,8 +8,7 @@ use Rattle.rtps_wire.specs.declared.submessage.Submessage.TheVariants.{InfoDst, 
 use Rattle.rtps_wire.specs.Messages.{IsWritable, ReadsMessage, spelling_of}
 use Rattle.rtps_wire.proofs.MessageLaws.{message_one}
 use Rattle.rtps_wire.proofs.SpellingLaws.{message_again}
-use Rattle.dds_protocol.specs.Claims.{Receiver, receiver_of, StandsAt, StandsIn, Says, Claim, ChangeIs, MayPass, PlaceReached}
-use Rattle.dds_protocol.specs.Claims.{Asserts, Claims}
+use Rattle.dds_protocol.specs.Claims.{Receiver, receiver_of, StandsAt, StandsIn, Says, Claim, ChangeIs, MayPass, PlaceReached, Asserts, Claims}
 
 -- a submessage of the message says it
 pub record Told (config : Config) (message : Message) (claim : Claim) : Type 0 where

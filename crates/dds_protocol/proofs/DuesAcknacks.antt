@@ -1,6 +1,5 @@
 -- An ACKNACK that is due to a writer claims no more than the place of the reader in that writer's list.
-use Rattle.std.proofs.Common.{◌≡◌, ℕ, Bool, true, false, ◌||◌, List, [], Option, Some, None, refl, subst, ap, sym, ◌∙◌}
-use Rattle.std.proofs.Common.{inl, inr, ⊎_elim, arith}
+use Rattle.std.proofs.Common.{◌≡◌, ℕ, Bool, true, false, ◌||◌, List, [], Option, Some, None, refl, subst, ap, sym, ◌∙◌, inl, inr, ⊎_elim, arith}
 use Rattle.std.proofs.lemmas.List.Elements.{All-cons, All-nil}
 use Rattle.dds_base.specs.declared.config.Config.{Config}
 use Rattle.dds_base.specs.declared.guid.EntityId.{EntityId}
@@ -12,14 +11,12 @@ use Rattle.rtps_reader.specs.Tracked.{Tracked}
 use Rattle.rtps_wire.specs.declared.acknack.AckNack.{AckNack as AckNackBody}
 use Rattle.rtps_wire.specs.declared.heartbeat.Heartbeat.{Heartbeat as HeartbeatBody}
 use Rattle.rtps_wire.specs.declared.submessage.Submessage.{Submessage}
-use Rattle.rtps_wire.specs.declared.submessage.Submessage.TheVariants.{Pad, InfoDst, InfoTs, Data, Heartbeat, AckNack}
-use Rattle.rtps_wire.specs.declared.submessage.Submessage.TheVariants.{Gap, Other}
+use Rattle.rtps_wire.specs.declared.submessage.Submessage.TheVariants.{Pad, InfoDst, InfoTs, Data, Heartbeat, AckNack, Gap, Other}
 use Rattle.dds_machine.specs.declared.endpoint.Endpoint.{Endpoint}
 use Rattle.dds_machine.specs.declared.reply.Move.{Move}
 use Rattle.dds_machine.specs.Numbered.{numbered, with_numbered}
 use Rattle.dds_machine.specs.Part.{Part, WriterProxy, own_proxies, place_of, with_place, IsAtMost}
-use Rattle.dds_protocol.specs.Claims.{Receiver, every_peer, Names, IsWriter, IsReader, IsToReader, IsToWriter, Claim}
-use Rattle.dds_protocol.specs.Claims.{ChangeIs, MayPass, PlaceReached, Asserts, Says}
+use Rattle.dds_protocol.specs.Claims.{Receiver, every_peer, Names, IsWriter, IsReader, IsToReader, IsToWriter, Claim, ChangeIs, MayPass, PlaceReached, Asserts, Says}
 use Rattle.dds_protocol.specs.Peer.{IsTrueAt}
 use Rattle.dds_protocol.specs.DueMessages.{Due, acknack_message, acknacks_due}
 use Rattle.dds_protocol.specs.Protocol.{State, Goes, TakesHeartbeat, ReaderTakes}

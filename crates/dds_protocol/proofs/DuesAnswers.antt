@@ -1,7 +1,5 @@
 -- What a writer answers to an ACKNACK is true: a DATA tells a change of its list, and a GAP names what it has dropped.
-use Rattle.std.proofs.Common.{◌≡◌, ℕ, zero, suc, ◌+◌, ◌^◌, ◌<◌, ◌≤◌, max, Bool, true, false, List, [], ◌∷◌, ◌++◌}
-use Rattle.std.proofs.Common.{Option, Some, None, length, get_or, map, nat_lt, refl, subst, ap, sym, ◌∙◌, inl, inr}
-use Rattle.std.proofs.Common.{⊎_elim, arith}
+use Rattle.std.proofs.Common.{◌≡◌, ℕ, zero, suc, ◌+◌, ◌^◌, ◌<◌, ◌≤◌, max, Bool, true, false, List, [], ◌∷◌, ◌++◌, Option, Some, None, length, get_or, map, nat_lt, refl, subst, ap, sym, ◌∙◌, inl, inr, ⊎_elim, arith}
 use Rattle.std.specs.Prelude.{if◌then◌else◌, nat_le, ◌&&◌}
 use Rattle.std.specs.List.{All, flat_map}
 use Rattle.std.proofs.lemmas.Bool.{and_parts, leb-true}
@@ -27,10 +25,8 @@ use Rattle.rtps_writer.proofs.AnswerFacts.{answers-right}
 use Rattle.dds_machine.specs.declared.endpoint.Endpoint.{Endpoint}
 use Rattle.dds_machine.specs.declared.reply.Move.{Move}
 use Rattle.dds_machine.specs.Numbered.{HasNumber}
-use Rattle.dds_machine.specs.Part.{Part, Writer, no_writer, own_writer, acknowledged_of, writer_changes, history_of}
-use Rattle.dds_machine.specs.Part.{at_writer}
-use Rattle.dds_protocol.specs.Claims.{Receiver, is_for, stamp_of, after_submessage, StandsAt, IsWriter, IsToWriter, Claim}
-use Rattle.dds_protocol.specs.Claims.{ChangeIs, MayPass, PlaceReached, Asserts, Says}
+use Rattle.dds_machine.specs.Part.{Part, Writer, no_writer, own_writer, acknowledged_of, writer_changes, history_of, at_writer}
+use Rattle.dds_protocol.specs.Claims.{Receiver, is_for, stamp_of, after_submessage, StandsAt, IsWriter, IsToWriter, Claim, ChangeIs, MayPass, PlaceReached, Asserts, Says}
 use Rattle.dds_protocol.specs.Peer.{IsTrueAt}
 use Rattle.dds_protocol.specs.DueMessages.{Due, answer_message, data_of, submessages_of}
 use Rattle.dds_protocol.specs.Protocol.{State, TakesAckNack, WriterTakes, AreGrouped}

@@ -1,7 +1,6 @@
 -- The HEARTBEATs that tell a writer's assertion claim only what is true of the writer that has entered it, and can be
 -- written.
-use Rattle.std.proofs.Common.{◌≡◌, ℕ, suc, ◌+◌, ◌-◌, ◌^◌, ◌<◌, Bool, true, false, not, List, [], ◌∷◌, ◌++◌, length, get_or, map}
-use Rattle.std.proofs.Common.{refl, subst, ap, sym, ◌∙◌, ⊎_elim, arith, nat_le}
+use Rattle.std.proofs.Common.{◌≡◌, ℕ, suc, ◌+◌, ◌-◌, ◌^◌, ◌<◌, Bool, true, false, not, List, [], ◌∷◌, ◌++◌, length, get_or, map, refl, subst, ap, sym, ◌∙◌, ⊎_elim, arith, nat_le}
 use Rattle.std.specs.Prelude.{if◌then◌else◌, pos, Option, Some, None}
 use Rattle.std.specs.List.{All}
 use Rattle.std.proofs.lemmas.Bool.Decides.{nat_tests}

@@ -1,6 +1,5 @@
 -- What is true of a peer's lists and places stays true while a packet is taken up.
-use Rattle.std.proofs.Common.{◌≡◌, ◌⊎◌, ℕ, ◌<◌, List, [], ◌∷◌, Option, Some, Bool, true, false, cond, map, length, refl}
-use Rattle.std.proofs.Common.{subst, ap, sym, ◌∙◌, inl, inr, ⊎_elim, arith}
+use Rattle.std.proofs.Common.{◌≡◌, ◌⊎◌, ℕ, ◌<◌, List, [], ◌∷◌, Option, Some, Bool, true, false, cond, map, length, refl, subst, ap, sym, ◌∙◌, inl, inr, ⊎_elim, arith}
 use Rattle.std.proofs.lemmas.List.Elements.{All-weaker}
 use Rattle.dds_base.specs.declared.change.Change.{Change}
 use Rattle.dds_base.specs.declared.config.Config.{Config}
@@ -10,17 +9,14 @@ use Rattle.dds_machine.specs.declared.endpoint.Endpoint.{Endpoint}
 use Rattle.dds_machine.specs.declared.reply.Move.{Move}
 use Rattle.dds_machine.specs.declared.reply.Move.TheVariants.{Place, Acknowledged, Heard}
 use Rattle.dds_machine.specs.Numbered.{numbered, with_numbered}
-use Rattle.dds_machine.specs.Part.{Part, ReaderProxy, Writer, no_writer, same_endpoint, own_writer, own_proxies}
-use Rattle.dds_machine.specs.Part.{acknowledged_of, with_acknowledged, place_of, writer_changes, at_writer, NoLess}
+use Rattle.dds_machine.specs.Part.{Part, ReaderProxy, Writer, no_writer, same_endpoint, own_writer, own_proxies, acknowledged_of, with_acknowledged, place_of, writer_changes, at_writer, NoLess}
 use Rattle.dds_machine.specs.Moves.{Grounds, IsMove, AreMoves}
 use Rattle.dds_protocol.specs.Claims.{Claim, ChangeIs, MayPass, PlaceReached, Asserts}
 use Rattle.dds_protocol.specs.Peer.{IsTrueAt}
 use Rattle.dds_protocol.specs.DueMessages.{Due}
 use Rattle.dds_protocol.specs.Dues.{AreTellable, IsPartOf, IsTruthful, AreTruthful, AreSmall, HasSmallChanges}
-use Rattle.dds_protocol.proofs.Growth.{Grows, grows_same, grows_on, IsMove-grows, writer-changes, change_at-append}
-use Rattle.dds_protocol.proofs.Growth.{dropped-grows, assertion-grows}
-use Rattle.dds_machine.proofs.Tables.{numbered-cases, length-with_numbered, acknowledged-cases, no_less_same, no_less_on}
-use Rattle.dds_machine.proofs.Tables.{at_most_on, below_on}
+use Rattle.dds_protocol.proofs.Growth.{Grows, grows_same, grows_on, IsMove-grows, writer-changes, change_at-append, dropped-grows, assertion-grows}
+use Rattle.dds_machine.proofs.Tables.{numbered-cases, length-with_numbered, acknowledged-cases, no_less_same, no_less_on, at_most_on, below_on}
 
 -- whom these rows name
 abbrev pub names_of : List ReaderProxy → List Endpoint

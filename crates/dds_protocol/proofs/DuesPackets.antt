@@ -1,14 +1,12 @@
 -- All that a peer sends by the reliable protocol is true: what is due once a packet was taken up, and at a tick.
-use Rattle.std.proofs.Common.{◌≡◌, ℕ, ◌+◌, List, [], ◌∷◌, Option, Some, None, Contains, refl, subst, ap, sym, inl, inr}
-use Rattle.std.proofs.Common.{⊎_elim, arith, length}
+use Rattle.std.proofs.Common.{◌≡◌, ℕ, ◌+◌, List, [], ◌∷◌, Option, Some, None, Contains, refl, subst, ap, sym, inl, inr, ⊎_elim, arith, length}
 use Rattle.std.specs.List.{All, AllByRecursion}
 use Rattle.std.proofs.lemmas.List.Elements.{All-append, All-contains, All-nil}
 use Rattle.dds_base.specs.declared.config.Config.{Config}
 use Rattle.dds_base.specs.Checked.{check_refusal}
 use Rattle.rtps_wire.specs.declared.message.Message.{Message}
 use Rattle.rtps_wire.specs.declared.submessage.Submessage.{Submessage}
-use Rattle.rtps_wire.specs.declared.submessage.Submessage.TheVariants.{Pad, InfoDst, InfoTs, Data, Heartbeat, AckNack}
-use Rattle.rtps_wire.specs.declared.submessage.Submessage.TheVariants.{Gap, Other}
+use Rattle.rtps_wire.specs.declared.submessage.Submessage.TheVariants.{Pad, InfoDst, InfoTs, Data, Heartbeat, AckNack, Gap, Other}
 use Rattle.rtps_wire.specs.Messages.{ReadsAll, ReadsMessage, IsWritable, spelling_of}
 use Rattle.rtps_wire.specs.Sets.{set_of}
 use Rattle.rtps_wire.specs.Submessages.{Reads}
@@ -23,16 +21,14 @@ use Rattle.dds_protocol.specs.Peer.{Delivery, packets_of, IsTrueAt}
 use Rattle.dds_protocol.specs.DueMessages.{Due, AreSent, heartbeats_due}
 use Rattle.dds_protocol.specs.Protocol.{State, FollowsMessage, TakesMessage, TakesPacket}
 use Rattle.dds_protocol.specs.Backed.{IsBacked}
-use Rattle.dds_protocol.specs.Dues.{AreTellable, IsPartOf, IsTruthful, AreTruthful, IsSized, HasSmallChanges, HasPlaces}
-use Rattle.dds_protocol.specs.Dues.{CanBeWritten}
+use Rattle.dds_protocol.specs.Dues.{AreTellable, IsPartOf, IsTruthful, AreTruthful, IsSized, HasSmallChanges, HasPlaces, CanBeWritten}
 use Rattle.dds_protocol.proofs.Composed.{front_or_rest, later_in}
 use Rattle.dds_protocol.proofs.DuesGrowth.{Gains, gains_same, gains_on, small_gained, truthful_gained, truthful_on}
 use Rattle.dds_protocol.proofs.DuesHeartbeats.{heartbeats_truthful}
 use Rattle.dds_protocol.proofs.DuesTurns.{Keeps, HasBase, takes_kept}
 use Rattle.dds_protocol.proofs.DuesWritten.{none_written}
 use Rattle.dds_protocol.proofs.Growth.{TickStep-grows, TickStep-acknowledged}
-use Rattle.dds_protocol.proofs.RuledPackets.{Packet as Arrival, own, Stands, IsRest, rest_next, Backed, coming_at, Taken}
-use Rattle.dds_protocol.proofs.RuledPackets.{taken, next_backed, begun}
+use Rattle.dds_protocol.proofs.RuledPackets.{Packet as Arrival, own, Stands, IsRest, rest_next, Backed, coming_at, Taken, taken, next_backed, begun}
 use Rattle.dds_machine.proofs.Tables.{no_less_same}
 
 -- ---- a packet

@@ -5,8 +5,7 @@ use Rattle.std.proofs.lemmas.List.Elements.{All-append}
 use Rattle.dds_base.specs.Kept.{numbers_from}
 use Rattle.rtps_wire.specs.declared.acknack.AckNack.{AckNack as AckNackBody}
 use Rattle.rtps_wire.specs.declared.submessage.Submessage.{Submessage}
-use Rattle.rtps_wire.specs.declared.submessage.Submessage.TheVariants.{Pad, InfoDst, InfoTs, Data, Heartbeat, AckNack}
-use Rattle.rtps_wire.specs.declared.submessage.Submessage.TheVariants.{Gap, Other}
+use Rattle.rtps_wire.specs.declared.submessage.Submessage.TheVariants.{Pad, InfoDst, InfoTs, Data, Heartbeat, AckNack, Gap, Other}
 use Rattle.dds_machine.specs.declared.reply.Move.{Move}
 use Rattle.dds_machine.specs.Part.{ReaderProxy, own_writer}
 use Rattle.dds_machine.specs.Moves.{AreMoves}
@@ -15,8 +14,7 @@ use Rattle.dds_protocol.specs.Protocol.{State, InTurn, ReaderTakes, WriterTakes,
 use Rattle.dds_protocol.specs.Dues.{AreTellable, IsTruthful, AreTruthful, IsSized, HasSmallChanges, CanBeWritten}
 use Rattle.dds_protocol.proofs.DuesAcknacks.{none_due, reader_truthful}
 use Rattle.dds_protocol.proofs.DuesAnswers.{writer_truthful}
-use Rattle.dds_protocol.proofs.DuesGrowth.{small_gained, Gains, gains_same, gains_on, AreMoves-gains, truthful_gained}
-use Rattle.dds_protocol.proofs.DuesGrowth.{tellable_gained}
+use Rattle.dds_protocol.proofs.DuesGrowth.{small_gained, Gains, gains_same, gains_on, AreMoves-gains, truthful_gained, tellable_gained}
 use Rattle.dds_protocol.proofs.DuesWritten.{none_written, reader_written, writer_written}
 use Rattle.dds_protocol.proofs.RuledReaders.{Coming, grounds, Backs, IsTakenAt}
 use Rattle.dds_protocol.proofs.RuledTurns.{IsTelling, reader_taken}

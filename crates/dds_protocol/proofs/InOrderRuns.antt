@@ -37,11 +37,12 @@ use Rattle.dds_machine.specs.Refusals.{writer_refusal, write_refusal, dispose_re
 use Rattle.dds_machine.specs.Calls.{Effect, nothing, writes, effect, effect_of, after_look, seen_lost, seen_liveliness, with_happening, IsDoneUnless, AnswersAccess, AnswersByCondition, AnswersLook, IsAnswered, IsAnsweredWatching, IsAnsweredInMemory, Answers, CallStep}
 use Rattle.dds_machine.specs.Watching.{Test, Tests}
 use Rattle.dds_machine.specs.Machine.{Machine, AllTests, part_at, writer_at, place_at, grounds_of, Step}
-use Rattle.dds_protocol.specs.Runs.{Traffic, Run}
-use Rattle.dds_protocol.specs.InOrder.{came_from, CameInOrder, no_traffic}
-use Rattle.dds_protocol.proofs.Opened.{writers_in}
+use Rattle.dds_machine.specs.Runs.{Run}
+use Rattle.dds_protocol.specs.InOrder.{came_from, CameInOrder}
+use Rattle.dds_protocol.proofs.Opened.{opening_is, writers_in}
+use Rattle.dds_protocol.specs.World.{machine_of}
 use Rattle.dds_machine.specs.Opening.{matched_writers, reader_qos, opening_part, opening}
-use Rattle.dds_protocol.specs.Opening.{opening_peers}
+use Rattle.dds_protocol.specs.Opening.{opening_peers, opening_world}
 use Rattle.dds_protocol.specs.Peer.{Peer}
 use Rattle.dds_machine.proofs.Tables.{numbered-cases, numbered-map-cases, numbered-same, length-with_numbered, place-cases, place-hits, place-heard, same_is}
 use Rattle.dds_protocol.proofs.Growth.{CallStep-grows, TickStep-rows, TickStep-readers, TickStep-grows, DeliveryStep-grows, MachineGrows, with_part-grows, writer-changes}
@@ -541,15 +542,15 @@ ended_in_order before e m w r o =
           (ap (λ (h : List Happening). came_from o.lane.publication h) (alike.happened r.number)));
     }
 
-run_in_order : (config : Config) (tests : AllTests) (m after : Machine) (events : List WorldEvent)
-    (replies : List Reply) (sent last : Traffic) (w r : Endpoint) → Run config tests sent m events replies last after
+run_in_order : (tests : AllTests) (m after : Machine) (events : List WorldEvent)
+    (replies : List Reply) (sent last : ℕ) (w r : Endpoint) → Run tests sent m events replies last after
     → InOrder m w r → InOrder after w r
-run_in_order config tests m after [] [] sent last w r run o = subst (λ (x : Machine). InOrder x w r) (sym run.0) o
-run_in_order config tests m after (e ∷ es) (p ∷ ps) sent last w r run o =
-    run_in_order config tests (machine_ended m e run.0) after es ps run.1 last w r run.5
-    (ended_in_order m e run.0 w r (step_in_order tests (length sent.sent) m e p run.0 w r run.2 o))
-run_in_order config tests m after [] (p ∷ ps) sent last w r run o = absurd run
-run_in_order config tests m after (e ∷ es) [] sent last w r run o = absurd run
+run_in_order tests m after [] [] sent last w r run o = subst (λ (x : Machine). InOrder x w r) (sym run.0) o
+run_in_order tests m after (e ∷ es) (p ∷ ps) sent last w r run o =
+    run_in_order tests (machine_ended m e run.0) after es ps run.1 last w r run.4
+    (ended_in_order m e run.0 w r (step_in_order tests sent m e p run.0 w r run.2 o))
+run_in_order tests m after [] (p ∷ ps) sent last w r run o = absurd run
+run_in_order tests m after (e ∷ es) [] sent last w r run o = absurd run
 
 -- the opening: a reader's place in a writer's list is 1 where they are matched, and nothing has happened
 
@@ -665,22 +666,30 @@ begins_in_order changes part w k placed b =
     }
 
 lane_begins : (config : Config) (w : Endpoint) (changes : List Change) (peer number : ℕ)
-    → IsSome (place_of (own_proxies (part_at (opening config) peer) number) w)
-    → Lane changes (part_at (opening config) peer) w number
+    → IsSome (place_of (own_proxies (part_at (machine_of (opening_world config)) peer) number) w)
+    → Lane changes (part_at (machine_of (opening_world config)) peer) w number
 lane_begins config w changes zero zero h = cc
 lane_begins config w changes zero (suc k) h = cc
 lane_begins config w changes (suc i) zero h = cc
 lane_begins config w changes (suc i) (suc k) h =
-    begins_in_order changes (part_at (opening config) (suc i)) w k h (begins config.peers 1 config.peers i k w)
+    begins_in_order changes (part_at (machine_of (opening_world config)) (suc i)) w k h
+    (begins config.peers 1 config.peers i k w)
+
+lane_opens : (config : Config) (w : Endpoint) (changes : List Change) (peer number : ℕ)
+    → IsSome (place_of (own_proxies (part_at (opening config) peer) number) w)
+    → Lane changes (part_at (opening config) peer) w number
+lane_opens config w changes peer number =
+    subst (λ (m : Machine). IsSome (place_of (own_proxies (part_at m peer) number) w)
+    → Lane changes (part_at m peer) w number) (opening_is config) (lane_begins config w changes peer number)
 
 pub changes_come_in_order : (config : Config) (tests : AllTests) (w r : Endpoint) (events : List WorldEvent)
-    (replies : List Reply) (last : Traffic) (after : Machine) → (writer_at (opening config) w).policy ≡ KeepAll
-    → IsSome (place_at (opening config) r w) → Run config tests no_traffic (opening config) events replies last after
+    (replies : List Reply) (last : ℕ) (after : Machine) → (writer_at (opening config) w).policy ≡ KeepAll
+    → IsSome (place_at (opening config) r w) → Run tests 0 (opening config) events replies last after
     → CameInOrder after w r
 changes_come_in_order config tests w r events replies last after all placed run =
-    let lane = lane_begins config w (writer_changes (writer_at (opening config) w)) r.peer r.number placed in
+    let lane = lane_opens config w (writer_changes (writer_at (opening config) w)) r.peer r.number placed in
     let o =
-    run_in_order config tests (opening config) after events replies no_traffic last w r run
+    run_in_order tests (opening config) after events replies 0 last w r run
     (record { all = all; lane = lane }) in
     let l = o.lane in
     record {

@@ -12,9 +12,23 @@ use Rattle.dds_protocol.specs.Peer.{Peer, Delivery, no_peer}
 use Rattle.dds_machine.specs.Machine.{Machine, part_at, place_at}
 use Rattle.dds_protocol.specs.World.{machine_of, Sound}
 use Rattle.dds_base.specs.Matched.{of_readers_in, of_writers_in}
-use Rattle.dds_machine.specs.Opening.{matched_readers, matched_writers, opening_writer}
+use Rattle.dds_machine.specs.Opening.{matched_readers, matched_writers, opening, opening_part, opening_writer}
 use Rattle.dds_protocol.specs.Opening.{opening_peers, opening_world}
 use Rattle.dds_machine.proofs.Tables.{same_is}
+
+-- ---- the parts of the network at its opening
+
+opened_parts : (all ps : List PeerConfig) (n : ℕ)
+    → map (λ (p : Peer). p.part) (opening_peers all n ps) ≡ map (opening_part all) ps
+opened_parts all [] n = refl
+opened_parts all (p ∷ ps) n = ap (λ (parts : List Part). opening_part all p ∷ parts) (opened_parts all ps (n + 1))
+
+-- the machine at its opening is that of which the opened peers are the parts
+pub opening_is : (config : Config) → machine_of (opening_world config) ≡ opening config
+opening_is config = ap (λ (parts : List Part). let m : Machine = record { parts = parts } in m)
+    (opened_parts config.peers config.peers 1)
+
+-- ---- rows of matched writers and readers
 
 -- the writers of the topic among these, of which the first has this number
 abbrev pub writers_in : ℕ → ℕ → ℕ → List WriterConfig → List WriterProxy

@@ -1,6 +1,5 @@
 -- The ACKNACK of a round at the writer's peer, and the answers at the reader's.
-use Rattle.std.proofs.Common.{◌≡◌, ℕ, ◌≤◌, ◌&&◌, max, Bool, true, nat_le, List, [], ◌∷◌, ◌++◌, Option, Some, None, Contains, length, map}
-use Rattle.std.proofs.Common.{refl, subst, ap, sym, ◌∙◌, inl, inr, ⊎_elim, arith}
+use Rattle.std.proofs.Common.{◌≡◌, ℕ, ◌≤◌, ◌&&◌, max, Bool, true, nat_le, List, [], ◌∷◌, ◌++◌, Option, Some, None, Contains, length, map, refl, subst, ap, sym, ◌∙◌, inl, inr, ⊎_elim, arith}
 use Rattle.std.specs.Prelude.{is_some}
 use Rattle.std.specs.List.{All, AllByRecursion, list_any}
 use Rattle.std.proofs.lemmas.Bool.Decides.{nat_tests}

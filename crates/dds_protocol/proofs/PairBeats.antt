@@ -1,6 +1,5 @@
 -- A tick sends a HEARTBEAT to the peer of each reader that is behind.
-use Rattle.std.proofs.Common.{◌≡◌, ℕ, zero, suc, ◌+◌, ◌-◌, ◌^◌, ◌<◌, ◌≤◌, ◌==◌, ◌||◌, Bool, true, false, cond, nat_lt, nat_le, List, [], ◌∷◌, Some, None, Contains, length, map, filter, get_or}
-use Rattle.std.proofs.Common.{refl, subst, ap, sym, arith, eqb-true}
+use Rattle.std.proofs.Common.{◌≡◌, ℕ, zero, suc, ◌+◌, ◌-◌, ◌^◌, ◌<◌, ◌≤◌, ◌==◌, ◌||◌, Bool, true, false, cond, nat_lt, nat_le, List, [], ◌∷◌, Some, None, Contains, length, map, filter, get_or, refl, subst, ap, sym, arith, eqb-true}
 use Rattle.std.specs.Prelude.{if◌then◌else◌}
 use Rattle.std.specs.List.{list_any}
 use Rattle.std.specs.Option.{option_map}

@@ -1,6 +1,5 @@
 -- How a round of repair of a writer and a reader begins: the HEARTBEAT is taken, and the reader's place goes on.
-use Rattle.std.proofs.Common.{◌≡◌, ℕ, pos, ◌+◌, ◌≤◌, ◌≤ℤ◌, true, List, [], Some, None, length}
-use Rattle.std.proofs.Common.{refl, subst, ap, sym, ◌∙◌, ⊎_elim, arith}
+use Rattle.std.proofs.Common.{◌≡◌, ℕ, pos, ◌+◌, ◌≤◌, ◌≤ℤ◌, true, List, [], Some, None, length, refl, subst, ap, sym, ◌∙◌, ⊎_elim, arith}
 use Rattle.dds_base.specs.declared.change.Change.{Change}
 use Rattle.dds_base.specs.declared.config.Config.{Config}
 use Rattle.dds_base.specs.Checked.{check_refusal}

@@ -1,6 +1,5 @@
 -- After a round of repair of a writer and a reader the reader has caught up.
-use Rattle.std.proofs.Common.{◌≡◌, ℕ, ℤ, ◌+◌, ◌≤◌, ◌&&◌, max, Bool, true, false, nat_le, List, Option, Some, None, Contains, length, map}
-use Rattle.std.proofs.Common.{refl, subst, ap, sym, ◌∙◌, inl, inr, ⊎_elim, arith}
+use Rattle.std.proofs.Common.{◌≡◌, ℕ, ℤ, ◌+◌, ◌≤◌, ◌&&◌, max, Bool, true, false, nat_le, List, Option, Some, None, Contains, length, map, refl, subst, ap, sym, ◌∙◌, inl, inr, ⊎_elim, arith}
 use Rattle.std.specs.List.{AllByRecursion}
 use Rattle.std.proofs.lemmas.Bool.Decides.{nat_tests}
 use Rattle.std.proofs.lemmas.Int.{ints}
@@ -21,7 +20,7 @@ use Rattle.dds_machine.specs.declared.endpoint.Endpoint.{Endpoint}
 use Rattle.dds_protocol.specs.declared.event.Packet.{Packet}
 use Rattle.dds_machine.specs.declared.event.WorldEvent.TheVariants as world
 use Rattle.dds_machine.specs.declared.reply.Reply.TheVariants.{Reported}
-use Rattle.dds_machine.specs.Part.{Writer, own_reader, acknowledged_of, writer_changes, history_of, NoLess}
+use Rattle.dds_machine.specs.Part.{Writer, own_reader, acknowledged_of, writer_changes, history_of, NoLess, ReaderProxy}
 use Rattle.dds_machine.specs.Moves.{match_of, position_at}
 use Rattle.dds_machine.specs.Machine.{AllTests, writer_at}
 use Rattle.dds_protocol.specs.Peer.{Peer, state_of}
@@ -49,7 +48,6 @@ use Rattle.dds_protocol.proofs.PairTicked.{new_count}
 use Rattle.dds_machine.proofs.Tables.{acknowledged-hits}
 use Rattle.dds_machine.specs.declared.event.WorldEvent.{WorldEvent}
 use Rattle.dds_protocol.specs.Noticing.{world_ended}
-use Rattle.dds_machine.specs.Part.{ReaderProxy}
 use Rattle.dds_protocol.proofs.PairEnded.{rows_ended, seat_ended, standing_ended}
 use Rattle.dds_protocol.proofs.PairBegun.{noted_beat, noted_tick, seat_noted, standing_noted, Begun, the_begun, HasRow, writer_is, place_is, pairing, body, ticked_reader, match, knows_place, heard_reader, hears, heard_of, the_last, goes, forward, acknacks, heard_writer, same_answered, writer_heard, row_heard, changes_heard, place_heard, packet}
 

@@ -1,6 +1,5 @@
 -- The HEARTBEAT of a round at the reader's peer, and the ACKNACK that the reader sends.
-use Rattle.std.proofs.Common.{◌≡◌, ℕ, ℤ, ◌-◌, ◌||◌, Bool, true, List, [], ◌∷◌, Option, Some, None, Contains, length, slice_get}
-use Rattle.std.proofs.Common.{refl, subst, ap, sym, ◌∙◌, inl, inr, ⊎_elim, arith}
+use Rattle.std.proofs.Common.{◌≡◌, ℕ, ℤ, ◌-◌, ◌||◌, Bool, true, List, [], ◌∷◌, Option, Some, None, Contains, length, slice_get, refl, subst, ap, sym, ◌∙◌, inl, inr, ⊎_elim, arith}
 use Rattle.std.proofs.lemmas.Option.{same_Some}
 use Rattle.dds_base.specs.declared.config.Config.{Config}
 use Rattle.dds_base.specs.declared.config.PeerConfig.{PeerConfig}

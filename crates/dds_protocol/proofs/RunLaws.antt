@@ -1,5 +1,5 @@
 -- Runs of peers are runs of the machine, and runs of the machine pass over no change of a writer that keeps all.
-use Rattle.std.proofs.Common.{◌≡◌, ℕ, Bool, Option, Some, None, true, false, List, [], ◌∷◌, length, refl, subst, ap, sym, ◌∙◌, inl, inr, arith}
+use Rattle.std.proofs.Common.{◌≡◌, ℕ, Bool, Option, Some, None, true, false, List, [], ◌∷◌, length, refl, subst, ap, sym, ◌∙◌, inl, inr, arith, ◌≤◌, length-append}
 use Rattle.dds_base.specs.declared.code.Code.{Code}
 use Rattle.dds_base.specs.declared.config.Config.{Config}
 use Rattle.dds_base.specs.declared.happening.Happening.{Happening}
@@ -28,9 +28,9 @@ use Rattle.dds_machine.specs.Ticks.{TickStep}
 use Rattle.dds_machine.specs.Calls.{IsAnswered, IsAnsweredInMemory, AnswersLook, AnswersByCondition, CallStep}
 use Rattle.dds_machine.specs.Watching.{Test, Tests, condition_selection}
 use Rattle.dds_machine.specs.Machine.{Machine, AllTests, part_at, writer_at, grounds_of, Step}
-use Rattle.dds_protocol.specs.World.{WorldState, machine_of, Sound}
-use Rattle.dds_protocol.specs.Runs.{Traffic, Run}
-use Rattle.dds_protocol.specs.Rules.{RuledRun, traffic_of}
+use Rattle.dds_protocol.specs.World.{WorldState, WorldStep, machine_of, Sound}
+use Rattle.dds_machine.specs.Runs.{Run}
+use Rattle.dds_protocol.specs.Rules.{RuledRun}
 use Rattle.dds_protocol.specs.Laws.{WorldRun, PassesNone, LosesNone}
 use Rattle.dds_protocol.proofs.Growth.{CallStep-grows, TickStep-grows, DeliveryStep-grows, with_part-grows}
 use Rattle.dds_machine.specs.Noticing.{machine_ended}
@@ -38,54 +38,67 @@ use Rattle.dds_protocol.specs.Noticing.{world_ended}
 use Rattle.dds_protocol.proofs.EndsBeside.{ended_policy, ended_sound, machine_ends}
 use Rattle.dds_protocol.proofs.Composed.{composes}
 
--- a run by the rules is a run of the peers
-pub run_by_rules : (config : Config) (tests : AllTests) (old new : WorldState) (unsent last : ℕ)
-    (events : List WorldEvent) (replies : List Reply)
-    → RuledRun config tests old unsent events replies new last
-    → WorldRun config tests old unsent events replies new last
-run_by_rules config tests old new unsent last [] [] run = run
-run_by_rules config tests old new unsent last (e ∷ es) (r ∷ rs) run = (
-  run.0,
-  run.1,
-  run.2.ruled.step,
-  run.2.sends,
-  run_by_rules config tests
-      (world_ended old e run.0) new run.1 last es rs run.3,
-)
-run_by_rules config tests old new unsent last [] (r ∷ rs) run = absurd run
-run_by_rules config tests old new unsent last (e ∷ es) [] run = absurd run
+-- no packet that was sent is forgotten
+sent_more : (config : Config) (tests : AllTests) (old new : WorldState) (e : WorldEvent) (r : Reply)
+    → WorldStep config tests old e r new → length old.sent ≤ length new.sent
+sent_more config tests old new (world.Call peer call) r (inl h) =
+    let more = length-append old.sent h.posted in let is = ap (λ (w : WorldState). length w.sent) h.changed in
+    omega (arith, more, is)
+sent_more config tests old new (world.Call peer call) r (inr h) =
+    let is = ap (λ (w : WorldState). length w.sent) h.1.after in omega (arith, is)
+sent_more config tests old new (world.Tick peer now) r (inl h) =
+    let more = length-append old.sent h.posted in let is = ap (λ (w : WorldState). length w.sent) h.changed in
+    omega (arith, more, is)
+sent_more config tests old new (world.Tick peer now) r (inr h) =
+    let is = ap (λ (w : WorldState). length w.sent) h.1.after in omega (arith, is)
+sent_more config tests old new (world.Deliver peer n) r (inl h) =
+    let s = h.3 in
+    let more = length-append old.sent s.posted in let is = ap (λ (w : WorldState). length w.sent) s.changed in
+    omega (arith, more, is)
+sent_more config tests old new (world.Deliver peer n) r (inr h) =
+    let is = ap (λ (w : WorldState). length w.sent) h.1.after in omega (arith, is)
 
-pub composes_runs : (config : Config) (tests : AllTests) (old new : WorldState) (unsent last : ℕ)
-    (events : List WorldEvent) (replies : List Reply) → Sound config old
-    → WorldRun config tests old unsent events replies new last
-    → Run config tests (traffic_of old unsent) (machine_of old) events replies (traffic_of new last) (machine_of new)
+pub composes_runs : (config : Config) (tests : AllTests) (old new : WorldState) (events : List WorldEvent)
+    (replies : List Reply) → Sound config old → WorldRun config tests old events replies new
+    → Run tests (length old.sent) (machine_of old) events replies (length new.sent) (machine_of new)
     × Sound config new
-composes_runs config tests old new unsent last [] [] sound run = (
-  (
-    ap machine_of run.0,
-    ap (λ (w : WorldState). traffic_of w last) run.0
-        ∙ ap (λ (n : ℕ). traffic_of old n) run.1,
-  ),
-  subst (λ (w : WorldState). Sound config w) (sym run.0) sound,
+composes_runs config tests old new [] [] sound run = (
+  (ap machine_of run, ap (λ (w : WorldState). length w.sent) run),
+  subst (λ (w : WorldState). Sound config w) (sym run) sound,
 )
-composes_runs config tests old new unsent last (e ∷ es) (r ∷ rs) sound run =
-    let s = composes config tests old run.0 e r sound run.2 in
+composes_runs config tests old new (e ∷ es) (r ∷ rs) sound run =
+    let s = composes config tests old run.0 e r sound run.1 in
     let t =
-    composes_runs config tests (world_ended old e run.0) new run.1 last es rs
-    (ended_sound config old e run.0 s.2) run.4 in (
+    composes_runs config tests (world_ended old e run.0) new es rs (ended_sound config old e run.0 s.2) run.2 in (
       (
         machine_of run.0,
-        traffic_of run.0 run.1,
+        length run.0.sent,
         s.0,
-        run.3,
-        s.1,
-        subst (λ (m : Machine). Run config tests (traffic_of run.0 run.1) m es rs (traffic_of new last)
-            (machine_of new)) (machine_ends old e run.0) t.0,
+        sent_more config tests old run.0 e r run.1,
+        subst (λ (m : Machine). Run tests (length run.0.sent) m es rs (length new.sent) (machine_of new))
+            (machine_ends old e run.0) t.0,
       ),
       t.1,
     )
-composes_runs config tests old new unsent last [] (r ∷ rs) sound run = absurd run
-composes_runs config tests old new unsent last (e ∷ es) [] sound run = absurd run
+composes_runs config tests old new [] (r ∷ rs) sound run = absurd run
+composes_runs config tests old new (e ∷ es) [] sound run = absurd run
+
+-- a run by the rules is a run of the machine
+pub machine_runs : (config : Config) (tests : AllTests) (old new : WorldState) (unsent last : ℕ)
+    (events : List WorldEvent) (replies : List Reply) → RuledRun config tests old unsent events replies new last
+    → Run tests (length old.sent) (machine_of old) events replies (length new.sent) (machine_of new)
+machine_runs config tests old new unsent last [] [] run =
+    (ap machine_of run.0, ap (λ (w : WorldState). length w.sent) run.0)
+machine_runs config tests old new unsent last (e ∷ es) (r ∷ rs) run = (
+  machine_of run.0,
+  length run.0.sent,
+  run.2.machine,
+  sent_more config tests old run.0 e r run.2.ruled.step,
+  subst (λ (m : Machine). Run tests (length run.0.sent) m es rs (length new.sent) (machine_of new))
+      (machine_ends old e run.0) (machine_runs config tests (world_ended old e run.0) new run.1 last es rs run.3),
+)
+machine_runs config tests old new unsent last [] (r ∷ rs) run = absurd run
+machine_runs config tests old new unsent last (e ∷ es) [] run = absurd run
 
 -- a writer that keeps all has dropped nothing
 pub keeps_all : (policy : HistoryQos) (m : Machine) (w : Endpoint) (n : ℕ) → (writer_at m w).policy ≡ policy
@@ -251,13 +264,13 @@ Step-policy w tests sent m (world.Deliver peer packet) reply new (inl h) =
 Step-policy w tests sent m (world.Deliver peer packet) reply new (inr h) =
     ap (λ (x : Machine). (writer_at x w).policy) h.1.1
 
-pub keep_all_is_kept : (config : Config) (tests : AllTests) (w : Endpoint) (m after : Machine)
-    (events : List WorldEvent) (replies : List Reply) (sent last : Traffic) → (writer_at m w).policy ≡ KeepAll
-    → Run config tests sent m events replies last after → LosesNone w replies
-keep_all_is_kept config tests w m after [] [] sent last all run = tt
-keep_all_is_kept config tests w m after (e ∷ es) (r ∷ rs) sent last all run =
-    Step-loses w tests (length sent.sent) m e r run.0 rs all run.2
-    (keep_all_is_kept config tests w (machine_ended m e run.0) after es rs run.1 last
-    (ended_policy m e run.0 w ∙ (Step-policy w tests (length sent.sent) m e r run.0 run.2 ∙ all)) run.5)
-keep_all_is_kept config tests w m after [] (r ∷ rs) sent last all run = absurd run
-keep_all_is_kept config tests w m after (e ∷ es) [] sent last all run = absurd run
+pub keep_all_is_kept : (tests : AllTests) (w : Endpoint) (m after : Machine) (events : List WorldEvent)
+    (replies : List Reply) (sent last : ℕ) → (writer_at m w).policy ≡ KeepAll
+    → Run tests sent m events replies last after → LosesNone w replies
+keep_all_is_kept tests w m after [] [] sent last all run = tt
+keep_all_is_kept tests w m after (e ∷ es) (r ∷ rs) sent last all run =
+    Step-loses w tests sent m e r run.0 rs all run.2
+    (keep_all_is_kept tests w (machine_ended m e run.0) after es rs run.1 last
+    (ended_policy m e run.0 w ∙ (Step-policy w tests sent m e r run.0 run.2 ∙ all)) run.4)
+keep_all_is_kept tests w m after [] (r ∷ rs) sent last all run = absurd run
+keep_all_is_kept tests w m after (e ∷ es) [] sent last all run = absurd run

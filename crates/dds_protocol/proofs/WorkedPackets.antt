@@ -14,8 +14,7 @@ use Rattle.rtps_wire.specs.Frames.{IsFrame}
 use Rattle.rtps_wire.specs.Submessages.{IsKnownKind, Reads}
 use Rattle.rtps_wire.specs.Sets.{set_of, bits_below}
 use Rattle.dds_machine.specs.declared.reply.Move.TheVariants.{Heard}
-use Rattle.dds_protocol.specs.Claims.{Claim, MayPass, PlaceReached, Asserts, Claims, Receiver, Says, StandsAt}
-use Rattle.dds_protocol.specs.Claims.{every_reader, receiver_of}
+use Rattle.dds_protocol.specs.Claims.{Claim, MayPass, PlaceReached, Asserts, Claims, Receiver, Says, StandsAt, every_reader, receiver_of}
 use Rattle.dds_protocol.specs.Peer.{Delivery, IsApplied, IsNewest}
 use Rattle.dds_protocol.proofs.WorkedReceivers.{prefix_1, prefix_2, w1_id, r1_id, w1, r1, to_2, to_1, network, to_r1}
 use Rattle.dds_protocol.proofs.WorkedExamples.{gap_2, gap-names_2, acknack_2, acknack-reached_2}

@@ -8,9 +8,8 @@ use Rattle.dds_machine.specs.declared.event.WorldEvent.{WorldEvent}
 use Rattle.dds_machine.specs.declared.reply.Reply.{Reply}
 use Rattle.dds_machine.specs.Part.{writer_changes}
 use Rattle.dds_machine.specs.Machine.{Machine, AllTests, writer_at, place_at, Step}
-use Rattle.dds_protocol.specs.InOrder.{no_traffic}
 use Rattle.dds_machine.specs.Opening.{opening}
-use Rattle.dds_protocol.specs.Runs.{Traffic, Run}
+use Rattle.dds_machine.specs.Runs.{Run}
 
 -- a reader's place in the list of a matched writer is at most one past the number of the last change
 abbrev pub IsBounded : Machine → Type 0
@@ -28,5 +27,5 @@ StepsBounded = (tests : AllTests) (sent : ℕ) (old : Machine) (event : WorldEve
 
 -- so it is after every run
 abbrev pub RunsBounded : Type 0
-RunsBounded = (config : Config) (tests : AllTests) (events : List WorldEvent) (replies : List Reply) (last : Traffic)
-    (after : Machine) → Run config tests no_traffic (opening config) events replies last after → IsBounded after
+RunsBounded = (config : Config) (tests : AllTests) (events : List WorldEvent) (replies : List Reply) (last : ℕ)
+    (after : Machine) → Run tests 0 (opening config) events replies last after → IsBounded after

@@ -14,7 +14,7 @@ use Rattle.dds_machine.specs.declared.reply.Reply.{Reply}
 use Rattle.dds_machine.specs.Part.{own_proxies, own_reader, publication_among, writer_changes}
 use Rattle.dds_machine.specs.Machine.{Machine, AllTests, part_at, writer_at, place_at}
 use Rattle.dds_machine.specs.Opening.{opening}
-use Rattle.dds_protocol.specs.Runs.{Traffic, Run}
+use Rattle.dds_machine.specs.Runs.{Run}
 
 -- the changes that came from the writer of this publication handle, in the order in which they came
 abbrev pub came_from : ℕ → List Happening → List Change
@@ -34,14 +34,10 @@ pub record CameInOrder (m : Machine) (writer reader : Endpoint) : Type 0 where
   pub first : writer_changes (writer_at m writer) ≡ came ++ rest
   pub place : place_at m reader writer ≡ Some (length came + 1)
 
--- no packet was sent
-abbrev pub no_traffic : Traffic
-no_traffic = record { sent = []; unsent = 0 }
-
 -- after every run, so it is of each writer that keeps all and each reader that it is matched with
 abbrev pub ChangesComeInOrder : Type 0
 ChangesComeInOrder = (config : Config) (tests : AllTests) (writer reader : Endpoint) (events : List WorldEvent)
-    (replies : List Reply) (last : Traffic) (after : Machine)
+    (replies : List Reply) (last : ℕ) (after : Machine)
     → (writer_at (opening config) writer).policy ≡ KeepAll → IsSome (place_at (opening config) reader writer)
-    → Run config tests no_traffic (opening config) events replies last after
+    → Run tests 0 (opening config) events replies last after
     → CameInOrder after writer reader

@@ -34,7 +34,7 @@ use Rattle.dds_machine.specs.Watching.{Tests}
 use Rattle.dds_machine.specs.Machine.{Machine, AllTests, writer_at, Step}
 use Rattle.dds_protocol.specs.World.{WorldState, WorldStep, machine_of, Sound}
 use Rattle.dds_protocol.specs.Progress.{Progresses}
-use Rattle.dds_protocol.specs.Runs.{Traffic, Sends, Run}
+use Rattle.dds_machine.specs.Runs.{Run}
 use Rattle.dds_machine.specs.Part.{Part, own_writer, publication_among}
 use Rattle.dds_machine.specs.Opening.{matched_writers, reader_qos}
 use Rattle.dds_protocol.specs.Opening.{opening_world}
@@ -51,23 +51,20 @@ Composes = (config : Config) (tests : AllTests) (old new : WorldState) (event : 
 abbrev pub OpensSound : Type 0
 OpensSound = (config : Config) → Sound config (opening_world config)
 
--- a run of peers, with what they send
-abbrev pub WorldRun : Config → AllTests → WorldState → ℕ → List WorldEvent → List Reply → WorldState → ℕ → Type 0
-WorldRun config tests old unsent [] [] new last = (new ≡ old) × (last ≡ unsent)
-WorldRun config tests old unsent (event ∷ events) (reply ∷ replies) new last =
-    (mid : WorldState) × (next : ℕ) × WorldStep config tests old event reply mid
-    × Sends config (record { sent = old.sent; unsent = unsent }) (machine_of old) event reply
-    (record { sent = mid.sent; unsent = next })
-    × WorldRun config tests (world_ended old event mid) next events replies new last
-WorldRun config tests old unsent [] (reply ∷ replies) new last = ⊥
-WorldRun config tests old unsent (event ∷ events) [] new last = ⊥
+-- a run of peers
+abbrev pub WorldRun : Config → AllTests → WorldState → List WorldEvent → List Reply → WorldState → Type 0
+WorldRun config tests old [] [] new = new ≡ old
+WorldRun config tests old (event ∷ events) (reply ∷ replies) new =
+    (mid : WorldState) × WorldStep config tests old event reply mid
+    × WorldRun config tests (world_ended old event mid) events replies new
+WorldRun config tests old [] (reply ∷ replies) new = ⊥
+WorldRun config tests old (event ∷ events) [] new = ⊥
 
 -- a run of peers is a run of the machine
 abbrev pub ComposesRuns : Type 0
-ComposesRuns = (config : Config) (tests : AllTests) (old new : WorldState) (unsent last : ℕ) (events : List WorldEvent)
-    (replies : List Reply) → Sound config old → WorldRun config tests old unsent events replies new last
-    → Run config tests (record { sent = old.sent; unsent = unsent }) (machine_of old) events replies
-    (record { sent = new.sent; unsent = last }) (machine_of new) × Sound config new
+ComposesRuns = (config : Config) (tests : AllTests) (old new : WorldState) (events : List WorldEvent)
+    (replies : List Reply) → Sound config old → WorldRun config tests old events replies new
+    → Run tests (length old.sent) (machine_of old) events replies (length new.sent) (machine_of new) × Sound config new
 
 -- no change of this writer is passed over
 abbrev pub PassesNone : Endpoint → List Move → Type 0
@@ -84,10 +81,9 @@ LosesNone writer (reply ∷ replies) = LosesNone writer replies
 
 -- in no run is a change of a KEEP_ALL writer passed over
 abbrev pub KeepAllIsKept : Type 0
-KeepAllIsKept = (config : Config) (tests : AllTests) (writer : Endpoint) (m after : Machine) (events : List WorldEvent)
-    (replies : List Reply) (sent last : Traffic)
-    → (writer_at m writer).policy ≡ KeepAll → Run config tests sent m events replies last after
-    → LosesNone writer replies
+KeepAllIsKept = (tests : AllTests) (writer : Endpoint) (m after : Machine) (events : List WorldEvent)
+    (replies : List Reply) (sent last : ℕ)
+    → (writer_at m writer).policy ≡ KeepAll → Run tests sent m events replies last after → LosesNone writer replies
 
 -- A reader of these peers tells its matched writers apart: no two have one GUID, and each publication handle, from 1
 -- on, is that of one.

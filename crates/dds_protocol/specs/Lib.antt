@@ -2,7 +2,7 @@ pub mod Claims
 pub mod Receipt
 pub mod Peer
 pub mod World
-pub mod Runs
+pub mod Traffic
 pub mod Progress
 pub mod Opening
 pub mod Laws

@@ -13,11 +13,12 @@ use Rattle.dds_machine.specs.declared.reply.Reply.{Reply}
 use Rattle.dds_machine.specs.declared.reply.Reply.TheVariants.{Done, Reported}
 use Rattle.dds_machine.specs.Part.{Part, own_writer, writer_changes}
 use Rattle.dds_machine.specs.Calls.{Effect, writes, effect_of}
-use Rattle.dds_machine.specs.Machine.{AllTests}
+use Rattle.dds_machine.specs.Machine.{AllTests, Step}
+use Rattle.dds_protocol.specs.Progress.{Progresses}
 use Rattle.dds_protocol.specs.Peer.{state_of}
 use Rattle.dds_protocol.specs.DueMessages.{Due, AreSent, assertions_due, changes_due, heartbeats_due}
 use Rattle.dds_protocol.specs.Protocol.{TakesPacket}
-use Rattle.dds_protocol.specs.Runs.{Traffic, Sends}
+use Rattle.dds_protocol.specs.Traffic.{Traffic, Sends}
 use Rattle.dds_protocol.specs.World.{WorldState, WorldStep, peer_at, machine_of}
 
 -- what is due for what a call enters at a writer of the peer: a change is announced, with the next number, and an
@@ -58,14 +59,18 @@ abbrev pub traffic_of : WorldState → ℕ → Traffic
 traffic_of world unsent = record { sent = world.sent; unsent = unsent }
 
 -- One event of a network by the rules, and how many packets are counted as unsent before it and after it: to the
--- greatest number that has 64 bits, those that are due and not sent besides.
+-- greatest number that has 64 bits, those that are due and not sent besides. It is a step of the machine that the peers
+-- are the parts of; what the machine can say of what is sent is so; and a delivered packet is taken up, submessage by
+-- submessage.
 pub record CountedStep (config : Config) (tests : AllTests) (old : WorldState) (unsent : ℕ) (event : WorldEvent)
     (reply : Reply)
     (new : WorldState) (next : ℕ) : Type 0 where
   pub lost : ℕ
   pub ruled : RuledStep config tests old event reply lost new
   pub counted : next ≡ min (unsent + lost) (2 ^ 64 - 1)
+  pub machine : Step tests (length old.sent) (machine_of old) event reply (machine_of new)
   pub sends : Sends config (traffic_of old unsent) (machine_of old) event reply (traffic_of new next)
+  pub progress : Progresses config old.sent (machine_of old) event reply
 
 -- Replies to a list of events of a network by the rules, one after another, each to its end, at which listeners are
 -- told; with the counts of unsent packets before and after.

@@ -1,7 +1,5 @@
 -- A round by its stages: after it the reader has caught up, unless something hindered it.
-use Rattle.std.proofs.Common.{◌≡◌, ◌⊎◌, ℕ, ℤ, ◌+◌, ◌-◌, ◌^◌, ◌<◌, ◌≤◌, min, Bool, true, false, List, [], ◌∷◌, ◌++◌}
-use Rattle.std.proofs.Common.{Option, Some, None, Contains, map, length, slice_get}
-use Rattle.std.proofs.Common.{refl, subst, ap, sym, ◌∙◌, inl, inr, ⊎_elim, arith, length-append}
+use Rattle.std.proofs.Common.{◌≡◌, ◌⊎◌, ℕ, ℤ, ◌+◌, ◌-◌, ◌^◌, ◌<◌, ◌≤◌, min, Bool, true, false, List, [], ◌∷◌, ◌++◌, Option, Some, None, Contains, map, length, slice_get, refl, subst, ap, sym, ◌∙◌, inl, inr, ⊎_elim, arith, length-append}
 use Rattle.std.specs.Prelude.{IsSome, nat_le}
 use Rattle.std.proofs.lemmas.Bool.{cases_lt}
 use Rattle.std.proofs.lemmas.Bool.Decides.{nat_tests}
@@ -52,7 +50,7 @@ use Rattle.dds_world.specs.Round.{IsHindered, has_unsent, IsStep, AreSteps, IsTo
 use Rattle.dds_world.specs.WorldStanding.{WorldKept, StandsFor}
 use Rattle.dds_world.proofs.Caught.{CoreAt, core_at, place_known, few_changes, places_after, unsent_shown, went, sent_by, whole_tick, delivers, first_whole, Ran, ran, none_lost, deliver_all, later_packet, among_none, get_later}
 use Rattle.dds_world.proofs.Rounds.{BySteps, IsPlace, acks_steps, beats_steps, round_is, stage_is}
-use Rattle.dds_world.proofs.RunSteps.{Went, runs_so}
+use Rattle.dds_world.proofs.RunSteps.{Went}
 
 -- ---- a packet that is delivered
 
@@ -686,7 +684,6 @@ rounds_of {tests} old m ticked mid events replies new from to known tick beats f
         is_round = round_is old m ticked mid events replies new known tick beats config network s;
         after = end.0;
         run = end.1;
-        machine = runs_so tests old new all (replies_of (ticked ∷ replies)) config network end.0 s end.2 end.1;
         stands = end.2;
         was_behind = k.behind;
         unsent_before = refl;

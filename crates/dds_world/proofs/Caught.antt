@@ -1,7 +1,5 @@
 -- What a network of a round knows of the pair, and the steps of a round by the rules.
-use Rattle.std.proofs.Common.{◌≡◌, ℕ, zero, suc, ◌+◌, ◌-◌, ◌^◌, ◌<◌, ◌≤◌, ◌&&◌, ◌||◌, min, Bool, true, false, not, List, [], ◌∷◌, ◌++◌}
-use Rattle.std.proofs.Common.{Option, Some, None, Contains, map, length, get_or, slice_get, is_some}
-use Rattle.std.proofs.Common.{refl, subst, ap, sym, ◌∙◌, inl, inr, ⊎_elim, arith}
+use Rattle.std.proofs.Common.{◌≡◌, ℕ, zero, suc, ◌+◌, ◌-◌, ◌^◌, ◌<◌, ◌≤◌, ◌&&◌, ◌||◌, min, Bool, true, false, not, List, [], ◌∷◌, ◌++◌, Option, Some, None, Contains, map, length, get_or, slice_get, is_some, refl, subst, ap, sym, ◌∙◌, inl, inr, ⊎_elim, arith}
 use Rattle.std.specs.Prelude.{nat_lt}
 use Rattle.std.proofs.lemmas.Bool.Decides.{nat_tests}
 use Rattle.dds_base.specs.declared.config.Config.{Config}
@@ -108,7 +106,7 @@ few_changes core config peer (suc i) s has =
 pub went : {tests : AllTests} → (config : Config) (network : WorldState) (old : WorldKept) (ev : WorldEvent)
     (reply : RoundReply) (new : WorldKept) → IsStep tests old ev reply new → StandsFor old config network
     → Went tests config network old ev reply.reply new
-went config network old ev reply new step s = went_by config network old ev reply.reply new step.rules step.sends s
+went config network old ev reply new step s = went_by config network old ev reply.reply new step.rules s
 
 -- the packets that were sent at it follow those before
 pub sent_by : {tests : AllTests}

@@ -29,7 +29,7 @@ use Rattle.dds_world.specs.declared.round.Matched.{Matched}
 use Rattle.dds_world.specs.declared.round.RoundReply.{RoundReply}
 use Rattle.dds_world.specs.Repairing.{Knows, IsKnown, NotMatched, Stage, Answering, Acknowledging, Beating}
 use Rattle.dds_world.specs.Round.{AreMatched, RefusesRound, IsStep, AreSteps, IsTo, HasNone, IsFirst, heartbeat_of, acknack_of, answers_at, AfterHeartbeat, AfterTick, IsRound}
-use Rattle.dds_world.specs.WorldStanding.{WorldKept, StandsFor, Steps}
+use Rattle.dds_world.specs.WorldStanding.{WorldKept, StandsFor}
 use Rattle.dds_world.proofs.Sends.{numbered_so}
 
 -- ---- what was sent stays
@@ -61,15 +61,15 @@ record GoesOn (config : Config) (old new : WorldKept) : Type 0 where
   grows : Grows old.sent new.sent
 
 step_on : (tests : AllTests) → (config : Config) (network : WorldState) (old : WorldKept) (ev : WorldEvent)
-    (reply : Reply) (new : WorldKept) → Steps tests old ev reply new → StandsFor old config network
+    (reply : Reply) (new : WorldKept) → KeepsRules tests old ev reply new → StandsFor old config network
     → GoesOn config old new
 step_on tests config network old ev reply new steps s =
     let t = steps config network s in
-    let g = world_grows config tests network ev reply t.0 t.1 in
+    let g = world_grows config tests network ev reply t.0 t.1.ruled.step in
     record {
       after = world_ended network ev t.0;
-      stands = t.3;
-      grows = (g.0, sym t.3.sent ∙ (g.1 ∙ ap (λ (ps : List Packet). ps ++ g.0) s.sent));
+      stands = t.2;
+      grows = (g.0, sym t.2.sent ∙ (g.1 ∙ ap (λ (ps : List Packet). ps ++ g.0) s.sent));
     }
 
 steps_on : (tests : AllTests) → (config : Config) (network : WorldState) (old : WorldKept) (events : List WorldEvent)
@@ -81,7 +81,7 @@ steps_on tests config network old [] [] new same s = record {
   grows = grows_same old.sent new.sent (ap (λ (k : WorldKept). k.sent) same);
 }
 steps_on tests config network old (e ∷ es) (r ∷ rs) new h s =
-    let first = step_on tests config network old e r.reply h.0 h.1.step s in
+    let first = step_on tests config network old e r.reply h.0 h.1.rules s in
     let rest = steps_on tests config first.after h.0 es rs new h.2 first.stands in
     record {
       after = rest.after;
@@ -255,7 +255,7 @@ stage_in_round {tests} config network {wanted} from peer Next old events replies
     let there = first_on (IsTo peer wanted) old.sent new.sent from (length old.sent) k grows high first in
     goes k reply mid later rest
     (subst (λ (x : Sought). IsFirst (IsTo peer x) new.sent from (length old.sent) k) is there)
-    (step_on tests config network old ev reply.reply mid step.step s) step.sent on) h
+    (step_on tests config network old ev reply.reply mid step.rules s) step.sent on) h
 
 -- the stage after the HEARTBEAT is that of a round
 after_heartbeat : {tests : AllTests}
@@ -297,7 +297,7 @@ pub round_is : {tests : AllTests}
     → IsRound config network m.writer m.reader new.sent (world.Tick m.writer.peer m.moment ∷ events) (ticked ∷ replies)
 round_is {tests} old m ticked mid events replies new known tick beats config network s =
     let k = known config network s in
-    let on = step_on tests config network old (world.Tick m.writer.peer m.moment) ticked.reply mid tick.step s in
+    let on = step_on tests config network old (world.Tick m.writer.peer m.moment) ticked.reply mid tick.rules s in
     let after = after_tick config on.after network m (length old.sent) mid events replies new k on.stands beats in
     let counted =
     subst (λ (n : ℕ). AfterTick config m.writer m.reader new.sent (length old.sent) n events replies)
@@ -400,6 +400,18 @@ nothing_less (Some x) None h is = absurd h
 nothing_less (Some x) (Some y) h is = cc
 
 -- without a place they are not matched
+-- so it is of each machine for which the network stands
+pub place_in : (kept : WorldKept) (reader writer : Endpoint) (place : Option ℕ) → IsPlace kept reader writer place
+    → (config : Config) (m : Machine) → MachineStands kept config m → place ≡ place_at m reader writer
+place_in kept reader writer place is config m stands =
+    is config stands.0 stands.2 ∙ ap (λ (x : Machine). place_at x reader writer) stands.1
+
+-- and of each of its states where it is of each such machine
+pub place_of_machine : (kept : WorldKept) (reader writer : Endpoint) (place : Option ℕ)
+    → ((config : Config) (m : Machine) → MachineStands kept config m → place ≡ place_at m reader writer)
+    → IsPlace kept reader writer place
+place_of_machine kept reader writer place is config network s = is config (machine_of network) (network, refl, s)
+
 pub not_placed : (kept : WorldKept) (writer reader : Endpoint) → IsPlace kept reader writer None
     → NotMatched kept writer reader
 not_placed kept writer reader none config network s =

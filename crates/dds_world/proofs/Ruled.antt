@@ -1,5 +1,5 @@
 -- A network whose peers keep the rules of the protocol.
-use Rattle.std.proofs.Common.{◌≡◌, ℕ, suc, ◌+◌, ◌-◌, ◌<◌, List, [], Some, length, get_or, slice_get, subst, sym, ◌∙◌, refl, arith}
+use Rattle.std.proofs.Common.{◌≡◌, ap, ℕ, suc, ◌+◌, ◌-◌, ◌<◌, List, [], Some, length, get_or, slice_get, subst, sym, ◌∙◌, refl, arith}
 use Rattle.dds_base.specs.declared.config.Config.{Config}
 use Rattle.dds_base.specs.Written.{Registered, Changed, Asserted, LookedAt, Ticked}
 use Rattle.rtps_wire.specs.Messages.{HasSubmessage}
@@ -17,30 +17,62 @@ use Rattle.dds_machine.specs.Calls.{Effect, nothing, writes, effect_of}
 use Rattle.dds_protocol.specs.Peer.{Peer, no_peer, state_of}
 use Rattle.dds_protocol.specs.DueMessages.{Due, AreSent, heartbeats_due}
 use Rattle.dds_protocol.specs.Protocol.{State, TakesPacket}
-use Rattle.dds_protocol.specs.Rules.{AreDue, announcements_due}
-use Rattle.dds_protocol.specs.World.{WorldState, peer_at}
-use Rattle.dds_protocol.proofs.Composed.{contains_at}
+use Rattle.dds_protocol.specs.Rules.{AreDue, announcements_due, CountedStep, traffic_of}
+use Rattle.dds_protocol.specs.World.{WorldState, machine_of, peer_at}
+use Rattle.dds_protocol.proofs.Composed.{contains_at, composes}
 use Rattle.dds_core.specs.Sending.{SendsFor, due_at_tick}
 use Rattle.dds_core.proofs.CallSteps.{number_is}
 use Rattle.dds_core.proofs.Lists.{element}
-use Rattle.dds_world.specs.WorldStanding.{WorldKept, Steps, KeepsRules, MovesOn}
+use Rattle.dds_protocol.specs.Noticing.{world_ended}
+use Rattle.dds_protocol.specs.Traffic.{Traffic, Sends}
+use Rattle.dds_protocol.proofs.EndsBeside.{machine_ends}
+use Rattle.dds_machine.specs.Noticing.{machine_ended}
+use Rattle.dds_machine.specs.Runs.{Steps}
+use Rattle.dds_world.specs.WorldStanding.{WorldKept, StandsFor, MachineStands, Announces, KeepsRules, traffic}
 use Rattle.dds_world.specs.Acting.{Acts, IsCopy, RuledSteps}
 use Rattle.dds_world.proofs.Sends.{numbered_so}
-use Rattle.dds_world.proofs.WorldSteps.{SendsItsDues, acts_ruled, calls_at, comes_to_nothing, delivers_at, found_at, nothing_moved, posts_none, progresses, set_same, ticks_at}
-use Rattle.dds_machine.specs.Machine.{AllTests}
+use Rattle.dds_world.proofs.WorldSteps.{SendsItsDues, acts_ruled, calls_at, comes_to_nothing, delivers_at, found_at, nothing_moved, posts_none, set_same, ticks_at}
+use Rattle.dds_machine.specs.Machine.{AllTests, Machine, Step}
 
--- a step by the rules is a step
-pub steps_at : {tests : AllTests} (old new : WorldKept) (ev : WorldEvent) (reply : Reply)
-    → RuledSteps tests old ev reply new → Steps tests old ev reply new
-steps_at old new ev reply steps config network s = let t = steps config network s in (t.0, t.2.step, t.4, t.5)
+-- what was sent is that of the state
+pub sent_is : (kept : WorldKept) (config : Config) (network : WorldState) (s : StandsFor kept config network)
+    → traffic_of network kept.unsent ≡ traffic kept
+sent_is kept config network s =
+    ap (λ (ps : List Packet). let t : Traffic = record { sent = ps; unsent = kept.unsent } in t) s.sent
 
+-- a step by the rules keeps them, and what is delivered at it is taken up, since claims are true
 pub rules_at : {tests : AllTests} (old new : WorldKept) (ev : WorldEvent) (reply : Reply)
-    → RuledSteps tests old ev reply new → KeepsRules tests old ev reply new
-rules_at old new ev reply steps config network s = let t = steps config network s in (t.0, t.1, t.2, t.3, t.5)
+    → RuledSteps tests old ev reply new → Announces old ev reply new → KeepsRules tests old ev reply new
+rules_at {tests} old new ev reply steps announces config network s =
+    let t = steps config network s in
+    let sends : Sends config (traffic_of network old.unsent) (machine_of network) ev reply (traffic_of t.0 new.unsent) =
+    subst (λ (x : Traffic). Sends config x (machine_of network) ev reply (traffic_of t.0 new.unsent))
+    (sym (sent_is old config network s))
+    (subst (λ (x : Traffic). Sends config (traffic old) (machine_of network) ev reply x)
+    (sym (sent_is new config (world_ended network ev t.0) t.5)) (announces config network s)) in
+    let counted : CountedStep config tests network old.unsent ev reply t.0 new.unsent = record {
+      lost = t.1;
+      ruled = t.2;
+      counted = t.3;
+      machine = subst (λ (ps : List Packet). Step tests (length ps) (machine_of network) ev reply (machine_of t.0))
+          (sym s.sent) t.4;
+      sends = sends;
+      progress = (composes config tests network t.0 ev reply s.sound t.2.step).1;
+    } in
+    (t.0, counted, t.5)
 
-pub progresses_at : (tests : AllTests) (old new : WorldKept) (ev : WorldEvent) (reply : Reply)
-    → RuledSteps tests old ev reply new → MovesOn old ev reply
-progresses_at tests old new ev reply steps = progresses tests old new ev reply (steps_at old new ev reply steps)
+-- it is a step of the machine that the peers are the parts of
+pub machine_steps : {tests : AllTests} (old new : WorldKept) (ev : WorldEvent) (reply : Reply)
+    → RuledSteps tests old ev reply new → Steps MachineStands tests (length old.sent) old ev reply new
+machine_steps {tests} old new ev reply steps config m stands =
+    let network = stands.0 in
+    let t = steps config network stands.2 in (
+      machine_of t.0,
+      subst (λ (x : Machine). Step tests (length old.sent) x ev reply (machine_of t.0)) stands.1 t.4,
+      world_ended network ev t.0,
+      machine_ends network ev t.0 ∙ ap (λ (x : Machine). machine_ended x ev (machine_of t.0)) stands.1,
+      t.5,
+    )
 
 -- ---- a call
 

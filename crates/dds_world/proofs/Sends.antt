@@ -13,13 +13,12 @@ use Rattle.dds_machine.specs.declared.reply.Reply.{Reply}
 use Rattle.dds_machine.specs.declared.reply.Report.{Report}
 use Rattle.dds_machine.specs.declared.reply.Reply.TheVariants.{Done, Refused, Reported}
 use Rattle.dds_base.specs.declared.code.Code.TheVariants.{BadParameter}
-use Rattle.dds_machine.specs.Part.{Part, ReaderProxy, own_writer, writer_changes}
+use Rattle.dds_machine.specs.Part.{Part, ReaderProxy, own_writer, writer_changes, peers_of}
 use Rattle.dds_machine.specs.Calls.{Effect, nothing, writes, effect_of}
 use Rattle.dds_machine.specs.Machine.{AllTests, part_at}
 use Rattle.dds_protocol.specs.Peer.{Peer, no_peer}
 use Rattle.dds_protocol.specs.DueMessages.{Due, AreSent, assertions_due, changes_due, heartbeats_due}
-use Rattle.dds_protocol.specs.Runs.{Traffic, Announced, Sends, SendsDues, SendsOf}
-use Rattle.dds_machine.specs.Part.{peers_of}
+use Rattle.dds_protocol.specs.Traffic.{Traffic, Announced, Sends, SendsDues, SendsOf}
 use Rattle.dds_protocol.specs.World.{WorldState, machine_of}
 use Rattle.dds_machine.proofs.Tables.{numbered-map}
 use Rattle.dds_core.specs.Kept.{PeerKept}

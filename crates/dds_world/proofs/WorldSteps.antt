@@ -32,7 +32,6 @@ use Rattle.dds_machine.specs.Watching.{Tests}
 use Rattle.dds_machine.specs.Machine.{AllTests, Step}
 use Rattle.dds_machine.specs.Numbered.{HasNumber}
 use Rattle.dds_protocol.specs.Peer.{Peer, Delivery, PeerStep, no_peer, state_of}
-use Rattle.dds_protocol.specs.Progress.{Progresses}
 use Rattle.dds_machine.specs.Calls.{Effect}
 use Rattle.dds_protocol.specs.DueMessages.{Due, AreSent}
 use Rattle.dds_protocol.specs.Rules.{RuledStep, AreDue, announcements_due}
@@ -47,7 +46,7 @@ use Rattle.dds_core.specs.Standing.{StandsFor as CoreStandsFor, IsSound, KeepsRu
 use Rattle.dds_core.proofs.CallSteps.{refused_nothing}
 use Rattle.dds_core.proofs.Lists.{get-within}
 use Rattle.dds_core.proofs.Taking.{stands_again}
-use Rattle.dds_world.specs.WorldStanding.{AreTold, WorldKept, StandsFor, Steps, MovesOn, ArePosted, Posts}
+use Rattle.dds_world.specs.WorldStanding.{AreTold, WorldKept, StandsFor, ArePosted, Posts}
 use Rattle.dds_world.specs.Acting.{Acts, RuledSteps, StepsAt}
 use Rattle.dds_world.proofs.Posted.{lost_is, posted_on}
 use Rattle.dds_world.proofs.Replaced.{ended_at, peer_stands, same_at, with_peer}
@@ -149,14 +148,6 @@ posts_more old packets now new packet false h is =
       fewer = omega (arith, total, fewer);
       different = λ d. h.different (front_apart (λ (a b : Packet). a.to ≢ b.to) packets packet d);
     }
-
--- what is delivered is taken up, since claims are true
-pub progresses : (tests : AllTests) → (kept new : WorldKept) (ev : WorldEvent) (reply : Reply)
-    → Steps tests kept ev reply new → MovesOn kept ev reply
-progresses tests kept new ev reply steps config network s =
-    let t = steps config network s in
-    subst (λ (ps : List Packet). Progresses config ps (machine_of network) ev reply) s.sent
-    (composes config tests network t.0 ev reply s.sound t.1).1
 
 -- how an event of a peer of this number is one of the network
 abbrev pub IsEventOf : AllTests → List Packet → Event → ℕ → WorldEvent → Type 0

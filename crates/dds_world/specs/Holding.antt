@@ -64,6 +64,10 @@ kept_of {F} {L} notices capacity held = record {
   unsent = held.unsent;
 }
 
+-- a machine for which a network stands, with what its listeners keep
+abbrev pub MachineStandsFor : {F L : Type 0} → (L → List Notice) → (L → ℕ) → Held F L → Config → Machine → Type 0
+MachineStandsFor notices capacity held config m = MachineStands (kept_of notices capacity held) config m
+
 -- ---- filters
 
 -- the filters of each peer

@@ -8,7 +8,7 @@ use Rattle.dds_machine.specs.declared.endpoint.Endpoint.{Endpoint}
 use Rattle.dds_protocol.specs.declared.event.Packet.{Packet}
 use Rattle.dds_machine.specs.declared.event.WorldEvent.{WorldEvent}
 use Rattle.dds_machine.specs.declared.event.WorldEvent.TheVariants.{Deliver}
-use Rattle.dds_machine.specs.Machine.{part_at, writer_at}
+use Rattle.dds_machine.specs.Machine.{part_at, writer_at, AllTests}
 use Rattle.dds_machine.specs.Part.{acknowledged_of, is_reader_behind, writer_changes}
 use Rattle.dds_protocol.specs.DueMessages.{writer_entity}
 use Rattle.dds_protocol.specs.World.{WorldState, machine_of}
@@ -17,7 +17,6 @@ use Rattle.dds_world.specs.declared.round.Matched.{Matched}
 use Rattle.dds_world.specs.declared.round.RoundReply.{RoundReply}
 use Rattle.dds_world.specs.Round.{IsStep, AreSteps, IsTo, HasNone, IsFirst, answers_at}
 use Rattle.dds_world.specs.WorldStanding.{WorldKept, StandsFor}
-use Rattle.dds_machine.specs.Machine.{AllTests}
 
 -- the two are matched, by these entity ids, the reader is behind exactly so, the writer has made so many changes, and
 -- the moment is that of its peer

@@ -24,13 +24,13 @@ use Rattle.dds_machine.specs.Machine.{Machine, AllTests, part_at, place_at, writ
 use Rattle.dds_machine.specs.Part.{acknowledged_of, is_reader_behind, writer_changes}
 use Rattle.dds_protocol.specs.Repair.{HasCaughtUp}
 use Rattle.dds_protocol.specs.Rules.{RuledRun}
-use Rattle.dds_protocol.specs.Runs.{Run}
+use Rattle.dds_machine.specs.Runs.{Run}
 use Rattle.dds_protocol.specs.DueMessages.{writer_entity}
 use Rattle.dds_protocol.specs.World.{WorldState, machine_of}
 use Rattle.dds_core.specs.Pairs.{reader_entity}
 use Rattle.dds_world.specs.declared.round.Round.{Round}
 use Rattle.dds_world.specs.declared.round.RoundReply.{RoundReply}
-use Rattle.dds_world.specs.WorldStanding.{WorldKept, StandsFor, Steps, Announces, MovesOn, KeepsRules, traffic}
+use Rattle.dds_world.specs.WorldStanding.{WorldKept, StandsFor, KeepsRules}
 
 -- why there is no round: the writer is not matched with the reader
 abbrev pub round_refusal : Machine → Endpoint → Endpoint → Option Code
@@ -52,9 +52,6 @@ AreMatched kept writer reader =
 -- one event, as a step of the network answers it, with the counts of packets sent and not sent after it
 pub record IsStep (tests : AllTests) (old : WorldKept) (event : WorldEvent) (reply : RoundReply)
     (new : WorldKept) : Type 0 where
-  pub step : Steps tests old event reply.reply new
-  pub sends : Announces old event reply.reply new
-  pub progress : MovesOn old event reply.reply
   pub rules : KeepsRules tests old event reply.reply new
   pub sent : reply.sent ≡ length new.sent
   pub unsent : reply.unsent ≡ new.unsent
@@ -154,7 +151,7 @@ abbrev pub replies_of : List RoundReply → List Reply
 replies_of replies = map (λ (r : RoundReply). r.reply) replies
 
 -- A round, from one state that the old network stands for: the events are those of a round, and the replies a run over
--- them by the rules of the protocol, and of the machine, to a state that the new network stands for. The answer says
+-- them by the rules of the protocol, to a state that the new network stands for. The answer says
 -- how the pair stood before it, and the reader's place after it. There the reader has gone on by 256 numbers, or to the
 -- end of the writer's list, or to a change that has no room, and the writer knows of all that the reader had before,
 -- unless something hindered the round.
@@ -164,8 +161,6 @@ pub record RoundFrom (tests : AllTests) (config : Config) (network : WorldState)
   pub is_round : IsRound config network writer reader new.sent events answer.replies
   pub after : WorldState
   pub run : RuledRun config tests network old.unsent events (replies_of answer.replies) after new.unsent
-  pub machine : Run config tests (traffic old) (machine_of network) events (replies_of answer.replies) (traffic new)
-      (machine_of after)
   pub stands : StandsFor new config after
   pub was_behind : answer.was_behind ≡ is_reader_behind (writer_at (machine_of network) writer) reader
   pub unsent_before : answer.unsent_before ≡ old.unsent
@@ -182,3 +177,14 @@ pub record Rounds (tests : AllTests) (old : WorldKept) (writer reader : Endpoint
   pub steps : AreSteps tests old events answer.replies new
   pub round : (config : Config) (network : WorldState) → StandsFor old config network
       → RoundFrom tests config network old writer reader events answer new
+
+-- For each machine for which what is kept stood, the replies of a round are a run of it, to one for which it then
+-- stands; and the answer says the reader's place before it and after it, and the writer's last number before it.
+pub record RoundRuns {X : Type 0} (StandsFor : X → Config → Machine → Type 0) (tests : AllTests) (sent : ℕ) (old : X)
+    (writer reader : Endpoint) (answer : Round) (last : ℕ) (new : X) : Type 0 where
+  pub events : List WorldEvent
+  pub runs : (config : Config) (m : Machine) → StandsFor old config m
+      → (after : Machine) × Run tests sent m events (replies_of answer.replies) last after
+      × StandsFor new config after
+      × (place_at m reader writer ≡ Some answer.from) × (place_at after reader writer ≡ Some answer.to)
+      × (answer.last ≡ length (writer_changes (writer_at m writer)))

@@ -5,7 +5,7 @@
 -- `ArePosted`.
 --
 -- The network is this project's own; its peers behave by RTPS 2.5, 8.4, and their listeners by DDS 1.4, 2.2.4.3.
-use Rattle.std.specs.Prelude.{◌≡◌, ◌≢◌, ◌⊎◌, ℕ, suc, ◌+◌, ◌-◌, ◌^◌, ◌≤◌, min, List, [], ◌∷◌, ◌++◌, length, get_or, slice_get, Some, Contains, AllPairs}
+use Rattle.std.specs.Prelude.{◌≡◌, ◌≢◌, ◌⊎◌, ℕ, suc, ◌+◌, ◌-◌, ◌^◌, ◌≤◌, List, [], ◌∷◌, ◌++◌, length, get_or, slice_get, Some, Contains, AllPairs}
 use Rattle.dds_base.specs.declared.config.Config.{Config}
 use Rattle.dds_notices.specs.Listeners.{Places, Slotted, StandsFor as SlotsStandFor}
 use Rattle.dds_notices.specs.Notices.{Recording}
@@ -13,13 +13,12 @@ use Rattle.dds_protocol.specs.Noticing.{world_ended}
 use Rattle.dds_protocol.specs.declared.event.Packet.{Packet}
 use Rattle.dds_machine.specs.declared.event.WorldEvent.{WorldEvent}
 use Rattle.dds_machine.specs.declared.reply.Reply.{Reply}
-use Rattle.dds_machine.specs.Machine.{AllTests, Step}
-use Rattle.dds_protocol.specs.Progress.{Progresses}
+use Rattle.dds_machine.specs.Machine.{AllTests}
 use Rattle.dds_protocol.specs.Bounds.{IsBounded}
 use Rattle.dds_protocol.specs.Fresh.{HasUsedCounts}
-use Rattle.dds_protocol.specs.Rules.{RuledStep, RuledRun}
-use Rattle.dds_protocol.specs.Runs.{Traffic, Sends, Run}
-use Rattle.dds_protocol.specs.World.{WorldState, WorldStep, machine_of, peer_at, Sound}
+use Rattle.dds_protocol.specs.Rules.{RuledRun}
+use Rattle.dds_protocol.specs.Traffic.{Traffic, Sends}
+use Rattle.dds_protocol.specs.World.{WorldState, machine_of, peer_at, Sound}
 use Rattle.dds_core.specs.Kept.{PeerKept}
 use Rattle.dds_core.specs.Sending.{AreMessages}
 use Rattle.dds_core.specs.Standing.{StandsFor as CoreStandsFor, IsSound}
@@ -74,14 +73,10 @@ pub record Posts (old : List Packet) (packets : List Packet) (new : List Packet)
   pub fewer : length posted ≤ length packets
   pub different : AllPairs (λ (a b : Packet). a.to ≢ b.to) packets → AllPairs (λ (a b : Packet). a.to ≢ b.to) posted
 
--- For each state that the old network stands for, the event is a step of its peers, each of which rests on what was
--- delivered to it; it is a step of the machine that they are the parts of; and the new network stands for the state at
--- its end, once listeners were told.
-abbrev pub Steps : AllTests → WorldKept → WorldEvent → Reply → WorldKept → Type 0
-Steps tests old event reply new = (config : Config) (network : WorldState) → StandsFor old config network
-    → (after : WorldState) × WorldStep config tests network event reply after
-    × Step tests (length old.sent) (machine_of network) event reply (machine_of after)
-    × StandsFor new config (world_ended network event after)
+-- A machine for which what a network keeps stands: its parts are those of the peers in a state for which it stands.
+abbrev pub MachineStands : WorldKept → Config → Machine → Type 0
+MachineStands kept config m =
+    (network : WorldState) × (machine_of network ≡ m) × StandsFor kept config network
 
 -- the packets that were sent, and how many were not
 abbrev pub traffic : WorldKept → Traffic
@@ -93,26 +88,17 @@ Announces old event reply new =
     (config : Config) (network : WorldState) → StandsFor old config network
     → Sends config (traffic old) (machine_of network) event reply (traffic new)
 
--- For each state that the old network stands for, the event is a step of its peers by the rules of the protocol, to one
--- at whose end the new network stands for it: they say which messages are due, and of these each is sent, in their
--- order, or counted.
+-- For each state that the old network stood for, the event is a step of its peers by the rules of the protocol, which
+-- say which messages are due, and of these each is sent, in their order, or counted; it is a step of the machine that
+-- the peers are the parts of; and the new network stands for the state at its end, once listeners were told.
 abbrev pub KeepsRules : AllTests → WorldKept → WorldEvent → Reply → WorldKept → Type 0
 KeepsRules tests old event reply new = (config : Config) (network : WorldState) → StandsFor old config network
-    → (after : WorldState) × (lost : ℕ) × RuledStep config tests network event reply lost after
-    × (new.unsent ≡ min (old.unsent + lost) (2 ^ 64 - 1)) × StandsFor new config (world_ended network event after)
+    → (after : WorldState) × CountedStep config tests network old.unsent event reply after new.unsent
+    × StandsFor new config (world_ended network event after)
 
--- For each state that the old network stands for, a delivered packet is taken up, submessage by submessage.
-abbrev pub MovesOn : WorldKept → WorldEvent → Reply → Type 0
-MovesOn old event reply =
-    (config : Config) (network : WorldState) → StandsFor old config network
-    → Progresses config old.sent (machine_of network) event reply
-
--- For each state that the old network stands for, these replies are a run of its peers by the rules of the protocol,
--- and of its machine, over the events, with what is sent meanwhile, and the new network stands for the state
--- afterwards.
-pub record Runs (tests : AllTests) (old : WorldKept) (events : List WorldEvent) (replies : List Reply)
-    (new : WorldKept) : Type 0 where
-  pub run : (config : Config) (network : WorldState) → StandsFor old config network
-      → (after : WorldState) × RuledRun config tests network old.unsent events replies after new.unsent
-      × Run config tests (traffic old) (machine_of network) events replies (traffic new) (machine_of after)
-      × StandsFor new config after
+-- For each state that the old network stood for, these replies to the events are a run of its peers by the rules of the
+-- protocol, and the new network stands for the state afterwards.
+abbrev pub RunsByRules : AllTests → WorldKept → List WorldEvent → List Reply → WorldKept → Type 0
+RunsByRules tests old events replies new = (config : Config) (network : WorldState) → StandsFor old config network
+    → (after : WorldState) × RuledRun config tests network old.unsent events replies after new.unsent
+    × StandsFor new config after

@@ -4,8 +4,8 @@
 
 ghost use Rattle.std.specs.Prelude.{◌≡◌, ◌++◌, ◌+◌, ◌<◌, ◌≤◌, ◌↔◌, min, List, [], ◌∷◌, length, vec_len, vec_capacity, IsTrue, IfOk, IfErr, OnErr, MatchOption};
 ghost use Rattle.dds_world.specs.declared.round.RoundReply.{RoundReply as ReplyOf};
-ghost use Rattle.dds_world.specs.Round.{answers_at, AreMatched, AreSteps, HasNone, IsFirst, IsStep, IsTo, RefusesRound, Rounds};
-ghost use Rattle.dds_world.specs.Holding.{filters_of, kept_of, tests_in};
+ghost use Rattle.dds_world.specs.Round.{answers_at, AreMatched, AreSteps, HasNone, IsFirst, IsStep, IsTo, RefusesRound, RoundRuns, Rounds};
+ghost use Rattle.dds_world.specs.Holding.{MachineStandsFor, filters_of, kept_of, tests_in};
 ghost use Rattle.dds_world.specs.Repairing.{Acknowledging, Adds, Beating, IsKnown, NotMatched};
 
 use crate::world::World;
@@ -108,9 +108,14 @@ impl<F: Filter, L: Listener> World<F, L> {
     ///
     /// RTPS 2.5, 8.4.9 and 8.4.12.
     pub fn round(&mut self, writer: Endpoint, reader: Endpoint) -> Result<Round, Code>
-        // The replies are a run over the events of a round, with the counts as they stood after each, and the answer
-        // says how the two stood before it, and the reader's place after it. The reader has then caught up, unless the
-        // answer shows what hindered it.
+        // The replies are a run of the machine without packets, and the answer says the places of the reader there.
+        ensures run { IfOk result
+            (λ answer. RoundRuns (MachineStandsFor L.notices L.capacity)
+            (tests_in F.meaning self.old) (length self.old.sent) self.old writer reader answer
+            (length self.new.sent) self.new) }
+        // They are a run by the rules of the protocol over the events of a round, with the counts as they stood after
+        // each, and the answer says how the two stood before it, and the reader's place after it. The reader has then
+        // caught up, unless the answer shows what hindered it.
         ensures round { IfOk result
             (λ answer. Rounds (tests_in F.meaning self.old)
             (kept_of L.notices L.capacity self.old) writer reader answer

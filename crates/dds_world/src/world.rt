@@ -9,16 +9,17 @@ ghost use Rattle.dds_base.specs.declared.config.Config.{Config as ConfigOf};
 ghost use Rattle.dds_base.specs.Refusal.{Refuses};
 ghost use Rattle.dds_base.specs.declared.code.Code.TheVariants.{Memory};
 ghost use Rattle.dds_machine.specs.declared.event.WorldEvent.TheVariants as event;
-ghost use Rattle.dds_protocol.specs.InOrder.{no_traffic};
-ghost use Rattle.dds_machine.specs.Machine.{place_at};
+ghost use Rattle.dds_protocol.specs.Traffic.{no_traffic};
+ghost use Rattle.dds_machine.specs.Machine.{Machine, place_at};
+ghost use Rattle.dds_machine.specs.Opening.{opening};
+ghost use Rattle.dds_machine.specs.Runs.{Runs, Steps};
 ghost use Rattle.dds_machine.specs.Numbered.{numbered};
 ghost use Rattle.dds_protocol.specs.Opening.{opening_world};
-ghost use Rattle.dds_protocol.specs.World.{WorldState, machine_of};
 ghost use Rattle.dds_core.specs.Opening.{opening_peer};
 ghost use Rattle.dds_core.specs.Listening.{StandsFor as CoreStandsFor};
-ghost use Rattle.dds_world.specs.WorldStanding.{traffic, Announces, KeepsRules, MovesOn, Posts, Runs, StandsFor, Steps};
+ghost use Rattle.dds_world.specs.WorldStanding.{traffic, KeepsRules, Posts, RunsByRules, StandsFor};
 ghost use Rattle.dds_world.specs.Acting.{Counts, IsCopy, IsQuiet, OpensFirst};
-ghost use Rattle.dds_world.specs.Holding.{ActsIn, Adds, IsOfPeer, RefusesFilter, RefusesListener, Sets, StepsIn, filters_of, kept_of, tests_in};
+ghost use Rattle.dds_world.specs.Holding.{ActsIn, Adds, IsOfPeer, RefusesFilter, RefusesListener, Sets, StepsIn, MachineStandsFor, filters_of, kept_of, tests_in};
 
 use dds_base::{Code, Config, Entity, Octets, Sequence, Sn, index_of};
 use dds_conditions::Filter;
@@ -125,8 +126,11 @@ impl<F: Filter, L: Listener> World<F, L> {
     ///
     /// What `Config::check` answers, else `Memory` where a growth was refused.
     pub fn open(alloc: Global, config: &Config) -> Result<World<F, L>, Code>
-        // The network stands for the opening of its configuration.
+        // The network stands for the machine at the opening of its configuration.
         ensures opening { IfOk result
+            (λ world. MachineStandsFor L.notices L.capacity world config.now (opening config.now)) }
+        // Its peers are at their opening too, and know nothing.
+        ensures rules { IfOk result
             (λ world. StandsFor (kept_of L.notices L.capacity world) config.now
             (opening_world config.now)) }
         // No peer has a filter.
@@ -158,18 +162,13 @@ impl<F: Filter, L: Listener> World<F, L> {
     /// `Timeout` of a look at a WaitSet, which ends the wait. At the end of an event the listeners of its peer are told
     /// what it raised, as `Core::step` says.
     pub fn step(&mut self, event: WorldEvent) -> Reply
-        // For each state that the network stands for, the reply is one that the machine without packets gives, by what
-        // the filters mean, and the network stands for the state at the event's end, once listeners were told: this is
-        // the theorem.
-        ensures step { Steps (tests_in F.meaning self.old)
-            (kept_of L.notices L.capacity self.old) event result
-            (kept_of L.notices L.capacity self.new) }
-        // What is sent at the event, and what is counted as unsent.
-        ensures sends { Announces (kept_of L.notices L.capacity self.old) event result
-            (kept_of L.notices L.capacity self.new) }
-        // A delivered packet is taken up, submessage by submessage: what it brings that is due is not left out.
-        ensures progress { MovesOn (kept_of L.notices L.capacity self.old) event result }
-        // The event is one by the rules of the protocol: each message that they make due is sent, or counted.
+        // For each machine that the network stands for, the reply is one that the machine without packets gives, by
+        // what the filters mean, and the network stands for the machine at the event's end, once listeners were told:
+        // this is the theorem.
+        ensures step { Steps (MachineStandsFor L.notices L.capacity)
+            (tests_in F.meaning self.old) (length self.old.sent) self.old event result self.new }
+        // The event is one by the rules of the protocol, by which that is so: each message that they make due is sent,
+        // or counted, and a delivered packet is taken up, submessage by submessage.
         ensures rules { KeepsRules (tests_in F.meaning self.old)
             (kept_of L.notices L.capacity self.old) event result
             (kept_of L.notices L.capacity self.new) }
@@ -185,9 +184,14 @@ impl<F: Filter, L: Listener> World<F, L> {
     ///
     /// `Memory` where no memory was found for the replies; nothing was done then. No events need none.
     pub fn run(&mut self, events: Vec<WorldEvent>) -> Result<Sequence<Reply>, Code>
-        // The replies are a run of the network's peers, and of the machine without packets.
+        // The replies are a run of the machine without packets.
         ensures run { IfOk result
-            (λ replies. Runs (tests_in F.meaning self.old)
+            (λ replies. Runs (MachineStandsFor L.notices L.capacity)
+            (tests_in F.meaning self.old) (length self.old.sent) self.old events.items replies
+            (length self.new.sent) self.new) }
+        // They are one of the network's peers by the rules of the protocol.
+        ensures rules { IfOk result
+            (λ replies. RunsByRules (tests_in F.meaning self.old)
             (kept_of L.notices L.capacity self.old) events.items replies
             (kept_of L.notices L.capacity self.new)) }
         // No filter is added.
@@ -412,10 +416,10 @@ impl<F: Filter, L: Listener> World<F, L> {
     ///
     /// RTPS 2.5, 8.4.10 (StatefulReader, WriterProxy).
     pub fn place(&self, reader: Endpoint, writer: Endpoint) -> Option<Sn>
-        // It is the place in each state that the network stands for, and there is one exactly if they are matched.
-        ensures place { (config : ConfigOf) (network : WorldState)
-            → StandsFor (kept_of L.notices L.capacity self.now) config network
-            → result ≡ place_at (machine_of network) reader writer }
+        // It is the place in each machine that the network stands for, and there is one exactly if they are matched.
+        ensures place { (config : ConfigOf) (m : Machine)
+            → MachineStandsFor L.notices L.capacity self.now config m
+            → result ≡ place_at m reader writer }
     {
         let Some(index) = index_of(reader.peer, self.count()) else {
             return None;

@@ -11,8 +11,8 @@ use Rattle.dds_base.specs.contracts.selection.SelectionPartialEq.TheImpl as of_s
 use Rattle.dds_base.specs.declared.mask.Masks.{Masks}
 use Rattle.dds_base.specs.declared.selection.Scope.{Scope}
 use Rattle.dds_base.specs.declared.selection.Selection.{Selection}
-use Rattle.dds_protocol.specs.contracts.call.Call.{enum as enum_of_calls}
-use Rattle.dds_protocol.specs.contracts.call.CallPartialEq.TheImpl as of_calls
+use Rattle.dds_machine.specs.contracts.call.Call.{enum as enum_of_calls}
+use Rattle.dds_machine.specs.contracts.call.CallPartialEq.TheImpl as of_calls
 use Rattle.dds_protocol.specs.contracts.event.Event.{enum as enum_of_events}
 use Rattle.dds_protocol.specs.contracts.event.EventPartialEq.TheImpl as of_events
 use Rattle.dds_machine.specs.declared.call.Call.{Call}

@@ -30,14 +30,14 @@ use Rattle.dds_protocol.specs.declared.event.Packet.{Packet}
 use Rattle.dds_machine.specs.declared.reply.Move.{Move}
 use Rattle.dds_machine.specs.declared.reply.Report.{Report}
 use Rattle.dds_machine.specs.declared.reply.Reply.{Reply}
-use Rattle.dds_protocol.specs.contracts.endpoint.EndpointPartialEq.TheImpl as of_endpoints
+use Rattle.dds_machine.specs.contracts.endpoint.EndpointPartialEq.TheImpl as of_endpoints
 use Rattle.dds_protocol.specs.contracts.event.OutputPartialEq.TheImpl as of_outputs
 use Rattle.dds_protocol.specs.contracts.event.PacketPartialEq.TheImpl as of_packets
-use Rattle.dds_protocol.specs.contracts.reply.MovePartialEq.TheImpl as of_moves
-use Rattle.dds_protocol.specs.contracts.reply.ReportPartialEq.TheImpl as of_reports
-use Rattle.dds_protocol.specs.contracts.reply.ReplyPartialEq.TheImpl as of_replies
-use Rattle.dds_protocol.specs.contracts.reply.Move.{enum as enum_of_moves}
-use Rattle.dds_protocol.specs.contracts.reply.Reply.{enum as enum_of_replies}
+use Rattle.dds_machine.specs.contracts.reply.MovePartialEq.TheImpl as of_moves
+use Rattle.dds_machine.specs.contracts.reply.ReportPartialEq.TheImpl as of_reports
+use Rattle.dds_machine.specs.contracts.reply.ReplyPartialEq.TheImpl as of_replies
+use Rattle.dds_machine.specs.contracts.reply.Move.{enum as enum_of_moves}
+use Rattle.dds_machine.specs.contracts.reply.Reply.{enum as enum_of_replies}
 use Rattle.dds_protocol.proofs.Compared.{of_variants, ◌⨾◌, bare, last, more, lists, keys, conds, status_masks}
 use Rattle.dds_protocol.proofs.laws.outputs_are_compared.Goals as goal
 

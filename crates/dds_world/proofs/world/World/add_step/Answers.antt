@@ -11,9 +11,6 @@ returns-clause-step g c =
       reply,
       items,
       record {
-        step = c.step-reply.ensures.step;
-        sends = c.step-reply.ensures.sends;
-        progress = c.step-reply.ensures.progress;
         rules = c.step-reply.ensures.rules;
         sent = c.sent-sent.ensures.sent;
         unsent = c.unsent-unsent.ensures.unsent;

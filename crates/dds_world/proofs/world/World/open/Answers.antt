@@ -1,10 +1,22 @@
 use Rattle.std.proofs.Common.{refl}
+use Rattle.dds_protocol.specs.Opening.{opening_world}
+use Rattle.dds_protocol.proofs.Opened.{opening_is}
 use Rattle.dds_world.specs.Holding.{Held}
 use Rattle.dds_world.proofs.Opened.{no_filters_at, opened, some_peers}
 use Rattle.dds_world.proofs.world.World.open.Goals as goal
 
 pub returns-clause-opening : goal.returns-clause-opening
 returns-clause-opening g c =
+    let held : Held g.row.F.Denot g.row.L.Denot =
+    record { cores = c.in_ok-peers.peers.items; sent = c.new.result.items; unsent = 0 } in (
+      opening_world c.args.config.now,
+      opening_is c.args.config.now,
+      opened g.L.Listener.notices g.L.Listener.capacity c.args.config.now held c.in_ok-peers.ensures.opening
+          c.new.ensures.items refl,
+    )
+
+pub returns-clause-rules : goal.returns-clause-rules
+returns-clause-rules g c =
     let held : Held g.row.F.Denot g.row.L.Denot =
     record { cores = c.in_ok-peers.peers.items; sent = c.new.result.items; unsent = 0 } in
     opened g.L.Listener.notices g.L.Listener.capacity c.args.config.now held c.in_ok-peers.ensures.opening

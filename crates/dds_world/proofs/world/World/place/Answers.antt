@@ -1,7 +1,7 @@
 use Rattle.dds_core.specs.Listening.{CoreKept}
 use Rattle.dds_world.specs.Holding.{kept_of}
 use Rattle.dds_world.proofs.Holding.{core_kept}
-use Rattle.dds_world.proofs.Rounds.{place_kept}
+use Rattle.dds_world.proofs.Rounds.{place_in, place_kept}
 use Rattle.dds_world.proofs.world.World.place.Goals as goal
 
 pub returns : goal.returns
@@ -12,6 +12,9 @@ returns g c =
     core_kept g.L.Listener.notices g.L.Listener.capacity _ c.args.self.now i c.count.result core c.self.view_is
     c.index.ensures c.count.ensures c.in-Some.ensures.index.1 in
     record {
-      place = place_kept (kept_of g.L.Listener.notices g.L.Listener.capacity c.args.self.now) i
-          core.filtered.peer c.args.reader c.args.writer c.place.result c.in-Some.ensures.index.0 at c.place.ensures.place;
+      place = place_in (kept_of g.L.Listener.notices g.L.Listener.capacity c.args.self.now) c.args.reader c.args.writer
+          c.place.result
+          (place_kept (kept_of g.L.Listener.notices g.L.Listener.capacity c.args.self.now) i
+          core.filtered.peer c.args.reader c.args.writer c.place.result c.in-Some.ensures.index.0 at
+          c.place.ensures.place);
     }

@@ -2,7 +2,7 @@ use Rattle.std.proofs.Common.{◌≡◌, List, [], ◌∷◌, ◌++◌, sym, sub
 use Rattle.std.proofs.lemmas.Grind.{common_steps}
 use Rattle.dds_machine.specs.declared.reply.Reply.{Reply}
 use Rattle.dds_world.specs.Holding.{kept_of, tests_in}
-use Rattle.dds_world.specs.WorldStanding.{KeepsRules, Runs}
+use Rattle.dds_world.specs.WorldStanding.{KeepsRules, RunsByRules}
 use Rattle.dds_world.proofs.Holding.{same_tests}
 use Rattle.dds_world.proofs.RunSteps.{runs_more}
 use Rattle.dds_world.proofs.world.World.run.Goals as goal
@@ -14,7 +14,7 @@ loop-event-preserved g c =
     let i = c.loop-event.invariant in
     let items : c.push.new.self.items ≡ c.loop-event.replies.items ++ c.step-reply.result ∷ [] =
     grind (arith, common_steps) in
-    let runs : Runs tests (kept_of g.L.Listener.notices g.L.Listener.capacity first)
+    let runs : RunsByRules tests (kept_of g.L.Listener.notices g.L.Listener.capacity first)
     (c.loop-event.yielded ++ c.in-Some.event ∷ []) (c.loop-event.replies.items ++ c.step-reply.result ∷ [])
     (kept_of g.L.Listener.notices g.L.Listener.capacity c.step-reply.new.self) =
     runs_more (kept_of g.L.Listener.notices g.L.Listener.capacity first)
@@ -24,12 +24,16 @@ loop-event-preserved g c =
     (same_tests g.F.Filter.meaning first c.loop-event.self
     (λ ts. KeepsRules ts (kept_of g.L.Listener.notices g.L.Listener.capacity c.loop-event.self) c.in-Some.event
     c.step-reply.result (kept_of g.L.Listener.notices g.L.Listener.capacity c.step-reply.new.self)) i.1
-    c.step-reply.ensures.rules)
-    c.step-reply.ensures.sends in (
-      subst (λ (rs : List Reply). Runs tests (kept_of g.L.Listener.notices g.L.Listener.capacity first)
+    c.step-reply.ensures.rules) in (
+      subst (λ (rs : List Reply). RunsByRules tests (kept_of g.L.Listener.notices g.L.Listener.capacity first)
           (c.loop-event.yielded ++ c.in-Some.event ∷ []) rs
           (kept_of g.L.Listener.notices g.L.Listener.capacity c.step-reply.new.self)) (sym items) runs,
       c.step-reply.ensures.filters ∙ i.1,
       grind (arith, common_steps),
       grind (arith, common_steps),
     )
+
+pub returns-clause-run : goal.returns-clause-run
+returns-clause-run g c =
+    runs_of_machine (kept_of g.L.Listener.notices g.L.Listener.capacity c.args.self.now)
+    (kept_of g.L.Listener.notices g.L.Listener.capacity c.self.new) _ _ _

@@ -1,12 +1,12 @@
 use Rattle.std.proofs.Common.{◌≡◌, ◌≤◌, length, vec_len}
 use Rattle.std.specs.Prelude.{vec_capacity}
 use Rattle.dds_world.specs.Holding.{filters_of, kept_of, tests_in}
-use Rattle.dds_world.specs.WorldStanding.{Runs}
+use Rattle.dds_world.specs.WorldStanding.{RunsByRules}
 use Rattle.dds_world.proofs.world.World.run.Given as goal
 
 abbrev pub invariant-loop-event : goal.invariant-loop-event
 invariant-loop-event g l =
-    Runs (tests_in g.F.Filter.meaning l.initial.self)
+    RunsByRules (tests_in g.F.Filter.meaning l.initial.self)
     (kept_of g.L.Listener.notices g.L.Listener.capacity l.initial.self) l.yielded l.replies.items
     (kept_of g.L.Listener.notices g.L.Listener.capacity l.self)
     × (filters_of l.self ≡ filters_of l.initial.self)

@@ -1,7 +1,7 @@
--- Runs: replies to lists of events, with the packets that are sent meanwhile.
+-- What is sent at an event, as far as the machine without packets can say.
 --
--- Runs are this project's own. What is sent in them is in RTPS 2.5, 8.4.7 (StatefulWriter), 8.4.9 and 8.4.12.
-use Rattle.std.specs.Prelude.{◌≡◌, ◌≢◌, ◌⊎◌, ℕ, ◌+◌, ◌-◌, ◌^◌, List, [], ◌∷◌, ◌++◌, length, min, IsSome, Contains, AllPairs}
+-- RTPS 2.5, 8.4.7 (StatefulWriter), 8.4.9 and 8.4.12.
+use Rattle.std.specs.Prelude.{◌≡◌, ◌≢◌, ◌⊎◌, ℕ, ◌+◌, ◌-◌, ◌^◌, List, [], ◌++◌, length, min, IsSome, Contains, AllPairs}
 use Rattle.dds_base.specs.declared.change.Change.{Change}
 use Rattle.dds_base.specs.declared.config.Config.{Config}
 use Rattle.dds_base.specs.Written.{Changed, Asserted}
@@ -14,15 +14,17 @@ use Rattle.dds_machine.specs.declared.reply.Reply.TheVariants.{Done, Reported}
 use Rattle.dds_machine.specs.Part.{ReaderProxy, peers_of, acknowledged_of, writer_changes}
 use Rattle.dds_machine.specs.Calls.{Effect, writes, effect_of}
 use Rattle.dds_protocol.specs.Claims.{ChangeIs, Claims}
-use Rattle.dds_machine.specs.Machine.{Machine, AllTests, part_at, writer_at, Step}
-use Rattle.dds_machine.specs.Noticing.{machine_ended}
+use Rattle.dds_machine.specs.Machine.{Machine, part_at, writer_at}
 use Rattle.dds_protocol.specs.DueMessages.{Due, AreSent, assertions_due, changes_due, heartbeats_due}
-use Rattle.dds_protocol.specs.Progress.{Progresses}
 
 -- the packets that were sent, and how many found no memory, which stays at its greatest value
 pub record Traffic : Type 0 where
   pub sent : List Packet
   pub unsent : ℕ
+
+-- no packet was sent
+abbrev pub no_traffic : Traffic
+no_traffic = record { sent = []; unsent = 0 }
 
 -- A change of a writer is announced: each peer with a matched reader is sent one packet, in its one written form, in
 -- which the change is for each such reader, or the packet is counted as unsent.
@@ -72,14 +74,3 @@ Sends config old m (world.Tick peer now) reply new = new ≡ old
 Sends config old m (world.Deliver peer packet) (Reported report) new =
     ((dues : List Due) × SendsDues dues old new) ⊎ (new ≡ old)
 Sends config old m (world.Deliver peer packet) reply new = new ≡ old
-
--- Replies to a list of events, one step after another, each to its end, at which listeners are told; with the packets
--- before and after.
-abbrev pub Run : Config → AllTests → Traffic → Machine → List WorldEvent → List Reply → Traffic → Machine → Type 0
-Run config tests sent old [] [] last new = (new ≡ old) × (last ≡ sent)
-Run config tests sent old (event ∷ events) (reply ∷ replies) last new =
-    (mid : Machine) × (next : Traffic) × Step tests (length sent.sent) old event reply mid
-    × Sends config sent old event reply next × Progresses config sent.sent old event reply
-    × Run config tests next (machine_ended old event mid) events replies last new
-Run config tests sent old [] (reply ∷ replies) last new = ⊥
-Run config tests sent old (event ∷ events) [] last new = ⊥
