@@ -2,6 +2,7 @@
 use Rattle.std.proofs.Common.{◌≡◌, ◌≢◌, ℕ, zero, suc, ◌+◌, ◌<◌, ◌≤◌, List, [], ◌∷◌, length, get_or, Bool, true, false, IsTrue, ◌==◌, ◌||◌, Option, Some, None, IsSome, ◌⊎◌, inl, inr, ⊎_elim, refl, sym, ap, subst, ◌∙◌, cond, arith, eqb-true, slice_get}
 use Rattle.std.specs.Prelude.{find, Contains}
 use Rattle.std.specs.List.{filter, list_any, list_all}
+use Rattle.std.specs.Option.{option_map}
 use Rattle.std.specs.Cmp.{IsTotalOrder}
 use Rattle.std.specs.Cmp.Lexicographic.{slice_cmp}
 use Rattle.std.specs.Ordering.{nat_cmp, int_cmp, is_gt, ordering_then, ordering_reverse}
@@ -16,7 +17,7 @@ use Rattle.dds_base.specs.declared.guid.Guid.{Guid}
 use Rattle.dds_base.specs.declared.happening.Happening.{Happening}
 use Rattle.dds_base.specs.declared.qos.MatchedWriter.{MatchedWriter}
 use Rattle.dds_base.specs.declared.qos.ReaderQos.{ReaderQos}
-use Rattle.dds_base.specs.Ownership.{numbered_from, IsMatched, is_registered, registered_writers, guid_cmp, writer_cmp, writer_of, is_above, outranks, outranks_all, IsOwner, owner_of, HaveOwnGuids}
+use Rattle.dds_base.specs.Ownership.{numbered_from, IsMatched, is_registered, registered_writers, guid_cmp, Precedence, writer_cmp, precedence, precedence_of, writer_of, is_above, outranks, outranks_all, IsOwner, owner_of, HaveOwnGuids}
 
 -- ---- the order of writers
 
@@ -27,8 +28,8 @@ guid_total =
 
 pub writer_total : IsTotalOrder writer_cmp
 writer_total =
-    then_total (on_total (λ (w : MatchedWriter). w.strength) int_cmp_total)
-    (back_total (on_total (λ (w : MatchedWriter). w.guid) guid_total))
+    then_total (on_total (λ (w : Precedence). w.strength) int_cmp_total)
+    (back_total (on_total (λ (w : Precedence). w.guid) guid_total))
 
 greater : (o : Ordering) → is_gt o ≡ true → o ≡ Greater
 greater Less e = cc
@@ -40,7 +41,7 @@ reversed o Less is e = refl
 reversed o Equal is e = cc
 reversed o Greater is e = cc
 
-above-trans : (a b c : MatchedWriter) → is_gt (writer_cmp a b) ≡ true → is_gt (writer_cmp b c) ≡ true
+above-trans : (a b c : Precedence) → is_gt (writer_cmp a b) ≡ true → is_gt (writer_cmp b c) ≡ true
     → is_gt (writer_cmp a c) ≡ true
 above-trans a b c ab bc =
     let ba : writer_cmp b a ≡ Less =
@@ -50,7 +51,7 @@ above-trans a b c ab bc =
     let ca : writer_cmp c a ≡ Less = writer_total.trans c b a cb ba in
     ap is_gt (writer_total.antisymm a c ∙ ap ordering_reverse ca)
 
-above-one_way : (a b : MatchedWriter) → is_gt (writer_cmp a b) ≡ true → is_gt (writer_cmp b a) ≡ true → ⊥
+above-one_way : (a b : Precedence) → is_gt (writer_cmp a b) ≡ true → is_gt (writer_cmp b a) ≡ true → ⊥
 above-one_way a b ab ba =
     let less : writer_cmp b a ≡ Less =
     reversed (writer_cmp a b) (writer_cmp b a) (writer_total.antisymm a b) (greater (writer_cmp a b) ab) in
@@ -72,7 +73,7 @@ guid-exact a b e =
     ∙ ap (λ (xs : List ℕ). record { prefix = b.prefix; entity = record { 0 = xs } }) entity
 
 -- two writers with GUIDs of their own: one outranks the other
-above-either : (a b : MatchedWriter) (o : Ordering) → writer_cmp a b ≡ o → (a.guid ≡ b.guid → ⊥)
+above-either : (a b : Precedence) (o : Ordering) → writer_cmp a b ≡ o → (a.guid ≡ b.guid → ⊥)
     → (is_gt (writer_cmp a b) ≡ true) ⊎ (is_gt (writer_cmp b a) ≡ true)
 above-either a b Greater e differ = inl (ap is_gt e)
 above-either a b Less e differ = inr (ap is_gt (writer_total.antisymm b a ∙ ap ordering_reverse e))
@@ -82,13 +83,13 @@ above-either a b Equal e differ =
 
 -- ---- the order of publication handles
 
-pub outranks-trans : (x y z : Option MatchedWriter) → is_above x y ≡ true → is_above y z ≡ true → is_above x z ≡ true
+pub outranks-trans : (x y z : Option Precedence) → is_above x y ≡ true → is_above y z ≡ true → is_above x z ≡ true
 outranks-trans (Some a) (Some b) (Some c) xy yz = above-trans a b c xy yz
 outranks-trans (Some a) (Some b) None xy yz = cc
 outranks-trans (Some a) None z xy yz = cc
 outranks-trans None y z xy yz = cc
 
-pub outranks-one_way : (x y : Option MatchedWriter) → is_above x y ≡ true → is_above y x ≡ true → ⊥
+pub outranks-one_way : (x y : Option Precedence) → is_above x y ≡ true → is_above y x ≡ true → ⊥
 outranks-one_way (Some a) (Some b) xy yx = above-one_way a b xy yx
 outranks-one_way (Some a) None xy yx = cc
 outranks-one_way None y xy yx = cc
@@ -104,17 +105,20 @@ matched-writer q zero matched = absurd (omega (arith, matched.0))
 matched-writer q (suc at) matched = slice_get-within q.writers at (omega (arith, matched.1))
 
 -- of two matched writers one outranks the other
-outranks-either : (q : ReaderQos) (v w : ℕ) → HaveOwnGuids q → IsMatched q v → IsMatched q w → v ≢ w
-    → (outranks q v w ≡ true) ⊎ (outranks q w v ≡ true)
-outranks-either q v w own matched_v matched_w differ =
+outranks-either : (q : ReaderQos) (h : List Happening) (v w : ℕ) → HaveOwnGuids q → IsMatched q v → IsMatched q w
+    → v ≢ w → (outranks q h v w ≡ true) ⊎ (outranks q h w v ≡ true)
+outranks-either q h v w own matched_v matched_w differ =
     let a = matched-writer q v matched_v in
     let b = matched-writer q w matched_w in
+    let first : precedence_of q h v ≡ Some (precedence h v a.0) = ap (option_map (precedence h v)) a.1 in
+    let second : precedence_of q h w ≡ Some (precedence h w b.0) = ap (option_map (precedence h w)) b.1 in
     ⊎_elim
-    (λ e. inl (ap (λ (x : Option MatchedWriter). is_above x (writer_of q.writers w)) a.1
-    ∙ (ap (λ (x : Option MatchedWriter). is_above (Some a.0) x) b.1 ∙ e)))
-    (λ e. inr (ap (λ (x : Option MatchedWriter). is_above x (writer_of q.writers v)) b.1
-    ∙ (ap (λ (x : Option MatchedWriter). is_above (Some b.0) x) a.1 ∙ e)))
-    (above-either a.0 b.0 (writer_cmp a.0 b.0) refl (λ same. differ (own v w a.0 b.0 a.1 b.1 same)))
+    (λ e. inl (ap (λ (x : Option Precedence). is_above x (precedence_of q h w)) first
+    ∙ (ap (λ (x : Option Precedence). is_above (Some (precedence h v a.0)) x) second ∙ e)))
+    (λ e. inr (ap (λ (x : Option Precedence). is_above x (precedence_of q h v)) second
+    ∙ (ap (λ (x : Option Precedence). is_above (Some (precedence h w b.0)) x) first ∙ e)))
+    (above-either (precedence h v a.0) (precedence h w b.0) (writer_cmp (precedence h v a.0) (precedence h w b.0)) refl
+    (λ same. differ (own v w a.0 b.0 a.1 b.1 same)))
 
 -- ---- the greatest of a list
 
@@ -126,60 +130,61 @@ AllMatched q [] = Unit {0}
 AllMatched q (w ∷ ws) = IsMatched q w × AllMatched q ws
 
 -- what one writer outranks, another that outranks it outranks too
-outranks_all-above : (q : ReaderQos) (ws : List ℕ) (v w : ℕ) → outranks q w v ≡ true → outranks_all q ws v ≡ true
-    → outranks_all q ws w ≡ true
-outranks_all-above q [] v w above all = refl
-outranks_all-above q (x ∷ ws) v w above all =
-    let parts = and_parts ((x == v) || outranks q v x) (outranks_all q ws v) all in
-    let here : ((x == w) || outranks q w x) ≡ true =
+outranks_all-above : (q : ReaderQos) (h : List Happening) (ws : List ℕ) (v w : ℕ) → outranks q h w v ≡ true
+    → outranks_all q h ws v ≡ true → outranks_all q h ws w ≡ true
+outranks_all-above q h [] v w above all = refl
+outranks_all-above q h (x ∷ ws) v w above all =
+    let parts = and_parts ((x == v) || outranks q h v x) (outranks_all q h ws v) all in
+    let here : ((x == w) || outranks q h w x) ≡ true =
     ⊎_elim
-    (λ same. or_right (x == w) (outranks q w x) (ap (λ (n : ℕ). outranks q w n) (eqb-true x v same) ∙ above))
-    (λ more. or_right (x == w) (outranks q w x)
-    (outranks-trans (writer_of q.writers w) (writer_of q.writers v) (writer_of q.writers x) above more))
-    (or_cases (x == v) (outranks q v x) parts.0) in
-    and_from ((x == w) || outranks q w x) (outranks_all q ws w) here (outranks_all-above q ws v w above parts.1)
+    (λ same. or_right (x == w) (outranks q h w x) (ap (λ (n : ℕ). outranks q h w n) (eqb-true x v same) ∙ above))
+    (λ more. or_right (x == w) (outranks q h w x)
+    (outranks-trans (precedence_of q h w) (precedence_of q h v) (precedence_of q h x) above more))
+    (or_cases (x == v) (outranks q h v x) parts.0) in
+    and_from ((x == w) || outranks q h w x) (outranks_all q h ws w) here (outranks_all-above q h ws v w above parts.1)
 
 pub eqb-refl : (n : ℕ) → (n == n) ≡ true
 eqb-refl n = grind (arith, nat_tests)
 
-pub record Greatest (q : ReaderQos) (ws : List ℕ) : Type 0 where
+pub record Greatest (q : ReaderQos) (h : List Happening) (ws : List ℕ) : Type 0 where
   pub writer : ℕ
   pub matched : IsMatched q writer
   pub among : is_one_of ws writer ≡ true
-  pub above : outranks_all q ws writer ≡ true
+  pub above : outranks_all q h ws writer ≡ true
 
-greatest : (q : ReaderQos) (w : ℕ) (ws : List ℕ) → HaveOwnGuids q → AllMatched q (w ∷ ws) → Greatest q (w ∷ ws)
-greatest q w [] own matched = record {
+greatest : (q : ReaderQos) (h : List Happening) (w : ℕ) (ws : List ℕ) → HaveOwnGuids q → AllMatched q (w ∷ ws)
+    → Greatest q h (w ∷ ws)
+greatest q h w [] own matched = record {
   writer = w;
   matched = matched.0;
   among = or_left (w == w) false (eqb-refl w);
-  above = and_from ((w == w) || outranks q w w) true (or_left (w == w) (outranks q w w) (eqb-refl w)) refl;
+  above = and_from ((w == w) || outranks q h w w) true (or_left (w == w) (outranks q h w w) (eqb-refl w)) refl;
 }
-greatest q w (v ∷ ws) own matched =
-    let rest : Greatest q (v ∷ ws) = greatest q v ws own matched.1 in
+greatest q h w (v ∷ ws) own matched =
+    let rest : Greatest q h (v ∷ ws) = greatest q h v ws own matched.1 in
     let m : ℕ = rest.writer in
-    let keep : ((w == m) || outranks q m w) ≡ true → Greatest q (w ∷ v ∷ ws) =
+    let keep : ((w == m) || outranks q h m w) ≡ true → Greatest q h (w ∷ v ∷ ws) =
     λ here. record {
       writer = m;
       matched = rest.matched;
       among = or_right (w == m)
           (is_one_of (v ∷ ws) m) rest.among;
-      above = and_from ((w == m) || outranks q m w)
-          (outranks_all q (v ∷ ws) m) here rest.above;
+      above = and_from ((w == m) || outranks q h m w)
+          (outranks_all q h (v ∷ ws) m) here rest.above;
     } in
     ⊎_elim
-    (λ same. keep (or_left (w == m) (outranks q m w) same))
+    (λ same. keep (or_left (w == m) (outranks q h m w) same))
     (λ other. ⊎_elim
     (λ above. record {
       writer = w;
       matched = matched.0;
       among = or_left (w == w) (is_one_of (v ∷ ws) w) (eqb-refl w);
       above =
-          and_from ((w == w) || outranks q w w) (outranks_all q (v ∷ ws) w)
-          (or_left (w == w) (outranks q w w) (eqb-refl w)) (outranks_all-above q (v ∷ ws) m w above rest.above);
+          and_from ((w == w) || outranks q h w w) (outranks_all q h (v ∷ ws) w)
+          (or_left (w == w) (outranks q h w w) (eqb-refl w)) (outranks_all-above q h (v ∷ ws) m w above rest.above);
     })
-    (λ below. keep (or_right (w == m) (outranks q m w) below))
-    (outranks-either q w m own matched.0 rest.matched (eqb-false w m other)))
+    (λ below. keep (or_right (w == m) (outranks q h m w) below))
+    (outranks-either q h w m own matched.0 rest.matched (eqb-false w m other)))
     (cases_Bool (w == m))
 
 -- ---- a search of a list
@@ -250,29 +255,31 @@ not-same : (v w : ℕ) → v ≢ w → (v == w) ≡ true → ⊥
 not-same v w differ same = differ (eqb-true v w same)
 
 -- a writer of a list that outranks each other one is its owner
-pub owner-is : (q : ReaderQos) (ws : List ℕ) (w : ℕ) → is_one_of ws w ≡ true → outranks_all q ws w ≡ true
-    → IsOwner q ws w
-owner-is q ws w among above = record {
+pub owner-is : (q : ReaderQos) (h : List Happening) (ws : List ℕ) (w : ℕ) → is_one_of ws w ≡ true
+    → outranks_all q h ws w ≡ true → IsOwner q h ws w
+owner-is q h ws w among above = record {
   is_registered = contains-from ws w among;
   is_greatest =
       λ v other differ. ⊎_elim (λ same. absurd (not-same v w differ same)) (λ more. more)
-      (or_cases (v == w) (outranks q w v)
-      (all-at (λ x. (x == w) || outranks q w x) ws v above (contains-at ws v other.0 other.1 other.2)));
+      (or_cases (v == w) (outranks q h w v)
+      (all-at (λ x. (x == w) || outranks q h w x) ws v above (contains-at ws v other.0 other.1 other.2)));
 }
 
 -- the owner that is computed is the owner
-pub owner_of-found : (q : ReaderQos) (ws : List ℕ) (w : ℕ) → owner_of q ws ≡ Some w → IsOwner q ws w
-owner_of-found q ws w e =
-    let found : FoundAt (outranks_all q ws) ws w = found-at
-    (outranks_all q ws) ws w e in owner-is q ws w found.among found.holds
+pub owner_of-found : (q : ReaderQos) (h : List Happening) (ws : List ℕ) (w : ℕ) → owner_of q h ws ≡ Some w
+    → IsOwner q h ws w
+owner_of-found q h ws w e =
+    let found : FoundAt (outranks_all q h ws) ws w = found-at
+    (outranks_all q h ws) ws w e in owner-is q h ws w found.among found.holds
 
 -- there is no second owner
-pub owner-one : (q : ReaderQos) (ws : List ℕ) (v w : ℕ) → IsOwner q ws v → IsOwner q ws w → v ≡ w
-owner-one q ws v w own_v own_w =
+pub owner-one : (q : ReaderQos) (h : List Happening) (ws : List ℕ) (v w : ℕ) → IsOwner q h ws v → IsOwner q h ws w
+    → v ≡ w
+owner-one q h ws v w own_v own_w =
     ⊎_elim
     (λ same. eqb-true v w same)
-    (λ other. let differ : v ≢ w = eqb-false v w other in absurd (outranks-one_way (writer_of q.writers v)
-    (writer_of q.writers w) (own_v.is_greatest w own_w.is_registered (λ e. differ (sym e)))
+    (λ other. let differ : v ≢ w = eqb-false v w other in absurd (outranks-one_way (precedence_of q h v)
+    (precedence_of q h w) (own_v.is_greatest w own_w.is_registered (λ e. differ (sym e)))
     (own_w.is_greatest v own_v.is_registered differ)))
     (cases_Bool (v == w))
 
@@ -291,38 +298,40 @@ numbers-matched q i h (x ∷ xs) k low high =
     (filter (λ w. is_registered i w h) (numbered_from (k + 1) xs)))) (sym is_gone) rest)
     (cases_Bool (is_registered i k h))
 
-exists-in : (q : ReaderQos) (ws : List ℕ) → HaveOwnGuids q → AllMatched q ws → ws ≢ [] → IsSome (owner_of q ws)
-exists-in q [] own matched some = absurd (some refl)
-exists-in q (w ∷ ws) own matched some =
-    let top : Greatest q (w ∷ ws) = greatest q w ws own matched in find-any (outranks_all q (w ∷ ws)) (w ∷ ws)
-    (any-at (outranks_all q (w ∷ ws)) (w ∷ ws) top.writer top.among top.above)
+exists-in : (q : ReaderQos) (h : List Happening) (ws : List ℕ) → HaveOwnGuids q → AllMatched q ws → ws ≢ []
+    → IsSome (owner_of q h ws)
+exists-in q h [] own matched some = absurd (some refl)
+exists-in q h (w ∷ ws) own matched some =
+    let top : Greatest q h (w ∷ ws) = greatest q h w ws own matched in find-any (outranks_all q h (w ∷ ws)) (w ∷ ws)
+    (any-at (outranks_all q h (w ∷ ws)) (w ∷ ws) top.writer top.among top.above)
 
 -- where somebody is registered, there is an owner
 pub owner-exists : (q : ReaderQos) (i : Key) (h : List Happening) → HaveOwnGuids q → registered_writers q i h ≢ []
-    → IsSome (owner_of q (registered_writers q i h))
+    → IsSome (owner_of q h (registered_writers q i h))
 owner-exists q i h own some =
-    exists-in q (registered_writers q i h) own (numbers-matched q i h q.writers 1 (omega arith) (omega arith)) some
+    exists-in q h (registered_writers q i h) own (numbers-matched q i h q.writers 1 (omega arith) (omega arith)) some
 
 -- a writer outranks each other one of a list exactly where it is the owner among them and itself
-pub owner-among : (q : ReaderQos) (ws : List ℕ) (w : ℕ) → (IsTrue (outranks_all q ws w) → IsOwner q (w ∷ ws) w)
-    × (IsOwner q (w ∷ ws) w → IsTrue (outranks_all q ws w))
-owner-among q ws w = (
-  λ above. owner-is q (w ∷ ws) w (or_left (w == w) (is_one_of ws w) (eqb-refl w))
-      (and_from ((w == w) || outranks q w w) (outranks_all q ws w)
-      (or_left (w == w) (outranks q w w) (eqb-refl w)) above),
-  λ owner. above-each q ws w
+pub owner-among : (q : ReaderQos) (h : List Happening) (ws : List ℕ) (w : ℕ)
+    → (IsTrue (outranks_all q h ws w) → IsOwner q h (w ∷ ws) w)
+    × (IsOwner q h (w ∷ ws) w → IsTrue (outranks_all q h ws w))
+owner-among q h ws w = (
+  λ above. owner-is q h (w ∷ ws) w (or_left (w == w) (is_one_of ws w) (eqb-refl w))
+      (and_from ((w == w) || outranks q h w w) (outranks_all q h ws w)
+      (or_left (w == w) (outranks q h w w) (eqb-refl w)) above),
+  λ owner. above-each q h ws w
       (λ v among differ. owner.is_greatest v
       (contains-from (w ∷ ws) v (or_right (w == v) (is_one_of ws v) among)) differ),
 )
   where
-    above-each : (q : ReaderQos) (ws : List ℕ) (w : ℕ)
-        → ((v : ℕ) → is_one_of ws v ≡ true → v ≢ w → outranks q w v ≡ true) → outranks_all q ws w ≡ true
-    above-each q [] w each = refl
-    above-each q (v ∷ ws) w each =
-        and_from ((v == w) || outranks q w v) (outranks_all q ws w)
+    above-each : (q : ReaderQos) (h : List Happening) (ws : List ℕ) (w : ℕ)
+        → ((v : ℕ) → is_one_of ws v ≡ true → v ≢ w → outranks q h w v ≡ true) → outranks_all q h ws w ≡ true
+    above-each q h [] w each = refl
+    above-each q h (v ∷ ws) w each =
+        and_from ((v == w) || outranks q h w v) (outranks_all q h ws w)
         (⊎_elim
-        (λ same. or_left (v == w) (outranks q w v) same)
-        (λ other. or_right (v == w) (outranks q w v)
+        (λ same. or_left (v == w) (outranks q h w v) same)
+        (λ other. or_right (v == w) (outranks q h w v)
         (each v (or_left (v == v) (is_one_of ws v) (eqb-refl v)) (eqb-false v w other)))
         (cases_Bool (v == w)))
-        (above-each q ws w (λ x among differ. each x (or_right (v == x) (is_one_of ws x) among) differ))
+        (above-each q h ws w (λ x among differ. each x (or_right (v == x) (is_one_of ws x) among) differ))

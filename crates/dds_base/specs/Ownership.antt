@@ -2,8 +2,9 @@
 --
 -- DDS 1.4, 2.2.3 (OWNERSHIP, OWNERSHIP_STRENGTH, LIVELINESS), 2.2.2.4 (register_instance,
 -- unregister_instance).
-use Rattle.std.specs.Prelude.{ℕ, zero, suc, ◌+◌, ◌<◌, ◌≤◌, ◌≡◌, ◌≢◌, Contains, IsTrue, List, [], ◌∷◌, length, Bool, true, false, ◌&&◌, ◌||◌, ◌==◌, not, Option, None, Some, if◌then◌else◌, filter, find, slice_get}
+use Rattle.std.specs.Prelude.{ℕ, zero, suc, ◌+◌, ◌<◌, ◌≤◌, ◌≡◌, ◌≢◌, ℤ, Contains, IsTrue, List, [], ◌∷◌, length, Bool, true, false, ◌&&◌, ◌||◌, ◌==◌, not, Option, None, Some, if◌then◌else◌, filter, find, slice_get}
 use Rattle.std.specs.List.{list_all}
+use Rattle.std.specs.Option.{option_map}
 use Rattle.std.specs.Ordering.{ordering_then, int_cmp, nat_cmp, is_gt}
 use Rattle.std.specs.Cmp.Lexicographic.{slice_cmp}
 use Rattle.std.specs.declared.cmp.Ordering.{Ordering}
@@ -56,37 +57,55 @@ registered_writers q i h = filter (λ w. is_registered i w h) (publication_handl
 abbrev pub guid_cmp : Guid → Guid → Ordering
 guid_cmp a b = ordering_then (slice_cmp nat_cmp a.prefix.0 b.prefix.0) (slice_cmp nat_cmp a.entity.0 b.entity.0)
 
+-- what the order of writers looks at
+pub record Precedence : Type 0 where
+  pub strength : ℤ
+  pub guid : Guid
+
 -- the order of two writers: by strength, and of equals the one with the smaller GUID is the greater (2.2.3,
 -- OWNERSHIP_STRENGTH)
-abbrev pub writer_cmp : MatchedWriter → MatchedWriter → Ordering
+abbrev pub writer_cmp : Precedence → Precedence → Ordering
 writer_cmp a b = ordering_then (int_cmp a.strength b.strength) (guid_cmp b.guid a.guid)
+
+-- the strength of a matched writer, of this publication handle, once h has happened: the one that it was configured
+-- with (2.2.3, OWNERSHIP_STRENGTH)
+abbrev pub strength_of : List Happening → ℕ → MatchedWriter → ℤ
+strength_of h w m = m.strength
+
+-- what the order of writers looks at in this one, once h has happened
+abbrev pub precedence : List Happening → ℕ → MatchedWriter → Precedence
+precedence h w m = record { strength = strength_of h w m; guid = m.guid }
 
 -- the matched writer of a publication handle
 abbrev pub writer_of : List MatchedWriter → ℕ → Option MatchedWriter
 writer_of writers zero = None
 writer_of writers (suc at) = slice_get writers at
 
+-- the same of the matched writer of a publication handle
+abbrev pub precedence_of : ReaderQos → List Happening → ℕ → Option Precedence
+precedence_of q h w = option_map (precedence h w) (writer_of q.writers w)
+
 -- both are there, and the first is the greater
-abbrev pub is_above : Option MatchedWriter → Option MatchedWriter → Bool
+abbrev pub is_above : Option Precedence → Option Precedence → Bool
 is_above (Some a) (Some b) = is_gt (writer_cmp a b)
 is_above _ _ = false
 
--- v is stronger than w, or as strong with a smaller GUID
-abbrev pub outranks : ReaderQos → ℕ → ℕ → Bool
-outranks q v w = is_above (writer_of q.writers v) (writer_of q.writers w)
+-- once h has happened, v is stronger than w, or as strong with a smaller GUID
+abbrev pub outranks : ReaderQos → List Happening → ℕ → ℕ → Bool
+outranks q h v w = is_above (precedence_of q h v) (precedence_of q h w)
 
 -- w outranks each other writer of a list
-abbrev pub outranks_all : ReaderQos → List ℕ → ℕ → Bool
-outranks_all q ws w = list_all (λ v. (v == w) || outranks q w v) ws
+abbrev pub outranks_all : ReaderQos → List Happening → List ℕ → ℕ → Bool
+outranks_all q h ws w = list_all (λ v. (v == w) || outranks q h w v) ws
 
 -- the owner among registered writers: one of them, which outranks each other one (2.2.3, OWNERSHIP)
-pub record IsOwner (q : ReaderQos) (ws : List ℕ) (w : ℕ) : Type 0 where
+pub record IsOwner (q : ReaderQos) (h : List Happening) (ws : List ℕ) (w : ℕ) : Type 0 where
   pub is_registered : Contains ws w
-  pub is_greatest : (v : ℕ) → Contains ws v → v ≢ w → IsTrue (outranks q w v)
+  pub is_greatest : (v : ℕ) → Contains ws v → v ≢ w → IsTrue (outranks q h w v)
 
 -- the owner, computed
-abbrev pub owner_of : ReaderQos → List ℕ → Option ℕ
-owner_of q ws = find (outranks_all q ws) ws
+abbrev pub owner_of : ReaderQos → List Happening → List ℕ → Option ℕ
+owner_of q h ws = find (outranks_all q h ws) ws
 
 -- no two matched writers have one GUID, as no two writers of a checked configuration have
 abbrev pub HaveOwnGuids : ReaderQos → Type 0
@@ -99,10 +118,12 @@ abbrev pub admits : OwnershipQos → Bool → Bool
 admits Shared is_owner = true
 admits Exclusive is_owner = is_owner
 
--- the kind of an accepted write or dispose of instance i that comes upon h; none for all else
+-- the kind of an accepted write or dispose of instance i that comes upon h, by the strengths once it has come; none for
+-- all else
 abbrev pub accepted_kind : ReaderQos → Key → List Happening → Happening → Option ChangeKind
 accepted_kind q i h (Came a) =
     if same_key a.change.key i
-    && (is_write_or_dispose a.change.kind && admits q.ownership (outranks_all q (registered_writers q i h) a.writer))
+    && (is_write_or_dispose a.change.kind
+    && admits q.ownership (outranks_all q (Came a ∷ h) (registered_writers q i h) a.writer))
     then Some a.change.kind else None
 accepted_kind q i h _ = None

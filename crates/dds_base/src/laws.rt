@@ -27,17 +27,17 @@ use crate::mask::{InstanceStateMask, Masks, SampleStateMask, ViewStateMask};
 /// finds it. Acceptance under EXCLUSIVE asks for just that owner, among those registered before and the writer itself.
 pub fn owner_is_found()
     // What the definition finds is an owner.
-    ensures found { (q : ReaderQos) (ws : List ℕ) (w : ℕ) → owner_of q ws ≡ Some w
-        → IsOwner q ws w }
+    ensures found { (q : ReaderQos) (h : List Happening) (ws : List ℕ) (w : ℕ)
+        → owner_of q h ws ≡ Some w → IsOwner q h ws w }
     // There are no two owners.
-    ensures only { (q : ReaderQos) (ws : List ℕ) (v w : ℕ) → IsOwner q ws v → IsOwner q ws w
-        → v ≡ w }
+    ensures only { (q : ReaderQos) (h : List Happening) (ws : List ℕ) (v w : ℕ)
+        → IsOwner q h ws v → IsOwner q h ws w → v ≡ w }
     // Where somebody is registered for the instance an owner is found.
     ensures exists { (q : ReaderQos) (i : Key) (h : List Happening) → HaveOwnGuids q
-        → registered_writers q i h ≢ [] → IsSome (owner_of q (registered_writers q i h)) }
+        → registered_writers q i h ≢ [] → IsSome (owner_of q h (registered_writers q i h)) }
     // A writer outranks all others exactly if it owns among them and itself.
-    ensures among { (q : ReaderQos) (ws : List ℕ) (w : ℕ) → IsTrue (outranks_all q ws w)
-        ↔ IsOwner q (w ∷ ws) w }
+    ensures among { (q : ReaderQos) (h : List Happening) (ws : List ℕ) (w : ℕ)
+        → IsTrue (outranks_all q h ws w) ↔ IsOwner q h (w ∷ ws) w }
 {}
 
 /// A value of `MAX_VALUE` octets has a written form, a longer one has none.

@@ -116,7 +116,7 @@ pub rejected : (q : ReaderQos) (i : Key) (h : List Happening) (a : Arrival) → 
     ≡ (if same_key a.change.key i && is_write_or_dispose a.change.kind then Some a.change.kind else None)
 rejected q i h a none =
     ap (λ (ws : List ℕ). if same_key a.change.key i && (is_write_or_dispose a.change.kind && admits q.ownership
-    (outranks_all q ws a.writer)) then Some a.change.kind else None)
+    (outranks_all q (Came a ∷ h) ws a.writer)) then Some a.change.kind else None)
     (nobody-filtered i h (publication_handles q) none)
     ∙ (ap (λ (b : Bool). if same_key a.change.key i && (is_write_or_dispose a.change.kind && b) then Some a.change.kind
     else None) (admits-all q.ownership)

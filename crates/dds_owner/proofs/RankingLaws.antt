@@ -2,6 +2,7 @@
 use Rattle.std.proofs.Common.{◌≡◌, ℕ, ◌+◌, ◌<◌, ◌≤◌, List, [], ◌∷◌, ◌++◌, length, map, Bool, true, false, not, ◌==◌, ◌&&◌, ◌||◌, sym, ap, subst, ◌∙◌, refl, cond, Option, Some, None, ◌⊎◌, inl, inr, arith, append_assoc, ⊎_elim}
 use Rattle.std.specs.Prelude.{if◌then◌else◌, find}
 use Rattle.std.specs.List.{filter, list_all}
+use Rattle.std.specs.Option.{option_map}
 use Rattle.std.specs.Ordering.{is_gt, ordering_reverse}
 use Rattle.std.specs.declared.cmp.Ordering.{Ordering}
 use Rattle.std.specs.declared.cmp.Ordering.TheVariants.{Less, Equal, Greater}
@@ -15,7 +16,7 @@ use Rattle.dds_base.specs.declared.happening.Happening.TheVariants.{Came}
 use Rattle.dds_base.specs.declared.qos.MatchedWriter.{MatchedWriter}
 use Rattle.dds_base.specs.declared.qos.ReaderQos.{ReaderQos}
 use Rattle.dds_base.specs.Happening.{is_write_or_dispose}
-use Rattle.dds_base.specs.Ownership.{IsMatched, accepted_kind, admits, is_above, is_registered, numbered_from, outranks, outranks_all, owner_of, publication_handles, registered_writers, writer_cmp, writer_of}
+use Rattle.dds_base.specs.Ownership.{IsMatched, accepted_kind, admits, is_above, is_registered, numbered_from, outranks, outranks_all, owner_of, Precedence, precedence, precedence_of, publication_handles, registered_writers, writer_cmp, writer_of}
 use Rattle.dds_base.proofs.KeyLaws.{same_key-refl}
 use Rattle.dds_base.proofs.OwnerLaws.{all-at, eqb-refl, is_one_of, matched-writer, outranks-one_way, outranks-trans, owner-is, owner-one, writer_total}
 use Rattle.dds_owner.specs.declared.ranking.Leader.{Leader}
@@ -36,14 +37,14 @@ all-one : (b good : Bool) (w : ℕ) (ws : List ℕ) (g : ℕ → Bool) (rest : B
 all-one true good w ws g rest is e = ap (λ (x : Bool). x && list_all g ws) is ∙ ap (λ (x : Bool). good && x) e
 all-one false good w ws g rest is e = e
 
-all-each : (q : ReaderQos) (i : Key) (h : List Happening) (w : ℕ) (ws : List ℕ)
-    → outranks_all q (filter (λ v. is_registered i v h) ws) w
+all-each : (q : ReaderQos) (i : Key) (g h : List Happening) (w : ℕ) (ws : List ℕ)
+    → outranks_all q g (filter (λ v. is_registered i v h) ws) w
     ≡ list_all (gives_way q w) (map (registration_of i h) ws)
-all-each q i h w [] = refl
-all-each q i h w (v ∷ ws) =
-    all-one (is_registered i v h) ((v == w) || outranks q w v) v (filter (λ x. is_registered i x h) ws)
-    (λ x. (x == w) || outranks q w x) (list_all (gives_way q w) (map (registration_of i h) ws)) refl
-    (all-each q i h w ws)
+all-each q i g h w [] = refl
+all-each q i g h w (v ∷ ws) =
+    all-one (is_registered i v h) ((v == w) || outranks q g w v) v (filter (λ x. is_registered i x h) ws)
+    (λ x. (x == w) || outranks q g w x) (list_all (gives_way q w) (map (registration_of i h) ws)) refl
+    (all-each q i g h w ws)
 
 -- what is accepted among the registrations is what is accepted
 pub accepted-among : (q : ReaderQos) (h : List Happening) (a : Arrival) (rs : List Registration)
@@ -53,24 +54,24 @@ accepted-among q h a rs is =
     ap (λ (b : Bool). if is_write_or_dispose a.change.kind && admits q.ownership b
     then Some a.change.kind else None)
     (ap (λ (xs : List Registration). list_all (gives_way q a.writer) xs) is
-    ∙ sym (all-each q a.change.key h a.writer (publication_handles q)))
+    ∙ sym (all-each q a.change.key (Came a ∷ h) h a.writer (publication_handles q)))
     ∙ ap (λ (b : Bool). if b && (is_write_or_dispose a.change.kind
-    && admits q.ownership (outranks_all q (registered_writers q a.change.key h) a.writer))
+    && admits q.ownership (outranks_all q (Came a ∷ h) (registered_writers q a.change.key h) a.writer))
     then Some a.change.kind else None)
     (sym (same_key-refl a.change.key))
 
 -- ---- the order of writers
 
 -- no writer outranks itself
-above-itself : (q : ReaderQos) (w : ℕ) → outranks q w w ≡ false
+above-itself : (q : ReaderQos) (w : ℕ) → outranks q [] w w ≡ false
 above-itself q w =
     ⊎_elim
-    (λ above. absurd (outranks-one_way (writer_of q.writers w) (writer_of q.writers w) above above))
+    (λ above. absurd (outranks-one_way (precedence_of q [] w) (precedence_of q [] w) above above))
     (λ no. no)
-    (cases_Bool (outranks q w w))
+    (cases_Bool (outranks q [] w w))
 
 -- of two writers the one that is above a third, as the other is not, is above that one too
-below-chain : (u v w : MatchedWriter) (o : Ordering) → writer_cmp v u ≡ o → is_gt (writer_cmp v w) ≡ true
+below-chain : (u v w : Precedence) (o : Ordering) → writer_cmp v u ≡ o → is_gt (writer_cmp v w) ≡ true
     → is_gt (writer_cmp u w) ≡ false → is_gt (writer_cmp u v) ≡ false → is_gt (writer_cmp v u) ≡ true
 below-chain u v w Greater is above not_w not_v = ap is_gt is
 below-chain u v w Equal is above not_w not_v =
@@ -80,27 +81,28 @@ below-chain u v w Less is above not_w not_v =
     sym (ap is_gt (writer_total.antisymm u v ∙ ap ordering_reverse is)) ∙ not_v in cc)
 
 outranks-as : (q : ReaderQos) (v w : ℕ) (a b : MatchedWriter) → writer_of q.writers v ≡ Some a
-    → writer_of q.writers w ≡ Some b → outranks q v w ≡ is_gt (writer_cmp a b)
+    → writer_of q.writers w ≡ Some b → outranks q [] v w ≡ is_gt (writer_cmp (precedence [] v a) (precedence [] w b))
 outranks-as q v w a b is_a is_b =
-    ap (λ (x : Option MatchedWriter). is_above x (writer_of q.writers w)) is_a
-    ∙ ap (λ (x : Option MatchedWriter). is_above (Some a) x) is_b
+    ap (λ (x : Option MatchedWriter). is_above (option_map (precedence [] v) x) (precedence_of q [] w)) is_a
+    ∙ ap (λ (x : Option MatchedWriter). is_above (Some (precedence [] v a)) (option_map (precedence [] w) x)) is_b
 
 -- who outranks a writer that nobody of some outranks, outranks each of these
 above-others : (q : ReaderQos) (v w u : ℕ) → IsMatched q v → IsMatched q w → IsMatched q u
-    → outranks q v w ≡ true → outranks q u w ≡ false → outranks q v u ≡ true
+    → outranks q [] v w ≡ true → outranks q [] u w ≡ false → outranks q [] v u ≡ true
 above-others q v w u matched_v matched_w matched_u above not_above =
     let a = matched-writer q v matched_v in
     let b = matched-writer q w matched_w in
     let c = matched-writer q u matched_u in
-    let not_back : outranks q u v ≡ false =
+    let not_back : outranks q [] u v ≡ false =
     ⊎_elim
     (λ back. absurd (let clash : true ≡ false =
-    sym (outranks-trans (writer_of q.writers u) (writer_of q.writers v) (writer_of q.writers w) back above)
+    sym (outranks-trans (precedence_of q [] u) (precedence_of q [] v) (precedence_of q [] w) back above)
     ∙ not_above in cc))
     (λ no. no)
-    (cases_Bool (outranks q u v)) in
+    (cases_Bool (outranks q [] u v)) in
     outranks-as q v u a.0 c.0 a.1 c.1
-    ∙ below-chain c.0 a.0 b.0 (writer_cmp a.0 c.0) refl
+    ∙ below-chain (precedence [] u c.0) (precedence [] v a.0) (precedence [] w b.0)
+    (writer_cmp (precedence [] v a.0) (precedence [] u c.0)) refl
     (sym (outranks-as q v w a.0 b.0 a.1 b.1) ∙ above)
     (sym (outranks-as q u w c.0 b.0 c.1 b.1) ∙ not_above)
     (sym (outranks-as q u v c.0 a.0 c.1 a.1) ∙ not_back)
@@ -148,11 +150,11 @@ one-more ws v u there =
 record Seen (q : ReaderQos) (k w u : ℕ) : Type 0 where
   below : u < k
   matched : IsMatched q u
-  not_above : outranks q u w ≡ false
+  not_above : outranks q [] u w ≡ false
 
 record LeadsBy (q : ReaderQos) (k : ℕ) (seen : List ℕ) (l : Leader) : Type 0 where
   among : is_one_of seen l.writer ≡ true
-  sole_is : l.is_sole ≡ outranks_all q seen l.writer
+  sole_is : l.is_sole ≡ outranks_all q [] seen l.writer
   each : (u : ℕ) → is_one_of seen u ≡ true → Seen q k l.writer u
 
 abbrev Leads : ReaderQos → ℕ → List ℕ → Option Leader → Type 0
@@ -168,7 +170,7 @@ leads-first : (q : ReaderQos) (k : ℕ) → IsMatched q k
 leads-first q k matched = record {
   among = or_left (k == k) false (eqb-refl k);
   sole_is = sym
-      (and_from ((k == k) || outranks q k k) true (or_left (k == k) (outranks q k k) (eqb-refl k)) refl);
+      (and_from ((k == k) || outranks q [] k k) true (or_left (k == k) (outranks q [] k k) (eqb-refl k)) refl);
   each = λ u there. ⊎_elim
       (λ same. subst (λ (x : ℕ). Seen q (k + 1) k x) (eqb-true k u same) (seen-itself q k matched))
       (λ none. absurd (let clash : false ≡ true = none in cc))
@@ -177,16 +179,16 @@ leads-first q k matched = record {
 
 -- one that outranks the leader takes its place
 takes-over : (q : ReaderQos) (k : ℕ) (seen : List ℕ) (l : Leader) → LeadsBy q k seen l → IsMatched q k
-    → outranks q k l.writer ≡ true → LeadsBy q (k + 1) (seen ++ k ∷ []) (record { writer = k; is_sole = true })
+    → outranks q [] k l.writer ≡ true → LeadsBy q (k + 1) (seen ++ k ∷ []) (record { writer = k; is_sole = true })
 takes-over q k seen l leads matched above = record {
   among = list_any-append (λ x. x == k) seen (k ∷ [])
       ∙ or_right (is_one_of seen k) ((k == k) || false) (or_left (k == k) false (eqb-refl k));
-  sole_is = sym (list_all-append (λ v. (v == k) || outranks q k v) seen (k ∷ [])
-      ∙ and_from (outranks_all q seen k) (((k == k) || outranks q k k) && true)
-      (all-from (λ v. (v == k) || outranks q k v) seen (λ u there. or_right (u == k) (outranks q k u)
+  sole_is = sym (list_all-append (λ v. (v == k) || outranks q [] k v) seen (k ∷ [])
+      ∙ and_from (outranks_all q [] seen k) (((k == k) || outranks q [] k k) && true)
+      (all-from (λ v. (v == k) || outranks q [] k v) seen (λ u there. or_right (u == k) (outranks q [] k u)
       (above-others q k l.writer u matched (leads.each l.writer leads.among).matched
       (leads.each u there).matched above (leads.each u there).not_above)))
-      (and_from ((k == k) || outranks q k k) true (or_left (k == k) (outranks q k k) (eqb-refl k)) refl));
+      (and_from ((k == k) || outranks q [] k k) true (or_left (k == k) (outranks q [] k k) (eqb-refl k)) refl));
   each = λ u there. ⊎_elim
       (λ before. let s = leads.each u before in
       record {
@@ -194,11 +196,11 @@ takes-over q k seen l leads matched above = record {
         matched = s.matched;
         not_above = ⊎_elim
             (λ back. absurd (let clash : true ≡ false =
-            sym (outranks-trans (writer_of q.writers u) (writer_of q.writers k) (writer_of q.writers l.writer)
+            sym (outranks-trans (precedence_of q [] u) (precedence_of q [] k) (precedence_of q [] l.writer)
             back above)
             ∙ s.not_above in cc))
             (λ no. no)
-            (cases_Bool (outranks q u k));
+            (cases_Bool (outranks q [] u k));
       })
       (λ same. subst (λ (x : ℕ). Seen q (k + 1) k x) same (seen-itself q k matched))
       (one-more seen k u there);
@@ -211,9 +213,9 @@ last-only false x = refl
 
 -- one that does not leaves it there
 stays : (q : ReaderQos) (k : ℕ) (seen : List ℕ) (l : Leader) → LeadsBy q k seen l → IsMatched q k
-    → outranks q k l.writer ≡ false
+    → outranks q [] k l.writer ≡ false
     → LeadsBy q (k + 1) (seen ++ k ∷ [])
-    (record { writer = l.writer; is_sole = l.is_sole && outranks q l.writer k })
+    (record { writer = l.writer; is_sole = l.is_sole && outranks q [] l.writer k })
 stays q k seen l leads matched not_above =
     let w : ℕ = l.writer in
     let own = leads.each w leads.among in
@@ -221,10 +223,10 @@ stays q k seen l leads matched not_above =
     record {
       among = list_any-append (λ x. x == w) seen (k ∷ [])
           ∙ or_left (is_one_of seen w) ((k == w) || false) leads.among;
-      sole_is = ap (λ (b : Bool). b && outranks q w k) leads.sole_is
-          ∙ sym (list_all-append (λ v. (v == w) || outranks q w v) seen (k ∷ [])
-          ∙ (ap (λ (b : Bool). outranks_all q seen w && ((b || outranks q w k) && true)) other
-          ∙ last-only (outranks_all q seen w) (outranks q w k)));
+      sole_is = ap (λ (b : Bool). b && outranks q [] w k) leads.sole_is
+          ∙ sym (list_all-append (λ v. (v == w) || outranks q [] w v) seen (k ∷ [])
+          ∙ (ap (λ (b : Bool). outranks_all q [] seen w && ((b || outranks q [] w k) && true)) other
+          ∙ last-only (outranks_all q [] seen w) (outranks q [] w k)));
       each = λ u there. ⊎_elim
           (λ before. let s = leads.each u before in
           record { below = omega (arith, s.below); matched = s.matched; not_above = s.not_above })
@@ -240,13 +242,13 @@ leads-next q k seen None none matched =
     (sym none) (leads-first q k matched)
 leads-next q k seen (Some l) leads matched =
     let after : Bool → Leader = λ b. if b then record { writer = k; is_sole = true }
-    else record { writer = l.writer; is_sole = l.is_sole && outranks q l.writer k } in
+    else record { writer = l.writer; is_sole = l.is_sole && outranks q [] l.writer k } in
     ⊎_elim
     (λ above. subst (λ (b : Bool). LeadsBy q (k + 1) (seen ++ k ∷ []) (after b)) (sym above)
     (takes-over q k seen l leads matched above))
     (λ not_above. subst (λ (b : Bool). LeadsBy q (k + 1) (seen ++ k ∷ []) (after b)) (sym not_above)
     (stays q k seen l leads matched not_above))
-    (cases_Bool (outranks q k l.writer))
+    (cases_Bool (outranks q [] k l.writer))
 
 -- one that is not registered changes nothing
 leads-still : (q : ReaderQos) (k : ℕ) (seen : List ℕ) (leader : Option Leader) → Leads q k seen leader
@@ -263,46 +265,46 @@ leads-still q k seen (Some l) leads = record {
 
 -- the leader is the owner, if it outranks each other one; else there is none
 sole-owns : (q : ReaderQos) (k : ℕ) (seen : List ℕ) (leader : Option Leader) → Leads q k seen leader
-    → sole leader ≡ owner_of q seen
-sole-owns q k seen None none = sym (ap (λ (ws : List ℕ). owner_of q ws) none)
+    → sole leader ≡ owner_of q [] seen
+sole-owns q k seen None none = sym (ap (λ (ws : List ℕ). owner_of q [] ws) none)
 sole-owns q k seen (Some l) leads =
     let w : ℕ = l.writer in
     ⊎_elim
-    (λ is. let all : outranks_all q seen w ≡ true = sym leads.sole_is ∙ is in
+    (λ is. let all : outranks_all q [] seen w ≡ true = sym leads.sole_is ∙ is in
     ap (λ (b : Bool). if b then Some w else None) is
-    ∙ sym (find-only (outranks_all q seen) seen w leads.among all
-    (λ u there holds. owner-one q seen u w (owner-is q seen u there holds)
-    (owner-is q seen w leads.among all))))
+    ∙ sym (find-only (outranks_all q [] seen) seen w leads.among all
+    (λ u there holds. owner-one q [] seen u w (owner-is q [] seen u there holds)
+    (owner-is q [] seen w leads.among all))))
     (λ tied. ap (λ (b : Bool). if b then Some w else None) tied
-    ∙ sym (find-none (outranks_all q seen) seen (λ u there. ⊎_elim
+    ∙ sym (find-none (outranks_all q [] seen) seen (λ u there. ⊎_elim
     (λ holds. ⊎_elim
-    (λ same. absurd (let clash : true ≡ false = sym holds ∙ (sym (ap (outranks_all q seen) (eqb-true w u same))
+    (λ same. absurd (let clash : true ≡ false = sym holds ∙ (sym (ap (outranks_all q [] seen) (eqb-true w u same))
     ∙ (sym leads.sole_is ∙ tied)) in cc))
     (λ above. absurd (let clash : true ≡ false = sym above ∙ (leads.each u there).not_above in cc))
-    (or_cases (w == u) (outranks q u w)
-    (all-at (λ v. (v == u) || outranks q u v) seen w holds leads.among)))
+    (or_cases (w == u) (outranks q [] u w)
+    (all-at (λ v. (v == u) || outranks q [] u v) seen w holds leads.among)))
     (λ no. no)
-    (cases_Bool (outranks_all q seen u)))))
+    (cases_Bool (outranks_all q [] seen u)))))
     (cases_Bool l.is_sole)
 
 leader-owns : (q : ReaderQos) (i : Key) (h : List Happening) (k : ℕ) (xs : List MatchedWriter) (seen : List ℕ)
     (leader : Option Leader) → 0 < k → k + length xs ≤ length q.writers + 1 → Leads q k seen leader
     → sole (leader_among q leader (map (registration_of i h) (numbered_from k xs)))
-    ≡ owner_of q (seen ++ filter (λ w. is_registered i w h) (numbered_from k xs))
+    ≡ owner_of q [] (seen ++ filter (λ w. is_registered i w h) (numbered_from k xs))
 leader-owns q i h k [] seen leader low high leads =
-    sole-owns q k seen leader leads ∙ ap (λ (ws : List ℕ). owner_of q ws) (sym (append-nil seen))
+    sole-owns q k seen leader leads ∙ ap (λ (ws : List ℕ). owner_of q [] ws) (sym (append-nil seen))
 leader-owns q i h k (x ∷ xs) seen leader low high leads =
     let ws : List ℕ = filter (λ w. is_registered i w h) (numbered_from (k + 1) xs) in
     let rest : List Registration = map (registration_of i h) (numbered_from (k + 1) xs) in
     let next : Bool → Option ℕ =
     λ b. sole (leader_among q (if b then Some (leader_after q leader k) else leader) rest) in
-    let owner : Bool → Option ℕ = λ b. owner_of q (seen ++ cond b (k ∷ ws) ws) in
+    let owner : Bool → Option ℕ = λ b. owner_of q [] (seen ++ cond b (k ∷ ws) ws) in
     ⊎_elim
     (λ there. ap next there
     ∙ (leader-owns q i h (k + 1) xs (seen ++ k ∷ []) (Some (leader_after q leader k)) (omega arith)
     (omega (arith, high))
     (leads-next q k seen leader leads (low, omega (arith, high)))
-    ∙ (ap (λ (vs : List ℕ). owner_of q vs) (append_assoc seen (k ∷ []) ws) ∙ ap owner (sym there))))
+    ∙ (ap (λ (vs : List ℕ). owner_of q [] vs) (append_assoc seen (k ∷ []) ws) ∙ ap owner (sym there))))
     (λ gone. ap next gone
     ∙ (leader-owns q i h (k + 1) xs seen leader (omega arith) (omega (arith, high))
     (leads-still q k seen leader leads)
@@ -312,7 +314,7 @@ leader-owns q i h k (x ∷ xs) seen leader low high leads =
 -- the leader among the registrations is the owner
 pub owner-found : (q : ReaderQos) (i : Key) (h : List Happening) (rs : List Registration)
     → rs ≡ map (registration_of i h) (publication_handles q)
-    → sole (leader_among q None rs) ≡ owner_of q (registered_writers q i h)
+    → sole (leader_among q None rs) ≡ owner_of q h (registered_writers q i h)
 owner-found q i h rs is =
     ap (λ (xs : List Registration). sole (leader_among q None xs)) is
     ∙ leader-owns q i h 1 q.writers [] None (omega arith) (omega arith) refl

@@ -109,7 +109,7 @@ impl Owners {
     pub fn owner(&self, qos: &ReaderQos) -> Option<Handle>
         // It is the owner among the registered writers.
         ensures owner { (i : Key) (h : List Happening) → StandsFor self.now qos.now i h
-            → result ≡ owner_of qos.now (registered_writers qos.now i h) }
+            → result ≡ owner_of qos.now h (registered_writers qos.now i h) }
     {
         let leader = leader_of(qos, &self.registrations)?;
         if leader.is_sole {

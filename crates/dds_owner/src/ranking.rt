@@ -2,10 +2,10 @@
 //!
 //! DDS 1.4, 2.2.3 (OWNERSHIP, OWNERSHIP_STRENGTH).
 
-ghost use Rattle.std.specs.Prelude.{◌≡◌, None, Some, option_copied, if◌then◌else◌};
+ghost use Rattle.std.specs.Prelude.{◌≡◌, [], None, Some, option_copied, if◌then◌else◌};
 ghost use Rattle.std.specs.List.{list_all};
 ghost use Rattle.dds_base.specs.Ownership.{is_above, outranks, writer_of};
-ghost use Rattle.dds_owner.specs.Ranking.{accepted_among, gives_way, leader_after, leader_among};
+ghost use Rattle.dds_owner.specs.Ranking.{accepted_among, gives_way, fixed_precedence, leader_after, leader_among};
 
 use crate::registration::Registration;
 use dds_base::{ChangeKind, Handle, MatchedWriter, OwnershipQos, ReaderQos};
@@ -28,7 +28,7 @@ fn matched_writer(writers: &[MatchedWriter], handle: Handle) -> Option<&MatchedW
 }
 
 fn is_stronger(a: &MatchedWriter, b: &MatchedWriter) -> bool
-    ensures { result ≡ is_above (Some a.now) (Some b.now) }
+    ensures { result ≡ is_above (Some (fixed_precedence a.now)) (Some (fixed_precedence b.now)) }
 {
     let by_prefix = b.guid.prefix.0.cmp(&a.guid.prefix.0);
     let by_guid = by_prefix.then(b.guid.entity.0.cmp(&a.guid.entity.0));
@@ -36,7 +36,7 @@ fn is_stronger(a: &MatchedWriter, b: &MatchedWriter) -> bool
 }
 
 fn is_outranking(qos: &ReaderQos, first: Handle, second: Handle) -> bool
-    ensures { result ≡ outranks qos.now first second }
+    ensures { result ≡ outranks qos.now [] first second }
 {
     let writers = qos.writers.as_slice();
     match (

@@ -107,7 +107,7 @@ abbrev pub OwnersExist : Type 0
 OwnersExist = (config : Config) (peer : PeerConfig) (reader : ReaderConfig) (i : Key) (h : List Happening)
     → check_refusal config.peers ≡ None → Contains config.peers peer
     → Contains peer.readers reader → registered_writers (reader_qos config.peers reader) i h ≢ []
-    → IsSome (owner_of (reader_qos config.peers reader) (registered_writers (reader_qos config.peers reader) i h))
+    → IsSome (owner_of (reader_qos config.peers reader) h (registered_writers (reader_qos config.peers reader) i h))
 
 -- what a peer does with a packet by the rules of the protocol rests on what that packet and earlier ones claim, and
 -- what it knows then is what they claim

@@ -11,7 +11,7 @@ use Rattle.dds_owner.proofs.owners.Owners.owner.Goals.{After-leader_of}
 
 -- the owner is the leader, where it is alone
 alone : (c : After-leader_of) → (i : Key) (h : List Happening) → StandsFor c.args.self.now c.args.qos.now i h
-    → sole c.leader_of.result ≡ owner_of c.args.qos.now (registered_writers c.args.qos.now i h)
+    → sole c.leader_of.result ≡ owner_of c.args.qos.now h (registered_writers c.args.qos.now i h)
 alone c i h given =
     ap (λ (l : Option Leader). sole l) c.leader_of.ensures
     ∙ owner-found c.args.qos.now i h c.deref.result.now
