@@ -20,6 +20,7 @@ use Rattle.dds_base.specs.declared.mask.Masks.{Masks}
 use Rattle.dds_base.specs.declared.qos.ReaderQos.{ReaderQos}
 use Rattle.dds_base.specs.declared.qos.MatchedWriter.{MatchedWriter}
 use Rattle.dds_base.specs.declared.qos.OwnershipQos.TheVariants.{Shared, Exclusive}
+use Rattle.dds_base.specs.declared.qos.ReliabilityQos.TheVariants.{Reliable}
 use Rattle.dds_base.specs.declared.qos.HistoryQos.TheVariants.{KeepAll, KeepLast}
 use Rattle.dds_base.specs.declared.selection.Selection.{Selection}
 use Rattle.dds_base.specs.declared.selection.Selection.TheVariants as selection
@@ -56,12 +57,21 @@ writer_b = writer_of 3
 
 abbrev shared : ReaderQos
 shared =
-    record { ownership = Shared; history = KeepAll; max_samples = None; max_instances = None; writers = writer_a ∷ [] }
+    record {
+      ownership = Shared;
+      reliability = Reliable;
+      history = KeepAll;
+      max_samples = None;
+      max_instances = None;
+      writers = writer_a
+          ∷ [];
+    }
 
 abbrev exclusive : ReaderQos
 exclusive =
     record {
       ownership = Exclusive;
+      reliability = Reliable;
       history = KeepAll;
       max_samples = None;
       max_instances = None;
@@ -73,6 +83,7 @@ abbrev last_two : ReaderQos
 last_two =
     record {
       ownership = Shared;
+      reliability = Reliable;
       history = KeepLast 2;
       max_samples = None;
       max_instances = None;
@@ -197,6 +208,7 @@ abbrev limited : ReaderQos
 limited =
     record {
       ownership = Shared;
+      reliability = Reliable;
       history = KeepAll;
       max_samples = Some 1;
       max_instances = None;

@@ -9,6 +9,7 @@ use Rattle.dds_base.specs.declared.happening.StatusKind.TheVariants.{LivelinessC
 use Rattle.dds_base.specs.declared.qos.ReaderQos.{ReaderQos}
 use Rattle.dds_base.specs.declared.qos.MatchedWriter.{MatchedWriter}
 use Rattle.dds_base.specs.declared.qos.OwnershipQos.TheVariants.{Shared}
+use Rattle.dds_base.specs.declared.qos.ReliabilityQos.TheVariants.{Reliable}
 use Rattle.dds_base.specs.declared.qos.HistoryQos.TheVariants.{KeepAll}
 use Rattle.dds_base.specs.declared.status.LivelinessChangedStatus.{LivelinessChangedStatus}
 use Rattle.dds_base.specs.Liveliness.{dead_at, after_deaths, liveliness_changed_status}
@@ -25,6 +26,7 @@ leased lease = record {
 abbrev three : ReaderQos
 three = record {
   ownership = Shared;
+  reliability = Reliable;
   history = KeepAll;
   max_samples = None;
   max_instances = None;

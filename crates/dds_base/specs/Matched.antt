@@ -1,12 +1,14 @@
 -- Which writers and readers are matched: those of one topic, each reader's writers and each writer's readers in the
 -- order of the configuration.
 --
--- DDS 1.4, 2.2.2.3 (a Topic is what publications and subscriptions have in common); RTPS 2.5, 8.4 (matched_writers,
--- matched_readers).
-use Rattle.std.specs.Prelude.{ℕ, ◌+◌, ◌==◌, Bool, if◌then◌else◌, List, [], ◌∷◌, ◌++◌}
+-- DDS 1.4, 2.2.2.3 (a Topic is what publications and subscriptions have in common), 2.2.3 (RELIABILITY); RTPS 2.5, 8.4
+-- (matched_writers, matched_readers).
+use Rattle.std.specs.Prelude.{ℕ, ◌+◌, ◌==◌, Bool, true, if◌then◌else◌, List, [], ◌∷◌, ◌++◌}
 use Rattle.dds_base.specs.declared.config.PeerConfig.{PeerConfig}
 use Rattle.dds_base.specs.declared.config.WriterConfig.{WriterConfig}
 use Rattle.dds_base.specs.declared.config.ReaderConfig.{ReaderConfig}
+use Rattle.dds_base.specs.declared.qos.ReliabilityQos.{ReliabilityQos}
+use Rattle.dds_base.specs.declared.qos.ReliabilityQos.TheVariants.{Reliable}
 
 -- two topic numbers name one topic
 abbrev pub same_topic : ℕ → ℕ → Bool
@@ -37,6 +39,11 @@ of_writers_in = of_ends_in (λ (w : WriterConfig). w.topic)
 abbrev pub of_matched_writers : {X : Type 0} → (ℕ → PeerConfig → ℕ → WriterConfig → X) → ℕ → ℕ → List PeerConfig
     → List X
 of_matched_writers = of_matched_ends (λ (p : PeerConfig). p.writers) (λ (w : WriterConfig). w.topic)
+
+-- a reader of this policy is reliable: it asks for what it misses, and acknowledges what came (2.2.3, RELIABILITY); so
+-- is each that can be configured
+abbrev pub is_reliable : ReliabilityQos → Bool
+is_reliable Reliable = true
 
 -- what is told of each reader of the topic among these, by its number, which counts on from this one
 abbrev pub of_readers_in : {X : Type 0} → (ℕ → ReaderConfig → X) → ℕ → ℕ → List ReaderConfig → List X

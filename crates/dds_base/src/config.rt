@@ -5,9 +5,10 @@
 ghost use Rattle.std.specs.Prelude.{◌≡◌, None, true, pos, negsuc};
 ghost use Rattle.dds_base.specs.declared.qos.OwnershipQos.TheVariants.{Shared};
 ghost use Rattle.dds_base.specs.declared.qos.HistoryQos.TheVariants.{KeepAll};
+ghost use Rattle.dds_base.specs.declared.qos.ReliabilityQos.TheVariants.{Reliable};
 
 use crate::guid::{EntityId, GuidPrefix};
-use crate::qos::{HistoryQos, OwnershipQos};
+use crate::qos::{HistoryQos, OwnershipQos, ReliabilityQos};
 use crate::sequence::Sequence;
 
 /// A writer of a peer. `WriterConfig::new` has the usual policies.
@@ -46,6 +47,8 @@ pub struct ReaderConfig {
     pub topic: u32,
     /// The same as that of each matched writer (DDS 1.4, 2.2.3, OWNERSHIP).
     pub ownership: OwnershipQos,
+    /// Each writer is reliable, so it takes every reader (DDS 1.4, 2.2.3, RELIABILITY).
+    pub reliability: ReliabilityQos,
     /// A depth is at least 1, and at most `max_samples` where that is a limit.
     pub history: HistoryQos,
     /// How many samples with data it may hold: positive, or -1 for no limit (DDS 1.4, 2.2.3, RESOURCE_LIMITS,
@@ -88,8 +91,8 @@ impl WriterConfig {
 }
 
 impl ReaderConfig {
-    /// A shared reader that keeps all samples, without a limit, and takes every lease: the standard's defaults but for
-    /// HISTORY and RELIABILITY.
+    /// A shared, reliable reader that keeps all samples, without a limit, and takes every lease: the standard's
+    /// defaults but for HISTORY and RELIABILITY.
     ///
     /// DDS 1.4, 2.2.3 (supported QoS).
     pub fn new(entity: EntityId, topic: u32) -> ReaderConfig
@@ -97,6 +100,7 @@ impl ReaderConfig {
           entity = entity;
           topic = topic;
           ownership = Shared;
+          reliability = Reliable;
           history = KeepAll;
           max_samples = negsuc 0;
           max_instances = negsuc 0;
@@ -107,6 +111,7 @@ impl ReaderConfig {
             entity,
             topic,
             ownership: OwnershipQos::Shared,
+            reliability: ReliabilityQos::Reliable,
             history: HistoryQos::KeepAll,
             max_samples: -1,
             max_instances: -1,

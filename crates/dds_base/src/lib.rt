@@ -81,7 +81,7 @@ pub use mask::{InstanceStateMask, Masks, SampleStateMask, ViewStateMask};
 pub use moment::Moment;
 pub use number::index_of;
 pub use octets::Octets;
-pub use qos::{HistoryQos, MatchedWriter, OwnershipQos, ReaderQos};
+pub use qos::{HistoryQos, MatchedWriter, OwnershipQos, ReaderQos, ReliabilityQos};
 pub use sample::{InstanceState, Picked, Sample, SampleInfo, SampleState, ViewState};
 pub use selection::{Scope, Selection};
 pub use sequence::Sequence;

@@ -27,6 +27,15 @@ pub enum HistoryQos {
     KeepLast(u32),
 }
 
+/// Whether a reader gets each change, or may miss some. `BEST_EFFORT` is not supported.
+///
+/// DDS 1.4, 2.2.3 (RELIABILITY).
+#[derive(Clone, Copy, Debug)]
+pub enum ReliabilityQos {
+    /// Each change that its writer keeps: what it misses it asks for, and what came it acknowledges.
+    Reliable,
+}
+
 /// A writer that a reader is matched with.
 #[derive(Clone, Copy)]
 pub struct MatchedWriter {
@@ -45,6 +54,8 @@ pub struct MatchedWriter {
 pub struct ReaderQos {
     /// Which writers may change an instance.
     pub ownership: OwnershipQos,
+    /// Whether it asks for what it misses.
+    pub reliability: ReliabilityQos,
     /// How many samples of an instance are kept.
     pub history: HistoryQos,
     /// How many samples with data may be present (DDS 1.4, 2.2.3, RESOURCE_LIMITS).

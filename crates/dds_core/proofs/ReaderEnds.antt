@@ -30,6 +30,7 @@ abbrev pub qos_with : ReaderConfig → List MatchedWriter → ReaderQos
 qos_with r writers =
     record {
       ownership = r.ownership;
+      reliability = r.reliability;
       history = r.history;
       max_samples = limit_of r.max_samples;
       max_instances = limit_of r.max_instances;
@@ -41,6 +42,7 @@ pub qos_as : (r : ReaderConfig) (samples instances : Option ℕ) (writers matche
     → ◌≡◌ {A = ReaderQos}
     (record {
       ownership = r.ownership;
+      reliability = r.reliability;
       history = r.history;
       max_samples = samples;
       max_instances = instances;

@@ -121,6 +121,7 @@ impl ReaderEnd {
         };
         let qos = ReaderQos {
             ownership: config.ownership,
+            reliability: config.reliability,
             history: config.history,
             max_samples: limit_of(config.max_samples),
             max_instances: limit_of(config.max_instances),

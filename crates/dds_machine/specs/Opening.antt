@@ -17,7 +17,8 @@ use Rattle.dds_machine.specs.Part.{ReaderProxy, WriterProxy, Writer, Part, nothi
 use Rattle.dds_base.specs.Checked.{limit_of}
 use Rattle.dds_machine.specs.Machine.{Machine}
 
--- what a writer of the topic has of its matched readers; the first of these peers has this number
+-- what a writer of the topic has of its matched reliable readers, which are all that it is matched with (is_reliable);
+-- the first of these peers has this number
 abbrev pub matched_readers : ℕ → ℕ → List PeerConfig → List ReaderProxy
 matched_readers topic peer ps =
     of_matched_readers (λ i p n r. record { reader = record { peer = i; number = n }; acknowledged = 1 }) topic peer ps
@@ -42,6 +43,7 @@ writer_qos topic ps = of_matched_writers
 abbrev pub reader_qos : List PeerConfig → ReaderConfig → ReaderQos
 reader_qos peers r = record {
   ownership = r.ownership;
+  reliability = r.reliability;
   history = r.history;
   max_samples = limit_of r.max_samples;
   max_instances = limit_of r.max_instances;

@@ -10,6 +10,7 @@ use Rattle.dds_base.specs.declared.happening.Happening.{Happening}
 use Rattle.dds_base.specs.declared.qos.HistoryQos.{HistoryQos}
 use Rattle.dds_base.specs.declared.qos.HistoryQos.TheVariants.{KeepAll}
 use Rattle.dds_base.specs.declared.qos.OwnershipQos.TheVariants.{Shared}
+use Rattle.dds_base.specs.declared.qos.ReliabilityQos.TheVariants.{Reliable}
 use Rattle.dds_base.specs.declared.qos.ReaderQos.{ReaderQos}
 use Rattle.dds_base.specs.Written.{Written, changes_of, counts_of}
 use Rattle.dds_base.specs.Kept.{WriterHistory}
@@ -95,8 +96,14 @@ no_writer = record {
 -- in the place of a reader that is not there: one at which nothing has happened, and that is matched with nobody
 abbrev pub no_reader : Reader
 no_reader = record {
-  qos = record
-      { ownership = Shared; history = KeepAll; max_samples = None; max_instances = None; writers = [] };
+  qos = record {
+    ownership = Shared;
+    reliability = Reliable;
+    history = KeepAll;
+    max_samples = None;
+    max_instances = None;
+    writers = [];
+  };
   happened =
       [];
   seen = nothing_seen;

@@ -11,6 +11,7 @@ use Rattle.dds_base.specs.declared.guid.EntityId.{EntityId}
 use Rattle.dds_base.specs.declared.qos.HistoryQos.{HistoryQos}
 use Rattle.dds_base.specs.declared.qos.HistoryQos.TheVariants.{KeepAll}
 use Rattle.dds_base.specs.declared.qos.OwnershipQos.TheVariants.{Shared}
+use Rattle.dds_base.specs.declared.qos.ReliabilityQos.TheVariants.{Reliable}
 use Rattle.rtps_wire.specs.declared.data.Data.{Data as DataBody}
 use Rattle.rtps_wire.specs.declared.submessage.Submessage.TheVariants.{Pad, InfoDst, InfoTs, Data}
 use Rattle.dds_machine.specs.declared.endpoint.Endpoint.{Endpoint}
@@ -53,6 +54,7 @@ reader entity topic =
       entity = entity;
       topic = topic;
       ownership = Shared;
+      reliability = Reliable;
       history = KeepAll;
       max_samples = negsuc 0;
       max_instances = negsuc 0;

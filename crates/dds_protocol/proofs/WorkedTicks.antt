@@ -6,6 +6,7 @@ use Rattle.dds_base.specs.declared.happening.Happening.TheVariants.{Heard, Died}
 use Rattle.dds_base.specs.declared.qos.HistoryQos.TheVariants.{KeepAll}
 use Rattle.dds_base.specs.declared.qos.MatchedWriter.{MatchedWriter}
 use Rattle.dds_base.specs.declared.qos.OwnershipQos.TheVariants.{Shared}
+use Rattle.dds_base.specs.declared.qos.ReliabilityQos.TheVariants.{Reliable}
 use Rattle.dds_base.specs.Written.{Asserted, Ticked}
 use Rattle.rtps_wire.specs.declared.submessage.Submessage.TheVariants.{InfoDst, Heartbeat}
 use Rattle.dds_machine.specs.Ticks.{RefusesTick, after_tick, is_deadly, tick_refusal}
@@ -33,6 +34,7 @@ part = record no_part {
       qos =
           record {
             ownership = Shared;
+            reliability = Reliable;
             history = KeepAll;
             max_samples = None;
             max_instances = None;

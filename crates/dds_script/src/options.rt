@@ -1,7 +1,7 @@
 //! The options of a writer or a reader.
 
 use crate::number::{decimal, decimal_i32, decimal_u32};
-use dds_base::{EntityId, HistoryQos, OwnershipQos, ReaderConfig, WriterConfig};
+use dds_base::{EntityId, HistoryQos, OwnershipQos, ReaderConfig, ReliabilityQos, WriterConfig};
 
 /// What the options of a writer or a reader say.
 #[derive(Clone, Copy)]
@@ -123,6 +123,7 @@ pub fn reader_config(entity: EntityId, options: Options) -> ReaderConfig {
         entity,
         topic: options.topic,
         ownership: options.ownership,
+        reliability: ReliabilityQos::Reliable,
         history: options.history,
         max_samples: options.max_samples,
         max_instances: options.max_instances,

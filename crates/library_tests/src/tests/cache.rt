@@ -9,8 +9,8 @@ use crate::tests::rows::{Subject, Words, expect_rows, number_of, octets_of, word
 use bitflags::Flags;
 use dds_base::{
     Arrival, Change, ChangeKind, Code, EntityId, Guid, GuidPrefix, Handle, HistoryQos, Key, Masks,
-    MatchedWriter, Moment, Octets, OwnershipQos, ReaderQos, Sample, SampleInfo, SampleStateMask,
-    Selection, Sequence, Sn,
+    MatchedWriter, Moment, Octets, OwnershipQos, ReaderQos, ReliabilityQos, Sample, SampleInfo,
+    SampleStateMask, Selection, Sequence, Sn,
 };
 use dds_cache::{AccessKind, Everything, ReaderCache};
 use readers::READERS;
@@ -39,6 +39,7 @@ fn qos_of_reader(
     let writers = [writer(1), writer(2)].to_vec(alloc)?;
     Ok(ReaderQos {
         ownership,
+        reliability: ReliabilityQos::Reliable,
         history,
         max_samples: None,
         max_instances: None,

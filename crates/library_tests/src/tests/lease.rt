@@ -3,7 +3,7 @@
 use crate::tests::rows::{Subject, expect_rows, number_of, words_of};
 use dds_base::{
     EntityId, Guid, GuidPrefix, Handle, HistoryQos, MatchedWriter, Moment, OwnershipQos, ReaderQos,
-    Sequence,
+    ReliabilityQos, Sequence,
 };
 use dds_lease::Leases;
 use std::alloc::Global;
@@ -66,6 +66,7 @@ fn matched(alloc: Global, operands: &str) -> Vec<MatchedWriter> {
 fn qos_of(alloc: Global, operands: &str) -> ReaderQos {
     ReaderQos {
         ownership: OwnershipQos::Shared,
+        reliability: ReliabilityQos::Reliable,
         history: HistoryQos::KeepAll,
         max_samples: None,
         max_instances: None,

@@ -3,7 +3,7 @@
 use crate::tests::rows::{Subject, expect_rows, number_of, words_of};
 use dds_base::{
     Arrival, Change, ChangeKind, EntityId, Guid, GuidPrefix, Handle, HistoryQos, Key,
-    MatchedWriter, Moment, Octets, OwnershipQos, ReaderQos, Sequence, Sn,
+    MatchedWriter, Moment, Octets, OwnershipQos, ReaderQos, ReliabilityQos, Sequence, Sn,
 };
 use dds_owner::Owners;
 use std::alloc::Global;
@@ -94,6 +94,7 @@ fn matched(alloc: Global, operands: &str) -> Vec<MatchedWriter> {
 fn qos_of(alloc: Global, operands: &str) -> ReaderQos {
     ReaderQos {
         ownership: OwnershipQos::Exclusive,
+        reliability: ReliabilityQos::Reliable,
         history: HistoryQos::KeepAll,
         max_samples: None,
         max_instances: None,

@@ -9,7 +9,7 @@ use crate::tests::listeners::Latest;
 use crate::tests::rows::{Subject, Words, expect_rows, number_of, octets_of, words_of};
 use dds_base::{
     Code, Config, EntityId, GuidPrefix, HistoryQos, Key, Masks, Moment, Octets, OwnershipQos,
-    PeerConfig, ReaderConfig, Selection, Sequence, WriterConfig,
+    PeerConfig, ReaderConfig, ReliabilityQos, Selection, Sequence, WriterConfig,
 };
 use dds_conditions::{Cond, Filter};
 use dds_notices::Listener;
@@ -37,6 +37,7 @@ const READER: ReaderConfig = ReaderConfig {
     entity: EntityId([0, 0, 1, 7]),
     topic: 0,
     ownership: OwnershipQos::Shared,
+    reliability: ReliabilityQos::Reliable,
     history: HistoryQos::KeepAll,
     max_samples: -1,
     max_instances: -1,

@@ -2,8 +2,8 @@
 
 use crate::tests::rows::number_of;
 use dds_base::{
-    Config, EntityId, GuidPrefix, HistoryQos, OwnershipQos, PeerConfig, ReaderConfig, Sequence,
-    WriterConfig,
+    Config, EntityId, GuidPrefix, HistoryQos, OwnershipQos, PeerConfig, ReaderConfig,
+    ReliabilityQos, Sequence, WriterConfig,
 };
 use std::alloc::Global;
 
@@ -76,6 +76,7 @@ impl End {
             entity: self.entity(number),
             topic: self.topic,
             ownership: self.ownership,
+            reliability: ReliabilityQos::Reliable,
             history: self.history,
             max_samples: self.max_samples,
             max_instances: self.max_instances,
