@@ -2,7 +2,7 @@
 //!
 //! RTPS 2.5, 8.4.7 (StatefulWriter, ReaderProxy).
 
-ghost use Rattle.std.specs.Prelude.{◌≡◌, ◌≤◌, ◌<◌, ◌+◌, ◌-◌, ◌^◌, pos, [], nat_lt, length, vec_capacity, None, Some, IfOk, IfErr, OnOk, OnErr};
+ghost use Rattle.std.specs.Prelude.{◌≡◌, ◌≤◌, ◌<◌, ◌+◌, ◌-◌, ◌^◌, pos, true, false, [], nat_lt, length, vec_capacity, None, Some, IfOk, IfErr, OnOk, OnErr};
 ghost use Rattle.std.specs.Option.{option_copied};
 ghost use Rattle.dds_base.specs.declared.code.Code.TheVariants.{Memory};
 ghost use Rattle.dds_base.specs.Kept.{WriterHistory, append_refusal, first_kept, kept_change};
@@ -119,11 +119,11 @@ impl StatefulWriter {
         is_registered(&self.registered, key)
     }
 
-    /// Registers an instance.
+    /// Registers an instance, whether or not it is registered.
     ///
     /// # Errors
     ///
-    /// `Memory` where a growth was refused; the writer is then as it was.
+    /// `Memory` where it is not registered yet, and a growth was refused; the writer is then as it was.
     ///
     /// DDS 1.4, 2.2.2.4 (register_instance).
     pub fn register(&mut self, key: Key) -> Result<(), Code>
@@ -136,7 +136,13 @@ impl StatefulWriter {
         ensures err { OnErr result (self.new ≡ self.old) }
         // The only refusal is for want of memory.
         ensures memory { IfErr result (λ code. code ≡ Memory) }
+        // It is refused only where the instance is not registered yet.
+        ensures new { (s : WriterState) → StandsFor self.old s
+            → OnErr result (is_key_registered key s.written ≡ false) }
     {
+        if is_registered(&self.registered, key) {
+            return Ok(());
+        }
         self.registered.reserve(1)?;
         register(&mut self.registered, key);
         Ok(())
@@ -369,10 +375,15 @@ impl StatefulWriter {
         Some(self.next_heartbeat())
     }
 
-    /// Whether an ACKNACK of this reader is applied.
-    fn applies(&self, reader: usize, base: Sn, count: i32) -> bool
-        requires { reader < reader_count self.now }
-        ensures { (s : WriterState) → StandsFor self.now s
+    /// Whether an ACKNACK of this reader, by its index from 0, is applied: its count is greater than that of the last
+    /// one applied, and its base is no more than one past the last number.
+    ///
+    /// RTPS 2.5, 8.3.8 (AckNack), 8.4.7 (ReaderProxy).
+    pub fn applies(&self, reader: usize, base: Sn, count: i32) -> bool
+        // There is such a reader.
+        requires reader { reader < reader_count self.now }
+        // It is so exactly where the writer that it stands for applies it.
+        ensures applied { (s : WriterState) → StandsFor self.now s
             → result ≡ is_applied s reader base count }
     {
         is_later(self.counts[reader], count)
@@ -462,7 +473,7 @@ impl StatefulWriter {
     ///
     /// # Errors
     ///
-    /// `Memory` where a growth was refused; the writer is then as it was.
+    /// `Memory` where it is applied and asks for something, and a growth was refused; the writer is then as it was.
     ///
     /// RTPS 2.5, 8.3.8 (AckNack), 8.4.7 (ReaderProxy).
     pub fn on_acknack(
@@ -490,8 +501,17 @@ impl StatefulWriter {
         ensures err { OnErr result (self.new ≡ self.old) }
         // The only refusal is for want of memory.
         ensures memory { IfErr result (λ code. code ≡ Memory) }
+        // It is refused only where the ACKNACK is applied, and asks for something.
+        ensures asked { (s : WriterState) → StandsFor self.old s → OnErr result
+            ((is_applied s reader base count ≡ true) × (0 < span set.now.members)) }
     {
         let mut room = Vec::new(self.alloc);
+        if !self.applies(reader, base, count) {
+            return Ok(Answered {
+                acknowledged: None,
+                answers: room,
+            });
+        }
         room.reserve(set.bits())?;
         Ok(self.take_acknack(reader, base, set, count, room))
     }

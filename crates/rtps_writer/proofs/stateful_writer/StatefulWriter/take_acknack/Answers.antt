@@ -9,12 +9,12 @@ pub returns-then-applies-clause-stands : goal.returns-then-applies-clause-stands
 returns-then-applies-clause-stands c = λ s given.
     subst (λ (z : ℤ). StandsFor c.apply-acknowledged.new.self (after_acknack s c.args.reader c.args.base z))
     (to_z-of_z w32 c.args.count c.ranges.count)
-    (stands-applied _ s c.args.reader c.args.base _ (sym (c.applies.ensures s given) ∙ c.if-applies.true)
+    (stands-applied _ s c.args.reader c.args.base _ (sym (c.applies.ensures.applied s given) ∙ c.if-applies.true)
     (c.apply-acknowledged.ensures.stands s given))
 
 pub returns-then-applies-clause-acknowledged : goal.returns-then-applies-clause-acknowledged
 returns-then-applies-clause-acknowledged c = λ s given.
-    newly-applied s c.args.reader c.args.base _ _ (sym (c.applies.ensures s given) ∙ c.if-applies.true)
+    newly-applied s c.args.reader c.args.base _ _ (sym (c.applies.ensures.applied s given) ∙ c.if-applies.true)
     (c.apply-acknowledged.ensures.acknowledged s given)
     ∙ ap (λ (z : ℤ). newly_acknowledged s (after_acknack s c.args.reader c.args.base z) c.args.reader)
     (to_z-of_z w32 c.args.count c.ranges.count)
@@ -22,7 +22,7 @@ returns-then-applies-clause-acknowledged c = λ s given.
 pub returns-then-applies-clause-answers : goal.returns-then-applies-clause-answers
 returns-then-applies-clause-answers c = λ s given.
     answers-applied s c.args.reader c.args.base c.args.set.now _ _
-    (sym (c.applies.ensures s given) ∙ c.if-applies.true)
+    (sym (c.applies.ensures.applied s given) ∙ c.if-applies.true)
     (c.answer.ensures _ (c.apply-acknowledged.ensures.stands s given))
     ∙ ap (λ (z : ℤ). acknack_answers s c.args.reader c.args.base c.args.set.now z)
     (to_z-of_z w32 c.args.count c.ranges.count)
@@ -32,4 +32,4 @@ returns-else-applies-clause-answers c = λ s given.
     c.requires.none
     ∙ sym (answers-ignored s c.args.reader c.args.base c.args.set.now c.args.count
     (ap (λ (z : ℤ). is_applied s c.args.reader c.args.base z) (sym (to_z-of_z w32 c.args.count c.ranges.count))
-    ∙ (sym (c.applies.ensures s given) ∙ c.if-applies.false)))
+    ∙ (sym (c.applies.ensures.applied s given) ∙ c.if-applies.false)))
