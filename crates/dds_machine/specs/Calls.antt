@@ -21,7 +21,7 @@ use Rattle.dds_base.specs.Liveliness.{alive_count, liveliness_changed_status, no
 use Rattle.dds_base.specs.Refusal.{Refuses}
 use Rattle.dds_base.specs.Selection.{picked_by}
 use Rattle.dds_base.specs.Statuses.{lost_count, sample_lost_status}
-use Rattle.dds_base.specs.Written.{Written, Registered, Changed, Asserted, LookedAt, liveliness_lost_status}
+use Rattle.dds_base.specs.Written.{Written, Registered, Changed, Asserted, LookedAt, is_key_registered, liveliness_lost_status}
 use Rattle.dds_base.specs.Number.{at_number}
 use Rattle.dds_machine.specs.declared.call.Call.{Call}
 use Rattle.dds_machine.specs.declared.call.Call.TheVariants.{Register, Write, Dispose, Unregister, AssertLiveliness, Read, Take, GetKeyValue, LookupInstance, GetSampleLost, GetLivelinessChanged, GetLivelinessLost, ReadByCondition, TakeByCondition, CreateReadCondition, CreateQueryCondition, CreateGuardCondition, SetTriggerValue, DeleteCondition, GetTriggerValue, CreateWaitSet, DeleteWaitSet, AttachCondition, DetachCondition, GetConditions, WaitBegin, WaitLook, WaitEnd, SetEnabledStatuses, GetStatusChanges}
@@ -176,7 +176,9 @@ AnswersByCondition entry None test old reader selection reply dds =
 -- assertion need no memory. These are the calls ..
 abbrev pub Answers : Tests → Part → Call → Reply → Dds → Type 0
 -- .. of a writer
-Answers tests old (Register writer key) reply dds = IsDoneUnless (writer_refusal old writer) reply old.dds old.dds dds
+Answers tests old (Register writer key) reply dds =
+    IsAnsweredInMemory (not (is_key_registered key (own_writer old writer).written)) (writer_refusal old writer) Done
+    old.dds.watch old reply dds
 Answers tests old (Write writer key value) reply dds =
     IsDoneUnless (write_refusal old writer key value) reply old.dds old.dds dds
 Answers tests old (Dispose writer key) reply dds =
