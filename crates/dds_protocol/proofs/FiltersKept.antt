@@ -34,7 +34,7 @@ use Rattle.dds_machine.specs.Part.{Part, Dds, Reader as ReaderState, nothing_see
 use Rattle.dds_machine.specs.Moves.{Grounds, IsMove, AreMoves}
 use Rattle.dds_protocol.specs.Claims.{Receiver, after_submessage}
 use Rattle.dds_protocol.specs.Receipt.{TakesUp}
-use Rattle.dds_machine.specs.Refusals.{writer_refusal, write_refusal, dispose_refusal, unregister_refusal}
+use Rattle.dds_machine.specs.Refusals.{write_refusal, dispose_refusal, unregister_refusal}
 use Rattle.dds_machine.specs.Calls.{IsDoneUnless, IsAnswered, IsAnsweredWatching, IsAnsweredInMemory, AnswersLook, AnswersAccess, AnswersByCondition, Answers}
 use Rattle.dds_machine.specs.Opening.{opening_writer, reader_qos}
 use Rattle.dds_protocol.specs.Opening.{opening_peers, opening_world}
@@ -108,7 +108,7 @@ by_condition entry None test old k selection reply new a = accessed entry test o
 
 answers_keep : (tests : Tests) (old : Part) (c : Call) (reply : Reply) (new : Dds) → Answers tests old c reply new
     → SameHanded old.dds new
-answers_keep tests old (Register v key) reply new a = done_or_not (writer_refusal old v) reply old.dds new a
+answers_keep tests old (Register v key) reply new a = in_memory _ _ _ _ old reply new refl a
 answers_keep tests old (Write v key value) reply new a = done_or_not (write_refusal old v key value) reply old.dds new a
 answers_keep tests old (Dispose v key) reply new a = done_or_not (dispose_refusal old v key) reply old.dds new a
 answers_keep tests old (Unregister v key) reply new a = done_or_not (unregister_refusal old v key) reply old.dds new a

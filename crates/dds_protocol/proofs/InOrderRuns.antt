@@ -33,7 +33,7 @@ use Rattle.dds_machine.specs.Numbered.{numbered, with_numbered, HasNumber}
 use Rattle.dds_machine.specs.Part.{same_endpoint, WriterProxy, Reader, Dds, Part, no_reader, no_part, own_writer, own_proxies, own_reader, at_reader, at_writer, row_of, place_of, with_place, with_heard, with_acknowledged, publication_among, writer_changes, nothing_seen, Seen}
 use Rattle.dds_machine.specs.Moves.{Grounds, as_to, match_of, IsMatchedAt, position_at, AreMoves, Places, Hears, DeliveryStep}
 use Rattle.dds_machine.specs.Ticks.{TickStep, reader_ticked}
-use Rattle.dds_machine.specs.Refusals.{writer_refusal, write_refusal, dispose_refusal, unregister_refusal}
+use Rattle.dds_machine.specs.Refusals.{write_refusal, dispose_refusal, unregister_refusal}
 use Rattle.dds_machine.specs.Calls.{Effect, nothing, writes, effect, effect_of, after_look, seen_lost, seen_liveliness, with_happening, IsDoneUnless, AnswersAccess, AnswersByCondition, AnswersLook, IsAnswered, IsAnsweredWatching, IsAnsweredInMemory, Answers, CallStep}
 use Rattle.dds_machine.specs.Watching.{Test, Tests}
 use Rattle.dds_machine.specs.Machine.{Machine, AllTests, part_at, writer_at, place_at, grounds_of, Step}
@@ -343,7 +343,7 @@ by_condition entry same None test old k selection reply new r h a =
 
 answers_came : (tests : Tests) (old : Part) (c : Call) (reply : Reply) (new : Dds) (r : ℕ) → HasNumber old.dds.readers r
     → Answers tests old c reply new → SameCame old.dds new r
-answers_came tests old (Register v key) reply new r h a = done_or_not (writer_refusal old v) reply old.dds new r h a
+answers_came tests old (Register v key) reply new r h a = in_memory_came _ _ _ _ old reply new r h a
 answers_came tests old (Write v key value) reply new r h a =
     done_or_not (write_refusal old v key value) reply old.dds new r h a
 answers_came tests old (Dispose v key) reply new r h a = done_or_not (dispose_refusal old v key) reply old.dds new r h a

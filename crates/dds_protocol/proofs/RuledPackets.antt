@@ -13,7 +13,7 @@ use Rattle.rtps_wire.specs.declared.acknack.AckNack.{AckNack as AckNackBody}
 use Rattle.rtps_wire.specs.declared.heartbeat.Heartbeat.{Heartbeat as HeartbeatBody}
 use Rattle.rtps_wire.specs.declared.message.Message.{Message}
 use Rattle.rtps_wire.specs.declared.submessage.Submessage.{Submessage}
-use Rattle.rtps_wire.specs.declared.submessage.Submessage.TheVariants.{Heartbeat, AckNack}
+use Rattle.rtps_wire.specs.declared.submessage.Submessage.TheVariants.{Data, Gap, Heartbeat, AckNack}
 use Rattle.rtps_wire.specs.Messages.{ReadsMessage, HasSubmessage}
 use Rattle.dds_machine.specs.declared.endpoint.Endpoint.{Endpoint}
 use Rattle.dds_machine.specs.declared.reply.Move.{Move}
@@ -21,11 +21,11 @@ use Rattle.dds_machine.specs.declared.reply.Report.{Report}
 use Rattle.dds_machine.specs.Numbered.{numbered, HasNumber}
 use Rattle.dds_machine.specs.Part.{Part, own_proxies, place_of, heard_of}
 use Rattle.dds_machine.specs.Moves.{IsMatchedAt, AreMoves}
-use Rattle.dds_protocol.specs.Claims.{Receiver, receiver_of, after_submessage, StandsAt, StandsIn, IsReader, IsToReader, ChangeIs, Says}
+use Rattle.dds_protocol.specs.Claims.{Receiver, receiver_of, after_submessage, StandsAt, StandsIn, IsReader, IsToReader, ChangeIs, Concerns, Says}
 use Rattle.dds_protocol.specs.Receipt.{prefix_of, MovesOver, TakesUp, IsNotTaken, Receives}
 use Rattle.dds_protocol.specs.Peer.{Delivery, IsApplied, IsBefore, claimed, packets_of}
 use Rattle.dds_protocol.specs.DueMessages.{Due}
-use Rattle.dds_protocol.specs.Protocol.{Known, State, InTurn, ReaderTakes, Takes, FollowsMessage, TakesPacket}
+use Rattle.dds_protocol.specs.Protocol.{Known, State, InTurn, ReaderTakes, Takes, MayNeedMemory, FollowsMessage, TakesPacket}
 use Rattle.dds_protocol.specs.Backed.{reader_at, IsClaimed, IsBacked}
 use Rattle.dds_protocol.proofs.Knowing.{claimed_on}
 use Rattle.dds_protocol.proofs.Composed.{front_or_rest, later_in}
@@ -333,6 +333,15 @@ all_of p index at rest s b =
     before_or_from (suc k) (suc n) =
         ⊎_elim (λ l. inl (omega (arith, l))) (λ g. inr (g.0, let e = g.1 in omega (arith, e))) (before_or_from k n)
 
+-- what may need memory concerns the peer
+concerned : (p : Packet) (own : GuidPrefix) (at : Receiver) (s : Submessage) (old : State)
+    → MayNeedMemory p.config own p.peer at s old → Concerns p.config own p.peer at s
+concerned p own at (AckNack a) old h = (record { peer = p.peer; number = h.0 }, h.1, h.2, refl)
+concerned p own at (Data d) old h = h
+concerned p own at (Gap g) old h = h
+concerned p own at (Heartbeat b) old h = h
+concerned p own at s old h = h
+
 follows_up : (p : Packet) (index : ℕ) (at : Receiver) (ss : List Submessage) → IsRest p index at ss
     → (old : State) (moves : List Move) (refused : Option ℕ) (dues : List Due) (new : State) → Backed p (Some index) old
     → FollowsMessage p.config (own p) p.peer index at ss old moves refused dues new
@@ -344,7 +353,7 @@ follows_up p index at [] rest old moves refused dues new b h = record {
       (subst (λ (s : State). Backed p None s) (sym h.1.2) (all_of p index at rest old b));
 }
 follows_up p index at (s ∷ ss) rest old moves refused dues new b (inl h) = record {
-  takes = inl (h.1.0, h.0, ap (λ (s : State). s.part) h.1.2);
+  takes = inl (h.1.0, h.0, ap (λ (s : State). s.part) h.1.2, concerned p (own p) at s old h.2);
   backed =
       subst (λ (o : Option ℕ). Backed p o new) (sym h.0) (subst (λ (s : State). Backed p (Some index) s) (sym h.1.2) b);
 }

@@ -169,7 +169,8 @@ loses_call w tests old call (Active cs) new replies h rest = rest
 loses_call w tests old call Waiting new replies h rest = rest
 loses_call w tests old call (StatusChanges mask) new replies h rest = rest
 loses_call w tests old call (Refused code) new replies h rest = rest
-loses_call w tests old (Register v k) (Reported report) new replies h rest = absurd h.answers
+loses_call w tests old (Register v k) (Reported report) new replies h rest =
+    absurd (in_memory_so _ _ _ _ old report new.dds (λ e. absurd cc) h.answers)
 loses_call w tests old (Write v k c) (Reported report) new replies h rest = absurd h.answers
 loses_call w tests old (Dispose v k) (Reported report) new replies h rest = absurd h.answers
 loses_call w tests old (Unregister v k) (Reported report) new replies h rest = absurd h.answers

@@ -209,17 +209,14 @@ taken_up-all =
       (refl, refl, refl),
     )))
 
--- where the message, the first DATA or the second one finds no memory, what stands before it was done, and nothing else
-taken_up-refused_0 : TakenUp [] (Some 0) begun
-taken_up-refused_0 = inl (refl, refl, refl)
-
+-- where the first DATA or the second one finds no memory, what stands before it was done, and nothing else
 taken_up-refused_2 : TakenUp [] (Some 2) begun
-taken_up-refused_2 = behind_the_infos [] (Some 2) begun (inl (refl, refl, refl))
+taken_up-refused_2 = behind_the_infos [] (Some 2) begun (inl (refl, refl, refl, (w1, r1, to_r1, refl)))
 
 taken_up-refused_4 : TakenUp (Place w1 1 2 [] ∷ []) (Some 4) (part_2 2 None came_1)
 taken_up-refused_4 =
     behind_the_infos (Place w1 1 2 [] ∷ []) (Some 4) (part_2 2 None came_1)
-    (behind_data_1 [] (Some 4) (part_2 2 None came_1) (inl (refl, refl, refl)))
+    (behind_data_1 [] (Some 4) (part_2 2 None came_1) (inl (refl, refl, refl, (w1, r1, to_r1, refl))))
 
 -- ---- what excuses nothing
 
@@ -245,12 +242,18 @@ taken_up-not_refused_5 moves new h =
     let within = refused-in 0 5 (receiver_of prefix_1) packet begun new moves h in let high = within.1 in
     absurd (omega arith)
 
--- what is refused at its first submessage does nothing
-taken_up-nothing_at_0 : (moves : List Move) (new : Part) → TakenUp moves (Some 0) new → moves ≡ []
-taken_up-nothing_at_0 moves new h =
-    ⊎_elim (λ stop. stop.0)
+-- an INFO_DST and an INFO_TS concern nobody, so none of them finds no memory
+taken_up-not_refused_0 : (moves : List Move) (new : Part) → TakenUp moves (Some 0) new → ⊥
+taken_up-not_refused_0 moves new h =
+    ⊎_elim (λ stop. stop.3)
     (λ on. let within = refused-in 1 0 to_2
     (InfoTs (Some 0) ∷ from_data_1) on.2 new on.1 on.6 in absurd (omega arith)) h
+
+taken_up-not_refused_1 : (moves : List Move) (new : Part) → TakenUp moves (Some 1) new → ⊥
+taken_up-not_refused_1 moves new h =
+    ⊎_elim (λ stop. stop.3)
+    (λ on. ⊎_elim (λ stop. stop.3)
+    (λ next. let within = refused-in 2 1 to_2 from_data_1 next.2 new next.1 next.6 in absurd (omega arith)) on.6) h
 
 -- what is taken up without a move, and is not refused at its first submessage, need move nothing there
 no_moves : (made later : List Move) → [] ≡ made ++ later → (made ≡ []) × (later ≡ [])

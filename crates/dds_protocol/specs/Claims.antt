@@ -120,6 +120,19 @@ pub record IsToWriter (config : Config) (own : GuidPrefix) (at : Receiver) (read
   pub to : IsWriter config own writer_id writer
   pub matched : to.end.topic ≡ from.end.topic
 
+-- the submessage concerns an endpoint of the peer of this number: it is a DATA, a GAP or a HEARTBEAT to a reader there,
+-- or an ACKNACK to a writer there
+abbrev pub Concerns : Config → GuidPrefix → ℕ → Receiver → Submessage → Type 0
+Concerns config own peer at (Data d) =
+    (writer reader : Endpoint) × IsToReader config own at d.reader_id d.writer_id writer reader × (reader.peer ≡ peer)
+Concerns config own peer at (Gap g) =
+    (writer reader : Endpoint) × IsToReader config own at g.reader_id g.writer_id writer reader × (reader.peer ≡ peer)
+Concerns config own peer at (Heartbeat h) =
+    (writer reader : Endpoint) × IsToReader config own at h.reader_id h.writer_id writer reader × (reader.peer ≡ peer)
+Concerns config own peer at (AckNack a) =
+    (writer reader : Endpoint) × IsToWriter config own at a.reader_id a.writer_id writer reader × (writer.peer ≡ peer)
+Concerns config own peer at submessage = ⊥
+
 -- the number is one that a GAP names: from gapStart to below the set's base, or in the set
 abbrev pub IsInGap : GapBody → ℕ → Type 0
 IsInGap g number = ((g.gap_start ≤ number) × (number < g.gap_list.base)) ⊎ (has_number g.gap_list number ≡ true)

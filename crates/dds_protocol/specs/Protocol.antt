@@ -29,7 +29,7 @@ use Rattle.dds_machine.specs.declared.reply.Move.{Move}
 use Rattle.dds_machine.specs.declared.reply.Move.TheVariants.{Place, Acknowledged, Heard}
 use Rattle.dds_machine.specs.Part.{Part, ReaderProxy, Writer, same_endpoint, own_writer, own_proxies, own_reader, acknowledged_of, with_acknowledged, with_place, with_heard, publication_among, at_reader, at_writer, writer_changes, history_of}
 use Rattle.dds_machine.specs.Moves.{IsMatchedAt, match_of}
-use Rattle.dds_protocol.specs.Claims.{Receiver, receiver_of, after_submessage, IsToReader, IsToWriter}
+use Rattle.dds_protocol.specs.Claims.{Receiver, receiver_of, after_submessage, IsToReader, IsToWriter, Concerns}
 use Rattle.dds_protocol.specs.Receipt.{prefix_of, IsNotTaken}
 use Rattle.dds_protocol.specs.DueMessages.{Due, answer_message, acknacks_due}
 
@@ -222,13 +222,21 @@ Takes config own peer at submessage old moves dues new =
     InTurn (ReaderTakes config own peer at submessage)
     (numbers_from 1 (length old.part.rtps.readers)) old moves dues new
 
--- The submessages from this index on are taken up in turn. Either one finds no memory, and nothing is done from it on,
--- or it is taken up, and those that follow are.
+-- the submessage may need memory: it concerns an endpoint of the peer, and an ACKNACK is one that the writer takes
+abbrev pub MayNeedMemory : Config → GuidPrefix → ℕ → Receiver → Submessage → State → Type 0
+MayNeedMemory config own peer at (AckNack a) old =
+    (writer : ℕ) × (reader : Endpoint)
+    × IsToWriter config own at a.reader_id a.writer_id (record { peer = peer; number = writer }) reader
+    × (is_taken_up old writer reader a ≡ true)
+MayNeedMemory config own peer at submessage old = Concerns config own peer at submessage
+
+-- The submessages from this index on are taken up in turn. Either one that may need memory finds none, and nothing is
+-- done from it on, or it is taken up, and those that follow are.
 abbrev pub FollowsMessage : Config → GuidPrefix → ℕ → ℕ → Receiver → List Submessage → State → List Move → Option ℕ
     → List Due → State → Type 0
 FollowsMessage config own peer index at [] old moves refused dues new = (refused ≡ None) × Idles old moves dues new
 FollowsMessage config own peer index at (submessage ∷ rest) old moves refused dues new =
-    ((refused ≡ Some index) × Idles old moves dues new)
+    ((refused ≡ Some index) × Idles old moves dues new × MayNeedMemory config own peer at submessage old)
     ⊎ ((made later : List Move) × (first last : List Due) × (mid : State) × (moves ≡ made ++ later)
     × (dues ≡ first ++ last)
     × Takes config own peer at submessage old made first mid

@@ -18,7 +18,7 @@ use Rattle.dds_machine.specs.declared.reply.Report.{Report}
 use Rattle.dds_machine.specs.Numbered.{numbered}
 use Rattle.dds_machine.specs.Part.{Part, own_reader}
 use Rattle.dds_machine.specs.Moves.{Grounds, match_of, IsMatchedAt, position_at, AreMoves}
-use Rattle.dds_protocol.specs.Claims.{Receiver, receiver_of, after_submessage, ChangeIs, Says}
+use Rattle.dds_protocol.specs.Claims.{Receiver, receiver_of, after_submessage, ChangeIs, Concerns, Says}
 
 -- the prefix of the peer of this number
 abbrev pub prefix_of : Config → ℕ → GuidPrefix
@@ -48,13 +48,13 @@ MovesOver config grounds peer own at submessage part moves =
     → IsMatchedAt part writer reader.number publication number → 1 ≤ number → number ≤ 2 ^ 62
     → GoesOver writer reader.number number moves ⊎ HasNoRoom grounds part writer reader.number publication number
 
--- The submessages from this index on are taken up in turn. Either one finds no memory, and nothing is done from it on,
--- or it makes its moves, and those that follow make theirs.
+-- The submessages from this index on are taken up in turn. Either one that concerns the peer finds no memory, and
+-- nothing is done from it on, or it makes its moves, and those that follow make theirs.
 abbrev pub TakesUp : Config → (ℕ → Grounds) → ℕ → GuidPrefix → ℕ → Receiver → List Submessage → Part → List Move
     → Option ℕ → Part → Type 0
 TakesUp config grounds peer own index at [] old moves refused new = (moves ≡ []) × (refused ≡ None) × (new ≡ old)
 TakesUp config grounds peer own index at (submessage ∷ rest) old moves refused new =
-    ((moves ≡ []) × (refused ≡ Some index) × (new ≡ old))
+    ((moves ≡ []) × (refused ≡ Some index) × (new ≡ old) × Concerns config own peer at submessage)
     ⊎ ((made later : List Move) × (mid : Part) × (moves ≡ made ++ later) × AreMoves (grounds index) old made mid
     × MovesOver config (grounds index) peer own at submessage old made
     × TakesUp config grounds peer own (index + 1) (after_submessage own at submessage) rest mid later refused new)
