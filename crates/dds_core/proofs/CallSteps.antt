@@ -22,7 +22,7 @@ use Rattle.dds_machine.specs.declared.reply.Reply.TheVariants.{Done, LivelinessL
 use Rattle.dds_machine.specs.declared.endpoint.Endpoint.{Endpoint}
 use Rattle.dds_machine.specs.Ticks.{tick_refusal, after_tick, is_deadly, RefusesTick, TickStep}
 use Rattle.dds_machine.specs.Refusals.{writer_refusal, write_refusal, dispose_refusal, unregister_refusal, change_refusal, change_made, unregister_kind}
-use Rattle.dds_machine.specs.Calls.{Effect, nothing, writes, effect, effect_of, liveliness_lost_at, IsAnswered, IsDoneUnless, Answers, CallStep}
+use Rattle.dds_machine.specs.Calls.{Effect, nothing, writes, effect, effect_of, liveliness_lost_at, IsAnswered, IsAnsweredWatching, IsDoneUnless, Answers, CallStep}
 use Rattle.dds_machine.specs.Numbered.{has_element}
 use Rattle.dds_conditions.specs.Watched.{no_filters}
 use Rattle.dds_machine.specs.Part.{Part, Dds, Writer, own_writer}
@@ -39,7 +39,7 @@ use Rattle.dds_core.proofs.BeatsDue.{due_true}
 use Rattle.dds_core.proofs.Dying.{expired_names, peer_deadly, readers_expired}
 use Rattle.dds_core.proofs.Lists.{get-within}
 use Rattle.dds_core.proofs.Ready.{alike_core}
-use Rattle.dds_core.proofs.Ends.{with_writer, entered_at, own_writer_stepped}
+use Rattle.dds_core.proofs.Ends.{with_writer, entered_at, own_writer_stepped, unchanged_with}
 use Rattle.dds_core.proofs.Taking.{silent}
 use Rattle.dds_core.proofs.Tellable.{tellable_entered, tellable_ticked}
 use Rattle.dds_core.proofs.Ticking.{same_names, writers_ticked}
@@ -199,10 +199,17 @@ unregistered part w key known none = (
 pub good_register : (part : Part) (w : ℕ) → has_element part.rtps.writers w ≡ true → writer_refusal part w ≡ None
 good_register part w known = ap (λ (b : Bool). if not b then Some BadParameter else None) known
 
-pub register_memory : (part : Part) (w : ℕ) (key : Key) → has_element part.rtps.writers w ≡ true
-    → Answers no_filters part (call.Register w key) (Refused Memory) part.dds
-register_memory part w key known =
-    (subst (λ (o : Option Code). Refuses o Memory) (sym (good_register part w known)) refl, refl)
+register_memory : (part : Part) (w : ℕ) (key : Key) (code : Code) → has_element part.rtps.writers w ≡ true
+    → code ≡ Memory → is_key_registered key (own_writer part w).written ≡ false
+    → Answers no_filters part (call.Register w key) (Refused code) part.dds
+register_memory part w key code known memory unregistered =
+    inr (good_register part w known, ap not unregistered, ap (λ (x : Code). Refused x) memory, refl)
+
+register_done : (part : Part) (w : ℕ) (key : Key) → has_element part.rtps.writers w ≡ true
+    → Answers no_filters part (call.Register w key) Done part.dds
+register_done part w key known =
+    inl (subst (λ (o : Option Code). IsAnsweredWatching o Done part.dds.watch part Done part.dds)
+    (sym (good_register part w known)) (refl, refl))
 
 pub registers : (kept : PeerKept) (i : ℕ) (k k' : WriterKept) (key : Key) (config : Config) (peer : Peer)
     → StandsFor kept config peer → slice_get kept.writers i ≡ Some k → i < length kept.writers
@@ -216,7 +223,7 @@ registers kept i k k' key config peer s at lt enters =
       record {
         same_number = refl;
         knows = refl;
-        step = (record { answers = (good_register peer.part (suc i) known, refl); rtps = refl }, refl);
+        step = (record { answers = register_done peer.part (suc i) key known; rtps = refl }, refl);
         sent = λ p x m h.
             absurd (omega (arith, m.1));
       },
@@ -502,6 +509,23 @@ pub register_at : (kept : PeerKept) (writer i : ℕ) (k k' : WriterKept) (key : 
 register_at kept writer i k k' key config peer s is at lt enters =
     subst (λ (n : ℕ). Follows (with_writer kept i k') config peer (event.Call (call.Register n key)) (silent Done))
     (number_is writer i is) (registers kept i k k' key config peer s at lt enters)
+
+-- one that finds no memory, where the instance is not registered yet
+pub unregistrable_at : (kept : PeerKept) (writer i : ℕ) (k k' : WriterKept) (key : Key) (code : Code)
+    (config : Config) (peer : Peer) → StandsFor kept config peer → writer ≡ i + 1 → slice_get kept.writers i ≡ Some k
+    → i < length kept.writers → code ≡ Memory
+    → ((w : Writer) (answered : Endpoint → Option ℤ) → WriterStands k w answered
+    → is_key_registered key w.written ≡ false) → k' ≡ k
+    → Follows (with_writer kept i k') config peer (event.Call (call.Register writer key)) (silent (Refused code))
+unregistrable_at kept writer i k k' key code config peer s is at lt memory none same =
+    let answered = peer.known.answered (suc i) in
+    let unknown : is_key_registered key (own_writer peer.part writer).written ≡ false =
+    subst (λ (n : ℕ). is_key_registered key (own_writer peer.part n).written ≡ false) (number_is writer i is)
+    (none (own_writer peer.part (suc i)) answered (s.writers.each i k at)) in
+    subst (λ (x : PeerKept). Follows x config peer (event.Call (call.Register writer key)) (silent (Refused code)))
+    (sym (unchanged_with kept i k k' at same))
+    (refused_call kept config peer s (call.Register writer key) code
+    (register_memory peer.part writer key code (known_writer kept config peer s writer i is lt) memory unknown))
 
 -- so it is of the writer of a number
 pub looks_at : (kept : PeerKept) (writer i : ℕ) (k k' : WriterKept) (status : LivelinessLostStatus) (config : Config)

@@ -2,7 +2,7 @@
 -- nothing.
 use Rattle.std.proofs.Common.{◌≡◌, ℕ, zero, suc, ◌+◌, ◌<◌, List, [], ◌∷◌, ◌++◌, Option, Some, None, map, take, drop, set, length, get_or, slice_get, refl, ap, sym, ◌∙◌, subst, arith, inr, append_assoc, append-nil, length-set}
 use Rattle.std.proofs.lemmas.List.{take_more, take_all}
-use Rattle.std.proofs.lemmas.Option.{same_Some, get_or_from_slice_get}
+use Rattle.std.proofs.lemmas.Option.{get_or_from_slice_get}
 use Rattle.dds_base.specs.declared.config.Config.{Config}
 use Rattle.dds_base.specs.declared.guid.EntityId.{EntityId}
 use Rattle.dds_base.specs.declared.guid.GuidPrefix.{GuidPrefix}
@@ -20,7 +20,7 @@ use Rattle.dds_protocol.proofs.OwnGuids.{one_writer}
 use Rattle.dds_core.specs.declared.answering.Room.{Room}
 use Rattle.dds_core.specs.declared.matching.ReaderName.{ReaderName}
 use Rattle.dds_core.specs.declared.sending.Announced.{Announced}
-use Rattle.dds_core.specs.Answering.{IsRoom, AreRooms, TakesAckNack, HaveRoom, IsWriterOf, RowTook, RowsTook, TakesRow, TakesRows, acknowledged_moves}
+use Rattle.dds_core.specs.Answering.{AsksNone, IsRoom, AreRooms, TakesAckNack, HaveRoom, RowTook, RowsTook, TakesRow, TakesRows, acknowledged_moves}
 use Rattle.dds_core.specs.Kept.{WriterKept, PeerKept, WriterIdentity, writer_identity}
 use Rattle.dds_core.specs.Receiving.{with_state, TakesOneMore}
 use Rattle.dds_core.specs.Standing.{StandsFor}
@@ -28,23 +28,10 @@ use Rattle.dds_core.proofs.Beating.{adds_none, adds_on}
 use Rattle.dds_core.proofs.Lists.{element, get-within}
 use Rattle.dds_core.proofs.Makes.{set_get}
 use Rattle.dds_core.proofs.Ready.{partner}
-use Rattle.dds_core.proofs.RowsAnswered.{IsAtRow, IsOwn, RowAnswered, one_entity, own_end, own_is, row_answered, row_idle, row_at}
-use Rattle.dds_core.proofs.Turns.{turn_more}
+use Rattle.dds_core.proofs.RowsAnswered.{IsAtRow, IsOwn, RowAnswered, own_end, own_is, row_answered, row_idle, row_unasked, row_at}
+use Rattle.dds_core.proofs.Turns.{number_at, turn_idle, turn_more}
 
 -- ---- turns in which nothing, or one alone, does something
-
-pub turn_idle : {X : Type 0} (step : X → State → List Move → List Due → State → Type 0) (xs : List X) (s : State)
-    → ((k : ℕ) (x : X) → slice_get xs k ≡ Some x → step x s [] [] s) → InTurn step xs s [] [] s
-turn_idle step [] s each = (refl, refl, refl)
-turn_idle step (x ∷ xs) s each =
-    ([], [], [], [], s, refl, refl, each zero x refl, turn_idle step xs s (λ k y at. each (suc k) y at))
-
--- a number among those from the first one on
-number_at : (first count k x : ℕ) → slice_get (numbers_from first count) k ≡ Some x → (k < count) × (x ≡ k + first)
-number_at first zero k x at = absurd cc
-number_at first (suc count) zero x at = let is = same_Some first x at in (omega arith, omega (arith, is))
-number_at first (suc count) (suc k) x at =
-    let f = number_at (first + 1) count k x at in let lt = f.0 in let is = f.1 in (omega (arith, lt), omega (arith, is))
 
 -- the numbers from the first one on, of which one alone does something
 turn_only : (step : ℕ → State → List Move → List Due → State → Type 0) (first count i : ℕ) (old new : State)
@@ -319,11 +306,11 @@ writer_takes old new index a k rooms at moves after sent gone at_k entity are h 
     one_on : (j : ℕ) → 1 + j ≡ suc j
     one_on j = omega arith
 
--- no writer is named
-pub no_writer_takes : (old : PeerKept) (a : AckNackBody) (at : Receiver) (moves : List Move) (sent : Announced)
-    → ((index : ℕ) → IsWriterOf old.writers a.writer_id index → ⊥)
+-- no writer has a reader that it is from, and for which it is applied
+pub nobody_takes : (old : PeerKept) (a : AckNackBody) (at : Receiver) (moves : List Move) (sent : Announced)
+    → AsksNone old.prefix at a old.writers
     → TakesOneMore old at (AckNack a) moves sent old moves sent
-no_writer_takes old a at moves sent none = record {
+nobody_takes old a at moves sent none = record {
   made = [];
   after_is = sym (append-nil moves);
   takes = λ config peer stands. record {
@@ -338,17 +325,28 @@ no_writer_takes old a at moves sent none = record {
         let lt = f.0 in
         let count = stands.writers.count in
         let found = element old.writers j (omega (arith, lt, count)) in
-        let o : IsOwn config old peer.number j found.0 = own_is config peer old stands j found.0 found.1 in
-        idle_writer config peer old.prefix at a x (own_writer peer.part x).readers (state_of peer) (λ e to.
-        let named : IsToWriter config old.prefix at a.reader_id a.writer_id (own_end peer j) e =
-        subst (λ (n : ℕ). IsToWriter config old.prefix at a.reader_id a.writer_id
-        (record { peer = peer.number; number = n }) e) (next f.1) to in
-        none j (record {
-          writer = found.0;
-          at = found.1;
-          is = one_entity config old.prefix old.prefix found.0.entity
-              a.writer_id (own_end peer j) o.own.from named.to;
-        })));
+        let named : InTurn (λ (n : ReaderName). WriterTakes config old.prefix peer.number at a (suc j) n.reader)
+        found.0.readers (state_of peer) [] [] (state_of peer) =
+        turn_idle (λ (n : ReaderName). WriterTakes config old.prefix peer.number at a (suc j) n.reader) found.0.readers
+        (state_of peer)
+        (λ row name at_name. row_unasked (record {
+          config = config;
+          peer = peer;
+          kept = old;
+          stands = stands;
+          i = j;
+          k = found.0;
+          at_k = found.1;
+          row = row;
+          name = name;
+          at_name = at_name;
+        }) at a (none j found.0 found.1 row)) in
+        let rows =
+        turn_named (λ (e : Endpoint). WriterTakes config old.prefix peer.number at a (suc j) e) found.0.readers
+        (get_or peer.part.rtps.writers j no_writer).readers (state_of peer) (state_of peer) [] []
+        (stands.writers.each j found.0 found.1).readers named in
+        subst (λ (n : ℕ). InTurn (λ (p : ReaderProxy). WriterTakes config old.prefix peer.number at a n p.reader)
+        (own_writer peer.part n).readers (state_of peer) [] [] (state_of peer)) (sym (next f.1)) rows);
     stands = stands;
     adds = adds_none sent.packets.items sent.unsent;
   };

@@ -11,6 +11,7 @@ use Rattle.dds_base.specs.declared.guid.GuidPrefix.{GuidPrefix}
 use Rattle.dds_base.specs.Kept.{is_kept}
 use Rattle.dds_base.specs.Written.{changes_of}
 use Rattle.rtps_wire.specs.declared.acknack.AckNack.{AckNack as AckNackBody}
+use Rattle.rtps_wire.specs.declared.submessage.Submessage.TheVariants.{AckNack}
 use Rattle.rtps_writer.specs.declared.answer.Answer.{Answer}
 use Rattle.rtps_writer.specs.Acknack.{acknack_answers, after_acknack, answers_after, applied, is_applied, newly_acknowledged}
 use Rattle.rtps_writer.specs.Answers.{answers_to, requested}
@@ -29,11 +30,11 @@ use Rattle.dds_protocol.proofs.InOrder.{same_self}
 use Rattle.dds_core.specs.declared.answering.Answering.{Answering}
 use Rattle.dds_core.specs.declared.matching.ReaderName.{ReaderName}
 use Rattle.dds_core.specs.declared.sending.Announced.{Announced}
-use Rattle.dds_core.specs.Answering.{IsFrom, RowTook, SendsAnswers, TookAckNack, acknowledged_moves, answer_due}
+use Rattle.dds_core.specs.Answering.{IsFrom, IsAskedWriter, IsUnaskedAt, RowTook, SendsAnswers, TookAckNack, acknowledged_moves, answer_due}
 use Rattle.dds_core.specs.Beating.{AddsTo, due_to}
 use Rattle.dds_core.specs.Kept.{WriterKept, PeerKept, WriterIdentity}
 use Rattle.dds_core.specs.Matching.{reader_name, reader_names}
-use Rattle.dds_core.specs.Receiving.{with_state}
+use Rattle.dds_core.specs.Receiving.{with_state, NeedsMemory}
 use Rattle.dds_core.specs.Standing.{StandsFor, WriterStands, state_of}
 use Rattle.dds_core.proofs.Acknowledging.{IsOnly, IsCounted, only_row, acknowledged_is, acknowledged_then, applied_is, low_of, moves_then, not_same, readers_same, state_applied, still_begun}
 use Rattle.dds_core.proofs.Beating.{adds_none}
@@ -508,6 +509,51 @@ row_answered c at a from moves sent new after gone t = subst (GoesOn turn) (sym 
     by : (b : Bool) → is_taken turn ≡ b → GoesOn turn (with_next turn)
     by true is = row_applied turn from is
     by false is = row_ignored turn is
+
+-- a reader that the ACKNACK is not from, or for which it is not applied, has nothing to be answered
+pub row_unasked : (c : Row) (at : Receiver) (a : AckNackBody) → IsUnaskedAt c.kept.prefix at a c.k c.row
+    → WriterTakes c.config c.kept.prefix c.peer.number at a (suc c.i) c.name.reader (network_of c.peer) [] []
+    (network_of c.peer)
+row_unasked c at a unasked =
+    let o : IsOwn c.config c.kept c.peer.number c.i c.k = own_of c in
+    let row : IsRow c = row_is c o in
+    inr (
+      λ to. sym (applied_is (writer_of c) (answered_of c) c.name.reader c.row row.proxy a.reader_sn_state.base a.count
+          row.only)
+          ∙ unasked c.name c.at_name
+          (from_reader c.config c.peer c.kept c.i c.k o at a c.name (o.named c.row c.name c.at_name) to)
+          (state_of (writer_of c) (answered_of c)) (stood c).writer,
+      (refl, refl, refl),
+    )
+
+-- one that it is from, and for which it is applied, makes it one that may need memory
+pub asked_needs : (old : PeerKept) (at : Receiver) (a : AckNackBody) (index : ℕ)
+    → IsAskedWriter old.prefix at a old.writers index → NeedsMemory old at (AckNack a)
+asked_needs old at a index is config peer stands =
+    let k : WriterKept = is.writer in
+    let c : Row =
+    record {
+      config = config;
+      peer = peer;
+      kept = old;
+      stands = stands;
+      i = index;
+      k = k;
+      at_k = is.at_writer;
+      row = is.row;
+      name = is.asked.name;
+      at_name = is.asked.there;
+    } in
+    let o : IsOwn config old peer.number index k = own_of c in
+    let row : IsRow c = row_is c o in (
+      suc index,
+      is.asked.name.reader,
+      to_writer config peer old index k o at a is.asked.name (o.named is.row is.asked.name is.asked.there)
+          is.asked.from,
+      sym (applied_is (writer_of c) (answered_of c) is.asked.name.reader is.row row.proxy a.reader_sn_state.base a.count
+          row.only)
+          ∙ is.asked.applied (state_of (writer_of c) (answered_of c)) (stood c).writer,
+    )
 
 -- a reader that the ACKNACK is not from has nothing to be answered
 pub row_idle : (c : Row) (at : Receiver) (a : AckNackBody) (sent : Announced)

@@ -28,19 +28,18 @@ use Rattle.dds_machine.specs.declared.reply.Reply.{Reply}
 use Rattle.dds_machine.specs.declared.call.Call.{Call}
 use Rattle.dds_machine.specs.Numbered.{numbered, HasNumber}
 use Rattle.dds_protocol.specs.Backed.{IsBacked}
-use Rattle.dds_machine.specs.Ticks.{TickStep}
 use Rattle.dds_machine.specs.Calls.{Effect, nothing, writes, effect, effect_of}
 use Rattle.dds_protocol.specs.Claims.{Receiver, receiver_of, after_submessage, IsNumbered}
 use Rattle.dds_machine.specs.Part.{Rtps, place_of, heard_of}
 use Rattle.dds_protocol.specs.Peer.{Peer, packets_of, state_of, Delivery}
 use Rattle.dds_protocol.specs.DueMessages.{Due, AreSent}
-use Rattle.dds_protocol.specs.Protocol.{State, InTurn, ReaderTakes, Takes, FollowsMessage}
+use Rattle.dds_protocol.specs.Protocol.{State, InTurn, ReaderTakes, Takes, MayNeedMemory, FollowsMessage}
 use Rattle.dds_protocol.specs.Receipt.{prefix_of, IsNotTaken}
 use Rattle.dds_core.specs.declared.sending.Announced.{Announced}
 use Rattle.dds_core.specs.Beating.{AddsTo}
 use Rattle.dds_core.specs.Kept.{PeerKept}
 use Rattle.dds_core.specs.Readiness.{IsBounded, AreBounded}
-use Rattle.dds_core.specs.Receiving.{with_state, StandsAsWell, ReadersTook, TookSubmessage, TellsReaders, TakesOneMore, TookMessage, TakesMessage, TakenTo, TakesTo, ReceivesPacket}
+use Rattle.dds_core.specs.Receiving.{with_state, StandsAsWell, ReadersTook, TookSubmessage, NeedsMemory, TellsReaders, TakesOneMore, TookMessage, TakesMessage, TakenTo, TakesTo, ReceivesPacket}
 use Rattle.dds_core.specs.Sending.{AreMessages}
 use Rattle.dds_core.specs.Standing.{StandsFor, IsSound, Steps, StepsBy, SoundSteps, SoundStepsBy}
 use Rattle.dds_machine.specs.Watching.{Tests}
@@ -244,15 +243,19 @@ takes_all old now message at report gone taken none fine config peer s =
 
 pub takes_some : (old now new : PeerKept) (message : Message) (index : ℕ) (at : Receiver) (submessage : Submessage)
     (report : Report) (sent gone : Announced) → TakesTo old message index at report.moves now sent
-    → StandsAsWell now new → gone ≡ sent
+    → now.prefix ≡ old.prefix → NeedsMemory now at submessage → StandsAsWell now new → gone ≡ sent
     → drop index message.submessages ≡ submessage ∷ drop (index + 1) message.submessages → report.refused ≡ Some index
     → TakesMessage old message report new gone
-takes_some old now new message index at submessage report sent gone taken well same here refused config peer s =
+takes_some old now new message index at submessage report sent gone taken own needs well same here refused config peer
+    s =
     let t : TakenTo old message index at report.moves now sent config peer = taken config peer s in
+    let may : MayNeedMemory config old.prefix peer.number at submessage t.state =
+    subst (λ (p : GuidPrefix). MayNeedMemory config p peer.number at submessage t.state) own
+    (needs config (with_state peer t.state) t.stands) in
     let end : FollowsMessage config old.prefix peer.number index at (drop index message.submessages) t.state
     [] report.refused [] t.state =
     subst (λ (ss : List Submessage). FollowsMessage config old.prefix peer.number index at ss t.state [] report.refused
-    [] t.state) (sym here) (inl (refused, (refl, refl, refl))) in
+    [] t.state) (sym here) (inl (refused, (refl, refl, refl), may)) in
     record {
       state = t.state;
       dues = t.dues;

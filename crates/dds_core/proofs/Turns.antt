@@ -1,6 +1,6 @@
 -- The peer's readers take a submessage up, one after the other, by the rules of the protocol.
 use Rattle.std.proofs.Common.{◌≡◌, ℕ, zero, suc, ◌+◌, ◌<◌, true, false, List, [], ◌∷◌, ◌++◌, Option, Some, None, drop, length, slice_get, refl, ap, sym, ◌∙◌, subst, arith, inl, inr, append_assoc, nat_lt}
-use Rattle.std.specs.Prelude.{if◌then◌else◌}
+use Rattle.std.specs.Prelude.{IfSome, if◌then◌else◌}
 use Rattle.std.proofs.lemmas.Option.{same_Some}
 use Rattle.std.proofs.lemmas.List.{append-nil}
 use Rattle.dds_base.specs.declared.config.Config.{Config}
@@ -24,15 +24,15 @@ use Rattle.dds_machine.specs.declared.reply.Move.TheVariants.{Place, Heard}
 use Rattle.dds_protocol.specs.Claims.{Receiver, IsToReader, Names}
 use Rattle.dds_protocol.specs.Peer.{Peer, state_of}
 use Rattle.dds_protocol.specs.DueMessages.{Due, acknacks_due}
-use Rattle.dds_protocol.specs.Protocol.{State, InTurn, TakesHeartbeat, ReaderTakes}
+use Rattle.dds_protocol.specs.Protocol.{State, InTurn, MayNeedMemory, TakesHeartbeat, ReaderTakes}
 use Rattle.dds_core.specs.declared.matching.WriterName.{WriterName}
 use Rattle.dds_core.specs.declared.sending.Announced.{Announced}
 use Rattle.dds_core.specs.declared.reader_end.Ready.{Ready}
 use Rattle.dds_core.specs.declared.reader_end.Told.{Told}
 use Rattle.dds_core.specs.declared.reader_end.Told.TheVariants as told
 use Rattle.dds_core.specs.Kept.{ReaderKept, PeerKept}
-use Rattle.dds_core.specs.Readiness.{IsReadyWith, IsReadyFor, AreReady, NamedBy, IsToldBy, SameReader, TellsSo, moves_of, writer_guid}
-use Rattle.dds_core.specs.Receiving.{TookAt, with_state, ReadersTook, TakesSome, TakesAll, TellsReaders, StandsAsWell}
+use Rattle.dds_core.specs.Readiness.{IsReadyWith, IsReadyFor, AreReady, IsNamedReader, NamesNone, NamedBy, IsToldBy, SameReader, TellsSo, moves_of, writer_guid}
+use Rattle.dds_core.specs.Receiving.{TookAt, with_state, NeedsMemory, ReadersTook, TakesSome, TakesAll, TellsReaders, StandsAsWell}
 use Rattle.dds_core.specs.Beating.{AddsTo}
 use Rattle.dds_core.specs.Standing.{IsFirstRow, StandsFor}
 use Rattle.dds_core.proofs.Beating.{adds_none, adds_on}
@@ -314,6 +314,82 @@ turn_more step (y ∷ ys) x old mid new made one dues due h k = (
   h.7,
   turn_more step ys x h.4 mid new h.1 one h.3 due h.8 k,
 )
+
+pub turn_idle : {X : Type 0} (step : X → State → List Move → List Due → State → Type 0) (xs : List X) (s : State)
+    → ((k : ℕ) (x : X) → slice_get xs k ≡ Some x → step x s [] [] s) → InTurn step xs s [] [] s
+turn_idle step [] s each = (refl, refl, refl)
+turn_idle step (x ∷ xs) s each =
+    ([], [], [], [], s, refl, refl, each zero x refl, turn_idle step xs s (λ k y at. each (suc k) y at))
+
+-- a number among those from the first one on
+pub number_at : (first count k x : ℕ) → slice_get (numbers_from first count) k ≡ Some x → (k < count) × (x ≡ k + first)
+number_at first zero k x at = absurd cc
+number_at first (suc count) zero x at = let is = same_Some first x at in (omega arith, omega (arith, is))
+number_at first (suc count) (suc k) x at =
+    let f = number_at (first + 1) count k x at in let lt = f.0 in let is = f.1 in (omega (arith, lt), omega (arith, is))
+
+-- one that names a reader may need memory
+pub named_needs : (old : PeerKept) (at : Receiver) (s : Submessage) (index : ℕ)
+    → IsNamedReader old.prefix at s old.readers index → NeedsMemory old at s
+named_needs old at s index is config peer stands =
+    needs s is.named.reader_id is.named.writer_id is.named.by is.named.named.first.name.writer
+    (is_to config peer old stands index is.reader is.there at is.named.reader_id is.named.writer_id is.row
+    is.named.named)
+  where
+    own : Endpoint
+    own = record { peer = peer.number; number = suc index }
+
+    named_by : (a b d e : EntityId) (w : Endpoint) → a ≡ d → b ≡ e → IsToReader config old.prefix at a b w own
+        → IsToReader config old.prefix at d e w own
+    named_by a b d e w f g to =
+        subst (λ (x : EntityId). IsToReader config old.prefix at x e w own) f
+        (subst (λ (x : EntityId). IsToReader config old.prefix at a x w own) g to)
+
+    needs : (s : Submessage) (reader_id writer_id : EntityId) → NamedBy s reader_id writer_id → (w : Endpoint)
+        → IsToReader config old.prefix at reader_id writer_id w own
+        → MayNeedMemory config old.prefix peer.number at s (state_of peer)
+    needs (Data d) reader_id writer_id by w to =
+        (w, own, named_by reader_id writer_id _ _ w by.0 by.1 to, refl)
+    needs (Gap g) reader_id writer_id by w to =
+        (w, own, named_by reader_id writer_id _ _ w by.0 by.1 to, refl)
+    needs (Heartbeat h) reader_id writer_id by w to =
+        (w, own, named_by reader_id writer_id _ _ w by.0 by.1 to, refl)
+    needs s reader_id writer_id by w to = absurd by
+
+-- what was found among the readers of a peer, by another name of what that keeps
+pub needs_if : (found : Option ℕ) (inside now : PeerKept) (readers : List ReaderKept) (at : Receiver) (s : Submessage)
+    → inside ≡ now → readers ≡ inside.readers → IfSome found (IsNamedReader inside.prefix at s readers)
+    → IfSome found (λ index. NeedsMemory now at s)
+needs_if None inside now readers at s same are h = tt
+needs_if (Some index) inside now readers at s same are h =
+    named_needs now at s index
+    (subst (λ (k : PeerKept). IsNamedReader k.prefix at s k.readers index) same
+    (subst (λ (rs : List ReaderKept). IsNamedReader inside.prefix at s rs index) are h))
+
+-- a submessage that names none of the readers is taken up, and nothing is done
+pub nobody_told : (old : PeerKept) (at : Receiver) (s : Submessage) (moves : List Move) (sent : Announced)
+    → NamesNone old.prefix at s old.readers → TellsReaders old at s moves sent old moves sent
+nobody_told old at s moves sent none = record {
+  made = [];
+  after_is = sym (append-nil moves);
+  takes = λ config peer stands. record {
+    state = state_of peer;
+    dues = [];
+    turn =
+        turn_idle (ReaderTakes config old.prefix peer.number at s) (numbers_from 1 (length old.readers))
+        (state_of peer)
+        (λ j x there.
+        let f = number_at 1 (length old.readers) j x there in
+        let found = element old.readers j f.0 in
+        subst (λ (n : ℕ). ReaderTakes config old.prefix peer.number at s n (state_of peer) [] [] (state_of peer))
+        (next f.1) (idles config peer old at s j found.0 stands found.1 (none j found.0 found.1)));
+    stands = stands;
+    adds = adds_none sent.packets.items sent.unsent;
+  };
+}
+  where
+    next : {k x : ℕ} → x ≡ k + 1 → suc k ≡ x
+    next is = omega (arith, is)
 
 -- none has taken it up yet
 pub takes_none : (old : PeerKept) (ready : List (Option Ready)) (moves : List Move) (sent : Announced)

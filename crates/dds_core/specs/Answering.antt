@@ -2,7 +2,7 @@
 -- be believed.
 --
 -- RTPS 2.5, 8.4.7 (ReaderProxy: requested_changes), 8.4.9 (reliable StatefulWriter), 8.3.8 (AckNack, Data, Gap).
-use Rattle.std.specs.Prelude.{◌≡◌, ℕ, suc, ◌+◌, ◌^◌, ◌<◌, ◌≤◌, true, List, [], ◌∷◌, ◌++◌, length, map, take, set, slice_get, vec_capacity, Option, Some, None}
+use Rattle.std.specs.Prelude.{◌≡◌, ℕ, suc, ◌+◌, ◌^◌, ◌<◌, ◌≤◌, true, false, List, [], ◌∷◌, ◌++◌, length, map, take, set, slice_get, vec_capacity, Option, Some, None}
 use Rattle.std.specs.List.{All, AllByRecursion}
 use Rattle.dds_base.specs.declared.change.Change.{Change}
 use Rattle.dds_base.specs.declared.config.Config.{Config}
@@ -16,7 +16,7 @@ use Rattle.rtps_wire.specs.declared.submessage.Submessage.{Submessage}
 use Rattle.rtps_wire.specs.Submessages.{IsSpellable}
 use Rattle.rtps_writer.specs.declared.answer.Answer.{Answer}
 use Rattle.rtps_writer.specs.declared.answer.Answer.TheVariants.{Data, Gap}
-use Rattle.rtps_writer.specs.Acknack.{acknack_answers, after_acknack, newly_acknowledged}
+use Rattle.rtps_writer.specs.Acknack.{acknack_answers, after_acknack, is_applied, newly_acknowledged}
 use Rattle.rtps_writer.specs.Standing.{Kept, StandsFor as RtpsStandsFor}
 use Rattle.rtps_writer.specs.WriterState.{WriterState, history_of}
 use Rattle.dds_machine.specs.declared.endpoint.Endpoint.{Endpoint}
@@ -44,6 +44,36 @@ pub record IsFrom (own : GuidPrefix) (entity : EntityId) (at : Receiver) (a : Ac
   pub is_for : is_for at own ≡ true
   pub writer : a.writer_id ≡ entity
   pub source : name.guid.prefix ≡ at.source_guid_prefix
+
+-- the ACKNACK is from the writer's reader of this row, and is applied
+pub record IsAskedAt (own : GuidPrefix) (at : Receiver) (a : AckNackBody) (k : WriterKept) (row : ℕ) : Type 0 where
+  pub name : ReaderName
+  pub there : slice_get k.readers row ≡ Some name
+  pub from : IsFrom own k.entity at a name
+  pub applied : (s : WriterState) → RtpsStandsFor k.writer s
+      → is_applied s row a.reader_sn_state.base a.count ≡ true
+
+-- it is not from that reader, or is not applied
+abbrev pub IsUnaskedAt : GuidPrefix → Receiver → AckNackBody → WriterKept → ℕ → Type 0
+IsUnaskedAt own at a k row =
+    (name : ReaderName) → slice_get k.readers row ≡ Some name → IsFrom own k.entity at a name
+    → (s : WriterState) → RtpsStandsFor k.writer s → is_applied s row a.reader_sn_state.base a.count ≡ false
+
+-- it is from no reader of the writer, or is not applied
+abbrev pub IsUnasked : GuidPrefix → Receiver → AckNackBody → WriterKept → Type 0
+IsUnasked own at a k = (row : ℕ) → IsUnaskedAt own at a k row
+
+-- it is from a reader of the writer of this index, and is applied
+pub record IsAskedWriter (own : GuidPrefix) (at : Receiver) (a : AckNackBody) (writers : List WriterKept)
+    (index : ℕ) : Type 0 where
+  pub writer : WriterKept
+  pub at_writer : slice_get writers index ≡ Some writer
+  pub row : ℕ
+  pub asked : IsAskedAt own at a writer row
+
+-- it is so of none of these writers
+abbrev pub AsksNone : GuidPrefix → Receiver → AckNackBody → List WriterKept → Type 0
+AsksNone own at a writers = (i : ℕ) (k : WriterKept) → slice_get writers i ≡ Some k → IsUnasked own at a k
 
 -- ---- the room for its answers
 
@@ -126,12 +156,6 @@ TakesAckNack old own row a sent new acknowledged gone =
     (s : WriterState) → RtpsStandsFor old.writer s → TookAckNack old own row a sent new acknowledged gone s
 
 -- ---- what a peer does
-
--- the writer of this index has this entity
-pub record IsWriterOf (kept : List WriterKept) (entity : EntityId) (index : ℕ) : Type 0 where
-  pub writer : WriterKept
-  pub at : slice_get kept index ≡ Some writer
-  pub is : writer.entity ≡ entity
 
 -- the move of an acknowledgement, where there is one
 abbrev pub acknowledged_moves : ℕ → Endpoint → Option ℕ → List Move

@@ -3,7 +3,7 @@
 -- cite this: nothing here has to be believed.
 --
 -- RTPS 2.5, 8.3.4 (the message receiver), 8.4.12 (the behaviour of a reliable StatefulReader).
-use Rattle.std.specs.Prelude.{◌≡◌, ◌⊎◌, ◌+◌, ◌^◌, ◌<◌, ◌≤◌, true, false, ℕ, List, [], ◌∷◌, ◌++◌, length, slice_get, nat_lt, if◌then◌else◌, Option, Some, None}
+use Rattle.std.specs.Prelude.{◌≡◌, ◌⊎◌, ◌^◌, ◌<◌, ◌≤◌, true, false, ℕ, List, [], ◌∷◌, ◌++◌, length, slice_get, nat_lt, if◌then◌else◌, Option, Some, None}
 use Rattle.dds_base.specs.declared.guid.EntityId.{EntityId}
 use Rattle.dds_base.specs.declared.guid.Guid.{Guid}
 use Rattle.dds_base.specs.declared.guid.GuidPrefix.{GuidPrefix}
@@ -65,6 +65,22 @@ NamedBy submessage reader_id writer_id = ⊥
 abbrev pub NamesNobody : Submessage → Type 0
 NamesNobody submessage = (reader_id writer_id : EntityId) → NamedBy submessage reader_id writer_id → ⊥
 
+-- it names the reader, and its writer of this row
+pub record IsNamedAt (own : GuidPrefix) (at : Receiver) (submessage : Submessage) (kept : ReaderKept)
+    (row : ℕ) : Type 0 where
+  pub reader_id : EntityId
+  pub writer_id : EntityId
+  pub by : NamedBy submessage reader_id writer_id
+  pub named : IsNamedFor own kept at reader_id writer_id row
+
+-- it names the reader of this index, and one of its writers
+pub record IsNamedReader (own : GuidPrefix) (at : Receiver) (submessage : Submessage) (readers : List ReaderKept)
+    (index : ℕ) : Type 0 where
+  pub reader : ReaderKept
+  pub there : slice_get readers index ≡ Some reader
+  pub row : ℕ
+  pub named : IsNamedAt own at submessage reader row
+
 -- ---- what it tells
 
 -- this is what a submessage of a writer tells a reader; a change has the source timestamp that the receiver has then
@@ -121,6 +137,11 @@ IsReadyFor own at submessage kept None =
     (reader_id writer_id : EntityId) → NamedBy submessage reader_id writer_id → (k : ℕ)
     → IsNamedFor own kept at reader_id writer_id k → ⊥
 IsReadyFor own at submessage kept (Some ready) = IsReadyWith own at submessage kept ready
+
+-- nothing is for any of these readers
+abbrev pub NamesNone : GuidPrefix → Receiver → Submessage → List ReaderKept → Type 0
+NamesNone own at submessage readers =
+    (i : ℕ) (k : ReaderKept) → slice_get readers i ≡ Some k → IsReadyFor own at submessage k None
 
 -- what is ready for each of a peer's readers
 pub record AreReady (own : GuidPrefix) (at : Receiver) (submessage : Submessage) (readers : List ReaderKept)

@@ -19,7 +19,7 @@ use Rattle.dds_machine.specs.declared.reply.Report.{Report}
 use Rattle.dds_protocol.specs.Claims.{Receiver, receiver_of}
 use Rattle.dds_protocol.specs.Peer.{Peer, state_of}
 use Rattle.dds_protocol.specs.DueMessages.{Due, AreSent, acknacks_due}
-use Rattle.dds_protocol.specs.Protocol.{State, InTurn, ReaderTakes, Takes, FollowsMessage, TakesPacket}
+use Rattle.dds_protocol.specs.Protocol.{State, InTurn, ReaderTakes, Takes, MayNeedMemory, FollowsMessage, TakesPacket}
 use Rattle.dds_core.specs.declared.matching.WriterName.{WriterName}
 use Rattle.dds_core.specs.declared.reader_end.Ready.{Ready}
 use Rattle.dds_core.specs.declared.sending.Announced.{Announced}
@@ -119,6 +119,12 @@ pub record TakesOneMore (old : PeerKept) (at : Receiver) (submessage : Submessag
   pub after_is : after ≡ moves ++ made
   pub takes : (config : Config) (peer : Peer) → StandsFor old config peer
       → TookSubmessage config old.prefix at submessage peer made sent new gone
+
+-- for each state that the old values stand for, the submessage may need memory
+abbrev pub NeedsMemory : PeerKept → Receiver → Submessage → Type 0
+NeedsMemory old at submessage =
+    (config : Config) (peer : Peer) → StandsFor old config peer
+    → MayNeedMemory config old.prefix peer.number at submessage (state_of peer)
 
 -- the new values stand for what the old ones stood for
 abbrev pub StandsAsWell : PeerKept → PeerKept → Type 0

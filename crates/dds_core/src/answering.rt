@@ -32,7 +32,7 @@ pub struct Room {
 }
 
 /// Whether an ACKNACK is for the writer of this entity, and from the reader of this name.
-fn is_from(
+pub fn is_from(
     own: &GuidPrefix,
     receiver: &MessageReceiver,
     body: &AckNack,

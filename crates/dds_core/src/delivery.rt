@@ -3,13 +3,13 @@
 //! RTPS 2.5, 8.3.4 (the message receiver), 8.4.12 (the behaviour of a reliable StatefulReader). What the peer's writers
 //! do with an ACKNACK is in `requests`.
 
-ghost use Rattle.std.specs.Prelude.{◌≡◌, ◌++◌, ◌+◌, ◌*◌, ◌^◌, ◌<◌, ◌≤◌, [], length, vec_len, vec_capacity, IfOk, IfErr, OnOk};
+ghost use Rattle.std.specs.Prelude.{◌≡◌, ◌++◌, ◌+◌, ◌*◌, ◌^◌, ◌<◌, ◌≤◌, [], length, vec_len, vec_capacity, IfSome, IfNone, IfOk, IfErr, OnOk, OnErr};
 ghost use Rattle.dds_base.specs.declared.code.Code.TheVariants.{Memory};
 ghost use Rattle.dds_protocol.specs.declared.event.Event.TheVariants as event;
 ghost use Rattle.dds_core.specs.Standing.{SoundSteps};
 ghost use Rattle.dds_core.specs.Sending.{AreMessages};
-ghost use Rattle.dds_core.specs.Readiness.{receiver_at, IsBounded, AreBounded, AreReady, AreAlike, moves_of};
-ghost use Rattle.dds_core.specs.Receiving.{CanTakeAt, TakesAt, AllCanTake, TakesAll, TellsReaders, TakesOneMore, KeepsPeer, TakesMessage, StandsAsWell, ReceivesPacket};
+ghost use Rattle.dds_core.specs.Readiness.{receiver_at, IsBounded, AreBounded, AreReady, AreAlike, IsNamedReader, NamesNone, moves_of};
+ghost use Rattle.dds_core.specs.Receiving.{CanTakeAt, TakesAt, AllCanTake, TakesAll, TellsReaders, TakesOneMore, KeepsPeer, NeedsMemory, TakesMessage, StandsAsWell, ReceivesPacket};
 
 use crate::acknack::send_acknack;
 use crate::output::unmoved;
@@ -23,6 +23,26 @@ use dds_protocol::Output;
 use rtps_reader::Step;
 use rtps_wire::{Message, Submessage, read_message};
 use std::alloc::Global;
+
+/// The first of the readers of the peer of this prefix that a submessage is for, from a writer that it is matched with.
+fn named_reader(
+    readers: &[ReaderEnd],
+    own: &GuidPrefix,
+    receiver: &MessageReceiver,
+    submessage: &Submessage,
+) -> Option<usize>
+    ensures found { IfSome result
+        (IsNamedReader own.now (receiver_at receiver.now) submessage.now readers.now) }
+    ensures none { IfNone result
+        (NamesNone own.now (receiver_at receiver.now) submessage.now readers.now) }
+{
+    for (index, reader) in readers.iter().enumerate() {
+        if let Some(_row) = reader.named_row(own, receiver, submessage) {
+            return Some(index);
+        }
+    }
+    None
+}
 
 /// Makes ready what a submessage tells, for each of the readers of the peer of this prefix.
 fn prepare(
@@ -139,7 +159,17 @@ impl Peer {
         )
     }
 
-    /// Each reader that a submessage names is told what it says. Adds what moved.
+    /// The first of the peer's readers that a submessage is for.
+    fn named(&self, receiver: &MessageReceiver, submessage: &Submessage) -> Option<usize>
+        ensures needs { IfSome result
+            (λ index. NeedsMemory self.now (receiver_at receiver.now) submessage.now) }
+        ensures none { IfNone result
+            (NamesNone self.now.prefix (receiver_at receiver.now) submessage.now self.now.readers) }
+    {
+        named_reader(&self.readers, &self.prefix, receiver, submessage)
+    }
+
+    /// Each reader that a submessage names is told what it says. Adds what moved. One that names none needs no memory.
     fn tell_readers(
         &mut self,
         moves: &mut Vec<Move>,
@@ -155,7 +185,12 @@ impl Peer {
             moves.new.items sent.new) }
         ensures keeps { KeepsPeer 16 self.old moves.old.items sent.old self.new moves.new.items
             sent.new result }
+        ensures needs { OnErr result
+            (NeedsMemory self.old (receiver_at receiver.now) submessage.now) }
     {
+        let Some(_index) = self.named(receiver, submessage) else {
+            return Ok(());
+        };
         let ready = self.make_ready(receiver, submessage)?;
         moves.reserve(2 * ready.len())?;
         self.take_all(moves, sent, ready);
@@ -178,6 +213,8 @@ impl Peer {
             moves.new.items sent.new) }
         ensures keeps { KeepsPeer (2 ^ 16) self.old moves.old.items sent.old self.new
             moves.new.items sent.new result }
+        ensures needs { OnErr result
+            (NeedsMemory self.old (receiver_at receiver.now) submessage.now) }
     {
         match submessage {
             Submessage::AckNack(body) => self.take_acknack(moves, sent, receiver, body),

@@ -15,7 +15,7 @@ ghost use Rattle.dds_core.specs.Expiring.{Expires, HasRoomForDeaths, IsDeadly};
 ghost use Rattle.dds_core.specs.Kept.{reader_identity};
 ghost use Rattle.dds_core.specs.Noticing.{MarksReader, RaisesSo, SeesStatus};
 ghost use Rattle.dds_core.specs.Opening.{OpensReader};
-ghost use Rattle.dds_core.specs.Readiness.{receiver_at, IsFirstName, IsNamedFor, NamedBy, NamesNobody, IsToldBy, HasMemory, IsReadyFor, IsAlike, CanTake, TakesTold, SameReader, IsPlaceAt};
+ghost use Rattle.dds_core.specs.Readiness.{receiver_at, IsFirstName, IsNamedFor, IsNamedAt, NamedBy, NamesNobody, IsToldBy, HasMemory, IsReadyFor, IsAlike, CanTake, TakesTold, SameReader, IsPlaceAt};
 ghost use Rattle.dds_core.specs.Looking.{TakesOnly, TellsFlags, TellsLost, TellsLiveliness, TellsMatch};
 ghost use Rattle.dds_core.specs.Stored.{Holds};
 ghost use Rattle.dds_cache.specs.Standing.{qos_of, AccessAnswers, AfterAccess};
@@ -305,6 +305,28 @@ impl ReaderEnd {
         ensures memory { IfErr result (λ code. code ≡ Memory) }
     {
         self.reader.reserve(&mut self.store)
+    }
+
+    /// The row of the writer that a submessage is from, if it is for this reader of the peer of this prefix, and the
+    /// writer is matched.
+    pub fn named_row(
+        &self,
+        own: &GuidPrefix,
+        receiver: &MessageReceiver,
+        submessage: &Submessage,
+    ) -> Option<usize>
+        ensures found { IfSome result
+            (IsNamedAt own.now (receiver_at receiver.now) submessage.now self.now) }
+        ensures none { IfNone result
+            (IsReadyFor own.now (receiver_at receiver.now) submessage.now self.now None) }
+    {
+        let Some(ids) = ids_of(submessage) else {
+            return None;
+        };
+        let Some(row) = self.row_of(own, receiver, &ids.reader, &ids.writer) else {
+            return None;
+        };
+        Some(row)
     }
 
     /// Makes ready what a submessage tells this reader of the peer of this prefix: a copy of it, and memory for all

@@ -2,12 +2,12 @@
 //!
 //! RTPS 2.5, 8.4.9 (the behaviour of a reliable StatefulWriter).
 
-ghost use Rattle.std.specs.Prelude.{◌≡◌, ◌+◌, ◌^◌, ◌<◌, ◌≤◌, ℕ, Some, length, slice_get, vec_len, vec_capacity, IfSome, IfNone, IsTrue, ◌↔◌, OnOk};
+ghost use Rattle.std.specs.Prelude.{◌≡◌, ◌+◌, ◌^◌, ◌<◌, ◌≤◌, ℕ, Some, length, slice_get, vec_len, vec_capacity, IfSome, IfNone, OnOk, OnErr};
 ghost use Rattle.rtps_wire.specs.declared.submessage.Submessage.TheVariants as submessage;
-ghost use Rattle.dds_core.specs.Answering.{HasRoom, HaveRoom, IsWriterOf, TakesRow, TakesAllRows};
+ghost use Rattle.dds_core.specs.Answering.{HasRoom, HaveRoom, AsksNone, IsAskedWriter, TakesRow, TakesAllRows};
 ghost use Rattle.dds_core.specs.Kept.{WriterKept};
 ghost use Rattle.dds_core.specs.Readiness.{receiver_at};
-ghost use Rattle.dds_core.specs.Receiving.{TakesOneMore, KeepsPeer};
+ghost use Rattle.dds_core.specs.Receiving.{TakesOneMore, KeepsPeer, NeedsMemory};
 ghost use Rattle.dds_core.specs.Sending.{AreMessages};
 
 use crate::answering::Room;
@@ -15,30 +15,40 @@ use crate::peer::Peer;
 use crate::receiver::MessageReceiver;
 use crate::sending::Announced;
 use crate::writer_end::WriterEnd;
-use dds_base::{Code, EntityId};
+use dds_base::{Code, GuidPrefix};
 use dds_machine::Move;
 use rtps_wire::AckNack;
 
-/// Whether the writer has this entity.
-fn has_entity(writer: &WriterEnd, entity: &EntityId) -> bool
-    ensures { IsTrue result ↔ (writer.now.entity ≡ entity.now) }
+/// The first of the writers of the peer of this prefix that an ACKNACK is for, of those where it is from a matched reader
+/// and is applied.
+fn asked_writer(
+    writers: &[WriterEnd],
+    own: &GuidPrefix,
+    receiver: &MessageReceiver,
+    body: &AckNack,
+) -> Option<usize>
+    ensures asked { IfSome result
+        (IsAskedWriter own.now (receiver_at receiver.now) body.now writers.now) }
+    ensures none { IfNone result
+        (AsksNone own.now (receiver_at receiver.now) body.now writers.now) }
 {
-    writer.entity() == *entity
+    for (index, writer) in writers.iter().enumerate() {
+        if let Some(_row) = writer.asked_row(own, receiver, body) {
+            return Some(index);
+        }
+    }
+    None
 }
 
 impl Peer {
-    /// The first writer of this entity.
-    fn writer_of(&self, entity: &EntityId) -> Option<usize>
-        ensures found { IfSome result (λ index. IsWriterOf self.now.writers entity.now index) }
-        ensures none { IfNone result ((index : ℕ) → IsWriterOf self.now.writers entity.now index
-            → ⊥) }
+    /// The first of the peer's writers that an ACKNACK is for, of those where it is from a matched reader and is applied.
+    fn asked(&self, receiver: &MessageReceiver, body: &AckNack) -> Option<usize>
+        ensures asked { IfSome result
+            (IsAskedWriter self.now.prefix (receiver_at receiver.now) body.now self.now.writers) }
+        ensures none { IfNone result
+            (AsksNone self.now.prefix (receiver_at receiver.now) body.now self.now.writers) }
     {
-        for (index, writer) in self.writers.iter().enumerate() {
-            if has_entity(writer, entity) {
-                return Some(index);
-            }
-        }
-        None
+        asked_writer(&self.writers, &self.prefix, receiver, body)
     }
 
     /// The writer of this index takes an ACKNACK of its reader of this row, with room for the answers, and sends them.
@@ -107,7 +117,8 @@ impl Peer {
         }
     }
 
-    /// Takes up an ACKNACK: the writer that it names answers each of its readers that it is from. Adds what moved.
+    /// Takes up an ACKNACK: the writer that it names answers each of its readers that it is from. Adds what moved. One
+    /// that is applied by nobody needs no memory.
     pub(crate) fn take_acknack(
         &mut self,
         moves: &mut Vec<Move>,
@@ -123,8 +134,10 @@ impl Peer {
             sent.new) }
         ensures keeps { KeepsPeer (2 ^ 16) self.old moves.old.items sent.old self.new
             moves.new.items sent.new result }
+        ensures needs { OnErr result
+            (NeedsMemory self.old (receiver_at receiver.now) (submessage.AckNack body.now)) }
     {
-        let Some(index) = self.writer_of(&body.writer_id) else {
+        let Some(index) = self.asked(receiver, body) else {
             return Ok(());
         };
         let rooms = self.writers[index].rooms(self.alloc, &self.prefix, receiver, body)?;

@@ -2,7 +2,7 @@
 //!
 //! RTPS 2.5, 8.4.7 (StatefulWriter); DDS 1.4, 2.2.2.4 (DataWriter).
 
-ghost use Rattle.std.specs.Prelude.{◌≡◌, ◌+◌, ◌^◌, ◌<◌, ◌≤◌, ℤ, Option, length, map, nat_le, slice_get, slice_index, Some, None, true, IfOk, IfErr, OnOk, OnErr};
+ghost use Rattle.std.specs.Prelude.{◌≡◌, ◌+◌, ◌^◌, ◌<◌, ◌≤◌, ℤ, Option, length, map, nat_le, slice_get, slice_index, Some, None, true, false, IfSome, IfNone, IfOk, IfErr, OnOk, OnErr};
 ghost use Rattle.dds_base.specs.Checked.{check_refusal};
 ghost use Rattle.dds_base.specs.declared.code.Code.TheVariants.{Memory, OutOfResources};
 ghost use Rattle.dds_base.specs.Kept.{append_refusal};
@@ -13,7 +13,7 @@ ghost use Rattle.dds_machine.specs.Watching.{writer_statuses};
 ghost use Rattle.dds_machine.specs.Refusals.{unregister_kind};
 ghost use Rattle.dds_machine.specs.Part.{ReaderProxy, Writer, history_of, writer_changes};
 ghost use Rattle.dds_core.specs.declared.matching.ReaderName.{ReaderName as NameOf};
-ghost use Rattle.dds_core.specs.Answering.{HasRoom, AreRooms, TakesAckNack};
+ghost use Rattle.dds_core.specs.Answering.{HasRoom, AreRooms, IsAskedAt, IsUnaskedAt, IsUnasked, TakesAckNack};
 ghost use Rattle.dds_core.specs.Beating.{BeatsOf, BeatsOfAll, HasNoCount, TellsOf};
 ghost use Rattle.dds_core.specs.Kept.{writer_identity};
 ghost use Rattle.dds_core.specs.Noticing.{MarksWriter};
@@ -22,7 +22,7 @@ ghost use Rattle.dds_core.specs.Readiness.{receiver_at};
 ghost use Rattle.dds_core.specs.Sending.{AnnouncesOf, AreMessages};
 ghost use Rattle.dds_core.specs.Standing.{WriterStands, Enters, Ticks, AllTick};
 
-use crate::answering::{Answering, Room, rooms, send_answers};
+use crate::answering::{Answering, Room, is_from, rooms, send_answers};
 use crate::heartbeat::{Beat, send_beats, send_to_all};
 use crate::limits::limit_of;
 use crate::matching::{Destination, ReaderName, destinations, matched_readers};
@@ -202,13 +202,16 @@ impl WriterEnd {
     ///
     /// # Errors
     ///
-    /// `Memory` where a growth was refused; the writer is then as it was.
+    /// `Memory` where it is not registered yet, and a growth was refused; the writer is then as it was.
     ///
     /// DDS 1.4, 2.2.2.4 (register_instance).
     pub fn register(&mut self, key: Key) -> Result<(), Code>
         ensures ok { OnOk result (Enters self.old (Registered key) self.new) }
         ensures err { OnErr result (self.new ≡ self.old) }
         ensures memory { IfErr result (λ code. code ≡ Memory) }
+        ensures unregistered { (w : Writer) (answered : EndpointOf → Option ℤ)
+            → WriterStands self.old w answered
+            → OnErr result (is_key_registered key w.written ≡ false) }
     {
         self.writer.register(key)
     }
@@ -279,6 +282,47 @@ impl WriterEnd {
             → result ≡ name.reader }
     {
         self.readers[row].reader
+    }
+
+    /// Whether an ACKNACK is from its reader of this row, and is applied.
+    fn is_asked(
+        &self,
+        own: &GuidPrefix,
+        receiver: &MessageReceiver,
+        body: &AckNack,
+        row: usize,
+    ) -> bool
+        requires row { row < length self.now.readers }
+        ensures asked { result ≡ true
+            → IsAskedAt own.now (receiver_at receiver.now) body.now self.now row }
+        ensures unasked { result ≡ false
+            → IsUnaskedAt own.now (receiver_at receiver.now) body.now self.now row }
+    {
+        if !is_from(own, receiver, body, self.entity, &self.readers[row]) {
+            return false;
+        }
+        self.writer
+            .applies(row, body.reader_sn_state.base(), body.count)
+    }
+
+    /// The first of its readers that an ACKNACK is from, of those for which it is applied.
+    pub fn asked_row(
+        &self,
+        own: &GuidPrefix,
+        receiver: &MessageReceiver,
+        body: &AckNack,
+    ) -> Option<usize>
+        ensures asked { IfSome result
+            (IsAskedAt own.now (receiver_at receiver.now) body.now self.now) }
+        ensures none { IfNone result
+            (IsUnasked own.now (receiver_at receiver.now) body.now self.now) }
+    {
+        for row in 0..self.readers.len() {
+            if self.is_asked(own, receiver, body, row) {
+                return Some(row);
+            }
+        }
+        None
     }
 
     /// Room for the answers to each of its readers that an ACKNACK is from.

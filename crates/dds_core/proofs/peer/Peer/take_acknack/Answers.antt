@@ -8,18 +8,20 @@ use Rattle.dds_core.specs.Kept.{PeerKept, WriterKept}
 use Rattle.dds_core.specs.Readiness.{receiver_at}
 use Rattle.dds_core.specs.Receiving.{TakesOneMore}
 use Rattle.dds_core.proofs.Lists.{get-within}
-use Rattle.dds_core.proofs.Requesting.{have_room, no_writer_takes, writer_takes}
+use Rattle.dds_core.proofs.Requesting.{have_room, nobody_takes, writer_takes}
+use Rattle.dds_core.proofs.RowsAnswered.{asked_needs}
+use Rattle.dds_core.proofs.Watched.{on_err}
 use Rattle.dds_core.proofs.peer.Peer.take_acknack.Goals as goal
 
 pub returns-in_default-clause-takes : goal.returns-in_default-clause-takes
 returns-in_default-clause-takes c =
-    no_writer_takes c.args.self.now c.args.body.now
+    nobody_takes c.args.self.now c.args.body.now
     (receiver_at c.args.receiver.now) c.args.moves.now.items c.args.sent.now c.in_default.ensures.none
 
 pub index-requires : goal.index-requires
 index-requires c =
-    let found = c.in-Some.ensures.found in
-    let lt = get-within c.args.self.now.writers c.in-Some.index found.writer found.at in
+    let found = c.in-Some.ensures.asked in
+    let lt = get-within c.args.self.now.writers c.in-Some.index found.writer found.at_writer in
     let same = ap (λ (k : PeerKept). length k.writers) c.self.view_is in
     omega (arith, lt, same)
 
@@ -33,12 +35,12 @@ is_found {kept} {inside} {now} i k d view at is =
 pub answer_rows-requires-clause-within : goal.answer_rows-requires-clause-within
 answer_rows-requires-clause-within c =
     let found =
-    c.in-Some.ensures.found in (
+    c.in-Some.ensures.asked in (
       found.writer,
-      found.at,
+      found.at_writer,
       c.in_ok-rooms.ensures.rooms.count
           ∙ ap (λ (k : WriterKept). length k.readers)
-          (is_found c.in-Some.index found.writer _ c.self.view_is found.at c.index.ensures),
+          (is_found c.in-Some.index found.writer _ c.self.view_is found.at_writer c.index.ensures),
     )
 
 pub answer_rows-requires-clause-rooms : goal.answer_rows-requires-clause-rooms
@@ -48,9 +50,9 @@ answer_rows-requires-clause-rooms c =
 
 pub returns-clause-takes : goal.returns-clause-takes
 returns-clause-takes c =
-    let found = c.in-Some.ensures.found in
+    let found = c.in-Some.ensures.asked in
     let at = receiver_at c.args.receiver.now in
-    let is = is_found c.in-Some.index found.writer _ c.self.view_is found.at c.index.ensures in
+    let is = is_found c.in-Some.index found.writer _ c.self.view_is found.at_writer c.index.ensures in
     let are : AreRooms c.args.self.now.prefix found.writer.entity at c.args.body.now found.writer.readers
     c.in_ok-rooms.rooms.items =
     subst (λ (p : GuidPrefix). AreRooms p found.writer.entity at c.args.body.now found.writer.readers
@@ -62,16 +64,28 @@ returns-clause-takes c =
     c.answer_rows.new.sent) c.in_ok-reserve.ensures.items
     (writer_takes c.args.self.now c.answer_rows.new.self c.in-Some.index c.args.body.now found.writer
     c.in_ok-rooms.rooms.items at c.reserve.new.self.items c.answer_rows.new.moves.items c.args.sent.now
-    c.answer_rows.new.sent found.at found.is are
-    (c.answer_rows.ensures.takes found.writer found.at))
+    c.answer_rows.new.sent found.at_writer (sym found.asked.from.writer) are
+    (c.answer_rows.ensures.takes found.writer found.at_writer))
 
 pub returns-clause-keeps : goal.returns-clause-keeps
 returns-clause-keeps c =
-    let found = c.in-Some.ensures.found in
+    let found = c.in-Some.ensures.asked in
     record {
-      prefix = (c.answer_rows.ensures.takes found.writer found.at).prefix;
+      prefix = (c.answer_rows.ensures.takes found.writer found.at_writer).prefix;
       few = c.answer_rows.ensures.few;
       messages = c.answer_rows.ensures.messages;
       err = tt;
       memory = tt;
     }
+
+pub returns-in_err-rooms-clause-needs : goal.returns-in_err-rooms-clause-needs
+returns-in_err-rooms-clause-needs c =
+    on_err _
+    (asked_needs c.args.self.now (receiver_at c.args.receiver.now) c.args.body.now c.in-Some.index
+    c.in-Some.ensures.asked)
+
+pub returns-in_err-reserve-clause-needs : goal.returns-in_err-reserve-clause-needs
+returns-in_err-reserve-clause-needs c =
+    on_err _
+    (asked_needs c.args.self.now (receiver_at c.args.receiver.now) c.args.body.now c.in-Some.index
+    c.in-Some.ensures.asked)

@@ -31,7 +31,12 @@ returns-in-Err-clause-takes c =
     let whole = c.loop-index.invariant.whole in
     let count = ap (λ (ss : List Submessage). length ss) whole in
     let within : i < length c.args.message.now.submessages = omega arith in
-    let here = drop_at c.args.message.now.submessages i c.submessage-item.result within in
+    let item : get_or c.args.message.now.submessages i c.submessage-item.result ≡ c.submessage-item.result =
+    ap (λ (ss : List Submessage). get_or ss i c.submessage-item.result) (sym whole) ∙ sym c.submessage-item.is in
+    let here : drop i c.args.message.now.submessages
+    ≡ c.submessage-item.result ∷ drop (i + 1) c.args.message.now.submessages =
+    drop_at c.args.message.now.submessages i c.submessage-item.result within
+    ∙ ap (λ (s : Submessage). s ∷ drop (i + 1) c.args.message.now.submessages) item in
     let report : Report = record { moves = c.from_vec.result; refused = Some i } in
     let same_moves : c.from_vec.result ≡ c.loop-index.moves.items =
     c.from_vec.ensures.elements ∙ c.in-Err.ensures.keeps.err.1 in
@@ -41,9 +46,8 @@ returns-in-Err-clause-takes c =
     (receiver_at c.loop-index.receiver) ms c.loop-index.self c.loop-index.sent)
     (sym same_moves) c.loop-index.invariant.taken in
     takes_some c.args.self.now c.loop-index.self c.take_submessage.new.self c.args.message.now i
-    (receiver_at c.loop-index.receiver)
-    (get_or c.args.message.now.submessages i c.submessage-item.result) report c.loop-index.sent
-    c.take_submessage.new.sent taken c.in-Err.ensures.keeps.err.0 c.in-Err.ensures.keeps.err.2 here refl
+    (receiver_at c.loop-index.receiver) c.submessage-item.result report c.loop-index.sent
+    c.take_submessage.new.sent taken c.loop-index.invariant.same c.in-Err.ensures.needs c.in-Err.ensures.keeps.err.0 c.in-Err.ensures.keeps.err.2 here refl
 
 pub loop-index-preserved : goal.loop-index-preserved
 loop-index-preserved c =

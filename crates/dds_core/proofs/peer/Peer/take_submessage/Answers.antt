@@ -20,4 +20,5 @@ returns-in_default c = record {
         err = k.err;
         memory = k.memory;
       };
+  needs = c.tell_readers.ensures.needs;
 }

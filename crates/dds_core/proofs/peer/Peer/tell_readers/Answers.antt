@@ -3,7 +3,7 @@ use Rattle.dds_machine.specs.declared.reply.Move.{Move}
 use Rattle.dds_core.specs.Readiness.{receiver_at}
 use Rattle.dds_core.specs.Receiving.{TellsReaders}
 use Rattle.dds_core.proofs.Ready.{all_can}
-use Rattle.dds_core.proofs.Turns.{tells_readers}
+use Rattle.dds_core.proofs.Turns.{nobody_told, tells_readers}
 use Rattle.dds_core.proofs.peer.Peer.tell_readers.Goals as goal
 
 pub take_all-requires-clause-can : goal.take_all-requires-clause-can
@@ -24,3 +24,8 @@ returns-clause-takes c =
     c.take_all.new.moves.items c.args.sent.now c.take_all.new.sent
     c.in_ok-ready.ensures.stands c.in_ok-ready.ensures.prefix c.in_ok-ready.ensures.ready c.take_all.ensures.takes
     c.in_ok-ready.ensures.count)
+
+pub returns-in_default-clause-takes : goal.returns-in_default-clause-takes
+returns-in_default-clause-takes c =
+    nobody_told c.args.self.now (receiver_at c.args.receiver.now) c.args.submessage.now c.args.moves.now.items
+    c.args.sent.now c.in_default.ensures.none
