@@ -127,7 +127,7 @@ impl WaitSet {
     ///
     /// # Errors
     ///
-    /// `Memory` where a growth was refused.
+    /// `Memory` where a growth was refused, which only one that has conditions needs.
     pub fn active<T: FnMut(&Cond) -> bool>(&self, is_true: T) -> Result<Sequence<Cond>, Code>
         // The test can be called at any time.
         requires callable { T.IsAlwaysCallable is_true }
@@ -136,9 +136,14 @@ impl WaitSet {
             → ((c : Cond) (answer : Bool) (after : T) → CalledAt T.FnMut is_true c answer after
             → (answer ≡ trigger c) × (after ≡ is_true))
             → IfOk result (λ active. active ≡ active_of trigger self.now) }
+        // Where none is attached, it is never refused.
+        ensures none { self.now ≡ [] → IsOk result }
         // The only refusal is for want of memory.
         ensures memory { IfErr result (λ code. code ≡ Memory) }
     {
+        if self.conditions.is_empty() {
+            return Ok(Sequence::from_vec(Vec::new(*self.conditions.allocator())));
+        }
         let mut active = Vec::from_slice(*self.conditions.allocator(), &self.conditions)?;
         active.retain(is_true);
         Ok(Sequence::from_vec(active))

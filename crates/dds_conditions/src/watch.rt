@@ -2,7 +2,7 @@
 //!
 //! DDS 1.4, 2.2.2.1 (Condition, WaitSet).
 
-ghost use Rattle.std.specs.Prelude.{◌≡◌, ℕ, nat_le, replicate, ◌+◌, ◌-◌, ◌≤◌, length, map, Bool, None, Some, true, false, OnOk, OnErr, IfOk, IfErr, IfSome, IfNone, is_some};
+ghost use Rattle.std.specs.Prelude.{◌≡◌, ℕ, [], IsOk, nat_le, replicate, ◌+◌, ◌-◌, ◌≤◌, length, map, Bool, None, Some, true, false, OnOk, OnErr, IfOk, IfErr, IfSome, IfNone, is_some};
 ghost use Rattle.std.specs.List.{list_any};
 ghost use Rattle.std.specs.Option.{option_copied};
 ghost use Rattle.dds_notices.specs.declared.mask.StatusMask.{StatusMask as Mask};
@@ -365,7 +365,8 @@ impl Watch {
     ///
     /// # Errors
     ///
-    /// `BadParameter` where there is no such WaitSet, else `Memory` where a growth was refused.
+    /// `BadParameter` where there is no such WaitSet, else `Memory` where a growth was refused, which only one that has
+    /// conditions needs.
     ///
     /// DDS 1.4, 2.2.2.1 (get_conditions).
     pub fn conditions(&self, number: u32) -> Result<Sequence<Cond>, Code>
@@ -377,8 +378,15 @@ impl Watch {
         // A refusal is for its cause, or for want of memory.
         ensures refused { IfErr result
             (λ code. Refuses (unless_there (is_some (at_number self.now.wait_sets number))) code) }
+        // Where none is attached, it is refused for its cause alone.
+        ensures none { conditions_of self.now number ≡ []
+            → IfErr result
+            (λ code. unless_there (is_some (at_number self.now.wait_sets number)) ≡ Some code) }
     {
         let waiting = self.wait_set(number).ok_or(Code::BadParameter)?;
+        if waiting.conditions.conditions().is_empty() {
+            return Ok(Sequence::from_vec(Vec::new(self.alloc)));
+        }
         let conditions = Vec::from_slice(self.alloc, waiting.conditions.conditions())?;
         Ok(Sequence::from_vec(conditions))
     }
@@ -523,7 +531,7 @@ impl Watch {
     ///
     /// # Errors
     ///
-    /// `Memory` where a growth was refused.
+    /// `Memory` where a growth was refused, which only a WaitSet that has conditions needs.
     ///
     /// DDS 1.4, 2.2.2.1 (wait: active_conditions).
     pub fn active<T: FnMut(&Cond) -> bool>(
@@ -538,6 +546,8 @@ impl Watch {
             → ((c : CondOf) (answer : Bool) (after : T) → CalledAt T.FnMut is_true c answer after
             → (answer ≡ trigger c) × (after ≡ is_true))
             → IfOk result (λ active. active ≡ active_of trigger (conditions_of self.now number)) }
+        // Where none is attached, it is never refused.
+        ensures none { conditions_of self.now number ≡ [] → IsOk result }
         // The only refusal is for want of memory.
         ensures memory { IfErr result (λ code. code ≡ Memory) }
     {
