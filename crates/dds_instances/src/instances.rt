@@ -243,6 +243,8 @@ impl Instances {
             ((q : ReaderQos) (h : List Happening) → Stands q self.old h
             → All (IsReturnable q h) samples.now
             → Stands q self.new (Took samples.now ∷ h)) }
+        // It is taken up before 2^64 - 1 entries were.
+        ensures counted { happened_of self.old + 1 < 2 ^ 64 → IsOk result }
         // It is an entry as each is: where there is room it is taken up, it takes the room of one at most, and it is
         // refused for want of memory alone, and then changes nothing.
         ensures entry { TakesEntry self.old self.new result }
