@@ -12,18 +12,15 @@ use Rattle.dds_base.specs.declared.key.Key.{Key}
 use Rattle.dds_base.specs.declared.happening.SamplePosition.{SamplePosition}
 use Rattle.dds_base.specs.declared.happening.Happening.{Happening}
 use Rattle.dds_base.specs.declared.qos.ReaderQos.{ReaderQos}
-use Rattle.dds_base.specs.declared.mask.Masks.{Masks}
-use Rattle.dds_instances.specs.Table.{Table}
-use Rattle.dds_base.specs.Access.{has_match}
 use Rattle.dds_base.specs.Happening.{same_key}
 use Rattle.dds_base.specs.Instance.{known_instances}
 use Rattle.dds_base.specs.Presence.{is_present, present_of, present_samples, up_to}
 use Rattle.dds_base.proofs.KeyLaws.{key-same, same_key-comm}
 use Rattle.dds_cache.specs.declared.kept.Kept.{Kept}
 use Rattle.dds_cache.specs.Kept.{IsKept, positions_in, sample_at}
-use Rattle.dds_cache.specs.Finding.{Holds, is_asked_for, is_wanted, sample_of}
+use Rattle.dds_cache.specs.Finding.{passes, sample_of}
 use Rattle.dds_cache.proofs.GroupLaws.{flat_map-same}
-use Rattle.dds_cache.proofs.FindingLaws.{filter-flat_map, known-distinct, passes, wanted-of}
+use Rattle.dds_cache.proofs.FindingLaws.{filter-flat_map, known-distinct, wanted-of}
 
 -- those of instance i
 abbrev of_key : List SamplePosition → Key → List SamplePosition
@@ -146,10 +143,3 @@ present-any q h test ks kept present =
     (All-weaker (IsKept q h) (λ (k : Kept). list_any (λ i. same_key i k.sample.key) (known_instances q h) ≡ true)
     (λ k is. is.is_known) ks kept) present)
     ∙ sym (any-count (passes q h test) ks))
-
--- some of them meets the masks and passes the test exactly where one of those kept does
-pub matched-any : (q : ReaderQos) (table : Table) (h : List Happening) (masks : Masks) (test : Key → List ℕ → Bool)
-    (ks : List Kept) → Holds q table ks h
-    → list_any (is_wanted q h masks test) ks ≡ has_match q h masks test
-matched-any q table h masks test ks holds =
-    sym (present-any q h (is_asked_for q h masks test) ks holds.each holds.present)

@@ -13,9 +13,9 @@ use Rattle.dds_base.specs.declared.qos.ReaderQos.{ReaderQos}
 use Rattle.dds_base.specs.Presence.{is_present, up_to}
 use Rattle.dds_base.specs.StatusFlags.{brings_sample}
 use Rattle.dds_cache.specs.declared.kept.Kept.{Kept}
+use Rattle.dds_cache.specs.Finding.{passes}
 use Rattle.dds_cache.specs.Kept.{Adds, IsKept, IsNewAt, position_of, positions_in}
 use Rattle.dds_cache.proofs.CountLaws.{present-any}
-use Rattle.dds_cache.proofs.FindingLaws.{passes}
 use Rattle.dds_cache.proofs.GroupLaws.{unequal}
 
 -- the newest entry has brought a sample exactly where more samples are kept after it

@@ -34,7 +34,7 @@ use Rattle.dds_instances.specs.Known.{IsKnown}
 use Rattle.dds_cache.specs.declared.kept.Kept.{Kept}
 use Rattle.dds_cache.specs.declared.access.Candidate.{Candidate}
 use Rattle.dds_cache.specs.Kept.{IsKept, is_live, sample_at, position_of, positions_in, is_here}
-use Rattle.dds_cache.specs.Finding.{are_asked_for, is_asked_for, is_wanted, described_by, IsFound, IsCandidate, AreCandidates, Holds, sample_in, sample_of, handle_in}
+use Rattle.dds_cache.specs.Finding.{are_asked_for, is_asked_for, is_wanted, described_by, IsFound, IsCandidate, AreCandidates, Holds, sample_in, sample_of, handle_in, passes}
 use Rattle.dds_base.proofs.KeyLaws.{key-same, same_key-comm}
 use Rattle.dds_cache.proofs.KeptLaws.{live-present, instance-of-handle, NumberAt, number-there}
 use Rattle.dds_cache.proofs.PresenceLaws.{count-grew}
@@ -199,10 +199,6 @@ filter-flat_map p f (k ∷ ks) =
     ∙ (ap (λ (ss : List SamplePosition). filter p (f k) ++ ss) (filter-flat_map p f ks)
     ∙ sym (flat_map-cons (λ (i : Key). filter p (f i)) k ks)))
 
--- a kept sample is present and passes a test
-abbrev pub passes : ReaderQos → List Happening → (SamplePosition → Bool) → Kept → Bool
-passes q h test k = is_present q h k.sample.key k.sample.position && test k.sample
-
 -- the present samples of i that pass a test, among those kept and among those present
 pub wanted-of : (q : ReaderQos) (h : List Happening) (test : SamplePosition → Bool) (i : Key) (ks : List Kept)
     → filter (λ (s : SamplePosition). same_key i s.key) (map sample_of (filter (passes q h test) ks))
@@ -350,7 +346,7 @@ nothing = record {
   at = 0;
 }
 
-handle-bounds : (q : ReaderQos) (h : List Happening) (i : Key)
+pub handle-bounds : (q : ReaderQos) (h : List Happening) (i : Key)
     → list_any (λ k. same_key k i) (known_instances q h) ≡ true
     → (1 ≤ handle_of q h i) × (handle_of q h i < 1 + length (known_instances q h))
 handle-bounds q h i known_is = bounds-of (number-there 1 (known_instances q h) i known_is)

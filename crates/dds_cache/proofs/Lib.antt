@@ -6,6 +6,7 @@ pub mod FindingLaws
 pub mod PickLaws
 pub mod CollectionLaws
 pub mod CountLaws
+pub mod AnyLaws
 pub mod DataLaws
 pub mod RoomLaws
 pub mod DeathLaws

@@ -2,7 +2,7 @@
 -- believed.
 --
 -- DDS 1.4, 2.2.2.5 (read, take: sample_states, view_states, instance_states).
-use Rattle.std.specs.Prelude.{◌≡◌, ℕ, ◌+◌, if◌then◌else◌, ◌<◌, ◌^◌, List, length, Bool, true, ◌&&◌, map, filter, All, Option, IsTrue, slice_index_or}
+use Rattle.std.specs.Prelude.{◌≡◌, ℕ, ◌+◌, if◌then◌else◌, ◌<◌, ◌^◌, List, length, Bool, true, ◌&&◌, ◌==◌, nat_lt, map, filter, All, Option, IsTrue, slice_index_or}
 use Rattle.std.specs.List.{list_any}
 use Rattle.dds_base.specs.declared.happening.SamplePosition.{SamplePosition}
 use Rattle.dds_base.specs.declared.happening.Happening.{Happening}
@@ -15,10 +15,12 @@ use Rattle.dds_base.specs.declared.sample.ViewState.{ViewState}
 use Rattle.dds_base.specs.declared.sample.InstanceState.{InstanceState}
 use Rattle.dds_base.specs.declared.sample.Picked.{Picked}
 use Rattle.dds_base.specs.declared.qos.ReaderQos.{ReaderQos}
+use Rattle.dds_base.specs.declared.selection.Selection.{Selection}
+use Rattle.dds_base.specs.declared.selection.Selection.TheVariants.{Any, Instance, NextInstance, NextSample}
 use Rattle.dds_base.specs.Happening.{same_key}
 use Rattle.dds_base.specs.Instance.{known_instances}
 use Rattle.dds_base.specs.Presence.{is_present, up_to}
-use Rattle.dds_base.specs.Access.{asks_for_sample_state, asks_for_view_state, asks_for_instance_state, meets, picked_of, own_generations, value_of, matching_samples}
+use Rattle.dds_base.specs.Access.{asks_for_sample_state, asks_for_view_state, asks_for_instance_state, meets, picked_of, own_generations, handle_of, value_of, matching_samples}
 use Rattle.dds_cache.specs.declared.kept.Kept.{Kept}
 use Rattle.dds_cache.specs.declared.access.Candidate.{Candidate}
 use Rattle.dds_cache.specs.Kept.{IsKept, positions_in}
@@ -37,6 +39,21 @@ is_asked_for q h masks test s = meets q h masks s && test s.key (value_of q h s)
 -- a kept sample is present, meets the masks, and passes the test
 abbrev pub is_wanted : ReaderQos → List Happening → Masks → (Key → List ℕ → Bool) → Kept → Bool
 is_wanted q h masks test k = is_present q h k.sample.key k.sample.position && is_asked_for q h masks test k.sample
+
+-- a kept sample is present and passes a test
+abbrev pub passes : ReaderQos → List Happening → (SamplePosition → Bool) → Kept → Bool
+passes q h test k = is_present q h k.sample.key k.sample.position && test k.sample
+
+-- an access asks for the instance of a handle
+abbrev pub asks_for : Selection → ℕ → Bool
+asks_for (Any max masks) n = true
+asks_for (Instance handle max masks) n = n == handle
+asks_for (NextInstance previous max masks) n = nat_lt previous n
+asks_for NextSample n = true
+
+-- a sample meets the masks, passes the test, and is of an instance that an access asks for
+abbrev pub is_sought : ReaderQos → List Happening → Selection → Masks → (Key → List ℕ → Bool) → SamplePosition → Bool
+is_sought q h selection masks test s = asks_for selection (handle_of q h s.key) && is_asked_for q h masks test s
 
 -- the instances and the samples are those of what happened
 pub record Holds (q : ReaderQos) (table : Table) (ks : List Kept) (h : List Happening) : Type 0 where

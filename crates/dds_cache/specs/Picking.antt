@@ -2,7 +2,7 @@
 -- here has to be believed.
 --
 -- DDS 1.4, 2.2.2.5 (read, take, and their instance, next-instance and next-sample forms).
-use Rattle.std.specs.Prelude.{◌≡◌, ℕ, List, [], ◌∷◌, All, map, filter, Bool, true, false, ◌==◌, nat_lt, Option, None, Some, Result, Ok, Err, ℤ, if◌then◌else◌}
+use Rattle.std.specs.Prelude.{◌≡◌, ◌≢◌, ℕ, List, [], ◌∷◌, All, map, filter, Bool, true, false, ◌==◌, nat_lt, Option, None, Some, Result, Ok, Err, ℤ, if◌then◌else◌}
 use Rattle.dds_base.specs.declared.code.Code.{Code}
 use Rattle.dds_base.specs.declared.code.Code.TheVariants.{BadParameter}
 use Rattle.dds_base.specs.declared.happening.SamplePosition.{SamplePosition}
@@ -102,3 +102,8 @@ pub record IsAccess (q : ReaderQos) (h : List Happening) (selection : Selection)
   pub positions_are : positions ≡ picked_by q h selection test
   pub collection_is : collection ≡ collection_of q h positions
   pub each : All (IsReturnable q h) positions
+
+-- whether there are any of these
+abbrev pub TellsAny : Bool → List SamplePosition → Type 0
+TellsAny true ss = ss ≢ []
+TellsAny false ss = ss ≡ []

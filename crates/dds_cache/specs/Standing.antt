@@ -3,8 +3,7 @@
 -- call.
 --
 -- DDS 1.4, 2.2.2.5 (read, take), 2.2.3 (HISTORY, RESOURCE_LIMITS); RTPS 2.5, 8.2 (HistoryCache of a reader).
-use Rattle.std.specs.Prelude.{Bool, ◌≡◌, ◌≢◌, ℕ, ◌<◌, ◌≤◌, ◌+◌, ◌-◌, ◌^◌, min, List, [], ◌∷◌, length, filter, All, false, Option, None}
-use Rattle.std.specs.Prelude.{Result, Ok, Err, IsOk, OnOk, OnErr, IfErr}
+use Rattle.std.specs.Prelude.{Bool, ◌≡◌, ◌≢◌, ℕ, ◌<◌, ◌≤◌, ◌+◌, ◌-◌, ◌^◌, ◌⊎◌, min, List, [], ◌∷◌, length, filter, All, false, Option, None, Result, Ok, Err, IsOk, OnOk, OnErr, IfErr}
 use Rattle.dds_base.specs.declared.code.Code.{Code}
 use Rattle.dds_base.specs.declared.code.Code.TheVariants.{Memory, NoData}
 use Rattle.dds_base.specs.declared.happening.SamplePosition.{SamplePosition}
@@ -107,7 +106,7 @@ abbrev pub refusal : Stored → List Happening → Selection → Option Code
 refusal stored h selection = selection_refusal (qos_of stored) h selection
 
 -- the answer of an access by a test: the collection, or NO_DATA where nothing is picked; or the first cause that
--- refuses it, or MEMORY where there is none
+-- refuses it, or MEMORY where there is none, and something is picked or no entry more can be counted
 abbrev pub AccessAnswers : Stored → List Happening → Selection → (Key → List ℕ → Bool) → Result (List Sample) Code
     → Type 0
 AccessAnswers stored h selection test (Ok samples) =
@@ -115,7 +114,9 @@ AccessAnswers stored h selection test (Ok samples) =
     × (samples ≡ collection_of (qos_of stored) h (picked stored h selection test))
 AccessAnswers stored h selection test (Err NoData) =
     (refusal stored h selection ≡ None) × (picked stored h selection test ≡ [])
-AccessAnswers stored h selection test (Err code) = Refuses (refusal stored h selection) code
+AccessAnswers stored h selection test (Err code) =
+    Refuses (refusal stored h selection) code
+    × (code ≡ Memory → (picked stored h selection test ≢ []) ⊎ (2 ^ 64 - 1 ≤ length h))
 
 -- what a cache is after an access by a test that was answered so: it stands for one entry more, the access, also where
 -- that found nothing; any other refusal leaves it as it was

@@ -7,15 +7,20 @@ ghost use Rattle.std.specs.List.Sorted.{IsPermutation, IsNonDecreasingBy, IsStab
 ghost use Rattle.std.specs.Ordering.{nat_cmp};
 ghost use Rattle.dds_base.specs.declared.happening.Happening.{Happening};
 ghost use Rattle.dds_base.specs.declared.sample.SampleState.TheVariants.{Read as HasBeenRead, NotRead};
-ghost use Rattle.dds_base.specs.Access.{has_match, own_generations};
+ghost use Rattle.dds_base.specs.Access.{own_generations};
+ghost use Rattle.dds_base.specs.Presence.{present_samples};
+ghost use Rattle.std.specs.List.{list_any};
 ghost use Rattle.dds_instances.specs.Table.{Stands};
 ghost use Rattle.dds_cache.specs.Kept.{IsKept, is_live};
-ghost use Rattle.dds_cache.specs.Finding.{are_asked_for, is_wanted, described_by, IsFound, IsSmall, IsPlaced, AreCandidates, Holds, Finds, sample_in, picked_in, handle_in};
+ghost use Rattle.dds_cache.specs.Finding.{are_asked_for, asks_for, is_sought, is_wanted, passes, described_by, IsFound, IsSmall, IsPlaced, AreCandidates, Holds, Finds, sample_in, picked_in, handle_in};
 
 use crate::kept::Kept;
 use crate::masks::{asks_for_instance, asks_for_sample, asks_for_view};
 use crate::test::Test;
-use dds_base::{InstanceState, Masks, Picked, ReaderQos, SamplePosition, SampleState, ViewState};
+use dds_base::{
+    Handle, InstanceState, Masks, Picked, ReaderQos, SamplePosition, SampleState, Selection,
+    ViewState,
+};
 use dds_instances::{Instances, KnownInstance};
 use std::alloc::{AllocError, Global};
 
@@ -110,19 +115,51 @@ fn is_match<T: Test>(
     }
 }
 
-/// Whether some sample is present, meets the masks and passes the test. It goes once over them.
+/// Whether a selection asks for the instance of a handle.
+fn asks_for_handle(selection: &Selection, handle: Handle) -> bool
+    ensures { result ≡ asks_for selection.now handle }
+{
+    match *selection {
+        Selection::Any { .. } | Selection::NextSample => true,
+        Selection::Instance { handle: asked, .. } => handle == asked,
+        Selection::NextInstance { previous, .. } => previous.number() < handle.number(),
+    }
+}
+
+/// Whether a kept sample is present, of an instance that the selection asks for, meets the masks and passes the test.
+fn is_sought_match<T: Test>(
+    instances: &Instances,
+    qos: &ReaderQos,
+    selection: &Selection,
+    masks: Masks,
+    test: &T,
+    kept: &Kept,
+) -> bool
+    ensures wanted { (h : List Happening) → Stands qos.now instances.now h
+        → IsKept qos.now h kept.now
+        → result
+        ≡ passes qos.now h (is_sought qos.now h selection.now masks (T.meaning test.now)) kept.now }
+{
+    asks_for_handle(selection, kept.handle) && is_match(instances, qos, masks, test, kept)
+}
+
+/// Whether some sample is present, of an instance that the selection asks for, meets the masks and passes the test. It
+/// goes once over them.
 pub fn is_any_match<T: Test>(
     instances: &Instances,
     qos: &ReaderQos,
+    selection: &Selection,
     masks: Masks,
     test: &T,
     samples: &[Kept],
 ) -> bool
     ensures matched { (h : List Happening) → Holds qos.now instances.now samples.now h
-        → result ≡ has_match qos.now h masks (T.meaning test.now) }
+        → result
+        ≡ list_any (is_sought qos.now h selection.now masks (T.meaning test.now))
+        (present_samples qos.now h) }
 {
     for kept in samples {
-        if is_match(instances, qos, masks, test, kept) {
+        if is_sought_match(instances, qos, selection, masks, test, kept) {
             return true;
         }
     }

@@ -2,7 +2,7 @@
 //!
 //! DDS 1.4, 2.2.2.5 (SampleInfo: ranks).
 
-ghost use Rattle.std.specs.Prelude.{◌≡◌, length, map, All, IfOk, IfErr};
+ghost use Rattle.std.specs.Prelude.{◌≡◌, [], length, map, All, IfOk, IfErr};
 ghost use Rattle.dds_base.specs.declared.code.Code.TheVariants.{Memory};
 ghost use Rattle.dds_base.specs.Access.{infos_of};
 ghost use Rattle.dds_cache.specs.Kept.{HaveSame};
@@ -60,6 +60,21 @@ pub struct Access {
     pub returned: IndexSet<SamplePosition>,
     /// Their collection.
     pub samples: Vec<Sample>,
+}
+
+impl Access {
+    /// What an access returns that picked nothing. Takes no memory.
+    pub fn nothing(alloc: Global) -> Access
+        ensures positions { result.positions.items ≡ [] }
+        ensures set { result.returned.keys ≡ [] }
+        ensures samples { result.samples.items ≡ [] }
+    {
+        Access {
+            positions: Vec::new(alloc),
+            returned: IndexSet::new(alloc),
+            samples: Vec::new(alloc),
+        }
+    }
 }
 
 /// What an access returns that picked these.

@@ -2,18 +2,18 @@
 //!
 //! DDS 1.4, 2.2.2.5 (read, take, and their instance, next-instance and next-sample forms).
 
-ghost use Rattle.std.specs.Prelude.{◌≡◌, ℕ, List, length, filter, All, IfOk, IfErr};
+ghost use Rattle.std.specs.Prelude.{◌≡◌, ℕ, List, length, filter, All, IfOk, IfErr, None};
 ghost use Rattle.dds_base.specs.declared.happening.Happening.{Happening};
 ghost use Rattle.dds_base.specs.declared.qos.ReaderQos.{ReaderQos};
 ghost use Rattle.dds_base.specs.Access.{at_most};
 ghost use Rattle.dds_base.specs.Refusal.{Refuses};
-ghost use Rattle.dds_base.specs.Selection.{selection_refusal};
+ghost use Rattle.dds_base.specs.Selection.{picked_by, selection_refusal};
 ghost use Rattle.dds_instances.specs.Table.{Stands};
 ghost use Rattle.dds_cache.specs.Finding.{Finds, Holds, IsPlaced, IsSmall};
-ghost use Rattle.dds_cache.specs.Picking.{IsLimit, IsRequestWith, IsRequest, Picks, test_in};
+ghost use Rattle.dds_cache.specs.Picking.{IsLimit, IsRequestWith, IsRequest, Picks, TellsAny, test_in};
 ghost use Rattle.dds_cache.specs.Picking.{has_handle, first_above, of_selection};
 
-use crate::access::{Candidate, find_matching};
+use crate::access::{Candidate, find_matching, is_any_match};
 use crate::kept::Kept;
 use crate::test::{Everything, Test};
 use dds_base::{Code, Handle, Masks, ReaderQos, Selection};
@@ -141,6 +141,39 @@ fn find_asked<T: Test>(
         Selection::Any { .. } | Selection::Instance { .. } | Selection::NextInstance { .. } => {
             find_matching(alloc, instances, qos, masks, test, samples)
         }
+    }
+}
+
+/// Whether an access that is not refused picks something by a test. It needs no memory, and goes once over the samples.
+pub fn picks_any<T: Test>(
+    instances: &Instances,
+    qos: &ReaderQos,
+    samples: &[Kept],
+    selection: &Selection,
+    test: &T,
+) -> bool
+    ensures tells { (h : List Happening) → Holds qos.now instances.now samples.now h
+        → selection_refusal qos.now h selection.now ≡ None
+        → TellsAny result (picked_by qos.now h selection.now (T.meaning test.now)) }
+{
+    match *selection {
+        Selection::Any { masks, .. } => {
+            is_any_match(instances, qos, selection, masks, test, samples)
+        }
+        Selection::Instance { masks, .. } => {
+            is_any_match(instances, qos, selection, masks, test, samples)
+        }
+        Selection::NextInstance { masks, .. } => {
+            is_any_match(instances, qos, selection, masks, test, samples)
+        }
+        Selection::NextSample => is_any_match(
+            instances,
+            qos,
+            selection,
+            Masks::NOT_READ,
+            &Everything,
+            samples,
+        ),
     }
 }
 

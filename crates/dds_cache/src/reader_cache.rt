@@ -2,7 +2,7 @@
 //!
 //! DDS 1.4, 2.2.2.5 (read, take, SampleInfo); RTPS 2.5, 8.2 (HistoryCache of a reader).
 
-ghost use Rattle.std.specs.Prelude.{◌≡◌, ◌==◌, ℕ, ◌+◌, ◌≤◌, ◌∷◌, [], if◌then◌else◌, nat_lt, List, Some, length, All, IsOk, OnOk, OnErr, IfOk, IfErr};
+ghost use Rattle.std.specs.Prelude.{◌≡◌, ◌≢◌, ◌==◌, ℕ, ◌+◌, ◌≤◌, ◌<◌, ◌^◌, ◌∷◌, [], if◌then◌else◌, nat_lt, List, Some, length, All, IsOk, OnOk, OnErr, IfOk, IfErr};
 ghost use Rattle.dds_base.specs.declared.happening.Happening.{Happening};
 ghost use Rattle.dds_base.specs.declared.happening.Happening.TheVariants.{Came, Passed, Heard, Died};
 ghost use Rattle.dds_base.specs.declared.code.Code.TheVariants.{Memory, NoData};
@@ -15,7 +15,7 @@ ghost use Rattle.dds_base.specs.StatusFlags.{data_available_at};
 ghost use Rattle.dds_instances.specs.Known.{IsReturnable};
 ghost use Rattle.dds_cache.specs.Kept.{HaveSame};
 ghost use Rattle.dds_cache.specs.Picking.{IsAccess};
-ghost use Rattle.dds_cache.specs.Standing.{deaths_of, qos_of, room_of, StandsFor, entry_of};
+ghost use Rattle.dds_cache.specs.Standing.{deaths_of, picked, qos_of, room_of, StandsFor, entry_of};
 ghost use Rattle.dds_cache.specs.Standing.{AccessAnswers, AfterAccess, MakesRoom, TakesEntry};
 
 use crate::access::is_any_match;
@@ -24,7 +24,7 @@ use crate::arriving::{add_left, is_accepted_write};
 use crate::collection::{Access, gather};
 use crate::dying::add_markers;
 use crate::kept::Kept;
-use crate::pick::pick;
+use crate::pick::{pick, picks_any};
 use crate::returned::settle;
 use crate::room::{count_arrival, is_room};
 use crate::sweeping::{next_sweep, sweep};
@@ -352,11 +352,12 @@ impl ReaderCache {
         ensures matched { (h : List Happening) → StandsFor self.now h
             → result ≡ has_match (qos_of self.now) h masks (T.meaning test.now) }
     {
-        is_any_match(&self.instances, &self.qos, masks, test, &self.samples)
+        let any = Selection::Any { max: -1, masks };
+        is_any_match(&self.instances, &self.qos, &any, masks, test, &self.samples)
     }
 
-    /// What an access by a test finds.
-    fn find<T: Test>(&self, selection: Selection, test: &T) -> Result<Access, Code>
+    /// What an access by a test finds, where there is memory for it.
+    fn find_in_memory<T: Test>(&self, selection: Selection, test: &T) -> Result<Access, Code>
         ensures found { IfOk result (λ access. (h : List Happening) → StandsFor self.now h
             → IsAccess (qos_of self.now) h selection (T.meaning test.now)
             access.positions.items access.samples.items) }
@@ -376,12 +377,39 @@ impl ReaderCache {
         Ok(access)
     }
 
+    /// What an access by a test finds. Where it is refused for want of memory, something is picked: to find nothing
+    /// takes none.
+    fn find<T: Test>(&self, selection: Selection, test: &T) -> Result<Access, Code>
+        ensures found { IfOk result (λ access. (h : List Happening) → StandsFor self.now h
+            → IsAccess (qos_of self.now) h selection (T.meaning test.now)
+            access.positions.items access.samples.items) }
+        ensures set { IfOk result (λ access. HaveSame access.returned.keys access.positions.items) }
+        ensures refused { IfErr result (λ e. (h : List Happening) → StandsFor self.now h
+            → Refuses (selection_refusal (qos_of self.now) h selection) e) }
+        ensures some { IfErr result (λ e. (h : List Happening) → StandsFor self.now h
+            → e ≡ Memory → picked self.now h selection (T.meaning test.now) ≢ []) }
+    {
+        let code = match self.find_in_memory(selection, test) {
+            Ok(access) => return Ok(access),
+            Err(code) => code,
+        };
+        if code != Code::Memory {
+            return Err(code);
+        }
+        if picks_any(&self.instances, &self.qos, &self.samples, &selection, test) {
+            return Err(Code::Memory);
+        }
+        Ok(Access::nothing(self.alloc))
+    }
+
     /// Takes up that an access of this kind returned these samples.
     fn enter(&mut self, kind: AccessKind, access: &Access) -> Result<(), Code>
         requires set { HaveSame access.now.returned.keys access.now.positions.items }
         ensures ok { OnOk result ((h : List Happening) → StandsFor self.old h
             → All (IsReturnable (qos_of self.old) h) access.now.positions.items
             → StandsFor self.new (entry_of kind access.now.positions.items ∷ h)) }
+        ensures counted { (h : List Happening) → StandsFor self.old h → length h + 1 < 2 ^ 64
+            → IsOk result }
         ensures entry { TakesEntry room_of self.old self.new result }
     {
         self.instances.returned(&access.positions)?;
@@ -399,7 +427,8 @@ impl ReaderCache {
     ///
     /// The first of these: `BadParameter` for a `max` that is neither -1 nor positive, and for an instance that is not
     /// known where it has to be; `NoData` where there is no such sample, and that too is an access, which lowers
-    /// DATA_AVAILABLE; `Memory` where a growth was refused. But for `NoData` the cache is then as it was.
+    /// DATA_AVAILABLE; `Memory` where a growth was refused, which only samples that are picked need, and after 2^64 - 1
+    /// entries. But for `NoData` the cache is then as it was.
     ///
     /// DDS 1.4, 2.2.2.5 (read, take, read_w_condition, take_w_condition, read_instance, take_instance,
     /// read_next_instance, take_next_instance, read_next_instance_w_condition, take_next_instance_w_condition,
@@ -411,7 +440,8 @@ impl ReaderCache {
         test: &T,
     ) -> Result<Sequence<Sample>, Code>
         // The samples are those that the definitions pick by the test of what happened, or there is none; or it is
-        // refused by the first cause that there is, or for want of memory.
+        // refused by the first cause that there is, or for want of memory, which only samples that are picked need, and
+        // what comes after 2^64 - 1 entries.
         ensures answer { (h : List Happening) → StandsFor self.old h
             → AccessAnswers self.old h selection (T.meaning test.now) result }
         // The read or take is entered, and nothing else; one that is refused is not.
