@@ -28,7 +28,7 @@ use Rattle.dds_protocol.specs.declared.event.Output.{Output}
 use Rattle.dds_machine.specs.declared.reply.Reply.{Reply}
 use Rattle.dds_machine.specs.declared.reply.Reply.TheVariants.{Samples, Refused}
 use Rattle.dds_machine.specs.Refusals.{access_refusal}
-use Rattle.dds_machine.specs.Calls.{Answers as CallAnswers, AnswersAccess, AnswersByCondition, CallStep, Effect, nothing, effect, effect_of, picked_at, with_happening}
+use Rattle.dds_machine.specs.Calls.{Answers as CallAnswers, AnswersAccess, AnswersByCondition, CallStep, Effect, MayWantMemory, nothing, effect, effect_of, picked_at, with_happening}
 use Rattle.dds_machine.specs.Numbered.{has_element}
 use Rattle.dds_conditions.specs.Watched.{no_filters}
 use Rattle.dds_machine.specs.Part.{Part, Dds, Reader, WriterProxy, own_reader, own_proxies, Seen}
@@ -241,8 +241,14 @@ accessed tests kind c test i selection kept k k' config peer is s at same (Err N
     })
 accessed tests kind c test i selection kept k k' config peer is s at same (Err code) causes qos answer after =
     not_entered tests c kept i k k' config peer code s at (kept_same k k' same after)
-    (is.answers (Refused code) peer.part.dds
-    (subst (λ (o : Option Code). Refuses o code) (sym causes) answer, refl))
+    (is.answers (Refused code) peer.part.dds (
+      subst (λ (o : Option Code). Refuses o code) (sym causes) answer.0,
+      refl,
+      λ want.
+          subst (λ (ps : List SamplePosition). MayWantMemory ps (own_reader peer.part (suc i)).happened)
+          (ap (λ (q : ReaderQos). picked_by q (own_reader peer.part (suc i)).happened selection test) (sym qos))
+          (answer.1 want),
+    ))
 
 -- the same of the reader of a number, where it stands in the opened peer
 pub accessed_at : {tests : Tests} {kind : AccessKind} {c : Call} {test : Test} {reader : ℕ}

@@ -117,26 +117,28 @@ done_in_memory needs refusal after kept new
 -- one that gives something, which it tells, and may want memory
 pub given_in_memory : {X : Type 0} (tells : X → Reply) (told : Result X Code → Reply)
     → ((x : X) → told (Ok x) ≡ tells x) → ((code : Code) → told (Err code) ≡ Refused code)
-    → (refusal : Watched → Option Code) (gives : Watched → X) (after : Watched → Watched) (kept : PeerKept)
-    (new : Watched) (result : Result X Code) (reply : Reply) (config : Config) (peer : Peer)
+    → (needs : Watched → Bool) (refusal : Watched → Option Code) (gives : Watched → X) (after : Watched → Watched)
+    (kept : PeerKept) (new : Watched) (result : Result X Code) (reply : Reply) (config : Config) (peer : Peer)
     → StandsFor kept config peer → (c : Call)
-    → ((dds : Dds) → IsAnsweredInMemory true (refusal peer.part.dds.watch) (tells (gives peer.part.dds.watch))
-    (after peer.part.dds.watch) peer.part reply dds → Answers no_filters peer.part c reply dds)
+    → ((dds : Dds) → IsAnsweredInMemory (needs peer.part.dds.watch) (refusal peer.part.dds.watch)
+    (tells (gives peer.part.dds.watch)) (after peer.part.dds.watch) peer.part reply dds → Answers no_filters peer.part c reply dds)
     → effect_of peer.part c reply ≡ nothing → reply ≡ told result
     → OnOk result (new ≡ after kept.watch) → IfOk result (λ x. x ≡ gives kept.watch)
     → OnOk result (refusal kept.watch ≡ None) → IfErr result (λ code. Refuses (refusal kept.watch) code)
+    → (needs kept.watch ≡ false → IfErr result (λ code. refusal kept.watch ≡ Some code))
     → OnErr result (new ≡ kept.watch)
     → Follows (record kept { watch = new }) config peer (event.Call c) (silent reply)
-given_in_memory tells told on_ok on_err refusal gives after kept new
-    (Ok x) reply config peer s c answers none is ok value taken refused err =
+given_in_memory tells told on_ok on_err needs refusal gives after kept new
+    (Ok x) reply config peer s c answers none is ok value taken refused certain err =
     watched_call kept new config peer s c reply none
     (answers _ (inl (answered_so _ _ _ peer.part reply new (ap refusal s.watch ∙ taken)
     (is ∙ (on_ok x ∙ ap tells (value ∙ ap gives (sym s.watch)))) (ok ∙ ap after (sym s.watch)))))
-given_in_memory tells told on_ok on_err refusal gives after kept new
-    (Err code) reply config peer s c answers none is ok value taken refused err =
+given_in_memory tells told on_ok on_err needs refusal gives after kept new
+    (Err code) reply config peer s c answers none is ok value taken refused certain err =
     watched_call kept new config peer s c reply none
-    (answers _ (wanting true (refusal peer.part.dds.watch) _ _ peer.part code reply new
-    (subst (λ (w : Watched). Refuses (refusal w) code) (sym s.watch) refused) (λ needless. absurd cc) (is ∙ on_err code)
+    (answers _ (wanting (needs peer.part.dds.watch) (refusal peer.part.dds.watch) _ _ peer.part code reply new
+    (subst (λ (w : Watched). Refuses (refusal w) code) (sym s.watch) refused)
+    (λ needless. ap refusal s.watch ∙ certain (ap needs (sym s.watch) ∙ needless)) (is ∙ on_err code)
     (err ∙ sym s.watch)))
 
 -- a call that tells something, and changes nothing

@@ -4,7 +4,7 @@
 -- DDS 1.4, 2.2.2.4 (register_instance, write, dispose, unregister_instance, assert_liveliness,
 -- get_liveliness_lost_status), 2.2.2.5 (the forms of read and take, get_key_value, lookup_instance,
 -- get_sample_lost_status, get_liveliness_changed_status), 2.2.1.1 (return codes).
-use Rattle.std.specs.Prelude.{◌≡◌, ◌≢◌, ◌⊎◌, ℕ, ◌+◌, not, Bool, true, false, List, [], ◌∷◌, length, Option, Some, None, is_some}
+use Rattle.std.specs.Prelude.{◌≡◌, ◌≢◌, ◌⊎◌, ℕ, ◌+◌, ◌-◌, ◌^◌, ◌≤◌, nat_lt, not, Bool, true, false, List, [], ◌∷◌, length, Option, Some, None, is_some}
 use Rattle.dds_base.specs.declared.change.ChangeKind.TheVariants as kind
 use Rattle.dds_base.specs.declared.code.Code.{Code}
 use Rattle.dds_base.specs.declared.code.Code.TheVariants.{Memory, NoData, Timeout}
@@ -121,8 +121,13 @@ IsDoneUnless refusal Done old done new = (refusal ≡ None) × (new ≡ done)
 IsDoneUnless refusal (Refused code) old done new = Refuses refusal code × (new ≡ old)
 IsDoneUnless refusal reply old done new = ⊥
 
+-- an access may want memory: it picks something, or no more can be counted than happened
+abbrev pub MayWantMemory : List SamplePosition → List Happening → Type 0
+MayWantMemory picked happened = (picked ≢ []) ⊎ (2 ^ 64 - 1 ≤ length happened)
+
 -- An access by a test that enters so: the samples that it picks, or NO_DATA where it picks none, and either is entered;
--- or the first cause that refuses it, or want of memory where there is none, and it did not happen.
+-- or the first cause that refuses it, and it did not happen; or want of memory where there is none, which comes after
+-- NO_DATA: it needs samples that are picked, or as many entries as can be counted.
 abbrev pub AnswersAccess : (List SamplePosition → Happening) → Test → Part → ℕ → Selection → Reply → Dds → Type 0
 AnswersAccess entry test old reader selection (Samples samples) dds =
     (access_refusal old reader selection ≡ None) × (picked_at test old reader selection ≢ [])
@@ -134,6 +139,7 @@ AnswersAccess entry test old reader selection (Refused NoData) dds =
     × (dds ≡ with_happening old reader (entry []))
 AnswersAccess entry test old reader selection (Refused code) dds =
     Refuses (access_refusal old reader selection) code × (dds ≡ old.dds)
+    × (code ≡ Memory → MayWantMemory (picked_at test old reader selection) (own_reader old reader).happened)
 AnswersAccess entry test old reader selection reply dds = ⊥
 
 -- A call that needs no memory: the first cause refuses it, and nothing changes; or it is answered so, and this is what
@@ -250,7 +256,8 @@ Answers tests old (DetachCondition wait_set condition) reply dds =
     IsAnsweredWatching (detaching_refusal old.dds.watch wait_set condition) Done
     (with_detached old.dds.watch wait_set condition) old reply dds
 Answers tests old (GetConditions wait_set) reply dds =
-    IsAnsweredInMemory true (unless_there (is_some (at_number old.dds.watch.wait_sets wait_set)))
+    IsAnsweredInMemory (nat_lt 0 (length (conditions_of old.dds.watch wait_set)))
+    (unless_there (is_some (at_number old.dds.watch.wait_sets wait_set)))
     (Conditions (conditions_of old.dds.watch wait_set)) old.dds.watch old reply dds
 Answers tests old (WaitBegin wait_set deadline) reply dds =
     IsAnsweredWatching (free_refusal (at_number old.dds.watch.wait_sets wait_set)) Done

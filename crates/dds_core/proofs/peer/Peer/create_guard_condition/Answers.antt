@@ -1,4 +1,4 @@
-use Rattle.std.proofs.Common.{◌+◌, false, length, refl}
+use Rattle.std.proofs.Common.{◌+◌, false, length, refl, true}
 use Rattle.dds_machine.specs.declared.call.Call.TheVariants as call
 use Rattle.dds_core.proofs.CallSteps.{follows_as, still_stands}
 use Rattle.dds_conditions.specs.Watched.{number_refusal, with_condition}
@@ -12,9 +12,10 @@ pub returns-clause-step : goal.returns-clause-step
 returns-clause-step c = λ config peer given.
     let s = still_stands c.self.view_is given in
     follows_as _ config peer _ _ _ c.answered.ensures
-    (given_in_memory (λ n. Created n) made_reply (λ n. refl) (λ code. refl) (λ w. number_refusal w.conditions)
+    (given_in_memory (λ n. Created n) made_reply (λ n. refl) (λ code. refl) (λ w. true)
+    (λ w. number_refusal w.conditions)
     (λ w. length w.conditions + 1) (λ w. with_condition w (Guard false)) _
     c.create-made.new.self c.create-made.result c.reply_to_made.result config peer s call.CreateGuardCondition
     (λ dds h. h) refl c.reply_to_made.ensures
-    c.create-made.ensures.ok c.create-made.ensures.number c.create-made.ensures.taken c.create-made.ensures.refused
-    c.create-made.ensures.err)
+    c.create-made.ensures.ok c.create-made.ensures.number c.create-made.ensures.taken
+    c.create-made.ensures.refused (λ needless. absurd cc) c.create-made.ensures.err)

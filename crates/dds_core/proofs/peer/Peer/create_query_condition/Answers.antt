@@ -28,7 +28,8 @@ returns-clause-step c = λ config peer given.
     ap (λ (b : Bool). if b then read_condition_refusal peer.part c.args.reader else Some BadParameter) there
     ∙ ap (λ (b : Bool). if not b then Some BadParameter else number_refusal peer.part.dds.watch.conditions) known in
     follows_as _ config peer _ _ _ c.answered.ensures
-    (given_in_memory (λ n. Created n) made_reply (λ n. refl) (λ code. refl) (λ w. number_refusal w.conditions)
+    (given_in_memory (λ n. Created n) made_reply (λ n. refl) (λ code. refl) (λ w. true)
+    (λ w. number_refusal w.conditions)
     (λ w. length w.conditions + 1) (λ w. with_condition w (Samples c.args.reader c.args.masks (Some c.args.filter)))
     _
     c.create-made.new.self c.create-made.result c.reply_to_made.result config peer s
@@ -38,5 +39,5 @@ returns-clause-step c = λ config peer given.
     (with_condition peer.part.dds.watch (Samples c.args.reader c.args.masks (Some c.args.filter))) peer.part
     c.reply_to_made.result dds)
     (sym free) h) refl c.reply_to_made.ensures
-    c.create-made.ensures.ok c.create-made.ensures.number c.create-made.ensures.taken c.create-made.ensures.refused
-    c.create-made.ensures.err)
+    c.create-made.ensures.ok c.create-made.ensures.number c.create-made.ensures.taken
+    c.create-made.ensures.refused (λ needless. absurd cc) c.create-made.ensures.err)

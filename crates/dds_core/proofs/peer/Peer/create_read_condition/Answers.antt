@@ -1,5 +1,4 @@
-use Rattle.std.proofs.Common.{◌≡◌, ◌+◌, ◌<◌, Bool, true, not, Option, Some, None, length, refl, sym, subst, ap}
-use Rattle.std.proofs.Common.{rules}
+use Rattle.std.proofs.Common.{◌≡◌, ◌+◌, ◌<◌, Bool, true, not, Option, Some, None, length, refl, sym, subst, ap, rules}
 use Rattle.dds_machine.specs.declared.call.Call.TheVariants as call
 use Rattle.std.specs.Prelude.{if◌then◌else◌}
 use Rattle.dds_base.specs.declared.code.Code.{Code}
@@ -21,7 +20,8 @@ returns-clause-step c = λ config peer given.
     let known : has_element peer.part.dds.readers c.args.reader ≡ true =
     known_end peer.part.dds.readers c.args.reader c.in-Some._index _ c.in-Some.ensures.index.0 within s.readers.count in
     follows_as _ config peer _ _ _ c.answered.ensures
-    (given_in_memory (λ n. Created n) made_reply (λ n. refl) (λ code. refl) (λ w. number_refusal w.conditions)
+    (given_in_memory (λ n. Created n) made_reply (λ n. refl) (λ code. refl) (λ w. true)
+    (λ w. number_refusal w.conditions)
     (λ w. length w.conditions + 1) (λ w. with_condition w (Samples c.args.reader c.args.masks None)) _
     c.create-made.new.self c.create-made.result c.reply_to_made.result config peer s
     (call.CreateReadCondition c.args.reader c.args.masks)
@@ -31,5 +31,5 @@ returns-clause-step c = λ config peer given.
     dds)
     (sym (ap (λ (b : Bool). if not b then Some BadParameter else number_refusal peer.part.dds.watch.conditions) known))
     h) refl c.reply_to_made.ensures
-    c.create-made.ensures.ok c.create-made.ensures.number c.create-made.ensures.taken c.create-made.ensures.refused
-    c.create-made.ensures.err)
+    c.create-made.ensures.ok c.create-made.ensures.number c.create-made.ensures.taken
+    c.create-made.ensures.refused (λ needless. absurd cc) c.create-made.ensures.err)
