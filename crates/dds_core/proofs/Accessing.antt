@@ -22,6 +22,7 @@ use Rattle.dds_base.specs.Number.{at_number}
 use Rattle.dds_cache.specs.declared.access_kind.AccessKind.{AccessKind}
 use Rattle.dds_cache.specs.declared.access_kind.AccessKind.TheVariants.{Read as Reading, Take as Taking}
 use Rattle.dds_cache.specs.Standing.{Stored, qos_of, StandsFor as CacheStandsFor, entry_of, AccessAnswers, AfterAccess, picked, refusal}
+use Rattle.dds_machine.specs.Passing.{passed_at}
 use Rattle.dds_machine.specs.declared.call.Call.{Call}
 use Rattle.dds_protocol.specs.declared.event.Event.TheVariants as event
 use Rattle.dds_protocol.specs.declared.event.Output.{Output}
@@ -55,6 +56,7 @@ use Rattle.dds_core.proofs.Lists.{set_back}
 -- what happens at a reader where an access was entered: nothing was passed over, and no writer asserted or died
 pub record IsQuiet (entry : List SamplePosition → Happening) : Type 0 where
   pub lost : (samples : List SamplePosition) (h : List Happening) → lost_count (entry samples ∷ h) ≡ lost_count h
+  pub passed : (samples : List SamplePosition) (h : List Happening) → passed_at (entry samples ∷ h) ≡ passed_at h
   pub turned : (samples : List SamplePosition) (h : List Happening) → turned_at (entry samples ∷ h) ≡ turned_at h
   pub leases : (kept : Leased) (q : ReaderQos) (samples : List SamplePosition) (h : List Happening)
       → LeasesStandFor kept q h → LeasesStandFor kept q (entry samples ∷ h)
@@ -70,11 +72,13 @@ pub record IsAccess (tests : Tests) (part : Part) (c : Call) (kind : AccessKind)
 pub access_is_quiet : (kind : AccessKind) → IsQuiet (entry_of kind)
 access_is_quiet Reading = record {
   lost = λ samples h. refl;
+  passed = λ samples h. refl;
   turned = λ samples h. refl;
   leases = λ kept q samples h s. record { tracks = s.tracks; last_turned = s.last_turned };
 }
 access_is_quiet Taking = record {
   lost = λ samples h. refl;
+  passed = λ samples h. refl;
   turned = λ samples h. refl;
   leases = λ kept q samples h s. record { tracks = s.tracks; last_turned = s.last_turned };
 }
@@ -140,6 +144,7 @@ one_entered entry quiet k k' proxies r tracked samples same s stands = record {
         (subst (λ (q : ReaderQos). LeasesStandFor k.store.leases q (entry samples ∷ r.happened)) (sym same.qos)
         (quiet.leases k.store.leases (qos_of k.store.cache) samples r.happened s.holds.leases));
     lost_is = same.lost ∙ (s.holds.lost_is ∙ sym (quiet.lost samples r.happened));
+    passed_is = same.passed ∙ (s.holds.passed_is ∙ sym (quiet.passed samples r.happened));
     turned_is = same.turned ∙ (s.holds.turned_is ∙ sym (quiet.turned samples r.happened));
   };
   seen_is = s.seen_is ∙ sym same.seen;
@@ -184,13 +189,14 @@ kept_same : (k k' : ReaderKept) → TakesOnly k k' → k'.store.cache ≡ k.stor
 kept_same k k' same cache =
     reader_as k'.entity k.entity k'.writers k.writers k'.reader k.reader k'.store k.store k'.seen k.seen same.entity
     same.writers same.reader
-    (store_as k'.store.lost k.store.lost k'.store.turned k.store.turned k'.store.leases k.store.leases k'.store.cache
-    k.store.cache same.lost same.turned same.leases cache) same.seen
+    (store_as k'.store.lost k.store.lost k'.store.passed k.store.passed k'.store.turned k.store.turned
+    k'.store.leases k.store.leases k'.store.cache k.store.cache same.lost same.passed same.turned same.leases cache)
+    same.seen
   where
-    store_as : (i j : ℕ) (t u : Option ℕ) (l m : Leased) (c d : Stored) → i ≡ j → t ≡ u → l ≡ m → c ≡ d
-        → ◌≡◌ {A = StoreKept} (record { lost = i; turned = t; leases = l; cache = c })
-        (record { lost = j; turned = u; leases = m; cache = d })
-    store_as i j t u l m c d e f g h = cc
+    store_as : (i j : ℕ) (p q t u : Option ℕ) (l m : Leased) (c d : Stored) → i ≡ j → p ≡ q → t ≡ u → l ≡ m → c ≡ d
+        → ◌≡◌ {A = StoreKept} (record { lost = i; passed = p; turned = t; leases = l; cache = c })
+        (record { lost = j; passed = q; turned = u; leases = m; cache = d })
+    store_as i j p q t u l m c d e f g h k = cc
 
     reader_as : (a b : EntityId) (x y : List WriterName) (p q : Proxies) (s t : StoreKept) (i j : Seen) → a ≡ b → x ≡ y
         → p ≡ q → s ≡ t → i ≡ j

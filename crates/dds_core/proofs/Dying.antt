@@ -42,6 +42,7 @@ pub record Dying (q : ReaderQos) (now after : ℕ) (old new : StoreKept) : Type 
   pub count : writer_count new.leases ≡ length q.writers
   pub qos : qos_of new.cache ≡ q
   pub lost : new.lost ≡ old.lost
+  pub passed : new.passed ≡ old.passed
   pub died : (h : List Happening) → Holds old h → LeadsTo q now after new (after_deaths q now h)
 
 -- at first nobody has
@@ -89,15 +90,16 @@ turned_by_death q now after w h first =
 pub next_died : (q : ReaderQos) (now after w : ℕ) (store new : StoreKept) (end : List Happening)
     → (l : LeadsTo q now after store end) → LeasesStandFor new.leases q (Died w now ∷ l.happened)
     → after_deaths_above q now after l.happened ≡ after_deaths_above q now w (Died w now ∷ l.happened)
-    → CacheStandsFor new.cache (Died w now ∷ l.happened) → qos_of new.cache ≡ q → new.lost ≡ store.lost
+    → CacheStandsFor new.cache (Died w now ∷ l.happened) → qos_of new.cache ≡ q → new.lost ≡ store.lost → new.passed ≡ store.passed
     → Some w ≡ find (λ v. nat_lt after v) (dead_at q now l.happened) → new.turned ≡ Some (length (Died w now ∷ l.happened))
     → LeadsTo q now w new end
-next_died q now after w store new end l leases turn cache same lost first turned = record {
+next_died q now after w store new end l leases turn cache same lost passed first turned = record {
   happened = Died w now ∷ l.happened;
   holds = record {
     cache = cache;
     leases = subst (λ (p : ReaderQos). LeasesStandFor new.leases p (Died w now ∷ l.happened)) (sym same) leases;
     lost_is = lost ∙ l.holds.lost_is;
+    passed_is = passed ∙ l.holds.passed_is;
     turned_is = turned ∙ turned_by_death q now after w l.happened first;
   };
   left = sym turn ∙ l.left;

@@ -63,20 +63,20 @@ looked c kept i k reply seen config peer s at is =
     )
 
 -- a look at SAMPLE_LOST
-pub looked_at_lost : (kept : PeerKept) (reader i : ℕ) (k k' : ReaderKept) (status : SampleLostStatus) (config : Config)
-    (peer : Peer) → StandsFor kept config peer → reader ≡ i + 1 → i < length kept.readers
-    → slice_get kept.readers i ≡ Some k → TellsLost k status
-    → k' ≡ record k { seen = record k.seen { lost = status.total_count } }
+pub looked_at_lost : (kept : PeerKept) (reader i : ℕ) (k k' : ReaderKept) (status : SampleLostStatus) (seen : Seen)
+    (config : Config) (peer : Peer) → StandsFor kept config peer → reader ≡ i + 1 → i < length kept.readers
+    → slice_get kept.readers i ≡ Some k → TellsLost k status seen → k' ≡ record k { seen = seen }
     → Follows (with_reader kept i k') config peer (event.Call (call.GetSampleLost reader)) (silent (SampleLost status))
-looked_at_lost kept reader i k k' status config peer s is lt at tells after =
+looked_at_lost kept reader i k k' status seen config peer s is lt at tells after =
     let r : Reader = own_reader peer.part (suc i) in
     let rs = s.readers.each i k at in
-    let told : status ≡ sample_lost_status r.happened k.seen.lost = tells r.happened rs.holds in
+    let told = tells r.happened rs.holds in
     let answer : status ≡ sample_lost_status r.happened r.seen.lost =
-    told ∙ ap (λ (x : Seen). sample_lost_status r.happened x.lost) (sym rs.seen_is) in
-    let seen : record k.seen { lost = status.total_count } ≡ seen_lost r =
-    ap (λ (x : SampleLostStatus). record k.seen { lost = x.total_count }) told
-    ∙ ap (λ (x : Seen). record x { lost = lost_count r.happened }) (sym rs.seen_is) in
+    told.0 ∙ ap (λ (x : Seen). sample_lost_status r.happened x.lost) (sym rs.seen_is) in
+    let same : seen ≡ seen_lost r =
+    told.1
+    ∙ ap (λ (x : Seen). record x { lost = lost_count r.happened; entries_at_lost = length r.happened })
+    (sym rs.seen_is) in
     let look : Follows (with_reader kept i (record k { seen = seen_lost r })) config peer
     (event.Call (call.GetSampleLost (suc i))) (silent (SampleLost status)) =
     looked (call.GetSampleLost (suc i)) kept i k (SampleLost status) (seen_lost r) config peer s at
@@ -86,7 +86,7 @@ looked_at_lost kept reader i k k' status config peer s is lt at tells after =
           (ap SampleLost answer);
       effect = refl;
     }) in
-    let now : record k { seen = seen_lost r } ≡ k' = sym (after ∙ ap (λ (x : Seen). record k { seen = x }) seen) in
+    let now : record k { seen = seen_lost r } ≡ k' = sym (after ∙ ap (λ (x : Seen). record k { seen = x }) same) in
     subst (λ (x : ReaderKept). Follows (with_reader kept i x) config peer (event.Call (call.GetSampleLost reader))
     (silent (SampleLost status))) now
     (subst (λ (n : ℕ). Follows (with_reader kept i (record k { seen = seen_lost r })) config peer

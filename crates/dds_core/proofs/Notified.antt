@@ -298,7 +298,7 @@ marks_peer kept now writers readers view of_writers of_readers config peer given
       subst (λ (r : Reader). IsMarkOf mark r)
       (sym (past_end peer.part.dds.readers i no_reader (omega (arith, count, le))))
       (subst (λ (m : ReaderMark). IsMarkOf m no_reader) (sym ((of_readers i mark at).1 le))
-      (record { lost = refl; happened = refl })))
+      (record { happened = refl })))
       (cases_lt i (length kept.readers));
 }
   where
@@ -332,14 +332,14 @@ sees_so k k' status seen is so proxies r tracked s =
       seen_is = sym (so r s.holds s.qos_is s.seen_is);
     })
 
-pub sees_lost : (k k' : ReaderKept) (status : Status) (x v : SampleLostStatus) → status ≡ SampleLost x → TellsLost k v
-    → k' ≡ record k { seen = record k.seen { lost = v.total_count } } → SeesStatus k status k'
-sees_lost k k' status x v is tells after =
+pub sees_lost : (k k' : ReaderKept) (status : Status) (x v : SampleLostStatus) (now : Seen) → status ≡ SampleLost x
+    → TellsLost k v now → k' ≡ record k { seen = now } → SeesStatus k status k'
+sees_lost k k' status x v now is tells after =
     subst (λ (y : Status). SeesStatus k y k') (sym is)
-    (sees_so k k' (SampleLost x) (record k.seen { lost = v.total_count }) after
+    (sees_so k k' (SampleLost x) now after
     (λ r holds qos seen.
-    ap (λ (y : SampleLostStatus). record k.seen { lost = y.total_count }) (tells r.happened holds)
-    ∙ ap (λ (y : Seen). record y { lost = lost_count r.happened }) (sym seen)))
+    (tells r.happened holds).1
+    ∙ ap (λ (y : Seen). record y { lost = lost_count r.happened; entries_at_lost = length r.happened }) (sym seen)))
 
 pub sees_data : (k k' : ReaderKept) (status : Status) (at : ℕ) → status ≡ DataAvailable
     → ((h : List Happening) → Holds k.store h → at ≡ length h)

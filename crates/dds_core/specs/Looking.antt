@@ -12,7 +12,7 @@ use Rattle.dds_base.specs.declared.status.SampleLostStatus.{SampleLostStatus}
 use Rattle.dds_base.specs.declared.key.Key.{Key}
 use Rattle.dds_base.specs.Access.{has_match}
 use Rattle.dds_base.specs.Liveliness.{alive_count, not_alive_count, liveliness_changed_status}
-use Rattle.dds_base.specs.Statuses.{sample_lost_status}
+use Rattle.dds_base.specs.Statuses.{lost_count, sample_lost_status}
 use Rattle.dds_cache.specs.Standing.{qos_of}
 use Rattle.rtps_reader.specs.Tracked.{Tracked}
 use Rattle.dds_notices.specs.declared.mask.StatusMask.{StatusMask}
@@ -36,14 +36,17 @@ pub record TakesOnly (old new : ReaderKept) : Type 0 where
   pub writers : new.writers ≡ old.writers
   pub reader : new.reader ≡ old.reader
   pub lost : new.store.lost ≡ old.store.lost
+  pub passed : new.store.passed ≡ old.store.passed
   pub turned : new.store.turned ≡ old.store.turned
   pub leases : new.store.leases ≡ old.store.leases
   pub qos : qos_of new.store.cache ≡ qos_of old.store.cache
   pub seen : new.seen ≡ old.seen
 
--- the answer to a look at SAMPLE_LOST
-abbrev pub TellsLost : ReaderKept → SampleLostStatus → Type 0
-TellsLost kept status = (h : List Happening) → Holds kept.store h → status ≡ sample_lost_status h kept.seen.lost
+-- the answer to a look at SAMPLE_LOST, and what is seen then
+abbrev pub TellsLost : ReaderKept → SampleLostStatus → Seen → Type 0
+TellsLost kept status seen = (h : List Happening) → Holds kept.store h
+    → (status ≡ sample_lost_status h kept.seen.lost)
+    × (seen ≡ record kept.seen { lost = lost_count h; entries_at_lost = length h })
 
 -- the answer to a look at LIVELINESS_CHANGED, and what is seen then
 abbrev pub TellsLiveliness : ReaderKept → LivelinessChangedStatus → Seen → Type 0

@@ -4,7 +4,6 @@
 -- DDS 1.4, 2.2.4.1 (communication statuses), 2.2.4.3 (access through listeners).
 use Rattle.std.specs.Prelude.{◌≡◌, ℕ, suc, ◌<◌, ◌≤◌, List, length, slice_get, Option, Some, ℤ}
 use Rattle.dds_base.specs.declared.config.Config.{Config}
-use Rattle.dds_base.specs.Statuses.{lost_count}
 use Rattle.dds_notices.specs.declared.notice.Notice.{Notice}
 use Rattle.dds_notices.specs.declared.notice.Status.{Status}
 use Rattle.dds_notices.specs.Listeners.{Slotted, StandsFor as SlotsStandFor}
@@ -18,9 +17,8 @@ use Rattle.dds_core.specs.declared.marks.ReaderMark.{ReaderMark}
 use Rattle.dds_core.specs.Kept.{PeerKept, ReaderKept, WriterKept}
 use Rattle.dds_core.specs.Standing.{ReaderStands, StandsFor, WriterStands}
 
--- a mark of a reader: its total of SAMPLE_LOST, and how much had happened
+-- a mark of a reader: how much had happened
 pub record IsMarkOf (mark : ReaderMark) (r : Reader) : Type 0 where
-  pub lost : mark.lost ≡ lost_count r.happened
   pub happened : mark.happened ≡ length r.happened
 
 -- so it is of each reader that the values stand for
@@ -44,7 +42,7 @@ MarksWriters kept n marks = Marked MarksWriter 0 kept n marks
 
 -- the first so many of these readers are marked, the others by zeros
 abbrev pub MarksReaders : List ReaderKept → ℕ → List ReaderMark → Type 0
-MarksReaders kept n marks = Marked MarksReader (record { lost = 0; happened = 0 }) kept n marks
+MarksReaders kept n marks = Marked MarksReader (record { happened = 0 }) kept n marks
 
 -- the marks of a peer's part
 pub record AreMarksOf (marks : Marks) (part : Part) : Type 0 where

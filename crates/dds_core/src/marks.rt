@@ -9,19 +9,15 @@ use crate::limits::MAX_ENDS;
 use crate::reader_end::ReaderEnd;
 use crate::writer_end::WriterEnd;
 
-/// Of a reader: the total of SAMPLE_LOST, and how much had happened.
+/// Of a reader: how much had happened.
 #[derive(Clone, Copy)]
 pub struct ReaderMark {
-    pub lost: u64,
     pub happened: u64,
 }
 
 impl ReaderMark {
     /// Of a reader at which nothing has happened.
-    pub const NOTHING: ReaderMark = ReaderMark {
-        lost: 0,
-        happened: 0,
-    };
+    pub const NOTHING: ReaderMark = ReaderMark { happened: 0 };
 }
 
 /// Of each writer how often its liveliness was lost, and the marks of each reader.

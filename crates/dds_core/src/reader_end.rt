@@ -6,6 +6,7 @@ ghost use Rattle.std.specs.Prelude.{◌≡◌, ◌↔◌, ◌<◌, ◌≤◌, �
 ghost use Rattle.dds_base.specs.Access.{instance_of, handle_of};
 ghost use Rattle.dds_base.specs.Checked.{check_refusal};
 ghost use Rattle.dds_base.specs.Liveliness.{liveliness_changed_status};
+ghost use Rattle.dds_base.specs.Statuses.{sample_lost_status};
 ghost use Rattle.dds_base.specs.declared.code.Code.TheVariants.{Memory};
 ghost use Rattle.dds_base.specs.declared.happening.Happening.{Happening};
 ghost use Rattle.rtps_wire.specs.declared.submessage.Submessage.TheVariants as submessage;
@@ -458,7 +459,8 @@ impl ReaderEnd {
     ///
     /// DDS 1.4, 2.2.4.1 (SampleLostStatus).
     fn sample_lost(&self) -> SampleLostStatus
-        ensures { TellsLost self.now result }
+        ensures { (h : List Happening) → Holds self.now.store h
+            → result ≡ sample_lost_status h self.now.seen.lost }
     {
         let total_count = self.store.lost();
         SampleLostStatus {
@@ -471,12 +473,12 @@ impl ReaderEnd {
     ///
     /// DDS 1.4, 2.2.2.5 (get_sample_lost_status).
     pub fn get_sample_lost(&mut self) -> SampleLostStatus
-        ensures status { TellsLost self.old result }
-        ensures seen { self.new
-            ≡ record self.old { seen = record self.old.seen { lost = result.total_count } } }
+        ensures status { TellsLost self.old result self.new.seen }
+        ensures seen { self.new ≡ record self.old { seen = self.new.seen } }
     {
         let status = self.sample_lost();
         self.seen.lost = status.total_count;
+        self.seen.entries_at_lost = self.store.happened();
         status
     }
 
@@ -521,7 +523,6 @@ impl ReaderEnd {
         ensures { MarksReader self.now result }
     {
         ReaderMark {
-            lost: self.store.lost(),
             happened: self.store.happened(),
         }
     }
@@ -532,7 +533,7 @@ impl ReaderEnd {
     pub fn lost_raised(&self, mark: &ReaderMark) -> Option<Status>
         ensures { RaisesSo lost_raised self.now mark.now result }
     {
-        if mark.lost < self.store.lost() {
+        if is_after(mark.happened, self.store.passed()) {
             Some(Status::SampleLost(self.sample_lost()))
         } else {
             None
@@ -604,11 +605,12 @@ impl ReaderEnd {
     pub fn status_changes(&self) -> StatusMask
         ensures { TellsFlags self.now result }
     {
-        let lost = bit_if(self.seen.lost < self.store.lost(), SAMPLE_LOST);
+        let lost = is_after(self.seen.entries_at_lost, self.store.passed());
         let came = is_after(self.seen.entries_at_data, self.store.data_at());
         let turned = is_after(self.seen.entries_at_turn, self.store.turned());
         StatusMask::from_bits_retain(
-            lost + (bit_if(came, DATA_AVAILABLE) + bit_if(turned, LIVELINESS_CHANGED)),
+            bit_if(lost, SAMPLE_LOST)
+                + (bit_if(came, DATA_AVAILABLE) + bit_if(turned, LIVELINESS_CHANGED)),
         )
     }
 

@@ -12,6 +12,8 @@ use std::marker::Model;
 pub struct Seen {
     /// The total of SAMPLE_LOST.
     pub lost: u64,
+    /// How many entries there were as SAMPLE_LOST was looked at.
+    pub entries_at_lost: u64,
     /// How many entries there were as DATA_AVAILABLE was looked at.
     pub entries_at_data: u64,
     /// How many matched writers were alive as LIVELINESS_CHANGED was looked at: at most 256.
@@ -27,15 +29,16 @@ impl Model for Seen {
 
     ghost Value = { SeenOf };
 
-    ghost view = { λ s. record { lost = s.lost; entries_at_data = s.entries_at_data; alive = s.alive; not_alive = s.not_alive; entries_at_turn = s.entries_at_turn } };
+    ghost view = { λ s. record { lost = s.lost; entries_at_lost = s.entries_at_lost; entries_at_data = s.entries_at_data; alive = s.alive; not_alive = s.not_alive; entries_at_turn = s.entries_at_turn } };
 
-    ghost inverse = { λ s. record { lost = s.lost; entries_at_data = s.entries_at_data; alive = s.alive; not_alive = s.not_alive; entries_at_turn = s.entries_at_turn } };
+    ghost inverse = { λ s. record { lost = s.lost; entries_at_lost = s.entries_at_lost; entries_at_data = s.entries_at_data; alive = s.alive; not_alive = s.not_alive; entries_at_turn = s.entries_at_turn } };
 }
 
 impl Seen {
     /// Before the first looks.
     pub const NOTHING: Seen = Seen {
         lost: 0,
+        entries_at_lost: 0,
         entries_at_data: 0,
         alive: 0,
         not_alive: 0,

@@ -11,6 +11,7 @@ ghost use Rattle.dds_base.specs.Statuses.{lost_count};
 ghost use Rattle.dds_base.specs.StatusFlags.{data_available_at, turned_at};
 ghost use Rattle.dds_cache.specs.Standing.{qos_of, AccessAnswers, AfterAccess, StandsFor as CacheStandsFor};
 ghost use Rattle.dds_lease.specs.Standing.{writer_count};
+ghost use Rattle.dds_machine.specs.Passing.{passed_at};
 ghost use Rattle.dds_core.specs.Expiring.{HasRoomForDeaths};
 ghost use Rattle.dds_core.specs.Stored.{StoreKept, Holds, Loses};
 
@@ -28,6 +29,8 @@ use std::marker::Model;
 pub struct Store {
     /// At most 2^64 - 1, where it stays.
     lost: u64,
+    /// The position of the newest entry by which changes were passed over, if there is one.
+    passed: Option<u64>,
     /// The position of the newest entry that changed how many writers are alive, or not alive, if there is one.
     turned: Option<u64>,
     leases: Leases,
@@ -42,7 +45,7 @@ impl Model for Store {
 
     ghost Value = { StoreKept };
 
-    ghost view = { λ s. record { lost = s.lost; turned = s.turned; leases = s.leases; cache = s.cache } };
+    ghost view = { λ s. record { lost = s.lost; passed = s.passed; turned = s.turned; leases = s.leases; cache = s.cache } };
 
     ghost invariant = { λ s. (s.lost < 2 ^ 64) × (writer_count s.leases ≡ length (qos_of s.cache).writers) };
 }
@@ -57,6 +60,7 @@ impl Store {
         let leases = Leases::open(alloc, &qos)?;
         Ok(Store {
             lost: 0,
+            passed: None,
             turned: None,
             leases,
             cache: ReaderCache::open(alloc, qos),
@@ -66,6 +70,7 @@ impl Store {
     /// The changes from `first` to `last` were passed over.
     fn lose(&mut self, first: Sn, last: Sn)
         ensures lost { Loses self.old.lost first last self.new.lost }
+        ensures passed { self.new.passed ≡ self.old.passed }
         ensures turned { self.new.turned ≡ self.old.turned }
         ensures leases { self.new.leases ≡ self.old.leases }
         ensures cache { self.new.cache ≡ self.old.cache }
@@ -81,6 +86,7 @@ impl Store {
         ensures turned { (h : List Happening) → CacheStandsFor self.old.cache h
             → self.new.turned ≡ (if turns then Some (length h) else self.old.turned) }
         ensures lost { self.new.lost ≡ self.old.lost }
+        ensures passed { self.new.passed ≡ self.old.passed }
         ensures leases { self.new.leases ≡ self.old.leases }
         ensures cache { self.new.cache ≡ self.old.cache }
     {
@@ -97,6 +103,16 @@ impl Store {
         ensures total { (h : List Happening) → Holds self.now h → result ≡ lost_count h }
     {
         self.lost
+    }
+
+    /// The position of the newest entry by which changes were passed over, if there is one.
+    ///
+    /// DDS 1.4, 2.2.4.1 (SAMPLE_LOST).
+    pub fn passed(&self) -> Option<u64>
+        ensures passed { result ≡ self.now.passed }
+        ensures at { (h : List Happening) → Holds self.now h → result ≡ passed_at h }
+    {
+        self.passed
     }
 
     /// The position of the newest entry that changed how many writers are alive, or not alive, if there is one.
@@ -196,6 +212,7 @@ impl Store {
         ensures qos { qos_of self.new.cache ≡ qos_of self.old.cache }
         ensures leases { self.new.leases ≡ self.old.leases }
         ensures lost { self.new.lost ≡ self.old.lost }
+        ensures passed { self.new.passed ≡ self.old.passed }
         ensures turned { self.new.turned ≡ self.old.turned }
     {
         self.cache.access(kind, selection, test)
@@ -248,6 +265,7 @@ impl Sink for Store {
     fn pass(&mut self, writer: Handle, first: Sn, last: Sn) -> Result<(), Code> {
         self.cache.pass(writer, first, last)?;
         self.lose(first, last);
+        self.passed = Some(self.cache.happened());
         Ok(())
     }
 

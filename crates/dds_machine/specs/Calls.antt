@@ -51,7 +51,7 @@ after_look part reader seen =
 
 -- what is seen of a reader's statuses once its SAMPLE_LOST was looked at
 abbrev pub seen_lost : Reader → Seen
-seen_lost r = record r.seen { lost = lost_count r.happened }
+seen_lost r = record r.seen { lost = lost_count r.happened; entries_at_lost = length r.happened }
 
 -- what is seen of them once its LIVELINESS_CHANGED was looked at
 abbrev pub seen_liveliness : Reader → Seen

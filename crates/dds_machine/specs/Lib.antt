@@ -1,5 +1,6 @@
 pub mod Numbered
 pub mod Part
+pub mod Passing
 pub mod Moves
 pub mod Watching
 pub mod Refusals

@@ -9,7 +9,7 @@ use Rattle.dds_base.specs.declared.entity.Entity.{Entity}
 use Rattle.dds_base.specs.declared.entity.Entity.TheVariants as entity
 use Rattle.dds_base.specs.Liveliness.{liveliness_changed_status}
 use Rattle.dds_base.specs.StatusFlags.{data_available_at, is_after, turned_at}
-use Rattle.dds_base.specs.Statuses.{lost_count, sample_lost_status}
+use Rattle.dds_base.specs.Statuses.{sample_lost_status}
 use Rattle.dds_base.specs.Written.{LookedAt, liveliness_lost_status}
 use Rattle.dds_notices.specs.declared.notice.Status.{Status}
 use Rattle.dds_notices.specs.declared.notice.Status.TheVariants.{SampleLost, DataAvailable, LivelinessLost, LivelinessChanged}
@@ -19,6 +19,7 @@ use Rattle.dds_machine.specs.Calls.{after_look, effect, seen_liveliness, seen_lo
 use Rattle.dds_machine.specs.declared.event.WorldEvent.{WorldEvent}
 use Rattle.dds_machine.specs.declared.event.WorldEvent.TheVariants as event
 use Rattle.dds_machine.specs.Numbered.{with_numbered}
+use Rattle.dds_machine.specs.Passing.{passed_at}
 use Rattle.dds_machine.specs.Machine.{Machine, part_at}
 
 -- ---- what an event raised, by what an entity was before it
@@ -26,7 +27,7 @@ use Rattle.dds_machine.specs.Machine.{Machine, part_at}
 -- SAMPLE_LOST of a reader, if changes were passed over
 abbrev pub lost_raised : Reader → Reader → Option Status
 lost_raised before r =
-    if nat_lt (lost_count before.happened) (lost_count r.happened)
+    if is_after (length before.happened) (passed_at r.happened)
     then Some (SampleLost (sample_lost_status r.happened r.seen.lost)) else None
 
 -- its DATA_AVAILABLE, if a sample came

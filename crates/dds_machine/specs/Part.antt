@@ -50,11 +50,12 @@ pub record Rtps : Type 0 where
   pub writers : List Writer
   pub readers : List (List WriterProxy)
 
--- what a reader's statuses said when each was looked at last, by a call or as a listener was told: the total of
--- SAMPLE_LOST; by DATA_AVAILABLE how many entries there were; and by LIVELINESS_CHANGED how many matched writers were
--- alive and not alive, and how many entries there were (DDS 1.4, 2.2.4.1)
+-- what a reader's statuses said when each was looked at last, by a call or as a listener was told, and how many entries
+-- there were then: the total of SAMPLE_LOST; nothing of DATA_AVAILABLE; and by LIVELINESS_CHANGED how many matched
+-- writers were alive and not alive (DDS 1.4, 2.2.4.1)
 pub record Seen : Type 0 where
   pub lost : ℕ
+  pub entries_at_lost : ℕ
   pub entries_at_data : ℕ
   pub alive : ℕ
   pub not_alive : ℕ
@@ -62,7 +63,8 @@ pub record Seen : Type 0 where
 
 -- before the first looks
 abbrev pub nothing_seen : Seen
-nothing_seen = record { lost = 0; entries_at_data = 0; alive = 0; not_alive = 0; entries_at_turn = 0 }
+nothing_seen =
+    record { lost = 0; entries_at_lost = 0; entries_at_data = 0; alive = 0; not_alive = 0; entries_at_turn = 0 }
 
 -- a reader as its own calls see it: its QoS, what happened there, the newest first, and what was seen of its statuses
 pub record Reader : Type 0 where

@@ -14,7 +14,6 @@ use Rattle.dds_base.specs.declared.selection.Selection.{Selection}
 use Rattle.dds_base.specs.Access.{has_match, no_filter}
 use Rattle.dds_base.specs.Checked.{is_maximum}
 use Rattle.dds_base.specs.Selection.{max_in, selection_in}
-use Rattle.dds_base.specs.Statuses.{lost_count}
 use Rattle.dds_base.specs.StatusFlags.{data_available_at, is_after, turned_at}
 use Rattle.dds_base.specs.Written.{liveliness_lost_status}
 use Rattle.dds_base.specs.Number.{at_number}
@@ -26,13 +25,14 @@ use Rattle.dds_conditions.specs.declared.condition.Condition.{Condition}
 use Rattle.dds_conditions.specs.declared.condition.Condition.TheVariants.{Samples, Guard}
 use Rattle.dds_conditions.specs.Watched.{enabled_of, has_filter, knows_entity, number_refusal}
 use Rattle.dds_machine.specs.Numbered.{has_element}
+use Rattle.dds_machine.specs.Passing.{passed_at}
 use Rattle.dds_machine.specs.Part.{Part, Reader, Writer, own_reader, own_writer}
 
 -- ---- statuses
 
 -- changes were passed over since SAMPLE_LOST was looked at
 abbrev pub is_lost_flagged : Reader → Bool
-is_lost_flagged r = nat_lt r.seen.lost (lost_count r.happened)
+is_lost_flagged r = is_after r.seen.entries_at_lost (passed_at r.happened)
 
 -- a sample came since the last read or take, and no listener was told of it
 abbrev pub is_data_flagged : Reader → Bool

@@ -8,13 +8,14 @@ use Rattle.dds_base.specs.declared.happening.Happening.{Happening}
 use Rattle.dds_base.specs.declared.happening.Happening.TheVariants.{Came, Died, Heard, Looked, Passed, Read, Took}
 use Rattle.dds_base.specs.declared.qos.ReaderQos.{ReaderQos}
 use Rattle.dds_base.specs.Liveliness.{liveliness_changed_status, turns_alive}
-use Rattle.dds_base.specs.Statuses.{lost_count, sample_lost_status}
+use Rattle.dds_base.specs.Statuses.{sample_lost_status}
 use Rattle.dds_base.specs.StatusFlags.{brings_sample, data_available_at, is_after, turned_at}
 use Rattle.dds_base.specs.Written.{liveliness_lost_status}
 use Rattle.dds_notices.specs.declared.notice.Status.{Status}
 use Rattle.dds_notices.specs.declared.notice.Status.TheVariants.{SampleLost, DataAvailable, LivelinessLost, LivelinessChanged}
 use Rattle.dds_notices.proofs.ListenerLaws.{NobodyTakes}
 use Rattle.dds_notices.specs.Listeners.{taker_of}
+use Rattle.dds_machine.specs.Passing.{passed_at}
 use Rattle.dds_machine.specs.Part.{Part, Reader, Writer, own_reader, own_writer}
 use Rattle.dds_machine.specs.Noticing.{at_end, data_raised, data_told, each_told, loss_raised, losses_of, lost_raised, lost_told, reader_told, told, told_of, told_to, turn_raised, turn_told, writer_told}
 
@@ -140,6 +141,16 @@ data_within q (Died w moment ∷ h) =
 data_within q (Looked status ∷ h) =
     none_after (brings_sample q (Looked status ∷ h)) (data_available_at q h) (length h) (data_within q h)
 
+passed_within : (h : List Happening) → is_after (length h) (passed_at h) ≡ false
+passed_within [] = refl
+passed_within (Passed w first last ∷ h) = none_after true (passed_at h) (length h) (passed_within h)
+passed_within (Came a ∷ h) = none_after false (passed_at h) (length h) (passed_within h)
+passed_within (Heard w moment ∷ h) = none_after false (passed_at h) (length h) (passed_within h)
+passed_within (Died w moment ∷ h) = none_after false (passed_at h) (length h) (passed_within h)
+passed_within (Read samples ∷ h) = none_after false (passed_at h) (length h) (passed_within h)
+passed_within (Took samples ∷ h) = none_after false (passed_at h) (length h) (passed_within h)
+passed_within (Looked status ∷ h) = none_after false (passed_at h) (length h) (passed_within h)
+
 turned_within : (h : List Happening) → is_after (length h) (turned_at h) ≡ false
 turned_within [] = refl
 turned_within (e ∷ h) = none_after (turns_alive h e) (turned_at h) (length h) (turned_within h)
@@ -154,9 +165,8 @@ reader_quiet : (part : Part) (n : ℕ) → reader_told part n part ≡ part
 reader_quiet part n =
     let r : Reader = own_reader part n in
     let lost : lost_raised r r ≡ None =
-    not_raised (nat_lt (lost_count r.happened) (lost_count r.happened))
-    (SampleLost (sample_lost_status r.happened r.seen.lost))
-    (not_above (lost_count r.happened) (lost_count r.happened) (omega arith)) in
+    not_raised (is_after (length r.happened) (passed_at r.happened))
+    (SampleLost (sample_lost_status r.happened r.seen.lost)) (passed_within r.happened) in
     let data_too : data_raised r r ≡ None =
     not_raised (is_after (length r.happened) (data_available_at r.qos r.happened)) DataAvailable
     (data_within r.qos r.happened) in

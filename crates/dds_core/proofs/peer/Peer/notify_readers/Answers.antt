@@ -23,7 +23,7 @@ pub loop-index-preserved : goal.loop-index-preserved
 loop-index-preserved g c = record {
   told = λ before marks.
       tells_marked g.L.Listener.notices g.L.Listener.capacity c.args.marks.now.readers
-      (record { lost = 0; happened = 0 }) (λ mark i. IsMarkOf mark (own_reader before i)) (reader_told before)
+      (record { happened = 0 }) (λ mark i. IsMarkOf mark (own_reader before i)) (reader_told before)
       c.args.self.now c.args.slots.now c.loop-index.self c.loop-index.slots c.notify_reader.new.self
       c.notify_reader.new.slots c.loop-index.index _ _ 16 c.loop-index-test.true c.len-index-end.ensures
       (omega (arith, c.self.invariant.1)) (search rules) marks.readers (c.loop-index.invariant.told before marks)

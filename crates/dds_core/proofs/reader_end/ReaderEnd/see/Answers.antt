@@ -4,7 +4,7 @@ use Rattle.dds_core.proofs.reader_end.ReaderEnd.see.Goals as goal
 pub returns-in-SampleLost-clause-sees : goal.returns-in-SampleLost-clause-sees
 returns-in-SampleLost-clause-sees c =
     sees_lost c.args.self.now c.get_sample_lost.new.self c.args.status.now c.in-SampleLost.field-0
-    c.get_sample_lost.result c.in-SampleLost.is
+    c.get_sample_lost.result c.get_sample_lost.new.self.seen c.in-SampleLost.is
     c.get_sample_lost.ensures.status c.get_sample_lost.ensures.seen
 
 pub returns-in-DataAvailable-clause-sees : goal.returns-in-DataAvailable-clause-sees

@@ -13,6 +13,7 @@ loop-writer-init c =
     let store : StoreKept =
     record {
       lost = c.self.inside.lost;
+      passed = c.self.inside.passed;
       turned = c.self.inside.turned;
       leases = c.self.inside.leases;
       cache = c.self.inside.cache;
@@ -23,6 +24,7 @@ loop-writer-init c =
       count = c.self.invariant.1;
       qos = refl;
       lost = refl;
+      passed = refl;
       died = λ h s. nobody_yet (qos_of store.cache) c.args.now store h s;
     })
 
@@ -37,6 +39,7 @@ loop-writer-preserved c =
       count = search rules;
       qos = search rules;
       lost = search rules;
+      passed = search rules;
       died = λ h s.
           let l = before.died h s in
           let leases =
@@ -45,6 +48,6 @@ loop-writer-preserved c =
           let cache : CacheStandsFor c.died.new.self (Died w now ∷ l.happened) = search rules in
           next_died q now c.loop-writer.after w _ _ _ l (c.in-Some.ensures.died q l.happened leases)
           (c.in-Some.ensures.turn q l.happened leases) cache
-          (search rules) refl (c.in-Some.ensures.first q l.happened leases)
+          (search rules) refl refl (c.in-Some.ensures.first q l.happened leases)
           (ap Some (c.happened.ensures.entries (Died w now ∷ l.happened) cache));
     }

@@ -9,6 +9,7 @@ invariant-loop-writer l =
     Dying (qos_of l.fn.self.cache) l.fn.now l.after l.fn.self
     (record {
       lost = l.self-inside.lost;
+      passed = l.self-inside.passed;
       turned = l.self-inside.turned;
       leases = l.self-inside.leases;
       cache = l.self-inside.cache;
