@@ -1,1 +1,3 @@
 pub mod Tables
+mod WorkedNotices
+mod WorkedConditions

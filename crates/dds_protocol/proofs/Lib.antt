@@ -63,3 +63,4 @@ pub mod Alike
 pub mod SameBeside
 pub mod EndsBeside
 pub mod PairEnded
+mod WorkedSent
