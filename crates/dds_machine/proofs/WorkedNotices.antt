@@ -9,6 +9,7 @@ use Rattle.dds_base.specs.declared.happening.Happening.TheVariants.{Came, Passed
 use Rattle.dds_base.specs.declared.qos.HistoryQos.TheVariants.{KeepAll}
 use Rattle.dds_base.specs.declared.qos.MatchedWriter.{MatchedWriter}
 use Rattle.dds_base.specs.declared.qos.OwnershipQos.TheVariants.{Shared}
+use Rattle.dds_base.specs.declared.qos.ReliabilityQos.TheVariants.{Reliable}
 use Rattle.dds_base.specs.Written.{Written, Asserted, LookedAt, Ticked}
 use Rattle.dds_conditions.specs.Watched.{opened as nothing_watched}
 use Rattle.dds_notices.specs.declared.mask.StatusMask.{StatusMask}
@@ -46,7 +47,7 @@ part written seen happened places = record {
     moment = 0;
     readers = record {
       qos = record
-          { ownership = Shared; history = KeepAll; max_samples = None; max_instances = None; writers = leased ∷ [] };
+          { ownership = Shared; reliability = Reliable; history = KeepAll; max_samples = None; max_instances = None; writers = leased ∷ [] };
       happened = happened;
       seen = seen;
     } ∷ [];

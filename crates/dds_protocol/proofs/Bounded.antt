@@ -194,7 +194,7 @@ pub opened_is_fresh : (config : Config) (i : ℕ) → IsFresh (numbered (opening
 opened_is_fresh config zero = none_is_fresh
 opened_is_fresh config (suc i) = peer_is_fresh config.peers 1 config.peers i
 
-opened_bounded : (config : Config) → IsBounded (machine_of (opening_world config))
+pub opened_bounded : (config : Config) → IsBounded (machine_of (opening_world config))
 opened_bounded config r w p h =
     let here = ap (λ (q : Part). place_of (own_proxies q r.number) w) (parts_at (opening_world config) r.peer) in
     let one =

@@ -1,5 +1,5 @@
 -- A network whose peers have filters and listeners: what it keeps of each, its events, and a filter or a listener more.
-use Rattle.std.proofs.Common.{◌≡◌, ℕ, zero, suc, ◌+◌, ◌<◌, Bool, false, List, [], ◌∷◌, ◌++◌, Option, Some, map, set, length, get_or, slice_get, refl, ap, sym, ◌∙◌, subst, inr, arith}
+use Rattle.std.proofs.Common.{None, ◌≡◌, ℕ, zero, suc, ◌+◌, ◌<◌, Bool, false, List, [], ◌∷◌, ◌++◌, Option, Some, map, set, length, get_or, slice_get, refl, ap, sym, ◌∙◌, subst, inr, arith}
 use Rattle.std.specs.Prelude.{IfOk, IfErr, Result, ◌&&◌, nat_lt, nat_le}
 use Rattle.std.proofs.lemmas.List.{length-map, map-set}
 use Rattle.std.proofs.lemmas.Option.{slice_get-get_or}
@@ -8,10 +8,12 @@ use Rattle.dds_base.specs.declared.code.Code.TheVariants.{BadParameter}
 use Rattle.dds_base.specs.declared.config.Config.{Config}
 use Rattle.dds_base.specs.declared.entity.Entity.{Entity}
 use Rattle.dds_base.specs.declared.key.Key.{Key}
+use Rattle.dds_base.specs.Refusal.{Refuses}
 use Rattle.dds_conditions.specs.Filtered.{tests_of}
+use Rattle.dds_conditions.specs.Watched.{filter_refusal}
 use Rattle.dds_notices.specs.declared.mask.StatusMask.{StatusMask}
 use Rattle.dds_notices.specs.declared.notice.Notice.{Notice}
-use Rattle.dds_notices.specs.Listeners.{Slotted, listener_place}
+use Rattle.dds_notices.specs.Listeners.{HandedBack, Place, Slotted, at_entity, listener_place, listener_refusal}
 use Rattle.dds_notices.specs.Notices.{Recording}
 use Rattle.dds_protocol.specs.declared.event.Event.{Event}
 use Rattle.dds_protocol.specs.declared.event.Event.TheVariants as event
@@ -20,13 +22,18 @@ use Rattle.dds_machine.specs.declared.event.WorldEvent.TheVariants as world
 use Rattle.dds_protocol.specs.declared.event.Output.{Output}
 use Rattle.dds_machine.specs.declared.reply.Reply.{Reply}
 use Rattle.dds_machine.specs.declared.reply.Reply.TheVariants.{Refused, Reported}
-use Rattle.dds_protocol.specs.Filters.{peer_with_filter}
-use Rattle.dds_machine.specs.Machine.{AllTests}
-use Rattle.dds_protocol.specs.Noticing.{peer_at_end, peer_with_place}
+use Rattle.dds_machine.specs.Filters.{machine_with_filter, part_with_filter}
+use Rattle.dds_machine.specs.Noticing.{machine_with_place, part_with_place}
+use Rattle.dds_machine.specs.Numbered.{with_numbered}
+use Rattle.dds_machine.specs.Part.{Part}
+use Rattle.dds_protocol.specs.Filters.{peer_with_filter, world_with_filter}
+use Rattle.dds_machine.specs.Machine.{AllTests, Machine, part_at}
+use Rattle.dds_protocol.specs.Noticing.{peer_at_end, peer_with_place, world_with_place}
 use Rattle.dds_protocol.specs.Peer.{Peer, no_peer}
 use Rattle.dds_machine.specs.Watching.{Tests}
-use Rattle.dds_protocol.specs.World.{WorldState}
-use Rattle.dds_machine.proofs.Tables.{numbered-map}
+use Rattle.dds_protocol.specs.World.{WorldState, machine_of, peer_at}
+use Rattle.dds_machine.proofs.Tables.{map-with_numbered, numbered-map}
+use Rattle.dds_protocol.proofs.Composed.{parts_at}
 use Rattle.dds_protocol.proofs.SameBeside.{SameBeside, bounded_beside, filter_beside, place_beside, sound_beside, used_beside}
 use Rattle.dds_core.specs.Kept.{PeerKept}
 use Rattle.dds_core.specs.Listening.{Adds as CoreAdds, CoreKept, RefusesFilter as CoreRefuses, RefusesListener as CoreRefusesListener, Sets as CoreSets, StandsFor as CoreStands, Steps as CoreSteps}
@@ -42,6 +49,25 @@ use Rattle.dds_world.proofs.Replaced.{peer_stands, with_peer}
 use Rattle.dds_world.proofs.Ruled.{called, delivered, not_delivered, ticked}
 use Rattle.dds_world.proofs.Sends.{called_sends, delivered_sends, quiet_delivery_sends, refused_call_sends, refused_tick_sends, ticked_sends}
 use Rattle.dds_world.proofs.WorldSteps.{unknown_call, unknown_delivery, unknown_packet, unknown_tick}
+
+-- ---- the machine that the peers of a network are the parts of, once one of them has another filter, or listener
+
+machine_filtered : (network : WorldState) (peer : ℕ)
+    → machine_of (world_with_filter network peer) ≡ machine_with_filter (machine_of network) peer
+machine_filtered network peer =
+    ap (λ (ps : List Part). let m : Machine = record { parts = ps } in m)
+    (map-with_numbered (λ (p : Peer). p.part) network.peers peer (peer_with_filter (peer_at network peer))
+    ∙ ap (λ (q : Part). with_numbered (machine_of network).parts peer (part_with_filter q))
+    (sym (parts_at network peer)))
+
+machine_placed : (network : WorldState) (peer : ℕ) (entity : Entity) (place : Option Place)
+    → machine_of (world_with_place network peer entity place) ≡ machine_with_place (machine_of network) peer entity place
+machine_placed network peer entity place =
+    ap (λ (ps : List Part). let m : Machine = record { parts = ps } in m)
+    (map-with_numbered (λ (p : Peer). p.part) network.peers peer
+    (peer_with_place (peer_at network peer) entity place)
+    ∙ ap (λ (q : Part). with_numbered (machine_of network).parts peer (part_with_place q entity place))
+    (sym (parts_at network peer)))
 
 -- the peer of an index, among those that are kept
 pub core_kept : {F L : Type 0} (notices : L → List Notice) (capacity : L → ℕ) (inside held : Held F L) (i count : ℕ)
@@ -213,21 +239,36 @@ module _ {F L : Type 0} (notices : L → List Notice) (capacity : L → ℕ) whe
       let h : CoreKept F L → List F = λ c. c.filtered.filters in
       let next : suc i ≡ peer = omega (arith, is) in
       let own = seen_at h old.cores i core [] low here in
+      let whole : (config : Config) (network : WorldState) → StandsFor (kept_of notices capacity old) config network
+      → StandsFor (kept_of notices capacity new) config (world_with_filter network (suc i)) =
+      λ config network s.
+      let r = a.adds config (get_or network.peers i no_peer) (core_stands old i core config network low here s) in
+      let known =
+      r.3 (s.known i core.filtered.peer
+      (core_kept notices capacity old old i (length old.cores) core refl here refl low)) in
+      stands_with old i after new config network
+      (peer_with_filter (get_or network.peers i no_peer)) same s r.2 known (filter_beside network (suc i)) in
       let here_is : Adds notices capacity old (suc i) filter number new = record {
         within = (omega arith, omega (arith, low));
         filters = ap (λ (x : Held F L). map h x.cores) same
             ∙ (map-set h old.cores i after ∙ ap (λ (fs : List F). set (filters_of old) i fs)
             (a.filters ∙ ap (λ (fs : List F). fs ++ filter ∷ []) (sym own)));
-        adds = λ config network s.
-            let r = a.adds config (get_or network.peers i no_peer) (core_stands old i core config network low here s) in
-            let known =
-            r.3 (s.known i core.filtered.peer
-            (core_kept notices capacity old old i (length old.cores) core refl here refl low)) in (
-              r.0,
+        sent = ap (λ (x : Held F L). x.sent) same;
+        unsent = ap (λ (x : Held F L). x.unsent) same;
+        adds = λ config m stands.
+            let network = stands.0 in
+            let s = stands.2 in
+            let r = a.adds config (get_or network.peers i no_peer) (core_stands old i core config network low here s) in (
+              subst (λ (x : Machine). filter_refusal (part_at x (suc i)).dds.watch ≡ None) stands.1
+                  (ap (λ (q : Part). filter_refusal q.dds.watch) (parts_at network (suc i)) ∙ r.0),
               r.1 ∙ ap (λ (fs : List F). length fs + 1) (sym own),
-              stands_with old i after new config network
-                  (peer_with_filter (get_or network.peers i no_peer)) same s r.2 known (filter_beside network (suc i)),
+              (
+                world_with_filter network (suc i),
+                machine_filtered network (suc i) ∙ ap (λ (x : Machine). machine_with_filter x (suc i)) stands.1,
+                whole config network s,
+              ),
             );
+        rules = whole;
       } in
       subst (λ (n : ℕ). Adds notices capacity old n filter number new) next here_is
 
@@ -240,8 +281,10 @@ module _ {F L : Type 0} (notices : L → List Notice) (capacity : L → ℕ) whe
       subst (λ (n : ℕ). RefusesFilter notices capacity old n code) next
       (inr (
         (omega arith, omega (arith, low)),
-        λ config network s. refused config (get_or network.peers i no_peer)
-            (core_stands old i core config network low here s),
+        λ config m stands. subst (λ (x : Machine). Refuses (filter_refusal (part_at x (suc i)).dds.watch) code) stands.1
+            (subst (λ (q : Part). Refuses (filter_refusal q.dds.watch) code) (sym (parts_at stands.0 (suc i)))
+            (refused config (get_or stands.0.peers i no_peer)
+            (core_stands old i core config stands.0 low here stands.2))),
       ))
 
   -- another listener, or none
@@ -255,21 +298,42 @@ module _ {F L : Type 0} (notices : L → List Notice) (capacity : L → ℕ) whe
       let next : suc i ≡ peer = omega (arith, is) in
       let at : slice_get old.cores i ≡ Some core =
       slice_get-get_or old.cores i core low ∙ ap (λ (c : CoreKept F L). Some c) (sym here) in
+      let place = listener_place capacity mask listener in
+      let whole : (config : Config) (network : WorldState) → StandsFor (kept_of notices capacity old) config network
+      → StandsFor (kept_of notices capacity new) config (world_with_place network (suc i) entity place) =
+      λ config network s.
+      let r = a.sets config (get_or network.peers i no_peer) (core_stands old i core config network low here s) in
+      let known =
+      r.3 (s.known i core.filtered.peer
+      (core_kept notices capacity old old i (length old.cores) core refl here refl low)) in
+      stands_with old i after new config network
+      (peer_with_place (get_or network.peers i no_peer) entity place) same s r.2 known
+      (place_beside network (suc i) entity place) in
       let here_is : Sets notices capacity old (suc i) entity mask listener handed new = record {
         within = (omega arith, omega (arith, low));
         filters = ap (λ (x : Held F L). map h x.cores) same ∙ map-set_same h old.cores i core after at a.filters;
-        sets = λ config network s.
-            let place = listener_place capacity mask listener in
-            let r = a.sets config (get_or network.peers i no_peer) (core_stands old i core config network low here s) in
-            let known =
-            r.3 (s.known i core.filtered.peer
-            (core_kept notices capacity old old i (length old.cores) core refl here refl low)) in (
-              r.0,
-              r.1,
-              stands_with old i after new config network
-                  (peer_with_place (get_or network.peers i no_peer) entity place) same s r.2 known
-                  (place_beside network (suc i) entity place),
+        sent = ap (λ (x : Held F L). x.sent) same;
+        unsent = ap (λ (x : Held F L). x.unsent) same;
+        sets = λ config m stands.
+            let network = stands.0 in
+            let s = stands.2 in
+            let r = a.sets config (get_or network.peers i no_peer) (core_stands old i core config network low here s) in (
+              subst (λ (x : Machine). listener_refusal notices (part_at x (suc i)).dds.listeners entity listener
+                  ≡ None) stands.1
+                  (ap (λ (q : Part). listener_refusal notices q.dds.listeners entity listener)
+                  (parts_at network (suc i)) ∙ r.0),
+              subst (λ (x : Machine). HandedBack notices capacity handed
+                  (at_entity (part_at x (suc i)).dds.listeners entity)) stands.1
+                  (subst (λ (q : Part). HandedBack notices capacity handed (at_entity q.dds.listeners entity))
+                  (sym (parts_at network (suc i))) r.1),
+              (
+                world_with_place network (suc i) entity place,
+                machine_placed network (suc i) entity place
+                    ∙ ap (λ (x : Machine). machine_with_place x (suc i) entity place) stands.1,
+                whole config network s,
+              ),
             );
+        rules = whole;
       } in
       subst (λ (n : ℕ). Sets notices capacity old n entity mask listener handed new) next here_is
 
@@ -282,8 +346,12 @@ module _ {F L : Type 0} (notices : L → List Notice) (capacity : L → ℕ) whe
       subst (λ (n : ℕ). RefusesListener notices capacity old n entity listener code) next
       (inr (
         (omega arith, omega (arith, low)),
-        λ config network s. refused config (get_or network.peers i no_peer)
-            (core_stands old i core config network low here s),
+        λ config m stands. subst (λ (x : Machine).
+            listener_refusal notices (part_at x (suc i)).dds.listeners entity listener ≡ Some code) stands.1
+            (ap (λ (q : Part). listener_refusal notices q.dds.listeners entity listener)
+            (parts_at stands.0 (suc i))
+            ∙ refused config (get_or stands.0.peers i no_peer)
+            (core_stands old i core config stands.0 low here stands.2)),
       ))
 
   -- an index below the number of peers is one of those that are kept

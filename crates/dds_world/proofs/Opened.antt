@@ -18,7 +18,7 @@ use Rattle.dds_protocol.specs.declared.event.Packet.{Packet}
 use Rattle.dds_machine.specs.Numbered.{has_element, numbered}
 use Rattle.dds_protocol.specs.Opening.{opening_peers, opening_world}
 use Rattle.dds_protocol.specs.Peer.{no_peer}
-use Rattle.dds_protocol.proofs.Bounded.{opens_bounded}
+use Rattle.dds_protocol.proofs.Bounded.{opened_bounded}
 use Rattle.dds_protocol.proofs.CountsOpened.{opens_used}
 use Rattle.dds_protocol.proofs.Opened.{opens_sound}
 use Rattle.dds_protocol.proofs.OpenedPeers.{opens_known}
@@ -225,5 +225,5 @@ opened {F} {L} notices capacity config held all none quiet =
           absurd (omega (arith, nowhere.1));
       few = omega (arith, quiet);
       used = opens_used config;
-      bounded = opens_bounded config;
+      bounded = opened_bounded config;
     }

@@ -15,7 +15,7 @@ use Rattle.dds_protocol.specs.declared.event.Packet.{Packet}
 use Rattle.dds_machine.specs.declared.event.WorldEvent.{WorldEvent}
 use Rattle.dds_machine.specs.declared.event.WorldEvent.TheVariants as world
 use Rattle.dds_machine.specs.declared.reply.Reply.{Reply}
-use Rattle.dds_machine.specs.Machine.{AllTests, part_at, place_at, writer_at}
+use Rattle.dds_machine.specs.Machine.{AllTests, Machine, part_at, place_at, writer_at}
 use Rattle.dds_machine.specs.Part.{NoLess, Part, own_proxies, own_writer, acknowledged_of, is_reader_behind, place_of, writer_changes}
 use Rattle.dds_protocol.specs.Peer.{Peer, no_peer}
 use Rattle.dds_protocol.specs.DueMessages.{writer_entity}
@@ -29,7 +29,7 @@ use Rattle.dds_world.specs.declared.round.Matched.{Matched}
 use Rattle.dds_world.specs.declared.round.RoundReply.{RoundReply}
 use Rattle.dds_world.specs.Repairing.{Knows, IsKnown, NotMatched, Stage, Answering, Acknowledging, Beating}
 use Rattle.dds_world.specs.Round.{AreMatched, RefusesRound, IsStep, AreSteps, IsTo, HasNone, IsFirst, heartbeat_of, acknack_of, answers_at, AfterHeartbeat, AfterTick, IsRound}
-use Rattle.dds_world.specs.WorldStanding.{WorldKept, StandsFor}
+use Rattle.dds_world.specs.WorldStanding.{WorldKept, StandsFor, MachineStands, KeepsRules}
 use Rattle.dds_world.proofs.Sends.{numbered_so}
 
 -- ---- what was sent stays
@@ -399,7 +399,6 @@ nothing_less None b h is = refl
 nothing_less (Some x) None h is = absurd h
 nothing_less (Some x) (Some y) h is = cc
 
--- without a place they are not matched
 -- so it is of each machine for which the network stands
 pub place_in : (kept : WorldKept) (reader writer : Endpoint) (place : Option ℕ) → IsPlace kept reader writer place
     → (config : Config) (m : Machine) → MachineStands kept config m → place ≡ place_at m reader writer
@@ -412,6 +411,7 @@ pub place_of_machine : (kept : WorldKept) (reader writer : Endpoint) (place : Op
     → IsPlace kept reader writer place
 place_of_machine kept reader writer place is config network s = is config (machine_of network) (network, refl, s)
 
+-- without a place they are not matched
 pub not_placed : (kept : WorldKept) (writer reader : Endpoint) → IsPlace kept reader writer None
     → NotMatched kept writer reader
 not_placed kept writer reader none config network s =

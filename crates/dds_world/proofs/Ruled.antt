@@ -69,9 +69,11 @@ machine_steps {tests} old new ev reply steps config m stands =
     let t = steps config network stands.2 in (
       machine_of t.0,
       subst (λ (x : Machine). Step tests (length old.sent) x ev reply (machine_of t.0)) stands.1 t.4,
-      world_ended network ev t.0,
-      machine_ends network ev t.0 ∙ ap (λ (x : Machine). machine_ended x ev (machine_of t.0)) stands.1,
-      t.5,
+      (
+        world_ended network ev t.0,
+        machine_ends network ev t.0 ∙ ap (λ (x : Machine). machine_ended x ev (machine_of t.0)) stands.1,
+        t.5,
+      ),
     )
 
 -- ---- a call

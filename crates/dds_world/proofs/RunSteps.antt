@@ -1,11 +1,15 @@
 -- Runs of a network, one step after another.
-use Rattle.std.proofs.Common.{◌≡◌, ℕ, List, [], ◌∷◌, ◌++◌, length, refl, subst, ap}
+use Rattle.std.proofs.Common.{◌≡◌, ℕ, Some, List, [], ◌∷◌, ◌++◌, length, refl, subst, ap}
 use Rattle.dds_base.specs.declared.config.Config.{Config}
 use Rattle.dds_protocol.specs.Noticing.{world_ended}
 use Rattle.dds_machine.specs.declared.event.WorldEvent.{WorldEvent}
 use Rattle.dds_protocol.specs.declared.event.Packet.{Packet}
 use Rattle.dds_machine.specs.declared.reply.Reply.{Reply}
-use Rattle.dds_machine.specs.Machine.{AllTests, Machine}
+use Rattle.dds_machine.specs.declared.endpoint.Endpoint.{Endpoint}
+use Rattle.dds_machine.specs.Machine.{AllTests, Machine, place_at, writer_at}
+use Rattle.dds_machine.specs.Part.{writer_changes}
+use Rattle.dds_world.specs.declared.round.Round.{Round}
+use Rattle.dds_world.specs.Round.{RoundRuns, Rounds, replies_of}
 use Rattle.dds_protocol.specs.Rules.{CountedStep, RuledRun}
 use Rattle.dds_machine.specs.Runs.{Run, Runs}
 use Rattle.dds_protocol.specs.World.{WorldState, machine_of}
@@ -51,19 +55,21 @@ went_by config network old ev reply new rules s =
     record { after = t.0; step = t.1; stands = t.2 }
 
 pub runs_none : {tests : AllTests} → (kept : WorldKept) → RunsByRules tests kept [] [] kept
-runs_none kept = λ config network s. (network, (refl, refl), s)
+runs_none kept = record { run = λ config network s. (network, (refl, refl), s) }
 
 pub runs_more : {tests : AllTests}
     → (kept mid new : WorldKept) (events : List WorldEvent) (replies : List Reply) (ev : WorldEvent) (reply : Reply)
     → RunsByRules tests kept events replies mid → KeepsRules tests mid ev reply new
     → RunsByRules tests kept (events ++ ev ∷ []) (replies ++ reply ∷ []) new
-runs_more {tests} kept mid new events replies ev reply runs rules = λ config network s.
-    let r = runs config network s in
-    let w = went_by config r.0 mid ev reply new rules r.2 in
-    let run =
-    run_more config tests network r.0 w.after kept.unsent mid.unsent new.unsent events replies ev reply r.1 w.step
-    in
-    let end : WorldState = world_ended r.0 ev w.after in (end, run, w.stands)
+runs_more {tests} kept mid new events replies ev reply runs rules = record {
+  run = λ config network s.
+      let r = runs.run config network s in
+      let w = went_by config r.0 mid ev reply new rules r.2 in
+      let run =
+      run_more config tests network r.0 w.after kept.unsent mid.unsent new.unsent events replies ev reply r.1 w.step
+      in
+      let end : WorldState = world_ended r.0 ev w.after in (end, run, w.stands);
+}
 
 -- ---- of the machine
 
@@ -88,14 +94,30 @@ machine_run tests old new events replies config m network after is s t run =
     (ap (λ (ps : List Packet). length ps) t.sent) is
     (machine_runs config tests network after old.unsent new.unsent events replies run)
 
-pub runs_of_machine : {tests : AllTests} (old new : WorldKept) (events : List WorldEvent) (replies : List Reply)
+pub runs_of_machine : {tests : AllTests} → (old new : WorldKept) (events : List WorldEvent) (replies : List Reply)
     → RunsByRules tests old events replies new
     → Runs MachineStands tests (length old.sent) old events replies (length new.sent) new
 runs_of_machine {tests} old new events replies runs config m stands =
-    let r = runs config stands.0 stands.2 in (
+    let r = runs.run config stands.0 stands.2 in (
       machine_of r.0,
       machine_run tests old new events replies config m stands.0 r.0 stands.1 stands.2 r.2 r.1,
-      r.0,
-      refl,
-      r.2,
+      (r.0, refl, r.2),
     )
+
+-- the replies of a round are a run of the machine, of which the answer tells the reader's places
+pub round_runs : (tests : AllTests) (old new : WorldKept) (writer reader : Endpoint) (answer : Round)
+    → Rounds tests old writer reader answer new
+    → RoundRuns MachineStands tests (length old.sent) old writer reader answer (length new.sent) new
+round_runs tests old new writer reader answer rounds = record {
+  events = rounds.events;
+  runs = λ config m stands.
+      let f = rounds.round config stands.0 stands.2 in (
+        machine_of f.after,
+        machine_run tests old new rounds.events (replies_of answer.replies) config m stands.0 f.after stands.1 stands.2
+            f.stands f.run,
+        (f.after, refl, f.stands),
+        subst (λ (x : Machine). place_at x reader writer ≡ Some answer.from) stands.1 f.from,
+        f.to,
+        subst (λ (x : Machine). answer.last ≡ length (writer_changes (writer_at x writer))) stands.1 f.last,
+      );
+}

@@ -21,13 +21,15 @@ use Rattle.dds_machine.specs.declared.event.WorldEvent.{WorldEvent}
 use Rattle.dds_machine.specs.declared.event.WorldEvent.TheVariants as world
 use Rattle.dds_machine.specs.declared.reply.Reply.{Reply}
 use Rattle.dds_protocol.specs.Filters.{world_with_filter}
-use Rattle.dds_machine.specs.Machine.{AllTests}
+use Rattle.dds_machine.specs.Filters.{machine_with_filter}
+use Rattle.dds_machine.specs.Machine.{AllTests, Machine, part_at}
+use Rattle.dds_machine.specs.Noticing.{machine_with_place}
 use Rattle.dds_protocol.specs.Noticing.{world_with_place}
 use Rattle.dds_machine.specs.Numbered.{numbered, with_numbered, HasNumber}
-use Rattle.dds_protocol.specs.World.{WorldState, peer_at}
+use Rattle.dds_protocol.specs.World.{WorldState}
 use Rattle.dds_core.specs.Listening.{CoreKept}
 use Rattle.dds_world.specs.Acting.{Acts, RuledSteps}
-use Rattle.dds_world.specs.WorldStanding.{Announces, WorldKept, StandsFor}
+use Rattle.dds_world.specs.WorldStanding.{Announces, WorldKept, MachineStands, StandsFor}
 
 -- the peers with their filters and listeners, every packet that was sent, and how many found no memory
 pub record Held (F L : Type 0) : Type 0 where
@@ -82,52 +84,62 @@ tests_by meaning filters peer = tests_of meaning (numbered filters peer [])
 abbrev pub tests_in : {F L : Type 0} → (F → Key → List ℕ → Bool) → Held F L → AllTests
 tests_in meaning held = tests_by meaning (filters_of held)
 
--- The peer of this number has the filter, as the last one. For each state that the old network stands for there is a
--- number for it, and it is this one, and the new network stands for that state with one filter more there, and nothing
--- else.
+-- The peer of this number has the filter, as the last one, and nothing is sent or counted. For each machine that the old
+-- network stands for there is a number for it, and it is this one, and the new network stands for that machine with one
+-- filter more there, and nothing else; so it is of the states of its peers.
 pub record Adds {F L : Type 0} (notices : L → List Notice) (capacity : L → ℕ) (old : Held F L) (peer : ℕ) (filter : F)
     (number : ℕ) (new : Held F L) : Type 0 where
   pub within : HasNumber old.cores peer
   pub filters : filters_of new ≡ with_numbered (filters_of old) peer (numbered (filters_of old) peer [] ++ filter ∷ [])
-  pub adds : (config : Config) (network : WorldState) → StandsFor (kept_of notices capacity old) config network
-      → (filter_refusal (peer_at network peer).part.dds.watch ≡ None)
+  pub sent : new.sent ≡ old.sent
+  pub unsent : new.unsent ≡ old.unsent
+  pub adds : (config : Config) (m : Machine) → MachineStandsFor notices capacity old config m
+      → (filter_refusal (part_at m peer).dds.watch ≡ None)
       × (number ≡ length (numbered (filters_of old) peer []) + 1)
-      × StandsFor (kept_of notices capacity new) config (world_with_filter network peer)
+      × MachineStandsFor notices capacity new config (machine_with_filter m peer)
+  pub rules : (config : Config) (network : WorldState) → StandsFor (kept_of notices capacity old) config network
+      → StandsFor (kept_of notices capacity new) config (world_with_filter network peer)
 
--- For each state that the network stands for, a filter is refused so: there is no such peer, or no number is left
+-- For each machine that the network stands for, a filter is refused so: there is no such peer, or no number is left
 -- there, or it is for want of memory.
 abbrev pub RefusesFilter : {F L : Type 0} → (L → List Notice) → (L → ℕ) → Held F L → ℕ → Code → Type 0
 RefusesFilter notices capacity held peer code =
     ((HasNumber held.cores peer → ⊥) × (code ≡ BadParameter))
     ⊎ (HasNumber held.cores peer
-    × ((config : Config) (network : WorldState) → StandsFor (kept_of notices capacity held) config network
-    → Refuses (filter_refusal (peer_at network peer).part.dds.watch) code))
+    × ((config : Config) (m : Machine) → MachineStandsFor notices capacity held config m
+    → Refuses (filter_refusal (part_at m peer).dds.watch) code))
 
 -- ---- listeners
 
--- At a peer that there is a listener was set at an entity, or taken away there. For each state that the old network
--- stands for it is not refused; the listener of before is handed back, with the last ones of all that it was told; and
--- the new network stands for that state with the place of the new one, and nothing else. No filter is added.
+-- At a peer that there is a listener was set at an entity, or taken away there, and nothing is sent or counted. For each
+-- machine that the old network stands for it is not refused; the listener of before is handed back, with the last ones
+-- of all that it was told; and the new network stands for that machine with the place of the new one, and nothing else;
+-- so it is of the states of its peers. No filter is added.
 pub record Sets {F L : Type 0} (notices : L → List Notice) (capacity : L → ℕ) (old : Held F L) (peer : ℕ)
     (entity : Entity) (mask : StatusMask)
     (listener handed : Option L) (new : Held F L) : Type 0 where
   pub within : HasNumber old.cores peer
   pub filters : filters_of new ≡ filters_of old
-  pub sets : (config : Config) (network : WorldState) → StandsFor (kept_of notices capacity old) config network
-      → (listener_refusal notices (peer_at network peer).part.dds.listeners entity listener ≡ None)
-      × HandedBack notices capacity handed (at_entity (peer_at network peer).part.dds.listeners entity)
-      × StandsFor (kept_of notices capacity new) config
+  pub sent : new.sent ≡ old.sent
+  pub unsent : new.unsent ≡ old.unsent
+  pub sets : (config : Config) (m : Machine) → MachineStandsFor notices capacity old config m
+      → (listener_refusal notices (part_at m peer).dds.listeners entity listener ≡ None)
+      × HandedBack notices capacity handed (at_entity (part_at m peer).dds.listeners entity)
+      × MachineStandsFor notices capacity new config
+      (machine_with_place m peer entity (listener_place capacity mask listener))
+  pub rules : (config : Config) (network : WorldState) → StandsFor (kept_of notices capacity old) config network
+      → StandsFor (kept_of notices capacity new) config
       (world_with_place network peer entity (listener_place capacity mask listener))
 
--- For each state that the network stands for, a listener is refused so: there is no such peer, or by the first cause
+-- For each machine that the network stands for, a listener is refused so: there is no such peer, or by the first cause
 -- that there is at it.
 abbrev pub RefusesListener : {F L : Type 0} → (L → List Notice) → (L → ℕ) → Held F L → ℕ → Entity → Option L → Code
     → Type 0
 RefusesListener notices capacity held peer entity listener code =
     ((HasNumber held.cores peer → ⊥) × (code ≡ BadParameter))
     ⊎ (HasNumber held.cores peer
-    × ((config : Config) (network : WorldState) → StandsFor (kept_of notices capacity held) config network
-    → listener_refusal notices (peer_at network peer).part.dds.listeners entity listener ≡ Some code))
+    × ((config : Config) (m : Machine) → MachineStandsFor notices capacity held config m
+    → listener_refusal notices (part_at m peer).dds.listeners entity listener ≡ Some code))
 
 -- ---- inner functions alone cite what follows
 

@@ -1,8 +1,7 @@
--- What a network stands for, and what its steps and runs promise.
+-- What a network stands for, and what its steps and runs promise of packets.
 --
--- To be believed are `Steps`, `Announces`, `MovesOn`, `KeepsRules`, `Runs`, and `WorldKept` and `traffic`, which they
--- name. What a network stands for is not, since they are said of all of it; and inner functions alone cite `Posts` and
--- `ArePosted`.
+-- To be believed are `KeepsRules`, `RunsByRules`, and `WorldKept` and `traffic`, which they name. What a network stands
+-- for is not, since they are said of all of it; and inner functions alone cite `Announces`, `Posts` and `ArePosted`.
 --
 -- The network is this project's own; its peers behave by RTPS 2.5, 8.4, and their listeners by DDS 1.4, 2.2.4.3.
 use Rattle.std.specs.Prelude.{◌≡◌, ◌≢◌, ◌⊎◌, ℕ, suc, ◌+◌, ◌-◌, ◌^◌, ◌≤◌, List, [], ◌∷◌, ◌++◌, length, get_or, slice_get, Some, Contains, AllPairs}
@@ -13,10 +12,10 @@ use Rattle.dds_protocol.specs.Noticing.{world_ended}
 use Rattle.dds_protocol.specs.declared.event.Packet.{Packet}
 use Rattle.dds_machine.specs.declared.event.WorldEvent.{WorldEvent}
 use Rattle.dds_machine.specs.declared.reply.Reply.{Reply}
-use Rattle.dds_machine.specs.Machine.{AllTests}
+use Rattle.dds_machine.specs.Machine.{AllTests, Machine}
 use Rattle.dds_protocol.specs.Bounds.{IsBounded}
 use Rattle.dds_protocol.specs.Fresh.{HasUsedCounts}
-use Rattle.dds_protocol.specs.Rules.{RuledRun}
+use Rattle.dds_protocol.specs.Rules.{CountedStep, RuledRun}
 use Rattle.dds_protocol.specs.Traffic.{Traffic, Sends}
 use Rattle.dds_protocol.specs.World.{WorldState, machine_of, peer_at, Sound}
 use Rattle.dds_core.specs.Kept.{PeerKept}
@@ -98,7 +97,8 @@ KeepsRules tests old event reply new = (config : Config) (network : WorldState) 
 
 -- For each state that the old network stood for, these replies to the events are a run of its peers by the rules of the
 -- protocol, and the new network stands for the state afterwards.
-abbrev pub RunsByRules : AllTests → WorldKept → List WorldEvent → List Reply → WorldKept → Type 0
-RunsByRules tests old events replies new = (config : Config) (network : WorldState) → StandsFor old config network
-    → (after : WorldState) × RuledRun config tests network old.unsent events replies after new.unsent
-    × StandsFor new config after
+pub record RunsByRules (tests : AllTests) (old : WorldKept) (events : List WorldEvent) (replies : List Reply)
+    (new : WorldKept) : Type 0 where
+  pub run : (config : Config) (network : WorldState) → StandsFor old config network
+      → (after : WorldState) × RuledRun config tests network old.unsent events replies after new.unsent
+      × StandsFor new config after

@@ -34,7 +34,10 @@
 mod round;
 mod world;
 
-pub use dds_machine::{Call, Endpoint, LivelinessChangedStatus, LivelinessLostStatus, Move, PassedRun, Reply, Report, SampleLostStatus, WorldEvent};
+pub use dds_machine::{
+    Call, Endpoint, LivelinessChangedStatus, LivelinessLostStatus, Move, PassedRun, Reply, Report,
+    SampleLostStatus, WorldEvent,
+};
 pub use dds_protocol::{Event, Output, Packet};
 pub use round::{Round, RoundReply};
 pub use world::World;

@@ -13,8 +13,8 @@ use dds_base::{Code, Moment, Sequence, Sn, index_of};
 use dds_conditions::Filter;
 use dds_core::Pair;
 use dds_machine::{Endpoint, Reply, WorldEvent};
-use dds_protocol::Packet;
 use dds_notices::Listener;
+use dds_protocol::Packet;
 use rtps_wire::{Sought, has_submessage};
 
 /// A reply of a round, with the counts of the network as they stood after it.

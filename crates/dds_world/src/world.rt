@@ -25,8 +25,8 @@ use dds_base::{Code, Config, Entity, Octets, Sequence, Sn, index_of};
 use dds_conditions::Filter;
 use dds_core::Core;
 use dds_machine::{Endpoint, Reply, Report, WorldEvent};
-use dds_protocol::{Event, Output, Packet};
 use dds_notices::{Listener, StatusMask};
+use dds_protocol::{Event, Output, Packet};
 use std::alloc::{AllocError, Global};
 use std::marker::Model;
 

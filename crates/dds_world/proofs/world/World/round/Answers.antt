@@ -1,4 +1,4 @@
-use Rattle.std.proofs.Common.{◌≡◌, ℕ, List, [], ◌∷◌, ◌++◌, ap, sym, subst, ◌∙◌}
+use Rattle.std.proofs.Common.{◌≡◌, ℕ, Some, None, List, [], ◌∷◌, ◌++◌, ap, sym, subst, ◌∙◌}
 use Rattle.dds_machine.specs.declared.endpoint.Endpoint.{Endpoint}
 use Rattle.dds_world.specs.declared.round.RoundReply.{RoundReply}
 use Rattle.dds_world.specs.Holding.{kept_of, tests_in}
@@ -6,7 +6,8 @@ use Rattle.dds_world.specs.Repairing.{Beating}
 use Rattle.dds_world.specs.Round.{AreMatched, Rounds}
 use Rattle.dds_world.proofs.CatchingUp.{answer_of, rounds_are}
 use Rattle.dds_world.proofs.Holding.{same_tests}
-use Rattle.dds_world.proofs.Rounds.{are_matched}
+use Rattle.dds_world.proofs.Rounds.{are_matched, not_matched, not_placed, place_of_machine}
+use Rattle.dds_world.proofs.RunSteps.{round_runs}
 use Rattle.dds_world.proofs.world.World.round.Goals as goal
 
 pub returns-clause-round : goal.returns-clause-round
@@ -21,7 +22,7 @@ returns-clause-round g c =
     let writer : Endpoint = c.args.writer in
     let reader : Endpoint = c.args.reader in
     let known = c.in-Some.ensures in
-    let before = c.in-Some-place.ensures.place in
+    let before = place_of_machine old reader writer (Some from) c.in-Some-place.ensures.place in
     let a = c.add_step.ensures.step in
     let d = c.deliver_heartbeat.ensures.adds in
     let first : c.add_step.new.replies.items ≡ a.0 ∷ [] =
@@ -38,7 +39,8 @@ returns-clause-round g c =
     rounds_are old writer reader m a.0
     (kept_of g.L.Listener.notices g.L.Listener.capacity mid) d.1 c.from_vec-replies.result new d.0 from
     c.place-2.result
-    known.0 known.1 all known.2 a.2 beats before c.place-2.ensures.place in
+    known.0 known.1 all known.2 a.2 beats before
+    (place_of_machine new reader writer c.place-2.result c.place-2.ensures.place) in
     let to : ℕ = c.unwrap_or-to.result in
     subst (λ (n : ℕ). Rounds (tests_in g.F.Filter.meaning start) old writer reader
     (record (answer_of old m from to c.from_vec-replies.result) { unsent_before = n }) new)
@@ -55,3 +57,15 @@ returns-clause-matched g c =
     let known = c.in-Some.ensures in
     subst (λ (w : Endpoint). AreMatched old w reader) known.0
     (subst (λ (r : Endpoint). AreMatched old m.writer r) known.1 (are_matched old m known.2))
+
+pub returns-clause-run : goal.returns-clause-run
+returns-clause-run g c =
+    let r = round_runs _ _ _ _ _ _ (returns-clause-round g c) in record { events = r.events; runs = r.runs }
+
+pub returns-in_default-place-clause-refused : goal.returns-in_default-place-clause-refused
+returns-in_default-place-clause-refused g c =
+    let old = kept_of g.L.Listener.notices g.L.Listener.capacity c.args.self.now in
+    let writer : Endpoint = c.args.writer in
+    let reader : Endpoint = c.args.reader in
+    not_matched old writer reader
+    (not_placed old writer reader (place_of_machine old reader writer None c.in_default-place.ensures.place))
