@@ -20,8 +20,8 @@ use crate::pairing::Pair;
 use dds_base::{Code, Config, Entity, Moment, Sn};
 use dds_conditions::Filter;
 use dds_machine::Endpoint;
-use dds_protocol::{Event, Output};
 use dds_notices::{Listener, Slots, StatusMask};
+use dds_protocol::{Event, Output};
 use std::alloc::Global;
 use std::marker::Model;
 

@@ -22,8 +22,8 @@ use crate::peer::Peer;
 use dds_base::{Code, Config, Moment, Sn};
 use dds_conditions::{Filter, FilterList};
 use dds_machine::Endpoint;
-use dds_protocol::{Event, Output};
 use dds_notices::{Listener, Slots};
+use dds_protocol::{Event, Output};
 use std::alloc::Global;
 use std::marker::Model;
 

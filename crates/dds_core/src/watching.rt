@@ -23,8 +23,8 @@ use dds_base::{Code, Entity, Masks, Moment, Scope, Selection, Sequence, index_of
 use dds_cache::AccessKind;
 use dds_conditions::{Cond, Condition, Filters};
 use dds_machine::Reply;
-use dds_protocol::Output;
 use dds_notices::StatusMask;
+use dds_protocol::Output;
 
 /// The reply to a call that is done or refused.
 fn reply_to(done: Result<(), Code>) -> Reply

@@ -4,8 +4,8 @@ use crate::line::{Line, line_of};
 use dds_base::{Code, Octets};
 use dds_core::Core as CoreOf;
 use dds_machine::Reply;
-use dds_protocol::{Event, Output, Packet};
 use dds_notices::Recorder;
+use dds_protocol::{Event, Output, Packet};
 use dds_script::{
     Fault, Lines, ListenerLine, Prefix, Setup, SetupLine, Status, TranscriptLine, print,
 };

@@ -4,7 +4,10 @@ use crate::fault::Fault;
 use bitflags::Flags;
 use dds_base::{Code, Entity, Handle, Key};
 use dds_conditions::Cond;
-use dds_machine::{Endpoint, LivelinessChangedStatus, LivelinessLostStatus, Move, PassedRun, Reply, Report, SampleLostStatus};
+use dds_machine::{
+    Endpoint, LivelinessChangedStatus, LivelinessLostStatus, Move, PassedRun, Reply, Report,
+    SampleLostStatus,
+};
 use dds_notices::StatusMask;
 use std::alloc::{AllocError, Global};
 use std::fmt::Display;
