@@ -10,7 +10,7 @@ use Rattle.dds_conditions.specs.Watched.{Watched}
 use Rattle.dds_notices.specs.declared.mask.StatusMask.{StatusMask}
 use Rattle.dds_notices.specs.declared.notice.Notice.{Notice}
 use Rattle.dds_base.specs.Number.{is_number}
-use Rattle.dds_notices.specs.Listeners.{Places, Sets as SlotsSet, Slotted, StandsFor as SlotsStandFor, has_entity, is_any, is_fresh, listener_refusal, nobody}
+use Rattle.dds_notices.specs.Listeners.{ByEntity, Places, Sets as SlotsSet, Slotted, StandsFor as SlotsStandFor, has_entity, is_any, is_fresh, listener_refusal, nobody}
 use Rattle.dds_notices.proofs.ListenerLaws.{nobody_stands, nobody_takes}
 use Rattle.dds_protocol.specs.declared.event.Event.{Event}
 use Rattle.dds_protocol.specs.declared.event.Output.{Output}
@@ -25,23 +25,23 @@ use Rattle.dds_protocol.proofs.FiltersKept.{keeps_listeners, opens_nobody}
 use Rattle.dds_core.specs.declared.marks.Marks.{Marks}
 use Rattle.dds_core.specs.Filtering.{Adds as FilteredAdds, FilteredKept, RefusesFilter as FilteredRefuses, StandsFor as FilteredStandsFor, Steps as FilteredSteps}
 use Rattle.dds_core.specs.Kept.{PeerKept}
-use Rattle.dds_core.specs.Listening.{Adds, CoreKept, RefusesFilter, RefusesListener, Sets, StandsFor, Steps}
+use Rattle.dds_core.specs.Listening.{Adds, CoreKept, RefusesFilter, RefusesListener, Sets, StandsFor, Steps, no_listeners}
 use Rattle.dds_core.specs.Noticing.{AreMarksOf, MarksPeer, Tells}
 use Rattle.dds_core.specs.Opening.{opening_peer}
 use Rattle.dds_core.specs.Standing.{IsSound}
 use Rattle.dds_core.proofs.Notified.{listeners_apart, tells_as, tells_then}
 
-module _ {L : Type 0} (notices : L → List Notice) (capacity : L → ℕ) where
+module _ {L : Type 0} (notices : L → List Notice) (capacity : L → ℕ) (becomes : L → Notice → L → Type 0) where
   -- the writers were told of, and then the readers
   pub tells_end : (before : Part) (old : PeerKept) (slots : Slotted L) (mid : PeerKept) (between : Slotted L)
       (new : PeerKept) (after : Slotted L)
       → length mid.readers ≡ length old.readers
-      → Tells notices capacity (each_told (writer_told before) (length old.writers)) old slots mid between
-      → Tells notices capacity (each_told (reader_told before) (length mid.readers)) mid between new after
-      → Tells notices capacity (at_end before) old slots new after
+      → Tells notices capacity becomes (each_told (writer_told before) (length old.writers)) old slots mid between
+      → Tells notices capacity becomes (each_told (reader_told before) (length mid.readers)) mid between new after
+      → Tells notices capacity becomes (at_end before) old slots new after
   unfolding at_end
   tells_end before old slots mid between new after same first second =
-      tells_as notices capacity
+      tells_as notices capacity becomes
       (λ part. each_told (reader_told before) (length mid.readers)
       (each_told (writer_told before) (length old.writers) part)) (at_end before)
       old slots new after
@@ -50,7 +50,7 @@ module _ {L : Type 0} (notices : L → List Notice) (capacity : L → ℕ) where
       (same ∙ sym s.readers.count)
       ∙ ap (λ (n : ℕ). each_told (reader_told before) (length peer.part.dds.readers)
       (each_told (writer_told before) n peer.part)) (sym s.writers.count))
-      (tells_then notices capacity (each_told (writer_told before) (length old.writers))
+      (tells_then notices capacity becomes (each_told (writer_told before) (length old.writers))
       (each_told (reader_told before) (length mid.readers)) old slots mid between new after first second)
 
 -- what a peer knows was claimed, also after its listeners were told
@@ -70,45 +70,45 @@ sound_at_end config before peer sound =
 
 -- ---- entities
 
-module _ {L : Type 0} (notices : L → List Notice) (capacity : L → ℕ) where
-  same_entities : (slots : Slotted L) (places : Places) → SlotsStandFor notices capacity slots places → (e : Entity)
+module _ {L : Type 0} (notices : L → List Notice) (capacity : L → ℕ) (becomes : L → Notice → L → Type 0) where
+  same_entities : (given : ByEntity L) (slots : Slotted L) (places : Places) → SlotsStandFor notices capacity becomes given slots places → (e : Entity)
       → has_entity places e ≡ has_entity slots e
-  same_entities slots places s entity.Participant = refl
-  same_entities slots places s (entity.Writer n) = ap (λ (k : ℕ). is_number n k) s.writers
-  same_entities slots places s (entity.Reader n) = ap (λ (k : ℕ). is_number n k) s.readers
+  same_entities given slots places s entity.Participant = refl
+  same_entities given slots places s (entity.Writer n) = ap (λ (k : ℕ). is_number n k) s.writers
+  same_entities given slots places s (entity.Reader n) = ap (λ (k : ℕ). is_number n k) s.readers
 
-  same_refusal : (slots : Slotted L) (places : Places) → SlotsStandFor notices capacity slots places
+  same_refusal : (given : ByEntity L) (slots : Slotted L) (places : Places) → SlotsStandFor notices capacity becomes given slots places
       → (e : Entity) (listener : Option L)
       → listener_refusal notices places e listener ≡ listener_refusal notices slots e listener
-  same_refusal slots places s e listener =
+  same_refusal given slots places s e listener =
       ap (λ (b : Bool). if not b then Some BadParameter
-      else (if is_fresh notices listener then None else Some PreconditionNotMet)) (same_entities slots places s e)
+      else (if is_fresh notices listener then None else Some PreconditionNotMet)) (same_entities given slots places s e)
 
 -- ---- steps
 
-module _ {F L : Type 0} (notices : L → List Notice) (capacity : L → ℕ) where
+module _ {F L : Type 0} (notices : L → List Notice) (capacity : L → ℕ) (becomes : L → Notice → L → Type 0) where
   -- no listener is set
   pub steps_untold : (tests : Tests) (old : CoreKept F L) (ev : Event) (output : Output) (new : FilteredKept F)
       → FilteredSteps tests old.filtered ev output new
-      → is_any old.listeners ≡ false → Steps notices capacity tests old ev output
+      → is_any old.listeners ≡ false → Steps notices capacity becomes tests old ev output
       (record { filtered = new; listeners = old.listeners })
   steps_untold tests old ev output new h none = record {
-    step = λ config peer s sound.
+    step = λ given config peer s sound.
         let r = h.step config peer s.stands sound in
         let after : Peer = r.0 in
         let kept : after.part.dds.listeners ≡ peer.part.dds.listeners =
         keeps_listeners config tests peer ev output after r.1 in
-        let slots : SlotsStandFor notices capacity old.listeners after.part.dds.listeners =
-        subst (λ (p : Places). SlotsStandFor notices capacity old.listeners p) (sym kept) s.listeners in
+        let slots : SlotsStandFor notices capacity becomes given old.listeners after.part.dds.listeners =
+        subst (λ (p : Places). SlotsStandFor notices capacity becomes given old.listeners p) (sym kept) s.listeners in
         let same : at_end peer.part after.part ≡ after.part =
         end_untold peer.part after.part
-        (λ e status. nobody_takes notices capacity old.listeners after.part.dds.listeners none slots e status) in
-        let stands : StandsFor notices capacity (record { filtered = new; listeners = old.listeners }) config after =
+        (λ e status. nobody_takes notices capacity becomes given old.listeners after.part.dds.listeners none slots e status) in
+        let stands : StandsFor notices capacity becomes given (record { filtered = new; listeners = old.listeners }) config after =
         record { stands = r.2; listeners = slots } in (
           after,
           r.1,
           r.4,
-          subst (λ (p : Part). StandsFor notices capacity (record { filtered = new; listeners = old.listeners }) config
+          subst (λ (p : Part). StandsFor notices capacity becomes given (record { filtered = new; listeners = old.listeners }) config
               (record after { part = p })) (sym same) stands,
           sound_at_end config peer after r.3,
         );
@@ -120,18 +120,18 @@ module _ {F L : Type 0} (notices : L → List Notice) (capacity : L → ℕ) whe
       (after : Slotted L) (marks : Marks)
       → FilteredSteps tests old.filtered ev output mid → MarksPeer old.filtered.peer marks
       → ((before : Part) → AreMarksOf marks before
-      → Tells notices capacity (at_end before) mid.peer old.listeners new.peer after)
-      → new.filters ≡ mid.filters → Steps notices capacity tests old ev output
+      → Tells notices capacity becomes (at_end before) mid.peer old.listeners new.peer after)
+      → new.filters ≡ mid.filters → Steps notices capacity becomes tests old ev output
       (record { filtered = new; listeners = after })
   steps_told tests old ev output mid new after marks h marked tells same = record {
-    step = λ config peer s sound.
+    step = λ given config peer s sound.
         let r = h.step config peer s.stands sound in
         let stepped : Peer = r.0 in
         let kept : stepped.part.dds.listeners ≡ peer.part.dds.listeners =
         keeps_listeners config tests peer ev output stepped r.1 in
-        let slots : SlotsStandFor notices capacity old.listeners stepped.part.dds.listeners =
-        subst (λ (p : Places). SlotsStandFor notices capacity old.listeners p) (sym kept) s.listeners in
-        let told = tells peer.part (marked config peer s.stands.stands) config stepped r.2.stands slots in (
+        let slots : SlotsStandFor notices capacity becomes given old.listeners stepped.part.dds.listeners =
+        subst (λ (p : Places). SlotsStandFor notices capacity becomes given old.listeners p) (sym kept) s.listeners in
+        let told = tells peer.part (marked config peer s.stands.stands) given config stepped r.2.stands slots in (
           stepped,
           r.1,
           r.4,
@@ -155,47 +155,55 @@ module _ {F L : Type 0} (notices : L → List Notice) (capacity : L → ℕ) whe
       → FilteredStandsFor filtered config (opening_peer config n)
       → writers ≡ length filtered.peer.writers → readers ≡ length filtered.peer.readers
       → listeners ≡ nobody writers readers
-      → StandsFor notices capacity (record { filtered = filtered; listeners = listeners }) config
-      (opening_peer config n)
+      → StandsFor notices capacity becomes (no_listeners (opening_peer config n).part)
+      (record { filtered = filtered; listeners = listeners }) config (opening_peer config n)
   opens filtered listeners config n writers readers s w r none =
       let part : Part = (opening_peer config n).part in
+      let of_writers = s.stands.writers.count ∙ sym w in
+      let of_readers = s.stands.readers.count ∙ sym r in
       let opening : part.dds.listeners ≡ nobody writers readers =
       opens_nobody config n
-      ∙ (ap (λ (k : ℕ). nobody k (length part.dds.readers)) (s.stands.writers.count ∙ sym w)
-      ∙ ap (λ (k : ℕ). nobody writers k) (s.stands.readers.count ∙ sym r)) in
+      ∙ (ap (λ (k : ℕ). nobody k (length part.dds.readers)) of_writers
+      ∙ ap (λ (k : ℕ). nobody writers k) of_readers) in
+      let given : no_listeners {L = L} part ≡ nobody writers readers =
+      ap (λ (k : ℕ). nobody k (length part.dds.readers)) of_writers ∙ ap (λ (k : ℕ). nobody writers k) of_readers in
       record {
         stands = s;
-        listeners = subst (λ (p : Places). SlotsStandFor notices capacity listeners p) (sym opening)
-            (subst (λ (l : Slotted L). SlotsStandFor notices capacity l (nobody writers readers)) (sym none)
-            (nobody_stands notices capacity writers readers));
+        listeners = subst (λ (p : Places). SlotsStandFor notices capacity becomes (no_listeners part) listeners p)
+            (sym opening)
+            (subst (λ (g : ByEntity L). SlotsStandFor notices capacity becomes g listeners (nobody writers readers))
+            (sym given)
+            (subst (λ (l : Slotted L). SlotsStandFor notices capacity becomes (nobody writers readers) l
+            (nobody writers readers)) (sym none)
+            (nobody_stands notices capacity becomes writers readers)));
       }
 
   -- ---- filters
 
   pub adds : (old : CoreKept F L) (filter : F) (number : ℕ) (new : FilteredKept F)
       → FilteredAdds old.filtered filter number new
-      → Adds notices capacity old filter number (record { filtered = new; listeners = old.listeners })
+      → Adds notices capacity becomes old filter number (record { filtered = new; listeners = old.listeners })
   adds old filter number new h = record {
     filters = h.filters;
-    adds = λ config peer s.
+    adds = λ given config peer s.
         let r = h.adds config peer s.stands in
         (r.0, r.1, record { stands = r.2; listeners = s.listeners }, r.3);
   }
 
   pub refuses : (old : CoreKept F L) (code : Code) → FilteredRefuses old.filtered code
-      → RefusesFilter notices capacity old code
-  refuses old code h config peer s = h config peer s.stands
+      → RefusesFilter notices capacity becomes old code
+  refuses old code h given config peer s = h config peer s.stands
 
   -- ---- listeners
 
   pub sets : (old : CoreKept F L) (e : Entity) (mask : StatusMask) (listener handed : Option L) (new : Slotted L)
-      → SlotsSet notices capacity old.listeners e mask listener handed new
-      → Sets notices capacity old e mask listener handed (record { filtered = old.filtered; listeners = new })
+      → SlotsSet notices capacity becomes old.listeners e mask listener handed new
+      → Sets notices capacity becomes old e mask listener handed (record { filtered = old.filtered; listeners = new })
   sets old e mask listener handed new h = record {
     filters = refl;
-    sets = λ config peer s.
-        let r = h.back peer.part.dds.listeners s.listeners in (
-          same_refusal notices capacity old.listeners peer.part.dds.listeners s.listeners e listener ∙ h.accepted,
+    sets = λ given config peer s.
+        let r = h.back given peer.part.dds.listeners s.listeners in (
+          same_refusal notices capacity becomes given old.listeners peer.part.dds.listeners s.listeners e listener ∙ h.accepted,
           r.0,
           record {
             stands =
@@ -211,6 +219,6 @@ module _ {F L : Type 0} (notices : L → List Notice) (capacity : L → ℕ) whe
 
   pub refuses_listener : (old : CoreKept F L) (e : Entity) (listener : Option L) (code : Code)
       → listener_refusal notices old.listeners e listener ≡ Some code
-      → RefusesListener notices capacity old e listener code
-  refuses_listener old e listener code h config peer s =
-      same_refusal notices capacity old.listeners peer.part.dds.listeners s.listeners e listener ∙ h
+      → RefusesListener notices capacity becomes old e listener code
+  refuses_listener old e listener code h given config peer s =
+      same_refusal notices capacity becomes given old.listeners peer.part.dds.listeners s.listeners e listener ∙ h

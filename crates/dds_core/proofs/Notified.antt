@@ -19,7 +19,7 @@ use Rattle.dds_cache.specs.Standing.{qos_of}
 use Rattle.dds_notices.specs.declared.notice.Notice.{Notice}
 use Rattle.dds_notices.specs.declared.notice.Status.{Status}
 use Rattle.dds_notices.specs.declared.notice.Status.TheVariants.{SampleLost, DataAvailable, LivelinessLost, LivelinessChanged}
-use Rattle.dds_notices.specs.Listeners.{Places, Slotted, StandsFor as SlotsStandFor, after_notice, taker_of}
+use Rattle.dds_notices.specs.Listeners.{ByEntity, Places, Slotted, StandsFor as SlotsStandFor, after_notice, taker_of}
 use Rattle.dds_machine.specs.declared.endpoint.Endpoint.{Endpoint}
 use Rattle.dds_machine.specs.Noticing.{each_told, looked_at, loss_raised, losses_of, seen_by, told, told_of, told_to, writer_told}
 use Rattle.dds_machine.specs.Part.{Part, Reader, Seen, Writer, no_reader, no_writer, own_proxies, own_reader, own_writer}
@@ -65,71 +65,71 @@ pub listeners_apart : (kept : PeerKept) (config : Config) (peer : Peer) (places 
 listeners_apart kept config peer places s =
     stands_beside kept kept.watch peer.part.dds.watch places peer.delivered config peer s.watch s
 
-module _ {L : Type 0} (notices : L → List Notice) (capacity : L → ℕ) where
+module _ {L : Type 0} (notices : L → List Notice) (capacity : L → ℕ) (becomes : L → Notice → L → Type 0) where
   -- the same change, as it is at the states that a peer stands for
   pub tells_as : (f g : Part → Part) (old : PeerKept) (slots : Slotted L) (new : PeerKept) (after : Slotted L)
       → ((config : Config) (peer : Peer) → StandsFor old config peer → f peer.part ≡ g peer.part)
-      → Tells notices capacity f old slots new after → Tells notices capacity g old slots new after
-  tells_as f g old slots new after same h = λ config peer s l.
+      → Tells notices capacity becomes f old slots new after → Tells notices capacity becomes g old slots new after
+  tells_as f g old slots new after same h = λ given config peer s l.
       subst (λ (p : Part). StandsFor new config (record peer { part = p })
-      × SlotsStandFor notices capacity after p.dds.listeners)
-      (same config peer s) (h config peer s l)
+      × SlotsStandFor notices capacity becomes given after p.dds.listeners)
+      (same config peer s) (h given config peer s l)
 
   -- one change, and then another
   pub tells_then : (f g : Part → Part) (old : PeerKept) (slots : Slotted L) (mid : PeerKept) (between : Slotted L)
       (new : PeerKept) (after : Slotted L)
-      → Tells notices capacity f old slots mid between → Tells notices capacity g mid between new after
-      → Tells notices capacity (λ part. g (f part)) old slots new after
-  tells_then f g old slots mid between new after first second = λ config peer s l.
-      let one = first config peer s l in
-      second config (record peer { part = f peer.part }) one.0 one.1
+      → Tells notices capacity becomes f old slots mid between → Tells notices capacity becomes g mid between new after
+      → Tells notices capacity becomes (λ part. g (f part)) old slots new after
+  tells_then f g old slots mid between new after first second = λ given config peer s l.
+      let one = first given config peer s l in
+      second given config (record peer { part = f peer.part }) one.0 one.1
 
   -- nothing was raised
   pub tells_nothing : (e : Entity) (kept : PeerKept) (slots : Slotted L)
-      → Tells notices capacity (λ part. told part e None) kept slots kept slots
-  tells_nothing e kept slots = λ config peer s l. (s, l)
+      → Tells notices capacity becomes (λ part. told part e None) kept slots kept slots
+  tells_nothing e kept slots = λ given config peer s l. (s, l)
 
   -- nobody takes it
   pub tells_nobody : (e : Entity) (status : Status) (kept : PeerKept) (slots : Slotted L)
-      → ((places : Places) → SlotsStandFor notices capacity slots places → false ≡ is_some (taker_of places e status))
-      → Tells notices capacity (λ part. told part e (Some status)) kept slots kept slots
-  tells_nobody e status kept slots takes = λ config peer s l.
+      → ((given : ByEntity L) (places : Places) → SlotsStandFor notices capacity becomes given slots places → false ≡ is_some (taker_of places e status))
+      → Tells notices capacity becomes (λ part. told part e (Some status)) kept slots kept slots
+  tells_nobody e status kept slots takes = λ given config peer s l.
       subst (λ (p : Part). StandsFor kept config (record peer { part = p })
-      × SlotsStandFor notices capacity slots p.dds.listeners)
+      × SlotsStandFor notices capacity becomes given slots p.dds.listeners)
       (sym (to_nobody (taker_of peer.part.dds.listeners e status) peer.part e status
-      (sym (takes peer.part.dds.listeners l)))) (s, l)
+      (sym (takes given peer.part.dds.listeners l)))) (s, l)
 
   -- somebody takes it: it was looked at, and the listener was told
   told_by : (e : Entity) (status : Status) (old : PeerKept) (slots : Slotted L) (new : PeerKept) (after : Slotted L)
-      → ((places : Places) → SlotsStandFor notices capacity slots places → true ≡ is_some (taker_of places e status))
-      → ((places : Places) → SlotsStandFor notices capacity slots places
-      → SlotsStandFor notices capacity after (after_notice places (record { entity = e; status = status })))
+      → ((given : ByEntity L) (places : Places) → SlotsStandFor notices capacity becomes given slots places → true ≡ is_some (taker_of places e status))
+      → ((given : ByEntity L) (places : Places) → SlotsStandFor notices capacity becomes given slots places
+      → SlotsStandFor notices capacity becomes given after (after_notice places (record { entity = e; status = status })))
       → ((config : Config) (peer : Peer) → StandsFor old config peer
       → StandsFor new config (record peer { part = looked_at peer.part e status }))
-      → Tells notices capacity (λ part. told part e (Some status)) old slots new after
-  told_by e status old slots new after takes tell look = λ config peer s l.
+      → Tells notices capacity becomes (λ part. told part e (Some status)) old slots new after
+  told_by e status old slots new after takes tell look = λ given config peer s l.
       let places = after_notice peer.part.dds.listeners (record { entity = e; status = status }) in
       subst (λ (p : Part). StandsFor new config (record peer { part = p })
-      × SlotsStandFor notices capacity after p.dds.listeners)
+      × SlotsStandFor notices capacity becomes given after p.dds.listeners)
       (sym (to_taker (taker_of peer.part.dds.listeners e status) peer.part e status
-      (sym (takes peer.part.dds.listeners l)))) (
+      (sym (takes given peer.part.dds.listeners l)))) (
         listeners_apart new config (record peer { part = looked_at peer.part e status }) places
             (look config peer s),
-        tell peer.part.dds.listeners l,
+        tell given peer.part.dds.listeners l,
       )
 
   -- a status of the reader of this number, at the peer that was opened
   pub tells_reader : (raised : Option Status) (status : Status) (inside old : PeerKept) (slots : Slotted L) (n i : ℕ)
       (k k' : ReaderKept) (after : Slotted L) → raised ≡ Some status → inside ≡ old → suc i ≡ n
       → slice_get inside.readers i ≡ Some k → reader_identity k' ≡ reader_identity k → SeesStatus k status k'
-      → ((places : Places) → SlotsStandFor notices capacity slots places
+      → ((given : ByEntity L) (places : Places) → SlotsStandFor notices capacity becomes given slots places
       → true ≡ is_some (taker_of places (entity.Reader n) status))
-      → ((places : Places) → SlotsStandFor notices capacity slots places
-      → SlotsStandFor notices capacity after
+      → ((given : ByEntity L) (places : Places) → SlotsStandFor notices capacity becomes given slots places
+      → SlotsStandFor notices capacity becomes given after
       (after_notice places (record { entity = entity.Reader n; status = status })))
-      → Tells notices capacity (λ part. told part (entity.Reader n) raised) old slots (with_reader inside i k') after
+      → Tells notices capacity becomes (λ part. told part (entity.Reader n) raised) old slots (with_reader inside i k') after
   tells_reader raised status inside old slots n i k k' after so view is at same sees takes tell =
-      subst (λ (o : Option Status). Tells notices capacity (λ part. told part (entity.Reader n) o) old slots
+      subst (λ (o : Option Status). Tells notices capacity becomes (λ part. told part (entity.Reader n) o) old slots
       (with_reader inside i k') after) (sym so)
       (told_by (entity.Reader n) status old slots (with_reader inside i k') after takes tell
       (λ config peer given.
@@ -146,12 +146,12 @@ module _ {L : Type 0} (notices : L → List Notice) (capacity : L → ℕ) where
   pub tells_writer : (status : Status) (old : PeerKept) (slots : Slotted L) (n i : ℕ) (k k' : WriterKept)
       (after : Slotted L) → suc i ≡ n
       → slice_get old.writers i ≡ Some k → Enters k LookedAt k'
-      → ((places : Places) → SlotsStandFor notices capacity slots places
+      → ((given : ByEntity L) (places : Places) → SlotsStandFor notices capacity becomes given slots places
       → true ≡ is_some (taker_of places (entity.Writer n) status))
-      → ((places : Places) → SlotsStandFor notices capacity slots places
-      → SlotsStandFor notices capacity after
+      → ((given : ByEntity L) (places : Places) → SlotsStandFor notices capacity becomes given slots places
+      → SlotsStandFor notices capacity becomes given after
       (after_notice places (record { entity = entity.Writer n; status = status })))
-      → Tells notices capacity (λ part. told part (entity.Writer n) (Some status)) old slots
+      → Tells notices capacity becomes (λ part. told part (entity.Writer n) (Some status)) old slots
       (with_writer old i k') after
   tells_writer status old slots n i k k' after is at enters takes tell =
       told_by (entity.Writer n) status old slots (with_writer old i k') after takes tell
@@ -167,8 +167,8 @@ module _ {L : Type 0} (notices : L → List Notice) (capacity : L → ℕ) where
       (n i : ℕ) (k : ReaderKept) (new : PeerKept) (after : Slotted L) → suc i ≡ n → slice_get old.readers i ≡ Some k
       → IsMarkOf mark (own_reader before n)
       → RaisesSo raised k mark status
-      → Tells notices capacity (λ part. told part (entity.Reader n) status) old slots new after
-      → Tells notices capacity (λ part. told part (entity.Reader n) (raised (own_reader before n) (own_reader part n)))
+      → Tells notices capacity becomes (λ part. told part (entity.Reader n) status) old slots new after
+      → Tells notices capacity becomes (λ part. told part (entity.Reader n) (raised (own_reader before n) (own_reader part n)))
       old slots new after
   tells_raised raised status before mark old slots n i k new after is at marked so h =
       tells_as (λ part. told part (entity.Reader n) status)
@@ -184,8 +184,8 @@ module _ {L : Type 0} (notices : L → List Notice) (capacity : L → ℕ) where
       (n i : ℕ) (k : WriterKept) (new : PeerKept) (after : Slotted L) → suc i ≡ n → slice_get old.writers i ≡ Some k
       → ((w : Writer) (answered : Endpoint → Option ℤ) → WriterStands k w answered
       → status ≡ loss_raised (own_writer before n) w)
-      → Tells notices capacity (λ part. told part (entity.Writer n) status) old slots new after
-      → Tells notices capacity (writer_told before n) old slots new after
+      → Tells notices capacity becomes (λ part. told part (entity.Writer n) status) old slots new after
+      → Tells notices capacity becomes (writer_told before n) old slots new after
   tells_loss status before old slots n i k new after is at so h =
       tells_as (λ part. told part (entity.Writer n) status) (writer_told before n) old slots new after
       (λ config peer s.
@@ -195,29 +195,29 @@ module _ {L : Type 0} (notices : L → List Notice) (capacity : L → ℕ) where
 
   -- none of the entities yet
   pub tells_first : (tell : ℕ → Part → Part) (kept : PeerKept) (slots : Slotted L)
-      → Tells notices capacity (each_told tell 0) kept slots kept slots
-  tells_first tell kept slots = λ config peer s l. (s, l)
+      → Tells notices capacity becomes (each_told tell 0) kept slots kept slots
+  tells_first tell kept slots = λ given config peer s l. (s, l)
 
   -- one entity more
   pub tells_next : (tell : ℕ → Part → Part) (old : PeerKept) (slots : Slotted L) (mid : PeerKept) (between : Slotted L)
       (new : PeerKept) (after : Slotted L) (n : ℕ)
-      → Tells notices capacity (each_told tell n) old slots mid between
-      → Tells notices capacity (tell (n + 1)) mid between new after
-      → Tells notices capacity (each_told tell (n + 1)) old slots new after
+      → Tells notices capacity becomes (each_told tell n) old slots mid between
+      → Tells notices capacity becomes (tell (n + 1)) mid between new after
+      → Tells notices capacity becomes (each_told tell (n + 1)) old slots new after
   tells_next tell old slots mid between new after n first second =
       let more : n + 1 ≡ suc n = omega arith in
-      subst (λ (m : ℕ). Tells notices capacity (each_told tell m) old slots new after) (sym more)
+      subst (λ (m : ℕ). Tells notices capacity becomes (each_told tell m) old slots new after) (sym more)
       (tells_then (each_told tell n) (tell (suc n)) old slots mid between new after first
-      (subst (λ (m : ℕ). Tells notices capacity (tell m) mid between new after) more second))
+      (subst (λ (m : ℕ). Tells notices capacity becomes (tell m) mid between new after) more second))
 
   -- one entity more, which has a mark, in a loop over what is open
   pub tells_marked : {M : Type 0} (marks : List M) (none : M) (IsMark : M → ℕ → Type 0) (tell : ℕ → Part → Part)
       (old : PeerKept) (slots : Slotted L) (mid : PeerKept) (between : Slotted L) (new : PeerKept) (after : Slotted L)
       (n end inside room : ℕ) → n < end → end ≡ inside → inside ≤ room → length marks ≡ room
       → ((i : ℕ) (mark : M) → slice_get marks i ≡ Some mark → IsMark mark (suc i))
-      → Tells notices capacity (each_told tell n) old slots mid between
-      → (IsMark (get_or marks n none) (n + 1) → Tells notices capacity (tell (n + 1)) mid between new after)
-      → Tells notices capacity (each_told tell (n + 1)) old slots new after
+      → Tells notices capacity becomes (each_told tell n) old slots mid between
+      → (IsMark (get_or marks n none) (n + 1) → Tells notices capacity becomes (tell (n + 1)) mid between new after)
+      → Tells notices capacity becomes (each_told tell (n + 1)) old slots new after
   tells_marked marks none IsMark tell old slots mid between new after n end inside room lt size few all are
       first second =
       let more : suc n ≡ n + 1 = omega arith in
@@ -228,11 +228,11 @@ module _ {L : Type 0} (notices : L → List Notice) (capacity : L → ℕ) where
   -- all of them: a loop over what is open has come to its end
   pub tells_all : (tell : ℕ → Part → Part) (old : PeerKept) (slots : Slotted L) (new : PeerKept) (after : Slotted L)
       (n end inside count : ℕ) → n ≤ end → end ≤ n → end ≡ inside → inside ≡ count
-      → Tells notices capacity (each_told tell n) old slots new after
-      → Tells notices capacity (each_told tell count) old slots new after
+      → Tells notices capacity becomes (each_told tell n) old slots new after
+      → Tells notices capacity becomes (each_told tell count) old slots new after
   tells_all tell old slots new after n end inside count low high size view h =
       let same : n ≡ count = omega (arith, low, high, size, view) in
-      subst (λ (m : ℕ). Tells notices capacity (each_told tell m) old slots new after) same h
+      subst (λ (m : ℕ). Tells notices capacity becomes (each_told tell m) old slots new after) same h
 
 -- ---- what was raised
 

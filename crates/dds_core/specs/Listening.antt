@@ -7,12 +7,13 @@ use Rattle.dds_base.specs.declared.config.Config.{Config}
 use Rattle.dds_base.specs.declared.entity.Entity.{Entity}
 use Rattle.dds_notices.specs.declared.mask.StatusMask.{StatusMask}
 use Rattle.dds_notices.specs.declared.notice.Notice.{Notice}
-use Rattle.dds_notices.specs.Listeners.{HandedBack, Slotted, StandsFor as SlotsStandFor, at_entity, listener_refusal, listener_place}
+use Rattle.dds_notices.specs.Listeners.{ByEntity, HandedBack, Slotted, StandsFor as SlotsStandFor, at_entity, listener_refusal, listener_place, nobody, with_entity}
 use Rattle.dds_protocol.specs.declared.event.Event.{Event}
 use Rattle.dds_protocol.specs.declared.event.Output.{Output}
 use Rattle.dds_protocol.specs.Filters.{peer_with_filter}
 use Rattle.dds_protocol.specs.Noticing.{peer_at_end, peer_with_place}
 use Rattle.dds_protocol.specs.Peer.{Peer, PeerStep}
+use Rattle.dds_machine.specs.Part.{Part}
 use Rattle.dds_machine.specs.Watching.{Tests}
 use Rattle.dds_conditions.specs.Watched.{filter_refusal}
 use Rattle.dds_base.specs.Refusal.{Refuses}
@@ -24,56 +25,65 @@ pub record CoreKept (F L : Type 0) : Type 0 where
   pub filtered : FilteredKept F
   pub listeners : Slotted L
 
--- A state of the peer for which this stands: each listener has kept the last ones of all that it was told, by the
--- notices that it keeps and how many it can keep.
-pub record StandsFor {F L : Type 0} (notices : L → List Notice) (capacity : L → ℕ) (kept : CoreKept F L)
-    (config : Config) (peer : Peer) : Type 0 where
+-- no listener was given at an entity of this part
+abbrev pub no_listeners : {L : Type 0} → Part → ByEntity L
+no_listeners part = nobody (length part.rtps.writers) (length part.dds.readers)
+
+-- A state of the peer for which this stands, with the listeners that it was given: each has kept the last ones of all
+-- that it was told, by the notices that it keeps and how many it can keep, and is what the one that was given became by
+-- being told.
+pub record StandsFor {F L : Type 0} (notices : L → List Notice) (capacity : L → ℕ) (becomes : L → Notice → L → Type 0)
+    (given : ByEntity L) (kept : CoreKept F L) (config : Config) (peer : Peer) : Type 0 where
   pub stands : FilteredStandsFor kept.filtered config peer
-  pub listeners : SlotsStandFor notices capacity kept.listeners peer.part.dds.listeners
+  pub listeners : SlotsStandFor notices capacity becomes given kept.listeners peer.part.dds.listeners
 
 -- For each state that the old values stand for, and of which all that is known was claimed, the event is a step by what
 -- the filters mean, which follows the rules of the protocol; at its end listeners are told what it raised. The new
 -- values stand for the state after that, and all that is known of it was claimed. The filters stay.
-pub record Steps {F L : Type 0} (notices : L → List Notice) (capacity : L → ℕ) (tests : Tests) (old : CoreKept F L)
-    (event : Event) (output : Output) (new : CoreKept F L) : Type 0 where
-  pub step : (config : Config) (peer : Peer) → StandsFor notices capacity old config peer → IsSound config peer
+pub record Steps {F L : Type 0} (notices : L → List Notice) (capacity : L → ℕ) (becomes : L → Notice → L → Type 0)
+    (tests : Tests) (old : CoreKept F L) (event : Event) (output : Output) (new : CoreKept F L) : Type 0 where
+  pub step : (given : ByEntity L) (config : Config) (peer : Peer)
+      → StandsFor notices capacity becomes given old config peer → IsSound config peer
       → (stepped : Peer) × PeerStep config tests peer event output stepped × KeepsRules config peer event output stepped
-      × StandsFor notices capacity new config (peer_at_end peer stepped) × IsSound config (peer_at_end peer stepped)
+      × StandsFor notices capacity becomes given new config (peer_at_end peer stepped)
+      × IsSound config (peer_at_end peer stepped)
   pub filters : new.filtered.filters ≡ old.filtered.filters
 
 -- The filter is the last one. For each state that the old values stand for there is a number for it, and it is this
 -- one; the new values stand for that state with one filter more, and nothing else; and what it knows was claimed, if it
 -- was before.
-pub record Adds {F L : Type 0} (notices : L → List Notice) (capacity : L → ℕ) (old : CoreKept F L) (filter : F)
-    (number : ℕ) (new : CoreKept F L) : Type 0 where
+pub record Adds {F L : Type 0} (notices : L → List Notice) (capacity : L → ℕ) (becomes : L → Notice → L → Type 0)
+    (old : CoreKept F L) (filter : F) (number : ℕ) (new : CoreKept F L) : Type 0 where
   pub filters : new.filtered.filters ≡ old.filtered.filters ++ filter ∷ []
-  pub adds : (config : Config) (peer : Peer) → StandsFor notices capacity old config peer
+  pub adds : (given : ByEntity L) (config : Config) (peer : Peer)
+      → StandsFor notices capacity becomes given old config peer
       → (filter_refusal peer.part.dds.watch ≡ None) × (number ≡ length old.filtered.filters + 1)
-      × StandsFor notices capacity new config (peer_with_filter peer)
+      × StandsFor notices capacity becomes given new config (peer_with_filter peer)
       × (IsSound config peer → IsSound config (peer_with_filter peer))
 
 -- for each state that the old values stand for, a filter is refused so: for want of a number, or else of memory
-abbrev pub RefusesFilter : {F L : Type 0} → (L → List Notice) → (L → ℕ) → CoreKept F L → Code → Type 0
-RefusesFilter notices capacity old code =
-    (config : Config) (peer : Peer) → StandsFor notices capacity old config peer
+abbrev pub RefusesFilter : {F L : Type 0} → (L → List Notice) → (L → ℕ) → (L → Notice → L → Type 0) → CoreKept F L → Code → Type 0
+RefusesFilter {F} {L} notices capacity becomes old code =
+    (given : ByEntity L) (config : Config) (peer : Peer) → StandsFor notices capacity becomes given old config peer
     → Refuses (filter_refusal peer.part.dds.watch) code
 
 -- A listener was set at an entity, or taken away there. For each state that the old values stand for it is not refused;
--- the listener of before is handed back, with the last ones of all that it was told; the new values stand for that
--- state with the place of the new one, and nothing else changes; and what it knows was claimed, if it was before.
-pub record Sets {F L : Type 0} (notices : L → List Notice) (capacity : L → ℕ) (old : CoreKept F L) (entity : Entity)
-    (mask : StatusMask)
-    (listener handed : Option L) (new : CoreKept F L) : Type 0 where
+-- the listener of before is handed back, as what the one that was given became by being told; the new values stand for
+-- that state with the place of the new one, which is given now, and nothing else changes; and what it knows was claimed, if it was before.
+pub record Sets {F L : Type 0} (notices : L → List Notice) (capacity : L → ℕ) (becomes : L → Notice → L → Type 0)
+    (old : CoreKept F L) (entity : Entity) (mask : StatusMask) (listener handed : Option L) (new : CoreKept F L) : Type 0 where
   pub filters : new.filtered.filters ≡ old.filtered.filters
-  pub sets : (config : Config) (peer : Peer) → StandsFor notices capacity old config peer
+  pub sets : (given : ByEntity L) (config : Config) (peer : Peer)
+      → StandsFor notices capacity becomes given old config peer
       → (listener_refusal notices peer.part.dds.listeners entity listener ≡ None)
-      × HandedBack notices capacity handed (at_entity peer.part.dds.listeners entity)
-      × StandsFor notices capacity new config (peer_with_place peer entity (listener_place capacity mask listener))
+      × HandedBack notices capacity becomes (at_entity given entity) handed (at_entity peer.part.dds.listeners entity)
+      × StandsFor notices capacity becomes (with_entity given entity listener) new config
+      (peer_with_place peer entity (listener_place capacity mask listener))
       × (IsSound config peer → IsSound config (peer_with_place peer entity (listener_place capacity mask listener)))
 
 -- for each state that the old values stand for, a listener is refused so
-abbrev pub RefusesListener : {F L : Type 0} → (L → List Notice) → (L → ℕ) → CoreKept F L → Entity → Option L → Code
+abbrev pub RefusesListener : {F L : Type 0} → (L → List Notice) → (L → ℕ) → (L → Notice → L → Type 0) → CoreKept F L → Entity → Option L → Code
     → Type 0
-RefusesListener notices capacity old entity listener code =
-    (config : Config) (peer : Peer) → StandsFor notices capacity old config peer
+RefusesListener {F} {L} notices capacity becomes old entity listener code =
+    (given : ByEntity L) (config : Config) (peer : Peer) → StandsFor notices capacity becomes given old config peer
     → listener_refusal notices peer.part.dds.listeners entity listener ≡ Some code

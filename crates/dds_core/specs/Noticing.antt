@@ -6,7 +6,7 @@ use Rattle.std.specs.Prelude.{◌≡◌, ℕ, suc, ◌<◌, ◌≤◌, List, len
 use Rattle.dds_base.specs.declared.config.Config.{Config}
 use Rattle.dds_notices.specs.declared.notice.Notice.{Notice}
 use Rattle.dds_notices.specs.declared.notice.Status.{Status}
-use Rattle.dds_notices.specs.Listeners.{Slotted, StandsFor as SlotsStandFor}
+use Rattle.dds_notices.specs.Listeners.{ByEntity, Slotted, StandsFor as SlotsStandFor}
 use Rattle.rtps_reader.specs.Tracked.{Tracked}
 use Rattle.dds_machine.specs.declared.endpoint.Endpoint.{Endpoint}
 use Rattle.dds_machine.specs.Noticing.{losses_of, seen_by}
@@ -68,9 +68,10 @@ SeesStatus old status new =
 
 -- for each state that a peer stands for, with the places that its listeners stand for, both stand for what the change
 -- makes of it
-abbrev pub Tells : {L : Type 0} → (L → List Notice) → (L → ℕ) → (Part → Part) → PeerKept → Slotted L → PeerKept
+abbrev pub Tells : {L : Type 0} → (L → List Notice) → (L → ℕ) → (L → Notice → L → Type 0) → (Part → Part) → PeerKept → Slotted L → PeerKept
     → Slotted L → Type 0
-Tells notices capacity change old slots new after = (config : Config) (peer : Peer) → StandsFor old config peer
-    → SlotsStandFor notices capacity slots peer.part.dds.listeners
+Tells {L} notices capacity becomes change old slots new after =
+    (given : ByEntity L) (config : Config) (peer : Peer) → StandsFor old config peer
+    → SlotsStandFor notices capacity becomes given slots peer.part.dds.listeners
     → StandsFor new config (record peer { part = change peer.part })
-    × SlotsStandFor notices capacity after (change peer.part).dds.listeners
+    × SlotsStandFor notices capacity becomes given after (change peer.part).dds.listeners

@@ -6,7 +6,7 @@ ghost use Rattle.std.specs.Prelude.{◌≡◌, [], None, IfErr, IfOk, OnErr};
 ghost use Rattle.dds_base.specs.Refusal.{Refuses};
 ghost use Rattle.dds_conditions.specs.Filtered.{tests_of};
 ghost use Rattle.dds_notices.specs.Listeners.{nobody};
-ghost use Rattle.dds_core.specs.Listening.{Adds, RefusesFilter, RefusesListener, Sets, StandsFor, Steps};
+ghost use Rattle.dds_core.specs.Listening.{Adds, RefusesFilter, RefusesListener, Sets, StandsFor, Steps, no_listeners};
 ghost use Rattle.dds_core.specs.Opening.{core_refusal, opening_peer};
 ghost use Rattle.dds_core.specs.Pairs.{IsPair};
 ghost use Rattle.dds_core.specs.Sending.{AreMessages, Sends};
@@ -52,8 +52,8 @@ impl<F: Filter, L: Listener> Core<F, L> {
     pub fn open(alloc: Global, config: &Config, peer: u8) -> Result<Core<F, L>, Code>
         // The peer stands for its opening in the configuration.
         ensures opening { IfOk result
-            (λ core. StandsFor L.notices L.capacity core config.now
-            (opening_peer config.now peer)) }
+            (λ core. StandsFor L.notices L.capacity L.becomes
+            (no_listeners (opening_peer config.now peer).part) core config.now (opening_peer config.now peer)) }
         // It has no filters.
         ensures none { IfOk result (λ core. core.filtered.filters ≡ []) }
         // Against what is opened there is no cause.
@@ -89,7 +89,7 @@ impl<F: Filter, L: Listener> Core<F, L> {
         // For each state that the peer stands for, the event is a step, by what its filters mean, whose end listeners
         // are told of, to one that it stands for afterwards; a delivered packet is taken up by the rules of the
         // protocol, and what is due by them is sent.
-        ensures step { Steps L.notices L.capacity
+        ensures step { Steps L.notices L.capacity L.becomes
             (tests_of F.meaning self.old.filtered.filters) self.old event result self.new }
         // What goes out at a call or a tick, and what is counted as unsent.
         ensures sends { Sends self.old.filtered.peer event result }
@@ -117,9 +117,9 @@ impl<F: Filter, L: Listener> Core<F, L> {
     pub fn add_filter(&mut self, filter: F) -> Result<u32, (Code, F)>
         // It is the last one, by the next number, and nothing else changes.
         ensures ok { IfOk result
-            (λ number. Adds L.notices L.capacity self.old filter number self.new) }
+            (λ number. Adds L.notices L.capacity L.becomes self.old filter number self.new) }
         // A refusal is for want of a number, exactly then, or for want of memory.
-        ensures refused { IfErr result (λ e. RefusesFilter L.notices L.capacity self.old e.0) }
+        ensures refused { IfErr result (λ e. RefusesFilter L.notices L.capacity L.becomes self.old e.0) }
         // What is refused comes back.
         ensures back { IfErr result (λ e. e.1 ≡ filter) }
         // A refusal changes nothing.
@@ -129,7 +129,7 @@ impl<F: Filter, L: Listener> Core<F, L> {
     }
 
     /// Sets the listener of an entity, with the statuses that it is told of, and hands back the one that was set
-    /// before, with the last notices that it was told; `None` takes the listener away. It takes no memory.
+    /// before, as what it became by being told; `None` takes the listener away. It takes no memory.
     ///
     /// # Errors
     ///
@@ -143,12 +143,13 @@ impl<F: Filter, L: Listener> Core<F, L> {
         mask: StatusMask,
         listener: Option<L>,
     ) -> Result<Option<L>, (Code, Option<L>)>
-        // It is set, and nothing else changes; the one of before has kept the last ones of all that it was told.
+        // It is set, and nothing else changes; the one of before is what that which was set became by being told of all
+        // that its place was, one after another, and has kept the last ones.
         ensures ok { IfOk result
-            (λ handed. Sets L.notices L.capacity self.old entity mask listener handed self.new) }
+            (λ handed. Sets L.notices L.capacity L.becomes self.old entity mask listener handed self.new) }
         // A refusal is by the first cause that there is, exactly then.
         ensures refused { IfErr result
-            (λ e. RefusesListener L.notices L.capacity self.old entity listener e.0) }
+            (λ e. RefusesListener L.notices L.capacity L.becomes self.old entity listener e.0) }
         // What is refused comes back.
         ensures back { IfErr result (λ e. e.1 ≡ listener) }
         // A refusal changes nothing.

@@ -150,7 +150,7 @@ impl<F: Filter> FilteredPeer<F> {
     /// The end of an event, before which the peer had these marks: listeners are told what it raised.
     pub(crate) fn end<L: Listener>(&mut self, slots: &mut Slots<L>, marks: &Marks)
         ensures told { (before : Part) → AreMarksOf marks.now before
-            → Tells L.notices L.capacity
+            → Tells L.notices L.capacity L.becomes
             (at_end before) self.old.peer slots.old self.new.peer slots.new }
         ensures filters { self.new.filters ≡ self.old.filters }
     {

@@ -32,7 +32,7 @@ impl Peer {
         raised: Option<Status>,
     )
         requires within { (1 ≤ number) × (number ≤ length self.old.readers) }
-        ensures told { Tells L.notices L.capacity
+        ensures told { Tells L.notices L.capacity L.becomes
             (λ part. told part (entity.Reader number) raised) self.old slots.old self.new
             slots.new }
         ensures readers { length self.new.readers ≡ length self.old.readers }
@@ -51,7 +51,7 @@ impl Peer {
     fn notify_reader<L: Listener>(&mut self, slots: &mut Slots<L>, number: u8, mark: &ReaderMark)
         requires within { (1 ≤ number) × (number ≤ length self.old.readers) }
         ensures told { (before : Part) → IsMarkOf mark.now (own_reader before number)
-            → Tells L.notices L.capacity
+            → Tells L.notices L.capacity L.becomes
             (reader_told before number) self.old slots.old self.new slots.new }
         ensures readers { length self.new.readers ≡ length self.old.readers }
     {
@@ -68,7 +68,7 @@ impl Peer {
     fn notify_writer<L: Listener>(&mut self, slots: &mut Slots<L>, number: u8, losses: u64)
         requires within { (1 ≤ number) × (number ≤ length self.old.writers) }
         ensures told { (before : Part) → losses ≡ losses_of (own_writer before number)
-            → Tells L.notices L.capacity
+            → Tells L.notices L.capacity L.becomes
             (writer_told before number) self.old slots.old self.new slots.new }
         ensures writers { length self.new.writers ≡ length self.old.writers }
         ensures readers { length self.new.readers ≡ length self.old.readers }
@@ -89,7 +89,7 @@ impl Peer {
     /// Tells of what was raised at its writers.
     fn notify_writers<L: Listener>(&mut self, slots: &mut Slots<L>, marks: &Marks)
         ensures told { (before : Part) → AreMarksOf marks.now before
-            → Tells L.notices L.capacity
+            → Tells L.notices L.capacity L.becomes
             (each_told (writer_told before) (length self.old.writers)) self.old slots.old self.new
             slots.new }
         ensures readers { length self.new.readers ≡ length self.old.readers }
@@ -102,7 +102,7 @@ impl Peer {
     /// Tells of what was raised at its readers.
     fn notify_readers<L: Listener>(&mut self, slots: &mut Slots<L>, marks: &Marks)
         ensures told { (before : Part) → AreMarksOf marks.now before
-            → Tells L.notices L.capacity
+            → Tells L.notices L.capacity L.becomes
             (each_told (reader_told before) (length self.old.readers)) self.old slots.old self.new
             slots.new }
     {
@@ -117,7 +117,7 @@ impl Peer {
     /// DDS 1.4, 2.2.4.3 (access through listeners).
     pub(crate) fn end<L: Listener>(&mut self, slots: &mut Slots<L>, marks: &Marks)
         ensures told { (before : Part) → AreMarksOf marks.now before
-            → Tells L.notices L.capacity (at_end before) self.old slots.old self.new slots.new }
+            → Tells L.notices L.capacity L.becomes (at_end before) self.old slots.old self.new slots.new }
     {
         self.notify_writers(slots, marks);
         self.notify_readers(slots, marks);

@@ -78,34 +78,38 @@ nobody_is_told writers readers entity status =
     ∙ any_of Place readers in
     rw (none_entity places none entity) refl
 
-module _ {L : Type 0} (notices : L → List Notice) (capacity : L → ℕ) where
+module _ {L : Type 0} (notices : L → List Notice) (capacity : L → ℕ) (becomes : L → Notice → L → Type 0) where
   -- nobody stands for nobody
   pub nobody_stands : (writers readers : ℕ)
-      → StandsFor notices capacity (nobody writers readers) (nobody writers readers)
+      → StandsFor notices capacity becomes (nobody writers readers) (nobody writers readers) (nobody writers readers)
   nobody_stands writers readers = record {
     writers = length-replicate writers None ∙ sym (length-replicate writers None);
     readers = length-replicate readers None ∙ sym (length-replicate readers None);
+    given_writers = length-replicate writers None ∙ sym (length-replicate writers None);
+    given_readers = length-replicate readers None ∙ sym (length-replicate readers None);
     each = elim [
       | Participant ↦ tt
-      | Writer n ↦ rw (none_numbered {X = Slot L} writers n, none_numbered {X = Place} writers n) tt
-      | Reader n ↦ rw (none_numbered {X = Slot L} readers n, none_numbered {X = Place} readers n) tt
+      | Writer n ↦ rw (none_numbered {X = L} writers n, none_numbered {X = Slot L} writers n, none_numbered {X = Place} writers n) tt
+      | Reader n ↦ rw (none_numbered {X = L} readers n, none_numbered {X = Slot L} readers n, none_numbered {X = Place} readers n) tt
     ];
   }
 
-  no_place : (slot : Option (Slot L)) (place : Option Place) → StandsAt notices capacity slot place → slot ≡ None
-      → place ≡ None
-  no_place None None stands h = refl
-  no_place None (Some place) stands h = absurd stands
-  no_place (Some slot) place stands h = cc
+  no_place : (given : Option L) (slot : Option (Slot L)) (place : Option Place)
+      → StandsAt notices capacity becomes given slot place → slot ≡ None → place ≡ None
+  no_place given None None stands h = refl
+  no_place None None (Some place) stands h = absurd stands
+  no_place (Some given) None (Some place) stands h = absurd stands
+  no_place given (Some slot) place stands h = cc
 
   -- where no listener is set, none takes a status
-  pub nobody_takes : (slots : Slotted L) (places : Places) → is_any slots ≡ false
-      → StandsFor notices capacity slots places
+  pub nobody_takes : (given : ByEntity L) (slots : Slotted L) (places : Places) → is_any slots ≡ false
+      → StandsFor notices capacity becomes given slots places
       → (entity : Entity) (status : Status) → taker_of places entity status ≡ None
-  nobody_takes slots places h stands entity status =
+  nobody_takes given slots places h stands entity status =
       let own =
-      no_place (at_entity slots entity) (at_entity places entity) (stands.each entity) (none_entity slots h entity)
+      no_place (at_entity given entity) (at_entity slots entity) (at_entity places entity) (stands.each entity)
+      (none_entity slots h entity)
       in
       let over =
-      no_place slots.participant places.participant (stands.each Participant) (none_entity slots h Participant) in
+      no_place given.participant slots.participant places.participant (stands.each Participant) (none_entity slots h Participant) in
       rw (own, over) refl

@@ -2,7 +2,7 @@
 --
 -- DDS 1.4, 2.2.2.1 (Entity, set_listener), 2.2.4.3 (listeners: the one of the entity, or else of what contains it).
 use Rattle.std.specs.Prelude.{◌≡◌, ℕ, ◌-◌, Bool, true, false, ◌||◌, not, List, [], ◌∷◌, ◌++◌, length, set, replicate, Option, None, Some, is_some, if◌then◌else◌}
-use Rattle.std.specs.List.{list_any}
+use Rattle.std.specs.List.{FoldsTo, list_any}
 use Rattle.dds_base.specs.declared.code.Code.{Code}
 use Rattle.dds_base.specs.declared.code.Code.TheVariants.{BadParameter, PreconditionNotMet}
 use Rattle.dds_base.specs.declared.entity.Entity.{Entity}
@@ -125,39 +125,49 @@ abbrev pub listener_place : {L : Type 0} → (L → ℕ) → StatusMask → Opti
 listener_place capacity mask None = None
 listener_place capacity mask (Some listener) = Some (record { mask = mask; room = capacity listener; sent = [] })
 
--- a listener has the room of its place, and keeps the last ones of all that it was told
-pub record Keeps {L : Type 0} (notices : L → List Notice) (capacity : L → ℕ) (listener : L)
-    (place : Place) : Type 0 where
+-- A listener has the room of its place, and keeps the last ones of all that it was told; and it is what the one that was
+-- given became by being told all of it, one after another.
+pub record Keeps {L : Type 0} (notices : L → List Notice) (capacity : L → ℕ) (becomes : L → Notice → L → Type 0)
+    (given listener : L) (place : Place) : Type 0 where
   pub room : capacity listener ≡ place.room
   pub kept : notices listener ≡ keep_last place.room place.sent
+  pub told : FoldsTo becomes given place.sent listener
 
--- a listener that may be there stands for the place that may be there
-abbrev pub StandsAt : {L : Type 0} → (L → List Notice) → (L → ℕ) → Option (Slot L) → Option Place → Type 0
-StandsAt notices capacity None None = Unit {0}
-StandsAt notices capacity (Some slot) (Some place) =
-    (slot.mask ≡ place.mask) × Keeps notices capacity slot.listener place
-StandsAt notices capacity _ _ = ⊥
+-- a listener that may be there, and the one that was given, stand for the place that may be there
+abbrev pub StandsAt : {L : Type 0} → (L → List Notice) → (L → ℕ) → (L → Notice → L → Type 0)
+    → Option L → Option (Slot L) → Option Place → Type 0
+StandsAt notices capacity becomes None None None = Unit {0}
+StandsAt notices capacity becomes (Some given) (Some slot) (Some place) =
+    (slot.mask ≡ place.mask) × Keeps notices capacity becomes given slot.listener place
+StandsAt notices capacity becomes _ _ _ = ⊥
 
--- the listeners of a peer stand for these places
-pub record StandsFor {L : Type 0} (notices : L → List Notice) (capacity : L → ℕ) (kept : Slotted L)
-    (places : Places) : Type 0 where
+-- the listeners of a peer, and those that were given, stand for these places
+pub record StandsFor {L : Type 0} (notices : L → List Notice) (capacity : L → ℕ) (becomes : L → Notice → L → Type 0)
+    (given : ByEntity L) (kept : Slotted L) (places : Places) : Type 0 where
   pub writers : length places.writers ≡ length kept.writers
   pub readers : length places.readers ≡ length kept.readers
-  pub each : (entity : Entity) → StandsAt notices capacity (at_entity kept entity) (at_entity places entity)
+  pub given_writers : length given.writers ≡ length kept.writers
+  pub given_readers : length given.readers ≡ length kept.readers
+  pub each : (entity : Entity)
+      → StandsAt notices capacity becomes (at_entity given entity) (at_entity kept entity) (at_entity places entity)
 
--- the one that is handed back is the one of this place, and keeps the last ones of all that it was told
-abbrev pub HandedBack : {L : Type 0} → (L → List Notice) → (L → ℕ) → Option L → Option Place → Type 0
-HandedBack notices capacity None None = Unit {0}
-HandedBack notices capacity (Some listener) (Some place) = Keeps notices capacity listener place
-HandedBack notices capacity _ _ = ⊥
+-- The one that is handed back is the one of this place: it keeps the last ones of all that it was told, and is what the
+-- one that was given became by being told.
+abbrev pub HandedBack : {L : Type 0} → (L → List Notice) → (L → ℕ) → (L → Notice → L → Type 0)
+    → Option L → Option L → Option Place → Type 0
+HandedBack notices capacity becomes None None None = Unit {0}
+HandedBack notices capacity becomes (Some given) (Some listener) (Some place) =
+    Keeps notices capacity becomes given listener place
+HandedBack notices capacity becomes _ _ _ = ⊥
 
 -- a listener was set at an entity, or taken away there; for each of the places that they stand for, that of before is
--- handed back
-pub record Sets {L : Type 0} (notices : L → List Notice) (capacity : L → ℕ) (old : Slotted L) (entity : Entity)
-    (mask : StatusMask)
+-- handed back, and the new one is the one that was given there
+pub record Sets {L : Type 0} (notices : L → List Notice) (capacity : L → ℕ) (becomes : L → Notice → L → Type 0)
+    (old : Slotted L) (entity : Entity) (mask : StatusMask)
     (listener handed : Option L) (new : Slotted L) : Type 0 where
   pub accepted : listener_refusal notices old entity listener ≡ None
   pub set : new ≡ with_entity old entity (slot_of mask listener)
-  pub back : (places : Places) → StandsFor notices capacity old places
-      → HandedBack notices capacity handed (at_entity places entity)
-      × StandsFor notices capacity new (with_entity places entity (listener_place capacity mask listener))
+  pub back : (given : ByEntity L) (places : Places) → StandsFor notices capacity becomes given old places
+      → HandedBack notices capacity becomes (at_entity given entity) handed (at_entity places entity)
+      × StandsFor notices capacity becomes (with_entity given entity listener) new
+      (with_entity places entity (listener_place capacity mask listener))

@@ -11,9 +11,9 @@ listener_of None = None
 listener_of (Some slot) = Some slot.listener
 
 -- the listener of this number was told of one more, and the others are as before
-pub record ToldAt {L : Type 0} (notices : L → List Notice) (capacity : L → ℕ) (old : List (Option (Slot L)))
-    (number : ℕ)
-    (notice : Notice) (place : Option Place) (new : List (Option (Slot L))) : Type 0 where
+pub record ToldAt {L : Type 0} (notices : L → List Notice) (capacity : L → ℕ) (becomes : L → Notice → L → Type 0)
+    (given : Option L) (old : List (Option (Slot L))) (number : ℕ) (notice : Notice) (place : Option Place)
+    (new : List (Option (Slot L))) : Type 0 where
   pub slot : Option (Slot L)
-  pub stands : StandsAt notices capacity slot (with_notice place notice)
+  pub stands : StandsAt notices capacity becomes given slot (with_notice place notice)
   pub others : new ≡ set old (number - 1) slot

@@ -6,9 +6,10 @@ ghost use Rattle.std.specs.Prelude.{◌≡◌};
 
 use crate::notice::Notice;
 
-/// Whoever is told of statuses, and keeps the last notices: at most `room` of them.
+/// Whoever is told of statuses, and keeps the last notices: at most `room` of them, which may be none.
 ///
-/// A type of the application's own may be one, and is then handed over in a box. It can't call the peer that tells it,
+/// It says by `becomes` what being told does to it: a peer hands it back as what it became by being told all that it was,
+/// once and in that order. A type of the application's own may be one, and is then handed over in a box. It can't call the peer that tells it,
 /// and can't refuse a notice: the memory for what it keeps is made before.
 ///
 /// DDS 1.4, 2.2.4.3 (access through listeners).
@@ -22,6 +23,9 @@ pub trait Listener: Drop {
 
     /// How many it can keep.
     ghost capacity: { Self → ℕ };
+
+    /// Which listener it may become by being told of a notice.
+    ghost becomes: { Self → Notice → Self → Type 0 };
 
     /// How many notices it can keep.
     fn room(&self) -> usize
@@ -44,13 +48,17 @@ pub trait Listener: Drop {
         ensures notices { notices self.new
             ≡ told (capacity self.old) (notices self.old) notice.now }
         // It can keep as many as before.
-        ensures capacity { capacity self.new ≡ capacity self.old };
+        ensures capacity { capacity self.new ≡ capacity self.old }
+        // It becomes one that it may become by this notice.
+        ensures becomes { becomes self.old notice.now self.new };
 }
 
 impl Listener for Box<dyn Listener + Send> {
     ghost notices = { λ b. (Listener-box b).notices b.value };
 
     ghost capacity = { λ b. (Listener-box b).capacity b.value };
+
+    ghost becomes = { λ b n c. (w : _) × (Listener-box b).becomes b.value n w × (c ≡ record b { value = w }) };
 
     fn room(&self) -> usize {
         (**self).room()

@@ -4,7 +4,7 @@
 
 ghost use Rattle.std.specs.Prelude.{◌≡◌, IfOk, IfErr, OnOk, None};
 ghost use Rattle.dds_base.specs.Refusal.{Refuses};
-ghost use Rattle.dds_notices.specs.Notices.{opened, room_refusal};
+ghost use Rattle.dds_notices.specs.Notices.{opened, room_refusal, told};
 
 use crate::listener::Listener;
 use crate::notice::Notice;
@@ -58,6 +58,8 @@ impl Listener for Recorder {
     ghost notices = { λ r. r.notices };
 
     ghost capacity = { λ r. r.room };
+
+    ghost becomes = { λ r n q. q ≡ record r { notices = told r.room r.notices n } };
 
     fn room(&self) -> usize {
         self.held.capacity()

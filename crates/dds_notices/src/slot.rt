@@ -29,8 +29,8 @@ impl<L> Model for Slot<L> {
 
 /// Whether a listener is there, and is told of the status.
 pub(crate) fn takes<L: Listener>(slot: Option<&Slot<L>>, status: &Status) -> bool
-    ensures takes { (place : Option Place)
-        → StandsAt L.notices L.capacity (option_copied slot.entry) place
+    ensures takes { (given : Option L) (place : Option Place)
+        → StandsAt L.notices L.capacity L.becomes given (option_copied slot.entry) place
         → result ≡ takes place status.now }
     ensures there { result ≡ true → is_some (option_copied slot.entry) ≡ true }
 {
@@ -42,8 +42,9 @@ pub(crate) fn takes<L: Listener>(slot: Option<&Slot<L>>, status: &Status) -> boo
 
 /// Tells the listener, if one is there.
 pub(crate) fn tell<L: Listener>(slot: &mut Option<Slot<L>>, notice: &Notice)
-    ensures { (place : Option Place) → StandsAt L.notices L.capacity slot.old place
-        → StandsAt L.notices L.capacity slot.new (with_notice place notice.now) }
+    ensures { (given : Option L) (place : Option Place)
+        → StandsAt L.notices L.capacity L.becomes given slot.old place
+        → StandsAt L.notices L.capacity L.becomes given slot.new (with_notice place notice.now) }
 {
     match slot {
         Some(slot) => slot.listener.on_notice(notice),

@@ -7,7 +7,7 @@ ghost use Rattle.std.specs.Prelude.{◌≡◌, ◌-◌, true, Option, set, repli
 ghost use Rattle.std.specs.List.{list_any};
 ghost use Rattle.std.specs.Option.{option_copied};
 ghost use Rattle.dds_base.specs.Number.{at_number, is_number};
-ghost use Rattle.dds_notices.specs.Listeners.{Place, Places, Sets, StandsAt, StandsFor, after_notice, at_entity, has_entity, is_any, listener_refusal, nobody, taker_of, with_entity, with_notice};
+ghost use Rattle.dds_notices.specs.Listeners.{ByEntity, Place, Places, Sets, StandsAt, StandsFor, after_notice, at_entity, has_entity, is_any, listener_refusal, nobody, taker_of, with_entity, with_notice};
 ghost use Rattle.dds_notices.specs.Slotted.{ToldAt};
 
 use crate::listener::Listener;
@@ -78,9 +78,9 @@ fn at_number<L: Listener>(slots: &[Option<Slot<L>>], number: u8) -> Option<&Slot
 /// Tells the one that has this number.
 fn tell_number<L: Listener>(slots: &mut Vec<Option<Slot<L>>>, number: u8, notice: &Notice)
     requires { is_number number (length slots.old.items) ≡ true }
-    ensures { (place : Option Place)
-        → StandsAt L.notices L.capacity (at_number slots.old.items number) place
-        → ToldAt L.notices L.capacity slots.old.items number notice.now place slots.new.items }
+    ensures { (given : Option L) (place : Option Place)
+        → StandsAt L.notices L.capacity L.becomes given (at_number slots.old.items number) place
+        → ToldAt L.notices L.capacity L.becomes given slots.old.items number notice.now place slots.new.items }
 {
     tell(&mut slots[usize::from(number) - 1], notice);
 }
@@ -149,7 +149,8 @@ impl<L: Listener> Slots<L> {
     /// DDS 1.4, 2.2.4.3 (listeners: the one of the entity, or else of what contains it).
     pub fn takes(&self, entity: Entity, status: &Status) -> bool
         // Some listener takes the status.
-        ensures taker { (places : Places) → StandsFor L.notices L.capacity self.now places
+        ensures taker { (given : ByEntity L) (places : Places)
+            → StandsFor L.notices L.capacity L.becomes given self.now places
             → result ≡ is_some (taker_of places entity status.now) }
     {
         takes(self.at(entity), status) || takes(self.participant.as_ref(), status)
@@ -158,8 +159,9 @@ impl<L: Listener> Slots<L> {
     /// Tells the listener at an entity that there is.
     fn tell_at(&mut self, entity: Entity, notice: &Notice)
         requires { has_entity self.old entity ≡ true }
-        ensures { (places : Places) → StandsFor L.notices L.capacity self.old places
-            → StandsFor L.notices L.capacity self.new
+        ensures { (given : ByEntity L) (places : Places)
+            → StandsFor L.notices L.capacity L.becomes given self.old places
+            → StandsFor L.notices L.capacity L.becomes given self.new
             (with_entity places entity (with_notice (at_entity places entity) notice.now)) }
     {
         match entity {
@@ -175,8 +177,9 @@ impl<L: Listener> Slots<L> {
     /// DDS 1.4, 2.2.4.3 (listeners: the one of the entity, or else of what contains it).
     pub fn tell(&mut self, notice: &Notice)
         // The one that takes it is told, once.
-        ensures told { (places : Places) → StandsFor L.notices L.capacity self.old places
-            → StandsFor L.notices L.capacity self.new (after_notice places notice.now) }
+        ensures told { (given : ByEntity L) (places : Places)
+            → StandsFor L.notices L.capacity L.becomes given self.old places
+            → StandsFor L.notices L.capacity L.becomes given self.new (after_notice places notice.now) }
     {
         if takes(self.at(notice.entity), &notice.status) {
             self.tell_at(notice.entity, notice);
@@ -213,9 +216,9 @@ impl<L: Listener> Slots<L> {
         mask: StatusMask,
         listener: Option<L>,
     ) -> Result<Option<L>, (Code, Option<L>)>
-        // It is set, and the one of before is handed back with the last notices that it was told of.
+        // It is set, and the one of before is handed back as what it became by being told.
         ensures ok { IfOk result
-            (λ back. Sets L.notices L.capacity self.old entity mask listener back self.new) }
+            (λ back. Sets L.notices L.capacity L.becomes self.old entity mask listener back self.new) }
         // A refusal is for its cause.
         ensures refused { IfErr result
             (λ e. listener_refusal L.notices self.old entity listener ≡ Some e.0) }

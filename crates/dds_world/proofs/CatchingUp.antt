@@ -47,7 +47,7 @@ use Rattle.dds_world.specs.declared.round.Round.{Round}
 use Rattle.dds_world.specs.declared.round.RoundReply.{RoundReply}
 use Rattle.dds_world.specs.Repairing.{Knows, IsKnown, Stage, Answering, Acknowledging, Beating}
 use Rattle.dds_world.specs.Round.{IsHindered, has_unsent, IsStep, AreSteps, IsTo, HasNone, IsFirst, Rounds, answers_at, is_whole, are_whole, replies_of}
-use Rattle.dds_world.specs.WorldStanding.{WorldKept, StandsFor}
+use Rattle.dds_world.specs.WorldStanding.{Hearing, WorldKept, StandsFor}
 use Rattle.dds_world.proofs.Caught.{CoreAt, core_at, place_known, few_changes, places_after, unsent_shown, went, sent_by, whole_tick, delivers, first_whole, Ran, ran, none_lost, deliver_all, later_packet, among_none, get_later}
 use Rattle.dds_world.proofs.Rounds.{BySteps, IsPlace, acks_steps, beats_steps, round_is, stage_is}
 use Rattle.dds_world.proofs.RunSteps.{Went}
@@ -56,10 +56,10 @@ use Rattle.dds_world.proofs.RunSteps.{Went}
 
 -- Of the packets that were sent since so many had been, the first such one is delivered at this peer. Memory was found
 -- for it, and nothing was lost: before it no fewer than so many are counted as unsent, and after it no more.
-record Delivered (tests : AllTests) (Is : Packet → Type 0) (from peer unsent : ℕ) (old : WorldKept) : Type 0 where
+record Delivered {hearing : Hearing} (tests : AllTests) (Is : Packet → Type 0) (from peer unsent : ℕ) (old : WorldKept hearing) : Type 0 where
   k : ℕ
   reply : RoundReply
-  mid : WorldKept
+  mid : WorldKept hearing
   first : IsFirst Is old.sent from (length old.sent) k
   step : IsStep tests old (world.Deliver peer k) reply mid
   whole : is_whole reply.reply ≡ true
@@ -67,11 +67,11 @@ record Delivered (tests : AllTests) (Is : Packet → Type 0) (from peer unsent :
   more : unsent ≤ old.unsent
 
 -- in a stage whose replies are whole, and in which nothing was lost, there is no such packet, or it is delivered so
-stage_delivers : {tests : AllTests}
+stage_delivers : {hearing : Hearing} → {tests : AllTests}
     → (config : Config) (network : WorldState) (Is : Packet → Type 0) (from peer unsent : ℕ)
-    (Next : WorldKept → List WorldEvent → List RoundReply → WorldKept → Type 0) (old : WorldKept)
-    (events : List WorldEvent) (replies : List RoundReply) (new : WorldKept)
-    (P : List WorldEvent → List RoundReply → WorldKept → Type 0) → StandsFor old config network
+    (Next : WorldKept hearing → List WorldEvent → List RoundReply → WorldKept hearing → Type 0) (old : WorldKept hearing)
+    (events : List WorldEvent) (replies : List RoundReply) (new : WorldKept hearing)
+    (P : List WorldEvent → List RoundReply → WorldKept hearing → Type 0) → StandsFor old config network
     → new.unsent ≤ unsent → unsent ≤ old.unsent → BySteps tests Next new
     → (HasNone Is old.sent from (length old.sent) → P [] [] old)
     → ((d : Delivered tests Is from peer unsent old) (later : List WorldEvent) (rest : List RoundReply)
@@ -98,7 +98,7 @@ stage_delivers {tests} config network Is from peer unsent Next old events replie
     goes d later rest w.rest w.more next)
 
 -- it is a delivery by the rules
-delivered : {tests : AllTests} {Is : Packet → Type 0} {from peer unsent : ℕ} {old : WorldKept}
+delivered : {hearing : Hearing} → {tests : AllTests} {Is : Packet → Type 0} {from peer unsent : ℕ} {old : WorldKept hearing}
     (d : Delivered tests Is from peer unsent old) {config : Config} {network : WorldState}
     → StandsFor old config network
     → (w : Went tests config network old (world.Deliver peer d.k) d.reply.reply d.mid)
@@ -107,7 +107,7 @@ delivered {peer = peer} {old = old} d {config} {network} s w =
     delivers config network old peer d.k d.first.packet d.reply.reply d.mid s d.first.at.1 d.whole w
 
 -- nothing was lost at it
-nothing_lost : {tests : AllTests} {Is : Packet → Type 0} {from peer unsent : ℕ} {old : WorldKept}
+nothing_lost : {hearing : Hearing} → {tests : AllTests} {Is : Packet → Type 0} {from peer unsent : ℕ} {old : WorldKept hearing}
     (d : Delivered tests Is from peer unsent old) {config : Config} {network : WorldState}
     (w : Went tests config network old (world.Deliver peer d.k) d.reply.reply d.mid) → old.unsent ≤ unsent
     → unsent < 2 ^ 64 - 1 → w.step.lost ≡ 0
@@ -118,7 +118,7 @@ nothing_lost {old = old} d w most below =
     (omega (arith, below, most))
 
 -- its packet is one of those that were sent since
-sent_since : {tests : AllTests} {Is : Packet → Type 0} {peer unsent : ℕ} {old : WorldKept}
+sent_since : {hearing : Hearing} → {tests : AllTests} {Is : Packet → Type 0} {peer unsent : ℕ} {old : WorldKept hearing}
     (before packets : List Packet) (d : Delivered tests Is (length before) peer unsent old)
     → old.sent ≡ before ++ packets
     → Contains packets d.first.packet
@@ -145,12 +145,12 @@ entity_is config prefix entity r is =
     ∙ is.same_entity)
 
 -- a tick of the writer's peer, for which memory was found and at which nothing was lost
-record Tick : Type 0 where
+record Tick (hearing : Hearing) : Type 0 where
   tests : AllTests
   config : Config
   network : WorldState
-  old : WorldKept
-  mid : WorldKept
+  old : WorldKept hearing
+  mid : WorldKept hearing
   m : Matched
   place : ℕ
   ticked : RoundReply
@@ -162,17 +162,17 @@ record Tick : Type 0 where
   same : mid.unsent ≤ old.unsent
   below : old.unsent < 2 ^ 64 - 1
 
-w0 : (t : Tick) → Went t.tests t.config t.network t.old (world.Tick t.m.writer.peer t.m.moment) t.ticked.reply t.mid
+w0 : {hearing : Hearing} → (t : Tick hearing) → Went t.tests t.config t.network t.old (world.Tick t.m.writer.peer t.m.moment) t.ticked.reply t.mid
 w0 t = went t.config t.network t.old (world.Tick t.m.writer.peer t.m.moment) t.ticked t.mid t.step t.s
 
-abbrev after_tick : Tick → WorldState
+abbrev after_tick : {hearing : Hearing} → Tick hearing → WorldState
 after_tick t = (w0 t).after
 
 -- at its end
-abbrev noted_tick : Tick → WorldState
+abbrev noted_tick : {hearing : Hearing} → Tick hearing → WorldState
 noted_tick t = world_ended t.network (world.Tick t.m.writer.peer t.m.moment) (after_tick t)
 
-ruled0 : (t : Tick) → RuledStep t.config t.tests t.network (world.Tick t.m.writer.peer t.m.moment) Done 0 (after_tick t)
+ruled0 : {hearing : Hearing} → (t : Tick hearing) → RuledStep t.config t.tests t.network (world.Tick t.m.writer.peer t.m.moment) Done 0 (after_tick t)
 ruled0 t =
     subst (λ (n : ℕ). RuledStep t.config t.tests t.network (world.Tick t.m.writer.peer t.m.moment) Done n
     (after_tick t)) (none_lost t.old.unsent (w0 t).step.lost t.mid.unsent (w0 t).step.counted t.same t.below)
@@ -181,53 +181,53 @@ ruled0 t =
     (whole_tick t.tests t.config t.network t.m.writer.peer t.m.moment t.ticked.reply (after_tick t) t.whole
     (w0 t).step.ruled.step) (w0 t).step.ruled)
 
-sent0 : (t : Tick) → t.mid.sent ≡ t.old.sent ++ (ruled0 t).packets
+sent0 : {hearing : Hearing} → (t : Tick hearing) → t.mid.sent ≡ t.old.sent ++ (ruled0 t).packets
 sent0 t =
     sent_by t.config t.network t.old (world.Tick t.m.writer.peer t.m.moment) Done 0 (after_tick t) t.mid t.s
     (w0 t).stands (ruled0 t)
 
-abbrev part : Tick → Part
+abbrev part : {hearing : Hearing} → Tick hearing → Part
 part t = (peer_at t.network t.m.writer.peer).part
 
-there : (t : Tick) → HasNumber t.network.peers t.m.writer.peer
+there : {hearing : Hearing} → (t : Tick hearing) → HasNumber t.network.peers t.m.writer.peer
 there t = ticks_there t.config t.tests t.network t.m.writer.peer t.m.moment (after_tick t) (ruled0 t).step
 
-core : (t : Tick) → CoreAt t.config t.network t.m.writer.peer
+core : {hearing : Hearing} → (t : Tick hearing) → CoreAt t.config t.network t.m.writer.peer
 core t = core_at t.old t.config t.network t.m.writer.peer t.s (there t)
 
-of : (t : Tick) → IsPartOf t.config t.m.writer.peer (part t)
+of : {hearing : Hearing} → (t : Tick hearing) → IsPartOf t.config t.m.writer.peer (part t)
 of t = t.s.used.of_config t.m.writer.peer (there t)
 
-acknowledged : Tick → ℕ
+acknowledged : {hearing : Hearing} → Tick hearing → ℕ
 acknowledged t =
     (some_is (acknowledged_of (writer_at (machine_of t.network) t.m.writer).readers t.m.reader) t.known.matched).0
 
-abbrev the_last : Tick → ℕ
+abbrev the_last : {hearing : Hearing} → Tick hearing → ℕ
 the_last t = length (writer_changes (writer_at (machine_of t.network) t.m.writer))
 
-row : (t : Tick) → acknowledged_of (writer_at (machine_of t.network) t.m.writer).readers t.m.reader
+row : {hearing : Hearing} → (t : Tick hearing) → acknowledged_of (writer_at (machine_of t.network) t.m.writer).readers t.m.reader
     ≡ Some (acknowledged t)
 unfolding acknowledged
 row t = (some_is (acknowledged_of (writer_at (machine_of t.network) t.m.writer).readers t.m.reader) t.known.matched).1
 
-own_row : (t : Tick) → acknowledged_of (own_writer (part t) t.m.writer.number).readers t.m.reader
+own_row : {hearing : Hearing} → (t : Tick hearing) → acknowledged_of (own_writer (part t) t.m.writer.number).readers t.m.reader
     ≡ Some (acknowledged t)
 own_row t =
     subst (λ (w : Writer). acknowledged_of w.readers t.m.reader ≡ Some (acknowledged t))
     (writer_is t.network t.m.writer) (row t)
 
-here : (t : Tick) → HasNumber (part t).rtps.writers t.m.writer.number
+here : {hearing : Hearing} → (t : Tick hearing) → HasNumber (part t).rtps.writers t.m.writer.number
 here t = has_writer (part t) t.m.writer.number t.m.reader (acknowledged t, own_row t)
 
-pair : (t : Tick) → PairOf t.config t.m.writer t.m.reader
+pair : {hearing : Hearing} → (t : Tick hearing) → PairOf t.config t.m.writer t.m.reader
 pair t = pair_named t.config t.m.writer t.m.reader (part t) (acknowledged t) (of t) (own_row t)
 
-stands : (t : Tick) → StandsAt t.network t.m.writer t.m.reader t.place (acknowledged t)
+stands : {hearing : Hearing} → (t : Tick hearing) → StandsAt t.network t.m.writer t.m.reader t.place (acknowledged t)
 stands t =
     let k = place_known t.old t.config t.network t.m.writer t.m.reader t.place t.s t.at in
     record { here = k.here; place_is = t.at; known = k.known; acknowledged_is = row t }
 
-few : (t : Tick) → the_last t < 2 ^ 62
+few : {hearing : Hearing} → (t : Tick hearing) → the_last t < 2 ^ 62
 few t =
     subst (λ (w : Writer). length (writer_changes w) < 2 ^ 62) (sym (writer_is t.network t.m.writer))
     (few_changes (core t).core t.config (peer_at t.network t.m.writer.peer) t.m.writer.number (core t).stands (here t))
@@ -235,7 +235,7 @@ few t =
 -- ---- what a round ends with
 
 -- what the round answers
-abbrev pub answer_of : WorldKept → Matched → ℕ → ℕ → List RoundReply → Round
+abbrev pub answer_of : {hearing : Hearing} → WorldKept hearing → Matched → ℕ → ℕ → List RoundReply → Round
 answer_of old m from to replies = record {
   replies = replies;
   was_behind = m.pair.is_behind;
@@ -246,7 +246,7 @@ answer_of old m from to replies = record {
 }
 
 -- what hindered it is shown without the place after it
-abbrev EndsSo : AllTests → Config → WorldState → WorldKept → Matched → ℕ → List WorldEvent → List RoundReply → WorldKept
+abbrev EndsSo : {hearing : Hearing} → AllTests → Config → WorldState → WorldKept hearing → Matched → ℕ → List WorldEvent → List RoundReply → WorldKept hearing
     → Type 0
 EndsSo tests config network old m place events replies new =
     (after : WorldState) × RuledRun config tests network old.unsent events (replies_of replies) after new.unsent
@@ -254,13 +254,13 @@ EndsSo tests config network old m place events replies new =
     × (IsHindered network m.writer m.reader (answer_of old m place place replies)
     ⊎ HasCaughtUp after m.writer m.reader place (length (writer_changes (writer_at (machine_of network) m.writer))))
 
-abbrev Ends : Tick → List WorldEvent → List RoundReply → WorldKept → Type 0
+abbrev Ends : {hearing : Hearing} → Tick hearing → List WorldEvent → List RoundReply → WorldKept hearing → Type 0
 Ends t events replies new = EndsSo t.tests t.config t.network t.old t.m t.place events replies new
 
 -- ---- no HEARTBEAT was sent
 
 -- where the reader is not behind, it has caught up already
-not_behind : (t : Tick) → the_last t < acknowledged t
+not_behind : {hearing : Hearing} → (t : Tick hearing) → the_last t < acknowledged t
     → HasCaughtUp (noted_tick t) t.m.writer t.m.reader t.place (the_last t)
 not_behind t past =
     record {
@@ -304,7 +304,7 @@ not_behind t past =
     high = t.s.bounded t.m.reader t.m.writer t.place t.at
 
 -- a HEARTBEAT that was sent is found
-beat_is_found : (t : Tick) → acknowledged t ≤ the_last t → heartbeats_used_at t.network t.m.writer < 2 ^ 31 - 1
+beat_is_found : {hearing : Hearing} → (t : Tick hearing) → acknowledged t ≤ the_last t → heartbeats_used_at t.network t.m.writer < 2 ^ 31 - 1
     → HasNone (IsTo t.m.reader.peer (sought.Heartbeat t.m.pair.writer)) t.mid.sent (length t.old.sent)
     (length t.mid.sent) → ⊥
 beat_is_found t behind left none =
@@ -320,7 +320,7 @@ beat_is_found t behind left none =
     (ruled0 t).packets t.mid.sent beat.packet (sent0 t) beat.among (beat.to, has) none
 
 -- the reader is behind, as the answer says
-told_behind : (t : Tick) → acknowledged t ≤ the_last t → t.m.pair.is_behind ≡ true
+told_behind : {hearing : Hearing} → (t : Tick hearing) → acknowledged t ≤ the_last t → t.m.pair.is_behind ≡ true
 told_behind t behind =
     t.known.behind
     ∙ (ap (λ (o : Option ℕ). option_map_or (λ a. nat_le a (the_last t)) o false) (row t)
@@ -329,7 +329,7 @@ told_behind t behind =
     is_le : (a b : ℕ) → a ≤ b → nat_le a b ≡ true
     is_le a b le = grind (arith, nat_tests, le)
 
-no_beat : (t : Tick) → HasNone (IsTo t.m.reader.peer (sought.Heartbeat t.m.pair.writer)) t.mid.sent (length t.old.sent)
+no_beat : {hearing : Hearing} → (t : Tick hearing) → HasNone (IsTo t.m.reader.peer (sought.Heartbeat t.m.pair.writer)) t.mid.sent (length t.old.sent)
     (length t.mid.sent)
     → Ends t (world.Tick t.m.writer.peer t.m.moment ∷ []) (t.ticked ∷ []) t.mid
 no_beat t none = (
@@ -347,38 +347,38 @@ no_beat t none = (
 -- ---- the HEARTBEAT was heard
 
 -- its delivery, after such a tick
-record Hear : Type 0 where
-  t : Tick
+record Hear (hearing : Hearing) : Type 0 where
+  t : Tick hearing
   beat : Delivered t.tests (IsTo t.m.reader.peer (sought.Heartbeat t.m.pair.writer)) (length t.old.sent)
       t.m.reader.peer t.old.unsent t.mid
 
-w1 : (h : Hear) → Went h.t.tests h.t.config (noted_tick h.t) h.t.mid
+w1 : {hearing : Hearing} → (h : Hear hearing) → Went h.t.tests h.t.config (noted_tick h.t) h.t.mid
     (world.Deliver h.t.m.reader.peer h.beat.k) h.beat.reply.reply h.beat.mid
 w1 h =
     went h.t.config (noted_tick h.t) h.t.mid (world.Deliver h.t.m.reader.peer h.beat.k) h.beat.reply h.beat.mid
     h.beat.step (w0 h.t).stands
 
-abbrev after_beat : Hear → WorldState
+abbrev after_beat : {hearing : Hearing} → Hear hearing → WorldState
 after_beat h = (w1 h).after
 
 -- at its end
-abbrev noted_beat : Hear → WorldState
+abbrev noted_beat : {hearing : Hearing} → Hear hearing → WorldState
 noted_beat h = world_ended (noted_tick h.t) (world.Deliver h.t.m.reader.peer h.beat.k) (after_beat h)
 
-hears : (h : Hear) → Delivers h.t.config h.t.tests (noted_tick h.t) h.t.m.reader.peer h.beat.first.packet
+hears : {hearing : Hearing} → (h : Hear hearing) → Delivers h.t.config h.t.tests (noted_tick h.t) h.t.m.reader.peer h.beat.first.packet
     (w1 h).step.lost (after_beat h)
 hears h = delivered h.beat (w0 h.t).stands (w1 h)
 
-among1 : (h : Hear) → Contains (ruled0 h.t).packets h.beat.first.packet
+among1 : {hearing : Hearing} → (h : Hear hearing) → Contains (ruled0 h.t).packets h.beat.first.packet
 among1 h = sent_since h.t.old.sent (ruled0 h.t).packets h.beat (sent0 h.t)
 
-beat_has : (h : Hear) → (count : ℤ) × HasHeartbeat h.t.config h.beat.first.packet.bytes h.t.m.writer count
+beat_has : {hearing : Hearing} → (h : Hear hearing) → (count : ℤ) × HasHeartbeat h.t.config h.beat.first.packet.bytes h.t.m.writer count
 beat_has h =
     beat_found h.t.config h.t.tests h.t.network h.t.m.moment 0 (after_tick h.t) h.t.m.writer h.beat.first.packet
     (of h.t) (here h.t) (ruled0 h.t) (among1 h)
     (subst (λ (e : EntityId). Has h.beat.first.packet.bytes (sought.Heartbeat e)) h.t.known.writer h.beat.first.is.1)
 
-begins : (h : Hear) → BeginsRound h.t.config h.t.tests h.t.m.writer h.t.m.reader h.t.network (after_beat h)
+begins : {hearing : Hearing} → (h : Hear hearing) → BeginsRound h.t.config h.t.tests h.t.m.writer h.t.m.reader h.t.network (after_beat h)
 begins h = record {
   now = h.t.m.moment;
   ticked = after_tick h.t;
@@ -393,24 +393,24 @@ begins h = record {
   hears = hears h;
 }
 
-begun : Hear → Begun
+begun : {hearing : Hearing} → Hear hearing → Begun
 begun h =
     the_begun h.t.config h.t.tests h.t.m.writer h.t.m.reader h.t.place (acknowledged h.t) h.t.network (after_beat h)
     (core h.t).stands.is_peer.checked h.t.s.sound h.t.s.used h.t.s.bounded (pair h.t).pair (stands h.t) (begins h)
 
-none1 : (h : Hear) → (w1 h).step.lost ≡ 0
+none1 : {hearing : Hearing} → (h : Hear hearing) → (w1 h).step.lost ≡ 0
 none1 h = nothing_lost h.beat (w1 h) h.t.same h.t.below
 
-sent1 : (h : Hear) → h.beat.mid.sent ≡ h.t.mid.sent ++ (hears h).step.packets
+sent1 : {hearing : Hearing} → (h : Hear hearing) → h.beat.mid.sent ≡ h.t.mid.sent ++ (hears h).step.packets
 sent1 h =
     sent_by h.t.config (noted_tick h.t) h.t.mid (world.Deliver h.t.m.reader.peer (hears h).number) _ (w1 h).step.lost
     (after_beat h) h.beat.mid (w0 h.t).stands (w1 h).stands (hears h).step
 
 -- the ACKNACK, as it is looked for
-abbrev ask_of : Hear → Sought
+abbrev ask_of : {hearing : Hearing} → Hear hearing → Sought
 ask_of h = sought.AckNack h.t.m.pair.reader h.t.m.pair.writer
 
-ask_is : (h : Hear) → sought.AckNack (pair h.t).pair.reader_entity
+ask_is : {hearing : Hearing} → (h : Hear hearing) → sought.AckNack (pair h.t).pair.reader_entity
     (writer_entity h.t.config h.t.m.writer.peer h.t.m.writer.number) ≡ ask_of h
 ask_is h =
     let r : h.t.m.pair.reader ≡ (pair h.t).pair.reader_entity =
@@ -418,7 +418,7 @@ ask_is h =
     let w = h.t.known.writer in cc
 
 -- one that was sent is found
-ask_is_found : (h : Hear) → acknacks_used_at h.t.network h.t.m.writer h.t.m.reader < 2 ^ 31 - 1
+ask_is_found : {hearing : Hearing} → (h : Hear hearing) → acknacks_used_at h.t.network h.t.m.writer h.t.m.reader < 2 ^ 31 - 1
     → HasNone (IsTo h.t.m.writer.peer (ask_of h)) h.beat.mid.sent (length h.t.mid.sent) (length h.beat.mid.sent) → ⊥
 unfolding begun begins w1 hears
 ask_is_found h left none =
@@ -429,7 +429,7 @@ ask_is_found h left none =
     among_none (IsTo h.t.m.writer.peer (ask_of h)) h.t.mid.sent (hears h).step.packets h.beat.mid.sent ask.0
     (sent1 h) ask.1 (ask.2, subst (λ (x : Sought). Has ask.0.bytes x) (ask_is h) ask.3) none
 
-no_ask : (h : Hear)
+no_ask : {hearing : Hearing} → (h : Hear hearing)
     → HasNone (IsTo h.t.m.writer.peer (ask_of h)) h.beat.mid.sent (length h.t.mid.sent) (length h.beat.mid.sent)
     → Ends h.t (world.Tick h.t.m.writer.peer h.t.m.moment ∷ world.Deliver h.t.m.reader.peer h.beat.k ∷ [])
     (h.t.ticked ∷ h.beat.reply ∷ []) h.beat.mid
@@ -445,40 +445,40 @@ no_ask h none = (
 -- ---- the ACKNACK was taken
 
 -- its delivery, after that of the HEARTBEAT
-record Ask : Type 0 where
-  h : Hear
+record Ask (hearing : Hearing) : Type 0 where
+  h : Hear hearing
   ask : Delivered h.t.tests (IsTo h.t.m.writer.peer (ask_of h)) (length h.t.mid.sent) h.t.m.writer.peer h.t.old.unsent
       h.beat.mid
 
-w2 : (a : Ask) → Went a.h.t.tests a.h.t.config (noted_beat a.h) a.h.beat.mid
+w2 : {hearing : Hearing} → (a : Ask hearing) → Went a.h.t.tests a.h.t.config (noted_beat a.h) a.h.beat.mid
     (world.Deliver a.h.t.m.writer.peer a.ask.k) a.ask.reply.reply a.ask.mid
 w2 a =
     went a.h.t.config (noted_beat a.h) a.h.beat.mid (world.Deliver a.h.t.m.writer.peer a.ask.k) a.ask.reply
     a.ask.mid a.ask.step (w1 a.h).stands
 
-abbrev after_ask : Ask → WorldState
+abbrev after_ask : {hearing : Hearing} → Ask hearing → WorldState
 after_ask a = (w2 a).after
 
 -- at its end
-abbrev noted_ask : Ask → WorldState
+abbrev noted_ask : {hearing : Hearing} → Ask hearing → WorldState
 noted_ask a = world_ended (noted_beat a.h) (world.Deliver a.h.t.m.writer.peer a.ask.k) (after_ask a)
 
-takes : (a : Ask) → Delivers a.h.t.config a.h.t.tests (noted_beat a.h) a.h.t.m.writer.peer a.ask.first.packet 0
+takes : {hearing : Hearing} → (a : Ask hearing) → Delivers a.h.t.config a.h.t.tests (noted_beat a.h) a.h.t.m.writer.peer a.ask.first.packet 0
     (after_ask a)
 takes a =
     subst (λ (n : ℕ). Delivers a.h.t.config a.h.t.tests (noted_beat a.h) a.h.t.m.writer.peer a.ask.first.packet n
     (after_ask a)) (nothing_lost a.ask (w2 a) a.h.beat.same a.h.t.below) (delivered a.ask (w1 a.h).stands (w2 a))
 
-among2 : (a : Ask) → Contains (hears a.h).step.packets a.ask.first.packet
+among2 : {hearing : Hearing} → (a : Ask hearing) → Contains (hears a.h).step.packets a.ask.first.packet
 among2 a = sent_since a.h.t.mid.sent (hears a.h).step.packets a.ask (sent1 a.h)
 
-ask_has : (a : Ask) → (count : ℤ) × HasAckNack a.h.t.config a.ask.first.packet.bytes a.h.t.m.writer a.h.t.m.reader count
+ask_has : {hearing : Hearing} → (a : Ask hearing) → (count : ℤ) × HasAckNack a.h.t.config a.ask.first.packet.bytes a.h.t.m.writer a.h.t.m.reader count
 unfolding begun begins hears
 ask_has a =
     ask_found_among (begun a.h) a.ask.first.packet (among2 a)
     (subst (λ (x : Sought). Has a.ask.first.packet.bytes x) (sym (ask_is a.h)) a.ask.first.is.1)
 
-asks : (a : Ask) → AsksInRound a.h.t.config a.h.t.tests a.h.t.m.writer a.h.t.m.reader a.h.t.network (after_ask a)
+asks : {hearing : Hearing} → (a : Ask hearing) → AsksInRound a.h.t.config a.h.t.tests a.h.t.m.writer a.h.t.m.reader a.h.t.network (after_ask a)
 unfolding begins hears
 asks a = record {
   heard = after_beat a.h;
@@ -490,21 +490,21 @@ asks a = record {
   answers = takes a;
 }
 
-abbrev answers : Ask → List Packet
+abbrev answers : {hearing : Hearing} → Ask hearing → List Packet
 answers a = (takes a).step.packets
 
-sent2 : (a : Ask) → a.ask.mid.sent ≡ a.h.beat.mid.sent ++ answers a
+sent2 : {hearing : Hearing} → (a : Ask hearing) → a.ask.mid.sent ≡ a.h.beat.mid.sent ++ answers a
 sent2 a =
     sent_by a.h.t.config (noted_beat a.h) a.h.beat.mid (world.Deliver a.h.t.m.writer.peer (takes a).number) _ 0
     (after_ask a) a.ask.mid (w1 a.h).stands (w2 a).stands (takes a).step
 
 -- the deliveries of all of them
-abbrev deliveries : Ask → List WorldEvent
+abbrev deliveries : {hearing : Hearing} → Ask hearing → List WorldEvent
 deliveries a =
     map (λ k. world.Deliver a.h.t.m.reader.peer k) (numbers_from (length a.h.beat.mid.sent + 1) (length (answers a)))
 
 -- the events after the ACKNACK are those
-all_answers : (a : Ask) → answers_at a.h.t.m.reader.peer (length a.h.beat.mid.sent) (length a.ask.mid.sent)
+all_answers : {hearing : Hearing} → (a : Ask hearing) → answers_at a.h.t.m.reader.peer (length a.h.beat.mid.sent) (length a.ask.mid.sent)
     ≡ deliveries a
 unfolding asks
 all_answers a =
@@ -518,12 +518,12 @@ all_answers a =
     omega (arith, most, size, parts) in
     ap (λ (n : ℕ). map (λ k. world.Deliver c.m.reader.peer k) (numbers_from (length a.h.beat.mid.sent + 1) n)) count
 
-answered : (a : Ask) (later : List WorldEvent) (rest : List RoundReply) (new : WorldKept) → are_whole rest ≡ true
+answered : {hearing : Hearing} → (a : Ask hearing) (later : List WorldEvent) (rest : List RoundReply) (new : WorldKept hearing) → are_whole rest ≡ true
     → Answering a.h.t.tests a.h.t.m (length a.h.beat.mid.sent) a.ask.mid later rest new
     → Ends a.h.t (world.Tick a.h.t.m.writer.peer a.h.t.m.moment ∷ world.Deliver a.h.t.m.reader.peer a.h.beat.k
     ∷ world.Deliver a.h.t.m.writer.peer a.ask.k ∷ later) (a.h.t.ticked ∷ a.h.beat.reply ∷ a.ask.reply ∷ rest) new
 unfolding asks
-answered a later rest new whole next = (
+answered {hearing} a later rest new whole next = (
   all.after,
   (
     after_tick c,
@@ -536,7 +536,7 @@ answered a later rest new whole next = (
       (core c).stands.is_peer.checked c.s.sound c.s.used c.s.bounded (pair c).pair (stands c) round),
 )
   where
-    c : Tick
+    c : Tick hearing
     c = a.h.t
 
     steps : AreSteps a.h.t.tests a.ask.mid (deliveries a) rest new
@@ -567,7 +567,7 @@ answered a later rest new whole next = (
 -- ---- the stages
 
 -- a round whose HEARTBEAT was heard ends so
-after_hearing : (h : Hear) (events : List WorldEvent) (replies : List RoundReply) (new : WorldKept)
+after_hearing : {hearing : Hearing} → (h : Hear hearing) (events : List WorldEvent) (replies : List RoundReply) (new : WorldKept hearing)
     → are_whole replies ≡ true → new.unsent ≤ h.t.old.unsent → h.t.old.unsent ≤ h.beat.mid.unsent
     → Acknowledging h.t.tests h.t.m (length h.t.mid.sent) h.beat.mid events replies new
     → Ends h.t (world.Tick h.t.m.writer.peer h.t.m.moment ∷ world.Deliver h.t.m.reader.peer h.beat.k ∷ events)
@@ -580,7 +580,7 @@ after_hearing h events replies new whole same more next =
     (λ ask later rest all above a. answered (record { h = h; ask = ask }) later rest new all a) next whole
 
 -- a round after such a tick ends so
-after_ticking : (t : Tick) (events : List WorldEvent) (replies : List RoundReply) (new : WorldKept)
+after_ticking : {hearing : Hearing} → (t : Tick hearing) (events : List WorldEvent) (replies : List RoundReply) (new : WorldKept hearing)
     → are_whole replies ≡ true → new.unsent ≤ t.old.unsent → t.old.unsent ≤ t.mid.unsent
     → Beating t.tests t.m (length t.old.sent) t.mid events replies new
     → Ends t (world.Tick t.m.writer.peer t.m.moment ∷ events) (t.ticked ∷ replies) new
@@ -594,14 +594,14 @@ after_ticking t events replies new whole same more next =
 
 -- ---- the round
 
-ends : {tests : AllTests} → (old : WorldKept) (m : Matched) (ticked : RoundReply) (mid : WorldKept)
-    (events : List WorldEvent) (replies : List RoundReply) (new : WorldKept) → IsKnown old m
+ends : {hearing : Hearing} → {tests : AllTests} → (old : WorldKept hearing) (m : Matched) (ticked : RoundReply) (mid : WorldKept hearing)
+    (events : List WorldEvent) (replies : List RoundReply) (new : WorldKept hearing) → IsKnown old m
     → IsStep tests old (world.Tick m.writer.peer m.moment) ticked mid
     → Beating tests m (length old.sent) mid events replies new
     → (config : Config) (network : WorldState) (place : ℕ) → StandsFor old config network
     → place_at (machine_of network) m.reader m.writer ≡ Some place
     → EndsSo tests config network old m place (world.Tick m.writer.peer m.moment ∷ events) (ticked ∷ replies) new
-ends {tests} old m ticked mid events replies new known tick beats config network place s at =
+ends {hearing} {tests} old m ticked mid events replies new known tick beats config network place s at =
     by (are_whole (ticked ∷ replies)) refl
   where
     steps : AreSteps tests mid events replies new
@@ -621,7 +621,7 @@ ends {tests} old m ticked mid events replies new known tick beats config network
         let w =
         first_whole config network old (world.Tick m.writer.peer m.moment) ticked mid events replies new old.unsent
         tick steps s whole same (omega arith) in
-        let t : Tick = record {
+        let t : Tick hearing = record {
           tests = tests;
           config = config;
           network = network;
@@ -659,8 +659,8 @@ still_there : (o : Option ℕ) (from : ℕ) → IsAtMost from o → o ≡ Some (
 still_there (Some to) from h = refl
 still_there None from h = absurd h
 
-rounds_of : {tests : AllTests} → (old : WorldKept) (m : Matched) (ticked : RoundReply) (mid : WorldKept)
-    (events : List WorldEvent) (replies : List RoundReply) (new : WorldKept)
+rounds_of : {hearing : Hearing} → {tests : AllTests} → (old : WorldKept hearing) (m : Matched) (ticked : RoundReply) (mid : WorldKept hearing)
+    (events : List WorldEvent) (replies : List RoundReply) (new : WorldKept hearing)
     (from : ℕ) (to : Option ℕ) → IsKnown old m → IsStep tests old (world.Tick m.writer.peer m.moment) ticked mid
     → Beating tests m (length old.sent) mid events replies new
     → IsPlace old m.reader m.writer (Some from) → IsPlace new m.reader m.writer to
@@ -697,9 +697,9 @@ rounds_of {tests} old m ticked mid events replies new from to known tick beats f
       };
 }
 
-pub rounds_are : {tests : AllTests}
-    → (old : WorldKept) (writer reader : Endpoint) (m : Matched) (ticked : RoundReply) (mid : WorldKept)
-    (replies all : List RoundReply) (new : WorldKept)
+pub rounds_are : {hearing : Hearing} → {tests : AllTests}
+    → (old : WorldKept hearing) (writer reader : Endpoint) (m : Matched) (ticked : RoundReply) (mid : WorldKept hearing)
+    (replies all : List RoundReply) (new : WorldKept hearing)
     (events : List WorldEvent) (from : ℕ) (to : Option ℕ) → m.writer ≡ writer → m.reader ≡ reader
     → all ≡ ticked ∷ replies → IsKnown old m
     → IsStep tests old (world.Tick m.writer.peer m.moment) ticked mid

@@ -34,7 +34,7 @@ use Rattle.dds_core.specs.Standing.{StandsFor as CoreStandsFor, IsSound}
 use Rattle.dds_core.proofs.Lists.{element}
 use Rattle.dds_world.specs.declared.round.RoundReply.{RoundReply}
 use Rattle.dds_world.specs.Round.{IsStep, AreSteps, HasNone, has_unsent, is_whole, are_whole, replies_of}
-use Rattle.dds_world.specs.WorldStanding.{WorldKept, StandsFor}
+use Rattle.dds_world.specs.WorldStanding.{Hearing, WorldKept, StandsFor}
 use Rattle.dds_world.proofs.RunSteps.{Went, ended, went_by}
 
 -- ---- the peers
@@ -45,7 +45,7 @@ pub record CoreAt (config : Config) (network : WorldState) (n : ℕ) : Type 0 wh
   pub stands : CoreStandsFor core config (peer_at network n)
   pub known : IsSound config (peer_at network n)
 
-pub core_at : (kept : WorldKept) (config : Config) (network : WorldState) (n : ℕ) → StandsFor kept config network
+pub core_at : {hearing : Hearing} → (kept : WorldKept hearing) (config : Config) (network : WorldState) (n : ℕ) → StandsFor kept config network
     → HasNumber network.peers n → CoreAt config network n
 core_at kept config network zero s has = let low = has.0 in absurd (omega (arith, low))
 core_at kept config network (suc i) s has =
@@ -70,7 +70,7 @@ pub record PlaceKnown (network : WorldState) (writer reader : Endpoint) (place :
   pub here : HasNumber (peer_at network reader.peer).part.dds.readers reader.number
   pub known : (tracked_at network writer reader).place ≡ place
 
-pub place_known : (kept : WorldKept) (config : Config) (network : WorldState) (writer reader : Endpoint) (place : ℕ)
+pub place_known : {hearing : Hearing} → (kept : WorldKept hearing) (config : Config) (network : WorldState) (writer reader : Endpoint) (place : ℕ)
     → StandsFor kept config network
     → place_at (machine_of network) reader writer ≡ Some place → PlaceKnown network writer reader place
 place_known kept config network writer reader place s at =
@@ -103,15 +103,15 @@ few_changes core config peer (suc i) s has =
 
 -- ---- one step
 
-pub went : {tests : AllTests} → (config : Config) (network : WorldState) (old : WorldKept) (ev : WorldEvent)
-    (reply : RoundReply) (new : WorldKept) → IsStep tests old ev reply new → StandsFor old config network
+pub went : {hearing : Hearing} → {tests : AllTests} → (config : Config) (network : WorldState) (old : WorldKept hearing) (ev : WorldEvent)
+    (reply : RoundReply) (new : WorldKept hearing) → IsStep tests old ev reply new → StandsFor old config network
     → Went tests config network old ev reply.reply new
 went config network old ev reply new step s = went_by config network old ev reply.reply new step.rules s
 
 -- the packets that were sent at it follow those before
-pub sent_by : {tests : AllTests}
-    → (config : Config) (network : WorldState) (old : WorldKept) (ev : WorldEvent) (reply : Reply) (lost : ℕ)
-    (after : WorldState) (new : WorldKept) → StandsFor old config network
+pub sent_by : {hearing : Hearing} → {tests : AllTests}
+    → (config : Config) (network : WorldState) (old : WorldKept hearing) (ev : WorldEvent) (reply : Reply) (lost : ℕ)
+    (after : WorldState) (new : WorldKept hearing) → StandsFor old config network
     → StandsFor new config (world_ended network ev after)
     → (r : RuledStep config tests network ev reply lost after) → new.sent ≡ old.sent ++ r.packets
 sent_by config network old ev reply lost after new s stands r =
@@ -148,9 +148,9 @@ whole_report tests config old peer k (Reported report) new whole step =
     record { report = report; is = refl; none = not_some report.refused whole }
 whole_report tests config old peer k reply new whole step = absurd cc
 
-pub delivers : {tests : AllTests}
-    → (config : Config) (network : WorldState) (old : WorldKept) (peer k : ℕ) (packet : Packet) (reply : Reply)
-    (new : WorldKept) → StandsFor old config network → slice_get old.sent (k - 1) ≡ Some packet → is_whole reply ≡ true
+pub delivers : {hearing : Hearing} → {tests : AllTests}
+    → (config : Config) (network : WorldState) (old : WorldKept hearing) (peer k : ℕ) (packet : Packet) (reply : Reply)
+    (new : WorldKept hearing) → StandsFor old config network → slice_get old.sent (k - 1) ≡ Some packet → is_whole reply ≡ true
     → (w : Went tests config network old (world.Deliver peer k) reply new)
     → Delivers config tests network peer packet w.step.lost w.after
 delivers {tests} config network old peer k packet reply new s at whole w =
@@ -172,26 +172,26 @@ both_are true b h = (refl, h)
 both_are false b h = absurd cc
 
 -- a run by the rules, and what is so after it
-pub record Ran (tests : AllTests) (config : Config) (network : WorldState) (old : WorldKept) (events : List WorldEvent)
-    (replies : List RoundReply) (new : WorldKept) (Then : WorldState → Type 0) : Type 0 where
+pub record Ran {hearing : Hearing} (tests : AllTests) (config : Config) (network : WorldState) (old : WorldKept hearing) (events : List WorldEvent)
+    (replies : List RoundReply) (new : WorldKept hearing) (Then : WorldState → Type 0) : Type 0 where
   pub after : WorldState
   pub run : RuledRun config tests network old.unsent events (replies_of replies) after new.unsent
   pub stands : StandsFor new config after
   pub then : Then after
 
 -- a run of no step
-ran_none : {tests : AllTests} → (config : Config) (network : WorldState) (old new : WorldKept)
+ran_none : {hearing : Hearing} → {tests : AllTests} → (config : Config) (network : WorldState) (old new : WorldKept hearing)
     {Then : WorldState → Type 0} → new ≡ old → StandsFor old config network → Then network
     → Ran tests config network old [] [] new Then
-ran_none config network old new same s so = record {
+ran_none {hearing} config network old new same s so = record {
   after = network;
-  run = (refl, ap (λ (k : WorldKept). k.unsent) same);
-  stands = subst (λ (k : WorldKept). StandsFor k config network) (sym same) s;
+  run = (refl, ap (λ (k : WorldKept hearing). k.unsent) same);
+  stands = subst (λ (k : WorldKept hearing). StandsFor k config network) (sym same) s;
   then = so;
 }
 
-pub ran : {tests : AllTests} → (config : Config) (network : WorldState) (old : WorldKept) (events : List WorldEvent)
-    (replies : List RoundReply) (new : WorldKept) → AreSteps tests old events replies new → StandsFor old config network
+pub ran : {hearing : Hearing} → {tests : AllTests} → (config : Config) (network : WorldState) (old : WorldKept hearing) (events : List WorldEvent)
+    (replies : List RoundReply) (new : WorldKept hearing) → AreSteps tests old events replies new → StandsFor old config network
     → Ran tests config network old events replies new (λ x. Unit {0})
 ran config network old [] [] new same s = ran_none config network old new same s tt
 ran config network old (e ∷ es) (r ∷ rs) new h s =
@@ -205,11 +205,11 @@ ran config network old (e ∷ es) [] new h s = absurd h
 no_less : (old lost new : ℕ) → new ≡ min (old + lost) (2 ^ 64 - 1) → old ≤ 2 ^ 64 - 1 → old ≤ new
 no_less old lost new is few = omega (arith, is, few)
 
-pub unsent_on : (tests : AllTests)
-    → (config : Config) (network : WorldState) (old : WorldKept) (events : List WorldEvent) (replies : List RoundReply)
-    (new : WorldKept) → AreSteps tests old events replies new → StandsFor old config network
+pub unsent_on : {hearing : Hearing} → (tests : AllTests)
+    → (config : Config) (network : WorldState) (old : WorldKept hearing) (events : List WorldEvent) (replies : List RoundReply)
+    (new : WorldKept hearing) → AreSteps tests old events replies new → StandsFor old config network
     → old.unsent ≤ new.unsent
-unsent_on tests config network old [] [] new same s = let e = ap (λ (k : WorldKept). k.unsent) same in omega (arith, e)
+unsent_on {hearing} tests config network old [] [] new same s = let e = ap (λ (k : WorldKept hearing). k.unsent) same in omega (arith, e)
 unsent_on tests config network old (e ∷ es) (r ∷ rs) new h s =
     let w = went config network old e r h.0 h.1 s in
     let first = no_less old.unsent w.step.lost h.0.unsent w.step.counted s.few in
@@ -219,16 +219,16 @@ unsent_on tests config network old [] (r ∷ rs) new h s = absurd h
 unsent_on tests config network old (e ∷ es) [] new h s = absurd h
 
 -- memory was found for this step, and for those after it, and after it as many are counted as unsent as these
-pub record FirstWhole (unsent : ℕ) (reply : RoundReply) (mid : WorldKept) (replies : List RoundReply) : Type 0 where
+pub record FirstWhole {hearing : Hearing} (unsent : ℕ) (reply : RoundReply) (mid : WorldKept hearing) (replies : List RoundReply) : Type 0 where
   pub whole : is_whole reply.reply ≡ true
   pub rest : are_whole replies ≡ true
   pub same : mid.unsent ≤ unsent
   pub more : unsent ≤ mid.unsent
 
 -- so it is with the first of steps that are whole, where no more are counted in the end
-pub first_whole : {tests : AllTests}
-    → (config : Config) (network : WorldState) (old : WorldKept) (ev : WorldEvent) (reply : RoundReply)
-    (mid : WorldKept) (events : List WorldEvent) (replies : List RoundReply) (new : WorldKept) (unsent : ℕ)
+pub first_whole : {hearing : Hearing} → {tests : AllTests}
+    → (config : Config) (network : WorldState) (old : WorldKept hearing) (ev : WorldEvent) (reply : RoundReply)
+    (mid : WorldKept hearing) (events : List WorldEvent) (replies : List RoundReply) (new : WorldKept hearing) (unsent : ℕ)
     → IsStep tests old ev reply mid → AreSteps tests mid events replies new → StandsFor old config network
     → are_whole (reply ∷ replies) ≡ true → new.unsent ≤ unsent → unsent ≤ old.unsent
     → FirstWhole unsent reply mid replies
@@ -249,12 +249,12 @@ none_of : (a b : Bool) → (a || b) ≡ false → (a ≡ false) × (b ≡ false)
 none_of true b h = absurd cc
 none_of false b h = (refl, h)
 
-pub unsent_shown : (tests : AllTests)
-    → (before : ℕ) (old : WorldKept) (events : List WorldEvent) (replies : List RoundReply) (new : WorldKept)
+pub unsent_shown : {hearing : Hearing} → (tests : AllTests)
+    → (before : ℕ) (old : WorldKept hearing) (events : List WorldEvent) (replies : List RoundReply) (new : WorldKept hearing)
     → AreSteps tests old events replies new → old.unsent ≤ before → has_unsent before replies ≡ false
     → new.unsent ≤ before
-unsent_shown tests before old [] [] new same low none =
-    let e = ap (λ (k : WorldKept). k.unsent) same in omega (arith, e, low)
+unsent_shown {hearing} tests before old [] [] new same low none =
+    let e = ap (λ (k : WorldKept hearing). k.unsent) same in omega (arith, e, low)
 unsent_shown tests before old (e ∷ es) (r ∷ rs) new h low none =
     let parts = none_of (nat_lt before r.unsent) (has_unsent before rs) none in
     let here = parts.0 in
@@ -268,9 +268,9 @@ pub none_lost : (old lost new : ℕ) → new ≡ min (old + lost) (2 ^ 64 - 1) �
 none_lost old lost new is same few = omega (arith, is, same, few)
 
 -- packets are delivered in turn, with memory for all of them
-pub deliver_all : {tests : AllTests}
-    → (config : Config) (peer first : ℕ) (packets : List Packet) (network : WorldState) (old : WorldKept)
-    (replies : List RoundReply) (new : WorldKept) → 1 ≤ first
+pub deliver_all : {hearing : Hearing} → {tests : AllTests}
+    → (config : Config) (peer first : ℕ) (packets : List Packet) (network : WorldState) (old : WorldKept hearing)
+    (replies : List RoundReply) (new : WorldKept hearing) → 1 ≤ first
     → ((k : ℕ) (p : Packet) → slice_get packets k ≡ Some p → slice_get old.sent (first + k - 1) ≡ Some p)
     → are_whole replies ≡ true
     → AreSteps tests old (map (λ k. world.Deliver peer k) (numbers_from first (length packets))) replies new

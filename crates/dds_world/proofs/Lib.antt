@@ -1,5 +1,4 @@
 pub mod Posted
-pub mod Recorded
 pub mod Replaced
 pub mod WorldSteps
 pub mod Sends

@@ -12,25 +12,27 @@ use Rattle.dds_base.specs.declared.config.PeerConfig.{PeerConfig}
 use Rattle.dds_base.specs.Checked.{has_bad_parameter, has_inconsistent_policy, check_refusal}
 use Rattle.dds_base.specs.Refusal.{Refuses}
 use Rattle.dds_notices.specs.declared.notice.Notice.{Notice}
-use Rattle.dds_notices.specs.Listeners.{Slotted}
-use Rattle.dds_notices.specs.Notices.{Recording}
+use Rattle.dds_notices.specs.Listeners.{Slotted, StandsFor as SlotsStandFor}
 use Rattle.dds_protocol.specs.declared.event.Packet.{Packet}
 use Rattle.dds_machine.specs.Numbered.{has_element, numbered}
 use Rattle.dds_protocol.specs.Opening.{opening_peers, opening_world}
 use Rattle.dds_protocol.specs.Peer.{no_peer}
 use Rattle.dds_protocol.proofs.Bounded.{opened_bounded}
 use Rattle.dds_protocol.proofs.CountsOpened.{opens_used}
-use Rattle.dds_protocol.proofs.Opened.{opens_sound}
+use Rattle.dds_protocol.proofs.Composed.{parts_at}
+use Rattle.dds_protocol.proofs.Opened.{opening_is, opens_sound}
 use Rattle.dds_protocol.proofs.OpenedPeers.{opens_known}
 use Rattle.dds_core.specs.Kept.{PeerKept}
 use Rattle.dds_core.specs.Opening.{core_refusal, opening_peer}
-use Rattle.dds_core.specs.Listening.{CoreKept, StandsFor as CoreStands}
+use Rattle.dds_core.specs.Listening.{CoreKept, StandsFor as CoreStands, no_listeners}
 use Rattle.dds_core.specs.Standing.{StandsFor as PeerStandsFor}
 use Rattle.dds_protocol.proofs.FiltersKept.{opens_no_filters_at}
-use Rattle.dds_world.specs.Holding.{Held, filters_of, kept_of, recordings}
-use Rattle.dds_world.specs.WorldStanding.{AreTold, StandsFor}
+use Rattle.dds_world.specs.Holding.{Held, filters_of, kept_of, none_given}
+use Rattle.dds_world.specs.WorldStanding.{StandsFor}
 use Rattle.dds_world.specs.Acting.{OpensFirst}
-use Rattle.dds_world.proofs.Recorded.{are_told}
+use Rattle.dds_machine.specs.Machine.{Machine, part_at}
+use Rattle.dds_machine.specs.Opening.{opening}
+use Rattle.dds_machine.specs.Part.{Part}
 
 -- how many peers a configuration has that is not refused
 
@@ -106,10 +108,11 @@ memory_refuses peers none = subst (λ (o : Option Code). Refuses o Memory) (sym 
 
 -- the peers, one after the other
 
-pub opens_none : {F L : Type 0} (notices : L → List Notice) (capacity : L → ℕ) (config : Config)
-    (kept : List (CoreKept F L)) → kept ≡ [] → OpensFirst notices capacity config 0 kept
-opens_none {F} {L} notices capacity config kept none =
-    subst (λ (ks : List (CoreKept F L)). OpensFirst notices capacity config 0 ks) (sym none)
+pub opens_none : {F L : Type 0} (notices : L → List Notice) (capacity : L → ℕ) (becomes : L → Notice → L → Type 0)
+    (config : Config)
+    (kept : List (CoreKept F L)) → kept ≡ [] → OpensFirst notices capacity becomes config 0 kept
+opens_none {F} {L} notices capacity becomes config kept none =
+    subst (λ (ks : List (CoreKept F L)). OpensFirst notices capacity becomes config 0 ks) (sym none)
     (record {
       counted = refl;
       each = λ i k at. absurd cc;
@@ -126,12 +129,13 @@ at_end [] y (suc j) x at = absurd cc
 at_end (z ∷ zs) y zero x at = inl at
 at_end (z ∷ zs) y (suc j) x at = ⊎_elim (λ e. inl e) (λ e. inr (ap suc e.0, e.1)) (at_end zs y j x at)
 
-pub opens_more : {F L : Type 0} (notices : L → List Notice) (capacity : L → ℕ) (config : Config) (i n : ℕ)
+pub opens_more : {F L : Type 0} (notices : L → List Notice) (capacity : L → ℕ) (becomes : L → Notice → L → Type 0)
+    (config : Config) (i n : ℕ)
     (old new : List (CoreKept F L)) (core : CoreKept F L) → n ≡ i + 1
-    → OpensFirst notices capacity config i old → CoreStands notices capacity core config (opening_peer config n)
+    → OpensFirst notices capacity becomes config i old → CoreStands notices capacity becomes (no_listeners (opening_peer config n).part) core config (opening_peer config n)
     → core.filtered.filters ≡ []
-    → check_refusal config.peers ≡ None → new ≡ old ++ core ∷ [] → OpensFirst notices capacity config (i + 1) new
-opens_more {F} {L} notices capacity config i n old new core is so stands none taken items =
+    → check_refusal config.peers ≡ None → new ≡ old ++ core ∷ [] → OpensFirst notices capacity becomes config (i + 1) new
+opens_more {F} {L} notices capacity becomes config i n old new core is so stands none taken items =
     let counted = so.counted in
     let total = length-append old (core ∷ []) in
     let length_is = ap (λ (ks : List (CoreKept F L)). length ks) items in
@@ -139,13 +143,16 @@ opens_more {F} {L} notices capacity config i n old new core is so stands none ta
     → (slice_get old j ≡ Some k) ⊎ ((j ≡ length old) × (core ≡ k)) =
     λ j k at. at_end old core j k (subst (λ (ks : List (CoreKept F L)). slice_get ks j ≡ Some k) items at) in
     let each : (j : ℕ) (k : CoreKept F L) → slice_get new j ≡ Some k
-    → CoreStands notices capacity k config (opening_peer config (j + 1)) = λ j k at.
+    → CoreStands notices capacity becomes (no_listeners (opening_peer config (j + 1)).part) k config
+    (opening_peer config (j + 1)) = λ j k at.
     ⊎_elim (λ o. so.each j k o)
     (λ last.
     let j_is = last.0 in
     let same : n ≡ j + 1 = omega (arith, is, j_is, counted) in
-    subst (λ (m : ℕ). CoreStands notices capacity k config (opening_peer config m)) same
-    (subst (λ (x : CoreKept F L). CoreStands notices capacity x config (opening_peer config n)) last.1 stands))
+    subst (λ (m : ℕ). CoreStands notices capacity becomes (no_listeners (opening_peer config m).part) k config
+    (opening_peer config m)) same
+    (subst (λ (x : CoreKept F L). CoreStands notices capacity becomes (no_listeners (opening_peer config n).part) x config
+    (opening_peer config n)) last.1 stands))
     (before j k at) in
     record {
       counted = omega (arith, counted, total, length_is);
@@ -188,18 +195,23 @@ none_counted [] none i = get_or-none i 0
 none_counted (c ∷ cs) none zero = ap (λ fs. length fs) (none zero c refl)
 none_counted (c ∷ cs) none (suc i) = none_counted cs (λ j k at. none (suc j) k at) i
 
-pub no_filters_at : {F L : Type 0} (notices : L → List Notice) (capacity : L → ℕ) (config : Config) (count : ℕ)
-    (held : Held F L) → OpensFirst notices capacity config count held.cores → (peer : ℕ)
+pub no_filters_at : {F L : Type 0} (notices : L → List Notice) (capacity : L → ℕ) (becomes : L → Notice → L → Type 0)
+    (config : Config) (count : ℕ)
+    (held : Held F L) → OpensFirst notices capacity becomes config count held.cores → (peer : ℕ)
     → numbered (filters_of held) peer [] ≡ []
-no_filters_at notices capacity config count held all zero = refl
-no_filters_at notices capacity config count held all (suc i) = none_at held.cores all.none i
+no_filters_at notices capacity becomes config count held all zero = refl
+no_filters_at notices capacity becomes config count held all (suc i) = none_at held.cores all.none i
 
-pub opened : {F L : Type 0} (notices : L → List Notice) (capacity : L → ℕ) (config : Config) (held : Held F L)
-    → OpensFirst notices capacity config (length config.peers) held.cores
-    → held.sent ≡ [] → held.unsent ≡ 0 → StandsFor (kept_of notices capacity held) config (opening_world config)
-opened {F} {L} notices capacity config held all none quiet =
+pub opened : {F L : Type 0} (notices : L → List Notice) (capacity : L → ℕ) (becomes : L → Notice → L → Type 0)
+    (config : Config) (held : Held F L)
+    → OpensFirst notices capacity becomes config (length config.peers) held.cores
+    → held.sent ≡ [] → held.unsent ≡ 0 → StandsFor (kept_of notices capacity becomes (none_given (opening config)) held) config
+    (opening_world config)
+opened {F} {L} notices capacity becomes config held all none quiet =
     let f : CoreKept F L → PeerKept = λ c. c.filtered.peer in
-    let g : CoreKept F L → Slotted Recording = λ c. recordings notices capacity c.listeners in
+    let g : CoreKept F L → Slotted L = λ c. c.listeners in
+    let parts : (number : ℕ) → part_at (opening config) number ≡ (opening_peer config number).part = λ number.
+    ap (λ (m : Machine). part_at m number) (sym (opening_is config)) ∙ parts_at (opening_world config) number in
     record {
       count = peers_count config.peers 1 config.peers ∙ (sym all.counted ∙ sym (length-map held.cores f));
       each = λ i k at.
@@ -214,9 +226,12 @@ opened {F} {L} notices capacity config held all none quiet =
       listeners = λ i k at.
           let next : i + 1 ≡ suc i = omega arith in
           let own = seen_of g held.cores i k at in
-          subst (λ (x : Slotted Recording). AreTold x (opening_peer config (suc i)).part.dds.listeners) own.2
-          (subst (λ (n : ℕ). AreTold (g own.0) (opening_peer config n).part.dds.listeners) next
-          (are_told notices capacity own.0.listeners (opening_peer config (i + 1)).part.dds.listeners
+          subst (λ (x : Slotted L). SlotsStandFor notices capacity becomes (none_given (opening config) (suc i)) x
+          (opening_peer config (suc i)).part.dds.listeners) own.2
+          (subst (λ (p : Part). SlotsStandFor notices capacity becomes (no_listeners p) own.0.listeners
+          (opening_peer config (suc i)).part.dds.listeners) (sym (parts (suc i)))
+          (subst (λ (n : ℕ). SlotsStandFor notices capacity becomes (no_listeners (opening_peer config n).part)
+          own.0.listeners (opening_peer config n).part.dds.listeners) next
           (all.each i own.0 own.1).listeners));
       sent = sym none;
       sound = opens_sound config;

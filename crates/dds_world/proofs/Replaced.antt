@@ -1,8 +1,7 @@
 -- A network in which the peer of one index is another one.
 use Rattle.std.proofs.Common.{◌≡◌, ℕ, zero, suc, ◌-◌, ◌^◌, ◌<◌, ◌≤◌, List, [], ◌∷◌, Some, length, set, get_or, slice_get, refl, ap, sym, ◌∙◌, subst, arith, length-set, get_or-set_same}
 use Rattle.dds_base.specs.declared.config.Config.{Config}
-use Rattle.dds_notices.specs.Listeners.{Slotted}
-use Rattle.dds_notices.specs.Notices.{Recording}
+use Rattle.dds_notices.specs.Listeners.{Places}
 use Rattle.dds_protocol.specs.declared.event.Packet.{Packet}
 use Rattle.dds_machine.specs.declared.event.WorldEvent.{WorldEvent}
 use Rattle.dds_protocol.specs.Bounds.{IsBounded}
@@ -15,8 +14,8 @@ use Rattle.dds_protocol.specs.World.{Sound, WorldState, machine_of, peer_at}
 use Rattle.dds_core.specs.Kept.{PeerKept}
 use Rattle.dds_core.specs.Sending.{AreMessages}
 use Rattle.dds_core.specs.Standing.{StandsFor as CoreStandsFor, IsSound}
-use Rattle.dds_core.proofs.Lists.{each_set}
-use Rattle.dds_world.specs.WorldStanding.{AreTold, StandsFor, WorldKept}
+use Rattle.dds_core.proofs.Lists.{each_set, each_set_at}
+use Rattle.dds_world.specs.WorldStanding.{StandsFor, WorldKept}
 
 -- the network in which one peer is another, and these packets were sent
 abbrev pub with_peer : WorldState → ℕ → Peer → List Packet → WorldState
@@ -55,23 +54,25 @@ ended_at network whole i stepped sent is low =
     { peers = with_numbered next.peers n (peer_at_end (peer_at network n) (peer_at next n)) }
     ≡ with_peer network i end sent) (sym is) here
 
--- what the network stands for with it
-pub peer_stands : (kept new : WorldKept) (config : Config) (network : WorldState) (i : ℕ) (after : PeerKept)
-    (left : Slotted Recording) (p : Peer) (sent : List Packet)
+-- what the network stands for with it, where the others are heard as before
+pub peer_stands : {K : Type 0} (before later : ℕ → K → Places → Type 0)
+    (kept : WorldKept (record { Kept = K; stands = before })) (new : WorldKept (record { Kept = K; stands = later }))
+    (config : Config) (network : WorldState) (i : ℕ) (after : PeerKept) (left : K) (p : Peer) (sent : List Packet)
     → StandsFor kept config network → new.peers ≡ set kept.peers i after → new.listeners ≡ set kept.listeners i left
+    → ((j : ℕ) (k : K) (places : Places) → (j ≡ i → ⊥) → before (suc j) k places → later (suc j) k places)
     → ((j : ℕ) → (get_or (set network.peers i p) j no_peer).part.dds.watch.filters ≡ get_or new.filters j 0)
-    → CoreStandsFor after config p → AreTold left p.part.dds.listeners → IsSound config p
+    → CoreStandsFor after config p → later (suc i) left p.part.dds.listeners → IsSound config p
     → sent ≡ new.sent → AreMessages new.sent → new.unsent ≤ 2 ^ 64 - 1
     → Sound config (with_peer network i p sent) → HasUsedCounts config (with_peer network i p sent)
     → IsBounded (machine_of (with_peer network i p sent))
     → StandsFor new config (with_peer network i p sent)
-peer_stands kept new config network i after left p sent s peers listeners filters stands told known is messages few
-    sound used bounded =
+peer_stands {K} before later kept new config network i after left p sent s peers listeners others filters stands told
+    known is messages few sound used bounded =
     let c1 = length-set network.peers i p in
     let c2 = length-set kept.peers i after in
     let c3 = ap (λ (ks : List PeerKept). length ks) peers in
     let d2 = length-set kept.listeners i left in
-    let d3 = ap (λ (ks : List (Slotted Recording)). length ks) listeners in
+    let d3 = ap (λ (ks : List K). length ks) listeners in
     let count = s.count in
     let listened = s.listened in
     record {
@@ -87,9 +88,10 @@ peer_stands kept new config network i after left p sent s peers listeners filter
       filters = filters;
       listened = omega (arith, c1, d2, d3, listened);
       listeners =
-          λ j k at. each_set (λ (x : Slotted Recording) (q : Peer). AreTold x q.part.dds.listeners) kept.listeners
-          network.peers i left p no_peer s.listened s.listeners told j k
-          (subst (λ (ks : List (Slotted Recording)). slice_get ks j ≡ Some k) listeners at);
+          λ j k at. each_set_at (λ (n : ℕ) (x : K) (q r : Peer). later (suc n) x q.part.dds.listeners) kept.listeners
+          network.peers network.peers i left p no_peer p no_peer s.listened s.listened
+          (λ n x other found. others n x _ other (s.listeners n x found)) told j k
+          (subst (λ (ks : List K). slice_get ks j ≡ Some k) listeners at);
       sent = is;
       sound = sound;
       messages = messages;

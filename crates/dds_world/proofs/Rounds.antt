@@ -1,9 +1,10 @@
 -- The stages of a round, and the round that they make.
 use Rattle.std.proofs.Common.{◌≡◌, ◌⊎◌, ℕ, zero, suc, ◌+◌, ◌-◌, ◌<◌, ◌≤◌, List, [], ◌∷◌, ◌++◌, Option, Some, None, map, length, get_or, slice_get, refl, ap, sym, ◌∙◌, subst, inl, inr, ⊎_elim, append_assoc, arith}
-use Rattle.std.specs.Prelude.{IsSome, is_some, if◌then◌else◌}
+use Rattle.std.specs.Prelude.{Result, Ok, Err, IfErr, IsErrAnd, IsSome, is_some, if◌then◌else◌}
 use Rattle.std.proofs.lemmas.List.{append-nil}
 use Rattle.std.proofs.lemmas.Option.{same_Some, slice_get_read, slice_get_within}
-use Rattle.dds_base.specs.declared.code.Code.TheVariants.{BadParameter}
+use Rattle.dds_base.specs.declared.code.Code.{Code}
+use Rattle.dds_base.specs.declared.code.Code.TheVariants.{BadParameter, Memory}
 use Rattle.dds_base.specs.declared.config.Config.{Config}
 use Rattle.dds_base.specs.Refusal.{Refuses}
 use Rattle.dds_base.specs.Kept.{numbers_from}
@@ -28,8 +29,8 @@ use Rattle.dds_core.specs.Standing.{StandsFor as CoreStandsFor}
 use Rattle.dds_world.specs.declared.round.Matched.{Matched}
 use Rattle.dds_world.specs.declared.round.RoundReply.{RoundReply}
 use Rattle.dds_world.specs.Repairing.{Knows, IsKnown, NotMatched, Stage, Answering, Acknowledging, Beating}
-use Rattle.dds_world.specs.Round.{AreMatched, RefusesRound, IsStep, AreSteps, IsTo, HasNone, IsFirst, heartbeat_of, acknack_of, answers_at, AfterHeartbeat, AfterTick, IsRound}
-use Rattle.dds_world.specs.WorldStanding.{WorldKept, StandsFor, MachineStands, KeepsRules}
+use Rattle.dds_world.specs.Round.{AreMatched, RefusesRound, IsStep, AreSteps, IsTo, HasNone, IsFirst, heartbeat_of, acknack_of, answers_at, AfterHeartbeat, AfterTick, IsRound, round_refusal}
+use Rattle.dds_world.specs.WorldStanding.{Hearing, WorldKept, StandsFor, MachineStands, KeepsRules}
 use Rattle.dds_world.proofs.Sends.{numbered_so}
 
 -- ---- what was sent stays
@@ -55,13 +56,13 @@ world_grows config tests old (world.Deliver peer k) reply new step =
     ⊎_elim (λ p. (p.3.posted, ap (λ (w : WorldState). w.sent) p.3.changed))
     (λ r. grows_same old.sent new.sent (ap (λ (w : WorldState). w.sent) r.1.after)) step
 
-record GoesOn (config : Config) (old new : WorldKept) : Type 0 where
+record GoesOn {hearing : Hearing} (config : Config) (old new : WorldKept hearing) : Type 0 where
   after : WorldState
   stands : StandsFor new config after
   grows : Grows old.sent new.sent
 
-step_on : (tests : AllTests) → (config : Config) (network : WorldState) (old : WorldKept) (ev : WorldEvent)
-    (reply : Reply) (new : WorldKept) → KeepsRules tests old ev reply new → StandsFor old config network
+step_on : {hearing : Hearing} → (tests : AllTests) → (config : Config) (network : WorldState) (old : WorldKept hearing) (ev : WorldEvent)
+    (reply : Reply) (new : WorldKept hearing) → KeepsRules tests old ev reply new → StandsFor old config network
     → GoesOn config old new
 step_on tests config network old ev reply new steps s =
     let t = steps config network s in
@@ -72,13 +73,13 @@ step_on tests config network old ev reply new steps s =
       grows = (g.0, sym t.2.sent ∙ (g.1 ∙ ap (λ (ps : List Packet). ps ++ g.0) s.sent));
     }
 
-steps_on : (tests : AllTests) → (config : Config) (network : WorldState) (old : WorldKept) (events : List WorldEvent)
-    (replies : List RoundReply) (new : WorldKept) → AreSteps tests old events replies new → StandsFor old config network
+steps_on : {hearing : Hearing} → (tests : AllTests) → (config : Config) (network : WorldState) (old : WorldKept hearing) (events : List WorldEvent)
+    (replies : List RoundReply) (new : WorldKept hearing) → AreSteps tests old events replies new → StandsFor old config network
     → GoesOn config old new
-steps_on tests config network old [] [] new same s = record {
+steps_on {hearing} tests config network old [] [] new same s = record {
   after = network;
-  stands = subst (λ (k : WorldKept). StandsFor k config network) (sym same) s;
-  grows = grows_same old.sent new.sent (ap (λ (k : WorldKept). k.sent) same);
+  stands = subst (λ (k : WorldKept hearing). StandsFor k config network) (sym same) s;
+  grows = grows_same old.sent new.sent (ap (λ (k : WorldKept hearing). k.sent) same);
 }
 steps_on tests config network old (e ∷ es) (r ∷ rs) new h s =
     let first = step_on tests config network old e r.reply h.0 h.1.rules s in
@@ -126,31 +127,31 @@ first_on Is old new from to k g high f =
 -- ---- steps one after the other
 
 -- one more step
-pub steps_more : {tests : AllTests}
-    → (old : WorldKept) (events : List WorldEvent) (replies : List RoundReply) (mid : WorldKept) (ev : WorldEvent)
-    (reply : RoundReply) (new : WorldKept) → AreSteps tests old events replies mid → IsStep tests mid ev reply new
+pub steps_more : {hearing : Hearing} → {tests : AllTests}
+    → (old : WorldKept hearing) (events : List WorldEvent) (replies : List RoundReply) (mid : WorldKept hearing) (ev : WorldEvent)
+    (reply : RoundReply) (new : WorldKept hearing) → AreSteps tests old events replies mid → IsStep tests mid ev reply new
     → AreSteps tests old (events ++ ev ∷ []) (replies ++ reply ∷ []) new
-steps_more {tests} old [] [] mid ev reply new same step =
-    (new, subst (λ (k : WorldKept). IsStep tests k ev reply new) same step, refl)
+steps_more {hearing} {tests} old [] [] mid ev reply new same step =
+    (new, subst (λ (k : WorldKept hearing). IsStep tests k ev reply new) same step, refl)
 steps_more old (e ∷ es) (r ∷ rs) mid ev reply new h step = (h.0, h.1, steps_more h.0 es rs mid ev reply new h.2 step)
 steps_more old [] (r ∷ rs) mid ev reply new h step = absurd h
 steps_more old (e ∷ es) [] mid ev reply new h step = absurd h
 
 -- what is said of these events, replies and states is said of those that they are
-said_of : (P : List WorldEvent → List RoundReply → WorldKept → Type 0) (events later : List WorldEvent)
-    (replies rest : List RoundReply) (new last : WorldKept)
+said_of : {hearing : Hearing} → (P : List WorldEvent → List RoundReply → WorldKept hearing → Type 0) (events later : List WorldEvent)
+    (replies rest : List RoundReply) (new last : WorldKept hearing)
     → events ≡ later → replies ≡ rest → new ≡ last → P later rest last → P events replies new
-said_of P events later replies rest new last e r n h =
+said_of {hearing} P events later replies rest new last e r n h =
     subst (λ (es : List WorldEvent). P es replies new) (sym e)
-    (subst (λ (rs : List RoundReply). P later rs new) (sym r) (subst (λ (k : WorldKept). P later rest k) (sym n) h))
+    (subst (λ (rs : List RoundReply). P later rs new) (sym r) (subst (λ (k : WorldKept hearing). P later rest k) (sym n) h))
 
 -- what is so where there is no such packet, and where the first one is delivered and it goes on so, is so of the stage
-pub stage_is : {tests : AllTests}
-    → (Is : Packet → Type 0) (from peer : ℕ) (Next : WorldKept → List WorldEvent → List RoundReply → WorldKept → Type 0)
-    (old : WorldKept) (events : List WorldEvent) (replies : List RoundReply) (new : WorldKept)
-    (P : List WorldEvent → List RoundReply → WorldKept → Type 0)
+pub stage_is : {hearing : Hearing} → {tests : AllTests}
+    → (Is : Packet → Type 0) (from peer : ℕ) (Next : WorldKept hearing → List WorldEvent → List RoundReply → WorldKept hearing → Type 0)
+    (old : WorldKept hearing) (events : List WorldEvent) (replies : List RoundReply) (new : WorldKept hearing)
+    (P : List WorldEvent → List RoundReply → WorldKept hearing → Type 0)
     → (HasNone Is old.sent from (length old.sent) → P [] [] old)
-    → ((k : ℕ) (reply : RoundReply) (mid : WorldKept) (later : List WorldEvent) (rest : List RoundReply)
+    → ((k : ℕ) (reply : RoundReply) (mid : WorldKept hearing) (later : List WorldEvent) (rest : List RoundReply)
     → IsFirst Is old.sent from (length old.sent) k → IsStep tests old (world.Deliver peer k) reply mid
     → Next mid later rest new → P (world.Deliver peer k ∷ later) (reply ∷ rest) new)
     → Stage tests Is from peer Next old events replies new → P events replies new
@@ -160,32 +161,32 @@ stage_is Is from peer Next old events replies new P none goes h =
     (goes f.0 f.1 f.2 f.3 f.4 f.5 f.6 f.9)) h
 
 -- what goes on so goes by steps
-abbrev pub BySteps : AllTests → (WorldKept → List WorldEvent → List RoundReply → WorldKept → Type 0) → WorldKept
+abbrev pub BySteps : {hearing : Hearing} → AllTests → (WorldKept hearing → List WorldEvent → List RoundReply → WorldKept hearing → Type 0) → WorldKept hearing
     → Type 0
-BySteps tests Next new =
-    (mid : WorldKept) (events : List WorldEvent) (replies : List RoundReply) → Next mid events replies new
+BySteps {hearing} tests Next new =
+    (mid : WorldKept hearing) (events : List WorldEvent) (replies : List RoundReply) → Next mid events replies new
     → AreSteps tests mid events replies new
 
 -- a stage goes by steps, where what follows does
-stage_steps : {tests : AllTests}
-    → (Is : Packet → Type 0) (from peer : ℕ) (Next : WorldKept → List WorldEvent → List RoundReply → WorldKept → Type 0)
-    (old : WorldKept) (events : List WorldEvent) (replies : List RoundReply) (new : WorldKept) → BySteps tests Next new
+stage_steps : {hearing : Hearing} → {tests : AllTests}
+    → (Is : Packet → Type 0) (from peer : ℕ) (Next : WorldKept hearing → List WorldEvent → List RoundReply → WorldKept hearing → Type 0)
+    (old : WorldKept hearing) (events : List WorldEvent) (replies : List RoundReply) (new : WorldKept hearing) → BySteps tests Next new
     → Stage tests Is from peer Next old events replies new → AreSteps tests old events replies new
 stage_steps {tests} Is from peer Next old events replies new next h =
     stage_is Is from peer Next old events replies new (λ es rs k. AreSteps tests old es rs k) (λ none. refl)
     (λ k reply mid later rest first step goes. (mid, step, next mid later rest goes)) h
 
-pub acks_steps : {tests : AllTests}
-    → (m : Matched) (from : ℕ) (old : WorldKept) (events : List WorldEvent) (replies : List RoundReply)
-    (new : WorldKept) → Acknowledging tests m from old events replies new → AreSteps tests old events replies new
+pub acks_steps : {hearing : Hearing} → {tests : AllTests}
+    → (m : Matched) (from : ℕ) (old : WorldKept hearing) (events : List WorldEvent) (replies : List RoundReply)
+    (new : WorldKept hearing) → Acknowledging tests m from old events replies new → AreSteps tests old events replies new
 acks_steps {tests} m from old events replies new h =
     stage_steps (IsTo m.writer.peer (sought.AckNack m.pair.reader m.pair.writer)) from m.writer.peer
     (Answering tests m (length old.sent)) old events replies new
     (λ mid es rs a. a.1) h
 
-pub beats_steps : {tests : AllTests}
-    → (m : Matched) (from : ℕ) (old : WorldKept) (events : List WorldEvent) (replies : List RoundReply)
-    (new : WorldKept) → Beating tests m from old events replies new → AreSteps tests old events replies new
+pub beats_steps : {hearing : Hearing} → {tests : AllTests}
+    → (m : Matched) (from : ℕ) (old : WorldKept hearing) (events : List WorldEvent) (replies : List RoundReply)
+    (new : WorldKept hearing) → Beating tests m from old events replies new → AreSteps tests old events replies new
 beats_steps {tests} m from old events replies new h =
     stage_steps (IsTo m.reader.peer (sought.Heartbeat m.pair.writer)) from m.reader.peer
     (Acknowledging tests m (length old.sent)) old events replies new
@@ -202,9 +203,9 @@ answer_more peer first (suc count) =
     ∙ ap (λ (k : ℕ). world.Deliver peer first
     ∷ (map (λ k. world.Deliver peer k) (numbers_from (first + 1) count) ++ world.Deliver peer k ∷ [])) next
 
-pub answered_more : {tests : AllTests}
-    → (old : WorldKept) (peer from index count packet : ℕ) (replies : List RoundReply) (mid : WorldKept)
-    (reply : RoundReply) (new : WorldKept) → count ≡ index + 1 → packet ≡ from + index + 1
+pub answered_more : {hearing : Hearing} → {tests : AllTests}
+    → (old : WorldKept hearing) (peer from index count packet : ℕ) (replies : List RoundReply) (mid : WorldKept hearing)
+    (reply : RoundReply) (new : WorldKept hearing) → count ≡ index + 1 → packet ≡ from + index + 1
     → AreSteps tests old (map (λ k. world.Deliver peer k) (numbers_from (from + 1) index)) replies mid
     → IsStep tests mid (world.Deliver peer packet) reply new
     → AreSteps tests old (map (λ k. world.Deliver peer k) (numbers_from (from + 1) count)) (replies ++ reply ∷ []) new
@@ -232,14 +233,14 @@ heartbeat_is config network m k = let w = k.writer in cc
 
 -- What is so of what was sent before, where there is no such packet, and of what was sent in the end, where the first
 -- one is delivered and it goes on so, is so of the stage. What is looked for is this submessage.
-stage_in_round : {tests : AllTests}
+stage_in_round : {hearing : Hearing} → {tests : AllTests}
     → (config : Config) (network : WorldState) {wanted known : Sought} (from peer : ℕ)
-    (Next : WorldKept → List WorldEvent → List RoundReply → WorldKept → Type 0) (old : WorldKept)
-    (events : List WorldEvent) (replies : List RoundReply) (new : WorldKept)
+    (Next : WorldKept hearing → List WorldEvent → List RoundReply → WorldKept hearing → Type 0) (old : WorldKept hearing)
+    (events : List WorldEvent) (replies : List RoundReply) (new : WorldKept hearing)
     (After : List Packet → List WorldEvent → List RoundReply → Type 0) → wanted ≡ known → StandsFor old config network
     → BySteps tests Next new
     → (HasNone (IsTo peer known) old.sent from (length old.sent) → After old.sent [] [])
-    → ((k : ℕ) (reply : RoundReply) (mid : WorldKept) (later : List WorldEvent) (rest : List RoundReply)
+    → ((k : ℕ) (reply : RoundReply) (mid : WorldKept hearing) (later : List WorldEvent) (rest : List RoundReply)
     → IsFirst (IsTo peer known) new.sent from (length old.sent) k → GoesOn config old mid
     → reply.sent ≡ length mid.sent → Next mid later rest new
     → After new.sent (world.Deliver peer k ∷ later) (reply ∷ rest))
@@ -258,9 +259,9 @@ stage_in_round {tests} config network {wanted} from peer Next old events replies
     (step_on tests config network old ev reply.reply mid step.rules s) step.sent on) h
 
 -- the stage after the HEARTBEAT is that of a round
-after_heartbeat : {tests : AllTests}
-    → (config : Config) (network known : WorldState) (m : Matched) (from : ℕ) (old : WorldKept)
-    (events : List WorldEvent) (replies : List RoundReply) (new : WorldKept) → Knows config known m
+after_heartbeat : {hearing : Hearing} → {tests : AllTests}
+    → (config : Config) (network known : WorldState) (m : Matched) (from : ℕ) (old : WorldKept hearing)
+    (events : List WorldEvent) (replies : List RoundReply) (new : WorldKept hearing) → Knows config known m
     → StandsFor old config network
     → Acknowledging tests m from old events replies new
     → AfterHeartbeat config m.writer m.reader new.sent from (length old.sent) events replies
@@ -272,8 +273,8 @@ after_heartbeat {tests} config network known m from old events replies new k s h
     (refl, first, subst (λ (n : ℕ). later ≡ answers_at m.reader.peer (length old.sent) n) (sym sent) a.0)) h
 
 -- the stage after the tick is that of a round
-after_tick : {tests : AllTests} → (config : Config) (network known : WorldState) (m : Matched) (from : ℕ)
-    (old : WorldKept) (events : List WorldEvent) (replies : List RoundReply) (new : WorldKept) → Knows config known m
+after_tick : {hearing : Hearing} → {tests : AllTests} → (config : Config) (network known : WorldState) (m : Matched) (from : ℕ)
+    (old : WorldKept hearing) (events : List WorldEvent) (replies : List RoundReply) (new : WorldKept hearing) → Knows config known m
     → StandsFor old config network
     → Beating tests m from old events replies new
     → AfterTick config m.writer m.reader new.sent from (length old.sent) events replies
@@ -288,9 +289,9 @@ after_tick {tests} config network known m from old events replies new k s h =
           (after_heartbeat config on.after known m (length old.sent) mid later rest new k on.stands a),
     )) h
 
-pub round_is : {tests : AllTests}
-    → (old : WorldKept) (m : Matched) (ticked : RoundReply) (mid : WorldKept) (events : List WorldEvent)
-    (replies : List RoundReply) (new : WorldKept) → IsKnown old m
+pub round_is : {hearing : Hearing} → {tests : AllTests}
+    → (old : WorldKept hearing) (m : Matched) (ticked : RoundReply) (mid : WorldKept hearing) (events : List WorldEvent)
+    (replies : List RoundReply) (new : WorldKept hearing) → IsKnown old m
     → IsStep tests old (world.Tick m.writer.peer m.moment) ticked mid
     → Beating tests m (length old.sent) mid events replies new → (config : Config) (network : WorldState)
     → StandsFor old config network
@@ -317,7 +318,7 @@ record IsPeerAt (config : Config) (network : WorldState) (kept : PeerKept) (numb
   numbered : peer.number ≡ number
   part : part_at (machine_of network) number ≡ peer.part
 
-peer_is : (kept : WorldKept) (i number : ℕ) (core : PeerKept) (config : Config) (network : WorldState)
+peer_is : {hearing : Hearing} → (kept : WorldKept hearing) (i number : ℕ) (core : PeerKept) (config : Config) (network : WorldState)
     → StandsFor kept config network → number ≡ i + 1 → slice_get kept.peers i ≡ Some core
     → IsPeerAt config network core number
 peer_is kept i number core config network s is at =
@@ -330,7 +331,7 @@ peer_is kept i number core config network s is at =
     } in
     subst (λ (n : ℕ). IsPeerAt config network core n) next here
 
-pub no_pair_matched : (kept : WorldKept) (i : ℕ) (core : PeerKept) (writer reader : Endpoint) → writer.peer ≡ i + 1
+pub no_pair_matched : {hearing : Hearing} → (kept : WorldKept hearing) (i : ℕ) (core : PeerKept) (writer reader : Endpoint) → writer.peer ≡ i + 1
     → slice_get kept.peers i ≡ Some core
     → ((config : Config) (peer : Peer) → CoreStandsFor core config peer → IsPair config peer writer.number reader None)
     → NotMatched kept writer reader
@@ -339,7 +340,7 @@ no_pair_matched kept i core writer reader is at none = λ config network s.
     subst (λ (part : Part). acknowledged_of (own_writer part writer.number).readers reader ≡ None) (sym p.part)
     (none config p.peer p.stands)
 
-pub pair_matched : (kept : WorldKept) (i : ℕ) (core : PeerKept) (writer reader : Endpoint) (pair : Pair) (now : ℕ)
+pub pair_matched : {hearing : Hearing} → (kept : WorldKept hearing) (i : ℕ) (core : PeerKept) (writer reader : Endpoint) (pair : Pair) (now : ℕ)
     → writer.peer ≡ i + 1 → slice_get kept.peers i ≡ Some core
     → ((config : Config) (peer : Peer) → CoreStandsFor core config peer
     → IsPair config peer writer.number reader (Some pair))
@@ -362,12 +363,12 @@ pair_matched kept i core writer reader pair now is at found moment = λ config n
 -- ---- the place of a reader
 
 -- the place, in each state that the network stands for
-abbrev pub IsPlace : WorldKept → Endpoint → Endpoint → Option ℕ → Type 0
+abbrev pub IsPlace : {hearing : Hearing} → WorldKept hearing → Endpoint → Endpoint → Option ℕ → Type 0
 IsPlace kept reader writer place =
     (config : Config) (network : WorldState) → StandsFor kept config network
     → place ≡ place_at (machine_of network) reader writer
 
-pub place_kept : (kept : WorldKept) (i : ℕ) (core : PeerKept) (reader writer : Endpoint) (place : Option ℕ)
+pub place_kept : {hearing : Hearing} → (kept : WorldKept hearing) (i : ℕ) (core : PeerKept) (reader writer : Endpoint) (place : Option ℕ)
     → reader.peer ≡ i + 1
     → slice_get kept.peers i ≡ Some core
     → ((config : Config) (peer : Peer) → CoreStandsFor core config peer
@@ -383,12 +384,12 @@ no_cause : (o : Option ℕ) → IsSome o → (if is_some o then None else Some B
 no_cause None h = cc
 no_cause (Some x) h = refl
 
-pub are_matched : (kept : WorldKept) (m : Matched) → IsKnown kept m → AreMatched kept m.writer m.reader
+pub are_matched : {hearing : Hearing} → (kept : WorldKept hearing) (m : Matched) → IsKnown kept m → AreMatched kept m.writer m.reader
 are_matched kept m known config network s =
     no_cause (acknowledged_of (writer_at (machine_of network) m.writer).readers m.reader)
     (known config network s).matched
 
-pub not_matched : (kept : WorldKept) (writer reader : Endpoint) → NotMatched kept writer reader
+pub not_matched : {hearing : Hearing} → (kept : WorldKept hearing) (writer reader : Endpoint) → NotMatched kept writer reader
     → RefusesRound kept writer reader BadParameter
 not_matched kept writer reader none config network s =
     subst (λ (o : Option ℕ). Refuses (if is_some o then None else Some BadParameter) BadParameter)
@@ -400,19 +401,19 @@ nothing_less (Some x) None h is = absurd h
 nothing_less (Some x) (Some y) h is = cc
 
 -- so it is of each machine for which the network stands
-pub place_in : (kept : WorldKept) (reader writer : Endpoint) (place : Option ℕ) → IsPlace kept reader writer place
+pub place_in : {hearing : Hearing} → (kept : WorldKept hearing) (reader writer : Endpoint) (place : Option ℕ) → IsPlace kept reader writer place
     → (config : Config) (m : Machine) → MachineStands kept config m → place ≡ place_at m reader writer
 place_in kept reader writer place is config m stands =
     is config stands.0 stands.2 ∙ ap (λ (x : Machine). place_at x reader writer) stands.1
 
 -- and of each of its states where it is of each such machine
-pub place_of_machine : (kept : WorldKept) (reader writer : Endpoint) (place : Option ℕ)
+pub place_of_machine : {hearing : Hearing} → (kept : WorldKept hearing) (reader writer : Endpoint) (place : Option ℕ)
     → ((config : Config) (m : Machine) → MachineStands kept config m → place ≡ place_at m reader writer)
     → IsPlace kept reader writer place
 place_of_machine kept reader writer place is config network s = is config (machine_of network) (network, refl, s)
 
 -- without a place they are not matched
-pub not_placed : (kept : WorldKept) (writer reader : Endpoint) → IsPlace kept reader writer None
+pub not_placed : {hearing : Hearing} → (kept : WorldKept hearing) (writer reader : Endpoint) → IsPlace kept reader writer None
     → NotMatched kept writer reader
 not_placed kept writer reader none config network s =
     nothing_less (acknowledged_of (writer_at (machine_of network) writer).readers reader)
@@ -467,3 +468,18 @@ found_here Is sent from index number packet is above here such none =
       is = such;
       first = subst (λ (n : ℕ). HasNone Is sent from n) before none;
     }
+
+-- where they are matched, want of memory alone refuses a round
+pub lacks_memory : {hearing : Hearing} → (kept : WorldKept hearing) (m : Matched) (writer reader : Endpoint)
+    → m.writer ≡ writer → m.reader ≡ reader → IsKnown kept m → RefusesRound kept writer reader Memory
+lacks_memory kept m writer reader is_writer is_reader known config network s =
+    let matched =
+    subst (λ (w : Endpoint). round_refusal (machine_of network) w reader ≡ None) is_writer
+    (subst (λ (r : Endpoint). round_refusal (machine_of network) m.writer r ≡ None) is_reader
+    (are_matched kept m known config network s)) in
+    subst (λ (o : Option Code). Refuses o Memory) (sym matched) refl
+
+-- what holds of want of memory holds of each refusal that is one
+pub if_memory : {X : Type 0} (P : Code → Type 0) (r : Result X Code) → IsErrAnd r (λ e. e ≡ Memory) → P Memory → IfErr r P
+if_memory P (Ok x) h p = tt
+if_memory P (Err e) h p = subst P (sym h) p

@@ -28,20 +28,20 @@ use Rattle.dds_protocol.specs.Traffic.{Traffic, Sends}
 use Rattle.dds_protocol.proofs.EndsBeside.{machine_ends}
 use Rattle.dds_machine.specs.Noticing.{machine_ended}
 use Rattle.dds_machine.specs.Runs.{Steps}
-use Rattle.dds_world.specs.WorldStanding.{WorldKept, StandsFor, MachineStands, Announces, KeepsRules, traffic}
+use Rattle.dds_world.specs.WorldStanding.{Hearing, WorldKept, StandsFor, MachineStands, Announces, KeepsRules, traffic}
 use Rattle.dds_world.specs.Acting.{Acts, IsCopy, RuledSteps}
 use Rattle.dds_world.proofs.Sends.{numbered_so}
 use Rattle.dds_world.proofs.WorldSteps.{SendsItsDues, acts_ruled, calls_at, comes_to_nothing, delivers_at, found_at, nothing_moved, posts_none, set_same, ticks_at}
 use Rattle.dds_machine.specs.Machine.{AllTests, Machine, Step}
 
 -- what was sent is that of the state
-pub sent_is : (kept : WorldKept) (config : Config) (network : WorldState) (s : StandsFor kept config network)
+pub sent_is : {hearing : Hearing} → (kept : WorldKept hearing) (config : Config) (network : WorldState) (s : StandsFor kept config network)
     → traffic_of network kept.unsent ≡ traffic kept
 sent_is kept config network s =
     ap (λ (ps : List Packet). let t : Traffic = record { sent = ps; unsent = kept.unsent } in t) s.sent
 
 -- a step by the rules keeps them, and what is delivered at it is taken up, since claims are true
-pub rules_at : {tests : AllTests} (old new : WorldKept) (ev : WorldEvent) (reply : Reply)
+pub rules_at : {hearing : Hearing} → {tests : AllTests} (old new : WorldKept hearing) (ev : WorldEvent) (reply : Reply)
     → RuledSteps tests old ev reply new → Announces old ev reply new → KeepsRules tests old ev reply new
 rules_at {tests} old new ev reply steps announces config network s =
     let t = steps config network s in
@@ -62,7 +62,7 @@ rules_at {tests} old new ev reply steps announces config network s =
     (t.0, counted, t.5)
 
 -- it is a step of the machine that the peers are the parts of
-pub machine_steps : {tests : AllTests} (old new : WorldKept) (ev : WorldEvent) (reply : Reply)
+pub machine_steps : {hearing : Hearing} → {tests : AllTests} (old new : WorldKept hearing) (ev : WorldEvent) (reply : Reply)
     → RuledSteps tests old ev reply new → Steps MachineStands tests (length old.sent) old ev reply new
 machine_steps {tests} old new ev reply steps config m stands =
     let network = stands.0 in
@@ -87,7 +87,7 @@ effect_due config peer (writes w LookedAt) output none = (none.packets, none.uns
 effect_due config peer (writes w (Ticked now behind)) output none = (none.packets, none.unsent)
 effect_due config peer nothing output none = (none.packets, none.unsent)
 
-call_dues : {tests : AllTests} → (kept new : WorldKept) (i : ℕ) (call : Call) (reply : Reply)
+call_dues : {hearing : Hearing} → {tests : AllTests} → (kept new : WorldKept hearing) (i : ℕ) (call : Call) (reply : Reply)
     (a : Acts tests kept i (event.Call call) reply new)
     → SendsItsDues tests kept i (event.Call call) (world.Call (suc i) call) reply new a
 call_dues kept new i call reply a config network next s rules =
@@ -107,7 +107,7 @@ call_dues kept new i call reply a config network next s rules =
           (numbered_so kept config network i a.acts.core s a.acts.at) replied,
     )
 
-pub called : {tests : AllTests} → (kept new : WorldKept) (i peer : ℕ) (call : Call) (reply : Reply) → peer ≡ i + 1
+pub called : {hearing : Hearing} → {tests : AllTests} → (kept new : WorldKept hearing) (i peer : ℕ) (call : Call) (reply : Reply) → peer ≡ i + 1
     → Acts tests kept i (event.Call call) reply new → RuledSteps tests kept (world.Call peer call) reply new
 called {tests} kept new i peer call reply is a =
     subst (λ (n : ℕ). RuledSteps tests kept (world.Call n call) reply new) (number_is peer i is)
@@ -133,7 +133,7 @@ are_due_so : (config : Config) (network next : WorldState) (i now : ℕ) (reply 
 are_due_so config network next i now Done = refl
 are_due_so config network next i now reply = refl
 
-tick_dues : {tests : AllTests} → (kept new : WorldKept) (i now : ℕ) (reply : Reply)
+tick_dues : {hearing : Hearing} → {tests : AllTests} → (kept new : WorldKept hearing) (i now : ℕ) (reply : Reply)
     (a : Acts tests kept i (event.Tick now) reply new)
     → SendsItsDues tests kept i (event.Tick now) (world.Tick (suc i) now) reply new a
 tick_dues kept new i now reply a config network next s rules =
@@ -151,7 +151,7 @@ tick_dues kept new i now reply a config network next s rules =
           (numbered_so kept config network i a.acts.core s a.acts.at) replied,
     )
 
-pub ticked : {tests : AllTests} → (kept new : WorldKept) (i peer now : ℕ) (reply : Reply) → peer ≡ i + 1
+pub ticked : {hearing : Hearing} → {tests : AllTests} → (kept new : WorldKept hearing) (i peer now : ℕ) (reply : Reply) → peer ≡ i + 1
     → Acts tests kept i (event.Tick now) reply new → RuledSteps tests kept (world.Tick peer now) reply new
 ticked {tests} kept new i peer now reply is a =
     subst (λ (n : ℕ). RuledSteps tests kept (world.Tick n now) reply new) (number_is peer i is)
@@ -168,7 +168,7 @@ reported_due : (config : Config) (network next : WorldState) (peer number : ℕ)
 reported_due config network next peer number packet reply report dues is at takes =
     subst (λ (r : Reply). AreDue config network (world.Deliver peer number) r next dues) (sym is) (packet, at, takes)
 
-delivery_dues : {tests : AllTests} → (kept new : WorldKept) (i j : ℕ) (packet : Packet) (reply : Reply)
+delivery_dues : {hearing : Hearing} → {tests : AllTests} → (kept new : WorldKept hearing) (i j : ℕ) (packet : Packet) (reply : Reply)
     → slice_get kept.sent j ≡ Some packet → (a : Acts tests kept i (event.Deliver packet.bytes) reply new)
     → SendsItsDues tests kept i (event.Deliver packet.bytes) (world.Deliver (suc i) (j + 1)) reply new a
 delivery_dues kept new i j packet reply at a config network next s rules =
@@ -186,7 +186,7 @@ delivery_dues kept new i j packet reply at a config network next s rules =
     )
 
 -- a packet that was sent is taken up by the rules
-taken_up : {tests : AllTests} → (kept new : WorldKept) (i j : ℕ) (packet : Packet) (reply : Reply)
+taken_up : {hearing : Hearing} → {tests : AllTests} → (kept new : WorldKept hearing) (i j : ℕ) (packet : Packet) (reply : Reply)
     → slice_get kept.sent j ≡ Some packet → Acts tests kept i (event.Deliver packet.bytes) reply new
     → RuledSteps tests kept (world.Deliver (suc i) (j + 1)) reply new
 taken_up {tests} kept new i j packet reply at a =
@@ -195,7 +195,7 @@ taken_up {tests} kept new i j packet reply at a =
     (found_at kept.sent j packet at)) a
     (delivery_dues kept new i j packet reply at a)
 
-pub delivered : {tests : AllTests} → (kept new : WorldKept) (i j : ℕ) (bytes : List ℕ) (reply : Reply)
+pub delivered : {hearing : Hearing} → {tests : AllTests} → (kept new : WorldKept hearing) (i j : ℕ) (bytes : List ℕ) (reply : Reply)
     → IsCopy kept.sent j bytes → Acts tests kept i (event.Deliver bytes) reply new
     → RuledSteps tests kept (world.Deliver (i + 1) (j + 1)) reply new
 delivered {tests} kept new i j bytes reply copy a =
@@ -207,9 +207,9 @@ delivered {tests} kept new i j bytes reply copy a =
     (taken_up kept new i j packet reply copy.at own)
 
 -- a packet that finds no memory
-pub not_delivered : {tests : AllTests} → (kept : WorldKept) (i j : ℕ) → i < length kept.peers → j < length kept.sent
+pub not_delivered : {hearing : Hearing} → {tests : AllTests} → (kept : WorldKept hearing) (i j : ℕ) → i < length kept.peers → j < length kept.sent
     → RuledSteps tests kept (world.Deliver (i + 1) (j + 1)) (Reported (record { moves = []; refused = Some 0 })) kept
-not_delivered {tests} kept i j low high config network s =
+not_delivered {hearing} {tests} kept i j low high config network s =
     let few = s.few in
     let count = s.count in
     let listened = s.listened in
@@ -227,7 +227,7 @@ not_delivered {tests} kept i j low high config network s =
         slots_at = slots.1;
         after = core.0;
         left = slots.0;
-        steps = comes_to_nothing core.0 (get_or kept.filters i 0) slots.0 packet.0.bytes some;
+        steps = comes_to_nothing core.0 (get_or kept.filters i 0) (hearing.stands (suc i) slots.0) packet.0.bytes some;
         messages = λ p c. absurd (omega (arith, c.1));
         replies = refl;
         peers = set_same kept.peers i core.0 core.1;

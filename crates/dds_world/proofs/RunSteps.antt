@@ -14,7 +14,7 @@ use Rattle.dds_protocol.specs.Rules.{CountedStep, RuledRun}
 use Rattle.dds_machine.specs.Runs.{Run, Runs}
 use Rattle.dds_protocol.specs.World.{WorldState, machine_of}
 use Rattle.dds_protocol.proofs.RunLaws.{machine_runs}
-use Rattle.dds_world.specs.WorldStanding.{WorldKept, StandsFor, MachineStands, KeepsRules, RunsByRules}
+use Rattle.dds_world.specs.WorldStanding.{Hearing, WorldKept, StandsFor, MachineStands, KeepsRules, RunsByRules}
 
 -- a run with one more step
 run_more : (config : Config) (tests : AllTests) (a b c : WorldState) (k m n : ℕ) (events : List WorldEvent)
@@ -34,31 +34,31 @@ run_more config tests a b c k m n [] (r ∷ rs) ev reply run step = absurd run
 run_more config tests a b c k m n (e ∷ es) [] ev reply run step = absurd run
 
 -- a step by the rules, of a network that stands for this state
-pub record Went (tests : AllTests) (config : Config) (network : WorldState) (old : WorldKept) (ev : WorldEvent)
-    (reply : Reply) (new : WorldKept) : Type 0 where
+pub record Went {hearing : Hearing} (tests : AllTests) (config : Config) (network : WorldState) (old : WorldKept hearing) (ev : WorldEvent)
+    (reply : Reply) (new : WorldKept hearing) : Type 0 where
   pub after : WorldState
   pub step : CountedStep config tests network old.unsent ev reply after new.unsent
   pub stands : StandsFor new config (world_ended network ev after)
 
 -- the network at its end
-abbrev pub ended : {tests : AllTests} {config : Config} {network : WorldState} {old : WorldKept} {ev : WorldEvent}
-    {reply : Reply} {new : WorldKept}
+abbrev pub ended : {hearing : Hearing} → {tests : AllTests} {config : Config} {network : WorldState} {old : WorldKept hearing} {ev : WorldEvent}
+    {reply : Reply} {new : WorldKept hearing}
     → Went tests config network old ev reply new → WorldState
 ended {network = network} {ev = ev} w = world_ended network ev w.after
 
-pub went_by : {tests : AllTests}
-    → (config : Config) (network : WorldState) (old : WorldKept) (ev : WorldEvent) (reply : Reply) (new : WorldKept)
+pub went_by : {hearing : Hearing} → {tests : AllTests}
+    → (config : Config) (network : WorldState) (old : WorldKept hearing) (ev : WorldEvent) (reply : Reply) (new : WorldKept hearing)
     → KeepsRules tests old ev reply new → StandsFor old config network
     → Went tests config network old ev reply new
 went_by config network old ev reply new rules s =
     let t = rules config network s in
     record { after = t.0; step = t.1; stands = t.2 }
 
-pub runs_none : {tests : AllTests} → (kept : WorldKept) → RunsByRules tests kept [] [] kept
+pub runs_none : {hearing : Hearing} → {tests : AllTests} → (kept : WorldKept hearing) → RunsByRules tests kept [] [] kept
 runs_none kept = record { run = λ config network s. (network, (refl, refl), s) }
 
-pub runs_more : {tests : AllTests}
-    → (kept mid new : WorldKept) (events : List WorldEvent) (replies : List Reply) (ev : WorldEvent) (reply : Reply)
+pub runs_more : {hearing : Hearing} → {tests : AllTests}
+    → (kept mid new : WorldKept hearing) (events : List WorldEvent) (replies : List Reply) (ev : WorldEvent) (reply : Reply)
     → RunsByRules tests kept events replies mid → KeepsRules tests mid ev reply new
     → RunsByRules tests kept (events ++ ev ∷ []) (replies ++ reply ∷ []) new
 runs_more {tests} kept mid new events replies ev reply runs rules = record {
@@ -83,7 +83,7 @@ run_as tests sent last before after m begun end events replies first then is run
     (subst (λ (x : Machine). Run tests sent x events replies last end) is run))
 
 -- a run by the rules is one of the machine that the peers are the parts of
-pub machine_run : (tests : AllTests) (old new : WorldKept) (events : List WorldEvent) (replies : List Reply)
+pub machine_run : {hearing : Hearing} → (tests : AllTests) (old new : WorldKept hearing) (events : List WorldEvent) (replies : List Reply)
     (config : Config) (m : Machine) (network after : WorldState) → machine_of network ≡ m
     → StandsFor old config network → StandsFor new config after
     → RuledRun config tests network old.unsent events replies after new.unsent
@@ -94,7 +94,7 @@ machine_run tests old new events replies config m network after is s t run =
     (ap (λ (ps : List Packet). length ps) t.sent) is
     (machine_runs config tests network after old.unsent new.unsent events replies run)
 
-pub runs_of_machine : {tests : AllTests} → (old new : WorldKept) (events : List WorldEvent) (replies : List Reply)
+pub runs_of_machine : {hearing : Hearing} → {tests : AllTests} → (old new : WorldKept hearing) (events : List WorldEvent) (replies : List Reply)
     → RunsByRules tests old events replies new
     → Runs MachineStands tests (length old.sent) old events replies (length new.sent) new
 runs_of_machine {tests} old new events replies runs config m stands =
@@ -105,7 +105,7 @@ runs_of_machine {tests} old new events replies runs config m stands =
     )
 
 -- the replies of a round are a run of the machine, of which the answer tells the reader's places
-pub round_runs : (tests : AllTests) (old new : WorldKept) (writer reader : Endpoint) (answer : Round)
+pub round_runs : {hearing : Hearing} → (tests : AllTests) (old new : WorldKept hearing) (writer reader : Endpoint) (answer : Round)
     → Rounds tests old writer reader answer new
     → RoundRuns MachineStands tests (length old.sent) old writer reader answer (length new.sent) new
 round_runs tests old new writer reader answer rounds = record {

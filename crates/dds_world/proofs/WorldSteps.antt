@@ -10,8 +10,7 @@ use Rattle.std.proofs.lemmas.Option.{same_Some}
 use Rattle.dds_base.specs.declared.code.Code.TheVariants.{BadParameter}
 use Rattle.dds_base.specs.declared.config.Config.{Config}
 use Rattle.rtps_wire.specs.Messages.{HasSubmessage}
-use Rattle.dds_notices.specs.Listeners.{Slotted}
-use Rattle.dds_notices.specs.Notices.{Recording}
+use Rattle.dds_notices.specs.Listeners.{Places}
 use Rattle.dds_protocol.specs.Bounds.{IsBounded}
 use Rattle.dds_protocol.specs.Fresh.{HasUsedCounts}
 use Rattle.dds_machine.specs.Noticing.{peer_of}
@@ -46,7 +45,7 @@ use Rattle.dds_core.specs.Standing.{StandsFor as CoreStandsFor, IsSound, KeepsRu
 use Rattle.dds_core.proofs.CallSteps.{refused_nothing}
 use Rattle.dds_core.proofs.Lists.{get-within}
 use Rattle.dds_core.proofs.Taking.{stands_again}
-use Rattle.dds_world.specs.WorldStanding.{AreTold, WorldKept, StandsFor, ArePosted, Posts}
+use Rattle.dds_world.specs.WorldStanding.{Hearing, WorldKept, StandsFor, ArePosted, Posts}
 use Rattle.dds_world.specs.Acting.{Acts, RuledSteps, StepsAt}
 use Rattle.dds_world.proofs.Posted.{lost_is, posted_on}
 use Rattle.dds_world.proofs.Replaced.{ended_at, peer_stands, same_at, with_peer}
@@ -170,8 +169,8 @@ delivers_at tests sent peer number packet low found config old new reply same st
     inl (packet, low, subst (λ (ps : List Packet). slice_get ps (number - 1) ≡ Some packet) (sym same) found, step)
 
 -- what the peer of this index sends at an event is what is due at it
-abbrev pub SendsItsDues : (tests : AllTests)
-    → (kept : WorldKept) (i : ℕ) (ev : Event) (whole : WorldEvent) (reply : Reply) (new : WorldKept)
+abbrev pub SendsItsDues : {hearing : Hearing} → (tests : AllTests)
+    → (kept : WorldKept hearing) (i : ℕ) (ev : Event) (whole : WorldEvent) (reply : Reply) (new : WorldKept hearing)
     → Acts tests kept i ev reply new → Type 0
 SendsItsDues tests kept i ev whole reply new a =
     (config : Config) (network next : WorldState) → StandsFor kept config network
@@ -180,11 +179,11 @@ SendsItsDues tests kept i ev whole reply new a =
     × AreSent dues a.acts.output.packets a.acts.output.unsent
 
 -- an event of the peer of this index is one of the network by the rules of the protocol
-pub acts_ruled : {tests : AllTests} → (kept new : WorldKept) (i : ℕ) (ev : Event) (whole : WorldEvent) (reply : Reply)
+pub acts_ruled : {hearing : Hearing} → {tests : AllTests} → (kept new : WorldKept hearing) (i : ℕ) (ev : Event) (whole : WorldEvent) (reply : Reply)
     → peer_of whole ≡ suc i → IsEventOf tests kept.sent ev (suc i) whole → (a : Acts tests kept i ev reply new)
     → SendsItsDues tests kept i ev whole reply new a
     → RuledSteps tests kept whole reply new
-acts_ruled {tests} kept new i ev whole reply its into acts sends config network s =
+acts_ruled {hearing} {tests} kept new i ev whole reply its into acts sends config network s =
     let a = acts.acts in
     let core : CoreStandsFor a.core config (get_or network.peers i no_peer) = s.each i a.core a.at in
     let r =
@@ -230,7 +229,8 @@ acts_ruled {tests} kept new i ev whole reply its into acts sends config network 
     let bounded : IsBounded (machine_of next) =
     steps_bounded tests (length network.sent) (machine_of network) whole reply (machine_of next) s.bounded c.0 in
     let stands : StandsFor new config (with_peer network i end new.sent) =
-    peer_stands kept new config network i a.after a.left end new.sent s a.peers a.listeners
+    peer_stands hearing.stands hearing.stands kept new config network i a.after a.left end new.sent s a.peers a.listeners
+    (λ j k places other h. h)
     (λ j. same_at (λ (p : Peer). p.part.dds.watch.filters) network.peers i end (r.4 ∙ sym (s.filters i)) j
     ∙ (s.filters j ∙ ap (λ (ns : List ℕ). get_or ns j 0) (sym a.filters)))
     r.3 r.5 r.6 refl
@@ -262,10 +262,10 @@ found_at sent j packet at =
 abbrev pub nothing_moved : Output
 nothing_moved = record { reply = Reported (record { moves = []; refused = Some 0 }); packets = []; unsent = 0 }
 
-pub comes_to_nothing : {tests : Tests} → (core : PeerKept) (count : ℕ) (slots : Slotted Recording) (bytes : List ℕ)
+pub comes_to_nothing : {tests : Tests} → (core : PeerKept) (count : ℕ) (AreTold : Places → Type 0) (bytes : List ℕ)
     → HasSubmessage bytes
-    → StepsAt tests core count slots (event.Deliver bytes) nothing_moved core slots
-comes_to_nothing {tests} core count slots bytes some config peer s counted told sound =
+    → StepsAt tests core count AreTold (event.Deliver bytes) nothing_moved core AreTold
+comes_to_nothing {tests} core count AreTold bytes some config peer s counted told sound =
     let delivery : Delivery = record { packet = bytes; report = record { moves = []; refused = Some 0 } } in
     let after : Peer =
     record { number = peer.number; part = peer.part; known = peer.known; delivered = delivery ∷ peer.delivered } in
@@ -290,7 +290,7 @@ comes_to_nothing {tests} core count slots bytes some config peer s counted told 
     let same : peer_at_end peer after ≡ after = ap (λ (p : Part). record after { part = p }) (end_same peer.part) in
     let end =
     subst (λ (p : Peer). CoreStandsFor core config p × (p.part.dds.watch.filters ≡ count)
-    × AreTold slots p.part.dds.listeners × IsSound config p) (sym same)
+    × AreTold p.part.dds.listeners × IsSound config p) (sym same)
     (stands, counted, told, known) in
     (after, step, rules, end.0, end.1, end.2, end.3)
 
@@ -305,7 +305,7 @@ no_such : (n count : ℕ) → (nat_lt 0 n && nat_le n count) ≡ false → (n �
 no_such zero count h = inl refl
 no_such (suc n) count h = inr (grind (arith, nat_tests, h))
 
-nobody : (kept : WorldKept) (config : Config) (network : WorldState) (peer : ℕ) → StandsFor kept config network
+nobody : {hearing : Hearing} → (kept : WorldKept hearing) (config : Config) (network : WorldState) (peer : ℕ) → StandsFor kept config network
     → (nat_lt 0 peer && nat_le peer (length kept.peers)) ≡ false → HasNumber network.peers peer → ⊥
 nobody kept config network peer s none has =
     let count = s.count in
@@ -315,7 +315,7 @@ nobody kept config network peer s none has =
     (no_such peer (length kept.peers) none)
 
 -- what is refused changes nothing, and nothing is due
-stays : {tests : AllTests} → (kept : WorldKept) (config : Config) (network : WorldState) (ev : WorldEvent)
+stays : {hearing : Hearing} → {tests : AllTests} → (kept : WorldKept hearing) (config : Config) (network : WorldState) (ev : WorldEvent)
     → StandsFor kept config network → WorldStep config tests network ev (Refused BadParameter) network
     → AreDue config network ev (Refused BadParameter) network []
     → (after : WorldState) × (lost : ℕ) × RuledStep config tests network ev (Refused BadParameter) lost after
@@ -344,7 +344,7 @@ stays {tests} kept config network ev s step none =
           (sym (ended_same network ev)) s,
     )
 
-pub unknown_call : {tests : AllTests} → (kept : WorldKept) (peer : ℕ) (call : Call)
+pub unknown_call : {hearing : Hearing} → {tests : AllTests} → (kept : WorldKept hearing) (peer : ℕ) (call : Call)
     → (nat_lt 0 peer && nat_le peer (length kept.peers)) ≡ false
     → RuledSteps tests kept (world.Call peer call) (Refused BadParameter) kept
 unknown_call kept peer call none config network s =
@@ -353,14 +353,14 @@ unknown_call kept peer call none config network s =
     (sym (ap (λ (e : Effect). announcements_due config peer (peer_at network peer).part e)
     (refused_nothing (peer_at network peer).part call BadParameter)))
 
-pub unknown_tick : {tests : AllTests} → (kept : WorldKept) (peer now : ℕ)
+pub unknown_tick : {hearing : Hearing} → {tests : AllTests} → (kept : WorldKept hearing) (peer now : ℕ)
     → (nat_lt 0 peer && nat_le peer (length kept.peers)) ≡ false
     → RuledSteps tests kept (world.Tick peer now) (Refused BadParameter) kept
 unknown_tick kept peer now none config network s =
     stays kept config network (world.Tick peer now) s
     (inr (λ has. nobody kept config network peer s none has, record { is_refused = refl; after = refl })) refl
 
-pub unknown_delivery : {tests : AllTests} → (kept : WorldKept) (peer number : ℕ)
+pub unknown_delivery : {hearing : Hearing} → {tests : AllTests} → (kept : WorldKept hearing) (peer number : ℕ)
     → (nat_lt 0 peer && nat_le peer (length kept.peers)) ≡ false
     → RuledSteps tests kept (world.Deliver peer number) (Refused BadParameter) kept
 unknown_delivery kept peer number none config network s =
@@ -370,7 +370,7 @@ unknown_delivery kept peer number none config network s =
       record { is_refused = refl; after = refl },
     )) refl
 
-pub unknown_packet : {tests : AllTests} → (kept : WorldKept) (peer number : ℕ)
+pub unknown_packet : {hearing : Hearing} → {tests : AllTests} → (kept : WorldKept hearing) (peer number : ℕ)
     → (nat_lt 0 number && nat_le number (length kept.sent)) ≡ false
     → RuledSteps tests kept (world.Deliver peer number) (Refused BadParameter) kept
 unknown_packet kept peer number none config network s =

@@ -6,8 +6,7 @@ use Rattle.std.specs.Prelude.{◌≡◌, ℕ, suc, ◌+◌, ◌-◌, ◌^◌, �
 use Rattle.dds_base.specs.declared.config.Config.{Config}
 use Rattle.dds_base.specs.Checked.{check_refusal}
 use Rattle.dds_notices.specs.declared.notice.Notice.{Notice}
-use Rattle.dds_notices.specs.Listeners.{Slotted}
-use Rattle.dds_notices.specs.Notices.{Recording}
+use Rattle.dds_notices.specs.Listeners.{Places}
 use Rattle.dds_protocol.specs.Noticing.{peer_at_end, world_ended}
 use Rattle.dds_protocol.specs.Peer.{Peer, PeerStep}
 use Rattle.dds_machine.specs.Watching.{Tests}
@@ -22,43 +21,44 @@ use Rattle.dds_protocol.specs.World.{WorldState, machine_of}
 use Rattle.dds_core.specs.Kept.{PeerKept}
 use Rattle.dds_core.specs.Opening.{opening_peer}
 use Rattle.dds_core.specs.Sending.{Sends as CoreSends, SendsNothing, AreMessages}
-use Rattle.dds_core.specs.Listening.{CoreKept, StandsFor as CoreStands}
+use Rattle.dds_core.specs.Listening.{CoreKept, StandsFor as CoreStands, no_listeners}
 use Rattle.dds_core.specs.Standing.{IsSound, KeepsRules as CoreKeepsRules, StandsFor as CoreStandsFor}
-use Rattle.dds_world.specs.WorldStanding.{AreTold, WorldKept, StandsFor, Posts}
+use Rattle.dds_world.specs.WorldStanding.{Hearing, WorldKept, StandsFor, Posts}
 
 -- how many packets were counted as unsent: those of the peer, and those that found no memory in the network
-abbrev pub Counts : WorldKept → Output → WorldKept → Type 0
+abbrev pub Counts : {hearing : Hearing} → WorldKept hearing → Output → WorldKept hearing → Type 0
 Counts old output new = (lost : ℕ) × (length new.sent + lost ≡ length old.sent + length output.packets)
     × (new.unsent ≡ min (old.unsent + output.unsent + lost) (2 ^ 64 - 1))
 
 -- where a peer sends nothing, the network sends nothing and loses nothing
-abbrev pub IsQuiet : WorldKept → Output → WorldKept → Type 0
+abbrev pub IsQuiet : {hearing : Hearing} → WorldKept hearing → Output → WorldKept hearing → Type 0
 IsQuiet old output new = SendsNothing output → (new.sent ≡ old.sent) × (new.unsent ≡ old.unsent)
 
 -- For each state that a peer's old values stand for, and of which all that is known was claimed, the event is a step
 -- which follows the rules of the protocol; the new values stand for the state at its end, once listeners were told, and
 -- all that is known of that was claimed.
-abbrev pub StepsAt : Tests → PeerKept → ℕ → Slotted Recording → Event → Output → PeerKept → Slotted Recording → Type 0
-StepsAt tests core filters slots event output after left =
+abbrev pub StepsAt : Tests → PeerKept → ℕ → (Places → Type 0) → Event → Output → PeerKept → (Places → Type 0) → Type 0
+StepsAt tests core filters AreTold event output after TheyAreTold =
     (config : Config) (peer : Peer) → CoreStandsFor core config peer → peer.part.dds.watch.filters ≡ filters
-    → AreTold slots peer.part.dds.listeners → IsSound config peer
+    → AreTold peer.part.dds.listeners → IsSound config peer
     → (stepped : Peer) × PeerStep config tests peer event output stepped
     × CoreKeepsRules config peer event output stepped
     × CoreStandsFor after config (peer_at_end peer stepped)
     × ((peer_at_end peer stepped).part.dds.watch.filters ≡ filters)
-    × AreTold left (peer_at_end peer stepped).part.dds.listeners × IsSound config (peer_at_end peer stepped)
+    × TheyAreTold (peer_at_end peer stepped).part.dds.listeners × IsSound config (peer_at_end peer stepped)
 
 -- the peer of this index has the event, and the other peers are as they were; of its packets some are sent
-pub record ActsAt (tests : AllTests) (old : WorldKept) (index : ℕ) (event : Event) (reply : Reply)
-    (new : WorldKept) : Type 0 where
+pub record ActsAt {hearing : Hearing} (tests : AllTests) (old : WorldKept hearing) (index : ℕ) (event : Event) (reply : Reply)
+    (new : WorldKept hearing) : Type 0 where
   pub core : PeerKept
   pub at : slice_get old.peers index ≡ Some core
   pub output : Output
-  pub slots : Slotted Recording
+  pub slots : hearing.Kept
   pub slots_at : slice_get old.listeners index ≡ Some slots
   pub after : PeerKept
-  pub left : Slotted Recording
-  pub steps : StepsAt (tests (suc index)) core (get_or old.filters index 0) slots event output after left
+  pub left : hearing.Kept
+  pub steps : StepsAt (tests (suc index)) core (get_or old.filters index 0) (hearing.stands (suc index) slots) event
+      output after (hearing.stands (suc index) left)
   pub messages : AreMessages output.packets
   pub replies : reply ≡ output.reply
   pub peers : new.peers ≡ set old.peers index after
@@ -67,8 +67,8 @@ pub record ActsAt (tests : AllTests) (old : WorldKept) (index : ℕ) (event : Ev
   pub posts : Posts old.sent output.packets new.sent
 
 -- so it is, and what it sends is said, and counted
-pub record Acts (tests : AllTests) (old : WorldKept) (index : ℕ) (event : Event) (reply : Reply)
-    (new : WorldKept) : Type 0 where
+pub record Acts {hearing : Hearing} (tests : AllTests) (old : WorldKept hearing) (index : ℕ) (event : Event) (reply : Reply)
+    (new : WorldKept hearing) : Type 0 where
   pub acts : ActsAt tests old index event reply new
   pub sends : CoreSends acts.core event acts.output
   pub counts : Counts old acts.output new
@@ -81,16 +81,16 @@ pub record IsCopy (sent : List Packet) (index : ℕ) (bytes : List ℕ) : Type 0
   pub same : bytes ≡ packet.bytes
 
 -- the first peers of a configuration, at their opening, without filters; where there is one, the configuration is taken
-pub record OpensFirst {F L : Type 0} (notices : L → List Notice) (capacity : L → ℕ) (config : Config) (count : ℕ)
-    (kept : List (CoreKept F L)) : Type 0 where
+pub record OpensFirst {F L : Type 0} (notices : L → List Notice) (capacity : L → ℕ) (becomes : L → Notice → L → Type 0)
+    (config : Config) (count : ℕ) (kept : List (CoreKept F L)) : Type 0 where
   pub counted : length kept ≡ count
   pub each : (i : ℕ) (k : CoreKept F L) → slice_get kept i ≡ Some k
-      → CoreStands notices capacity k config (opening_peer config (i + 1))
+      → CoreStands notices capacity becomes (no_listeners (opening_peer config (i + 1)).part) k config (opening_peer config (i + 1))
   pub none : (i : ℕ) (k : CoreKept F L) → slice_get kept i ≡ Some k → k.filtered.filters ≡ []
   pub taken : 1 ≤ count → check_refusal config.peers ≡ None
 
 -- a step of the network's peers by the rules of the protocol, and of its machine, to one state
-abbrev pub RuledSteps : AllTests → WorldKept → WorldEvent → Reply → WorldKept → Type 0
+abbrev pub RuledSteps : {hearing : Hearing} → AllTests → WorldKept hearing → WorldEvent → Reply → WorldKept hearing → Type 0
 RuledSteps tests old event reply new = (config : Config) (network : WorldState) → StandsFor old config network
     → (after : WorldState) × (lost : ℕ) × RuledStep config tests network event reply lost after
     × (new.unsent ≡ min (old.unsent + lost) (2 ^ 64 - 1))

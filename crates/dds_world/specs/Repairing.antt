@@ -16,7 +16,7 @@ use Rattle.dds_core.specs.Pairs.{reader_entity}
 use Rattle.dds_world.specs.declared.round.Matched.{Matched}
 use Rattle.dds_world.specs.declared.round.RoundReply.{RoundReply}
 use Rattle.dds_world.specs.Round.{IsStep, AreSteps, IsTo, HasNone, IsFirst, answers_at}
-use Rattle.dds_world.specs.WorldStanding.{WorldKept, StandsFor}
+use Rattle.dds_world.specs.WorldStanding.{Hearing, WorldKept, StandsFor}
 
 -- the two are matched, by these entity ids, the reader is behind exactly so, the writer has made so many changes, and
 -- the moment is that of its peer
@@ -29,44 +29,44 @@ pub record Knows (config : Config) (network : WorldState) (m : Matched) : Type 0
   pub moment : m.moment ≡ (part_at (machine_of network) m.writer.peer).dds.moment
 
 -- so it is for each state that the network stands for
-abbrev pub IsKnown : WorldKept → Matched → Type 0
+abbrev pub IsKnown : {hearing : Hearing} → WorldKept hearing → Matched → Type 0
 IsKnown kept m = (config : Config) (network : WorldState) → StandsFor kept config network → Knows config network m
 
 -- for each state that the network stands for, the writer is not matched with the reader
-abbrev pub NotMatched : WorldKept → Endpoint → Endpoint → Type 0
+abbrev pub NotMatched : {hearing : Hearing} → WorldKept hearing → Endpoint → Endpoint → Type 0
 NotMatched kept writer reader =
     (config : Config) (network : WorldState) → StandsFor kept config network
     → acknowledged_of (writer_at (machine_of network) writer).readers reader ≡ None
 
 -- the first such packet with a number above this one is delivered at this peer, and it goes on so; or there is none
-abbrev pub Stage : AllTests → (Packet → Type 0) → ℕ → ℕ
-    → (WorldKept → List WorldEvent → List RoundReply → WorldKept → Type 0) → WorldKept → List WorldEvent
-    → List RoundReply → WorldKept → Type 0
-Stage tests Is from peer Next old events replies new =
+abbrev pub Stage : {hearing : Hearing} → AllTests → (Packet → Type 0) → ℕ → ℕ
+    → (WorldKept hearing → List WorldEvent → List RoundReply → WorldKept hearing → Type 0) → WorldKept hearing → List WorldEvent
+    → List RoundReply → WorldKept hearing → Type 0
+Stage {hearing} tests Is from peer Next old events replies new =
     ((events ≡ []) × (replies ≡ []) × (new ≡ old) × HasNone Is old.sent from (length old.sent))
-    ⊎ ((k : ℕ) × (reply : RoundReply) × (mid : WorldKept) × (later : List WorldEvent) × (rest : List RoundReply)
+    ⊎ ((k : ℕ) × (reply : RoundReply) × (mid : WorldKept hearing) × (later : List WorldEvent) × (rest : List RoundReply)
     × IsFirst Is old.sent from (length old.sent) k × IsStep tests old (Deliver peer k) reply mid
     × (events ≡ Deliver peer k ∷ later) × (replies ≡ reply ∷ rest) × Next mid later rest new)
 
 -- the answers of the ACKNACK that was delivered when so many packets had been sent
-abbrev pub Answering : AllTests → Matched → ℕ → WorldKept → List WorldEvent → List RoundReply → WorldKept → Type 0
+abbrev pub Answering : {hearing : Hearing} → AllTests → Matched → ℕ → WorldKept hearing → List WorldEvent → List RoundReply → WorldKept hearing → Type 0
 Answering tests m from old events replies new =
     (events ≡ answers_at m.reader.peer from (length old.sent)) × AreSteps tests old events replies new
 
 -- the ACKNACK, if one was sent since so many packets had been, and its answers
-abbrev pub Acknowledging : AllTests → Matched → ℕ → WorldKept → List WorldEvent → List RoundReply → WorldKept → Type 0
+abbrev pub Acknowledging : {hearing : Hearing} → AllTests → Matched → ℕ → WorldKept hearing → List WorldEvent → List RoundReply → WorldKept hearing → Type 0
 Acknowledging tests m from old events replies new =
     Stage tests (IsTo m.writer.peer (sought.AckNack m.pair.reader m.pair.writer)) from m.writer.peer
     (Answering tests m (length old.sent)) old events replies new
 
 -- the HEARTBEAT, if one was sent since so many packets had been, and what follows
-abbrev pub Beating : AllTests → Matched → ℕ → WorldKept → List WorldEvent → List RoundReply → WorldKept → Type 0
+abbrev pub Beating : {hearing : Hearing} → AllTests → Matched → ℕ → WorldKept hearing → List WorldEvent → List RoundReply → WorldKept hearing → Type 0
 Beating tests m from old events replies new =
     Stage tests (IsTo m.reader.peer (sought.Heartbeat m.pair.writer)) from m.reader.peer
     (Acknowledging tests m (length old.sent)) old events replies new
 
 -- so it is with the replies that are added to these
-abbrev pub Adds : (WorldKept → List WorldEvent → List RoundReply → WorldKept → Type 0) → WorldKept → List RoundReply
-    → WorldKept → List RoundReply → Type 0
+abbrev pub Adds : {hearing : Hearing} → (WorldKept hearing → List WorldEvent → List RoundReply → WorldKept hearing → Type 0) → WorldKept hearing → List RoundReply
+    → WorldKept hearing → List RoundReply → Type 0
 Adds Does old before new after =
     (events : List WorldEvent) × (added : List RoundReply) × (after ≡ before ++ added) × Does old events added new

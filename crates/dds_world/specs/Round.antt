@@ -30,7 +30,7 @@ use Rattle.dds_protocol.specs.World.{WorldState, machine_of}
 use Rattle.dds_core.specs.Pairs.{reader_entity}
 use Rattle.dds_world.specs.declared.round.Round.{Round}
 use Rattle.dds_world.specs.declared.round.RoundReply.{RoundReply}
-use Rattle.dds_world.specs.WorldStanding.{WorldKept, StandsFor, KeepsRules}
+use Rattle.dds_world.specs.WorldStanding.{Hearing, WorldKept, StandsFor, KeepsRules}
 
 -- why there is no round: the writer is not matched with the reader
 abbrev pub round_refusal : Machine → Endpoint → Endpoint → Option Code
@@ -38,29 +38,29 @@ round_refusal m writer reader =
     if is_some (acknowledged_of (writer_at m writer).readers reader) then None else Some BadParameter
 
 -- for each state that the network stands for, a round is refused so
-abbrev pub RefusesRound : WorldKept → Endpoint → Endpoint → Code → Type 0
+abbrev pub RefusesRound : {hearing : Hearing} → WorldKept hearing → Endpoint → Endpoint → Code → Type 0
 RefusesRound kept writer reader code =
     (config : Config) (network : WorldState) → StandsFor kept config network
     → Refuses (round_refusal (machine_of network) writer reader) code
 
 -- for each state that the network stands for, the writer is matched with the reader
-abbrev pub AreMatched : WorldKept → Endpoint → Endpoint → Type 0
+abbrev pub AreMatched : {hearing : Hearing} → WorldKept hearing → Endpoint → Endpoint → Type 0
 AreMatched kept writer reader =
     (config : Config) (network : WorldState) → StandsFor kept config network
     → round_refusal (machine_of network) writer reader ≡ None
 
 -- one event, as a step of the network answers it, with the counts of packets sent and not sent after it
-pub record IsStep (tests : AllTests) (old : WorldKept) (event : WorldEvent) (reply : RoundReply)
-    (new : WorldKept) : Type 0 where
+pub record IsStep {hearing : Hearing} (tests : AllTests) (old : WorldKept hearing) (event : WorldEvent) (reply : RoundReply)
+    (new : WorldKept hearing) : Type 0 where
   pub rules : KeepsRules tests old event reply.reply new
   pub sent : reply.sent ≡ length new.sent
   pub unsent : reply.unsent ≡ new.unsent
 
 -- the same of events one after the other
-abbrev pub AreSteps : AllTests → WorldKept → List WorldEvent → List RoundReply → WorldKept → Type 0
+abbrev pub AreSteps : {hearing : Hearing} → AllTests → WorldKept hearing → List WorldEvent → List RoundReply → WorldKept hearing → Type 0
 AreSteps tests old [] [] new = new ≡ old
-AreSteps tests old (event ∷ events) (reply ∷ replies) new =
-    (mid : WorldKept) × IsStep tests old event reply mid × AreSteps tests mid events replies new
+AreSteps {hearing} tests old (event ∷ events) (reply ∷ replies) new =
+    (mid : WorldKept hearing) × IsStep tests old event reply mid × AreSteps tests mid events replies new
 AreSteps tests old [] (reply ∷ replies) new = ⊥
 AreSteps tests old (event ∷ events) [] new = ⊥
 
@@ -155,9 +155,9 @@ replies_of replies = map (λ (r : RoundReply). r.reply) replies
 -- how the pair stood before it, and the reader's place after it. There the reader has gone on by 256 numbers, or to the
 -- end of the writer's list, or to a change that has no room, and the writer knows of all that the reader had before,
 -- unless something hindered the round.
-pub record RoundFrom (tests : AllTests) (config : Config) (network : WorldState) (old : WorldKept)
+pub record RoundFrom {hearing : Hearing} (tests : AllTests) (config : Config) (network : WorldState) (old : WorldKept hearing)
     (writer reader : Endpoint)
-    (events : List WorldEvent) (answer : Round) (new : WorldKept) : Type 0 where
+    (events : List WorldEvent) (answer : Round) (new : WorldKept hearing) : Type 0 where
   pub is_round : IsRound config network writer reader new.sent events answer.replies
   pub after : WorldState
   pub run : RuledRun config tests network old.unsent events (replies_of answer.replies) after new.unsent
@@ -171,8 +171,8 @@ pub record RoundFrom (tests : AllTests) (config : Config) (network : WorldState)
 
 -- One round: each reply is that of a step of the network, with the counts as they stood after it; and from each state
 -- that the old network stands for it is a round.
-pub record Rounds (tests : AllTests) (old : WorldKept) (writer reader : Endpoint) (answer : Round)
-    (new : WorldKept) : Type 0 where
+pub record Rounds {hearing : Hearing} (tests : AllTests) (old : WorldKept hearing) (writer reader : Endpoint) (answer : Round)
+    (new : WorldKept hearing) : Type 0 where
   pub events : List WorldEvent
   pub steps : AreSteps tests old events answer.replies new
   pub round : (config : Config) (network : WorldState) → StandsFor old config network

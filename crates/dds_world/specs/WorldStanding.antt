@@ -1,13 +1,12 @@
 -- What a network stands for, and what its steps and runs promise of packets.
 --
--- To be believed are `KeepsRules`, `RunsByRules`, and `WorldKept` and `traffic`, which they name. What a network stands
+-- To be believed are `KeepsRules`, `RunsByRules`, and `WorldKept`, `Hearing` and `traffic`, which they name. What a network stands
 -- for is not, since they are said of all of it; and inner functions alone cite `Announces`, `Posts` and `ArePosted`.
 --
 -- The network is this project's own; its peers behave by RTPS 2.5, 8.4, and their listeners by DDS 1.4, 2.2.4.3.
 use Rattle.std.specs.Prelude.{◌≡◌, ◌≢◌, ◌⊎◌, ℕ, suc, ◌+◌, ◌-◌, ◌^◌, ◌≤◌, List, [], ◌∷◌, ◌++◌, length, get_or, slice_get, Some, Contains, AllPairs}
 use Rattle.dds_base.specs.declared.config.Config.{Config}
-use Rattle.dds_notices.specs.Listeners.{Places, Slotted, StandsFor as SlotsStandFor}
-use Rattle.dds_notices.specs.Notices.{Recording}
+use Rattle.dds_notices.specs.Listeners.{Places}
 use Rattle.dds_protocol.specs.Noticing.{world_ended}
 use Rattle.dds_protocol.specs.declared.event.Packet.{Packet}
 use Rattle.dds_machine.specs.declared.event.WorldEvent.{WorldEvent}
@@ -22,32 +21,33 @@ use Rattle.dds_core.specs.Kept.{PeerKept}
 use Rattle.dds_core.specs.Sending.{AreMessages}
 use Rattle.dds_core.specs.Standing.{StandsFor as CoreStandsFor, IsSound}
 
--- the peers, how many filters were added to each, what its listeners keep, every packet that was sent, and how many
--- found no memory
-pub record WorldKept : Type 0 where
+-- what is kept of a peer's listeners, and for which places it stands, by the peer's number
+pub record Hearing : Type 1 where
+  pub Kept : Type 0
+  pub stands : ℕ → Kept → Places → Type 0
+
+-- the peers, how many filters were added to each, what is kept of its listeners, every packet that was sent, and how
+-- many found no memory
+pub record WorldKept (hearing : Hearing) : Type 0 where
   pub peers : List PeerKept
   pub filters : List ℕ
-  pub listeners : List (Slotted Recording)
+  pub listeners : List hearing.Kept
   pub sent : List Packet
   pub unsent : ℕ
 
--- listeners, by what they keep, stand for these places
-abbrev pub AreTold : Slotted Recording → Places → Type 0
-AreTold kept places = SlotsStandFor (λ (r : Recording). r.notices) (λ (r : Recording). r.room) kept places
-
 -- A state of the network for which what it keeps stands: so its peers stand, have as many filters, have listeners that
--- keep the last ones of all that they were told, and know what was claimed to them alone; all that packets claim is
+-- stand for what they were told, and know what was claimed to them alone; all that packets claim is
 -- true, and each packet is a message; what is counted as unsent keeps to its bound; the counts that were sent or taken
 -- were used by their senders; and no reader's place is past the end of a list.
-pub record StandsFor (kept : WorldKept) (config : Config) (network : WorldState) : Type 0 where
+pub record StandsFor {hearing : Hearing} (kept : WorldKept hearing) (config : Config) (network : WorldState) : Type 0 where
   pub count : length network.peers ≡ length kept.peers
   pub each : (i : ℕ) (k : PeerKept) → slice_get kept.peers i ≡ Some k
       → CoreStandsFor k config (peer_at network (suc i))
   pub known : (i : ℕ) (k : PeerKept) → slice_get kept.peers i ≡ Some k → IsSound config (peer_at network (suc i))
   pub filters : (i : ℕ) → (peer_at network (suc i)).part.dds.watch.filters ≡ get_or kept.filters i 0
   pub listened : length network.peers ≡ length kept.listeners
-  pub listeners : (i : ℕ) (k : Slotted Recording) → slice_get kept.listeners i ≡ Some k
-      → AreTold k (peer_at network (suc i)).part.dds.listeners
+  pub listeners : (i : ℕ) (k : hearing.Kept) → slice_get kept.listeners i ≡ Some k
+      → hearing.stands (suc i) k (peer_at network (suc i)).part.dds.listeners
   pub sent : network.sent ≡ kept.sent
   pub sound : Sound config network
   pub messages : AreMessages kept.sent
@@ -73,16 +73,16 @@ pub record Posts (old : List Packet) (packets : List Packet) (new : List Packet)
   pub different : AllPairs (λ (a b : Packet). a.to ≢ b.to) packets → AllPairs (λ (a b : Packet). a.to ≢ b.to) posted
 
 -- A machine for which what a network keeps stands: its parts are those of the peers in a state for which it stands.
-abbrev pub MachineStands : WorldKept → Config → Machine → Type 0
+abbrev pub MachineStands : {hearing : Hearing} → WorldKept hearing → Config → Machine → Type 0
 MachineStands kept config m =
     (network : WorldState) × (machine_of network ≡ m) × StandsFor kept config network
 
 -- the packets that were sent, and how many were not
-abbrev pub traffic : WorldKept → Traffic
+abbrev pub traffic : {hearing : Hearing} → WorldKept hearing → Traffic
 traffic kept = record { sent = kept.sent; unsent = kept.unsent }
 
 -- For each state that the old network stands for, this is what is sent at the event.
-abbrev pub Announces : WorldKept → WorldEvent → Reply → WorldKept → Type 0
+abbrev pub Announces : {hearing : Hearing} → WorldKept hearing → WorldEvent → Reply → WorldKept hearing → Type 0
 Announces old event reply new =
     (config : Config) (network : WorldState) → StandsFor old config network
     → Sends config (traffic old) (machine_of network) event reply (traffic new)
@@ -90,15 +90,15 @@ Announces old event reply new =
 -- For each state that the old network stood for, the event is a step of its peers by the rules of the protocol, which
 -- say which messages are due, and of these each is sent, in their order, or counted; it is a step of the machine that
 -- the peers are the parts of; and the new network stands for the state at its end, once listeners were told.
-abbrev pub KeepsRules : AllTests → WorldKept → WorldEvent → Reply → WorldKept → Type 0
+abbrev pub KeepsRules : {hearing : Hearing} → AllTests → WorldKept hearing → WorldEvent → Reply → WorldKept hearing → Type 0
 KeepsRules tests old event reply new = (config : Config) (network : WorldState) → StandsFor old config network
     → (after : WorldState) × CountedStep config tests network old.unsent event reply after new.unsent
     × StandsFor new config (world_ended network event after)
 
 -- For each state that the old network stood for, these replies to the events are a run of its peers by the rules of the
 -- protocol, and the new network stands for the state afterwards.
-pub record RunsByRules (tests : AllTests) (old : WorldKept) (events : List WorldEvent) (replies : List Reply)
-    (new : WorldKept) : Type 0 where
+pub record RunsByRules {hearing : Hearing} (tests : AllTests) (old : WorldKept hearing) (events : List WorldEvent) (replies : List Reply)
+    (new : WorldKept hearing) : Type 0 where
   pub run : (config : Config) (network : WorldState) → StandsFor old config network
       → (after : WorldState) × RuledRun config tests network old.unsent events replies after new.unsent
       × StandsFor new config after

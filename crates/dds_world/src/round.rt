@@ -2,7 +2,8 @@
 //!
 //! RTPS 2.5, 8.4.9 (reliable StatefulWriter), 8.4.12 (reliable StatefulReader).
 
-ghost use Rattle.std.specs.Prelude.{◌≡◌, ◌++◌, ◌+◌, ◌<◌, ◌≤◌, ◌↔◌, min, List, [], ◌∷◌, length, vec_len, vec_capacity, IsTrue, IfOk, IfErr, OnErr, MatchOption};
+ghost use Rattle.std.specs.Prelude.{◌≡◌, ℕ, ◌++◌, ◌+◌, ◌<◌, ◌≤◌, ◌↔◌, min, List, [], ◌∷◌, length, vec_len, vec_capacity, IsTrue, IfOk, IfErr, OnErr, MatchOption};
+ghost use Rattle.dds_notices.specs.Listeners.{ByEntity};
 ghost use Rattle.dds_world.specs.declared.round.RoundReply.{RoundReply as ReplyOf};
 ghost use Rattle.dds_world.specs.Round.{answers_at, AreMatched, AreSteps, HasNone, IsFirst, IsStep, IsTo, RefusesRound, RoundRuns, Rounds};
 ghost use Rattle.dds_world.specs.Holding.{MachineStandsFor, filters_of, kept_of, tests_in};
@@ -110,24 +111,24 @@ impl<F: Filter, L: Listener> World<F, L> {
     pub fn round(&mut self, writer: Endpoint, reader: Endpoint) -> Result<Round, Code>
         // The replies are a run of the machine without packets, and the answer says the places of the reader there.
         ensures run { IfOk result
-            (λ answer. RoundRuns (MachineStandsFor L.notices L.capacity)
+            (λ answer. (given : ℕ → ByEntity L) → RoundRuns (MachineStandsFor L.notices L.capacity L.becomes given)
             (tests_in F.meaning self.old) (length self.old.sent) self.old writer reader answer
             (length self.new.sent) self.new) }
         // They are a run by the rules of the protocol over the events of a round, with the counts as they stood after
         // each, and the answer says how the two stood before it, and the reader's place after it. The reader has then
         // caught up, unless the answer shows what hindered it.
         ensures round { IfOk result
-            (λ answer. Rounds (tests_in F.meaning self.old)
-            (kept_of L.notices L.capacity self.old) writer reader answer
-            (kept_of L.notices L.capacity self.new)) }
+            (λ answer. (given : ℕ → ByEntity L) → Rounds (tests_in F.meaning self.old)
+            (kept_of L.notices L.capacity L.becomes given self.old) writer reader answer
+            (kept_of L.notices L.capacity L.becomes given self.new)) }
         // No filter is added.
         ensures filters { filters_of self.new ≡ filters_of self.old }
         // There is a round only where the two are matched.
         ensures matched { IfOk result
-            (λ answer. AreMatched (kept_of L.notices L.capacity self.old) writer reader) }
+            (λ answer. (given : ℕ → ByEntity L) → AreMatched (kept_of L.notices L.capacity L.becomes given self.old) writer reader) }
         // It is refused where they are not, or else for want of memory.
-        ensures refused { IfErr result
-            (RefusesRound (kept_of L.notices L.capacity self.old) writer reader) }
+        ensures refused { IfErr result (λ code. (given : ℕ → ByEntity L)
+            → RefusesRound (kept_of L.notices L.capacity L.becomes given self.old) writer reader code) }
         // A refusal leaves the network as it was.
         ensures err { OnErr result (self.new ≡ self.old) }
     {
@@ -160,10 +161,10 @@ impl<F: Filter, L: Listener> World<F, L> {
 
     /// The writer and the reader with what a round needs, if they are matched.
     fn matched(&self, writer: Endpoint, reader: Endpoint) -> Option<Matched>
-        ensures { MatchOption result
-            (NotMatched (kept_of L.notices L.capacity self.now) writer reader)
+        ensures { (given : ℕ → ByEntity L) → MatchOption result
+            (NotMatched (kept_of L.notices L.capacity L.becomes given self.now) writer reader)
             (λ m. (m.writer ≡ writer) × (m.reader ≡ reader)
-            × IsKnown (kept_of L.notices L.capacity self.now) m) }
+            × IsKnown (kept_of L.notices L.capacity L.becomes given self.now) m) }
     {
         let Some(index) = index_of(writer.peer, self.count()) else {
             return None;
@@ -198,9 +199,9 @@ impl<F: Filter, L: Listener> World<F, L> {
     fn add_step(&mut self, event: WorldEvent, replies: &mut Vec<RoundReply>)
         requires room { vec_len replies.old < vec_capacity replies.old }
         ensures step { (reply : ReplyOf) × (replies.new.items ≡ replies.old.items ++ reply ∷ [])
-            × IsStep (tests_in F.meaning self.old)
-            (kept_of L.notices L.capacity self.old) event reply
-            (kept_of L.notices L.capacity self.new) }
+            × ((given : ℕ → ByEntity L) → IsStep (tests_in F.meaning self.old)
+            (kept_of L.notices L.capacity L.becomes given self.old) event reply
+            (kept_of L.notices L.capacity L.becomes given self.new)) }
         ensures filters { filters_of self.new ≡ filters_of self.old }
         ensures capacity { vec_capacity replies.old ≤ vec_capacity replies.new }
     {
@@ -220,9 +221,9 @@ impl<F: Filter, L: Listener> World<F, L> {
     /// Delivers the writer's HEARTBEAT to the reader, if it is among the packets after so many, and what follows.
     fn deliver_heartbeat(&mut self, m: &Matched, from: u64, replies: &mut Vec<RoundReply>)
         requires room { vec_len replies.old + 34 ≤ vec_capacity replies.old }
-        ensures adds { Adds (Beating (tests_in F.meaning self.old) m.now from)
-            (kept_of L.notices L.capacity self.old) replies.old.items
-            (kept_of L.notices L.capacity self.new) replies.new.items }
+        ensures adds { (given : ℕ → ByEntity L) → Adds (Beating (tests_in F.meaning self.old) m.now from)
+            (kept_of L.notices L.capacity L.becomes given self.old) replies.old.items
+            (kept_of L.notices L.capacity L.becomes given self.new) replies.new.items }
         ensures filters { filters_of self.new ≡ filters_of self.old }
     {
         let wanted = Sought::Heartbeat {
@@ -240,9 +241,9 @@ impl<F: Filter, L: Listener> World<F, L> {
     /// Delivers the reader's ACKNACK to the writer, if it is among the packets after so many, and its answers.
     fn deliver_acknack(&mut self, m: &Matched, from: u64, replies: &mut Vec<RoundReply>)
         requires room { vec_len replies.old + 33 ≤ vec_capacity replies.old }
-        ensures adds { Adds (Acknowledging (tests_in F.meaning self.old) m.now from)
-            (kept_of L.notices L.capacity self.old) replies.old.items
-            (kept_of L.notices L.capacity self.new) replies.new.items }
+        ensures adds { (given : ℕ → ByEntity L) → Adds (Acknowledging (tests_in F.meaning self.old) m.now from)
+            (kept_of L.notices L.capacity L.becomes given self.old) replies.old.items
+            (kept_of L.notices L.capacity L.becomes given self.new) replies.new.items }
         ensures filters { filters_of self.new ≡ filters_of self.old }
     {
         let wanted = Sought::AckNack {
@@ -261,10 +262,10 @@ impl<F: Filter, L: Listener> World<F, L> {
     /// Delivers the packets after so many at this peer, up to 32.
     fn deliver_answers(&mut self, peer: u8, from: u64, replies: &mut Vec<RoundReply>)
         requires room { vec_len replies.old + 32 ≤ vec_capacity replies.old }
-        ensures steps { (added : List ReplyOf) × (replies.new.items ≡ replies.old.items ++ added)
-            × AreSteps (tests_in F.meaning self.old) (kept_of L.notices L.capacity self.old)
+        ensures steps { (given : ℕ → ByEntity L) → (added : List ReplyOf) × (replies.new.items ≡ replies.old.items ++ added)
+            × AreSteps (tests_in F.meaning self.old) (kept_of L.notices L.capacity L.becomes given self.old)
             (answers_at peer from (length self.old.sent)) added
-            (kept_of L.notices L.capacity self.new) }
+            (kept_of L.notices L.capacity L.becomes given self.new) }
         ensures filters { filters_of self.new ≡ filters_of self.old }
     {
         let count = self.sent().saturating_sub(from).min(MAX_ANSWERS);

@@ -8,6 +8,7 @@ ghost use Rattle.dds_base.specs.Checked.{check_refusal};
 ghost use Rattle.dds_base.specs.declared.config.Config.{Config as ConfigOf};
 ghost use Rattle.dds_base.specs.Refusal.{Refuses};
 ghost use Rattle.dds_base.specs.declared.code.Code.TheVariants.{Memory};
+ghost use Rattle.dds_notices.specs.Listeners.{ByEntity};
 ghost use Rattle.dds_machine.specs.declared.event.WorldEvent.TheVariants as event;
 ghost use Rattle.dds_protocol.specs.Traffic.{no_traffic};
 ghost use Rattle.dds_machine.specs.Machine.{Machine, place_at};
@@ -16,10 +17,10 @@ ghost use Rattle.dds_machine.specs.Runs.{Runs, Steps};
 ghost use Rattle.dds_machine.specs.Numbered.{numbered};
 ghost use Rattle.dds_protocol.specs.Opening.{opening_world};
 ghost use Rattle.dds_core.specs.Opening.{opening_peer};
-ghost use Rattle.dds_core.specs.Listening.{StandsFor as CoreStandsFor};
+ghost use Rattle.dds_core.specs.Listening.{StandsFor as CoreStandsFor, no_listeners};
 ghost use Rattle.dds_world.specs.WorldStanding.{traffic, KeepsRules, Posts, RunsByRules, StandsFor};
 ghost use Rattle.dds_world.specs.Acting.{Counts, IsCopy, IsQuiet, OpensFirst};
-ghost use Rattle.dds_world.specs.Holding.{ActsIn, Adds, IsOfPeer, RefusesFilter, RefusesListener, Sets, StepsIn, MachineStandsFor, filters_of, kept_of, tests_in};
+ghost use Rattle.dds_world.specs.Holding.{ActsIn, Adds, IsOfPeer, RefusesFilter, RefusesListener, Sets, StepsIn, MachineStandsFor, filters_of, kept_of, none_given, tests_in};
 
 use dds_base::{Code, Config, Entity, Octets, Sequence, Sn, index_of};
 use dds_conditions::Filter;
@@ -88,7 +89,8 @@ fn open_peer<F: Filter, L: Listener>(
     requires within { index < length config.now.peers }
     requires few { length config.now.peers ≤ 16 }
     ensures opening { IfOk result
-        (λ core. CoreStandsFor L.notices L.capacity core config.now
+        (λ core. CoreStandsFor L.notices L.capacity L.becomes
+        (no_listeners (opening_peer config.now (index + 1)).part) core config.now
         (opening_peer config.now (index + 1))) }
     ensures none { IfOk result (λ core. core.filtered.filters ≡ []) }
     ensures taken { IfOk result (λ core. check_refusal config.now.peers ≡ None) }
@@ -106,7 +108,7 @@ fn open_peers<F: Filter, L: Listener>(
     requires some { 1 ≤ length config.now.peers }
     requires few { length config.now.peers ≤ 16 }
     ensures opening { IfOk result
-        (λ peers. OpensFirst L.notices L.capacity config.now
+        (λ peers. OpensFirst L.notices L.capacity L.becomes config.now
         (length config.now.peers) peers.items) }
     ensures refused { IfErr result (Refuses (check_refusal config.now.peers)) }
 {
@@ -126,19 +128,21 @@ impl<F: Filter, L: Listener> World<F, L> {
     ///
     /// What `Config::check` answers, else `Memory` where a growth was refused.
     pub fn open(alloc: Global, config: &Config) -> Result<World<F, L>, Code>
-        // The network stands for the machine at the opening of its configuration.
+        // The network stands for the machine at the opening of its configuration, and no listener was given.
         ensures opening { IfOk result
-            (λ world. MachineStandsFor L.notices L.capacity world config.now (opening config.now)) }
+            (λ world. MachineStandsFor L.notices L.capacity L.becomes (none_given (opening config.now))
+            world config.now (opening config.now)) }
         // Its peers are at their opening too, and know nothing.
         ensures rules { IfOk result
-            (λ world. StandsFor (kept_of L.notices L.capacity world) config.now
-            (opening_world config.now)) }
+            (λ world. StandsFor (kept_of L.notices L.capacity L.becomes (none_given (opening config.now)) world)
+            config.now (opening_world config.now)) }
         // No peer has a filter.
         ensures none { IfOk result
             (λ world. (peer : ℕ) → numbered (filters_of world) peer [] ≡ []) }
         // Nothing was sent, and nothing is counted.
         ensures quiet { IfOk result
-            (λ world. traffic (kept_of L.notices L.capacity world) ≡ no_traffic) }
+            (λ world. (given : ℕ → ByEntity L)
+            → traffic (kept_of L.notices L.capacity L.becomes given world) ≡ no_traffic) }
         // Against what is opened there is no cause.
         ensures taken { IfOk result (λ world. check_refusal config.now.peers ≡ None) }
         // A refusal is by the first cause that there is, or for want of memory.
@@ -165,13 +169,13 @@ impl<F: Filter, L: Listener> World<F, L> {
         // For each machine that the network stands for, the reply is one that the machine without packets gives, by
         // what the filters mean, and the network stands for the machine at the event's end, once listeners were told:
         // this is the theorem.
-        ensures step { Steps (MachineStandsFor L.notices L.capacity)
+        ensures step { (given : ℕ → ByEntity L) → Steps (MachineStandsFor L.notices L.capacity L.becomes given)
             (tests_in F.meaning self.old) (length self.old.sent) self.old event result self.new }
         // The event is one by the rules of the protocol, by which that is so: each message that they make due is sent,
         // or counted, and a delivered packet is taken up, submessage by submessage.
-        ensures rules { KeepsRules (tests_in F.meaning self.old)
-            (kept_of L.notices L.capacity self.old) event result
-            (kept_of L.notices L.capacity self.new) }
+        ensures rules { (given : ℕ → ByEntity L) → KeepsRules (tests_in F.meaning self.old)
+            (kept_of L.notices L.capacity L.becomes given self.old) event result
+            (kept_of L.notices L.capacity L.becomes given self.new) }
         // No filter is added.
         ensures filters { filters_of self.new ≡ filters_of self.old }
     {
@@ -186,14 +190,14 @@ impl<F: Filter, L: Listener> World<F, L> {
     pub fn run(&mut self, events: Vec<WorldEvent>) -> Result<Sequence<Reply>, Code>
         // The replies are a run of the machine without packets.
         ensures run { IfOk result
-            (λ replies. Runs (MachineStandsFor L.notices L.capacity)
+            (λ replies. (given : ℕ → ByEntity L) → Runs (MachineStandsFor L.notices L.capacity L.becomes given)
             (tests_in F.meaning self.old) (length self.old.sent) self.old events.items replies
             (length self.new.sent) self.new) }
         // They are one of the network's peers by the rules of the protocol.
         ensures rules { IfOk result
-            (λ replies. RunsByRules (tests_in F.meaning self.old)
-            (kept_of L.notices L.capacity self.old) events.items replies
-            (kept_of L.notices L.capacity self.new)) }
+            (λ replies. (given : ℕ → ByEntity L) → RunsByRules (tests_in F.meaning self.old)
+            (kept_of L.notices L.capacity L.becomes given self.old) events.items replies
+            (kept_of L.notices L.capacity L.becomes given self.new)) }
         // No filter is added.
         ensures filters { filters_of self.new ≡ filters_of self.old }
         // It is refused for want of memory alone, and never where there are no events.
@@ -224,9 +228,9 @@ impl<F: Filter, L: Listener> World<F, L> {
     pub fn add_filter(&mut self, peer: u8, filter: F) -> Result<u32, (Code, F)>
         // It is the last one there, by the next number, and nothing else changes.
         ensures ok { IfOk result
-            (λ number. Adds L.notices L.capacity self.old peer filter number self.new) }
+            (λ number. Adds L.notices L.capacity L.becomes self.old peer filter number self.new) }
         // A refusal is by the first cause that there is, or for want of memory.
-        ensures refused { IfErr result (λ e. RefusesFilter L.notices L.capacity self.old peer e.0) }
+        ensures refused { IfErr result (λ e. RefusesFilter L.notices L.capacity L.becomes self.old peer e.0) }
         // What is refused comes back.
         ensures back { IfErr result (λ e. e.1 ≡ filter) }
         // A refusal changes nothing.
@@ -254,13 +258,14 @@ impl<F: Filter, L: Listener> World<F, L> {
         mask: StatusMask,
         listener: Option<L>,
     ) -> Result<Option<L>, (Code, Option<L>)>
-        // It is set, and nothing else changes; the one of before has kept the last ones of all that it was told.
+        // It is set, and nothing else changes; the one of before is what that which was given became by being told of
+        // all that its place was, one after another, and has kept the last ones.
         ensures ok { IfOk result
-            (λ handed. Sets L.notices L.capacity self.old peer entity mask listener handed
+            (λ handed. Sets L.notices L.capacity L.becomes self.old peer entity mask listener handed
             self.new) }
         // A refusal is by the first cause that there is, exactly then.
         ensures refused { IfErr result
-            (λ e. RefusesListener L.notices L.capacity self.old peer entity listener e.0) }
+            (λ e. RefusesListener L.notices L.capacity L.becomes self.old peer entity listener e.0) }
         // What is refused comes back.
         ensures back { IfErr result (λ e. e.1 ≡ listener) }
         // A refusal changes nothing.
@@ -280,7 +285,7 @@ impl<F: Filter, L: Listener> World<F, L> {
     }
 
     fn happen(&mut self, event: WorldEvent) -> Reply
-        ensures { StepsIn F.meaning L.notices L.capacity self.old event result self.new }
+        ensures { StepsIn F.meaning L.notices L.capacity L.becomes self.old event result self.new }
     {
         match event {
             WorldEvent::Call { peer, call } => self.happen_to(peer, Event::Call(call)),
@@ -291,8 +296,8 @@ impl<F: Filter, L: Listener> World<F, L> {
 
     /// A call at the peer of this number, or its time that goes on.
     fn happen_to(&mut self, peer: u8, event: Event) -> Reply
-        ensures { (given : WorldEvent) → IsOfPeer given peer event
-            → StepsIn F.meaning L.notices L.capacity self.old given result self.new }
+        ensures { (whole : WorldEvent) → IsOfPeer whole peer event
+            → StepsIn F.meaning L.notices L.capacity L.becomes self.old whole result self.new }
     {
         match index_of(peer, self.count()) {
             Some(index) => self.happen_at(index, event),
@@ -301,7 +306,7 @@ impl<F: Filter, L: Listener> World<F, L> {
     }
 
     fn deliver(&mut self, peer: u8, packet: u64) -> Reply
-        ensures { StepsIn F.meaning L.notices L.capacity self.old
+        ensures { StepsIn F.meaning L.notices L.capacity L.becomes self.old
             (event.Deliver peer packet) result self.new }
     {
         match packet_index(packet, self.sent()) {
@@ -313,7 +318,7 @@ impl<F: Filter, L: Listener> World<F, L> {
     /// Delivers the packet of this index.
     fn deliver_sent(&mut self, peer: u8, sent: usize) -> Reply
         requires sent { sent < length self.old.sent }
-        ensures { StepsIn F.meaning L.notices L.capacity self.old
+        ensures { StepsIn F.meaning L.notices L.capacity L.becomes self.old
             (event.Deliver peer (sent + 1)) result self.new }
     {
         match index_of(peer, self.count()) {
@@ -327,7 +332,7 @@ impl<F: Filter, L: Listener> World<F, L> {
     fn deliver_at(&mut self, index: usize, sent: usize) -> Reply
         requires within { index < length self.old.cores }
         requires sent { sent < length self.old.sent }
-        ensures { StepsIn F.meaning L.notices L.capacity self.old
+        ensures { StepsIn F.meaning L.notices L.capacity L.becomes self.old
             (event.Deliver (index + 1) (sent + 1)) result self.new }
     {
         match self.copied(sent) {
@@ -358,7 +363,7 @@ impl<F: Filter, L: Listener> World<F, L> {
     /// One event of the peer of this index. Sends what the peer gives back, and gives its answer.
     fn happen_at(&mut self, index: usize, event: Event) -> Reply
         requires { index < length self.old.cores }
-        ensures { ActsIn F.meaning L.notices L.capacity self.old index event result self.new }
+        ensures { ActsIn F.meaning L.notices L.capacity L.becomes self.old index event result self.new }
     {
         let output = self.peers[index].step(event);
         self.posted(output)
@@ -369,10 +374,10 @@ impl<F: Filter, L: Listener> World<F, L> {
         ensures reply { result ≡ output.reply }
         ensures cores { self.new.cores ≡ self.old.cores }
         ensures posted { Posts self.old.sent output.packets self.new.sent }
-        ensures unsent { Counts (kept_of L.notices L.capacity self.old) output
-            (kept_of L.notices L.capacity self.new) }
-        ensures quiet { IsQuiet (kept_of L.notices L.capacity self.old) output
-            (kept_of L.notices L.capacity self.new) }
+        ensures unsent { (given : ℕ → ByEntity L) → Counts (kept_of L.notices L.capacity L.becomes given self.old) output
+            (kept_of L.notices L.capacity L.becomes given self.new) }
+        ensures quiet { (given : ℕ → ByEntity L) → IsQuiet (kept_of L.notices L.capacity L.becomes given self.old) output
+            (kept_of L.notices L.capacity L.becomes given self.new) }
     {
         let Output {
             reply,
@@ -417,8 +422,8 @@ impl<F: Filter, L: Listener> World<F, L> {
     /// RTPS 2.5, 8.4.10 (StatefulReader, WriterProxy).
     pub fn place(&self, reader: Endpoint, writer: Endpoint) -> Option<Sn>
         // It is the place in each machine that the network stands for, and there is one exactly if they are matched.
-        ensures place { (config : ConfigOf) (m : Machine)
-            → MachineStandsFor L.notices L.capacity self.now config m
+        ensures place { (given : ℕ → ByEntity L) (config : ConfigOf) (m : Machine)
+            → MachineStandsFor L.notices L.capacity L.becomes given self.now config m
             → result ≡ place_at m reader writer }
     {
         let Some(index) = index_of(reader.peer, self.count()) else {

@@ -71,11 +71,14 @@ pub struct Latest {
 }
 
 impl Listener for Latest {
+    ghost use Rattle.std.specs.Prelude.{◌≡◌, Some};
     ghost use Rattle.library_tests.specs.Latest.{list_of};
 
     ghost notices = { λ l. list_of l.kept };
 
     ghost capacity = { λ _. 1 };
+
+    ghost becomes = { λ l n m. m ≡ record l { kept = Some n } };
 
     fn room(&self) -> usize {
         1

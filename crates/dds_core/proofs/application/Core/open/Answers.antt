@@ -3,7 +3,7 @@ use Rattle.dds_core.proofs.application.Core.open.Goals as goal
 
 pub returns-clause-opening : goal.returns-clause-opening
 returns-clause-opening g c =
-    opens g.L.Listener.notices g.L.Listener.capacity c.in_ok-filtered.filtered c.in_ok-listeners.listeners
+    opens g.L.Listener.notices g.L.Listener.capacity g.L.Listener.becomes c.in_ok-filtered.filtered c.in_ok-listeners.listeners
     c.args.config.now c.args.peer
     c.writers.result c.readers.result c.in_ok-filtered.ensures.opening c.writers.ensures c.readers.ensures
     c.in_ok-listeners.ensures.nobody

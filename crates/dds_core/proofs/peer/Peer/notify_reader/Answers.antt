@@ -8,6 +8,7 @@ pub returns-clause-told : goal.returns-clause-told
 returns-clause-told g c = λ before marked.
     let N = g.L.Listener.notices in
     let C = g.L.Listener.capacity in
+    let B = g.L.Listener.becomes in
     let n : ℕ = c.args.number in
     let i : ℕ = c.from-index.result - 1 in
     let number = c.from-index.ensures in
@@ -25,24 +26,24 @@ returns-clause-told g c = λ before marked.
     end_found (λ (k : PeerKept). k.readers) _ c.tell_of_reader-2.new.self n c.from-index.result c.index-3.result.now
     c.self-3.view_is low (omega (arith, high, same, same2)) number c.index-3.ensures in
     let one =
-    tells_raised N C lost_raised c.lost_raised-lost.result before c.args.mark.now c.args.self.now c.args.slots.now n i
+    tells_raised N C B lost_raised c.lost_raised-lost.result before c.args.mark.now c.args.self.now c.args.slots.now n i
     c.index.result.now
     c.tell_of_reader.new.self c.tell_of_reader.new.slots first.0 first.3 marked c.lost_raised-lost.ensures
     c.tell_of_reader.ensures.told in
     let two =
-    tells_raised N C data_raised c.data_raised-data.result before c.args.mark.now c.tell_of_reader.new.self
+    tells_raised N C B data_raised c.data_raised-data.result before c.args.mark.now c.tell_of_reader.new.self
     c.tell_of_reader.new.slots n i c.index-2.result.now
     c.tell_of_reader-2.new.self c.tell_of_reader-2.new.slots second.0 second.3 marked c.data_raised-data.ensures
     c.tell_of_reader-2.ensures.told in
     let three =
-    tells_raised N C turn_raised c.turn_raised-turned.result before c.args.mark.now c.tell_of_reader-2.new.self
+    tells_raised N C B turn_raised c.turn_raised-turned.result before c.args.mark.now c.tell_of_reader-2.new.self
     c.tell_of_reader-2.new.slots n i c.index-3.result.now
     c.tell_of_reader-3.new.self c.tell_of_reader-3.new.slots third.0 third.3 marked c.turn_raised-turned.ensures
     c.tell_of_reader-3.ensures.told in
-    tells_then N C (λ part. data_told before n (lost_told before n part))
+    tells_then N C B (λ part. data_told before n (lost_told before n part))
     (turn_told before n) c.args.self.now c.args.slots.now
     c.tell_of_reader-2.new.self c.tell_of_reader-2.new.slots c.tell_of_reader-3.new.self c.tell_of_reader-3.new.slots
-    (tells_then N C (lost_told before n)
+    (tells_then N C B (lost_told before n)
     (data_told before n) c.args.self.now c.args.slots.now c.tell_of_reader.new.self c.tell_of_reader.new.slots
     c.tell_of_reader-2.new.self c.tell_of_reader-2.new.slots one two)
     three

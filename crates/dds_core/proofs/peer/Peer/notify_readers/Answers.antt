@@ -9,7 +9,7 @@ use Rattle.dds_core.proofs.peer.Peer.notify_readers.Goals as goal
 pub loop-index-init : goal.loop-index-init
 loop-index-init g c = record {
   told = λ before marks.
-      tells_first g.L.Listener.notices g.L.Listener.capacity (reader_told before) c.args.self.now c.args.slots.now;
+      tells_first g.L.Listener.notices g.L.Listener.capacity g.L.Listener.becomes (reader_told before) c.args.self.now c.args.slots.now;
   count = refl;
 }
 
@@ -22,7 +22,7 @@ notify_reader-requires g c =
 pub loop-index-preserved : goal.loop-index-preserved
 loop-index-preserved g c = record {
   told = λ before marks.
-      tells_marked g.L.Listener.notices g.L.Listener.capacity c.args.marks.now.readers
+      tells_marked g.L.Listener.notices g.L.Listener.capacity g.L.Listener.becomes c.args.marks.now.readers
       (record { happened = 0 }) (λ mark i. IsMarkOf mark (own_reader before i)) (reader_told before)
       c.args.self.now c.args.slots.now c.loop-index.self c.loop-index.slots c.notify_reader.new.self
       c.notify_reader.new.slots c.loop-index.index _ _ 16 c.loop-index-test.true c.len-index-end.ensures
@@ -34,7 +34,7 @@ loop-index-preserved g c = record {
 pub returns : goal.returns
 returns g c = record {
   told = λ before marks.
-      tells_all g.L.Listener.notices g.L.Listener.capacity (reader_told before) c.args.self.now c.args.slots.now
+      tells_all g.L.Listener.notices g.L.Listener.capacity g.L.Listener.becomes (reader_told before) c.args.self.now c.args.slots.now
       c.loop-index.self c.loop-index.slots c.loop-index.index _ _ (length c.args.self.now.readers)
       c.loop-index.auto.index-end c.loop-index-test.false c.len-index-end.ensures
       (omega (arith, ap (λ (k : PeerKept). length k.readers) c.self.view_is))

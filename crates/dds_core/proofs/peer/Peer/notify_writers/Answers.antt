@@ -8,7 +8,7 @@ use Rattle.dds_core.proofs.peer.Peer.notify_writers.Goals as goal
 pub loop-index-init : goal.loop-index-init
 loop-index-init g c = record {
   told = λ before marks.
-      tells_first g.L.Listener.notices g.L.Listener.capacity (writer_told before) c.args.self.now c.args.slots.now;
+      tells_first g.L.Listener.notices g.L.Listener.capacity g.L.Listener.becomes (writer_told before) c.args.self.now c.args.slots.now;
   count = refl;
   readers = refl;
 }
@@ -22,7 +22,7 @@ notify_writer-requires g c =
 pub loop-index-preserved : goal.loop-index-preserved
 loop-index-preserved g c = record {
   told = λ before marks.
-      tells_marked g.L.Listener.notices g.L.Listener.capacity c.args.marks.now.writers 0
+      tells_marked g.L.Listener.notices g.L.Listener.capacity g.L.Listener.becomes c.args.marks.now.writers 0
       (λ mark i. mark ≡ losses_of (own_writer before i)) (writer_told before)
       c.args.self.now c.args.slots.now c.loop-index.self c.loop-index.slots c.notify_writer.new.self
       c.notify_writer.new.slots c.loop-index.index _ _ 16 c.loop-index-test.true c.len-index-end.ensures
@@ -34,7 +34,7 @@ loop-index-preserved g c = record {
 
 pub returns-clause-told : goal.returns-clause-told
 returns-clause-told g c = λ before marks.
-    tells_all g.L.Listener.notices g.L.Listener.capacity (writer_told before) c.args.self.now c.args.slots.now
+    tells_all g.L.Listener.notices g.L.Listener.capacity g.L.Listener.becomes (writer_told before) c.args.self.now c.args.slots.now
     c.loop-index.self c.loop-index.slots c.loop-index.index _ _ (length c.args.self.now.writers)
     c.loop-index.auto.index-end c.loop-index-test.false c.len-index-end.ensures
     (omega (arith, ap (λ (k : PeerKept). length k.writers) c.self.view_is)) (c.loop-index.invariant.told before marks)

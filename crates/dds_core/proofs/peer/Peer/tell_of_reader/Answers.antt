@@ -12,16 +12,16 @@ returns-then-takes-clause-told g c =
     let here =
     end_found (λ (k : PeerKept). k.readers) _ c.args.self.now c.args.number c.from.result c.index_mut.result.now
     c.self.view_is c.requires.within.0 c.requires.within.1 c.from.ensures c.index_mut.ensures.value in
-    tells_reader g.L.Listener.notices g.L.Listener.capacity c.args.raised c.in-Some.status _ c.args.self.now
+    tells_reader g.L.Listener.notices g.L.Listener.capacity g.L.Listener.becomes c.args.raised c.in-Some.status _ c.args.self.now
     c.args.slots.now c.args.number (c.from.result - 1) c.index_mut.result.now c.see.new.self c.tell.new.self
     c.in-Some.is c.self.view_is here.0 here.2 c.see.ensures.same c.see.ensures.sees c.if-takes.ensures.taker
     c.tell.ensures.told
 
 pub returns-else-takes-clause-told : goal.returns-else-takes-clause-told
 returns-else-takes-clause-told g c =
-    subst (λ (o : Option Status). Tells g.L.Listener.notices g.L.Listener.capacity
+    subst (λ (o : Option Status). Tells g.L.Listener.notices g.L.Listener.capacity g.L.Listener.becomes
     (λ part. told part (entity.Reader c.args.number) o) c.args.self.now c.args.slots.now c.args.self.now
     c.args.slots.now)
     (sym c.in-Some.is)
-    (tells_nobody g.L.Listener.notices g.L.Listener.capacity
+    (tells_nobody g.L.Listener.notices g.L.Listener.capacity g.L.Listener.becomes
     (entity.Reader c.args.number) c.in-Some.status c.args.self.now c.args.slots.now c.if-takes.ensures.taker)

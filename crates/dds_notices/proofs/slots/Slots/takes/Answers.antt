@@ -6,9 +6,9 @@ use Rattle.dds_notices.proofs.slots.Slots.takes.Goals as goal
 
 pub returns-else-takes : goal.returns-else-takes
 returns-else-takes g c = record {
-  taker = λ places stands.
-      let own = c.takes.ensures.takes (at_entity places c.args.entity) (rw c.at.ensures (stands.each c.args.entity)) in
+  taker = λ given places stands.
+      let own = c.takes.ensures.takes (at_entity given c.args.entity) (at_entity places c.args.entity) (rw c.at.ensures (stands.each c.args.entity)) in
       let here = c.as_ref.ensures.value ∙ ap (λ (k : Slotted g.row.L.Denot). k.participant) c.self.view_is in
-      let over = c.takes-else-takes.ensures.takes places.participant (rw here (stands.each Participant)) in
+      let over = c.takes-else-takes.ensures.takes given.participant places.participant (rw here (stands.each Participant)) in
       over ∙ taker-else places c.args.entity c.args.status.now (sym own ∙ c.if-takes.false);
 }

@@ -10,8 +10,8 @@ returns-clause-step g c =
     let items : c.push.new.self.items ≡ c.args.replies.now.items ++ reply ∷ [] = grind (arith, common_steps) in (
       reply,
       items,
-      record {
-        rules = c.step-reply.ensures.rules;
+      λ given. record {
+        rules = c.step-reply.ensures.rules given;
         sent = c.sent-sent.ensures.sent;
         unsent = c.unsent-unsent.ensures.unsent;
       },

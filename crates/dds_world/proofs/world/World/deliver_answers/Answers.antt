@@ -15,32 +15,37 @@ loop-index-preserved g c =
     let first = c.args.self.now in
     let more = ap (λ (rs : List RoundReply). length rs) a.1 in
     let total = length-append c.loop-index.replies.items (a.0 ∷ []) in
-    let so_far = i.3 in
-    let room = i.4 in
+    let so_far = i.1 in
+    let room = i.2 in
     let kept = c.add_step.ensures.capacity in (
-      i.0 ++ a.0 ∷ [],
-      a.1 ∙ (ap (λ (rs : List RoundReply). rs ++ a.0 ∷ []) i.1 ∙ append_assoc c.args.replies.now.items i.0 (a.0 ∷ [])),
-      answered_more (kept_of g.L.Listener.notices g.L.Listener.capacity first) c.args.peer c.args.from
-          c.loop-index.index _ _ i.0 (kept_of g.L.Listener.notices g.L.Listener.capacity c.loop-index.self) a.0
-          (kept_of g.L.Listener.notices g.L.Listener.capacity c.add_step.new.self) refl refl i.2
-          (same_tests g.F.Filter.meaning first c.loop-index.self
-          (λ tests. IsStep tests (kept_of g.L.Listener.notices g.L.Listener.capacity c.loop-index.self)
-          (world.Deliver c.args.peer (c.args.from + c.loop-index.index + 1)) a.0
-          (kept_of g.L.Listener.notices g.L.Listener.capacity c.add_step.new.self)) i.5 a.2),
+      λ given.
+          let so = i.0 given in
+          let old = kept_of g.L.Listener.notices g.L.Listener.capacity g.L.Listener.becomes given first in
+          let mid = kept_of g.L.Listener.notices g.L.Listener.capacity g.L.Listener.becomes given c.loop-index.self in
+          let new = kept_of g.L.Listener.notices g.L.Listener.capacity g.L.Listener.becomes given c.add_step.new.self in (
+            so.0 ++ a.0 ∷ [],
+            a.1
+                ∙ (ap (λ (rs : List RoundReply). rs ++ a.0 ∷ []) so.1
+                ∙ append_assoc c.args.replies.now.items so.0 (a.0 ∷ [])),
+            answered_more old c.args.peer c.args.from c.loop-index.index _ _ so.0 mid a.0 new refl refl so.2
+                (same_tests g.F.Filter.meaning first c.loop-index.self
+                (λ tests. IsStep tests mid (world.Deliver c.args.peer (c.args.from + c.loop-index.index + 1)) a.0 new) i.3
+                (a.2 given)),
+          ),
       omega (arith, more, total, so_far),
       omega (arith, room, kept),
-      c.add_step.ensures.filters ∙ i.5,
+      c.add_step.ensures.filters ∙ i.3,
     )
 
 pub returns-clause-steps : goal.returns-clause-steps
-returns-clause-steps g c =
-    let i = c.loop-index.invariant in
+returns-clause-steps g c = λ given.
+    let i = c.loop-index.invariant.0 given in
     let first = c.args.self.now in
     let all : c.loop-index.index ≡ min 32 (length first.sent - c.args.from) = omega arith in (
       i.0,
       i.1,
       subst (λ (n : ℕ). AreSteps (tests_in g.F.Filter.meaning first)
-          (kept_of g.L.Listener.notices g.L.Listener.capacity first)
+          (kept_of g.L.Listener.notices g.L.Listener.capacity g.L.Listener.becomes given first)
           (map (λ k. world.Deliver c.args.peer k) (numbers_from (c.args.from + 1) n)) i.0
-          (kept_of g.L.Listener.notices g.L.Listener.capacity c.loop-index.self)) all i.2,
+          (kept_of g.L.Listener.notices g.L.Listener.capacity g.L.Listener.becomes given c.loop-index.self)) all i.2,
     )

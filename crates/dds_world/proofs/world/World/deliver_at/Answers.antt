@@ -8,12 +8,12 @@ use Rattle.dds_world.proofs.world.World.deliver_at.Goals as goal
 
 pub returns-in-Ok : goal.returns-in-Ok
 returns-in-Ok g c =
-    delivered_in g.F.Filter.meaning g.L.Listener.notices g.L.Listener.capacity c.args.self.now c.happen_at.new.self
+    delivered_in g.F.Filter.meaning g.L.Listener.notices g.L.Listener.capacity g.L.Listener.becomes c.args.self.now c.happen_at.new.self
     c.args.index c.args.sent c.in-Ok.bytes c.happen_at.result c.in-Ok.ensures c.happen_at.ensures
 
 pub returns-in-Err : goal.returns-in-Err
 returns-in-Err g c =
-    subst (λ (r : Report). StepsIn g.F.Filter.meaning g.L.Listener.notices g.L.Listener.capacity c.args.self.now
+    subst (λ (r : Report). StepsIn g.F.Filter.meaning g.L.Listener.notices g.L.Listener.capacity g.L.Listener.becomes c.args.self.now
     (world.Deliver (c.args.index + 1) (c.args.sent + 1)) (Reported r) c.args.self.now) (sym c.unmoved.ensures)
-    (not_delivered_in g.F.Filter.meaning g.L.Listener.notices g.L.Listener.capacity c.args.self.now c.args.index
+    (not_delivered_in g.F.Filter.meaning g.L.Listener.notices g.L.Listener.capacity g.L.Listener.becomes c.args.self.now c.args.index
     c.args.sent c.requires.within c.requires.sent)

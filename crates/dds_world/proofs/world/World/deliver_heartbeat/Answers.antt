@@ -8,11 +8,11 @@ use Rattle.dds_world.proofs.Holding.{same_tests}
 use Rattle.dds_world.proofs.world.World.deliver_heartbeat.Goals as goal
 
 pub returns-clause-adds : goal.returns-clause-adds
-returns-clause-adds g c =
+returns-clause-adds g c = λ given.
     let a = c.add_step.ensures.step in
-    let d = c.deliver_acknack.ensures.adds in
-    let mid = kept_of g.L.Listener.notices g.L.Listener.capacity c.add_step.new.self in
-    let new = kept_of g.L.Listener.notices g.L.Listener.capacity c.deliver_acknack.new.self in
+    let d = c.deliver_acknack.ensures.adds given in
+    let mid = kept_of g.L.Listener.notices g.L.Listener.capacity g.L.Listener.becomes given c.add_step.new.self in
+    let new = kept_of g.L.Listener.notices g.L.Listener.capacity g.L.Listener.becomes given c.deliver_acknack.new.self in
     let next =
     same_tests g.F.Filter.meaning c.args.self.now c.add_step.new.self
     (λ tests. Acknowledging tests c.args.m.now c.sent-sent.result mid d.0 d.1 new) c.add_step.ensures.filters d.3 in
@@ -29,7 +29,7 @@ returns-clause-adds g c =
         d.0,
         d.1,
         c.in-Some.ensures,
-        a.2,
+        a.2 given,
         refl,
         refl,
         later,
@@ -37,5 +37,5 @@ returns-clause-adds g c =
     )
 
 pub returns-in_default-clause-adds : goal.returns-in_default-clause-adds
-returns-in_default-clause-adds g c =
+returns-in_default-clause-adds g c = λ given.
     ([], [], sym (append-nil c.args.replies.now.items), inl (refl, refl, refl, c.in_default.ensures))

@@ -13,8 +13,8 @@ returns g c =
     let count = ap (λ (k : Held g.row.F.Denot g.row.L.Denot). length k.cores) c.self.view_is in
     let within : c.args.index < length kept.cores = omega (arith, count) in
     subst (λ (k : Held g.row.F.Denot g.row.L.Denot). ActsIn g.F.Filter.meaning g.L.Listener.notices
-    g.L.Listener.capacity k c.args.index c.args.event c.posted.result c.posted.new.self) c.self.view_is
-    (acts_in g.L.Listener.notices g.L.Listener.capacity g.F.Filter.meaning kept c.args.index c.args.event core
+    g.L.Listener.capacity g.L.Listener.becomes k c.args.index c.args.event c.posted.result c.posted.new.self) c.self.view_is
+    (acts_in g.L.Listener.notices g.L.Listener.capacity g.L.Listener.becomes g.F.Filter.meaning kept c.args.index c.args.event core
     c.step-output.new.self c.step-output.result c.posted.result c.posted.new.self within c.index_mut.ensures.value
     c.step-output.ensures.step c.step-output.ensures.sends c.step-output.ensures.messages c.posted.ensures.reply
     c.posted.ensures.cores c.posted.ensures.posted c.posted.ensures.unsent

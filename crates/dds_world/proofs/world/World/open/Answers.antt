@@ -11,7 +11,7 @@ returns-clause-opening g c =
     record { cores = c.in_ok-peers.peers.items; sent = c.new.result.items; unsent = 0 } in (
       opening_world c.args.config.now,
       opening_is c.args.config.now,
-      opened g.L.Listener.notices g.L.Listener.capacity c.args.config.now held c.in_ok-peers.ensures.opening
+      opened g.L.Listener.notices g.L.Listener.capacity g.L.Listener.becomes c.args.config.now held c.in_ok-peers.ensures.opening
           c.new.ensures.items refl,
     )
 
@@ -19,14 +19,14 @@ pub returns-clause-rules : goal.returns-clause-rules
 returns-clause-rules g c =
     let held : Held g.row.F.Denot g.row.L.Denot =
     record { cores = c.in_ok-peers.peers.items; sent = c.new.result.items; unsent = 0 } in
-    opened g.L.Listener.notices g.L.Listener.capacity c.args.config.now held c.in_ok-peers.ensures.opening
+    opened g.L.Listener.notices g.L.Listener.capacity g.L.Listener.becomes c.args.config.now held c.in_ok-peers.ensures.opening
     c.new.ensures.items refl
 
 pub returns-clause-none : goal.returns-clause-none
 returns-clause-none g c = λ peer.
     let held : Held g.row.F.Denot g.row.L.Denot =
     record { cores = c.in_ok-peers.peers.items; sent = c.new.result.items; unsent = 0 } in
-    no_filters_at g.L.Listener.notices g.L.Listener.capacity c.args.config.now _ held c.in_ok-peers.ensures.opening peer
+    no_filters_at g.L.Listener.notices g.L.Listener.capacity g.L.Listener.becomes c.args.config.now _ held c.in_ok-peers.ensures.opening peer
 
 pub returns-clause-taken : goal.returns-clause-taken
 returns-clause-taken g c =

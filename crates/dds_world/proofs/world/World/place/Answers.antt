@@ -5,16 +5,15 @@ use Rattle.dds_world.proofs.Rounds.{place_in, place_kept}
 use Rattle.dds_world.proofs.world.World.place.Goals as goal
 
 pub returns : goal.returns
-returns g c =
-    let i = c.in-Some.index in
-    let core : CoreKept g.row.F.Denot g.row.L.Denot = c.index.result.now in
-    let at =
-    core_kept g.L.Listener.notices g.L.Listener.capacity _ c.args.self.now i c.count.result core c.self.view_is
-    c.index.ensures c.count.ensures c.in-Some.ensures.index.1 in
-    record {
-      place = place_in (kept_of g.L.Listener.notices g.L.Listener.capacity c.args.self.now) c.args.reader c.args.writer
-          c.place.result
-          (place_kept (kept_of g.L.Listener.notices g.L.Listener.capacity c.args.self.now) i
-          core.filtered.peer c.args.reader c.args.writer c.place.result c.in-Some.ensures.index.0 at
-          c.place.ensures.place);
-    }
+returns g c = record {
+  place = λ given.
+      let i = c.in-Some.index in
+      let core : CoreKept g.row.F.Denot g.row.L.Denot = c.index.result.now in
+      let kept = kept_of g.L.Listener.notices g.L.Listener.capacity g.L.Listener.becomes given c.args.self.now in
+      let at =
+      core_kept g.L.Listener.notices g.L.Listener.capacity g.L.Listener.becomes given _ c.args.self.now i c.count.result
+      core c.self.view_is c.index.ensures c.count.ensures c.in-Some.ensures.index.1 in
+      place_in kept c.args.reader c.args.writer c.place.result
+      (place_kept kept i core.filtered.peer c.args.reader c.args.writer c.place.result c.in-Some.ensures.index.0 at
+      c.place.ensures.place);
+}

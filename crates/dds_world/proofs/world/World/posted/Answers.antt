@@ -3,7 +3,7 @@ use Rattle.dds_world.specs.Holding.{Held}
 use Rattle.dds_world.proofs.world.World.posted.Goals as goal
 
 pub returns-clause-unsent : goal.returns-clause-unsent
-returns-clause-unsent g c =
+returns-clause-unsent g c = λ given.
     let sent = ap (λ (k : Held g.row.F.Denot g.row.L.Denot). length k.sent) c.self.view_is in
     let unsent = ap (λ (k : Held g.row.F.Denot g.row.L.Denot). k.unsent) c.self.view_is in
     let counted = c.post-lost.ensures.counted in
