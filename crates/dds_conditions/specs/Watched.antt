@@ -2,6 +2,7 @@
 --
 -- DDS 1.4, 2.2.2.1 (Condition, GuardCondition, StatusCondition, WaitSet), 2.2.2.5 (ReadCondition).
 use Rattle.std.specs.Prelude.{ℕ, ◌+◌, ◌-◌, ◌^◌, List, [], ◌∷◌, ◌++◌, get_or, set, map, replicate, length, nat_le, ◌&&◌, Bool, true, false, Option, None, Some, is_some, if◌then◌else◌}
+use Rattle.std.specs.List.{filter}
 use Rattle.std.specs.Option.{option_map}
 use Rattle.dds_base.specs.declared.code.Code.{Code}
 use Rattle.dds_base.specs.declared.code.Code.TheVariants.{BadParameter, OutOfResources, PreconditionNotMet}
@@ -143,6 +144,15 @@ with_wait_set_at w n waiting = record w { wait_sets = with_made w.wait_sets n wa
 abbrev pub free_refusal : Option Waiting → Option Code
 free_refusal None = Some BadParameter
 free_refusal (Some s) = if is_some s.deadline then Some PreconditionNotMet else None
+
+-- there is a WaitSet, and somebody waits in it
+abbrev pub is_used : Option Waiting → Bool
+is_used None = false
+is_used (Some s) = is_some s.deadline
+
+-- in how many of these somebody waits
+abbrev pub uses_in : List (Option Waiting) → ℕ
+uses_in wait_sets = length (filter is_used wait_sets)
 
 -- why one in which somebody has to wait is refused: no such WaitSet, or nobody waits in it
 abbrev pub use_refusal : Option Waiting → Option Code

@@ -15,7 +15,7 @@ ghost use Rattle.dds_conditions.specs.declared.condition.Condition.TheVariants.{
 ghost use Rattle.dds_conditions.specs.Attached.{active_of, is_attached};
 ghost use Rattle.dds_base.specs.Number.{at_number, is_number};
 ghost use Rattle.dds_conditions.specs.Lent.{LendsWaitSet};
-ghost use Rattle.dds_conditions.specs.Watched.{attach_refusal, conditions_in, conditions_of, detaching_refusal, enabled_of, filter_refusal, free_refusal, guard_refusal, has_filter, is_timed_out, knows, knows_entity, every_status, number_refusal, opened, unless_there, use_refusal, with_attached, with_condition, with_condition_at, with_deadline, with_detached, with_enabled, with_filter, with_made, with_wait_set, with_wait_set_at, without, without_condition};
+ghost use Rattle.dds_conditions.specs.Watched.{attach_refusal, conditions_in, conditions_of, detaching_refusal, enabled_of, filter_refusal, free_refusal, guard_refusal, has_filter, is_timed_out, is_used, knows, knows_entity, every_status, number_refusal, opened, unless_there, use_refusal, uses_in, with_attached, with_condition, with_condition_at, with_deadline, with_detached, with_enabled, with_filter, with_made, with_wait_set, with_wait_set_at, without, without_condition};
 
 use crate::condition::{Cond, Condition};
 use crate::wait_set::WaitSet;
@@ -41,6 +41,7 @@ pub struct Watch {
 }
 
 impl Model for Watch {
+    ghost use Rattle.std.specs.Prelude.{◌≤◌, length};
     ghost use Rattle.dds_conditions.specs.Watched.{Watched};
 
     ghost Value = { Watched };
@@ -53,6 +54,9 @@ impl Model for Watch {
       readers = w.readers.items;
       filters = w.filters;
     } };
+
+    // Each has a number.
+    ghost invariant = { λ w. length w.wait_sets.items ≤ 4294967295 };
 }
 
 /// Whether there is something of this number, counted from 1, among so many.
@@ -60,6 +64,16 @@ fn is_number_of(number: u8, count: usize) -> bool
     ensures { result ≡ is_number number count }
 {
     0 < number && usize::from(number) <= count
+}
+
+/// Whether there is a WaitSet, and somebody waits in it.
+fn is_used(waiting: &Option<Waiting>) -> bool
+    ensures { result ≡ is_used waiting.now }
+{
+    match waiting {
+        Some(waiting) => waiting.deadline.is_some(),
+        None => false,
+    }
 }
 
 /// As many entities, of each of which all statuses are enabled.
@@ -128,6 +142,28 @@ impl Watch {
             Entity::Writer(number) => is_number_of(number, self.writers.len()),
             Entity::Reader(number) => is_number_of(number, self.readers.len()),
         }
+    }
+
+    /// In how many WaitSets somebody waits.
+    ///
+    /// DDS 1.4, 2.2.2.1 (WaitSet, wait).
+    pub fn in_use(&self) -> u32
+        ensures used { result ≡ uses_in self.now.wait_sets }
+    {
+        self.wait_sets
+            .iter()
+            .filter(|waiting| is_used(waiting))
+            .count() as u32
+    }
+
+    /// Whether somebody waits in the WaitSet of this number; not in one that there isn't.
+    ///
+    /// DDS 1.4, 2.2.2.1 (WaitSet, wait).
+    pub fn is_in_use(&self, number: u32) -> bool
+        ensures used { result ≡ is_used (at_number self.now.wait_sets number) }
+    {
+        self.wait_set(number)
+            .is_some_and(|waiting| waiting.deadline.is_some())
     }
 
     /// Makes a condition, and gives its number.

@@ -1,5 +1,5 @@
 -- The end of an event at a peer, and listeners that are set there.
-use Rattle.std.proofs.Common.{◌≡◌, ℕ, List, [], Option, Some, None, Bool, false, length, refl, ap, sym, ◌∙◌, subst}
+use Rattle.std.proofs.Common.{◌≡◌, ℕ, zero, suc, List, [], Option, Some, None, Bool, false, length, refl, ap, sym, ◌∙◌, subst, arith}
 use Rattle.std.specs.Prelude.{if◌then◌else◌, not}
 use Rattle.dds_base.specs.declared.code.Code.{Code}
 use Rattle.dds_base.specs.declared.code.Code.TheVariants.{BadParameter, PreconditionNotMet}
@@ -18,8 +18,10 @@ use Rattle.dds_machine.specs.Noticing.{at_end, each_told, reader_told, writer_to
 use Rattle.dds_protocol.specs.Noticing.{peer_at_end}
 use Rattle.dds_machine.specs.Numbered.{HasNumber, numbered}
 use Rattle.dds_machine.specs.Part.{Part, WriterProxy, heard_of, place_of as reader_place}
-use Rattle.dds_protocol.specs.Peer.{Peer}
+use Rattle.dds_protocol.specs.Opening.{opening_peers}
+use Rattle.dds_protocol.specs.Peer.{Peer, no_peer}
 use Rattle.dds_machine.specs.Watching.{Tests}
+use Rattle.dds_protocol.proofs.OpenedPeers.{opens_known}
 use Rattle.dds_protocol.proofs.AtEnds.{end_rows, end_untold, end_watch}
 use Rattle.dds_protocol.proofs.FiltersKept.{keeps_listeners, opens_nobody}
 use Rattle.dds_core.specs.declared.marks.Marks.{Marks}
@@ -29,6 +31,7 @@ use Rattle.dds_core.specs.Listening.{Adds, CoreKept, RefusesFilter, RefusesListe
 use Rattle.dds_core.specs.Noticing.{AreMarksOf, MarksPeer, Tells}
 use Rattle.dds_core.specs.Opening.{opening_peer}
 use Rattle.dds_core.specs.Standing.{IsSound}
+use Rattle.dds_core.proofs.Lists.{past_end}
 use Rattle.dds_core.proofs.Notified.{listeners_apart, tells_as, tells_then}
 
 module _ {L : Type 0} (notices : L → List Notice) (capacity : L → ℕ) (becomes : L → Notice → L → Type 0) where
@@ -83,6 +86,16 @@ module _ {L : Type 0} (notices : L → List Notice) (capacity : L → ℕ) (beco
   same_refusal given slots places s e listener =
       ap (λ (b : Bool). if not b then Some BadParameter
       else (if is_fresh notices listener then None else Some PreconditionNotMet)) (same_entities given slots places s e)
+
+-- ---- the opening of a peer
+
+-- all that is known there was claimed
+pub opens_sound : (config : Config) (n : ℕ) → IsSound config (opening_peer config n)
+opens_sound config zero =
+    let peers = opening_peers config.peers 1 config.peers in
+    subst (λ (p : Peer). IsSound config (record p { number = 0 })) (past_end peers (length peers) no_peer (omega arith))
+    (opens_known config (length peers) 0)
+opens_sound config (suc i) = opens_known config i (opening_peer config (suc i)).number
 
 -- ---- steps
 

@@ -7,7 +7,7 @@ use Rattle.dds_base.specs.declared.config.Config.{Config}
 use Rattle.dds_base.specs.declared.entity.Entity.{Entity}
 use Rattle.dds_notices.specs.declared.mask.StatusMask.{StatusMask}
 use Rattle.dds_notices.specs.declared.notice.Notice.{Notice}
-use Rattle.dds_notices.specs.Listeners.{ByEntity, HandedBack, Slotted, StandsFor as SlotsStandFor, at_entity, listener_refusal, listener_place, nobody, with_entity}
+use Rattle.dds_notices.specs.Listeners.{ByEntity, HandedBack, Slotted, StandsFor as SlotsStandFor, at_entity, kept_in, listener_refusal, listener_place, nobody, unknown_entity, with_entity}
 use Rattle.dds_protocol.specs.declared.event.Event.{Event}
 use Rattle.dds_protocol.specs.declared.event.Output.{Output}
 use Rattle.dds_protocol.specs.Filters.{peer_with_filter}
@@ -80,6 +80,21 @@ pub record Sets {F L : Type 0} (notices : L → List Notice) (capacity : L → �
       × StandsFor notices capacity becomes (with_entity given entity listener) new config
       (peer_with_place peer entity (listener_place capacity mask listener))
       × (IsSound config peer → IsSound config (peer_with_place peer entity (listener_place capacity mask listener)))
+
+-- for each state that the values stand for there is such an entity, and its listener keeps these notices
+abbrev pub AreKept : {F L : Type 0} → (L → List Notice) → (L → ℕ) → (L → Notice → L → Type 0) → CoreKept F L → Entity
+    → List Notice → Type 0
+AreKept {F} {L} notices capacity becomes kept entity told =
+    (given : ByEntity L) (config : Config) (peer : Peer) → StandsFor notices capacity becomes given kept config peer
+    → (unknown_entity peer.part.dds.listeners entity ≡ None)
+    × (told ≡ kept_in (at_entity peer.part.dds.listeners entity))
+
+-- for each state that the values stand for, a question about an entity is refused so
+abbrev pub RefusesEntity : {F L : Type 0} → (L → List Notice) → (L → ℕ) → (L → Notice → L → Type 0) → CoreKept F L
+    → Entity → Code → Type 0
+RefusesEntity {F} {L} notices capacity becomes kept entity code =
+    (given : ByEntity L) (config : Config) (peer : Peer) → StandsFor notices capacity becomes given kept config peer
+    → Refuses (unknown_entity peer.part.dds.listeners entity) code
 
 -- for each state that the old values stand for, a listener is refused so
 abbrev pub RefusesListener : {F L : Type 0} → (L → List Notice) → (L → ℕ) → (L → Notice → L → Type 0) → CoreKept F L → Entity → Option L → Code

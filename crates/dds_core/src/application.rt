@@ -2,15 +2,17 @@
 //!
 //! DDS 1.4, 2.2.2.1 (Entity, set_listener), 2.2.2.5 (QueryCondition), 2.2.4.3 (access through listeners).
 
-ghost use Rattle.std.specs.Prelude.{◌≡◌, [], None, IfErr, IfOk, OnErr};
+ghost use Rattle.std.specs.Prelude.{◌≡◌, [], None, IfErr, IfOk, OnErr, OnOk};
 ghost use Rattle.dds_base.specs.Refusal.{Refuses};
 ghost use Rattle.dds_conditions.specs.Filtered.{tests_of};
-ghost use Rattle.dds_notices.specs.Listeners.{nobody};
-ghost use Rattle.dds_core.specs.Listening.{Adds, RefusesFilter, RefusesListener, Sets, StandsFor, Steps, no_listeners};
+ghost use Rattle.dds_base.specs.Number.{at_number};
+ghost use Rattle.dds_conditions.specs.Watched.{is_used, uses_in};
+ghost use Rattle.dds_notices.specs.Listeners.{ByEntity, at_entity, nobody, shown};
+ghost use Rattle.dds_core.specs.Listening.{Adds, AreKept, RefusesEntity, RefusesFilter, RefusesListener, Sets, StandsFor, Steps, no_listeners};
 ghost use Rattle.dds_core.specs.Opening.{core_refusal, opening_peer};
 ghost use Rattle.dds_core.specs.Pairs.{IsPair};
 ghost use Rattle.dds_core.specs.Sending.{AreMessages, Sends};
-ghost use Rattle.dds_core.specs.Standing.{StandsFor as PeerStandsFor};
+ghost use Rattle.dds_core.specs.Standing.{IsSound, StandsFor as PeerStandsFor};
 ghost use Rattle.dds_machine.specs.Part.{own_proxies, place_of};
 ghost use Rattle.dds_protocol.specs.Peer.{Peer as PeerState};
 ghost use Rattle.dds_base.specs.declared.config.Config.{Config as ConfigOf};
@@ -20,7 +22,7 @@ use crate::pairing::Pair;
 use dds_base::{Code, Config, Entity, Moment, Sn};
 use dds_conditions::Filter;
 use dds_machine::Endpoint;
-use dds_notices::{Listener, Slots, StatusMask};
+use dds_notices::{Listener, Notice, Slots, StatusMask};
 use dds_protocol::{Event, Output};
 use std::alloc::Global;
 use std::marker::Model;
@@ -54,6 +56,8 @@ impl<F: Filter, L: Listener> Core<F, L> {
         ensures opening { IfOk result
             (λ core. StandsFor L.notices L.capacity L.becomes
             (no_listeners (opening_peer config.now peer).part) core config.now (opening_peer config.now peer)) }
+        // All that is known of it there was claimed.
+        ensures known { OnOk result (IsSound config.now (opening_peer config.now peer)) }
         // It has no filters.
         ensures none { IfOk result (λ core. core.filtered.filters ≡ []) }
         // Against what is opened there is no cause.
@@ -156,6 +160,60 @@ impl<F: Filter, L: Listener> Core<F, L> {
         ensures err { OnErr result (self.new ≡ self.old) }
     {
         self.listeners.set(entity, mask, listener)
+    }
+
+    /// The notices that the listener of an entity keeps, the oldest first; none where there is no listener.
+    ///
+    /// # Errors
+    ///
+    /// `BadParameter` where there is no such entity, else `Memory` where a growth was refused.
+    ///
+    /// DDS 1.4, 2.2.4.3 (access through listeners).
+    pub fn notices(&self, entity: Entity) -> Result<Vec<Notice>, Code>
+        // They are the last ones of all that was told there, as many as there is room for.
+        ensures ok { IfOk result
+            (λ kept. AreKept L.notices L.capacity L.becomes self.now entity kept.items) }
+        // A refusal is for its cause, or for want of memory.
+        ensures refused { IfErr result (RefusesEntity L.notices L.capacity L.becomes self.now entity) }
+    {
+        self.listeners.notices(self.filtered.memory(), entity)
+    }
+
+    /// Of which statuses the listener of an entity is told, and how many notices it can keep; `None` where there is none,
+    /// or no such entity.
+    ///
+    /// DDS 1.4, 2.2.2.1 (Entity: get_listener).
+    pub fn slot(&self, entity: Entity) -> Option<(StatusMask, usize)>
+        // So it is in each state that the peer stands for.
+        ensures slot { (given : ByEntity L) (config : ConfigOf) (peer : PeerState)
+            → StandsFor L.notices L.capacity L.becomes given self.now config peer
+            → result ≡ shown (at_entity peer.part.dds.listeners entity) }
+    {
+        self.listeners.slot(entity)
+    }
+
+    /// In how many WaitSets somebody waits.
+    ///
+    /// DDS 1.4, 2.2.2.1 (WaitSet, wait).
+    pub fn in_use(&self) -> u32
+        // So it is in each state that the peer stands for.
+        ensures used { (config : ConfigOf) (peer : PeerState)
+            → PeerStandsFor self.now.filtered.peer config peer
+            → result ≡ uses_in peer.part.dds.watch.wait_sets }
+    {
+        self.filtered.in_use()
+    }
+
+    /// Whether somebody waits in the WaitSet of this number; not in one that there isn't.
+    ///
+    /// DDS 1.4, 2.2.2.1 (WaitSet, wait).
+    pub fn is_in_use(&self, number: u32) -> bool
+        // So it is in each state that the peer stands for.
+        ensures used { (config : ConfigOf) (peer : PeerState)
+            → PeerStandsFor self.now.filtered.peer config peer
+            → result ≡ is_used (at_number peer.part.dds.watch.wait_sets number) }
+    {
+        self.filtered.is_in_use(number)
     }
 
     /// The peer's moment: 0, or that of the last tick that was done.

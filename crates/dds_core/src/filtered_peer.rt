@@ -4,7 +4,9 @@
 
 ghost use Rattle.std.specs.Prelude.{◌≡◌, [], None, IfErr, IfOk, OnErr, length};
 ghost use Rattle.dds_base.specs.Refusal.{Refuses};
+ghost use Rattle.dds_base.specs.Number.{at_number};
 ghost use Rattle.dds_conditions.specs.Filtered.{tests_of};
+ghost use Rattle.dds_conditions.specs.Watched.{is_used, uses_in};
 ghost use Rattle.dds_machine.specs.Noticing.{at_end};
 ghost use Rattle.dds_machine.specs.Part.{Part, own_proxies, place_of};
 ghost use Rattle.dds_protocol.specs.Peer.{Peer as PeerState};
@@ -138,6 +140,25 @@ impl<F: Filter> FilteredPeer<F> {
         ensures { result ≡ length self.now.peer.readers }
     {
         self.peer.readers.len()
+    }
+
+    /// Where its lists have their memory from.
+    pub(crate) fn memory(&self) -> Global {
+        self.peer.alloc
+    }
+
+    /// In how many WaitSets somebody waits.
+    pub(crate) fn in_use(&self) -> u32
+        ensures { result ≡ uses_in self.now.peer.watch.wait_sets }
+    {
+        self.peer.watch.in_use()
+    }
+
+    /// Whether somebody waits in the WaitSet of this number.
+    pub(crate) fn is_in_use(&self, number: u32) -> bool
+        ensures { result ≡ is_used (at_number self.now.peer.watch.wait_sets number) }
+    {
+        self.peer.watch.is_in_use(number)
     }
 
     /// What its statuses say before an event.

@@ -1,7 +1,9 @@
 -- What stands at an entity once another one was put somewhere.
-use Rattle.std.proofs.Common.{◌≡◌, ◌≢◌, ℕ, zero, suc, ◌-◌, ◌≤◌, ⊎_elim, Bool, true, false, is_some, List, [], ◌∷◌, ◌++◌, Option, Some, None, refl, ap, sym, ◌∙◌, set, drop, length, subst, if◌then◌else◌, arith, length-set}
+use Rattle.std.proofs.Common.{◌≡◌, ◌≢◌, ℕ, zero, suc, ◌+◌, ◌-◌, ◌≤◌, ⊎_elim, Bool, true, false, is_some, List, [], ◌∷◌, ◌++◌, take, slice_get, Option, Some, None, refl, ap, sym, ◌∙◌, set, drop, length, subst, if◌then◌else◌, arith, length-set}
 use Rattle.std.specs.List.{FoldsTo}
 use Rattle.std.proofs.lemmas.Grind.{common_steps}
+use Rattle.std.proofs.lemmas.Option.{same_Some}
+use Rattle.std.proofs.lemmas.List.{take_all}
 use Rattle.std.proofs.lemmas.List.{drop-append-le, drop-drop, get_or-set_same, get_or-set_other, length-append, length-drop, set-get_or}
 use Rattle.std.proofs.lemmas.Bool.Decides.{eqb_tells}
 use Rattle.dds_base.specs.declared.entity.Entity.{Entity}
@@ -76,6 +78,32 @@ told_last : {P A : Type 0} (R : P → A → P → Type 0) (p : P) (xs : List A) 
     → FoldsTo R p (xs ++ x ∷ []) r
 told_last R p [] x q r at last = (r, subst (λ z. R z x r) (sym at) last, refl)
 told_last R p (y ∷ ys) x q r all last = (all.0, all.1, told_last R all.0 ys x q r all.2 last)
+
+-- one element more of a list, where there is one more
+pub taken_more : {X : Type 0} (xs : List X) (i n : ℕ) (x : X) → n ≡ i + 1 → slice_get xs i ≡ Some x
+    → take n xs ≡ take i xs ++ x ∷ []
+taken_more {X} xs i n x is at = let next : n ≡ suc i = omega (arith, is) in rw next (more xs i at)
+  where
+    more : (ys : List X) (j : ℕ) → slice_get ys j ≡ Some x → take (suc j) ys ≡ take j ys ++ x ∷ []
+    more [] j h = absurd cc
+    more (y ∷ ys) zero h = ap (λ z. z ∷ []) (same_Some y x h)
+    more (y ∷ ys) (suc j) h = ap (λ zs. y ∷ zs) (more ys j h)
+
+-- and where there is none
+pub taken_all : {X : Type 0} (xs : List X) (i n : ℕ) → n ≡ i + 1 → slice_get xs i ≡ None → take n xs ≡ take i xs
+taken_all {X} xs i n is at = let next : n ≡ suc i = omega (arith, is) in rw next (all xs i at)
+  where
+    all : (ys : List X) (j : ℕ) → slice_get ys j ≡ None → take (suc j) ys ≡ take j ys
+    all [] zero h = refl
+    all [] (suc j) h = refl
+    all (y ∷ ys) zero h = absurd cc
+    all (y ∷ ys) (suc j) h = ap (λ zs. y ∷ zs) (all ys j h)
+
+-- the last ones fit
+all_fit : {X : Type 0} (room : ℕ) (xs : List X) → take room (keep_last room xs) ≡ keep_last room xs
+all_fit room xs =
+    let few = length-drop (length xs - room) xs in
+    take_all room (keep_last room xs) (omega (arith, few))
 
 module _ {L : Type 0} (notices : L → List Notice) (capacity : L → ℕ) (becomes : L → Notice → L → Type 0) where
   number_stands : (zs : List (Option L)) (xs : List (Option (Slot L))) (ys : List (Option Place)) (n : ℕ)
@@ -223,6 +251,14 @@ module _ {L : Type 0} (notices : L → List Notice) (capacity : L → ℕ) (beco
       told = told_last becomes given place.sent notice old.listener new.listener h.1.told to;
     },
   )
+
+  -- what a listener keeps, as far as it has room, is what its place says
+  pub kept_stands : (given : L) (slot : Slot L) (place : Place) (items : List Notice)
+      → items ≡ take (capacity slot.listener) (notices slot.listener)
+      → StandsAt notices capacity becomes (Some given) (Some slot) (Some place) → items ≡ keep_last place.room place.sent
+  kept_stands given slot place items is h =
+      is ∙ ap (λ (n : ℕ). take n (notices slot.listener)) h.1.room
+      ∙ ap (λ (ns : List Notice). take place.room ns) h.1.kept ∙ all_fit place.room place.sent
 
   -- where an entity's own listener takes the status, it is the one that is told
   pub tells_own : (given : ByEntity L) (new : Slotted L) (places : Places) (notice : Notice)

@@ -88,6 +88,20 @@ told_at places (Some entity) notice = with_entity places entity (with_notice (at
 abbrev pub after_notice : Places → Notice → Places
 after_notice places notice = told_at places (taker_of places notice.entity notice.status) notice
 
+-- of which statuses a listener that may be there is told, and its room
+abbrev pub shown : Option Place → Option (StatusMask × ℕ)
+shown None = None
+shown (Some place) = Some (place.mask, place.room)
+
+-- the notices that a listener that may be there keeps
+abbrev pub kept_in : Option Place → List Notice
+kept_in None = []
+kept_in (Some place) = keep_last place.room place.sent
+
+-- why what stands at an entity is not told: there is no such entity
+abbrev pub unknown_entity : {X : Type 0} → ByEntity X → Entity → Option Code
+unknown_entity all entity = if has_entity all entity then None else Some BadParameter
+
 -- ---- listeners that are set
 
 -- a listener, with the statuses that it is told of

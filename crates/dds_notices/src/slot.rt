@@ -2,14 +2,15 @@
 //!
 //! DDS 1.4, 2.2.2.1 (Entity: set_listener), 2.2.4.3 (access through listeners).
 
-ghost use Rattle.std.specs.Prelude.{◌≡◌, true, Option, is_some};
+ghost use Rattle.std.specs.Prelude.{◌≡◌, true, Option, is_some, take, IfOk};
 ghost use Rattle.std.specs.Option.{option_copied};
-ghost use Rattle.dds_notices.specs.Listeners.{Place, StandsAt, is_fresh, slot_of, takes, with_notice};
+ghost use Rattle.dds_notices.specs.Listeners.{Place, StandsAt, is_fresh, kept_in, shown, slot_of, takes, with_notice};
 ghost use Rattle.dds_notices.specs.Slotted.{listener_of};
 
 use crate::listener::Listener;
 use crate::mask::StatusMask;
 use crate::notice::{Notice, Status};
+use std::alloc::{AllocError, Global};
 use std::marker::Model;
 
 /// A listener, with the statuses that it is told of.
@@ -59,6 +60,47 @@ pub(crate) fn is_fresh<L: Listener>(listener: &Option<L>) -> bool
     match listener {
         Some(listener) => listener.is_fresh(),
         None => true,
+    }
+}
+
+/// Of which statuses the listener is told, if one is there, and its room.
+pub(crate) fn shown<L: Listener>(slot: Option<&Slot<L>>) -> Option<(StatusMask, usize)>
+    ensures { (given : Option L) (place : Option Place)
+        → StandsAt L.notices L.capacity L.becomes given (option_copied slot.entry) place
+        → result ≡ shown place }
+{
+    match slot {
+        Some(slot) => Some((slot.mask, slot.listener.room())),
+        None => None,
+    }
+}
+
+/// The notices that a listener keeps, as far as it has room.
+fn kept_by<L: Listener>(alloc: Global, listener: &L) -> Result<Vec<Notice>, AllocError>
+    ensures { IfOk result (λ kept. kept.items
+        ≡ take (L.capacity listener.now) (L.notices listener.now)) }
+{
+    let mut kept = Vec::new(alloc);
+    for at in 0..listener.room() {
+        if let Some(notice) = listener.held(at) {
+            kept.push(notice)?;
+        }
+    }
+    Ok(kept)
+}
+
+/// The notices that the listener keeps, if one is there.
+pub(crate) fn kept<L: Listener>(
+    alloc: Global,
+    slot: Option<&Slot<L>>,
+) -> Result<Vec<Notice>, AllocError>
+    ensures { IfOk result (λ kept. (given : Option L) (place : Option Place)
+        → StandsAt L.notices L.capacity L.becomes given (option_copied slot.entry) place
+        → kept.items ≡ kept_in place) }
+{
+    match slot {
+        Some(slot) => kept_by(alloc, &slot.listener),
+        None => Ok(Vec::new(alloc)),
     }
 }
 

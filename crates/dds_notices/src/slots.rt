@@ -3,17 +3,18 @@
 //! DDS 1.4, 2.2.2.1 (Entity: set_listener), 2.2.4.3 (listeners: the one of the entity, or else of what contains
 //! it).
 
-ghost use Rattle.std.specs.Prelude.{◌≡◌, ◌-◌, true, Option, set, replicate, length, is_some, None, Some, IfOk, IfErr, OnErr};
+ghost use Rattle.std.specs.Prelude.{◌≡◌, ◌-◌, true, Option, set, replicate, length, is_some, None, Some, IfOk, IfErr, OnErr, OnOk};
 ghost use Rattle.std.specs.List.{list_any};
 ghost use Rattle.std.specs.Option.{option_copied};
+ghost use Rattle.dds_base.specs.Refusal.{Refuses};
 ghost use Rattle.dds_base.specs.Number.{at_number, is_number};
-ghost use Rattle.dds_notices.specs.Listeners.{ByEntity, Place, Places, Sets, StandsAt, StandsFor, after_notice, at_entity, has_entity, is_any, listener_refusal, nobody, taker_of, with_entity, with_notice};
+ghost use Rattle.dds_notices.specs.Listeners.{ByEntity, Place, Places, Sets, StandsAt, StandsFor, after_notice, at_entity, has_entity, is_any, kept_in, listener_refusal, nobody, shown, unknown_entity, taker_of, with_entity, with_notice};
 ghost use Rattle.dds_notices.specs.Slotted.{ToldAt};
 
 use crate::listener::Listener;
 use crate::mask::StatusMask;
 use crate::notice::{Notice, Status};
-use crate::slot::{Slot, is_fresh, listener_of, slot_of, takes, tell};
+use crate::slot::{Slot, is_fresh, kept, listener_of, shown, slot_of, takes, tell};
 use dds_base::{Code, Entity};
 use std::alloc::{AllocError, Global};
 use std::marker::Model;
@@ -154,6 +155,39 @@ impl<L: Listener> Slots<L> {
             → result ≡ is_some (taker_of places entity status.now) }
     {
         takes(self.at(entity), status) || takes(self.participant.as_ref(), status)
+    }
+
+    /// Of which statuses the listener of an entity is told, and how many notices it can keep; `None` where there is none.
+    ///
+    /// DDS 1.4, 2.2.2.1 (Entity: get_listener).
+    pub fn slot(&self, entity: Entity) -> Option<(StatusMask, usize)>
+        // So it is of each of the places that they stand for.
+        ensures slot { (given : ByEntity L) (places : Places)
+            → StandsFor L.notices L.capacity L.becomes given self.now places
+            → result ≡ shown (at_entity places entity) }
+    {
+        shown(self.at(entity))
+    }
+
+    /// The notices that the listener of an entity keeps, the oldest first; none where there is no listener.
+    ///
+    /// # Errors
+    ///
+    /// `BadParameter` for an entity that there isn't, else `Memory` where a growth was refused.
+    pub fn notices(&self, alloc: Global, entity: Entity) -> Result<Vec<Notice>, Code>
+        // They are the last ones of all that was told there, as many as there is room for.
+        ensures ok { IfOk result (λ kept. (given : ByEntity L) (places : Places)
+            → StandsFor L.notices L.capacity L.becomes given self.now places
+            → kept.items ≡ kept_in (at_entity places entity)) }
+        // There is such an entity.
+        ensures taken { OnOk result (unknown_entity self.now entity ≡ None) }
+        // A refusal is for its cause, or for want of memory.
+        ensures refused { IfErr result (Refuses (unknown_entity self.now entity)) }
+    {
+        if !self.has(entity) {
+            return Err(Code::BadParameter);
+        }
+        Ok(kept(alloc, self.at(entity))?)
     }
 
     /// Tells the listener at an entity that there is.

@@ -13,7 +13,8 @@ use std::test::Fail;
 /// `set` has an entity and a mask: the listener that is at hand is set. `unset` has an entity. Both give what the
 /// listener keeps that is handed back, or `nobody`; that one is then at hand. Where it is handed back with a code, the
 /// code stands before. `data`, `lost`, `changed` and `livelost` tell of an entity, and give whether a listener takes
-/// that. `any` gives whether one is set.
+/// that. `any` gives whether one is set. `slot` and `kept` have an entity, and give the mask and the room of its listener,
+/// and what that keeps.
 const SET: &str = "\
 # Nobody takes anything yet.
 any => false
@@ -38,6 +39,15 @@ changed reader 1 => true
 data reader 2 => true
 lost reader 2 => false
 livelost writer 1 => false
+
+# What is set there, and what it keeps.
+slot reader 1 => 1152 2
+slot participant 0 => 5120 4
+slot reader 2 => nobody
+slot reader 3 => nobody
+kept reader 1 => [Reader(1) DataAvailable][Reader(1) SampleLost(SampleLostStatus { total_count: 1, total_count_change: 1 })]
+kept reader 2 => nothing
+kept writer 2 => BAD_PARAMETER
 
 # Each was told once. One that keeps notices is not set again, and is handed back as it was.
 unset reader 1 => [Reader(1) DataAvailable][Reader(1) SampleLost(SampleLostStatus { total_count: 1, total_count_change: 1 })]
@@ -161,8 +171,33 @@ impl<L: Listener> Listening<L> {
     }
 }
 
+impl<L: Listener> Listening<L> {
+    fn push_slot(&self, text: &mut String, entity: Entity) {
+        let _ = match self.slots.slot(entity) {
+            Some((mask, room)) => write!(text, "{} {room}", mask.bits()),
+            None => write!(text, "nobody"),
+        };
+    }
+
+    fn push_notices(&self, alloc: Global, text: &mut String, entity: Entity) {
+        match self.slots.notices(alloc, entity) {
+            Ok(notices) if notices.is_empty() => {
+                let _ = write!(text, "nothing");
+            }
+            Ok(notices) => {
+                for Notice { entity, status } in &notices {
+                    let _ = write!(text, "[{entity:?} {status:?}]");
+                }
+            }
+            Err(code) => {
+                let _ = write!(text, "{code}");
+            }
+        }
+    }
+}
+
 impl<L: Listener> Subject for Listening<L> {
-    fn answer(&mut self, _: Global, text: &mut String, name: &str, operands: &str) {
+    fn answer(&mut self, alloc: Global, text: &mut String, name: &str, operands: &str) {
         let words = words_of(operands);
         let entity = entity_of(words.first, words.second);
         let mask = StatusMask::from_bits_retain(words.third.parse().unwrap_or(0));
@@ -176,6 +211,8 @@ impl<L: Listener> Subject for Listening<L> {
                 let is_any = self.slots.has_listeners();
                 let _ = write!(text, "{is_any}");
             }
+            "slot" => self.push_slot(text, entity),
+            "kept" => self.push_notices(alloc, text, entity),
             _ => self.tell(text, entity, status_of(name, 1)),
         }
     }

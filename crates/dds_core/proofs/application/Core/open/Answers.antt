@@ -1,4 +1,4 @@
-use Rattle.dds_core.proofs.Ended.{opens}
+use Rattle.dds_core.proofs.Ended.{opens, opens_sound}
 use Rattle.dds_core.proofs.application.Core.open.Goals as goal
 
 pub returns-clause-opening : goal.returns-clause-opening
@@ -7,3 +7,6 @@ returns-clause-opening g c =
     c.args.config.now c.args.peer
     c.writers.result c.readers.result c.in_ok-filtered.ensures.opening c.writers.ensures c.readers.ensures
     c.in_ok-listeners.ensures.nobody
+
+pub returns-clause-known : goal.returns-clause-known
+returns-clause-known g c = opens_sound c.args.config.now c.args.peer
