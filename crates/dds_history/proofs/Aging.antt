@@ -9,8 +9,7 @@ use Rattle.dds_base.specs.declared.qos.HistoryQos.TheVariants.{KeepAll, KeepLast
 use Rattle.dds_base.specs.Happening.{same_key}
 use Rattle.dds_base.proofs.KeyLaws.{same_key-refl}
 use Rattle.dds_history.specs.declared.held.HeldChange.{HeldChange}
-use Rattle.dds_history.specs.Held.{with_change}
-use Rattle.dds_history.specs.Standing.{all_from}
+use Rattle.dds_history.specs.Held.{all_from, with_change}
 
 -- how many of these changes have the key
 abbrev of_key : Key → List Change → ℕ

@@ -17,8 +17,8 @@ use Rattle.dds_base.specs.Happening.{same_key}
 use Rattle.dds_base.specs.Kept.{WriterHistory, acknowledge, appended, append_refusal, exceeds, first_kept, is_kept, kept_change}
 use Rattle.dds_base.proofs.KeyLaws.{same_key-refl}
 use Rattle.dds_history.specs.declared.held.HeldChange.{HeldChange}
-use Rattle.dds_history.specs.Held.{aged, awaits, is_held, kept_after, with_change}
-use Rattle.dds_history.specs.Standing.{Held, StandsFor, all_from, held_of}
+use Rattle.dds_history.specs.Held.{aged, all_from, awaits, held_of, is_held, kept_after, with_change}
+use Rattle.dds_history.specs.Standing.{Held, StandsFor}
 use Rattle.dds_history.proofs.Aging.{all-more}
 use Rattle.dds_history.proofs.Keeping.{first_kept-held, is_kept-found, kept_change-found, kept_count-held}
 use Rattle.dds_history.proofs.Numbering.{at_number, count_cons, one_if}

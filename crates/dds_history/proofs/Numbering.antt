@@ -9,7 +9,7 @@ use Rattle.dds_base.specs.declared.change.Change.{Change}
 use Rattle.dds_base.specs.declared.qos.HistoryQos.{HistoryQos}
 use Rattle.dds_base.specs.Kept.{numbers_from}
 use Rattle.dds_history.specs.declared.held.HeldChange.{HeldChange}
-use Rattle.dds_history.specs.Standing.{all_from, remaining_before}
+use Rattle.dds_history.specs.Held.{all_from, remaining_before}
 
 -- the numbers of these changes run from this one on
 abbrev pub AreNumbered : ℕ → List HeldChange → Type 0

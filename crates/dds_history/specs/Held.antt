@@ -1,14 +1,15 @@
--- The changes that a history holds, with how many more of their keys each of them outlives. Inner functions
--- alone cite this: nothing here has to be believed.
+-- The changes that a history holds, with how many more of their keys each of them outlives, and those that it holds of a
+-- writer's history. Inner functions alone cite this: nothing here has to be believed.
 --
 -- DDS 1.4, 2.2.3 (HISTORY, RESOURCE_LIMITS); RTPS 2.5, 8.2 (HistoryCache).
-use Rattle.std.specs.Prelude.{ℕ, ◌+◌, ◌-◌, ◌&&◌, Bool, List, [], ◌∷◌, ◌++◌, map, length, count_by, nat_lt, nat_le, if◌then◌else◌}
+use Rattle.std.specs.Prelude.{ℕ, ◌+◌, ◌-◌, ◌&&◌, Bool, List, [], ◌∷◌, ◌++◌, map, length, filter, count_by, nat_lt, nat_le, if◌then◌else◌}
 use Rattle.std.specs.List.{list_any}
 use Rattle.dds_base.specs.declared.key.Key.{Key}
 use Rattle.dds_base.specs.declared.change.Change.{Change}
 use Rattle.dds_base.specs.declared.qos.HistoryQos.{HistoryQos}
 use Rattle.dds_base.specs.declared.qos.HistoryQos.TheVariants.{KeepAll, KeepLast}
 use Rattle.dds_base.specs.Happening.{same_key}
+use Rattle.dds_base.specs.Kept.{WriterHistory}
 use Rattle.dds_history.specs.declared.held.HeldChange.{HeldChange}
 
 -- some reader has not acknowledged the number
@@ -38,3 +39,19 @@ abbrev pub kept_after : HistoryQos → List HeldChange → Key → Bool → ℕ
 kept_after KeepAll entries key is_awaited = length entries + (if is_awaited then 1 else 0)
 kept_after (KeepLast depth) entries key is_awaited =
     count_by (λ e. nat_lt 0 (aged key e).remaining) entries + (if nat_lt 0 depth && is_awaited then 1 else 0)
+
+-- so many more changes of the key drop a change that these follow; 1 where nothing is dropped
+abbrev pub remaining_before : HistoryQos → List Change → Key → ℕ
+remaining_before KeepAll later key = 1
+remaining_before (KeepLast depth) later key = depth - count_by (λ (c : Change). same_key c.key key) later
+
+-- all changes, numbered from this number on, each with what the later ones leave it
+abbrev pub all_from : HistoryQos → ℕ → List Change → List HeldChange
+all_from policy number [] = []
+all_from policy number (c ∷ cs) =
+    record { number = number; change = c; remaining = remaining_before policy cs c.key } ∷ all_from policy
+    (number + 1) cs
+
+-- those that are neither dropped nor acknowledged by all
+abbrev pub held_of : WriterHistory → List HeldChange
+held_of w = filter (is_held w.acknowledged) (all_from w.policy 1 w.changes)
