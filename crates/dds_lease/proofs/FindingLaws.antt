@@ -11,7 +11,8 @@ use Rattle.dds_base.specs.Liveliness.{is_overdue}
 use Rattle.dds_base.specs.Ownership.{numbered_from}
 use Rattle.dds_base.proofs.Lists.{drop-step}
 use Rattle.dds_lease.specs.declared.track.LeaseTrack.{LeaseTrack}
-use Rattle.dds_lease.specs.Track.{first_over, is_over_at, track_of}
+use Rattle.dds_lease.specs.Track.{first_over, track_of}
+use Rattle.dds_lease.specs.Overdue.{is_over_at}
 
 -- ---- the first of those that die is the first whose lease is over
 

@@ -12,9 +12,10 @@ use Rattle.dds_base.specs.Ownership.{publication_handles}
 use Rattle.dds_lease.specs.declared.track.LeaseTrack.{LeaseTrack}
 use Rattle.dds_lease.specs.Standing.{Kept, StandsFor}
 use Rattle.dds_base.specs.Written.{is_over}
-use Rattle.dds_lease.specs.Track.{asserted, first_over, is_dead_track, is_live_track, is_over_at, track_of}
+use Rattle.dds_lease.specs.Track.{first_over, is_dead_track, is_live_track, track_of}
+use Rattle.dds_lease.proofs.TrackLaws.{asserted, changed-at, track-at, track-came, track-count, track-died, track-heard, buried}
+use Rattle.dds_lease.specs.Overdue.{is_over_at}
 use Rattle.dds_lease.proofs.FindingLaws.{first-dead}
-use Rattle.dds_lease.proofs.TrackLaws.{changed-at, track-at, track-came, track-count, track-died, track-heard, buried}
 
 pub matched-count : (kept : Kept) (q : ReaderQos) (h : List Happening) → StandsFor kept q h
     → length kept.tracks ≡ length q.writers

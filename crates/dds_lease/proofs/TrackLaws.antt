@@ -12,7 +12,11 @@ use Rattle.dds_base.specs.Instance.{or_else}
 use Rattle.dds_base.specs.Liveliness.{lease_of}
 use Rattle.dds_base.specs.Ownership.{numbered_from, publication_handles, writer_of}
 use Rattle.dds_lease.specs.declared.track.LeaseTrack.{LeaseTrack}
-use Rattle.dds_lease.specs.Track.{asserted, fresh, is_dead_track, is_live_track, track_of}
+use Rattle.dds_lease.specs.Track.{fresh, is_dead_track, is_live_track, track_of}
+
+-- it was asserted at this moment
+abbrev pub asserted : ℕ → LeaseTrack → LeaseTrack
+asserted moment t = record t { since = Some moment }
 
 -- it died
 abbrev pub buried : LeaseTrack → LeaseTrack

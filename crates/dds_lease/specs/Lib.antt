@@ -1,2 +1,3 @@
+pub mod Overdue
 pub mod Track
 pub mod Standing

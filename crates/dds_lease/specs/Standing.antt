@@ -7,7 +7,8 @@ use Rattle.dds_base.specs.declared.qos.ReaderQos.{ReaderQos}
 use Rattle.dds_base.specs.Ownership.{publication_handles}
 use Rattle.dds_base.specs.Liveliness.{dead_at, last_turned, with_deaths}
 use Rattle.dds_lease.specs.declared.track.LeaseTrack.{LeaseTrack}
-use Rattle.dds_lease.specs.Track.{is_over_at, track_of}
+use Rattle.dds_lease.specs.Track.{track_of}
+use Rattle.dds_lease.specs.Overdue.{is_over_at}
 
 -- what is kept; callers see it through writer_count, overdue_of and StandsFor
 pub record Kept : Type 0 where

@@ -4,7 +4,8 @@
 
 ghost use Rattle.std.specs.Prelude.{◌≡◌, ◌-◌, ◌<◌, ◌≤◌, length, get_or, map, IfOk, IfSome, count_by, true};
 ghost use Rattle.dds_lease.specs.declared.track.LeaseTrack.{LeaseTrack};
-ghost use Rattle.dds_lease.specs.Track.{first_over, fresh, is_over_at};
+ghost use Rattle.dds_lease.specs.Track.{first_over, fresh};
+ghost use Rattle.dds_lease.specs.Overdue.{is_over_at};
 
 use dds_base::{Handle, MatchedWriter, Moment};
 use std::alloc::{AllocError, Global};

@@ -2,7 +2,7 @@ use Rattle.std.proofs.Common.{◌≡◌, ℕ, ◌+◌, ◌-◌, ◌<◌, ◌≤�
 use Rattle.std.specs.Prelude.{if◌then◌else◌}
 use Rattle.dds_lease.specs.declared.leases.Leases.TheInside.{Inside}
 use Rattle.dds_lease.specs.Standing.{Kept}
-use Rattle.dds_lease.specs.Track.{asserted}
+use Rattle.dds_lease.proofs.TrackLaws.{asserted}
 use Rattle.dds_lease.proofs.StandingLaws.{Asserts, came-stands, heard-stands, stands-as}
 use Rattle.dds_lease.proofs.leases.Leases.assert_at.Goals as goal
 use Rattle.dds_lease.proofs.leases.Leases.assert_at.Goals.{then-track, else-track}

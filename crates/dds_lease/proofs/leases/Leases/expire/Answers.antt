@@ -6,7 +6,8 @@ use Rattle.dds_base.specs.declared.qos.ReaderQos.{ReaderQos}
 use Rattle.dds_base.specs.Liveliness.{dead_at}
 use Rattle.dds_lease.specs.declared.track.LeaseTrack.{LeaseTrack}
 use Rattle.dds_lease.specs.Standing.{Kept, StandsFor, after_deaths_above, overdue_of}
-use Rattle.dds_lease.specs.Track.{first_over, is_over_at}
+use Rattle.dds_lease.specs.Track.{first_over}
+use Rattle.dds_lease.specs.Overdue.{is_over_at}
 use Rattle.dds_lease.proofs.DeathLaws.{deaths_end, deaths_go_on}
 use Rattle.dds_lease.proofs.StandingLaws.{buried-counts, buried-overdue, died-stands, found-first, over-live, stands-as}
 use Rattle.dds_lease.proofs.leases.Leases.expire.Goals as goal

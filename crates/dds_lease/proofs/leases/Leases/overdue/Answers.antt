@@ -2,7 +2,7 @@ use Rattle.std.proofs.Common.{List, ap, ◌∙◌}
 use Rattle.std.specs.Prelude.{count_by}
 use Rattle.dds_lease.specs.declared.track.LeaseTrack.{LeaseTrack}
 use Rattle.dds_lease.specs.Standing.{Kept}
-use Rattle.dds_lease.specs.Track.{is_over_at}
+use Rattle.dds_lease.specs.Overdue.{is_over_at}
 use Rattle.dds_lease.proofs.FindingLaws.{count-dead}
 use Rattle.dds_lease.proofs.leases.Leases.overdue.Goals as goal
 
