@@ -3,7 +3,8 @@ use Rattle.std.proofs.Common.{◌≡◌, ℕ, ◌<◌, ◌≤◌, ◌+◌, Bool,
 use Rattle.std.specs.Prelude.{is_some, is_none, Option, None, Some, nat_le, nat_lt, ◌==◌, if◌then◌else◌, filter}
 use Rattle.std.proofs.lemmas.Bool.{leb-true, le-leb, ltb-true, lt-ltb}
 use Rattle.std.proofs.lemmas.Bool.Decides.{nat_tests}
-use Rattle.rtps_sets.specs.Window.{mark_in, is_in_window, HasNoOthers}
+use Rattle.rtps_sets.specs.Window.{mark_in, is_in_window}
+use Rattle.rtps_sets.specs.Sound.{HasNoOthers}
 use Rattle.rtps_sets.specs.declared.window.Mark.{Mark}
 use Rattle.rtps_sets.specs.declared.window.Marked.{Marked}
 

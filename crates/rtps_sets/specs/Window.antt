@@ -1,6 +1,6 @@
 -- The place of a reader in the numbers of one writer, and what is known of the 256 numbers from it on
 -- (RTPS 2.5, 8.4.12: reliable StatefulReader).
-use Rattle.std.specs.Prelude.{◌≡◌, ℕ, ◌+◌, Bool, false, ◌==◌, ◌&&◌, nat_lt, nat_le, List, [], ◌∷◌, Option, None, Some, is_none, if◌then◌else◌}
+use Rattle.std.specs.Prelude.{◌≡◌, ℕ, ◌+◌, Bool, ◌==◌, ◌&&◌, nat_lt, nat_le, List, [], ◌∷◌, Option, None, Some, is_none, if◌then◌else◌}
 use Rattle.rtps_sets.specs.declared.window.Mark.{Mark}
 use Rattle.rtps_sets.specs.declared.window.Marked.{Marked}
 
@@ -39,7 +39,3 @@ can_mark w n = is_in_window (window_place w) n && is_none (mark_of w n)
 pub record SameMarks (old new : Marks) : Type 0 where
   pub place : window_place new ≡ window_place old
   pub marks : (n : ℕ) → mark_of new n ≡ mark_of old n
-
--- no number outside the window is marked
-abbrev pub HasNoOthers : Marks → Type 0
-HasNoOthers w = (n : ℕ) → is_in_window (window_place w) n ≡ false → mark_of w n ≡ None

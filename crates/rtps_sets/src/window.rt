@@ -44,7 +44,8 @@ pub struct Window {
 
 impl Model for Window {
     ghost use Rattle.std.specs.Prelude.{◌-◌, vec_len, vec_capacity};
-    ghost use Rattle.rtps_sets.specs.Window.{Marks, HasNoOthers};
+    ghost use Rattle.rtps_sets.specs.Window.{Marks};
+    ghost use Rattle.rtps_sets.specs.Sound.{HasNoOthers};
 
     ghost Value = { Marks };
 
